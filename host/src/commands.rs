@@ -1,0 +1,82 @@
+//! The commands: each reads its files, does one thing and says what went wrong.
+use crate::stored::{Reading, Requests, Source};
+use crate::{assemble, check, count, form, list, model, store};
+
+const USAGE: &str = "\
+host assemble [--any] LISTING OUT   a listing to a file; --any: also one that reading would refuse
+host list FILE                      a file as a listing, with a message if reading would refuse it
+host kinds                          every record and kind of a listing, with its operands
+host generate N SEED                a casting model of N statements, as a listing
+host stored reading ORACLE OUT SOURCE...    stored lists, from files and folders of files (.bin) and listings (.txt);
+host stored requests ORACLE OUT SOURCE...   ORACLE is the oracle's program
+host stored report ORACLE OUT SOURCE...
+host stored count READING REQUESTS          a table of what the two lists reach
+";
+
+pub fn run(words: &[&str]) -> Result<(), String> {
+    match *words {
+        ["assemble", "--any", listing, out] => assemble_file(listing, out, true),
+        ["assemble", listing, out] => assemble_file(listing, out, false),
+        ["list", file] => list_file(file),
+        ["kinds"] => print(&form::kinds()),
+        ["generate", statements, seed] => generate(statements, seed),
+        ["stored", "reading", oracle, out, ref sources @ ..] => store_list(store::reading, oracle, out, sources),
+        ["stored", "requests", oracle, out, ref sources @ ..] => store_list(store::requests, oracle, out, sources),
+        ["stored", "report", oracle, out, ref sources @ ..] => store_list(store::report, oracle, out, sources),
+        ["stored", "count", reading, requests] => count_lists(reading, requests),
+        _ => Err(USAGE.into()),
+    }
+}
+
+fn read(path: &str) -> Result<Vec<u8>, String> {
+    std::fs::read(path).map_err(|e| format!("{path}: {e}"))
+}
+
+fn write(path: &str, bytes: &[u8]) -> Result<(), String> {
+    std::fs::write(path, bytes).map_err(|e| format!("{path}: {e}"))
+}
+
+fn print(text: &str) -> Result<(), String> {
+    use std::io::Write;
+    std::io::stdout().write_all(text.as_bytes()).map_err(|e| format!("standard output: {e}"))
+}
+
+fn assemble_file(listing: &str, out: &str, any: bool) -> Result<(), String> {
+    let text = String::from_utf8_lossy(&read(listing)?).into_owned();
+    let made = assemble::assemble(&text).map_err(|f| format!("{listing}:{}: {}", f.line, f.reason))?;
+    let checked = check::file(&made.bytes).map_err(|r| format!("{listing}:{}: refused {}: {}", made.line(r.at), r.number, r.reason));
+    if any || checked.is_ok() {
+        write(out, &made.bytes)?;
+    }
+    if any {
+        Ok(())
+    } else {
+        checked
+    }
+}
+
+fn list_file(file: &str) -> Result<(), String> {
+    let bytes = read(file)?;
+    print(&list::list(&bytes))?;
+    check::file(&bytes).map_err(|r| format!("{file}: byte {}: refused {}: {}", r.at, r.number, r.reason))
+}
+
+type Store = fn(&str, &[Vec<u8>]) -> Result<Vec<u8>, String>;
+
+fn store_list(make: Store, oracle: &str, out: &str, sources: &[&str]) -> Result<(), String> {
+    write(out, &make(oracle, &store::sources(sources)?)?)
+}
+
+fn count_lists(reading: &str, requests: &str) -> Result<(), String> {
+    let damaged = |path: &str| format!("{path}: not a stored list");
+    let readings = Source(&read(reading)?).all(Reading::read).ok_or_else(|| damaged(reading))?;
+    let asked = Source(&read(requests)?).all(Requests::read).ok_or_else(|| damaged(requests))?;
+    print(&count::table(&readings, &asked))
+}
+
+fn generate(statements: &str, seed: &str) -> Result<(), String> {
+    let count: usize = statements.parse().map_err(|_| format!("'{statements}' is no number"))?;
+    let number: u64 = seed.parse().map_err(|_| format!("'{seed}' is no seed"))?;
+    let bytes = model::generate(count, number)?;
+    print(&format!("# host generate {count} {number}\n{}", list::list(&bytes)))
+}

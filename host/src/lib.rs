@@ -1,0 +1,21 @@
+//! The laboratory's side of Tickingtor: listings to files and back, example models, stored test lists.
+pub mod asks;
+pub mod assemble;
+pub mod check;
+pub mod commands;
+pub mod count;
+pub mod damage;
+pub mod draft;
+pub mod form;
+pub mod limits;
+pub mod list;
+pub mod model;
+pub mod operands;
+pub mod oracle;
+pub mod part;
+pub mod random;
+pub mod readings;
+pub mod record;
+pub mod request;
+pub mod store;
+pub mod stored;
