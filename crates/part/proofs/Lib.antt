@@ -1,0 +1,14 @@
+pub mod Equations
+pub mod Order
+pub mod Sum
+pub mod Ascending
+pub mod Subparts
+pub mod Pieces
+pub mod Measures
+pub mod Write
+pub mod Reading
+pub mod Making
+pub mod Marks
+pub mod Slides
+pub mod Sizes
+pub mod Indexes

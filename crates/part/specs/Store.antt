@@ -1,0 +1,126 @@
+-- A store of pieces: a list of words, eight to a cell. A number MEANS a requirement: 0 is all, 1 exist, 2 none, and n from 3 on
+-- the cell at 8n: its index, the number of its child, that of its rest, then its sizes, and a mark that only `collect` reads.
+-- The first word of the list is the next free number. A cell names only lower numbers.
+use Prim.Native.Nat.{ℕ, zero, suc, _+_, _*_, _<_, _≤_, min}
+use mathlib.Core.Path.{_≡_}
+use mathlib.Core.Bool.{Bool, true, false, cond, _||_, _&&_}
+use mathlib.Core.List.{List}
+use lib.Dec.{ltb, eqb}
+use lib.ListN.{length, getD}
+use Rattle.part.specs.PartReq.{PartReq, all, exist, none, more, add, entries, depth, width, over, spine}
+use Rattle.field.specs.Limits.{maxDepth, maxEntries}
+use Rattle.part.specs.StoreLimits.{storeWords, entriesCap}
+
+-- the word k of the piece n
+abbrev pub word : List ℕ → ℕ → ℕ → ℕ
+word s n k = getD s (8 * n + k) 0
+
+-- the next free number
+abbrev pub top : List ℕ → ℕ
+top s = getD s 0 0
+
+abbrev pub index : List ℕ → ℕ → ℕ
+index s n = word s n 0
+
+abbrev pub child : List ℕ → ℕ → ℕ
+child s n = word s n 1
+
+abbrev pub rest : List ℕ → ℕ → ℕ
+rest s n = word s n 2
+
+-- what the number n means, where `f` says what each number below n means
+unfoldable pub means : List ℕ → ℕ → (ℕ → PartReq) → PartReq
+means s n f =
+    cond (ltb 2 n) (more (index s n) (f (child s n)) (f (rest s n)))
+    (cond (eqb n 0) all (cond (eqb n 1) exist none))
+
+-- what each number below k means
+unfoldable pub below : List ℕ → ℕ → ℕ → PartReq
+below s zero = λ n. none
+below s (suc k) = λ n. cond (eqb n k) (means s k (below s k)) (below s k n)
+
+-- the requirement that the piece n of the store s means
+unfoldable pub part : List ℕ → ℕ → PartReq
+part s n = means s n (below s n)
+
+abbrev pub flag : Bool → ℕ
+flag true = 1
+flag false = 0
+
+-- e, d, w and o are the sizes of p: its entries at every depth, as far as they are counted, its depth, its width, and whether it passes a limit
+pub record Measures (p : PartReq) (e d w o : ℕ) : Type 0 where
+  pub entries-is : e ≡ min entriesCap (entries p)
+  pub depth-is : d ≡ depth p
+  pub width-is : w ≡ width p
+  pub over-is : o ≡ flag (over p)
+
+-- o says whether a requirement with such a first entry passes a limit, where c and r say it of its child and of its rest
+pub record Passes (i d w c r o : ℕ) : Type 0 where
+  pub is : (p q : Bool) → c ≡ flag p → r ≡ flag q → o ≡ flag (p || (q || (ltb i spine && (ltb maxDepth d || ltb maxEntries w))))
+
+-- the last sizes are those of the requirement whose first entry is i, the first for its child, the second for its rest
+pub record SizesOf (i pe pd pw po re rd rv ro e d w o : ℕ) : Type 0 where
+  pub is : (p r : PartReq) → Measures p pe pd pw po → Measures r re rd rv ro → Measures (more i p r) e d w o
+
+-- the cell n names lower numbers, and has the sizes of what it means
+pub record Sound (s : List ℕ) (n : ℕ) : Type 0 where
+  pub child-low : child s n < n
+  pub rest-low : rest s n < n
+  pub sizes : Measures (part s n) (word s n 3) (word s n 4) (word s n 5) (word s n 6)
+
+-- the store is well formed
+pub record Good (s : List ℕ) : Type 0 where
+  pub base : 3 ≤ top s
+  pub room : 8 * top s ≤ length s
+  pub fits : length s ≤ storeWords
+  pub sound : (n : ℕ) → 2 < n → n < top s → Sound s n
+
+-- every piece of s means in t what it meant
+pub record Kept (s t : List ℕ) : Type 0 where
+  pub good : Good t
+  pub long : length t ≡ length s
+  pub tops : top s ≤ top t
+  pub same : (n : ℕ) → n < top s → part t n ≡ part s n
+
+-- k cells more fit
+abbrev pub Room : List ℕ → ℕ → Type 0
+Room s k = 8 * (top s + k) ≤ length s
+
+-- from s, t was left: the piece r means p there, and at most k cells more are used
+pub record Made (s t : List ℕ) (p : PartReq) (k r : ℕ) : Type 0 where
+  pub kept : Kept s t
+  pub piece : r < top t
+  pub is : part t r ≡ p
+  pub cost : top t ≤ top s + k
+
+-- the piece n is the cell i, c, r
+pub record Seen (s : List ℕ) (n i c r : ℕ) : Type 0 where
+  pub child-low : c < n
+  pub rest-low : r < n
+  pub weight : entries (part s n) ≡ 1 + (entries (part s c) + entries (part s r))
+  pub is : part s n ≡ more i (part s c) (part s r)
+  pub child-is : c ≡ child s n
+  pub rest-is : r ≡ rest s n
+
+-- each number of the list is that of a piece below n
+abbrev pub Below : List ℕ → ℕ → Type 0
+Below rs n = (j : ℕ) → j < length rs → getD rs j 0 < n
+
+-- t is s with another cell n, but for its mark
+pub record Put (s t : List ℕ) (n i c r e d w o : ℕ) : Type 0 where
+  pub long : length t ≡ length s
+  pub before : (x : ℕ) → x < 8 * n → getD t x 0 ≡ getD s x 0
+  pub after : (x : ℕ) → 8 * n + 7 ≤ x → getD t x 0 ≡ getD s x 0
+  pub index-is : index t n ≡ i
+  pub child-is : child t n ≡ c
+  pub rest-is : rest t n ≡ r
+  pub entries-is : word t n 3 ≡ e
+  pub depth-is : word t n 4 ≡ d
+  pub width-is : word t n 5 ≡ w
+  pub over-is : word t n 6 ≡ o
+
+-- of a, which is no cell, and another piece b, r is the sum, whichever stands first
+pub record Plain (a b r : ℕ) : Type 0 where
+  pub left : (s : List ℕ) → part s r ≡ add (part s a) (part s b)
+  pub right : (s : List ℕ) → part s r ≡ add (part s b) (part s a)
+  pub piece : (n : ℕ) → 3 ≤ n → b < n → r < n
