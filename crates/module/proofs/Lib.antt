@@ -1,0 +1,10 @@
+pub mod Cases
+pub mod Counted
+pub mod Fields
+pub mod Modules
+pub mod Records
+pub mod Scanning
+pub mod Shaped
+pub mod Shapes
+pub mod Knot
+pub mod Tab

@@ -1,0 +1,15 @@
+pub mod Access
+pub mod Blocks
+pub mod Checks
+pub mod Decode
+pub mod File
+pub mod Knot
+pub mod Marks
+pub mod Module
+pub mod Operands
+pub mod Packed
+pub mod Reading
+pub mod Record
+pub mod Scan
+pub mod Shape
+pub mod Tables

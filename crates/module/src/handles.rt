@@ -1,0 +1,12 @@
+// One kind of number for each of naga's handles, so that none serves as another.
+pub struct TypeHandle(pub u32);
+
+pub struct GlobalHandle(pub u32);
+
+pub struct LocalHandle(pub u32);
+
+pub struct FunctionHandle(pub u32);
+
+pub struct ExpressionHandle(pub u32);
+
+pub struct BlockHandle(pub u32);

@@ -1,0 +1,5 @@
+pub mod Accepted
+pub mod Decoded
+pub mod Fits
+pub mod Further
+pub mod Uses
