@@ -1,0 +1,7 @@
+pub mod Removal
+pub mod Wgsl
+pub mod Swizzle
+pub mod Types
+pub mod Taking
+pub mod Cycle
+pub mod Contexts

@@ -1,0 +1,2 @@
+pub mod AllSized
+pub mod Filled
