@@ -1,0 +1,11 @@
+pub mod Bytes
+pub mod Back
+pub mod Entries
+pub mod Frame
+pub mod Variables
+pub mod Judged
+pub mod ContextLists
+pub mod Writing
+pub mod ContextBytes
+pub mod Examples
+pub mod Room
