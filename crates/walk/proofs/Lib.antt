@@ -1,0 +1,15 @@
+pub mod Compute
+pub mod Cases
+pub mod Oddities
+pub mod Counts
+pub mod Bind
+pub mod Equations
+pub mod Ends
+pub mod Keeps
+pub mod Statements
+pub mod Functions
+pub mod Parts
+pub mod Proper
+pub mod Limits
+pub mod Lower
+pub mod Room

@@ -1,0 +1,10 @@
+pub mod State
+pub mod Resolve
+pub mod Expression
+pub mod StatementReq
+pub mod Marks
+pub mod Statement
+pub mod Function
+pub mod Requests
+pub mod Proper
+pub mod Lower

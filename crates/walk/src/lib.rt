@@ -1,0 +1,1 @@
+// The walk: what a function needs, from what is asked of it.
