@@ -1,0 +1,67 @@
+-- How the slots of a walk's memory are laid out, and how large it is. No proof computes with one of these values.
+use Prim.Native.Nat.{ℕ, _+_, _*_, _/_}
+use Rattle.field.specs.Limits.{maxBytes, maxFunctions, maxBlocks, maxDepth, maxPieces}
+
+-- the slots of all and of exist
+abbrev pub allSlot : ℕ
+allSlot = 0
+
+abbrev pub existSlot : ℕ
+existSlot = 1
+
+-- the part that a statement asks with
+abbrev pub ask : ℕ
+ask = 2
+
+-- what a called function needs of its arguments
+abbrev pub returned : ℕ
+returned = 3
+
+-- the flat parts: those that a swizzle can ask, by the code of their four digits
+abbrev pub flatSlot : ℕ
+flatSlot = 4
+
+abbrev pub flatCount : ℕ
+flatCount = 81
+
+-- the total of globals: from this slot on, 16 counts
+abbrev pub globalsSlot : ℕ
+globalsSlot = flatSlot + flatCount
+
+-- the records of the open functions, by the number of the expression in the file: no file has more, since an expression's record takes 8 bytes or more
+abbrev pub fileExpressions : ℕ
+fileExpressions = maxBytes / 8
+
+abbrev pub exprsSlot : ℕ
+exprsSlot = globalsSlot + 1
+
+-- the records of the functions' totals
+abbrev pub totalsSlot : ℕ
+totalsSlot = exprsSlot + fileExpressions
+
+-- the contexts of the functions' totals, four slots each
+abbrev pub functionsSlot : ℕ
+functionsSlot = totalsSlot + fileExpressions
+
+-- the open contexts, four slots each
+abbrev pub stackSlot : ℕ
+stackSlot = functionsSlot + 4 * maxFunctions
+
+-- a block takes at most three contexts above its own, and two stand below the first
+abbrev pub stackContexts : ℕ
+stackContexts = 3 * maxBlocks + 4
+
+abbrev pub slotCount : ℕ
+slotCount = stackSlot + 4 * stackContexts
+
+-- the most cells that stay after a collection: what 16 counts, what is asked, what is returned, and the flat parts
+abbrev pub live : ℕ
+live = 3 * maxPieces + 4 * flatCount
+
+-- the most cells that a visit makes by itself
+abbrev pub room : ℕ
+room = 4 * maxPieces + 4 * maxDepth + 16
+
+-- the words of the store
+abbrev pub storeSize : ℕ
+storeSize = 8 * (3 + live + room)

@@ -1,0 +1,54 @@
+// How the slots of a walk's memory are laid out, each with its definition in specs/Layout.antt.
+use field::limits::MAX_BLOCKS;
+use field::limits::MAX_BYTES;
+use field::limits::MAX_DEPTH;
+use field::limits::MAX_FUNCTIONS;
+use field::limits::MAX_PIECES;
+
+pub const ALL: usize = 0;
+
+pub const EXIST: usize = 1;
+
+// The part that a statement asks with.
+pub const ASK: usize = 2;
+
+// What a called function needs of its arguments.
+pub const RETURNED: usize = 3;
+
+// The flat parts, those that a swizzle can ask: from FLAT on, by the code of their four digits.
+pub const FLAT: usize = 4;
+
+pub const FLATS: usize = 81;
+
+// The pruner's total of globals.
+pub const GLOBALS: usize = FLAT + FLATS;
+
+// The most expressions of a file: the record of one takes 8 bytes or more.
+pub const FILE_EXPRESSIONS: usize = MAX_BYTES / 8;
+
+// The records of the open functions, by the number of the expression in the file: the empty part, or {0: part}.
+pub const EXPRS: usize = GLOBALS + 1;
+
+// The records of the functions' totals.
+pub const TOTALS: usize = EXPRS + FILE_EXPRESSIONS;
+
+// The contexts of the functions' totals, four slots each.
+pub const FUNCTIONS: usize = TOTALS + FILE_EXPRESSIONS;
+
+// The open contexts, four slots each.
+pub const STACK: usize = FUNCTIONS + 4 * MAX_FUNCTIONS;
+
+pub const STACK_CONTEXTS: usize = 3 * MAX_BLOCKS + 4;
+
+pub const SLOTS: usize = STACK + 4 * STACK_CONTEXTS;
+
+// The most cells that stay after a collection, and those that a visit may make by itself.
+pub const LIVE: usize = 3 * MAX_PIECES + 4 * FLATS;
+
+pub const ROOM: usize = 4 * MAX_PIECES + 4 * MAX_DEPTH + 16;
+
+// The words of the store.
+pub const CELLS: usize = 8 * (3 + LIVE + ROOM);
+
+// A part by value has this many positions and indexes.
+pub const PATH: usize = 2 * MAX_DEPTH;
