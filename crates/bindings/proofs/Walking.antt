@@ -1,0 +1,176 @@
+-- The walk's laws: what is found in a type that another names, in a member, and in the members from the last to the first; and the table
+-- that grows by one type at a time.
+use Prim.Native.Nat.{ℕ, zero, suc, _+_, _-_, _<_, _≤_}
+use native.Mathlib.Omega.{arith}
+use native.Mathlib.Decide.{decLt}
+use native.Mathlib.Numerals.{add-one}
+use mathlib.Core.Path.{_≡_, refl, sym, ap, subst, _∙_, fun-ext}
+use mathlib.Core.Bool.{Bool, true, false, false≢true}
+use mathlib.Core.List.{List, [], _∷_, _++_, append-assoc, append-nil}
+use mathlib.Core.Option.{Option, some, none as nothing}
+use lib.Bits.{bitOr}
+use lib.ListN.{length, getD, take, drop, set, drop-of-length-le, List·getD-append}
+use lib.Seq.{drop-cons, set-at}
+use borrow.Author.Tests.{le-ltb}
+use Rattle.part.specs.PartReq.{PartReq, all, exist, none, more, isAll, isExist, Subpart, gone, there, getSubpart}
+use Rattle.part.specs.Store.{part, top}
+use Rattle.part.specs.Found.{Got}
+use Rattle.part.proofs.Pieces.{part-0, part-1, not-all, not-exist}
+use Rattle.module.specs.Module.{TypeHandle, Member, TypeInner, Opaque}
+use Rattle.module.specs.Knot.{knot, below}
+use Rattle.module.specs.Decode.{optionOf}
+use Rattle.module.proofs.Knot.{knot-is, below-lt}
+use Rattle.context.specs.Types.{typeKind, typesOf, typeWord, typeCount, rowType}
+use Rattle.bindings.specs.Bindings.{Bindings, empty, union, ownBinding}
+use Rattle.bindings.specs.TypeBindings.{memberBindings, membersBindings, stepBindings}
+use Rattle.bindings.specs.Linear.{table, stepAll, allTable, stepWalk, walkBindings}
+use Rattle.bindings.specs.Rows.{rowMember, memberCount, membersOf, isBase, MemberIs}
+use Rattle.bindings.specs.Walks.{lower}
+use Rattle.part.specs.declared.req.Found.{Found}
+use Rattle.part.specs.declared.req.Found.the-variants.{Gone, There}
+use Rattle.context.proofs.Types.{length-tab}
+use Rattle.bindings.proofs.Linear.{table-length, table-past, inner-all}
+use Rattle.bindings.proofs.Rows.{base-step, members-step, members-long, members-at}
+
+-- in a type that the type t names
+module _ (types : List TypeInner) (sets : List Bindings) (t u : ℕ) where
+  pub lower-past : (p : PartReq) → t ≤ u → 0 ≡ lower types sets t u p
+  unfolding lower below
+  lower-past p h = rw (le-ltb u t h)
+
+  lower-is : (p : PartReq) → u < t → lower types sets t u p ≡ stepWalk types sets (lower types sets u) u p
+  unfolding lower walkBindings
+  lower-is p h =
+      ap (λ (g : PartReq → Bindings). g p)
+      (below-lt (λ v q. walkBindings types sets q v) (λ q. empty) t u h ∙ knot-is (stepWalk types sets) (λ q. empty) u)
+
+  pub lower-all : (s : List ℕ) {n : ℕ} → u < t → n ≡ 0 → getD sets u 0 ≡ lower types sets t u (part s n)
+  lower-all s h e = rw (e, part-0 s) (sym (lower-is all h ∙ (unfold stepWalk in refl)))
+
+  step-other : (p : PartReq) → isAll p ≡ false → stepWalk types sets (lower types sets u) u p ≡ stepBindings types (lower types sets u) u p
+  unfolding stepWalk
+  step-other all h = absurd (false≢true (sym h))
+  step-other exist h = refl
+  step-other none h = refl
+  step-other (more i p r) h = refl
+
+  pub lower-step : (s : List ℕ) {n : ℕ} → u < t → (n ≡ 0 → ⊥) → stepBindings types (lower types sets u) u (part s n) ≡ lower types sets t u (part s n)
+  lower-step s {n} h e = sym (lower-is (part s n) h ∙ step-other (part s n) (not-all s n e))
+
+-- what `get` answered
+module _ (s : List ℕ) (sub : Subpart) (f : Found) (g : Got s sub f) where
+  pub got-gone : f ≡ Gone → sub ≡ gone
+  got-gone e = subst (Got s sub) e g
+
+  pub got-there : {n : ℕ} → f ≡ There n → (n < top s) × (sub ≡ there (part s n))
+  got-there e = subst (Got s sub) e g
+
+-- in a member
+module _ (get : TypeHandle → PartReq → Bindings) (m : Member) where
+  pub member-gone : {sub : Subpart} → sub ≡ gone → 0 ≡ memberBindings get m sub
+  unfolding memberBindings
+  member-gone e = rw e
+
+  pub member-exist : (s : List ℕ) {n : ℕ} {sub : Subpart} → sub ≡ there (part s n) → n ≡ 1 → 0 ≡ memberBindings get m sub
+  unfolding memberBindings
+  member-exist s e h = rw (e, h, part-1 s)
+
+  needed-member : (p : PartReq) → isExist p ≡ false → bitOr (ownBinding (m .binding)) (get (m .type) p) ≡ memberBindings get m (there p)
+  unfolding memberBindings
+  needed-member all h = refl
+  needed-member exist h = absurd (false≢true (sym h))
+  needed-member none h = refl
+  needed-member (more i p r) h = refl
+
+pub member-needed : (get : TypeHandle → PartReq → Bindings) (s : List ℕ) {tbl : List ℕ} {t i n ty b own found : ℕ} {sub : Subpart} → sub ≡ there (part s n) → (n ≡ 1 → ⊥) → MemberIs tbl t i ty b → own ≡ ownBinding (optionOf b) → found ≡ get ty (part s n) → bitOr own found ≡ memberBindings get (rowMember tbl t i) sub
+member-needed get s {tbl} {t} {i} {n} e h M f g =
+    rw (e, f, g, M .binding-is, M .type-is) (needed-member get (rowMember tbl t i) (part s n) (not-exist s n h))
+
+-- in the members from the index i on
+pub record Left (get : TypeHandle → PartReq → Bindings) (tbl : List ℕ) (t : ℕ) (p : PartReq) (i r : ℕ) : Type 0 where
+  pub low : i ≤ memberCount tbl t
+  pub is : r ≡ membersBindings get p i (drop i (membersOf tbl t))
+
+module _ (get : TypeHandle → PartReq → Bindings) (tbl : List ℕ) (t : ℕ) (p : PartReq) where
+  pub left-none : {n : ℕ} → n ≡ memberCount tbl t → Left get tbl t p n 0
+  left-none {n} e =
+      record {
+        low = omega arith;
+        is = rw (drop-of-length-le (membersOf tbl t) {i = n} (rw (members-long tbl t) (omega arith))) (unfold membersBindings in refl);
+      }
+
+  members-cons : (i : ℕ) → i < memberCount tbl t → membersBindings get p i (drop i (membersOf tbl t)) ≡ bitOr (memberBindings get (rowMember tbl t i) (getSubpart p i)) (membersBindings get p (suc i) (drop (suc i) (membersOf tbl t)))
+  members-cons i h =
+      rw (drop-cons (membersOf tbl t) i (rowMember tbl t i) (rw (members-long tbl t) h), members-at tbl t (rowMember tbl t i) i h)
+      (unfold membersBindings in refl)
+
+  pub left-more : {i r m : ℕ} → 0 < i → Left get tbl t p i r → m ≡ memberBindings get (rowMember tbl t (i - 1)) (getSubpart p (i - 1)) → Left get tbl t p (i - 1) (bitOr m r)
+  left-more {i = zero} h L e = absurd (omega arith)
+  left-more {i = suc i} {r} {m} h L e =
+      let same : suc i - 1 ≡ i = omega arith in
+      let low : suc i ≤ memberCount tbl t = L .low in
+      let f : m ≡ memberBindings get (rowMember tbl t i) (getSubpart p i) = rw same at e in
+      rw same (record { low = omega arith; is = rw (f, L .is) (sym (members-cons i low)) })
+
+  pub left-all : {k i r : ℕ} → i ≤ 0 → Left get tbl t p i r → k ≡ typeKind tbl t → isBase k ≡ false → r ≡ stepBindings (typesOf tbl) get t p
+  left-all {k} {i = zero} h L e b = L .is ∙ members-step tbl t get p e b
+  left-all {k} {i = suc i} h L e b = absurd (omega arith)
+
+  pub base-found : {k base r : ℕ} {b : Bool} → k ≡ typeKind tbl t → b ≡ isBase k → b ≡ true → base ≡ typeWord tbl t 1 → r ≡ get base p → r ≡ stepBindings (typesOf tbl) get t p
+  base-found e f h g found = found ∙ rw g (base-step tbl t get p e (sym f ∙ h))
+
+-- the table as far as the type t, and the rest as it was
+pub record Grown (types : List TypeInner) (old sets : List Bindings) (t : ℕ) : Type 0 where
+  pub low : t ≤ length old
+  pub is : sets ≡ table (stepAll types) empty t ++ drop t old
+
+module _ (types : List TypeInner) (old : List Bindings) where
+  done : ℕ → List Bindings
+  done t = table (stepAll types) empty t
+
+  pub grown-none : Grown types old old 0
+  unfolding table
+  grown-none = record { low = omega arith; is = refl }
+
+  module _ {sets : List Bindings} {t : ℕ} (G : Grown types old sets t) where
+    lower-done : (u : ℕ) → lower types sets t u all ≡ getD (done t) u empty
+    unfolding done
+    lower-done u =
+        elim (decLt u t) [
+          | yes h ↦
+              lower-is types sets t u all h
+              ∙ (unfold stepWalk in (rw (G .is) (List·getD-append (done t) (drop t old) 0 u (rw (table-length (stepAll types) empty t) h))))
+          | no h ↦
+              let past : t ≤ u = omega arith in
+              sym (lower-past types sets t u all past) ∙ sym (table-past (stepAll types) empty t u past)
+        ]
+
+    joined : {r v : ℕ} → r ≡ v → done (suc t) ≡ done t ++ (v ∷ []) → done t ++ (r ∷ drop (suc t) old) ≡ table (stepAll types) empty (t + 1) ++ drop (t + 1) old
+    unfolding done
+    joined {r} {v} new last =
+        rw (add-one t, new, last) (sym (append-assoc (done t) (v ∷ []) (drop (suc t) old)))
+
+    step-done : stepBindings types (lower types sets t) t all ≡ stepAll types (λ u. getD (done t) u empty) t
+    unfolding stepBindings stepAll
+    step-done = inner-all (lower types sets t) (getD types t Opaque) ∙ ap (λ (w : ℕ → ℕ). stepAll types w t) (fun-ext lower-done)
+
+    pub grown-more : (s : List ℕ) {r n : ℕ} → n ≡ 0 → t < length old → r ≡ stepBindings types (lower types sets t) t (part s n) → Grown types old (set sets t r) (t + 1)
+    grown-more s {r} {n} e h f =
+        let v = stepAll types (λ u. getD (done t) u empty) t in
+        let rest = drop (suc t) old in
+        let new : r ≡ v = f ∙ rw (e, part-0 s) step-done in
+        let here : sets ≡ done t ++ (getD old t 0 ∷ rest) = G .is ∙ (unfold done in (rw (drop-cons old t 0 h))) in
+        let long : length (done t) ≡ t = unfold done in (table-length (stepAll types) empty t) in
+        let last : done (suc t) ≡ done t ++ (v ∷ []) = unfold done table in refl in
+        record {
+          low = omega arith;
+          is = ap (λ (l : List Bindings). set l t r) here ∙ set-at (done t) (getD old t 0) rest r t long ∙ joined new last;
+        }
+
+    pub grown-all : (tbl : List ℕ) → types ≡ typesOf tbl → length old ≡ typeCount tbl → length old ≤ t → sets ≡ allTable types
+    unfolding done allTable
+    grown-all tbl e f h =
+        let low : t ≤ length old = G .low in
+        let many : length types ≡ typeCount tbl = rw e (unfold typesOf in (length-tab (rowType tbl) (typeCount tbl))) in
+        let same : length types ≡ t = omega arith in
+        G .is ∙ rw (drop-of-length-le old h) (append-nil (done t) ∙ rw same)

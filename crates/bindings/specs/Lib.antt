@@ -1,0 +1,8 @@
+pub mod Bindings
+pub mod TypeBindings
+pub mod ContextBindings
+pub mod Linear
+pub mod Rows
+pub mod Walks
+pub mod Parts
+pub mod Inputs
