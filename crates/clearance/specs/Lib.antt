@@ -1,0 +1,10 @@
+pub mod Shape
+pub mod Scope
+pub mod Tree
+pub mod Needs
+pub mod Judged
+pub mod Verdict
+pub mod Rules
+pub mod IsNeed
+pub mod Run
+pub mod Claim

@@ -1,0 +1,109 @@
+-- The rules in 01's words, as predicates.
+use Prim.Native.Nat.{ℕ, _<_, _≤_}
+use mathlib.Core.Path.{_≡_}
+use mathlib.Core.Bool.{true, false}
+use mathlib.Core.List.{List, [], _∷_, _++_}
+use mathlib.Core.Option.{Option, some as present, none as nothing}
+use lib.Dec.{ltb}
+use lib.ListN.{length}
+use Rattle.field.specs.Limits.{maxPieces}
+use Rattle.part.specs.PartReq.{PartReq, contains, over}
+use Rattle.module.specs.Module.{ExpressionHandle}
+use Rattle.clearance.specs.Shape.{cov, below, some}
+use Rattle.clearance.specs.Scope.{Scope, slot, evaluated, variable}
+use Rattle.clearance.specs.Tree.{Act, Tree, nop, seq, act, branch, switch, loop, break, continue, return, unmarked}
+use Rattle.clearance.specs.Needs.{overlap, Exit, next, broke, continued, returned, upon, ofCase, afterContinuing, Setting, walk, afterBody, Table, reentry, smallest}
+use Rattle.clearance.specs.Judged.{blamedExpression, blamedStatement}
+use Rattle.clearance.specs.Verdict.{Request, Report, ending, setting, body, startNeeds, pieces, atPoint, hasShape}
+
+-- the store or emit x stands in a statement, at any depth
+pub data StandsIn (x : Act) : Tree → Type 0 where
+  itself : StandsIn x (act x)
+  first : {a b : Tree} → StandsIn x a → StandsIn x (seq a b)
+  second : {a b : Tree} → StandsIn x b → StandsIn x (seq a b)
+  inAccept : {c : ExpressionHandle} {a b : Tree} → StandsIn x a → StandsIn x (branch c a b)
+  inReject : {c : ExpressionHandle} {a b : Tree} → StandsIn x b → StandsIn x (branch c a b)
+  inCase : {c : ExpressionHandle} {vs : List ℕ} {f : ℕ → Tree} (i : ℕ) → i < length vs → StandsIn x (f i) → StandsIn x (switch c vs f)
+  inBody : {n : ℕ} {a b : Tree} {c : Option ExpressionHandle} → StandsIn x a → StandsIn x (loop n a b c)
+  inContinuing : {n : ℕ} {a b : Tree} {c : Option ExpressionHandle} → StandsIn x b → StandsIn x (loop n a b c)
+  inUnmarked : {n : ℕ} {a : Tree} → StandsIn x a → StandsIn x (unmarked n a)
+
+-- A break, continue or return in a statement leaves it. A break that stays in a switch or a loop, and a continue that stays in a
+-- loop, does not.
+pub data Leaves : Exit → Tree → Type 0 where
+  byBreak : {n : ℕ} → Leaves broke (break n)
+  byContinue : {n : ℕ} → Leaves continued (continue n)
+  byReturn : {n : ℕ} {v : Option ExpressionHandle} → Leaves returned (return n v)
+  fromFirst : {x : Exit} {a b : Tree} → Leaves x a → Leaves x (seq a b)
+  fromSecond : {x : Exit} {a b : Tree} → Leaves x b → Leaves x (seq a b)
+  fromAccept : {x : Exit} {c : ExpressionHandle} {a b : Tree} → Leaves x a → Leaves x (branch c a b)
+  fromReject : {x : Exit} {c : ExpressionHandle} {a b : Tree} → Leaves x b → Leaves x (branch c a b)
+  caseContinues : {c : ExpressionHandle} {vs : List ℕ} {f : ℕ → Tree} (i : ℕ) → i < length vs → Leaves continued (f i) → Leaves continued (switch c vs f)
+  caseReturns : {c : ExpressionHandle} {vs : List ℕ} {f : ℕ → Tree} (i : ℕ) → i < length vs → Leaves returned (f i) → Leaves returned (switch c vs f)
+  bodyReturns : {n : ℕ} {a b : Tree} {c : Option ExpressionHandle} → Leaves returned a → Leaves returned (loop n a b c)
+  continuingContinues : {n : ℕ} {a b : Tree} {c : Option ExpressionHandle} → Leaves continued b → Leaves continued (loop n a b c)
+  continuingReturns : {n : ℕ} {a b : Tree} {c : Option ExpressionHandle} → Leaves returned b → Leaves returned (loop n a b c)
+  fromUnmarked : {x : Exit} {n : ℕ} {a : Tree} → Leaves x a → Leaves x (unmarked n a)
+
+-- The rule of an unmarked statement: no store inside may overlap the needs after it, no emit inside may give a needed expression, and
+-- no return, break or continue may leave it. (Of an unmarked store or emit it says that it does not overlap them itself.)
+pub record Obeys (S : Scope) (after : PartReq) (a : Tree) : Type 0 where
+  pub nothingNeeded : (x : Act) → StandsIn x a → some (overlap S x after) ≡ false
+  pub nothingLeaves : (x : Exit) → Leaves x a → ⊥
+
+-- no rule broken: of every unmarked statement that is walked, with the needs that stand after it
+abbrev pub Unbroken : (W : Setting) (r : ℕ → PartReq) → Tree → (Exit → PartReq) → Type 0
+Unbroken W r nop k = Unit {0}
+Unbroken W r (seq a b) k = Unbroken W r a (upon (walk W r b k) k) × Unbroken W r b k
+Unbroken W r (act x) k = Unit {0}
+Unbroken W r (branch c a b) k = Unbroken W r a k × Unbroken W r b k
+Unbroken W r (switch c vs f) k = (i : ℕ) → i < length vs → Unbroken W r (f i) (ofCase k)
+Unbroken W r (loop n a b c) k = Unbroken W r a (afterBody W r n b c k) × Unbroken W r b (afterContinuing (W .scope) (r n) c k)
+Unbroken W r (break n) k = Unit {0}
+Unbroken W r (continue n) k = Unit {0}
+Unbroken W r (return n v) k = Unit {0}
+Unbroken W r (unmarked n a) k = Obeys (W .scope) (k next) a
+
+-- The statement n breaks its rule: it is unmarked, stands somewhere in the walk, and does not obey with the needs that stand after it.
+-- (The inside of one that breaks its rule is walked on as if it were marked; that of one that obeys is not walked.)
+pub data Breaks (W : Setting) (r : ℕ → PartReq) (n : ℕ) : Tree → (Exit → PartReq) → Type 0 where
+  breaksFirst : {a b : Tree} {k : Exit → PartReq} → Breaks W r n a (upon (walk W r b k) k) → Breaks W r n (seq a b) k
+  breaksSecond : {a b : Tree} {k : Exit → PartReq} → Breaks W r n b k → Breaks W r n (seq a b) k
+  breaksAccept : {c : ExpressionHandle} {a b : Tree} {k : Exit → PartReq} → Breaks W r n a k → Breaks W r n (branch c a b) k
+  breaksReject : {c : ExpressionHandle} {a b : Tree} {k : Exit → PartReq} → Breaks W r n b k → Breaks W r n (branch c a b) k
+  breaksCase : {c : ExpressionHandle} {vs : List ℕ} {f : ℕ → Tree} {k : Exit → PartReq} (i : ℕ) → i < length vs → Breaks W r n (f i) (ofCase k) → Breaks W r n (switch c vs f) k
+  breaksBody : {m : ℕ} {a b : Tree} {c : Option ExpressionHandle} {k : Exit → PartReq} → Breaks W r n a (afterBody W r m b c k) → Breaks W r n (loop m a b c) k
+  breaksContinuing : {m : ℕ} {a b : Tree} {c : Option ExpressionHandle} {k : Exit → PartReq} → Breaks W r n b (afterContinuing (W .scope) (r m) c k) → Breaks W r n (loop m a b c) k
+  breaksItself : {a : Tree} {k : Exit → PartReq} → (Obeys (W .scope) (k next) a → ⊥) → Breaks W r n (unmarked n a) k
+  breaksInside : {m : ℕ} {a : Tree} {k : Exit → PartReq} → (Obeys (W .scope) (k next) a → ⊥) → Breaks W r n a k → Breaks W r n (unmarked m a) k
+
+-- 01's "Cleared", of a function that is judged and whose needs pass no limit, with t the smallest needs of its loops
+pub record Cleared (S : Scope) (R : Request) (P : Report) (t : Table) : Type 0 where
+  pub marks : hasShape (S .function) (P .marks) ≡ true
+  pub expressions : blamedExpression S ≡ nothing
+  pub statements : blamedStatement S (body S P) ≡ nothing
+  pub settled : smallest (setting S R) (body S P) (ending S R) ≡ present t
+  pub shallow : atPoint S R P t over ≡ false
+  pub few : atPoint S R P t (λ n. ltb maxPieces (pieces n)) ≡ false
+  -- no rule broken
+  pub rules : Unbroken (setting S R) (reentry t) (body S P) (ending S R)
+  -- no evaluated expression still needed at the start
+  pub evaluations : (e : ExpressionHandle) (q : List ℕ) → cov (startNeeds S R P t) (slot (evaluated e) ++ q) ≡ false
+  -- argument and global needs contained in the context
+  pub globals : contains (P .globals) (below (startNeeds S R P t) (variable 0 ∷ [])) ≡ true
+  pub args : contains (P .args) (below (startNeeds S R P t) (variable 2 ∷ [])) ≡ true
+
+-- What "smallest" says: a choice r of re-entry needs contains those of every loop, and the needs at the start that come of it contain
+-- those at the start.
+pub record Contained (S : Scope) (R : Request) (P : Report) (t : Table) (r : ℕ → PartReq) : Type 0 where
+  pub loops : (j : ℕ) → contains (r j) (reentry t j) ≡ true
+  pub start : contains (walk (setting S R) r (body S P) (ending S R)) (startNeeds S R P t) ≡ true
+
+-- What "the lowest" says: n is in the list, and nothing lower is.
+pub data Member (n : ℕ) : List ℕ → Type 0 where
+  here : {ns : List ℕ} → Member n (n ∷ ns)
+  later : {m : ℕ} {ns : List ℕ} → Member n ns → Member n (m ∷ ns)
+
+pub record Lowest (n : ℕ) (l : List ℕ) : Type 0 where
+  pub member : Member n l
+  pub least : (m : ℕ) → Member m l → n ≤ m

@@ -1,0 +1,1 @@
+// The clearance: the definitions stand in specs/.
