@@ -1,51 +1,20 @@
-// What a module has, by handle. Callers see fields and numbers, never an offset; a row stands for a function.
+// Fields of types, globals and statements, and blocks, for the reading code; crate `access` has what its callers need.
 use crate::handles::BlockHandle;
-use crate::handles::ExpressionHandle;
-use crate::handles::FunctionHandle;
 use crate::handles::GlobalHandle;
-use crate::handles::LocalHandle;
 use crate::handles::TypeHandle;
 use crate::record::body;
 use crate::tables::BLOCKS;
 use crate::tables::GLOBALS;
-use crate::tables::HEAD;
 use crate::tables::ITEMS;
 use crate::tables::Row;
 use crate::tables::TYPES;
-use crate::tables::row_at;
 use crate::tables::word;
 ghost use mathlib.Core.Path.{_≡_};
 ghost use Prim.Native.Nat.{_+_, _≤_, _<_};
 ghost use lib.ListN.{getD};
 ghost use Rattle.module.specs.Access.{rangeIs};
 ghost use Rattle.module.specs.Reading.{rangeOf};
-ghost use Rattle.module.specs.Record.{bodyAt};
-ghost use Rattle.module.specs.Tables.{rowAt, headAt, startsOf, typeBody, globalBody, itemBody, localsFrom, expressionsFrom, statementsFrom};
-
-pub fn types(t: &[u32]) -> u32
-    ensures { λ r. ⌜ r ≡ getD (now (t .entry)) headAt 0 ⌝ }
-{
-    word(t, HEAD)
-}
-
-pub fn globals(t: &[u32]) -> u32
-    ensures { λ r. ⌜ r ≡ getD (now (t .entry)) (headAt + 1) 0 ⌝ }
-{
-    word(t, HEAD + 1)
-}
-
-pub fn functions(t: &[u32]) -> u32
-    ensures { λ r. ⌜ r ≡ getD (now (t .entry)) (headAt + 2) 0 ⌝ }
-{
-    word(t, HEAD + 2)
-}
-
-// The row of a function, by which the functions below find its parts.
-pub fn function(t: &[u32], f: FunctionHandle) -> Row
-    ensures { λ r. ⌜ r ≡ rowAt (now (t .entry)) (f .0) ⌝ }
-{
-    row_at(t, f.0)
-}
+ghost use Rattle.module.specs.Tables.{startsOf, typeBody, globalBody, itemBody, statementsFrom};
 
 // Of a type: its kind is the field 0, and its operands follow.
 pub fn type_field(bytes: &[u8], t: &[u32], h: TypeHandle, j: u32) -> u16
@@ -62,13 +31,6 @@ pub fn global_type(bytes: &[u8], t: &[u32], g: GlobalHandle) -> u16
     body(bytes, offset, 0)
 }
 
-// Of a function's head: 1 for an entry, the result's type, its binding.
-pub fn head_field(bytes: &[u8], row: Row, j: u32) -> u16
-    ensures { λ r. ⌜ r ≡ getD (bodyAt (now (bytes .entry)) (row .offset)) j 0 ⌝ }
-{
-    body(bytes, row.offset, j)
-}
-
 // Of an item, by its number among all.
 fn item_field(bytes: &[u8], t: &[u32], i: usize, j: u32) -> u16
     requires { ⌜ i ≤ 34359738368 ⌝ }
@@ -76,28 +38,6 @@ fn item_field(bytes: &[u8], t: &[u32], i: usize, j: u32) -> u16
 {
     let offset = word(t, ITEMS + i);
     body(bytes, offset, j)
-}
-
-// Of an argument: its type, its binding.
-pub fn argument_field(bytes: &[u8], t: &[u32], row: Row, i: u32, j: u32) -> u16
-    ensures { λ r. ⌜ r ≡ getD (itemBody (now (bytes .entry)) (now (t .entry)) (row .items + i)) j 0 ⌝ }
-{
-    item_field(bytes, t, (row.items as usize) + (i as usize), j)
-}
-
-pub fn local_type(bytes: &[u8], t: &[u32], row: Row, l: LocalHandle) -> u16
-    ensures { λ r. ⌜ r ≡ getD (itemBody (now (bytes .entry)) (now (t .entry)) (localsFrom row + l .0)) 0 0 ⌝ }
-{
-    let from = (row.items as usize) + (row.arguments as usize);
-    item_field(bytes, t, from + (l.0 as usize), 0)
-}
-
-// Of an expression: its type, its kind, and its operands.
-pub fn expression_field(bytes: &[u8], t: &[u32], row: Row, e: ExpressionHandle, j: u32) -> u16
-    ensures { λ r. ⌜ r ≡ getD (itemBody (now (bytes .entry)) (now (t .entry)) (expressionsFrom row + e .0)) j 0 ⌝ }
-{
-    let from = (row.items as usize) + (row.arguments as usize) + (row.locals as usize);
-    item_field(bytes, t, from + (e.0 as usize), j)
 }
 
 // Of a statement: its kind, and its operands.

@@ -6,6 +6,7 @@ use crate::tables::Row;
 use crate::tables::put;
 use crate::tables::row_at;
 use crate::tables::word;
+use field::limits::ABSENT;
 ghost use mathlib.Core.Path.{_≡_};
 ghost use Prim.Native.Nat.{ℕ, _+_, _*_, _≤_, _<_};
 ghost use lib.ListN.{length, getD};
@@ -16,6 +17,9 @@ ghost use Rattle.module.specs.Packed.{operandOf, unpack, classes};
 ghost use Rattle.module.specs.Tables.{scopeIn, emittedOf};
 ghost use Rattle.module.specs.Scan.{passOf, Took, Fresh, Stamped, classTaken};
 ghost use mathlib.Core.List.{[]};
+
+// Bindings are 0 to 63.
+const BINDINGS: u32 = 64;
 
 // What is left of the fields, where they are allowed.
 pub enum Left {
@@ -41,7 +45,7 @@ pub fn passes(bytes: &[u8], t: &[u32], test: Test, x: u16) -> bool
     match test {
         Test::Below(n) => wide < n,
         Test::BelowOrAbsent(n) => {
-            if x == 65535 {
+            if x == ABSENT {
                 return true;
             }
             wide < n
@@ -196,7 +200,7 @@ pub fn members(bytes: &[u8], t: &[u32], end: usize, n: usize, types: u32) -> Lef
         end,
         n - 1,
         Test::Below(types),
-        Test::BelowOrAbsent(64),
+        Test::BelowOrAbsent(BINDINGS),
         count,
     )
 }
@@ -212,11 +216,11 @@ pub fn result(bytes: &[u8], t: &[u32], end: usize, n: usize, types: u32) -> Left
     let ty = field::field::get(bytes, end - 2 * n);
     let binding = field::field::get(bytes, end - 2 * (n - 1));
     if passes(bytes, t, Test::BelowOrAbsent(types), ty) {
-        if passes(bytes, t, Test::BelowOrAbsent(64), binding) {
-            if ty < 65535 {
+        if passes(bytes, t, Test::BelowOrAbsent(BINDINGS), binding) {
+            if ty < ABSENT {
                 return Left::Fields(n - 2);
             }
-            if binding == 65535 {
+            if binding == ABSENT {
                 return Left::Fields(n - 2);
             }
         }
@@ -319,7 +323,7 @@ pub fn plain(bytes: &[u8], t: &[u32], c: Counts, end: usize, n: usize, class: u3
         15 => one(bytes, t, end, n, Test::Below(c.types)),
         16 => one(bytes, t, end, n, Test::Size),
         17 => members(bytes, t, end, n, c.types),
-        18 => one(bytes, t, end, n, Test::BelowOrAbsent(64)),
+        18 => one(bytes, t, end, n, Test::BelowOrAbsent(BINDINGS)),
         19 => one(bytes, t, end, n, Test::Below(2)),
         20 => result(bytes, t, end, n, c.types),
         _ => one(bytes, t, end, n, Test::Never),

@@ -1,1 +1,5 @@
+pub mod Ends
 pub mod Holding
+pub mod Progress
+pub mod Reads
+pub mod Steps

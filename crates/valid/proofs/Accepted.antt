@@ -1,5 +1,5 @@
 -- Every record that is allowed leaves what has been read valid, and so a module that is accepted is valid: by the marks for one
--- record, then by recursion over the records.
+-- record, then by the rule of reading (proofs/Records).
 use mathlib.Core.Path.{_≡_, refl, sym, ap, _∙_, subst, fun-ext}
 use mathlib.Core.Bool.{Bool, true, false, not, cond, false≢true, _&&_, _||_}
 use mathlib.Core.List.{List, [], _∷_, _++_, map}
@@ -12,22 +12,21 @@ use lib.Dec.{ltb, leb, eqb}
 use lib.ListN.{length, getD, length-append, List·getD-append, List·getD-eq-default}
 use lib.Seq.{getD-at, take-append-le, take-at}
 use borrow.Author.Tests.{ltb-true, ltb-false, leb-false, not-false, eqb-true, eq-eqb, le-leb}
-use Rattle.field.specs.Limits.{absent, maxBytes, maxTypes, maxGlobals, maxFunctions, maxArguments, maxMembers, maxComponents, maxLocals, maxExpressions, maxStatements}
-use Rattle.field.specs.Field.{fieldAt}
+use Rattle.field.specs.Limits.{absent, maxTypes, maxGlobals, maxFunctions, maxArguments, maxMembers, maxComponents, maxLocals, maxExpressions, maxStatements}
 use Rattle.module.specs.Module.{Typed, Statement, BlockRange, FunctionArg, FunctionResult, Function, Module}
 use Rattle.module.specs.declared.record.Mark.{Mark}
 use Rattle.module.specs.declared.record.Mark.the-variants.{TY, GV, FN, AR, LV, EX, BK, ST}
-use Rattle.module.specs.Record.{markOf, lengthAt, bodyAt, even}
 use Rattle.module.specs.Shape.{type, binding, flag, result, typeShape, expressionShape, statementShape}
 use Rattle.module.specs.Decode.{optionOf, typeOf, resultOf, argOf, typedOf, stOf}
 use Rattle.module.specs.Operands.{Scope, belowOrAbsent, bindings}
 use Rattle.module.specs.Reading.{Open, Reading, inArguments, inBlocks, scopeOf, rangeOf, stageOf, opened, grown, typesWith, globalsWith, added, closed}
 use Rattle.module.specs.Blocks.{blockRule}
-use Rattle.module.specs.File.{Next, go, stop, _>>=_, unless, over, fine, ended, endedAt, placed, bodyNext, markNext, recordNext, Answer, accepted, refused, answerOf, onward, readFrom, start, readModule}
+use Rattle.module.specs.File.{over, fine, placed, accepted, start, readModule}
 use Rattle.module.proofs.Tab.{length-tab, getD-tab}
 use Rattle.valid.specs.Valid.{All, TypeValid, ExpressionValid, StatementValid, PartsValid, FunctionValid, MaybeBelow, ResultBelow, entriesBelow, Valid}
 use Rattle.valid.proofs.Fits.{numbers, and-left, and-right, fits}
 use Rattle.valid.proofs.Further.{further, names-further, uses-further}
+use Rattle.valid.proofs.Records.{opens, moduleIn, Before, Keeps, kept}
 use Rattle.valid.proofs.Decoded.{maybe, type-fine, expression-fine, names-fine, statement-fine, members-within, components-within, arguments-within}
 
 -- Lists, element by element.
@@ -49,12 +48,6 @@ module _ {A : Type 0} where
 
   more-length : (xs : List A) (x : A) → length xs ≤ length (xs ++ (x ∷ []))
   more-length xs x = rw length-one-more (omega arith)
-
-  all-map : (P Q : ℕ → A → Type 0) (xs : List A) → ((i : ℕ) (x : A) → i < length xs → P i x → Q i x) → All P xs → All Q xs
-  all-map P Q xs k h i d l = k i (getD xs i d) l (h i d l)
-
-  all-nil : (P : ℕ → A → Type 0) → All P []
-  all-nil P i d l = absurd (omega arith)
 
 -- in range it does not matter what stands for what there is not
 pub in-range : {A : Type 0} (xs : List A) (i : ℕ) (c d : A) → i < length xs → getD xs i c ≡ getD xs i d
@@ -171,10 +164,6 @@ function-further {f = f} p q v =
       ranges = v .ranges;
     }
 
--- the module so far
-abbrev ended-ones : Reading → Module
-ended-ones r = record { types = r .types; globals = r .globals; functions = r .functions }
-
 abbrev OpenValid : (types globals : ℕ) → List Bool → Open → Type 0
 OpenValid types globals entries f = PartsValid types globals entries (f .arguments) (f .locals) (f .expressions) (f .statements)
 
@@ -188,7 +177,7 @@ abbrev HeadValid : Reading → Type 0
 HeadValid r = (suc (length (r .functions)) ≤ maxFunctions) × ResultBelow (length (r .types)) (r .open-one .result)
 
 pub record ReadValid (r : Reading) : Type 0 where
-  pub whole : Valid (ended-ones r)
+  pub whole : Valid (moduleIn r)
   pub one : OpenValid (length (r .types)) (length (r .globals)) (map (λ f. f .entry) (r .functions)) (r .open-one)
   pub starts : Starts (r .open-one .starts) (length (r .open-one .statements))
   pub space : leb inArguments (r .stage) ≡ true → HeadValid r
@@ -295,27 +284,8 @@ module _ (r : Reading) (v : ReadValid r) where
       }
   ended-functions false e h = v .whole
 
--- Of what comes of a record, if it is not refused.
-abbrev OnGo : (Reading → Type 0) → Next → Type 0
-OnGo P (go r) = P r
-OnGo P (stop n) = Unit {0}
-
-unless-on : (P : Reading → Type 0) (b : Bool) (n : ℕ) (k : Next) → (b ≡ false → OnGo P k) → OnGo P (unless b n k)
-unless-on P true n k h = tt
-unless-on P false n k h = h refl
-
-bind-on : (P Q : Reading → Type 0) (n : Next) (k : Reading → Next) → OnGo P n → ((r : Reading) → P r → OnGo Q (k r)) → OnGo Q (n >>= k)
-bind-on P Q (go r) k h f = f r h
-bind-on P Q (stop n) k h f = tt
-
 abbrev EndedValid : Reading → Type 0
-EndedValid r = Valid (ended-ones r)
-
-ended-valid : (r : Reading) → ReadValid r → OnGo EndedValid (ended r)
-unfolding ended
-ended-valid r v =
-    unless-on EndedValid (leb inArguments (r .stage) && not (blockRule (closed (r .open-one)))) 5 _
-    (ended-functions r v (leb inArguments (r .stage)) (λ e. e))
+EndedValid r = Valid (moduleIn r)
 
 -- a function is open
 pub record Inside (r : Reading) : Type 0 where
@@ -333,17 +303,17 @@ Ready EX r = Inside r
 Ready BK r = Inside r
 Ready ST r = Inside r
 
-endedAt-valid : (mark : Mark) (r : Reading) → ReadValid r → placed mark (r .stage) ≡ true → OnGo (Ready mark) (endedAt mark r)
-unfolding endedAt placed
-endedAt-valid TY r v p = v
-endedAt-valid GV r v p = v
-endedAt-valid FN r v p = ended-valid r v
-endedAt-valid AR r v p =
+ready : (mark : Mark) (r : Reading) → Before ReadValid EndedValid mark r → placed mark (r .stage) ≡ true → Ready mark r
+unfolding placed
+ready TY r v p = v
+ready GV r v p = v
+ready FN r v p = v
+ready AR r v p =
     record { read = v; inside = le-leb inArguments (r .stage) (omega (arith, eqb-true (r .stage) inArguments p)) }
-endedAt-valid LV r v p = record { read = v; inside = and-left (leb inArguments (r .stage)) _ p }
-endedAt-valid EX r v p = record { read = v; inside = and-left (leb inArguments (r .stage)) _ p }
-endedAt-valid BK r v p = record { read = v; inside = p }
-endedAt-valid ST r v p =
+ready LV r v p = record { read = v; inside = and-left (leb inArguments (r .stage)) _ p }
+ready EX r v p = record { read = v; inside = and-left (leb inArguments (r .stage)) _ p }
+ready BK r v p = record { read = v; inside = p }
+ready ST r v p =
     record { read = v; inside = le-leb inArguments (r .stage) (omega (arith, eqb-true (r .stage) inBlocks p)) }
 
 -- a result that a head gives
@@ -546,60 +516,6 @@ added-valid EX fs r v o h = more-expressions fs r v o h
 added-valid BK fs r v o h = more-blocks fs r v
 added-valid ST fs r v o h = more-statements fs r v o h
 
--- One record, then all of them.
-module _ (bytes : List ℕ) where
-  body-valid : (at : ℕ) (mark : Mark) (r : Reading) → Ready mark r → OnGo ReadValid (bodyNext bytes at mark r)
-  unfolding bodyNext
-  body-valid at mark r v =
-      unless-on ReadValid (over mark (scopeOf r) (bodyAt bytes at)) 4 _
-      (λ o.
-      unless-on ReadValid (not (even bytes at && fine mark (scopeOf r) (bodyAt bytes at))) 5 _
-      (λ h.
-      added-valid mark (bodyAt bytes at) r v o
-      (and-right (even bytes at) (fine mark (scopeOf r) (bodyAt bytes at)) (not-false (even bytes at && fine mark (scopeOf r) (bodyAt bytes at)) h))))
-
-  mark-valid : (at : ℕ) (known : Option Mark) (r : Reading) → ReadValid r → OnGo ReadValid (markNext bytes at known r)
-  unfolding markNext
-  mark-valid at nothing r v = tt
-  mark-valid at (some mark) r v =
-      unless-on ReadValid (not (placed mark (r .stage))) 3 _
-      (λ o.
-      bind-on (Ready mark) ReadValid (endedAt mark r) (bodyNext bytes at mark)
-      (endedAt-valid mark r v (not-false (placed mark (r .stage)) o))
-      (body-valid at mark))
-
-  record-valid : (at : ℕ) (r : Reading) → ReadValid r → OnGo ReadValid (recordNext bytes at r)
-  unfolding recordNext
-  record-valid at r v =
-      unless-on ReadValid (ltb (length bytes) (at + 4)) 2 _
-      (λ o.
-      unless-on ReadValid (ltb (length bytes) (at + 4 + lengthAt bytes at)) 2 _
-      (λ h. mark-valid at (markOf (fieldAt bytes at)) r v))
-
--- Of an answer, if the module is accepted.
-abbrev OnAccepted : (Module → Type 0) → Answer → Type 0
-OnAccepted P (accepted m) = P m
-OnAccepted P (refused n) = Unit {0}
-
-answer-valid : (n : Next) → OnGo EndedValid n → OnAccepted Valid (answerOf n)
-answer-valid (go r) h = h
-answer-valid (stop n) h = tt
-
-onward-valid : (n : Next) (k : Reading → Answer) → OnGo ReadValid n → ((r : Reading) → ReadValid r → OnAccepted Valid (k r)) → OnAccepted Valid (onward n k)
-onward-valid (go r) k h f = f r h
-onward-valid (stop n) k h f = tt
-
-next-valid : (b : Bool) (bytes : List ℕ) (at : ℕ) (r : Reading) (k : Reading → Answer) → ReadValid r → ((q : Reading) → ReadValid q → OnAccepted Valid (k q)) → OnAccepted Valid (elim b [ true ↦ answerOf (ended r) | false ↦ onward (recordNext bytes at r) k ])
-next-valid true bytes at r k v h = answer-valid (ended r) (ended-valid r v)
-next-valid false bytes at r k v h = onward-valid (recordNext bytes at r) k (record-valid bytes at r v) h
-
-from-valid : (most : ℕ) (bytes : List ℕ) (at : ℕ) (r : Reading) → ReadValid r → OnAccepted Valid (readFrom most bytes at r)
-unfolding readFrom
-from-valid zero bytes at r v = tt
-from-valid (suc most) bytes at r v =
-    next-valid (leb (length bytes) at) bytes at r (readFrom most bytes (at + 4 + lengthAt bytes at)) v
-    (from-valid most bytes (at + 4 + lengthAt bytes at))
-
 start-valid : ReadValid start
 unfolding start
 start-valid =
@@ -618,14 +534,17 @@ start-valid =
       space = λ e. absurd (false≢true e);
     }
 
-read-valid : (bytes : List ℕ) → OnAccepted Valid (readModule bytes)
-unfolding readModule
-read-valid bytes = whole (ltb maxBytes (length bytes))
-  where
-    whole : (b : Bool) → OnAccepted Valid (elim b [ true ↦ refused 1 | false ↦ readFrom (suc (length bytes)) bytes 0 start ])
-    whole true = tt
-    whole false = from-valid (suc (length bytes)) bytes 0 start start-valid
+validity : Keeps
+validity =
+    record {
+      While = λ at. ReadValid;
+      Ended = λ at. EndedValid;
+      begins = start-valid;
+      ends = λ at r v e. ended-functions r v (opens r) (λ o. o) e;
+      adds = λ at next mark fs r l v h. added-valid mark fs r (ready mark r v (h .place)) (h .few) (h .good);
+    }
 
 -- A module that is accepted is valid.
 pub valid : (bytes : List ℕ) (m : Module) → readModule bytes ≡ accepted m → Valid m
-valid bytes m h = subst (OnAccepted Valid) h (read-valid bytes)
+unfolding validity
+valid bytes m h = kept bytes validity Valid (λ at r v l few. v) m h

@@ -18,11 +18,11 @@ use Rattle.valid.specs.Valid.{EachBelow, MaybeBelow, LevelBelow, ModeBel
 use Rattle.valid.proofs.Fits.{Fits, and-left, and-right}
 
 -- something of each element of a list and of its number
-abbrev ByNumber : {A : Type 0} → (ℕ → A → Type 0) → List A → Type 0
+abbrev pub ByNumber : {A : Type 0} → (ℕ → A → Type 0) → List A → Type 0
 ByNumber P [] = Unit {0}
 ByNumber P (x ∷ xs) = P 0 x × ByNumber (λ k. P (suc k)) xs
 
-by-number : {A : Type 0} (P : ℕ → A → Type 0) (xs : List A) (d : A) → ByNumber P xs → ((k : ℕ) → P k d) → (k : ℕ) → P k (getD xs k d)
+pub by-number : {A : Type 0} (P : ℕ → A → Type 0) (xs : List A) (d : A) → ByNumber P xs → ((k : ℕ) → P k d) → (k : ℕ) → P k (getD xs k d)
 by-number P [] d h z k = z k
 by-number P (x ∷ xs) d h z zero = h .0
 by-number P (x ∷ xs) d h z (suc k) = by-number (λ j. P (suc j)) xs d (h .1) (λ j. z (suc j)) k
@@ -108,7 +108,7 @@ expressionsBy o =
     ∷ RayQueryVertexPositions
     ∷ [])
 
-unfoldable statementsBy : (ℕ → ℕ) → List Statement
+unfoldable pub statementsBy : (ℕ → ℕ) → List Statement
 statementsBy o =
     (Emit (o 0) (o 1)
     ∷ Block (o 0)

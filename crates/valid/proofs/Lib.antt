@@ -2,4 +2,5 @@ pub mod Accepted
 pub mod Decoded
 pub mod Fits
 pub mod Further
+pub mod Records
 pub mod Uses
