@@ -169,7 +169,7 @@ fn passes(index: u32, depth: u32, width: u32, child: u32, rest: u32) -> u32
 }
 
 // The sizes of the requirement whose first entry is index: p and whose others are r.
-fn sizes_of(index: u32, p: Sizes, r: Sizes) -> Sizes
+pub fn sizes_of(index: u32, p: Sizes, r: Sizes) -> Sizes
     requires { ⌜ (p .entries ≤ entriesCap) × (r .entries ≤ entriesCap) ⌝ }
     requires { ⌜ (p .depth ≤ storeWords) × (r .width ≤ storeWords) ⌝ }
     ensures { λ m. ⌜ SizesOf index (p .entries) (p .depth) (p .width) (p .over) (r .entries) (r .depth) (r .width) (r .over) (m .entries) (m .depth) (m .width) (m .over) ⌝ }
