@@ -1,207 +1,213 @@
--- Contexts as pieces: a context's maps by looking along its four entries, its sum and its comparison entry by entry, and what each method has made.
+-- Contexts as four pieces: what each method finds and makes, map by map, and what a taking out leaves.
 use Prim.Native.Nat.{ℕ, zero, suc, _+_, _*_, _<_, _≤_}
 use native.Mathlib.Omega.{arith}
-use mathlib.Core.Path.{_≡_, refl, sym, ap, subst, _∙_}
-use mathlib.Core.Bool.{Bool, true, false, _&&_}
+use mathlib.Core.Path.{_≡_, refl, ap, _∙_}
+use mathlib.Core.Bool.{_&&_}
 use mathlib.Core.List.{List}
-use mathlib.Core.Option.{Option, some, none as nothing}
-use lib.ListN.{length, getD}
-use Rattle.part.specs.PartReq.{PartReq, all, exist, none, more, contains, add, entries, spine}
-use Rattle.part.specs.Insert.{insert}
-use Rattle.part.specs.Store.{top, part, Good, Kept, Room, Made, Seen}
-use Rattle.part.proofs.Pieces.{part-0, part-1, part-2}
-use Rattle.part.proofs.Equations.{contains-eq, contains-none, add-eq, none-add}
+use mathlib.Core.Option.{some}
+use lib.Dec.{eqb}
+use borrow.Author.Tests.{lt-ltb, ne-eqb}
+use Rattle.part.specs.PartReq.{PartReq, add, entries}
+use Rattle.part.specs.Store.{top, part, means, Good, Kept, Room, Made}
+use Rattle.part.proofs.Pieces.{part-2}
 use Rattle.part.proofs.Making.{kept-trans}
-use Rattle.context.specs.RequiredContext.{RequiredContext, variable, whole, containsContext, mergeContext}
-use Rattle.context.specs.Contexts.{first, after, contextOf, context, IsContext, MapsOf, joined, addArg, addLocal, insertGlobal, insertLocal}
-use Rattle.context.proofs.Taking.{made-as, made-then, stays}
-use Rattle.context.proofs.Cycle.{took-left, took-panic, entries-kept, RemakeAsked, RemoveAsked}
+use Rattle.module.specs.Module.{TypeHandle, TypeInner}
+use Rattle.context.specs.Types.{AllSized, splitMost}
+use Rattle.context.specs.Remove.{Removed, left, panic, remove}
+use Rattle.context.specs.Reduced.{Took, removeRoom}
+use Rattle.context.specs.RequiredContext.{RequiredContext, emptyContext, isNone, isEmpty, mergeContext, pieces, variable, VarRef, Global, Local, alter, RemovedContext, leftContext, withGlobals, withLocals, removeTyped}
+use Rattle.context.specs.Contexts.{contextOf, HasContext, Always, Empty, MadeContext, variableOf, TookContext, takeRoom}
+use Rattle.context.specs.declared.required_context.RequiredContext.{RequiredContext as Pieces}
+use Rattle.context.specs.declared.required_context.VarRef.{VarRef as Variable}
+use Rattle.context.specs.declared.required_context.VarRef.the-variants as variables
+use Rattle.context.specs.declared.required_context.Removed.the-variants as answers
+use Rattle.context.specs.declared.remove.Reduced.{Reduced}
+use Rattle.context.specs.declared.remove.Reduced.the-variants.{Left, Panic}
+use Rattle.context.proofs.Types.{sized-splits}
+use Rattle.context.proofs.Cycle.{took-left, took-panic, entries-kept, RemoveAsked}
+use Rattle.context.proofs.Removal.{left-of, entries-removed}
+use Rattle.context.proofs.Removal as removal
+use Rattle.context.proofs.Alter.{entries-altered}
 
--- comparison and sum of two wholes
-and-assoc : (a b c d : Bool) → (a && (b && (c && (d && true)))) ≡ (a && b && c && d)
-and-assoc true true true true = refl
-and-assoc true true true false = refl
-and-assoc true true false d = refl
-and-assoc true false c d = refl
-and-assoc false b c d = refl
+-- the empty part is the number 2
+is-none : (s : List ℕ) (n : ℕ) → eqb n 2 ≡ isNone (part s n)
+unfolding isNone part means
+is-none s zero = refl
+is-none s (suc zero) = refl
+is-none s (suc (suc zero)) = refl
+is-none s (suc (suc (suc n))) =
+    let z : 2 < suc (suc (suc n)) = omega arith in
+    let e : suc (suc (suc n)) ≡ 2 → ⊥ = omega arith in
+    simp (lt-ltb _ _ z, ne-eqb _ _ e)
 
-pub contains-whole : (c d : RequiredContext) → contains (whole c) (whole d) ≡ containsContext c d
-unfolding whole containsContext
-contains-whole c d = rw (contains-eq, contains-eq, contains-eq, contains-eq, contains-none) (and-assoc (contains (c .globals) (d .globals)) (contains (c .locals) (d .locals)) (contains (c .args) (d .args)) (contains (c .retval) (d .retval)))
+pub empty-is : (c : Pieces) → Empty c (eqb (c .globals) 2 && eqb (c .locals) 2 && eqb (c .args) 2 && eqb (c .retval) 2)
+unfolding isEmpty
+empty-is c = record { is = λ s. rw (is-none s (c .globals), is-none s (c .locals), is-none s (c .args), is-none s (c .retval)) }
 
-pub add-whole : (c d : RequiredContext) → add (whole c) (whole d) ≡ whole (mergeContext c d)
-unfolding whole mergeContext
-add-whole c d = rw (add-eq, add-eq, add-eq, add-eq) (rw (none-add none refl))
+pub new-is : Always emptyContext (record { globals = 2; locals = 2; args = 2; retval = 2 })
+new-is = record {
+  has = λ s h. record { globals = omega arith; locals = omega arith; args = omega arith; retval = omega arith };
+  is = λ s. rw (part-2 s);
+}
 
--- a piece that means an entry is a cell
-is-cell : (s : List ℕ) (n : ℕ) {i : ℕ} {p r : PartReq} → part s n ≡ more i p r → 2 < n
-is-cell s zero e = let z : _≡_ {A = ℕ} 0 1 = cc (part-0 s) in absurd (omega arith)
-is-cell s (suc zero) e = let z : _≡_ {A = ℕ} 0 1 = cc (part-1 s) in absurd (omega arith)
-is-cell s (suc (suc zero)) e = let z : _≡_ {A = ℕ} 0 1 = cc (part-2 s) in absurd (omega arith)
-is-cell s (suc (suc (suc n))) e = omega arith
+-- what a sum of two pieces asks, and what it makes, where k cells were made before it
+abbrev AddAsked : List ℕ → ℕ → ℕ → Type 0
+AddAsked s m n = Good s × (((m < top s) × (n < top s)) × Room s (entries (part s m) + entries (part s n)))
 
--- along a whole: the cell n means an entry i: p before r
-pub record Entry (s : List ℕ) (n i : ℕ) (p r : PartReq) : Type 0 where
-  pub low : n < top s
-  pub is : part s n ≡ more i p r
+module _ {s t : List ℕ} {m n : ℕ} (k : ℕ) (K : Kept s t) (h : top t ≤ top s + k) (a : m < top s) (b : n < top s) where
+  later-asks : Room s (k + (entries (part s m) + entries (part s n))) → AddAsked t m n
+  later-asks r =
+      let e = entries-kept K m a in
+      let f = entries-kept K n b in
+      (K .good, ((omega (arith, K .tops), omega (arith, K .tops)), omega (arith, K .long)))
 
-pub entry-asks : {s : List ℕ} {n i : ℕ} {p r : PartReq} → Good s → Entry s n i p r → Good s × ((2 < n) × (n < top s))
-entry-asks {s} {n} g e = (g, (is-cell s n (e .is), e .low))
+  later-made : {u : List ℕ} {r : ℕ} → Made t u (add (part t m) (part t n)) (entries (part t m) + entries (part t n)) r
+      → Made s u (add (part s m) (part s n)) (k + (entries (part s m) + entries (part s n))) r
+  later-made o =
+      let e = entries-kept K m a in
+      let f = entries-kept K n b in
+      record {
+        kept = kept-trans K (o .kept);
+        piece = o .piece;
+        is = o .is ∙ rw (K .same m a, K .same n b);
+        cost = omega (arith, o .cost);
+      }
 
-module _ {s : List ℕ} {n i j c t : ℕ} {p r : PartReq} (e : Entry s n i p r) (x : Seen s n j c t) where
-  entry-child : part s c ≡ p
-  entry-child = cc (e .is, x .is)
+-- the four sums of two contexts: the cells of the first, of two, and of three of them
+abbrev one-cost : List ℕ → Pieces → Pieces → ℕ
+one-cost s c d = entries (part s (c .globals)) + entries (part s (d .globals))
 
-  entry-rest : part s t ≡ r
-  entry-rest = cc (e .is, x .is)
+abbrev two-cost : List ℕ → Pieces → Pieces → ℕ
+two-cost s c d = one-cost s c d + (entries (part s (c .locals)) + entries (part s (d .locals)))
 
--- the four cells of a context
-module _ {s : List ℕ} {n : ℕ} (C : IsContext s n) where
-  abbrev now : RequiredContext
-  now = context s n
+abbrev three-cost : List ℕ → Pieces → Pieces → ℕ
+three-cost s c d = two-cost s c d + (entries (part s (c .args)) + entries (part s (d .args)))
 
-  abbrev from3 : PartReq
-  from3 = more (variable 3) (now .retval) none
+module _ {s : List ℕ} {c d : Pieces} (G : Good s) (H : HasContext s c × HasContext s d) (R : Room s (pieces (contextOf s c) + pieces (contextOf s d))) where
+  pub globals-ask : AddAsked s (c .globals) (d .globals)
+  unfolding pieces
+  globals-ask = (G, ((H .0 .globals, H .1 .globals), omega arith))
 
-  abbrev from2 : PartReq
-  from2 = more (variable 2) (now .args) from3
+  module _ {a : List ℕ} {x : ℕ} (A : Made s a (add (part s (c .globals)) (part s (d .globals))) (one-cost s c d) x) where
+    pub locals-ask : AddAsked a (c .locals) (d .locals)
+    unfolding pieces
+    locals-ask = later-asks (one-cost s c d) (A .kept) (A .cost) (H .0 .locals) (H .1 .locals) (omega arith)
 
-  pub at-globals : Entry s n (variable 0) (now .globals) (more (variable 1) (now .locals) from2)
-  at-globals = record { low = C .low; is = C .is ∙ (unfold whole in refl) }
+    module _ {b : List ℕ} {y : ℕ} (B : Made a b (add (part a (c .locals)) (part a (d .locals))) (entries (part a (c .locals)) + entries (part a (d .locals))) y) where
+      abbrev two : Made s b (add (part s (c .locals)) (part s (d .locals))) (two-cost s c d) y
+      two = later-made (one-cost s c d) (A .kept) (A .cost) (H .0 .locals) (H .1 .locals) B
 
-  module _ {i c t : ℕ} (x : Seen s n i c t) where
-    pub at-locals : Entry s t (variable 1) (now .locals) from2
-    at-locals = record { low = omega (arith, C .low); is = entry-rest at-globals x }
+      pub args-ask : AddAsked b (c .args) (d .args)
+      unfolding pieces
+      args-ask = later-asks (two-cost s c d) (two .kept) (two .cost) (H .0 .args) (H .1 .args) (omega arith)
 
-    module _ {j d u : ℕ} (y : Seen s t j d u) where
-      pub at-args : Entry s u (variable 2) (now .args) from3
-      at-args = record { low = omega (arith, C .low); is = entry-rest at-locals y }
+      module _ {e : List ℕ} {z : ℕ} (E : Made b e (add (part b (c .args)) (part b (d .args))) (entries (part b (c .args)) + entries (part b (d .args))) z) where
+        abbrev three : Made s e (add (part s (c .args)) (part s (d .args))) (three-cost s c d) z
+        three = later-made (two-cost s c d) (two .kept) (two .cost) (H .0 .args) (H .1 .args) E
 
-      module _ {k e v : ℕ} (z : Seen s u k e v) where
-        pub at-retval : Entry s v (variable 3) (now .retval) none
-        at-retval = record { low = omega (arith, C .low); is = entry-rest at-args z }
+        pub retval-ask : AddAsked e (c .retval) (d .retval)
+        unfolding pieces
+        retval-ask = later-asks (three-cost s c d) (three .kept) (three .cost) (H .0 .retval) (H .1 .retval) (omega arith)
 
-        pub maps-of : {l f w : ℕ} → Seen s v l f w → MapsOf s n c d e f
-        unfolding entries
-        maps-of {l} {f} {w} o = record {
-          globals-low = omega (arith, C .low);
-          locals-low = omega (arith, C .low);
-          args-low = omega (arith, C .low);
-          retval-low = omega (arith, C .low);
-          weight = omega (arith, ap entries (entry-rest at-retval o));
-          is = rw (entry-child at-globals x, entry-child at-locals y, entry-child at-args z, entry-child at-retval o);
-        }
+        pub merge-done : {t : List ℕ} {w : ℕ} → Made e t (add (part e (c .retval)) (part e (d .retval))) (entries (part e (c .retval)) + entries (part e (d .retval))) w
+            → MadeContext s t (mergeContext (contextOf s c) (contextOf s d)) (pieces (contextOf s c) + pieces (contextOf s d)) (record { globals = x; locals = y; args = z; retval = w })
+        unfolding mergeContext pieces
+        merge-done {t} {w} T =
+            let four = later-made (three-cost s c d) (three .kept) (three .cost) (H .0 .retval) (H .1 .retval) T in
+            let from-b = kept-trans (E .kept) (T .kept) in
+            let from-a = kept-trans (B .kept) from-b in
+            record {
+              kept = four .kept;
+              has = record {
+                globals = omega (arith, A .piece, from-a .tops);
+                locals = omega (arith, B .piece, from-b .tops);
+                args = omega (arith, E .piece, T .kept .tops);
+                retval = T .piece;
+              };
+              is = rw (from-a .same x (A .piece) ∙ A .is, from-b .same y (B .piece) ∙ two .is, T .kept .same z (E .piece) ∙ three .is, four .is);
+              cost = omega (arith, four .cost);
+            }
 
--- a whole is a context's, and it is that context
-pub is-context : {s : List ℕ} (c : RequiredContext) {n : ℕ} → n < top s → part s n ≡ whole c → IsContext s n
-is-context {s} c {n} h e = record { low = h; is = rw e (unfold whole in refl) }
+-- something taken out of a variable
+abbrev taken : List ℕ → List TypeInner → TypeHandle → (q : ℕ) → Pieces → Variable → RemovedContext
+taken s types ty q c v = removeTyped types (contextOf s c) (variableOf v) ty (part s q)
 
-pub context-is : (s : List ℕ) (c : RequiredContext) (n : ℕ) → part s n ≡ whole c → context s n ≡ c
-context-is s c n e = rw e (unfold whole in refl)
+abbrev Taking : List ℕ → List ℕ → List TypeInner → TypeHandle → (q i m : ℕ) → Reduced → Type 0
+Taking s t types ty q i m r = Took s t (alter (variable i) (λ p. remove types p (part s q) (some ty)) (part s m)) (removeRoom (part s m) (part s q)) r
 
--- what each method has made
-pub of-made : {s a b d e : List ℕ} {g l r q x y z n : ℕ} → Good s → (g < top s) × ((l < top s) × ((r < top s) × (q < top s)))
-    → Made s a (more (variable 3) (part s q) (part s 2)) 1 x → Made a b (more (variable 2) (part a r) (part a x)) 1 y
-    → Made b d (more (variable 1) (part b l) (part b y)) 1 z → Made d e (more (variable 0) (part d g) (part d z)) 1 n
-    → Made s e (whole (record { globals = part s g; locals = part s l; args = part s r; retval = part s q })) 4 n
-of-made {s} {a} {b} {d} {e} {g} {l} {r} {q} {x} {y} {z} {n} G h m o k w =
-    let two = kept-trans (m .kept) (o .kept) in
-    let three = kept-trans two (k .kept) in
-    let is0 : part a x ≡ more (variable 3) (part s q) none = m .is ∙ rw (part-2 s) in
-    let is1 : part b y ≡ more (variable 2) (part s r) (part a x) = o .is ∙ rw (m .kept .same r (h .1 .1 .0)) in
-    let is2 : part d z ≡ more (variable 1) (part s l) (part b y) = k .is ∙ rw (two .same l (h .1 .0)) in
-    let is3 : part e n ≡ more (variable 0) (part s g) (part d z) = w .is ∙ rw (three .same g (h .0)) in
-    record {
-      kept = kept-trans three (w .kept);
-      piece = w .piece;
-      is = is3 ∙ rw (is2, is1, is0) (unfold whole in refl);
-      cost = omega (arith, m .cost, o .cost, k .cost, w .cost);
+module _ {s : List ℕ} {types : List TypeInner} {q : ℕ} {c : Pieces} (G : Good s) (S : AllSized types) (H : HasContext s c) (l : q < top s)
+    (R : Room s (takeRoom (contextOf s c) (part s q))) where
+  pub take-globals : RemoveAsked s types (c .globals) q
+  unfolding pieces
+  take-globals = (G, (S, ((H .globals, l), omega arith)))
+
+  pub take-locals : RemoveAsked s types (c .locals) q
+  unfolding pieces
+  take-locals = (G, (S, ((H .locals, l), omega arith)))
+
+module _ {s t : List ℕ} (types : List TypeInner) (ty : TypeHandle) (q : ℕ) {c : Pieces} (H : HasContext s c) {v : Variable} {r : Reduced} where
+  module _ {g : _} (e : v ≡ variables.Global g) (w : Taking s t types ty q (g .0) (c .globals) r) where
+    pub globals-panic : r ≡ Panic → TookContext s t (taken s types ty q c v) (takeRoom (contextOf s c) (part s q)) answers.Panic
+    unfolding pieces withGlobals
+    globals-panic f = record { kept = w .kept; has = tt; is = rw (e, ← took-panic w f); cost = omega (arith, w .cost) }
+
+    pub globals-left : {n : ℕ} → r ≡ Left n → TookContext s t (taken s types ty q c v) (takeRoom (contextOf s c) (part s q)) (answers.Left (record { globals = n; locals = c .locals; args = c .args; retval = c .retval }))
+    unfolding pieces withGlobals
+    globals-left f = record {
+      kept = w .kept;
+      has = record {
+        globals = took-left w f .0;
+        locals = omega (arith, H .locals, w .kept .tops);
+        args = omega (arith, H .args, w .kept .tops);
+        retval = omega (arith, H .retval, w .kept .tops);
+      };
+      is = rw (e, ← took-left w f .1, w .kept .same (c .locals) (H .locals), w .kept .same (c .args) (H .args), w .kept .same (c .retval) (H .retval));
+      cost = omega (arith, w .cost);
     }
 
-pub new-made : {s t : List ℕ} {n : ℕ} → Made s t (whole (record { globals = part s 2; locals = part s 2; args = part s 2; retval = part s 2 })) 4 n
-    → Made s t (whole (record { globals = none; locals = none; args = none; retval = none })) 4 n
-new-made {s} m = made-as m (rw (part-2 s)) (omega arith)
+  module _ {g : _} (e : v ≡ variables.Local g) (w : Taking s t types ty q (g .0) (c .locals) r) where
+    pub locals-panic : r ≡ Panic → TookContext s t (taken s types ty q c v) (takeRoom (contextOf s c) (part s q)) answers.Panic
+    unfolding pieces withLocals
+    locals-panic f = record { kept = w .kept; has = tt; is = rw (e, ← took-panic w f); cost = omega (arith, w .cost) }
 
-module _ {s : List ℕ} {n m : ℕ} (C : IsContext s n) (D : IsContext s m) where
-  pub contains-done : contains (part s n) (part s m) ≡ containsContext (context s n) (context s m)
-  contains-done = ap (λ z. contains z (part s m)) (C .is) ∙ ap (λ z. contains (whole (context s n)) z) (D .is) ∙ contains-whole (context s n) (context s m)
+    pub locals-left : {n : ℕ} → r ≡ Left n → TookContext s t (taken s types ty q c v) (takeRoom (contextOf s c) (part s q)) (answers.Left (record { globals = c .globals; locals = n; args = c .args; retval = c .retval }))
+    unfolding pieces withLocals
+    locals-left f = record {
+      kept = w .kept;
+      has = record {
+        globals = omega (arith, H .globals, w .kept .tops);
+        locals = took-left w f .0;
+        args = omega (arith, H .args, w .kept .tops);
+        retval = omega (arith, H .retval, w .kept .tops);
+      };
+      is = rw (e, ← took-left w f .1, w .kept .same (c .globals) (H .globals), w .kept .same (c .args) (H .args), w .kept .same (c .retval) (H .retval));
+      cost = omega (arith, w .cost);
+    }
 
-  pub merge-done : {t : List ℕ} {k r : ℕ} → Made s t (add (part s n) (part s m)) k r → Made s t (whole (mergeContext (context s n) (context s m))) k r
-  merge-done o =
-      made-as o (ap (λ z. add z (part s m)) (C .is) ∙ ap (λ z. add (whole (context s n)) z) (D .is) ∙ add-whole (context s n) (context s m)) (omega arith)
+-- What is left of a context: what 16 counts grows by the parts of one type at most, for each part that is taken out.
+globals-pieces : (c d : RequiredContext) (k : ℕ) (x : Removed) → removal.Left (λ r. entries r ≤ entries (c .globals) + k) x → withGlobals c x ≡ leftContext d
+    → pieces d ≤ pieces c + k
+unfolding withGlobals pieces
+globals-pieces c d k (left p) h e =
+    let z : record { globals = p; locals = c .locals; args = c .args; retval = c .retval } ≡ d = cc in
+    omega (arith, ap pieces z)
+globals-pieces c d k panic h e = let z : _≡_ {A = ℕ} 0 1 = cc in absurd (omega arith)
 
--- a join into one map
-module _ {s t : List ℕ} (n : ℕ) {m p e : ℕ} (h : (m < top s) × (p < top s)) (a : Made s t (more (variable n) (part s p) (part s 2)) 1 e) where
-  entry-is : part t e ≡ more (variable n) (part s p) none
-  entry-is = a .is ∙ rw (part-2 s)
+locals-pieces : (c d : RequiredContext) (k : ℕ) (x : Removed) → removal.Left (λ r. entries r ≤ entries (c .locals) + k) x → withLocals c x ≡ leftContext d
+    → pieces d ≤ pieces c + k
+unfolding withLocals pieces
+locals-pieces c d k (left p) h e =
+    let z : record { globals = c .globals; locals = p; args = c .args; retval = c .retval } ≡ d = cc in
+    omega (arith, ap pieces z)
+locals-pieces c d k panic h e = let z : _≡_ {A = ℕ} 0 1 = cc in absurd (omega arith)
 
-  entry-weight : entries (part t e) ≡ 1 + entries (part s p)
-  unfolding entries
-  entry-weight = rw entry-is (omega arith)
+module _ (types : List TypeInner) (S : AllSized types) (c d : RequiredContext) (ty : TypeHandle) (q : PartReq) where
+  abbrev grown : ℕ
+  grown = splitMost * (1 + entries q)
 
-  pub join-asks : Room s (entries (part s m) + entries (part s p) + 2) → Good t × (((m < top t) × (e < top t)) × Room t (entries (part t m) + entries (part t e)))
-  join-asks r =
-      let k = entries-kept (a .kept) m (h .0) in
-      let w = entry-weight in
-      (a .kept .good, ((omega (arith, h .0, a .kept .tops), a .piece), omega (arith, a .cost, a .kept .long)))
+  altered-pieces : (i : ℕ) (m : PartReq) → removal.Left (λ r. entries r ≤ entries m + grown) (alter i (λ p. remove types p q (some ty)) m)
+  altered-pieces i = entries-altered i grown _ (λ p. left-of _ _ (λ r. entries-removed types splitMost (sized-splits S) p q (some ty)))
 
-  pub join-done : {u : List ℕ} {r : ℕ} → Made t u (add (part t m) (part t e)) (entries (part t m) + entries (part t e)) r
-      → Made s u (joined (part s m) n (part s p)) (entries (part s m) + entries (part s p) + 2) r
-  join-done o =
-      let k = entries-kept (a .kept) m (h .0) in
-      let w = entry-weight in
-      made-as {k = entries (part s m) + entries (part s p) + 2} (made-then a o (omega arith)) (rw (a .kept .same m (h .0), entry-is)) (omega arith)
-
--- one map put in the place of another
-module _ {s t : List ℕ} {n g l a r x k : ℕ} {q : PartReq} (M : MapsOf s n g l a r) (J : Made s t q k x) where
-  pub maps-globals : (x < top t) × ((l < top t) × ((a < top t) × (r < top t)))
-  maps-globals = (J .piece, (omega (arith, M .locals-low, J .kept .tops), (omega (arith, M .args-low, J .kept .tops), omega (arith, M .retval-low, J .kept .tops))))
-
-  pub maps-locals : (g < top t) × ((x < top t) × ((a < top t) × (r < top t)))
-  maps-locals = (omega (arith, M .globals-low, J .kept .tops), (J .piece, (omega (arith, M .args-low, J .kept .tops), omega (arith, M .retval-low, J .kept .tops))))
-
-  pub maps-args : (g < top t) × ((l < top t) × ((x < top t) × (r < top t)))
-  maps-args = (omega (arith, M .globals-low, J .kept .tops), (omega (arith, M .locals-low, J .kept .tops), (J .piece, omega (arith, M .retval-low, J .kept .tops))))
-
--- f of one map, with the others as they were
-module _ (f : PartReq → PartReq) {s t u : List ℕ} {n g l a r x k m j : ℕ} (M : MapsOf s n g l a r) where
-  with-globals : Made s t (f (part s g)) k x → k + 4 ≤ j → Made t u (whole (record { globals = part t x; locals = part t l; args = part t a; retval = part t r })) 4 m
-      → Made s u (whole (record { globals = f (context s n .globals); locals = context s n .locals; args = context s n .args; retval = context s n .retval })) j m
-  with-globals J h o =
-      made-as (made-then {j = k + 4} J o (omega arith))
-      (rw (J .is, J .kept .same l (M .locals-low), J .kept .same a (M .args-low), J .kept .same r (M .retval-low))
-      (sym (ap (λ c. whole (record { globals = f (c .globals); locals = c .locals; args = c .args; retval = c .retval })) (M .is))))
-      h
-
-  with-locals : Made s t (f (part s l)) k x → k + 4 ≤ j → Made t u (whole (record { globals = part t g; locals = part t x; args = part t a; retval = part t r })) 4 m
-      → Made s u (whole (record { globals = context s n .globals; locals = f (context s n .locals); args = context s n .args; retval = context s n .retval })) j m
-  with-locals J h o =
-      made-as (made-then {j = k + 4} J o (omega arith))
-      (rw (J .is, J .kept .same g (M .globals-low), J .kept .same a (M .args-low), J .kept .same r (M .retval-low))
-      (sym (ap (λ c. whole (record { globals = c .globals; locals = f (c .locals); args = c .args; retval = c .retval })) (M .is))))
-      h
-
-  with-args : Made s t (f (part s a)) k x → k + 4 ≤ j → Made t u (whole (record { globals = part t g; locals = part t l; args = part t x; retval = part t r })) 4 m
-      → Made s u (whole (record { globals = context s n .globals; locals = context s n .locals; args = f (context s n .args); retval = context s n .retval })) j m
-  with-args J h o =
-      made-as (made-then {j = k + 4} J o (omega arith))
-      (rw (J .is, J .kept .same g (M .globals-low), J .kept .same l (M .locals-low), J .kept .same r (M .retval-low))
-      (sym (ap (λ c. whole (record { globals = c .globals; locals = c .locals; args = f (c .args); retval = c .retval })) (M .is))))
-      h
-
-module _ {s t u : List ℕ} {n g l a r x k m j : ℕ} (M : MapsOf s n g l a r) (i : ℕ) (p : PartReq) where
-  pub join-args : Made s t (joined (part s a) i p) k x → k + 4 ≤ j → Made t u (whole (record { globals = part t g; locals = part t l; args = part t x; retval = part t r })) 4 m
-      → Made s u (whole (addArg (context s n) i p)) j m
-  join-args = with-args (λ q. joined q i p) M
-
-  pub join-locals : Made s t (joined (part s l) i p) k x → k + 4 ≤ j → Made t u (whole (record { globals = part t g; locals = part t x; args = part t a; retval = part t r })) 4 m
-      → Made s u (whole (addLocal (context s n) i p)) j m
-  join-locals = with-locals (λ q. joined q i p) M
-
-  pub insert-globals : Made s t (insert (part s g) (variable i) p) k x → k + 4 ≤ j → Made t u (whole (record { globals = part t x; locals = part t l; args = part t a; retval = part t r })) 4 m
-      → Made s u (whole (insertGlobal (context s n) i p)) j m
-  insert-globals = with-globals (λ q. insert q (variable i) p) M
-
-  pub insert-locals : Made s t (insert (part s l) (variable i) p) k x → k + 4 ≤ j → Made t u (whole (record { globals = part t g; locals = part t x; args = part t a; retval = part t r })) 4 m
-      → Made s u (whole (insertLocal (context s n) i p)) j m
-  insert-locals = with-locals (λ q. insert q (variable i) p) M
+  pub pieces-removed : (v : VarRef) → removeTyped types c v ty q ≡ leftContext d → pieces d ≤ pieces c + grown
+  pieces-removed (Global g) = globals-pieces c d grown _ (altered-pieces (variable g) (c .globals))
+  pieces-removed (Local l) = locals-pieces c d grown _ (altered-pieces (variable l) (c .locals))

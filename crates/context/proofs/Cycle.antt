@@ -2,10 +2,9 @@
 use Prim.Native.Nat.{ℕ, zero, suc, _+_, _*_, _<_, _≤_}
 use native.Mathlib.Omega.{arith}
 use mathlib.Core.Path.{_≡_, refl, sym, ap, subst, _∙_}
-use mathlib.Core.Bool.{true, false}
+use mathlib.Core.Bool.{false}
 use mathlib.Core.List.{List}
 use mathlib.Core.Option.{Option, some, none as nothing}
-use lib.ListN.{length, getD}
 use Rattle.part.specs.PartReq.{PartReq, all, exist, none, more, isAll, isExist, entries, width}
 use Rattle.part.specs.StoreLimits.{storeWords}
 use Rattle.part.specs.Store.{top, part, Good, Kept, Room, Made, Seen}
@@ -23,7 +22,7 @@ use Rattle.context.specs.declared.remove.Reduced.{Reduced}
 use Rattle.context.specs.declared.remove.Reduced.the-variants.{Left, Panic}
 use Rattle.context.proofs.Removal.{entry-lt, entry-gt, entry-eq, Splits}
 use Rattle.context.proofs.Types.{sized-splits}
-use Rattle.context.proofs.Taking.{kept-self}
+use Rattle.context.proofs.Taking.{kept-self, made-as}
 
 -- the definition, by the two first entries
 module _ (types : List TypeInner) (ms : Option (List Member)) (i j : ℕ) (p q r s : PartReq) where
@@ -71,6 +70,20 @@ took-panic {s} {t} {d} m e = subst (λ z. reduced t z ≡ d) e (m .is)
 -- the piece was there
 pub took-stays : {s : List ℕ} {d : Removed} {k n : ℕ} → Good s → n < top s → left (part s n) ≡ d → Took s s d k (Left n)
 took-stays g h e = record { kept = kept-self g; piece = h; is = e; cost = omega arith }
+
+-- `whole` goes on from d: a panic stays, and of what was left its own is made
+pub panics-on : {s t : List ℕ} {d whole : Removed} (f : PartReq → Removed) {k l : ℕ} {r : Reduced} → Took s t d k r → r ≡ Panic → whole ≡ (d >>= f) → k ≤ l
+    → Took s t whole l Panic
+panics-on f m e w h = record { kept = m .kept; piece = tt; is = sym (w ∙ rw (← took-panic m e)); cost = omega (arith, m .cost) }
+
+pub goes-on : {s t u : List ℕ} {d whole : Removed} (f : PartReq → PartReq) {k l j n x : ℕ} {r : Reduced} → Took s t d k r → r ≡ Left n
+    → whole ≡ (d >>= λ z. left (f z)) → Made t u (f (part t n)) j x → k + j ≤ l → Took s u whole l (Left x)
+goes-on f m e w o h = record {
+  kept = kept-trans (m .kept) (o .kept);
+  piece = o .piece;
+  is = ap left (o .is) ∙ sym (w ∙ rw (← took-left m e .1));
+  cost = omega (arith, m .cost, o .cost);
+}
 
 -- what taking q out of p, and the entries of q out of those of p, asks
 abbrev pub Asked : List ℕ → List TypeInner → ℕ → ℕ → Type 0
@@ -123,20 +136,13 @@ module _ {s : List ℕ} (types : List TypeInner) (owner : Typed) {p q i j c d a 
     whole-lt = rw (x .is, y .is) (take-lt types members i j _ _ _ _ h)
 
     pub panic-lt : r ≡ Panic → Took s t whole room Panic
-    panic-lt e = record { kept = m .kept; piece = tt; is = sym (whole-lt ∙ rw (← took-panic m e)); cost = omega (arith, m .cost) }
+    panic-lt e = panics-on (λ z. left (more i (part s c) z)) m e whole-lt (omega arith)
 
     pub make-lt : {n : ℕ} → 2 < p → r ≡ Left n → RemakeAsked t c n p
     make-lt g e = (m .kept .good, (omega (arith, m .cost, m .kept .long), ((omega arith, took-left m e .0), (g, omega arith))))
 
     pub done-lt : {u : List ℕ} {n l : ℕ} → r ≡ Left n → Made t u (more i (part t c) (part t n)) 1 l → Took s u whole room (Left l)
-    done-lt {u} {n} {l} e o =
-        let now : part u l ≡ more i (part s c) (part t n) = o .is ∙ rw (m .kept .same c (omega arith)) in
-        record {
-          kept = kept-trans (m .kept) (o .kept);
-          piece = o .piece;
-          is = ap left now ∙ sym (whole-lt ∙ rw (← took-left m e .1));
-          cost = omega (arith, m .cost, o .cost);
-        }
+    done-lt e o = goes-on (λ z. more i (part s c) z) m e whole-lt (made-as {l = 1} o (rw (m .kept .same c (omega arith))) (omega arith)) (omega arith)
 
   -- both have the entry
   module _ (h : i ≡ j) where
@@ -160,7 +166,7 @@ module _ {s : List ℕ} (types : List TypeInner) (owner : Typed) {p q i j c d a 
       whole-child = whole-eq ∙ rw (at-subtype members i (typed u) (λ z. remove types (part s c) (part s d) z) (rw e at g))
 
       pub panic-child : r ≡ Panic → Took s t whole room Panic
-      panic-child o = record { kept = m .kept; piece = tt; is = sym (whole-child ∙ rw (← took-panic m o)); cost = omega (arith, m .cost) }
+      panic-child o = panics-on (λ v. takeEntries types (part s b) members (part s a) >>= λ w. left (more i v w)) m o whole-child (omega arith)
 
       pub call-rest : {z : ℕ} → entriesMeasure p q ≡ z → (entriesMeasure a b < z) × Asked t types a b
       call-rest o =
@@ -219,7 +225,7 @@ of-plain types ms (more j q s) exist h = refl
 of-plain types ms (more j q s) none h = refl
 of-plain types ms (more j q s) (more i p r) h = absurd (omega arith)
 
-low-width : (s : List ℕ) (p : ℕ) → p < 3 → width (part s p) ≡ 0
+pub low-width : (s : List ℕ) (p : ℕ) → p < 3 → width (part s p) ≡ 0
 unfolding width
 low-width s zero h = rw part-0 refl
 low-width s (suc zero) h = rw part-1 refl

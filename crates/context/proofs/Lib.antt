@@ -4,4 +4,5 @@ pub mod Swizzle
 pub mod Types
 pub mod Taking
 pub mod Cycle
+pub mod Alter
 pub mod Contexts

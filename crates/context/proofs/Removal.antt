@@ -22,13 +22,17 @@ abbrev pub Left : (PartReq → Type 0) → Removed → Type 0
 Left P (left p) = P p
 Left P panic = Unit {0}
 
-left-then : (P Q : PartReq → Type 0) (m : Removed) (k : PartReq → Removed) → Left P m → ((p : PartReq) → P p → Left Q (k p)) → Left Q (m >>= k)
+pub left-then : (P Q : PartReq → Type 0) (m : Removed) (k : PartReq → Removed) → Left P m → ((p : PartReq) → P p → Left Q (k p)) → Left Q (m >>= k)
 left-then P Q (left p) k h f = f p h
 left-then P Q panic k h f = tt
 
 left-map : (P Q : PartReq → Type 0) (m : Removed) → ((p : PartReq) → P p → Q p) → Left P m → Left Q m
 left-map P Q (left p) f h = f p h
 left-map P Q panic f h = tt
+
+pub left-of : (P : PartReq → Type 0) (m : Removed) → ((p : PartReq) → m ≡ left p → P p) → Left P m
+left-of P (left p) f = f p refl
+left-of P panic f = tt
 
 -- the three ways of two entries
 module _ (j : ℕ) (onQ : Option TypeHandle → PartReq → Removed) (onS : Option (List Member) → PartReq → Removed) (ms : Option (List Member)) (i : ℕ) (p r : PartReq) where

@@ -1,64 +1,66 @@
--- Contexts in a store: one piece each, and what the methods on it give.
-use Prim.Native.Nat.{ℕ, _+_, _<_}
+-- Contexts in a store: four pieces each, by value, and what the methods on them give.
+use Prim.Native.Nat.{ℕ, _+_, _*_, _<_, _≤_}
 use mathlib.Core.Path.{_≡_}
+use mathlib.Core.Bool.{Bool}
 use mathlib.Core.List.{List}
-use Rattle.part.specs.PartReq.{PartReq, all, exist, none, more, add, entries}
-use Rattle.part.specs.Insert.{insert}
-use Rattle.part.specs.Store.{top, part}
-use Rattle.context.specs.RequiredContext.{RequiredContext, variable, whole}
+use Rattle.part.specs.PartReq.{PartReq, entries}
+use Rattle.part.specs.Store.{top, part, Kept}
+use Rattle.context.specs.Types.{splitMost}
+use Rattle.context.specs.RequiredContext.{RequiredContext, isEmpty, pieces, VarRef, Global, Local, RemovedContext, leftContext, panicContext}
+use Rattle.context.specs.declared.required_context.RequiredContext.{RequiredContext as Pieces}
+use Rattle.context.specs.declared.required_context.VarRef.{VarRef as Variable}
+use Rattle.context.specs.declared.required_context.VarRef.the-variants as variables
+use Rattle.context.specs.declared.required_context.Removed.{Removed}
+use Rattle.context.specs.declared.required_context.Removed.the-variants.{Left, Panic}
 
--- the requirement of the first entry, and the entries after it
-abbrev pub first : PartReq → PartReq
-first all = none
-first exist = none
-first none = none
-first (more i p r) = p
+-- the context that these pieces of the store s are
+abbrev pub contextOf : List ℕ → Pieces → RequiredContext
+contextOf s c = record { globals = part s (c .globals); locals = part s (c .locals); args = part s (c .args); retval = part s (c .retval) }
 
-abbrev pub after : PartReq → PartReq
-after all = none
-after exist = none
-after none = none
-after (more i p r) = r
+-- the store s has these pieces
+pub record HasContext (s : List ℕ) (c : Pieces) : Type 0 where
+  pub globals : c .globals < top s
+  pub locals : c .locals < top s
+  pub args : c .args < top s
+  pub retval : c .retval < top s
 
--- the context that a requirement is
-abbrev pub contextOf : PartReq → RequiredContext
-contextOf p = record { globals = first p; locals = first (after p); args = first (after (after p)); retval = first (after (after (after p))) }
+-- these pieces are the context d in every store
+pub record Always (d : RequiredContext) (c : Pieces) : Type 0 where
+  pub has : (s : List ℕ) → 3 ≤ top s → HasContext s c
+  pub is : (s : List ℕ) → contextOf s c ≡ d
 
--- the context that the piece n of the store s is
-abbrev pub context : List ℕ → ℕ → RequiredContext
-context s n = contextOf (part s n)
+-- whether these pieces are the empty context is the same in every store
+pub record Empty (c : Pieces) (r : Bool) : Type 0 where
+  pub is : (s : List ℕ) → r ≡ isEmpty (contextOf s c)
 
--- the piece n is a context's
-pub record IsContext (s : List ℕ) (n : ℕ) : Type 0 where
-  pub low : n < top s
-  pub is : part s n ≡ whole (context s n)
+-- from s, t was left: the pieces c are the context d there, and at most k cells more are used
+pub record MadeContext (s t : List ℕ) (d : RequiredContext) (k : ℕ) (c : Pieces) : Type 0 where
+  pub kept : Kept s t
+  pub has : HasContext t c
+  pub is : contextOf t c ≡ d
+  pub cost : top t ≤ top s + k
 
--- the pieces of a context's four maps
-pub record MapsOf (s : List ℕ) (n globals locals args retval : ℕ) : Type 0 where
-  pub globals-low : globals < top s
-  pub locals-low : locals < top s
-  pub args-low : args < top s
-  pub retval-low : retval < top s
-  pub weight : entries (part s n) ≡ 4 + (entries (part s globals) + (entries (part s locals) + (entries (part s args) + entries (part s retval))))
-  pub is : context s n ≡ record { globals = part s globals; locals = part s locals; args = part s args; retval = part s retval }
+-- the variable
+abbrev pub variableOf : Variable → VarRef
+variableOf (variables.Global g) = Global (g .0)
+variableOf (variables.Local l) = Local (l .0)
 
--- a map with p joined to the entry of the variable n
-abbrev pub joined : PartReq → ℕ → PartReq → PartReq
-joined q n p = add q (more (variable n) p none)
+-- what is left, in the store s
+abbrev pub removed : List ℕ → Removed → RemovedContext
+removed s (Left c) = leftContext (contextOf s c)
+removed s Panic = panicContext
 
-abbrev pub addArg : RequiredContext → ℕ → PartReq → RequiredContext
-addArg c i p = record { globals = c .globals; locals = c .locals; args = joined (c .args) i p; retval = c .retval }
+abbrev pub HasRemoved : List ℕ → Removed → Type 0
+HasRemoved s (Left c) = HasContext s c
+HasRemoved s Panic = Unit {0}
 
-abbrev pub addLocal : RequiredContext → ℕ → PartReq → RequiredContext
-addLocal c i p = record { globals = c .globals; locals = joined (c .locals) i p; args = c .args; retval = c .retval }
+-- from s, t was left: the answer is what the taking out d gives, and at most k cells more are used
+pub record TookContext (s t : List ℕ) (d : RemovedContext) (k : ℕ) (r : Removed) : Type 0 where
+  pub kept : Kept s t
+  pub has : HasRemoved t r
+  pub is : removed t r ≡ d
+  pub cost : top t ≤ top s + k
 
--- of the variable i, p is needed and nothing else
-abbrev pub insertGlobal : RequiredContext → ℕ → PartReq → RequiredContext
-insertGlobal c i p = record { globals = insert (c .globals) (variable i) p; locals = c .locals; args = c .args; retval = c .retval }
-
-abbrev pub insertLocal : RequiredContext → ℕ → PartReq → RequiredContext
-insertLocal c i p = record { globals = c .globals; locals = insert (c .locals) (variable i) p; args = c .args; retval = c .retval }
-
--- the cells that a join into a map takes
-abbrev pub joinRoom : PartReq → PartReq → ℕ
-joinRoom c p = entries c + entries p + 6
+-- the cells that taking q out of a variable of the context c takes
+abbrev pub takeRoom : RequiredContext → PartReq → ℕ
+takeRoom c q = pieces c + 2 * splitMost * (1 + entries q)

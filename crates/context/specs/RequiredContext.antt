@@ -1,12 +1,12 @@
 -- What is needed at a point, beside `RequiredContext` of src/prune/mod.rs. 01 calls it a context.
 -- Each of the Rust's maps is a list of entries; the entry of the variable n has the index `variable n`.
-use Prim.Native.Nat.{ℕ, zero, suc, _+_}
-use mathlib.Core.Bool.{Bool, true, false, cond, _&&_}
+use Prim.Native.Nat.{ℕ, _+_}
+use mathlib.Core.Bool.{Bool, true, false, cond, _&&_, _||_}
 use mathlib.Core.List.{List}
-use mathlib.Core.Option.{Option, some, none as nothing}
+use mathlib.Core.Option.{some}
 use lib.Dec.{ltb}
 use lib.ListN.{getD}
-use Rattle.part.specs.PartReq.{PartReq, all, exist, none, more, add, contains, entries, over, spine}
+use Rattle.part.specs.PartReq.{PartReq, all, exist, none, more, Subpart, getSubpart, add, contains, entries, over, spine}
 use Rattle.module.specs.Module.{TypeHandle, TypeInner, GlobalHandle, LocalHandle, Function, Module}
 use Rattle.context.specs.Remove.{Removed, left, panic, _>>=_, remove}
 
@@ -21,11 +21,9 @@ pub record RequiredContext : Type 0 where
   pub args : PartReq
   pub retval : PartReq
 
--- the one requirement that a context is kept as
-unfoldable pub whole : RequiredContext → PartReq
-whole c =
-    more (variable 0) (c .globals)
-    (more (variable 1) (c .locals) (more (variable 2) (c .args) (more (variable 3) (c .retval) none)))
+-- the context in which nothing is needed
+abbrev pub emptyContext : RequiredContext
+emptyContext = record { globals = none; locals = none; args = none; retval = none }
 
 unfoldable pub isNone : PartReq → Bool
 isNone all = false
@@ -57,10 +55,23 @@ mergeContext c d =
 unfoldable pub pieces : RequiredContext → ℕ
 pieces c = entries (c .globals) + entries (c .locals) + entries (c .args) + entries (c .retval)
 
+-- whether a part of a context passes a limit
+unfoldable pub overContext : RequiredContext → Bool
+overContext c = over (c .globals) || over (c .locals) || over (c .args) || over (c .retval)
+
 -- `VarRef`
 pub data VarRef : Type 0 where
   Global : GlobalHandle → VarRef
   Local : LocalHandle → VarRef
+
+abbrev pub handle : VarRef → ℕ
+handle (Global g) = g
+handle (Local l) = l
+
+-- what is needed of a variable
+abbrev pub required : RequiredContext → VarRef → Subpart
+required c (Global g) = getSubpart (c .globals) (variable g)
+required c (Local l) = getSubpart (c .locals) (variable l)
 
 -- the entry of the index i as `f` leaves it, where there is one
 unfoldable pub alter : ℕ → (PartReq → Removed) → PartReq → Removed
@@ -83,9 +94,15 @@ unfoldable pub withLocals : RequiredContext → Removed → RemovedContext
 withLocals c (left p) = leftContext (record { globals = c .globals; locals = p; args = c .args; retval = c .retval })
 withLocals c panic = panicContext
 
+-- the requirement q taken out of what is needed of a variable, which is of the type t
+abbrev pub removeTyped : List TypeInner → RequiredContext → VarRef → TypeHandle → PartReq → RemovedContext
+removeTyped types c (Global g) t q = withGlobals c (alter (variable g) (λ p. remove types p q (some t)) (c .globals))
+removeTyped types c (Local l) t q = withLocals c (alter (variable l) (λ p. remove types p q (some t)) (c .locals))
+
+abbrev pub variableType : Module → Function → VarRef → TypeHandle
+variableType m f (Global g) = getD (m .globals) g 0
+variableType m f (Local l) = getD (f .locals) l 0
+
 -- `remove`, of a variable that the context has (`store_required` has found it there)
 unfoldable pub removeVar : Module → Function → RequiredContext → VarRef → PartReq → RemovedContext
-removeVar m f c (Global g) q =
-    withGlobals c (alter (variable g) (λ p. remove (m .types) p q (some (getD (m .globals) g 0))) (c .globals))
-removeVar m f c (Local l) q =
-    withLocals c (alter (variable l) (λ p. remove (m .types) p q (some (getD (f .locals) l 0))) (c .locals))
+removeVar m f c v q = removeTyped (m .types) c v (variableType m f v) q

@@ -1,179 +1,228 @@
-// `RequiredContext`: what is needed at a point, kept as one piece: an entry for each of the four maps. Its methods take the context by
-// value and hand it back, or the answer.
+// `RequiredContext`: what is needed at a point, by the pieces of its four maps. Its methods take the context by value and hand it back, or
+// the answer.
 ghost use mathlib.Core.Path.{_≡_};
-ghost use Prim.Native.Nat.{ℕ, _+_, _*_, _≤_, _<_};
-ghost use Rattle.part.specs.PartReq.{PartReq, none, entries, spine};
-ghost use Rattle.part.specs.Store.{top, part, Good, Room, Made};
-ghost use Rattle.context.specs.RequiredContext.{RequiredContext, variable, whole, containsContext, mergeContext};
-ghost use Rattle.context.specs.Contexts.{context, IsContext, MapsOf, joined, addArg, addLocal, insertGlobal, insertLocal, joinRoom};
+ghost use Prim.Native.Nat.{_+_, _≤_, _<_};
+ghost use mathlib.Core.Option.{some};
+ghost use Rattle.part.specs.PartReq.{spine};
+ghost use Rattle.part.specs.Store.{top, part, Good, Room};
+ghost use Rattle.part.specs.StoreLimits.{entriesCap};
+ghost use Rattle.part.specs.Found.{Got};
+ghost use Rattle.context.specs.Types.{typesOf, AllSized};
+ghost use Rattle.context.specs.Remove.{remove};
+ghost use Rattle.context.specs.Reduced.{Took, removeRoom};
+ghost use Rattle.context.specs.RequiredContext.{emptyContext, containsContext, mergeContext, pieces, overContext, handle, required, alter, removeTyped};
+ghost use Rattle.context.specs.Contexts.{contextOf, HasContext, Always, Empty, MadeContext, variableOf, TookContext, takeRoom};
+use crate::remove::Reduced;
+use crate::remove::Typed;
+use crate::remove::remove;
+use module::handles::GlobalHandle;
+use module::handles::LocalHandle;
+use module::handles::TypeHandle;
 use part::limits::SPINE;
+use part::req::Found;
 use part::req::add;
 use part::req::contains;
-use part::req::insert;
+use part::req::get;
+use part::store::entries;
 use part::store::look;
-use part::store::make;
+use part::store::over;
+use part::store::remake;
 
-// A context, by its piece.
+// A context, by the pieces of its maps.
 pub struct RequiredContext {
-    pub piece: u32,
-}
-
-// The pieces of a context's maps.
-pub struct Maps {
     pub globals: u32,
     pub locals: u32,
     pub args: u32,
     pub retval: u32,
 }
 
-// The map m with p joined to the entry of the variable n.
-pub fn join(cells: &mut [u32], m: u32, n: u32, p: u32) -> u32
+pub enum VarRef {
+    Global(GlobalHandle),
+    Local(LocalHandle),
+}
+
+// What is left, or the panic at a struct member that is not there.
+pub enum Removed {
+    Left(RequiredContext),
+    Panic,
+}
+
+// The entry i of the map m without q, where there is one; it is of the type t.
+fn alter(cells: &mut [u32], types: &[u32], m: u32, i: u32, t: TypeHandle, q: u32) -> Reduced
     requires { ⌜ Good (now cells) ⌝ }
-    requires { ⌜ (m < top (now cells)) × (p < top (now cells)) ⌝ }
-    requires { ⌜ (n < spine) × Room (now cells) (entries (part (now cells) m) + entries (part (now cells) p) + 2) ⌝ }
-    ensures { λ r. ⌜ Made (now (cells .entry)) (now (cells .exit)) (joined (part (now (cells .entry)) m) n (part (now (cells .entry)) p)) (entries (part (now (cells .entry)) m) + entries (part (now (cells .entry)) p) + 2) r ⌝ }
+    requires { ⌜ AllSized (typesOf (now types)) ⌝ }
+    requires { ⌜ (m < top (now cells)) × (q < top (now cells)) ⌝ }
+    requires { ⌜ Room (now cells) (removeRoom (part (now cells) m) (part (now cells) q)) ⌝ }
+    ensures { λ r. ⌜ Took (now (cells .entry)) (now (cells .exit)) (alter i (λ p. remove (typesOf (now (types .entry))) p (part (now (cells .entry)) q) (some (t .0))) (part (now (cells .entry)) m)) (removeRoom (part (now (cells .entry)) m) (part (now (cells .entry)) q)) r ⌝ }
 {
-    let e = make(cells, SPINE + n, p, 2);
-    add(cells, m, e)
+    if m < 3 {
+        return Reduced::Left(m);
+    }
+    let x = look(cells, m);
+    if i < x.index {
+        return Reduced::Left(m);
+    }
+    if x.index < i {
+        let Reduced::Left(r) = alter(cells, types, x.rest, i, t, q) else {
+            return Reduced::Panic;
+        };
+        let n = remake(cells, m, x.index, x.child, r);
+        return Reduced::Left(n);
+    }
+    let Reduced::Left(c) = remove(cells, types, x.child, q, Typed::Is(t.0)) else {
+        return Reduced::Panic;
+    };
+    let n = remake(cells, m, x.index, c, x.rest);
+    Reduced::Left(n)
 }
 
 impl RequiredContext {
-    // The context of these maps.
-    pub fn of(cells: &mut [u32], m: Maps) -> RequiredContext
-        requires { ⌜ Good (now cells) ⌝ }
-        requires { ⌜ (m .globals < top (now cells)) × ((m .locals < top (now cells)) × ((m .args < top (now cells)) × (m .retval < top (now cells)))) ⌝ }
-        requires { ⌜ Room (now cells) 4 ⌝ }
-        ensures { λ r. ⌜ Made (now (cells .entry)) (now (cells .exit)) (whole (record { globals = part (now (cells .entry)) (m .globals); locals = part (now (cells .entry)) (m .locals); args = part (now (cells .entry)) (m .args); retval = part (now (cells .entry)) (m .retval) })) 4 (r .piece) ⌝ }
-    {
-        let retval = make(cells, SPINE + 3, m.retval, 2);
-        let args = make(cells, SPINE + 2, m.args, retval);
-        let locals = make(cells, SPINE + 1, m.locals, args);
-        let globals = make(cells, SPINE, m.globals, locals);
-        RequiredContext { piece: globals }
-    }
-
     // The empty context.
-    pub fn new(cells: &mut [u32]) -> RequiredContext
-        requires { ⌜ Good (now cells) ⌝ }
-        requires { ⌜ Room (now cells) 4 ⌝ }
-        ensures { λ r. ⌜ Made (now (cells .entry)) (now (cells .exit)) (whole (record { globals = none; locals = none; args = none; retval = none })) 4 (r .piece) ⌝ }
+    pub fn new() -> RequiredContext
+        ensures { λ r. ⌜ Always emptyContext r ⌝ }
     {
-        let m = Maps {
+        RequiredContext {
             globals: 2,
             locals: 2,
             args: 2,
             retval: 2,
-        };
-        RequiredContext::of(cells, m)
+        }
     }
 
-    // Its maps.
-    pub fn maps(self, cells: &[u32]) -> Maps
-        requires { ⌜ Good (now cells) ⌝ }
-        requires { ⌜ IsContext (now cells) (self .piece) ⌝ }
-        ensures { λ r. ⌜ MapsOf (now (cells .entry)) (self .piece) (r .globals) (r .locals) (r .args) (r .retval) ⌝ }
+    // `is_empty`
+    pub fn is_empty(self) -> bool
+        ensures { λ r. ⌜ Empty self r ⌝ }
     {
-        let globals = look(cells, self.piece);
-        let locals = look(cells, globals.rest);
-        let args = look(cells, locals.rest);
-        let retval = look(cells, args.rest);
-        Maps {
-            globals: globals.child,
-            locals: locals.child,
-            args: args.child,
-            retval: retval.child,
+        if self.globals != 2 {
+            return false;
         }
+        if self.locals != 2 {
+            return false;
+        }
+        if self.args != 2 {
+            return false;
+        }
+        self.retval == 2
+    }
+
+    // What 16 counts of it.
+    pub fn pieces(self, cells: &[u32]) -> usize
+        requires { ⌜ Good (now cells) ⌝ }
+        requires { ⌜ HasContext (now cells) self × (pieces (contextOf (now cells) self) ≤ entriesCap) ⌝ }
+        ensures { λ r. ⌜ r ≡ pieces (contextOf (now (cells .entry)) self) ⌝ }
+    {
+        let globals = entries(cells, self.globals);
+        let locals = entries(cells, self.locals);
+        let args = entries(cells, self.args);
+        let retval = entries(cells, self.retval);
+        (globals + locals + args + retval) as usize
+    }
+
+    // Whether a part of it passes a limit.
+    pub fn over(self, cells: &[u32]) -> bool
+        requires { ⌜ Good (now cells) ⌝ }
+        requires { ⌜ HasContext (now cells) self ⌝ }
+        ensures { λ r. ⌜ r ≡ overContext (contextOf (now (cells .entry)) self) ⌝ }
+    {
+        if over(cells, self.globals) {
+            return true;
+        }
+        if over(cells, self.locals) {
+            return true;
+        }
+        if over(cells, self.args) {
+            return true;
+        }
+        over(cells, self.retval)
     }
 
     // `contains`
     pub fn contains(self, cells: &[u32], other: RequiredContext) -> bool
         requires { ⌜ Good (now cells) ⌝ }
-        requires { ⌜ IsContext (now cells) (self .piece) × IsContext (now cells) (other .piece) ⌝ }
-        ensures { λ r. ⌜ r ≡ containsContext (context (now (cells .entry)) (self .piece)) (context (now (cells .entry)) (other .piece)) ⌝ }
+        requires { ⌜ HasContext (now cells) self × HasContext (now cells) other ⌝ }
+        ensures { λ r. ⌜ r ≡ containsContext (contextOf (now (cells .entry)) self) (contextOf (now (cells .entry)) other) ⌝ }
     {
-        contains(cells, self.piece, other.piece)
+        if !contains(cells, self.globals, other.globals) {
+            return false;
+        }
+        if !contains(cells, self.locals, other.locals) {
+            return false;
+        }
+        if !contains(cells, self.args, other.args) {
+            return false;
+        }
+        contains(cells, self.retval, other.retval)
     }
 
     // `merge`
     pub fn merge(self, cells: &mut [u32], other: RequiredContext) -> RequiredContext
         requires { ⌜ Good (now cells) ⌝ }
-        requires { ⌜ IsContext (now cells) (self .piece) × IsContext (now cells) (other .piece) ⌝ }
-        requires { ⌜ Room (now cells) (entries (part (now cells) (self .piece)) + entries (part (now cells) (other .piece))) ⌝ }
-        ensures { λ r. ⌜ Made (now (cells .entry)) (now (cells .exit)) (whole (mergeContext (context (now (cells .entry)) (self .piece)) (context (now (cells .entry)) (other .piece)))) (entries (part (now (cells .entry)) (self .piece)) + entries (part (now (cells .entry)) (other .piece))) (r .piece) ⌝ }
+        requires { ⌜ HasContext (now cells) self × HasContext (now cells) other ⌝ }
+        requires { ⌜ Room (now cells) (pieces (contextOf (now cells) self) + pieces (contextOf (now cells) other)) ⌝ }
+        ensures { λ r. ⌜ MadeContext (now (cells .entry)) (now (cells .exit)) (mergeContext (contextOf (now (cells .entry)) self) (contextOf (now (cells .entry)) other)) (pieces (contextOf (now (cells .entry)) self) + pieces (contextOf (now (cells .entry)) other)) r ⌝ }
     {
-        let n = add(cells, self.piece, other.piece);
-        RequiredContext { piece: n }
-    }
-
-    // The piece p is needed of the argument i too.
-    pub fn arg_add(self, cells: &mut [u32], i: u32, p: u32) -> RequiredContext
-        requires { ⌜ Good (now cells) ⌝ }
-        requires { ⌜ IsContext (now cells) (self .piece) × ((p < top (now cells)) × (i < spine)) ⌝ }
-        requires { ⌜ Room (now cells) (joinRoom (part (now cells) (self .piece)) (part (now cells) p)) ⌝ }
-        ensures { λ r. ⌜ Made (now (cells .entry)) (now (cells .exit)) (whole (addArg (context (now (cells .entry)) (self .piece)) i (part (now (cells .entry)) p))) (joinRoom (part (now (cells .entry)) (self .piece)) (part (now (cells .entry)) p)) (r .piece) ⌝ }
-    {
-        let m = self.maps(cells);
-        let args = join(cells, m.args, i, p);
-        let n = Maps {
-            globals: m.globals,
-            locals: m.locals,
-            args: args,
-            retval: m.retval,
-        };
-        RequiredContext::of(cells, n)
-    }
-
-    // The piece p is needed of the local i too.
-    pub fn local_add(self, cells: &mut [u32], i: u32, p: u32) -> RequiredContext
-        requires { ⌜ Good (now cells) ⌝ }
-        requires { ⌜ IsContext (now cells) (self .piece) × ((p < top (now cells)) × (i < spine)) ⌝ }
-        requires { ⌜ Room (now cells) (joinRoom (part (now cells) (self .piece)) (part (now cells) p)) ⌝ }
-        ensures { λ r. ⌜ Made (now (cells .entry)) (now (cells .exit)) (whole (addLocal (context (now (cells .entry)) (self .piece)) i (part (now (cells .entry)) p))) (joinRoom (part (now (cells .entry)) (self .piece)) (part (now (cells .entry)) p)) (r .piece) ⌝ }
-    {
-        let m = self.maps(cells);
-        let locals = join(cells, m.locals, i, p);
-        let n = Maps {
-            globals: m.globals,
-            locals: locals,
-            args: m.args,
-            retval: m.retval,
-        };
-        RequiredContext::of(cells, n)
-    }
-
-    // Of the global i the piece p is needed, and nothing else.
-    pub fn global_insert(self, cells: &mut [u32], i: u32, p: u32) -> RequiredContext
-        requires { ⌜ Good (now cells) ⌝ }
-        requires { ⌜ IsContext (now cells) (self .piece) × ((p < top (now cells)) × (i < spine)) ⌝ }
-        requires { ⌜ Room (now cells) (joinRoom (part (now cells) (self .piece)) (part (now cells) p)) ⌝ }
-        ensures { λ r. ⌜ Made (now (cells .entry)) (now (cells .exit)) (whole (insertGlobal (context (now (cells .entry)) (self .piece)) i (part (now (cells .entry)) p))) (joinRoom (part (now (cells .entry)) (self .piece)) (part (now (cells .entry)) p)) (r .piece) ⌝ }
-    {
-        let m = self.maps(cells);
-        let globals = insert(cells, m.globals, SPINE + i, p);
-        let n = Maps {
+        let globals = add(cells, self.globals, other.globals);
+        let locals = add(cells, self.locals, other.locals);
+        let args = add(cells, self.args, other.args);
+        let retval = add(cells, self.retval, other.retval);
+        RequiredContext {
             globals: globals,
-            locals: m.locals,
-            args: m.args,
-            retval: m.retval,
-        };
-        RequiredContext::of(cells, n)
+            locals: locals,
+            args: args,
+            retval: retval,
+        }
     }
 
-    // Of the local i the piece p is needed, and nothing else.
-    pub fn local_insert(self, cells: &mut [u32], i: u32, p: u32) -> RequiredContext
+    // What is needed of a variable.
+    pub fn get(self, cells: &[u32], var: VarRef) -> Found
         requires { ⌜ Good (now cells) ⌝ }
-        requires { ⌜ IsContext (now cells) (self .piece) × ((p < top (now cells)) × (i < spine)) ⌝ }
-        requires { ⌜ Room (now cells) (joinRoom (part (now cells) (self .piece)) (part (now cells) p)) ⌝ }
-        ensures { λ r. ⌜ Made (now (cells .entry)) (now (cells .exit)) (whole (insertLocal (context (now (cells .entry)) (self .piece)) i (part (now (cells .entry)) p))) (joinRoom (part (now (cells .entry)) (self .piece)) (part (now (cells .entry)) p)) (r .piece) ⌝ }
+        requires { ⌜ HasContext (now cells) self × (handle (variableOf var) < spine) ⌝ }
+        ensures { λ r. ⌜ Got (now (cells .entry)) (required (contextOf (now (cells .entry)) self) (variableOf var)) r ⌝ }
     {
-        let m = self.maps(cells);
-        let locals = insert(cells, m.locals, SPINE + i, p);
-        let n = Maps {
-            globals: m.globals,
-            locals: locals,
-            args: m.args,
-            retval: m.retval,
-        };
-        RequiredContext::of(cells, n)
+        match var {
+            VarRef::Global(g) => get(cells, self.globals, SPINE + g.0),
+            VarRef::Local(l) => get(cells, self.locals, SPINE + l.0),
+        }
+    }
+
+    // `remove`: the piece q taken out of what is needed of a variable, which is of the type t.
+    pub fn remove(
+        self,
+        cells: &mut [u32],
+        types: &[u32],
+        var: VarRef,
+        t: TypeHandle,
+        q: u32,
+    ) -> Removed
+        requires { ⌜ Good (now cells) ⌝ }
+        requires { ⌜ AllSized (typesOf (now types)) ⌝ }
+        requires { ⌜ HasContext (now cells) self × ((handle (variableOf var) < spine) × (q < top (now cells))) ⌝ }
+        requires { ⌜ Room (now cells) (takeRoom (contextOf (now cells) self) (part (now cells) q)) ⌝ }
+        ensures { λ r. ⌜ TookContext (now (cells .entry)) (now (cells .exit)) (removeTyped (typesOf (now (types .entry))) (contextOf (now (cells .entry)) self) (variableOf var) (t .0) (part (now (cells .entry)) q)) (takeRoom (contextOf (now (cells .entry)) self) (part (now (cells .entry)) q)) r ⌝ }
+    {
+        match var {
+            VarRef::Global(g) => {
+                let Reduced::Left(m) = alter(cells, types, self.globals, SPINE + g.0, t, q) else {
+                    return Removed::Panic;
+                };
+                Removed::Left(RequiredContext {
+                    globals: m,
+                    locals: self.locals,
+                    args: self.args,
+                    retval: self.retval,
+                })
+            }
+            VarRef::Local(l) => {
+                let Reduced::Left(m) = alter(cells, types, self.locals, SPINE + l.0, t, q) else {
+                    return Removed::Panic;
+                };
+                Removed::Left(RequiredContext {
+                    globals: self.globals,
+                    locals: m,
+                    args: self.args,
+                    retval: self.retval,
+                })
+            }
+        }
     }
 }
