@@ -3,7 +3,7 @@
 use Prim.Native.Nat.{ℕ, zero, suc, _+_, _*_, _/_, _%_, _≤_, _<_}
 use native.Mathlib.Omega.{arith}
 use native.Mathlib.Nat.{mod-add-div}
-use mathlib.Core.Path.{_≡_, refl, sym}
+use mathlib.Core.Path.{_≡_, refl, ap, sym, _∙_}
 use mathlib.Core.Bool.{Bool, true, false, _&&_, _||_}
 use mathlib.Core.List.{List, [], _∷_, _++_, append-assoc, append-nil}
 use mathlib.Core.Option.{Option, some, none as nothing}
@@ -19,6 +19,7 @@ use Rattle.context.specs.RequiredContext.{RequiredContext, variable}
 use Rattle.request.specs.Fields.{framed, fields, bytesOf, whole, got, _>>=_, accepted, asField}
 use Rattle.request.specs.Part.{readEntries, readLevel, byCode, readPart, readReturn, readVariables, asked, withCode, writeEntries, writePart, writeReturn, writeVariables}
 use Rattle.request.specs.Context.{readContextBody, readLists, writeContextBody, isContext, contextOf, knownContext, judgeContext, readContext, writeContext}
+use Rattle.request.specs.Request.{asking, readBody, isRequest, requestOf, writeBody, writeRequest}
 use Rattle.request.proofs.Bytes.{fields-bytesOf, length-bytesOf}
 use Rattle.request.specs.Filed.{Indexed, Filed, FiledVariables, FiledReturn, FiledContext}
 
@@ -178,7 +179,7 @@ returned none = nothing
 returned (more i p r) = some p
 
 -- the first code of a requirement is not 3
-return-part : (p : PartReq) (fs : List ℕ)
+pub return-part : (p : PartReq) (fs : List ℕ)
     → readReturn (writePart p ++ fs) ≡ (readPart maxDepth (writePart p ++ fs) >>= λ q gs. got (some q) gs)
 unfolding readReturn writePart withCode
 return-part all fs = refl
@@ -200,10 +201,17 @@ asked-returned exist f = absurd f
 asked-returned none f = refl
 asked-returned (more i p r) f = rw (f .0, f .1)
 
-context-body : (c : RequiredContext) → FiledContext c → readContextBody (writeContextBody c) ≡ got c []
+returned-asked : (o : Option PartReq) → returned (asked o) ≡ o
+unfolding asked returned
+returned-asked nothing = refl
+returned-asked (some p) = refl
+
+-- a context's lists, with what follows them
+pub context-body : (c : RequiredContext) (fs : List ℕ) → FiledContext c → readContextBody (writeContextBody c ++ fs) ≡ got c fs
 unfolding readContextBody readLists writeContextBody
-context-body c f =
-    rw (readReturn-writeReturn (c .retval) _ (f .retval), readVariables-writeVariables (c .globals) _ (f .globals), readVariables-writeVariables (c .args) _ (f .args), ← append-nil (writeVariables (c .locals)), readVariables-writeVariables (c .locals) [] (f .locals), asked-returned (c .retval) (f .retval))
+context-body c fs f =
+    simp append-assoc
+    (rw (readReturn-writeReturn (c .retval) _ (f .retval), readVariables-writeVariables (c .globals) _ (f .globals), readVariables-writeVariables (c .args) _ (f .args), readVariables-writeVariables (c .locals) fs (f .locals), asked-returned (c .retval) (f .retval)))
 
 -- the header that is written says how long the record is
 framed-context : (body : List ℕ)
@@ -220,7 +228,9 @@ framed-context body =
 
 pub contextOf-writeContext : (c : RequiredContext) → FiledContext c → contextOf (writeContext c) ≡ some c
 unfolding contextOf writeContext whole bytesOf
-contextOf-writeContext c f = rw (framed-context (writeContextBody c), fields-bytesOf (writeContextBody c), context-body c f)
+contextOf-writeContext c f =
+    let read : readContextBody (writeContextBody c) ≡ got c [] = ap readContextBody (sym (append-nil (writeContextBody c))) ∙ context-body c [] f in
+    rw (framed-context (writeContextBody c), fields-bytesOf (writeContextBody c), read)
 
 -- A context that is written is read back, where the module and the function have its variables.
 pub readContext-writeContext : (m : Module) (fn : Function) (c : RequiredContext) → FiledContext c
@@ -228,3 +238,27 @@ pub readContext-writeContext : (m : Module) (fn : Function) (c : RequiredContext
     → readContext m fn (writeContext c) ≡ accepted c
 unfolding judgeContext
 readContext-writeContext m fn c f k = rw (contextOf-writeContext c f, k)
+
+-- a request
+request-body : (f : ℕ) (o : Option PartReq) (q : PartReq) → f < absent → FiledReturn (asked o) → FiledVariables q → readBody (writeBody f (asked o) q) ≡ got (asking f o q) []
+unfolding readBody writeBody
+request-body f o q h r g =
+    let same : asField f ≡ f = omega arith in
+    rw (same, lt-ltb f absent h, readReturn-writeReturn (asked o) _ r, returned-asked o, ← append-nil (writeVariables q), readVariables-writeVariables q [] g)
+
+framed-request : (body : List ℕ) → 2 * length body < 65536 → isRequest (82 ∷ (81 ∷ bytesOf (asField (2 * length body) ∷ body))) ≡ true
+unfolding framed bytesOf fieldAt
+framed-request body h =
+    let l = 2 * length body in
+    let s = suc (suc (suc (suc l))) in
+    let fits : asField l ≡ l = omega arith in
+    let long : leb 4 s ≡ true = le-leb 4 s (omega arith) in
+    let same : eqb (4 + l) s ≡ true = eq-eqb (4 + l) s (omega arith) in
+    let even : eqb (l % 2) 0 ≡ true = eq-eqb (l % 2) 0 (omega arith) in
+    rw (fits, mod-add-div l 256, length-bytesOf body, long, same, even)
+
+pub requestOf-writeRequest : (f : ℕ) (o : Option PartReq) (q : PartReq) → f < absent → FiledReturn (asked o) → FiledVariables q
+    → 2 * length (writeBody f (asked o) q) < 65536 → requestOf (writeRequest f (asked o) q) ≡ some (asking f o q)
+unfolding requestOf writeRequest whole bytesOf
+requestOf-writeRequest f o q h r g l =
+    rw (framed-request (writeBody f (asked o) q) l, fields-bytesOf (writeBody f (asked o) q), request-body f o q h r g)

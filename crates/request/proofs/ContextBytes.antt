@@ -8,11 +8,11 @@ use lib.Seq.{sets, length-sets, set-comm}
 use Rattle.field.specs.Field.{setField, setWord}
 use Rattle.part.specs.Store.{part}
 use Rattle.context.specs.RequiredContext.{RequiredContext}
-use Rattle.request.specs.declared.contexts.Pieces.{Pieces}
+use Rattle.context.specs.Contexts.{contextOf}
+use Rattle.context.specs.declared.required_context.RequiredContext.{RequiredContext as Pieces}
 use Rattle.request.specs.Fields.{bytesOf}
 use Rattle.request.specs.Part.{writeReturn, writeVariables}
 use Rattle.request.specs.Context.{writeContextBody, writeContext}
-use Rattle.request.specs.Answers.{meant}
 use Rattle.request.specs.Written.{Fits, Written}
 use Rattle.request.proofs.Bytes.{length-bytesOf}
 use Rattle.request.proofs.Writing.{written-then, written-long, fits-then}
@@ -24,7 +24,7 @@ set-sets l j (v ∷ vs) i a h =
     set-sets (set l j v) (suc j) vs i a (omega arith)
     ∙ ap (λ (x : List ℕ). sets x (suc j) vs) (set-comm l j i v a (λ e. omega arith))
 
-before-body : (l vs : List ℕ) (a b c d e f : ℕ)
+pub before-body : (l vs : List ℕ) (a b c d e f : ℕ)
     → set (set (set (set (set (set (sets l 6 vs) 0 a) 1 b) 2 c) 3 d) 4 e) 5 f ≡ sets (set (set (set (set (set (set l 0 a) 1 b) 2 c) 3 d) 4 e) 5 f) 6 vs
 before-body l vs a b c d e f =
     rw
@@ -34,10 +34,10 @@ pub length-context : (c : RequiredContext) → length (writeContext c) ≡ 6 + 2
 unfolding writeContext bytesOf
 length-context c = omega (arith, length-bytesOf (writeContextBody c))
 
-front : (o : List ℕ) (at : ℕ) (fs gs : List ℕ) → Fits o at (fs ++ gs) → Fits o at fs
+pub front : (o : List ℕ) (at : ℕ) (fs gs : List ℕ) → Fits o at (fs ++ gs) → Fits o at fs
 front o at fs gs h = omega (arith, length-append fs gs)
 
-module _ (s o : List ℕ) (c : Pieces) (room : length (writeContext (meant s c)) ≤ length o) where
+module _ (s o : List ℕ) (c : Pieces) (room : length (writeContext (contextOf s c)) ≤ length o) where
   abbrev return-fields : List ℕ
   return-fields = writeReturn (part s (c .retval))
 
@@ -52,7 +52,7 @@ module _ (s o : List ℕ) (c : Pieces) (room : length (writeContext (meant s c))
 
   body-room : Fits o 6 (return-fields ++ (globals-fields ++ (args-fields ++ locals-fields)))
   unfolding writeContextBody
-  body-room = omega (arith, length-context (meant s c))
+  body-room = omega (arith, length-context (contextOf s c))
 
   pub return-fits : Fits o 6 return-fields
   return-fits = front o 6 return-fields _ body-room
@@ -76,7 +76,7 @@ module _ (s o : List ℕ) (c : Pieces) (room : length (writeContext (meant s c))
         locals-fit = fits-then args-fields locals-fields third after-globals
 
         module _ {t : List ℕ} {end : ℕ} (last : Written r t d locals-fields end) where
-          body-written : Written o t 6 (writeContextBody (meant s c)) end
+          body-written : Written o t 6 (writeContextBody (contextOf s c)) end
           unfolding writeContextBody
           body-written =
               written-then return-fields (globals-fields ++ (args-fields ++ locals-fields)) first
@@ -86,16 +86,16 @@ module _ (s o : List ℕ) (c : Pieces) (room : length (writeContext (meant s c))
           context-long = written-long body-written
 
           pub head-room : 6 ≤ length t
-          head-room = omega (arith, context-long, length-context (meant s c))
+          head-room = omega (arith, context-long, length-context (contextOf s c))
 
-          pub end-is : end ≡ length (writeContext (meant s c))
-          end-is = body-written .next-is ∙ sym (length-context (meant s c))
+          pub end-is : end ≡ length (writeContext (contextOf s c))
+          end-is = body-written .next-is ∙ sym (length-context (contextOf s c))
 
-          pub context-written : {u : List ℕ} → u ≡ setWord (set (set t 0 67) 1 88) 2 (end - 6) → u ≡ sets o 0 (writeContext (meant s c))
+          pub context-written : {u : List ℕ} → u ≡ setWord (set (set t 0 67) 1 88) 2 (end - 6) → u ≡ sets o 0 (writeContext (contextOf s c))
           unfolding writeContext setWord setField bytesOf
           context-written {u} e =
-              let long : end - 6 ≡ 2 * length (writeContextBody (meant s c)) = omega (arith, body-written .next-is) in
-              e ∙ rw (long, body-written .is) (before-body o (bytesOf (writeContextBody (meant s c))) _ _ _ _ _ _)
+              let long : end - 6 ≡ 2 * length (writeContextBody (contextOf s c)) = omega (arith, body-written .next-is) in
+              e ∙ rw (long, body-written .is) (before-body o (bytesOf (writeContextBody (contextOf s c))) _ _ _ _ _ _)
 
           pub still-long : {u : List ℕ} → u ≡ setWord (set (set t 0 67) 1 88) 2 (end - 6) → length u ≡ length o
-          still-long e = ap length (context-written e) ∙ length-sets o 0 (writeContext (meant s c))
+          still-long e = ap length (context-written e) ∙ length-sets o 0 (writeContext (contextOf s c))

@@ -1,6 +1,6 @@
 -- What the lists of a request or a context come to: a law for each way that the code can end. A list that the code has read as known is the
 -- definition's; of one that it has read as unknown, an entry is not below the limit.
-use Prim.Native.Nat.{ℕ, _+_, _≤_, _<_}
+use Prim.Native.Nat.{ℕ, _+_, _-_, _*_, _≤_, _<_}
 use native.Mathlib.Omega.{arith}
 use mathlib.Core.Path.{_≡_, refl, ap, sym, subst, _∙_}
 use mathlib.Core.Bool.{Bool, true, false, cond, _&&_}
@@ -11,7 +11,7 @@ use lib.ListN.{length}
 use borrow.Author.Tests.{lt-ltb, le-ltb}
 use Rattle.field.specs.Limits.{absent, minReport}
 use Rattle.part.specs.PartReq.{PartReq}
-use Rattle.part.specs.Store.{part, Kept}
+use Rattle.part.specs.Store.{top, part, Kept}
 use Rattle.context.specs.RequiredContext.{variable}
 use Rattle.request.specs.declared.lists.Optional.{Optional}
 use Rattle.request.specs.declared.lists.Optional.the-variants.{Nothing, Piece}
@@ -22,7 +22,7 @@ use Rattle.request.specs.declared.requests.RequestAnswer.the-variants as
 use Rattle.request.specs.Fields.{Read, malformed, got, _>>=_, whole, Answer, refused}
 use Rattle.request.specs.Part.{readReturn, readVariables}
 use Rattle.request.specs.Request.{Request as Asking, asking, readBody, isRequest, requestOf, allBelow, known, judge, finish}
-use Rattle.request.specs.Answers.{from, optional, Held, sorted, OptionWasRead, requestAnswer, RequestHeld, RequestWasRead}
+use Rattle.request.specs.Answers.{from, Spent, optional, Held, sorted, OptionWasRead, requestAnswer, RequestHeld, RequestWasRead}
 use Rattle.request.proofs.Bytes.{from-cons, from-end}
 use Rattle.request.proofs.Entries.{Field, kept-on}
 use Rattle.request.proofs.Frame.{frame-inside}
@@ -72,10 +72,10 @@ module _ (functions globals report f : ℕ) {s t b : List ℕ} {at : ℕ} (o : O
   abbrev wanted : Answer Asking
   wanted = finish functions globals report f (optional s o) (from b at)
 
-  refuse-request : (r : RequestAnswer) → requestAnswer t r ≡ wanted → RequestHeld t r → RequestWasRead s t wanted r
+  refuse-request : (r : RequestAnswer) → requestAnswer t r ≡ wanted → RequestHeld s t (length b - at) r → RequestWasRead s t (length b - at) wanted r
   refuse-request r e h = record { kept = was .kept; is = e; held = h }
 
-  pub globals-malformed : a ≡ lists.Malformed → RequestWasRead s t wanted requests.Malformed
+  pub globals-malformed : a ≡ lists.Malformed → RequestWasRead s t (length b - at) wanted requests.Malformed
   unfolding finish judge whole
   globals-malformed e = refuse-request requests.Malformed (rw (unlisted globals (readVariables (from b at)) (no-list was e))) tt
 
@@ -83,7 +83,7 @@ module _ (functions globals report f : ℕ) {s t b : List ℕ} {at : ℕ} (o : O
     pub read-list : Listed globals (readVariables (from b at)) (optional t g) (from b end)
     read-list = listed globals (readVariables (from b at)) (list-read was e)
 
-    pub globals-left : end + 2 ≤ length b → RequestWasRead s t wanted requests.Malformed
+    pub globals-left : end + 2 ≤ length b → RequestWasRead s t (length b - at) wanted requests.Malformed
     unfolding finish judge whole
     globals-left h = refuse-request requests.Malformed (rw (read-list .is, from-cons b end h)) tt
 
@@ -92,7 +92,7 @@ module _ (functions globals report f : ℕ) {s t b : List ℕ} {at : ℕ} (o : O
       unfolding finish whole
       ends-with = rw (read-list .is, from-end b end done)
 
-      pub globals-unknown : g ≡ Nothing → RequestWasRead s t wanted requests.NoSuch
+      pub globals-unknown : g ≡ Nothing → RequestWasRead s t (length b - at) wanted requests.NoSuch
       unfolding judge known
       globals-unknown z =
           let below : allBelow (variable globals) (read-list .list) ≡ false = not-some _ _ (read-list .chosen ∙ ap (optional t) z) in
@@ -102,32 +102,43 @@ module _ (functions globals report f : ℕ) {s t b : List ℕ} {at : ℕ} (o : O
         all-known : (allBelow (variable globals) (read-list .list) ≡ true) × (read-list .list ≡ part t n)
         all-known = is-some _ _ _ (read-list .chosen ∙ ap (optional t) z)
 
-        pub globals-function : functions ≤ f → RequestWasRead s t wanted requests.NoSuch
+        pub globals-function : functions ≤ f → RequestWasRead s t (length b - at) wanted requests.NoSuch
         unfolding judge known
         globals-function h = refuse-request requests.NoSuch (sym (ends-with ∙ rw (le-ltb f functions h))) tt
 
-        pub globals-report : f < functions → report < minReport → RequestWasRead s t wanted requests.ShortReport
+        pub globals-report : f < functions → report < minReport → RequestWasRead s t (length b - at) wanted requests.ShortReport
         unfolding judge known
         globals-report h k =
             refuse-request requests.ShortReport
             (sym (ends-with ∙ rw (lt-ltb f functions h, all-known .0, lt-ltb report minReport k))) tt
 
         pub globals-accepted : f < functions → minReport ≤ report → Held s o
-            → RequestWasRead s t wanted (requests.Accepted (record { function = f; retval = o; globals = n }))
+            → RequestWasRead s t (length b - at) wanted (requests.Accepted (record { function = f; retval = o; globals = n }))
         unfolding judge known
         globals-accepted h k held =
             let same : optional t o ≡ optional s o = optional-kept (was .kept) o held in
             refuse-request (requests.Accepted (record { function = f; retval = o; globals = n }))
             (sym (ends-with ∙ rw (lt-ltb f functions h, all-known .0, le-ltb report minReport k, all-known .1, same)))
-            (held-kept (was .kept) o held, subst (Held t) z (list-placed was e .0))
+            (held-kept (was .kept) o held, subst (Held t) z (list-placed was e .0), omega (arith, list-placed was e .1))
 
 -- a refusal, and an answer that a call gave
+held-on : (s t u : List ℕ) (m n : ℕ) (r : RequestAnswer) → 4 * top t + m ≤ 4 * top s + n → RequestHeld t u m r → RequestHeld s u n r
+held-on s t u m n requests.Malformed c h = tt
+held-on s t u m n requests.NoSuch c h = tt
+held-on s t u m n requests.ShortReport c h = tt
+held-on s t u m n (requests.Accepted q) c h = (h .0, h .1, omega (arith, h .2))
+
 module _ {s t : List ℕ} {w : Answer Asking} (k : Kept s t) where
-  pub request-malformed : w ≡ refused 12 → RequestWasRead s t w requests.Malformed
+  pub request-malformed : {n : ℕ} → w ≡ refused 12 → RequestWasRead s t n w requests.Malformed
   request-malformed e = record { kept = k; is = sym e; held = tt }
 
-  pub request-on : {u : List ℕ} {v : Answer Asking} {r : RequestAnswer} → w ≡ v → RequestWasRead t u v r → RequestWasRead s u w r
-  request-on e was = record { kept = kept-on k (was .kept); is = was .is ∙ sym e; held = was .held }
+  pub request-on : {u b : List ℕ} {at : ℕ} {v : Answer Asking} {r : RequestAnswer} → w ≡ v → Spent s t b 6 at → RequestWasRead t u (length b - at) v r → RequestWasRead s u (length b) w r
+  request-on {u} {b} {at} {r = r} e spent was =
+      record {
+        kept = kept-on k (was .kept);
+        is = was .is ∙ sym e;
+        held = held-on s t u (length b - at) (length b) r (omega arith) (was .held);
+      }
 
 -- the record of a request
 module _ (functions globals report : ℕ) (b : List ℕ) {r : Bool} (e : r ≡ isRequest b) where

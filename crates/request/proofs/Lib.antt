@@ -7,5 +7,6 @@ pub mod Judged
 pub mod ContextLists
 pub mod Writing
 pub mod ContextBytes
+pub mod RequestBytes
 pub mod Examples
 pub mod Room

@@ -35,7 +35,7 @@ return-long exist = omega arith
 return-long none = omega arith
 return-long (more i p r) = omega (arith, part-long p)
 
-variables-long : (q : PartReq) → length (writeVariables q) ≤ 1 + 3 * entries q
+pub variables-long : (q : PartReq) → length (writeVariables q) ≤ 1 + 3 * entries q
 unfolding writeVariables
 variables-long q = omega (arith, entries-long q)
 

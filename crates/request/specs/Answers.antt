@@ -9,6 +9,7 @@ use Rattle.field.specs.Limits.{absent}
 use Rattle.part.specs.PartReq.{PartReq}
 use Rattle.part.specs.Store.{top, part, Kept}
 use Rattle.context.specs.RequiredContext.{RequiredContext, variable}
+use Rattle.context.specs.Contexts.{contextOf, HasContext}
 use Rattle.request.specs.Fields.{fields, Read, malformed, got, Answer, refused, accepted}
 use Rattle.request.specs.Request.{Request as Asking, asking, allBelow}
 use Rattle.request.specs.declared.parts.ReadPart.{ReadPart}
@@ -20,7 +21,6 @@ use Rattle.request.specs.declared.lists.ReadOption.the-variants as optio
 use Rattle.request.specs.declared.requests.Request.{Request}
 use Rattle.request.specs.declared.requests.RequestAnswer.{RequestAnswer}
 use Rattle.request.specs.declared.requests.RequestAnswer.the-variants as requests
-use Rattle.request.specs.declared.contexts.Pieces.{Pieces}
 use Rattle.request.specs.declared.contexts.ContextAnswer.{ContextAnswer}
 use Rattle.request.specs.declared.contexts.ContextAnswer.the-variants as contexts
 
@@ -93,16 +93,17 @@ requestAnswer t requests.NoSuch = refused 11
 requestAnswer t requests.ShortReport = refused 18
 requestAnswer t (requests.Accepted q) = accepted (asking (q .function) (optional t (q .retval)) (part t (q .globals)))
 
-abbrev pub RequestHeld : List ℕ → RequestAnswer → Type 0
-RequestHeld t requests.Malformed = Unit {0}
-RequestHeld t requests.NoSuch = Unit {0}
-RequestHeld t requests.ShortReport = Unit {0}
-RequestHeld t (requests.Accepted q) = Held t (q .retval) × (q .globals < top t)
+-- its pieces are there, and of n bytes were made a cell for every four at most
+abbrev pub RequestHeld : (s t : List ℕ) → ℕ → RequestAnswer → Type 0
+RequestHeld s t n requests.Malformed = Unit {0}
+RequestHeld s t n requests.NoSuch = Unit {0}
+RequestHeld s t n requests.ShortReport = Unit {0}
+RequestHeld s t n (requests.Accepted q) = Held t (q .retval) × (q .globals < top t) × (4 * top t ≤ 4 * top s + n)
 
-pub record RequestWasRead (s t : List ℕ) (r : Answer Asking) (a : RequestAnswer) : Type 0 where
+pub record RequestWasRead (s t : List ℕ) (n : ℕ) (r : Answer Asking) (a : RequestAnswer) : Type 0 where
   pub kept : Kept s t
   pub is : requestAnswer t a ≡ r
-  pub held : RequestHeld t a
+  pub held : RequestHeld s t n a
 
 -- the numbers of variables, none of which is `absent`
 pub record Limits (globals args locals : ℕ) : Type 0 where
@@ -110,32 +111,16 @@ pub record Limits (globals args locals : ℕ) : Type 0 where
   pub args-fit : args ≤ absent
   pub locals-fit : locals ≤ absent
 
--- the context that pieces mean
-abbrev pub meant : List ℕ → Pieces → RequiredContext
-meant t c =
-    record {
-      globals = part t (c .globals);
-      locals = part t (c .locals);
-      args = part t (c .args);
-      retval = part t (c .retval);
-    }
-
 -- the answer of `read_context`
 abbrev pub contextAnswer : List ℕ → ContextAnswer → Answer RequiredContext
 contextAnswer t contexts.Malformed = refused 12
 contextAnswer t contexts.NoSuch = refused 11
-contextAnswer t (contexts.Accepted c) = accepted (meant t c)
-
-pub record PiecesHeld (t : List ℕ) (c : Pieces) : Type 0 where
-  pub globals : c .globals < top t
-  pub locals : c .locals < top t
-  pub args : c .args < top t
-  pub retval : c .retval < top t
+contextAnswer t (contexts.Accepted c) = accepted (contextOf t c)
 
 abbrev pub ContextHeld : List ℕ → ContextAnswer → Type 0
 ContextHeld t contexts.Malformed = Unit {0}
 ContextHeld t contexts.NoSuch = Unit {0}
-ContextHeld t (contexts.Accepted c) = PiecesHeld t c
+ContextHeld t (contexts.Accepted c) = HasContext t c
 
 pub record ContextWasRead (s t : List ℕ) (r : Answer RequiredContext) (a : ContextAnswer) : Type 0 where
   pub kept : Kept s t

@@ -1,7 +1,7 @@
 -- What a request file means. RQ: function, return part, count, then global and part each, ascending.
-use Prim.Native.Nat.{ℕ}
+use Prim.Native.Nat.{ℕ, _*_}
 use mathlib.Core.Bool.{Bool, true, false, cond, _&&_}
-use mathlib.Core.List.{List, [], _∷_}
+use mathlib.Core.List.{List, [], _∷_, _++_}
 use mathlib.Core.Option.{Option, some, none as nothing}
 use lib.Dec.{ltb}
 use lib.ListN.{length, getD, drop}
@@ -10,8 +10,8 @@ use Rattle.field.specs.Field.{fieldAt}
 use Rattle.part.specs.PartReq.{PartReq, all, exist, none, more}
 use Rattle.module.specs.Module.{FunctionHandle, Module}
 use Rattle.context.specs.RequiredContext.{variable}
-use Rattle.request.specs.Fields.{fields, framed, Read, malformed, got, _>>=_, whole, Answer, refused, accepted}
-use Rattle.request.specs.Part.{readReturn, readVariables}
+use Rattle.request.specs.Fields.{fields, bytesOf, asField, framed, Read, malformed, got, _>>=_, whole, Answer, refused, accepted}
+use Rattle.request.specs.Part.{readReturn, readVariables, writeReturn, writeVariables}
 
 -- 01 calls it a request. The entry of the global g has the index `variable g`.
 pub record Request : Type 0 where
@@ -61,3 +61,12 @@ finish functions globals report f p fs =
 -- What reading a request answers, with the length of the report buffer: 12 of the whole request, then 11, then 18.
 abbrev pub readRequest : Module → (report : ℕ) → List ℕ → Answer Request
 readRequest m report s = judge (length (m .functions)) (length (m .globals)) report (requestOf s)
+
+-- the record of a request, by the returned value's entry and those of the globals
+unfoldable pub writeBody : FunctionHandle → (retval globals : PartReq) → List ℕ
+writeBody f retval globals = asField f ∷ (writeReturn retval ++ writeVariables globals)
+
+unfoldable pub writeRequest : FunctionHandle → (retval globals : PartReq) → List ℕ
+writeRequest f retval globals =
+    let body = writeBody f retval globals in
+    82 ∷ (81 ∷ bytesOf (asField (2 * length body) ∷ body))

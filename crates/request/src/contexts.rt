@@ -13,23 +13,16 @@ use crate::lists::read_return;
 use crate::lists::read_variables;
 use crate::record::ends;
 use crate::record::is_record;
+use context::required_context::RequiredContext;
 use field::field::read_word;
 use part::limits::SPINE;
 use part::store::make;
-
-// A context's lists: pieces of the store.
-pub struct Pieces {
-    pub globals: u32,
-    pub locals: u32,
-    pub args: u32,
-    pub retval: u32,
-}
 
 // Refused by 12 and 11; or the context.
 pub enum ContextAnswer {
     Malformed,
     NoSuch,
-    Accepted(Pieces),
+    Accepted(RequiredContext),
 }
 
 fn is_context(bytes: &[u8]) -> bool
@@ -42,7 +35,7 @@ fn is_context(bytes: &[u8]) -> bool
 }
 
 // The piece of the returned value's entry.
-fn returned(cells: &mut [u32], retval: Optional) -> u32
+pub fn returned(cells: &mut [u32], retval: Optional) -> u32
     requires { ⌜ Good (now cells) ⌝ }
     requires { ⌜ Room (now cells) 1 × Held (now cells) retval ⌝ }
     ensures { λ n. ⌜ Made (now (cells .entry)) (now (cells .exit)) (asked (optional (now (cells .entry)) retval)) 1 n ⌝ }
@@ -90,7 +83,7 @@ fn read_lists(
         return ContextAnswer::NoSuch;
     };
     let p = returned(cells, retval);
-    ContextAnswer::Accepted(Pieces {
+    ContextAnswer::Accepted(RequiredContext {
         globals: gs,
         locals: ls,
         args: xs,

@@ -1,6 +1,6 @@
 // Requests: 12 of the whole, then 11, then 18.
 ghost use mathlib.Core.Path.{_≡_};
-ghost use Prim.Native.Nat.{_+_, _≤_, _<_};
+ghost use Prim.Native.Nat.{_+_, _-_, _≤_, _<_};
 ghost use lib.ListN.{length};
 ghost use Rattle.field.specs.Limits.{absent};
 ghost use Rattle.part.specs.Store.{Good};
@@ -54,7 +54,7 @@ fn read_globals(
     requires { ⌜ Good (now cells) ⌝ }
     requires { ⌜ (at ≤ length (now bytes)) × RoomFor (now cells) (now bytes) at ⌝ }
     requires { ⌜ (globals ≤ absent) × Held (now cells) retval ⌝ }
-    ensures { λ r. ⌜ RequestWasRead (now (cells .entry)) (now (cells .exit)) (finish functions globals report function (optional (now (cells .entry)) retval) (from (now (bytes .entry)) at)) r ⌝ }
+    ensures { λ r. ⌜ RequestWasRead (now (cells .entry)) (now (cells .exit)) (length (now (bytes .entry)) - at) (finish functions globals report function (optional (now (cells .entry)) retval) (from (now (bytes .entry)) at)) r ⌝ }
 {
     let ReadOption::Got(o, end) = read_variables(cells, bytes, at, globals) else {
         return RequestAnswer::Malformed;
@@ -88,7 +88,7 @@ pub fn read_request(
 ) -> RequestAnswer
     requires { ⌜ Good (now cells) ⌝ }
     requires { ⌜ (globals ≤ absent) × RoomFor (now cells) (now bytes) 0 ⌝ }
-    ensures { λ r. ⌜ RequestWasRead (now (cells .entry)) (now (cells .exit)) (judge functions globals report (requestOf (now (bytes .entry)))) r ⌝ }
+    ensures { λ r. ⌜ RequestWasRead (now (cells .entry)) (now (cells .exit)) (length (now (bytes .entry))) (judge functions globals report (requestOf (now (bytes .entry)))) r ⌝ }
 {
     if !is_request(bytes) {
         return RequestAnswer::Malformed;

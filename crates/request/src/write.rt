@@ -1,15 +1,16 @@
-// Requirements and contexts written from the store into a lent slice. What lies before and after stays.
+// Requirements, contexts and requests written from the store into a lent slice. What lies before and after stays.
 ghost use mathlib.Core.Path.{_≡_};
 ghost use Prim.Native.Nat.{_+_, _*_, _≤_, _<_, _^_};
 ghost use lib.ListN.{length};
 ghost use lib.Seq.{sets};
 ghost use Rattle.part.specs.Store.{top, part, Good};
+ghost use Rattle.context.specs.Contexts.{contextOf, HasContext};
 ghost use Rattle.request.specs.Fields.{asField};
 ghost use Rattle.request.specs.Part.{writePart, writeEntries, writeReturn, writeVariables};
 ghost use Rattle.request.specs.Context.{writeContext};
-ghost use Rattle.request.specs.Answers.{meant, PiecesHeld};
+ghost use Rattle.request.specs.Request.{writeRequest};
 ghost use Rattle.request.specs.Written.{Fits, Written};
-use crate::contexts::Pieces;
+use context::required_context::RequiredContext;
 use field::field::write;
 use field::field::write_word;
 use part::store::look;
@@ -56,7 +57,7 @@ fn write_entries(cells: &[u32], n: u32, out: &mut [u8], at: usize) -> usize
     next
 }
 
-fn write_return(cells: &[u32], n: u32, out: &mut [u8], at: usize) -> usize
+pub fn write_return(cells: &[u32], n: u32, out: &mut [u8], at: usize) -> usize
     requires { ⌜ Good (now cells) ⌝ }
     requires { ⌜ n < top (now cells) ⌝ }
     requires { ⌜ Fits (now out) at (writeReturn (part (now cells) n)) ⌝ }
@@ -70,7 +71,7 @@ fn write_return(cells: &[u32], n: u32, out: &mut [u8], at: usize) -> usize
     write_part(cells, x.child, out, at)
 }
 
-fn write_variables(cells: &[u32], n: u32, out: &mut [u8], at: usize) -> usize
+pub fn write_variables(cells: &[u32], n: u32, out: &mut [u8], at: usize) -> usize
     requires { ⌜ Good (now cells) ⌝ }
     requires { ⌜ n < top (now cells) ⌝ }
     requires { ⌜ Fits (now out) at (writeVariables (part (now cells) n)) ⌝ }
@@ -81,11 +82,11 @@ fn write_variables(cells: &[u32], n: u32, out: &mut [u8], at: usize) -> usize
 }
 
 // The context's record, from the first byte on. What is returned is its length.
-pub fn write_context(cells: &[u32], c: Pieces, out: &mut [u8]) -> usize
+pub fn write_context(cells: &[u32], c: RequiredContext, out: &mut [u8]) -> usize
     requires { ⌜ Good (now cells) ⌝ }
-    requires { ⌜ PiecesHeld (now cells) c ⌝ }
-    requires { ⌜ (length (writeContext (meant (now cells) c)) ≤ length (now out)) × (length (writeContext (meant (now cells) c)) < 2 ^ 32) ⌝ }
-    ensures { λ r. ⌜ (now (out .exit) ≡ sets (now (out .entry)) 0 (writeContext (meant (now (cells .entry)) c))) × (r ≡ length (writeContext (meant (now (cells .entry)) c))) ⌝ }
+    requires { ⌜ HasContext (now cells) c ⌝ }
+    requires { ⌜ (length (writeContext (contextOf (now cells) c)) ≤ length (now out)) × (length (writeContext (contextOf (now cells) c)) < 2 ^ 32) ⌝ }
+    ensures { λ r. ⌜ (now (out .exit) ≡ sets (now (out .entry)) 0 (writeContext (contextOf (now (cells .entry)) c))) × (r ≡ length (writeContext (contextOf (now (cells .entry)) c))) ⌝ }
 {
     let afterReturn = write_return(cells, c.retval, out, 6);
     let afterGlobals = write_variables(cells, c.globals, out, afterReturn);
@@ -94,5 +95,27 @@ pub fn write_context(cells: &[u32], c: Pieces, out: &mut [u8]) -> usize
     out[0] = b'C';
     out[1] = b'X';
     write_word(out, 2, (end - 6) as u32);
+    end
+}
+
+// The record of a request for this function, from the first byte on. What is returned is its length.
+pub fn write_request(
+    cells: &[u32],
+    function: u32,
+    retval: u32,
+    globals: u32,
+    out: &mut [u8],
+) -> usize
+    requires { ⌜ Good (now cells) ⌝ }
+    requires { ⌜ (retval < top (now cells)) × (globals < top (now cells)) ⌝ }
+    requires { ⌜ (length (writeRequest function (part (now cells) retval) (part (now cells) globals)) ≤ length (now out)) × (length (writeRequest function (part (now cells) retval) (part (now cells) globals)) < 2 ^ 16) ⌝ }
+    ensures { λ r. ⌜ (now (out .exit) ≡ sets (now (out .entry)) 0 (writeRequest function (part (now (cells .entry)) retval) (part (now (cells .entry)) globals))) × (r ≡ length (writeRequest function (part (now (cells .entry)) retval) (part (now (cells .entry)) globals))) ⌝ }
+{
+    let afterReturn = write_return(cells, retval, out, 6);
+    let end = write_variables(cells, globals, out, afterReturn);
+    out[0] = b'R';
+    out[1] = b'Q';
+    write(out, 2, (end - 4) as u16);
+    write(out, 4, field_of(function));
     end
 }

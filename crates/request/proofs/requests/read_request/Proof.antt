@@ -61,7 +61,7 @@ same-length-2 : tie.Need-same-length-2
 same-length-2 c = search needs
 
 returns-5 : tie.Need-returns-5
-returns-5 c = request-on (c .before .before .before .before .before .before .before .before .before .read-return .ensures .kept) (request-finish _ _ _ _ (c .before .before .before .before .before .before .before .before .before .before .before .before .before .before .before .before .is-request .ensures) (not-false _ (c .before .before .before .before .before .before .before .before .before .before .before .before .before .before .before .if1 .left)) (field-read _ _ (c .before .before .before .before .before .before .before .before .before .before .before .before .before .before .ends .ensures) (c .before .before .before .before .before .before .before .before .before .before .before .before .before .if2 .left) (c .before .before .before .before .before .before .before .before .before .before .before .before .read .ensures)) (c .before .before .before .before .before .before .before .before .before .before .before .if3 .left) (list-read (c .before .before .before .before .before .before .before .before .before .read-return .ensures) (c .before .before .before .before .before .p .given .1))) (c .before .before .read-globals .ensures)
+returns-5 c = request-on (c .before .before .before .before .before .before .before .before .before .read-return .ensures .kept) (request-finish _ _ _ _ (c .before .before .before .before .before .before .before .before .before .before .before .before .before .before .before .before .is-request .ensures) (not-false _ (c .before .before .before .before .before .before .before .before .before .before .before .before .before .before .before .if1 .left)) (field-read _ _ (c .before .before .before .before .before .before .before .before .before .before .before .before .before .before .ends .ensures) (c .before .before .before .before .before .before .before .before .before .before .before .before .before .if2 .left) (c .before .before .before .before .before .before .before .before .before .before .before .before .read .ensures)) (c .before .before .before .before .before .before .before .before .before .before .before .if3 .left) (list-read (c .before .before .before .before .before .before .before .before .before .read-return .ensures) (c .before .before .before .before .before .p .given .1))) (list-placed (c .before .before .before .before .before .before .before .before .before .read-return .ensures) (c .before .before .before .before .before .p .given .1) .1) (c .before .before .read-globals .ensures)
 
 pub read-request-spec : {M : Type 1} → statement M
 read-request-spec =
