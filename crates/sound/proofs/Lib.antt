@@ -1,0 +1,16 @@
+pub mod There
+pub mod Sound
+pub mod Lower
+pub mod Parts
+pub mod Asked
+pub mod Contexts
+pub mod Totals
+pub mod Sizes
+pub mod Emits
+pub mod Bytes
+pub mod Walks
+pub mod Asks
+pub mod Resolve
+pub mod Numbers
+pub mod Items
+pub mod Blocks
