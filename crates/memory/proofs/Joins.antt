@@ -74,7 +74,7 @@ module _ {s rs : List ℕ} {n i : ℕ} {w : Want} (h : Joining s rs n i w) {t : 
   }
 
 -- sizes
-insert-small : (m : PartReq) (i : ℕ) (p : PartReq) → entries (insert m i p) ≤ 1 + (entries m + entries p)
+pub insert-small : (m : PartReq) (i : ℕ) (p : PartReq) → entries (insert m i p) ≤ 1 + (entries m + entries p)
 unfolding insert entries
 insert-small all i p = omega arith
 insert-small exist i p = omega arith
@@ -102,10 +102,10 @@ after-there : {o : Subpart} {old : PartReq} (q c : PartReq) (g : ℕ) (p : PartR
 unfolding totalAfter globalsAfter
 after-there q c g p e = rw e (refl, refl)
 
-got-gone : (s : List ℕ) (p : Subpart) {f : Found} → f ≡ Gone → Got s p f → p ≡ gone
+pub got-gone : (s : List ℕ) (p : Subpart) {f : Found} → f ≡ Gone → Got s p f → p ≡ gone
 got-gone s p e g = subst (λ f. Got s p f) e g
 
-got-there : (s : List ℕ) (p : Subpart) {f : Found} {n : ℕ} → f ≡ There n → Got s p f → (n < top s) × (p ≡ there (part s n))
+pub got-there : (s : List ℕ) (p : Subpart) {f : Found} {n : ℕ} → f ≡ There n → Got s p f → (n < top s) × (p ≡ there (part s n))
 got-there s p e g = subst (λ f. Got s p f) e g
 
 -- `ask_global`: p is the piece of what w asks

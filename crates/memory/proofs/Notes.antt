@@ -71,15 +71,13 @@ module _ {s rs t us : List ℕ} {n : ℕ} (g : Good s) (none-used : top s ≡ 3)
       slots = omega (arith, lengths);
       first = rw at-all (part-0 t);
       second = rw at-exist (part-1 t);
-      asking = rw (at-low ask (omega arith) (omega arith), part-2) (unfold entries in omega arith);
-      fine = rw (at-low ask (omega arith) (omega arith), part-2) (unfold over in refl);
-      returning = rw (at-low returned (omega arith) (omega arith), part-2) (unfold entries in omega arith);
+      asking = λ k a b. rw (at-low k (omega arith) (omega arith), part-2) (unfold entries in omega arith);
+      fine = λ k a b. rw (at-low k (omega arith) (omega arith), part-2) (unfold over in refl);
       flats = λ c h. x .made c h .1;
       records = λ k a b. rw (at-high k (omega arith) (omega arith), part-2) missing;
       fits = omega (arith, x .kept .long);
     };
-    none-asked = rw (at-low ask (omega arith) (omega arith)) (part-2 t);
-    none-returned = rw (at-low returned (omega arith) (omega arith)) (part-2 t);
+    none-asked = λ k a b. rw (at-low k (omega arith) (omega arith)) (part-2 t);
     none-counted = λ k a b. rw (at-high k a (omega (arith, lengths))) (part-2 t);
     roomy = omega (arith, x .cost, x .kept .long);
   }

@@ -13,7 +13,8 @@ use Rattle.part.specs.PartReq.{PartReq, all, exist, none, entries, over}
 use Rattle.part.specs.Store.{top, part, Good, Below, Kept, Room}
 use Rattle.part.specs.StoreLimits.{entriesCap}
 use Rattle.part.specs.Collect.{sumOf, total, Collected}
-use Rattle.memory.specs.Layout.{allSlot, existSlot, ask, returned, flatSlot, flatCount, fileExpressions, globalsSlot, exprsSlot, totalsSlot, functionsSlot, stackSlot, room}
+use Rattle.module.specs.Tables.{maxItems}
+use Rattle.memory.specs.Layout.{allSlot, existSlot, ask, result, returned, flatSlot, flatCount, globalsSlot, exprsSlot, totalsSlot, functionsSlot, stackSlot, room, most}
 use Rattle.memory.specs.Flat.{entryOf, flatFrom}
 use Rattle.memory.specs.Want.{downs, wraps, asks, wantOf, asked, Wants, Still}
 use Rattle.memory.specs.Memory.{read, sumFrom, counted, Recorded, Memory, Tidied, Noted}
@@ -126,10 +127,11 @@ module _ {s rs : List ℕ} (m : Memory s rs) where
   pub slot-small : (k : ℕ) → k < globalsSlot → entries (part s (getD rs k 0)) ≤ maxPieces + 4
   slot-small zero h = rw (m .first) (unfold entries in omega arith)
   slot-small (suc zero) h = rw (m .second) (unfold entries in omega arith)
-  slot-small (suc (suc zero)) h = omega (arith, m .asking)
-  slot-small (suc (suc (suc zero))) h = omega (arith, m .returning)
-  slot-small (suc (suc (suc (suc c)))) h =
-      let e : suc (suc (suc (suc c))) ≡ flatSlot + c = omega arith in
+  slot-small (suc (suc zero)) h = omega (arith, m .asking ask (omega arith) (omega arith))
+  slot-small (suc (suc (suc zero))) h = omega (arith, m .asking result (omega arith) (omega arith))
+  slot-small (suc (suc (suc (suc zero)))) h = omega (arith, m .asking returned (omega arith) (omega arith))
+  slot-small (suc (suc (suc (suc (suc c))))) h =
+      let e : suc (suc (suc (suc (suc c)))) ≡ flatSlot + c = omega arith in
       rw (e, m .flats c (omega arith)) (omega (arith, flat-entries 0 4 c))
 
   pub asked-small : (w : Want) → Wants s rs w → entries (asked s rs w) ≤ maxPieces + maxDepth + 4
@@ -149,7 +151,7 @@ module _ {s rs : List ℕ} (m : Memory s rs) where
       let z : 0 + n ≡ n = omega arith in
       omega (arith, total-sum n (omega arith), ap (λ (k : ℕ). entries (getD (read s rs) k none)) z, ap entries (read-at s rs n (omega arith)))
 
-  pub total-small : total s rs ≤ counted (read s rs) + (2 * maxPieces + 4 * flatCount)
+  pub total-small : total s rs ≤ counted (read s rs) + (3 * (maxPieces + 4) + 4 * flatCount)
   total-small =
       let e : length rs ≡ flatSlot + (flatCount + (length rs - globalsSlot)) = omega (arith, m .slots) in
       let a = total-sum (length rs) (omega arith) in
@@ -169,10 +171,11 @@ module _ {s rs : List ℕ} (m : Memory s rs) where
       at : (k : ℕ) → k < stackSlot → entries (getD (read s rs) k none) ≡ entries (part s (getD rs k 0))
       at k h = ap entries (read-at s rs k (slot-low k h .0))
 
-      sum-first : sumFrom (read s rs) 0 flatSlot ≤ 2 * maxPieces
+      sum-first : sumFrom (read s rs) 0 flatSlot ≤ 3 * (maxPieces + 4)
       sum-first =
           omega (
             arith,
+            sum-suc (read s rs) 0 4,
             sum-suc (read s rs) 0 3,
             sum-suc (read s rs) 0 2,
             sum-suc (read s rs) 0 1,
@@ -182,10 +185,12 @@ module _ {s rs : List ℕ} (m : Memory s rs) where
             at 1 (omega arith),
             at 2 (omega arith),
             at 3 (omega arith),
+            at 4 (omega arith),
             ap entries (m .first),
             ap entries (m .second),
-            m .asking,
-            m .returning,
+            m .asking ask (omega arith) (omega arith),
+            m .asking result (omega arith) (omega arith),
+            m .asking returned (omega arith) (omega arith),
             no-entries,
           )
 
@@ -200,9 +205,8 @@ same-memory {s} {rs} {t} {us} m g l e h =
       slots = omega (arith, m .slots);
       first = at allSlot (omega arith) ∙ m .first;
       second = at existSlot (omega arith) ∙ m .second;
-      asking = rw (at ask (omega arith)) (m .asking);
-      fine = rw (at ask (omega arith)) (m .fine);
-      returning = rw (at returned (omega arith)) (m .returning);
+      asking = λ j a b. rw (at j (omega arith)) (m .asking j a b);
+      fine = λ j a b. rw (at j (omega arith)) (m .fine j a b);
       flats = λ c b. at (flatSlot + c) (omega arith) ∙ m .flats c b;
       records = λ k a b. rw (at k (omega arith)) (m .records k a b);
       fits = omega (arith, m .fits);
@@ -215,7 +219,7 @@ pub kept-memory : {s rs t : List ℕ} → Memory s rs → Kept s t → Memory t 
 kept-memory m x = same-memory m (x .good) (x .long) refl (λ k b. (omega (arith, m .below k b, x .tops), x .same _ (m .below k b)))
 
 -- THE ROOM: what 16 counts, what is asked and returned, and the flat parts leave room for a visit
-module _ {s rs t us : List ℕ} (m : Memory s rs) (few : counted (read s rs) ≤ maxPieces) (d : Collected s rs t us) where
+module _ {s rs t us : List ℕ} (m : Memory s rs) (few : counted (read s rs) ≤ most) (d : Collected s rs t us) where
   pub tidied : Tidied s rs t us
   tidied = record {
     memory = same-memory m (d .good) (d .long) (d .roots) (d .same);
@@ -245,9 +249,8 @@ set-memory {s} {rs} {t} {k} {r} m x h l b q =
       slots = omega (arith, m .slots, length-set rs k r);
       first = at allSlot (omega arith) ∙ m .first;
       second = at existSlot (omega arith) ∙ m .second;
-      asking = rw (at ask (omega arith)) (m .asking);
-      fine = rw (at ask (omega arith)) (m .fine);
-      returning = rw (at returned (omega arith)) (m .returning);
+      asking = λ j a b. rw (at j (omega arith)) (m .asking j a b);
+      fine = λ j a b. rw (at j (omega arith)) (m .fine j a b);
       flats = λ c i. at (flatSlot + c) (omega arith) ∙ m .flats c i;
       records = λ j a i.
           elim (ℕ-discrete j k) [
@@ -295,8 +298,8 @@ module _ (s rs : List ℕ) (k : ℕ) where
   pub want-slot : k < globalsSlot → over (part s (getD rs k 0)) ≡ false → Wants s rs (wantOf k)
   want-slot l o = record { long = length-replicate {A = ℕ} (2 * maxDepth) 0; slot = l; deep = omega arith; high = omega arith; fine = rw asked-slot o }
 
--- a slot of what is asked with, or of what is returned, was set
-pub hold-memory : {s rs : List ℕ} {k r : ℕ} → Memory s rs → ask ≤ k → k ≤ returned → r < top s → entries (part s r) ≤ maxPieces → over (part s r) ≡ false → Memory s (set rs k r)
+-- a slot of what is asked with, of the result too, or of what is returned, was set
+pub hold-memory : {s rs : List ℕ} {k r : ℕ} → Memory s rs → ask ≤ k → k ≤ returned → r < top s → entries (part s r) ≤ maxPieces + 4 → over (part s r) ≡ false → Memory s (set rs k r)
 hold-memory {s} {rs} {k} {r} m l b h few o =
     let i : k < length rs = omega (arith, m .slots) in
     let new : getD (set rs k r) k 0 ≡ r = getD-set-same rs k r 0 i in
@@ -311,9 +314,8 @@ hold-memory {s} {rs} {k} {r} m l b h few o =
       slots = omega (arith, m .slots, length-set rs k r);
       first = rw (old allSlot (omega arith)) (m .first);
       second = rw (old existSlot (omega arith)) (m .second);
-      asking = elim (ℕ-discrete ask k) [ yes e ↦ rw (e, new) few | no ne ↦ rw (old ask ne) (m .asking) ];
-      fine = elim (ℕ-discrete ask k) [ yes e ↦ rw (e, new) o | no ne ↦ rw (old ask ne) (m .fine) ];
-      returning = elim (ℕ-discrete returned k) [ yes e ↦ rw (e, new) few | no ne ↦ rw (old returned ne) (m .returning) ];
+      asking = λ j x y. elim (ℕ-discrete j k) [ yes e ↦ rw (e, new) few | no ne ↦ rw (old j ne) (m .asking j x y) ];
+      fine = λ j x y. elim (ℕ-discrete j k) [ yes e ↦ rw (e, new) o | no ne ↦ rw (old j ne) (m .fine j x y) ];
       flats = λ c x. rw (old (flatSlot + c) (omega arith)) (m .flats c x);
       records = λ j x y. rw (old j (omega arith)) (m .records j x y);
       fits = m .fits;
@@ -323,16 +325,16 @@ hold-memory {s} {rs} {k} {r} m l b h few o =
 pub counted-split : (ps : List PartReq) → stackSlot ≤ length ps
     → counted ps
     ≡ entries (getD ps globalsSlot none)
-    + (sumFrom ps exprsSlot fileExpressions
-    + (sumFrom ps totalsSlot fileExpressions + (sumFrom ps functionsSlot (4 * maxFunctions) + sumFrom ps stackSlot (length ps - stackSlot))))
+    + (sumFrom ps exprsSlot maxItems
+    + (sumFrom ps totalsSlot maxItems + (sumFrom ps functionsSlot (4 * maxFunctions) + sumFrom ps stackSlot (length ps - stackSlot))))
 counted-split ps l =
-    let e : length ps - globalsSlot ≡ 1 + (fileExpressions + (fileExpressions + (4 * maxFunctions + (length ps - stackSlot)))) = omega arith in
+    let e : length ps - globalsSlot ≡ 1 + (maxItems + (maxItems + (4 * maxFunctions + (length ps - stackSlot)))) = omega arith in
     omega (
       arith,
       ap (λ (n : ℕ). sumFrom ps globalsSlot n) e,
-      sum-split ps globalsSlot 1 (fileExpressions + (fileExpressions + (4 * maxFunctions + (length ps - stackSlot)))),
-      sum-split ps exprsSlot fileExpressions (fileExpressions + (4 * maxFunctions + (length ps - stackSlot))),
-      sum-split ps totalsSlot fileExpressions (4 * maxFunctions + (length ps - stackSlot)),
+      sum-split ps globalsSlot 1 (maxItems + (maxItems + (4 * maxFunctions + (length ps - stackSlot)))),
+      sum-split ps exprsSlot maxItems (maxItems + (4 * maxFunctions + (length ps - stackSlot))),
+      sum-split ps totalsSlot maxItems (4 * maxFunctions + (length ps - stackSlot)),
       sum-split ps functionsSlot (4 * maxFunctions) (length ps - stackSlot),
       sum-suc ps globalsSlot 0,
       sum-none ps globalsSlot,

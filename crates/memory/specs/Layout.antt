@@ -1,6 +1,7 @@
 -- How the slots of a walk's memory are laid out, and how large it is. No proof computes with one of these values.
-use Prim.Native.Nat.{ℕ, _+_, _*_, _/_}
-use Rattle.field.specs.Limits.{maxBytes, maxFunctions, maxBlocks, maxDepth, maxPieces}
+use Prim.Native.Nat.{ℕ, _+_, _*_}
+use Rattle.field.specs.Limits.{maxFunctions, maxBlocks, maxDepth, maxPieces}
+use Rattle.module.specs.Tables.{maxItems}
 
 -- the slots of all and of exist
 abbrev pub allSlot : ℕ
@@ -13,13 +14,17 @@ existSlot = 1
 abbrev pub ask : ℕ
 ask = 2
 
+-- what the result of the statement is asked for; or a context that is put aside, as one piece with an entry for each of its maps
+abbrev pub result : ℕ
+result = 3
+
 -- what a called function needs of its arguments
 abbrev pub returned : ℕ
-returned = 3
+returned = 4
 
 -- the flat parts: those that a swizzle can ask, by the code of their four digits
 abbrev pub flatSlot : ℕ
-flatSlot = 4
+flatSlot = 5
 
 abbrev pub flatCount : ℕ
 flatCount = 81
@@ -28,20 +33,17 @@ flatCount = 81
 abbrev pub globalsSlot : ℕ
 globalsSlot = flatSlot + flatCount
 
--- the records of the open functions, by the number of the expression in the file: no file has more, since an expression's record takes 8 bytes or more
-abbrev pub fileExpressions : ℕ
-fileExpressions = maxBytes / 8
-
+-- the records of the open functions, by the expression's number among the file's items
 abbrev pub exprsSlot : ℕ
 exprsSlot = globalsSlot + 1
 
 -- the records of the functions' totals
 abbrev pub totalsSlot : ℕ
-totalsSlot = exprsSlot + fileExpressions
+totalsSlot = exprsSlot + maxItems
 
 -- the contexts of the functions' totals, four slots each
 abbrev pub functionsSlot : ℕ
-functionsSlot = totalsSlot + fileExpressions
+functionsSlot = totalsSlot + maxItems
 
 -- the open contexts, four slots each
 abbrev pub stackSlot : ℕ
@@ -54,9 +56,14 @@ stackContexts = 3 * maxBlocks + 4
 abbrev pub slotCount : ℕ
 slotCount = stackSlot + 4 * stackContexts
 
--- the most cells that stay after a collection: what 16 counts, what is asked, what is returned, and the flat parts
+-- The most entries that the slots have when what is not needed is freed. Between two visits they may pass what 16 allows: a join is counted only as the
+-- next visit begins.
+abbrev pub most : ℕ
+most = 4 * maxPieces
+
+-- the most cells that stay after a collection: those entries, what is asked, of the result too, what is returned, and the flat parts
 abbrev pub live : ℕ
-live = 3 * maxPieces + 4 * flatCount
+live = most + 3 * (maxPieces + 4) + 4 * flatCount
 
 -- the most cells that a visit makes by itself
 abbrev pub room : ℕ

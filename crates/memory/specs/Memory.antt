@@ -73,9 +73,8 @@ pub record Memory (s rs : List ℕ) : Type 0 where
   pub slots : stackSlot ≤ length rs
   pub first : part s (getD rs allSlot 0) ≡ all
   pub second : part s (getD rs existSlot 0) ≡ exist
-  pub asking : entries (part s (getD rs ask 0)) ≤ maxPieces
-  pub fine : over (part s (getD rs ask 0)) ≡ false
-  pub returning : entries (part s (getD rs returned 0)) ≤ maxPieces
+  pub asking : (k : ℕ) → ask ≤ k → k ≤ returned → entries (part s (getD rs k 0)) ≤ maxPieces + 4
+  pub fine : (k : ℕ) → ask ≤ k → k ≤ returned → over (part s (getD rs k 0)) ≡ false
   pub flats : (c : ℕ) → c < flatCount → part s (getD rs (flatSlot + c) 0) ≡ flatOf c
   pub records : (k : ℕ) → exprsSlot ≤ k → k < functionsSlot → Recorded (part s (getD rs k 0))
   pub fits : storeSize ≤ length s
@@ -103,8 +102,7 @@ pub record Flats (s rs t us : List ℕ) (n : ℕ) : Type 0 where
 -- nothing is asked, recorded or held yet
 pub record Empty (s rs : List ℕ) : Type 0 where
   pub memory : Memory s rs
-  pub none-asked : part s (getD rs ask 0) ≡ none
-  pub none-returned : part s (getD rs returned 0) ≡ none
+  pub none-asked : (k : ℕ) → ask ≤ k → k ≤ returned → part s (getD rs k 0) ≡ none
   pub none-counted : (k : ℕ) → globalsSlot ≤ k → k < length rs → part s (getD rs k 0) ≡ none
   pub roomy : Room s room
 

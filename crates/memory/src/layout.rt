@@ -1,9 +1,9 @@
 // How the slots of a walk's memory are laid out, each with its definition in specs/Layout.antt.
 use field::limits::MAX_BLOCKS;
-use field::limits::MAX_BYTES;
 use field::limits::MAX_DEPTH;
 use field::limits::MAX_FUNCTIONS;
 use field::limits::MAX_PIECES;
+use module::tables::MAX_ITEMS;
 
 pub const ALL: usize = 0;
 
@@ -12,28 +12,28 @@ pub const EXIST: usize = 1;
 // The part that a statement asks with.
 pub const ASK: usize = 2;
 
+// What the result of the statement is asked for; or a context that is put aside.
+pub const RESULT: usize = 3;
+
 // What a called function needs of its arguments.
-pub const RETURNED: usize = 3;
+pub const RETURNED: usize = 4;
 
 // The flat parts, those that a swizzle can ask: from FLAT on, by the code of their four digits.
-pub const FLAT: usize = 4;
+pub const FLAT: usize = 5;
 
 pub const FLATS: usize = 81;
 
 // The pruner's total of globals.
 pub const GLOBALS: usize = FLAT + FLATS;
 
-// The most expressions of a file: the record of one takes 8 bytes or more.
-pub const FILE_EXPRESSIONS: usize = MAX_BYTES / 8;
-
-// The records of the open functions, by the number of the expression in the file: the empty part, or {0: part}.
+// The records of the open functions, by the expression's number among the file's items: the empty part, or {0: part}.
 pub const EXPRS: usize = GLOBALS + 1;
 
 // The records of the functions' totals.
-pub const TOTALS: usize = EXPRS + FILE_EXPRESSIONS;
+pub const TOTALS: usize = EXPRS + MAX_ITEMS;
 
 // The contexts of the functions' totals, four slots each.
-pub const FUNCTIONS: usize = TOTALS + FILE_EXPRESSIONS;
+pub const FUNCTIONS: usize = TOTALS + MAX_ITEMS;
 
 // The open contexts, four slots each.
 pub const STACK: usize = FUNCTIONS + 4 * MAX_FUNCTIONS;
@@ -43,7 +43,7 @@ pub const STACK_CONTEXTS: usize = 3 * MAX_BLOCKS + 4;
 pub const SLOTS: usize = STACK + 4 * STACK_CONTEXTS;
 
 // The most cells that stay after a collection, and those that a visit may make by itself.
-pub const LIVE: usize = 3 * MAX_PIECES + 4 * FLATS;
+pub const LIVE: usize = 7 * MAX_PIECES + 12 + 4 * FLATS;
 
 pub const ROOM: usize = 4 * MAX_PIECES + 4 * MAX_DEPTH + 16;
 

@@ -22,7 +22,7 @@ ghost use Rattle.part.specs.PartReq.{none, more, entries, spine};
 ghost use Rattle.walk.specs.Expression.{joined};
 ghost use Rattle.part.specs.Store.{top, part, Good, Room, Made};
 ghost use Rattle.part.specs.StoreLimits.{storeWords, entriesCap};
-ghost use Rattle.memory.specs.Layout.{flatCount, stackSlot, storeSize};
+ghost use Rattle.memory.specs.Layout.{flatCount, stackSlot, storeSize, most};
 ghost use Rattle.memory.specs.Flat.{flatFrom};
 ghost use Rattle.memory.specs.Want.{asked};
 ghost use Rattle.memory.specs.Memory.{read, sumFrom, counted, Memory, Tidied, Filled, Flats, Empty, Putting, Noting, Noted, joinRoom, Joining, Totalling, Totalled};
@@ -85,7 +85,7 @@ pub fn init_memory(cells: &mut [u32], slots: &mut [u32])
 // Room for one visit: where there is too little, what no slot needs is freed.
 pub fn tidy(cells: &mut [u32], slots: &mut [u32])
     requires { ⌜ Memory (now cells) (now slots) ⌝ }
-    requires { ⌜ counted (read (now cells) (now slots)) ≤ maxPieces ⌝ }
+    requires { ⌜ counted (read (now cells) (now slots)) ≤ most ⌝ }
     ensures { λ _. ⌜ Tidied (now (cells .entry)) (now (slots .entry)) (now (cells .exit)) (now (slots .exit)) ⌝ }
 {
     let used = cells[0] as usize;

@@ -1,0 +1,3 @@
+pub mod Own
+pub mod Others
+pub mod Ends

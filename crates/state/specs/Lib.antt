@@ -1,0 +1,4 @@
+pub mod State
+pub mod Ready
+pub mod Frame
+pub mod Stored
