@@ -1,0 +1,9 @@
+pub mod Buffers
+pub mod Counts
+pub mod Fit
+pub mod Placed
+pub mod Rays
+pub mod Stretches
+pub mod Sums
+pub mod Turns
+pub mod Write
