@@ -1,0 +1,16 @@
+pub mod Placed
+pub mod Leaving
+pub mod Asking
+pub mod Holding
+pub mod Uses
+pub mod Returning
+pub mod Paths
+pub mod Aiming
+pub mod Taking
+pub mod Storing
+pub mod Fields
+pub mod RayArms
+pub mod ByKind
+pub mod Loading
+pub mod AtomicArms
+pub mod Said
