@@ -1,0 +1,9 @@
+pub mod Standing
+pub mod Blocks
+pub mod Saved
+pub mod Branches
+pub mod Aside
+pub mod Total
+pub mod Adding
+pub mod AddTotal
+pub mod Left

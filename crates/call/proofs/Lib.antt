@@ -1,0 +1,4 @@
+pub mod Rests
+pub mod Passing
+pub mod Rows
+pub mod Ending

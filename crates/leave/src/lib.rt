@@ -1,0 +1,2 @@
+// A called function is left.
+pub mod leave;
