@@ -6,3 +6,5 @@ pub mod Walking
 pub mod Arguments
 pub mod Writing
 pub mod Members
+pub mod Sums
+pub mod Returning

@@ -29,7 +29,7 @@ use Rattle.bindings.specs.Parts.{partOf, lowerPart, Held, Chosen, From, 
 use Rattle.bindings.proofs.Rows.{no-binding, present, members-long, members-at, from-step}
 
 -- one member
-past-part : (parts : List ℕ) (t u : ℕ) → t ≤ u → (s : List ℕ) → lowerPart s parts t u ≡ nothing
+pub past-part : (parts : List ℕ) (t u : ℕ) → t ≤ u → (s : List ℕ) → lowerPart s parts t u ≡ nothing
 unfolding below
 past-part parts t u h s = rw (le-ltb u t h)
 
@@ -66,7 +66,7 @@ module _ (parts : List ℕ) (required : Bindings) (t b u : ℕ) where
       }
 
 -- a piece that is not the empty part means something
-some-piece : (s : List ℕ) (n : ℕ) → (n ≡ 2 → ⊥) → unlessEmpty (part s n) ≡ some (part s n)
+pub some-piece : (s : List ℕ) (n : ℕ) → (n ≡ 2 → ⊥) → unlessEmpty (part s n) ≡ some (part s n)
 unfolding part means unlessEmpty
 some-piece s zero h = refl
 some-piece s (suc zero) h = refl

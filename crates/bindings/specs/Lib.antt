@@ -6,3 +6,4 @@ pub mod Rows
 pub mod Walks
 pub mod Parts
 pub mod Inputs
+pub mod Outputs

@@ -2,4 +2,5 @@
 pub mod inputs;
 pub mod outputs;
 pub mod set;
+pub mod sum;
 pub mod types;

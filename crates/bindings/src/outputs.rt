@@ -1,19 +1,39 @@
-// `from_type_bindings`, once per type: a table has the piece of each type, lowest first. The empty part stands for none.
+// `from_type_bindings`, once per type: a table has the piece of each type, lowest first. The empty part stands for none. Then
+// `output_from_bindings` and `add_binding`, with what each turns away.
 ghost use mathlib.Core.Path.{_≡_};
 ghost use Prim.Native.Nat.{ℕ, _+_, _*_, _≤_, _<_};
 ghost use lib.ListN.{length};
-ghost use Rattle.field.specs.Limits.{maxMembers};
-ghost use Rattle.part.specs.Store.{top, Good, Room};
+ghost use Rattle.field.specs.Limits.{maxMembers, maxPieces};
+ghost use Rattle.part.specs.PartReq.{none};
+ghost use Rattle.part.specs.Store.{top, part, Good, Room, Made};
+ghost use Rattle.module.specs.Operands.{bindings};
 ghost use Rattle.module.specs.Decode.{optionOf};
 ghost use Rattle.context.specs.Types.{typesOf, typeCount, AllSized};
+ghost use Rattle.bindings.specs.Bindings.{single};
 ghost use Rattle.bindings.specs.TypeBindings.{stepFrom};
+ghost use Rattle.bindings.specs.ContextBindings.{returned, resultFrom, outputFromBindings, addBinding, asRequest};
+ghost use Rattle.bindings.specs.Outputs.{resultBy, BoundResult, outputCells, requestContext, Asked};
 ghost use Rattle.bindings.specs.Rows.{Bound, AllBound};
 ghost use Rattle.bindings.specs.Parts.{lowerPart, Held, From, Chosen, Parts};
 use crate::set::contains;
+use crate::set::own_binding;
+use crate::sum::sum_sizes;
 use crate::types::member_at;
 use crate::types::member_count;
 use field::limits::ABSENT;
+use field::limits::MAX_PIECES;
+use part::limits::SPINE;
+use part::req::join;
+use part::store::entries;
 use part::store::make;
+use part::store::over;
+
+// Refused by 15 and 16; or the piece of the returned value's entry.
+pub enum Asking {
+    PastLimits,
+    PastPieces,
+    Retval(u32),
+}
 
 // The piece of what has this binding, or else this type, which is named by the type t.
 pub fn from_binding(parts: &[u32], required: u64, binding: u32, u: u32, t: u32) -> u32
@@ -71,4 +91,90 @@ pub fn from_table(cells: &mut [u32], types: &[u32], required: u64, parts: &mut [
         parts[at] = r;
         t += 1;
     }
+}
+
+// The piece of the returned value's entry, by the result's type, which is absent where there is none, and its binding.
+fn returned_from(
+    cells: &mut [u32],
+    types: &[u32],
+    required: u64,
+    ty: u32,
+    binding: u32,
+    parts: &mut [u32],
+) -> u32
+    requires { ⌜ Good (now cells) ⌝ }
+    requires { ⌜ AllBound (typesOf (now types)) ⌝ }
+    requires { ⌜ AllSized (typesOf (now types)) ⌝ }
+    requires { ⌜ (length (now parts) ≡ typeCount (now types)) × (length (now parts) ≤ 4294967295) ⌝ }
+    requires { ⌜ BoundResult (resultBy ty binding) × Room (now cells) (outputCells (now parts)) ⌝ }
+    ensures { λ r. ⌜ Made (now (cells .entry)) (now (cells .exit)) (returned (resultFrom (typesOf (now (types .entry))) required (resultBy ty binding))) (outputCells (now (parts .entry))) r ⌝ }
+{
+    if ty == ABSENT as u32 {
+        return 2;
+    }
+    from_table(cells, types, required, parts);
+    let q = from_binding(parts, required, binding, ty, parts.len() as u32);
+    if q == 2 {
+        return 2;
+    }
+    make(cells, SPINE, q, 2)
+}
+
+// `output_from_bindings`
+pub fn output_from_bindings(
+    cells: &mut [u32],
+    types: &[u32],
+    required: u64,
+    ty: u32,
+    binding: u32,
+    parts: &mut [u32],
+) -> Asking
+    requires { ⌜ Good (now cells) ⌝ }
+    requires { ⌜ AllBound (typesOf (now types)) ⌝ }
+    requires { ⌜ AllSized (typesOf (now types)) ⌝ }
+    requires { ⌜ (length (now parts) ≡ typeCount (now types)) × (length (now parts) ≤ 4294967295) ⌝ }
+    requires { ⌜ BoundResult (resultBy ty binding) × Room (now cells) (outputCells (now parts)) ⌝ }
+    ensures { λ r. ⌜ Asked (now (cells .entry)) (now (cells .exit)) ty binding none (λ f. asRequest (outputFromBindings (typesOf (now (types .entry))) required f) (outputFromBindings (typesOf (now (types .entry))) required f)) r ⌝ }
+{
+    let new = returned_from(cells, types, required, ty, binding, parts);
+    if over(cells, new) {
+        return Asking::PastLimits;
+    }
+    if MAX_PIECES < entries(cells, new) as usize {
+        return Asking::PastPieces;
+    }
+    Asking::Retval(new)
+}
+
+// `add_binding`. The sum is made where it is within the limits, and then has at most that many entries.
+pub fn add_binding(
+    cells: &mut [u32],
+    types: &[u32],
+    b: u32,
+    ty: u32,
+    binding: u32,
+    parts: &mut [u32],
+    globals: u32,
+    retval: u32,
+) -> Asking
+    requires { ⌜ Good (now cells) ⌝ }
+    requires { ⌜ AllBound (typesOf (now types)) ⌝ }
+    requires { ⌜ AllSized (typesOf (now types)) ⌝ }
+    requires { ⌜ (length (now parts) ≡ typeCount (now types)) × (length (now parts) ≤ 4294967295) ⌝ }
+    requires { ⌜ BoundResult (resultBy ty binding) × Room (now cells) (outputCells (now parts) + maxPieces) ⌝ }
+    requires { ⌜ (b < bindings) × ((globals < top (now cells)) × (retval < top (now cells))) ⌝ }
+    ensures { λ r. ⌜ Asked (now (cells .entry)) (now (cells .exit)) ty binding (part (now (cells .entry)) globals) (λ f. asRequest (outputFromBindings (typesOf (now (types .entry))) (single b) f) (addBinding (typesOf (now (types .entry))) b f (requestContext (part (now (cells .entry)) globals) (part (now (cells .entry)) retval)))) r ⌝ }
+{
+    let new = returned_from(cells, types, own_binding(b), ty, binding, parts);
+    if over(cells, new) {
+        return Asking::PastLimits;
+    }
+    let m = sum_sizes(cells, retval, new);
+    if 0 < m.over {
+        return Asking::PastLimits;
+    }
+    if MAX_PIECES < (entries(cells, globals) + m.entries) as usize {
+        return Asking::PastPieces;
+    }
+    Asking::Retval(join(cells, retval, new))
 }
