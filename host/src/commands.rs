@@ -1,6 +1,6 @@
 //! The commands: each reads its files, does one thing and says what went wrong.
 use crate::stored::{Reading, Requests, Source};
-use crate::{assemble, check, count, form, list, model, store};
+use crate::{assemble, bindings, check, compare, count, form, list, model, store};
 
 const USAGE: &str = "\
 host assemble [--any] LISTING OUT   a listing to a file; --any: also one that reading would refuse
@@ -11,6 +11,8 @@ host stored reading ORACLE OUT SOURCE...    stored lists, from files and folders
 host stored requests ORACLE OUT SOURCE...   ORACLE is the oracle's program
 host stored report ORACLE OUT SOURCE...
 host stored count READING REQUESTS          a table of what the two lists reach
+host compare reading ORACLE SEED COUNT SOURCE...    the library against the oracle: the sources' modules and damaged copies of them
+host compare bindings ORACLE SEED COUNT SOURCE...   the same for the operations on bindings, asked anew of the sources' modules
 ";
 
 pub fn run(words: &[&str]) -> Result<(), String> {
@@ -24,6 +26,8 @@ pub fn run(words: &[&str]) -> Result<(), String> {
         ["stored", "requests", oracle, out, ref sources @ ..] => store_list(store::requests, oracle, out, sources),
         ["stored", "report", oracle, out, ref sources @ ..] => store_list(store::report, oracle, out, sources),
         ["stored", "count", reading, requests] => count_lists(reading, requests),
+        ["compare", "reading", oracle, seed, count, ref sources @ ..] => compare_reading(oracle, seed, count, sources),
+        ["compare", "bindings", oracle, seed, count, ref sources @ ..] => compare_bindings(oracle, seed, count, sources),
         _ => Err(USAGE.into()),
     }
 }
@@ -74,9 +78,22 @@ fn count_lists(reading: &str, requests: &str) -> Result<(), String> {
     print(&count::table(&readings, &asked))
 }
 
+fn number<T: std::str::FromStr>(word: &str) -> Result<T, String> {
+    word.parse().map_err(|_| format!("'{word}' is no number"))
+}
+
+fn compare_reading(oracle: &str, seed: &str, count: &str, sources: &[&str]) -> Result<(), String> {
+    let counts = compare::reading(oracle, number(seed)?, number(count)?, &store::sources(sources)?)?;
+    print(&count::lines(&counts))
+}
+
+fn compare_bindings(oracle: &str, seed: &str, count: &str, sources: &[&str]) -> Result<(), String> {
+    let reached = bindings::compare(oracle, number(seed)?, number(count)?, &store::sources(sources)?)?;
+    print(&reached.iter().map(|(name, count)| format!("{name}: {count}\n")).collect::<String>())
+}
+
 fn generate(statements: &str, seed: &str) -> Result<(), String> {
-    let count: usize = statements.parse().map_err(|_| format!("'{statements}' is no number"))?;
-    let number: u64 = seed.parse().map_err(|_| format!("'{seed}' is no seed"))?;
+    let (count, number): (usize, u64) = (number(statements)?, number(seed)?);
     let bytes = model::generate(count, number)?;
     print(&format!("# host generate {count} {number}\n{}", list::list(&bytes)))
 }

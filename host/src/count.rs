@@ -17,13 +17,15 @@ impl Counts {
     /// The strings that are accepted, and every answer.
     pub fn of_reading(cases: &[Reading]) -> Counts {
         let mut counts = Counts::default();
-        for case in cases {
-            *counts.refusals.entry(case.refusal).or_default() += 1;
-            if case.refusal == 0 {
-                counts.add(&case.module);
-            }
-        }
+        cases.iter().for_each(|case| counts.reading(case));
         counts
+    }
+
+    pub fn reading(&mut self, case: &Reading) {
+        *self.refusals.entry(case.refusal).or_default() += 1;
+        if case.refusal == 0 {
+            self.add(&case.module);
+        }
     }
 
     pub fn of_requests(cases: &[Requests]) -> Counts {
@@ -48,6 +50,24 @@ impl Counts {
             }
         }
     }
+}
+
+/// A line for each record, kind and answer of reading.
+pub fn lines(counts: &Counts) -> String {
+    let mut text = String::new();
+    let mut line = |name: &str, count: Option<&usize>| writeln!(text, "{name}: {}", count.unwrap_or(&0)).expect("text");
+    for form in FORMS.iter().filter(|f| f.mark != Mark::Request) {
+        let name = String::from_utf8_lossy(&form.letters).into_owned();
+        line(&name, counts.records.get(&form.mark));
+        for (code, kind) in form.kinds.iter().enumerate() {
+            line(&format!("{name} {code} {}", kind.name), counts.kinds.get(&(form.mark, code as u16)));
+        }
+    }
+    line("accepted", counts.refusals.get(&0));
+    for number in 1..=5 {
+        line(&format!("refused {number}"), counts.refusals.get(&number));
+    }
+    text
 }
 
 /// What can occur: reading has no requests, and each list its own refusals.

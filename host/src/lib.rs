@@ -1,12 +1,16 @@
 //! The laboratory's side of Tickingtor: listings to files and back, example models, stored test lists.
 pub mod asks;
 pub mod assemble;
+pub mod bindings;
 pub mod check;
 pub mod commands;
+pub mod compare;
+pub mod context;
 pub mod count;
 pub mod damage;
 pub mod draft;
 pub mod form;
+pub mod library;
 pub mod limits;
 pub mod list;
 pub mod model;

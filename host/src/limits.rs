@@ -11,6 +11,8 @@ pub const STATEMENTS: usize = 1024;
 pub const ITEMS: usize = 16;
 /// The highest binding: 0 to 31 are locations, 32 to 63 built-ins.
 pub const BINDING: u16 = 63;
+/// The least buffer for a report, and for a request that is written.
+pub const REPORT: usize = 65536;
 pub const DEPTH: usize = 8;
 pub const ENTRIES: usize = 16;
 

@@ -47,6 +47,31 @@ fn run(program: &str, options: &[&str], bytes: &[u8]) -> Result<String, String> 
 /// Reading's refusal of these bytes as a module, 0 for none. The oracle would take an RQ as the start of the requests, while in a
 /// module it is a record like any other that does not belong there: it is asked with another unknown mark in its place.
 pub fn reading(program: &str, bytes: &[u8]) -> Result<u16, String> {
+    refusal(&run(program, &[], &without_requests(bytes))?)
+}
+
+/// The same of many, in one run of the program.
+pub fn readings(program: &str, modules: &[Vec<u8>]) -> Result<Vec<u16>, String> {
+    let folder = std::env::temp_dir().join(format!("host-{}", std::process::id()));
+    let fault = |e: std::io::Error| format!("{}: {e}", folder.display());
+    std::fs::create_dir_all(&folder).map_err(fault)?;
+    let mut command = Command::new(program);
+    for (n, module) in modules.iter().enumerate() {
+        let file = folder.join(n.to_string());
+        std::fs::write(&file, without_requests(module)).map_err(fault)?;
+        command.arg(file);
+    }
+    let done = command.output().map_err(|e| format!("{program}: {e}"))?;
+    std::fs::remove_dir_all(&folder).map_err(fault)?;
+    let text = String::from_utf8(done.stdout).map_err(|e| format!("{program}: {e}"))?;
+    let answers: Vec<&str> = text.lines().filter(|l| l.starts_with("refused ")).collect();
+    if answers.len() != modules.len() {
+        return Err(format!("{} answers to {} modules", answers.len(), modules.len()));
+    }
+    answers.into_iter().map(refusal).collect()
+}
+
+fn without_requests(bytes: &[u8]) -> Vec<u8> {
     let mut module = bytes.to_vec();
     let (found, rest) = records(bytes);
     let starts = found.iter().map(|r| r.at).chain([bytes.len() - rest.len()]);
@@ -55,7 +80,10 @@ pub fn reading(program: &str, bytes: &[u8]) -> Result<u16, String> {
             module[at + 1] = b'Z';
         }
     }
-    let text = run(program, &[], &module)?;
+    module
+}
+
+fn refusal(text: &str) -> Result<u16, String> {
     let number: u16 = text.trim().strip_prefix("refused ").and_then(|n| n.parse().ok()).ok_or("no answer")?;
     // a module that is read has no request after it
     Ok(if number == 12 { 0 } else { number })

@@ -1,0 +1,6 @@
+// The boundary: what a program in C or Rust calls, on byte slices and numbers. No function here asks anything of its caller.
+pub mod add;
+pub mod answer;
+pub mod file;
+pub mod input;
+pub mod output;
