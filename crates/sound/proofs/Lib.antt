@@ -9,8 +9,6 @@ pub mod Sizes
 pub mod Emits
 pub mod Bytes
 pub mod Walks
-pub mod Asks
 pub mod Resolve
 pub mod Numbers
-pub mod Items
 pub mod Blocks
