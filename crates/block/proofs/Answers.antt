@@ -22,6 +22,7 @@ use Rattle.block.specs.Adding.{FirstTotal, IsLater, Later}
 use Rattle.block.specs.AddTotal.{TotalEnds}
 use Rattle.block.specs.declared.added.Joint.{Joint}
 use Rattle.block.specs.declared.added.Joint.the-variants.{Sum, Over}
+use Rattle.block.proofs.Keeping.{beside-total}
 use Rattle.block.proofs.Finals.{first-added, first-standing, ray-meets, over-meets, later-added, later-standing}
 
 no-flag : (totals : List ℕ) (f : ℕ) → getD totals f 0 ≡ 0 → hasTotal totals f ≡ false
@@ -36,7 +37,12 @@ module _ {bytes t places s rs open-marks totals : List ℕ} {f : FunctionHandle}
   total-first e T = record {
     by = λ types held S.
         let n = no-flag totals f e in
-        record { is = first-added S n T visits (placeOf here); few = T .few; standing = λ sound small. first-standing S n T sound small };
+        record {
+          is = first-added S n T visits (placeOf here);
+          few = T .few;
+          standing = λ sound small. first-standing S n T sound small;
+          beside = beside-total S (T .added .made .memory) (T .added .made .total);
+        };
   }
 
   module _ (ne : getD totals f 0 ≡ 0 → ⊥) (r : Ray) (ray : rayIn r ≡ firstRay (moduleOf bytes t) f (bodyOf (moduleOf bytes t) f)) where
@@ -64,5 +70,6 @@ module _ {bytes t places s rs open-marks totals : List ℕ} {f : FunctionHandle}
               is = later-added S (flag totals f ne) visits (placeOf here) no-ray T;
               few = T .few;
               standing = λ sound small. later-standing S (flag totals f ne) T sound small;
+              beside = beside-total S (T .added .made .memory) (T .added .made .total);
             };
       }

@@ -70,7 +70,7 @@ module _ {bytes t types places s rs open-marks totals : List ℕ} {f sum visits 
         record {
           long = E .others .long;
           stack = λ k a b. E .others .same k (record { no-total = omega arith; no-record = λ i x z. omega arith; no-context = λ i x z. omega arith });
-          records = λ k a b. E .others .same k (record { no-total = omega arith; no-record = λ i x z. omega arith; no-context = λ i x z. omega arith });
+          records = λ k a b n. E .others .same k (record { no-total = omega arith; no-record = λ i x z. n i x (sym z); no-context = λ i x z. omega arith });
           marks-long = refl;
           marks = λ k a. refl;
         }
@@ -84,48 +84,52 @@ module _ {bytes t types places s rs open-marks totals : List ℕ} {f sum visits 
     pub held-asked : went (stateIn bytes t u us open-marks totals f at v) tt ≡ HeldAsks e p
     held-asked = rw (functions-same (read s rs) (read u us) (S .ready .was-read) totals-kept totals) (E .is)
 
-    pub held-standing : Fine p → FineContext m f (contextAt (read s rs) at)
-        → Standing bytes t types places u us open-marks totals f (at + 4 + 4) (held + contextIn u us at + contextIn u us (at + 4)) n v
-    held-standing fine below =
-        let w = S .ready .was-read in
-        let a = ap pieces held-first in
-        let b = ap pieces held-second in
-        let before : ProperState m 0 f (stateIn bytes t s rs open-marks totals f at visits) = record {
-          context = below;
-          exprs = S .proper .exprs;
-          marks = S .proper .marks;
-          globals = S .proper .globals;
-          functions = S .proper .functions;
-          visits = S .proper .visits;
-        } in
-        let left : ProperState m 0 f (stateIn bytes t u us open-marks totals f at v) =
-        expression-proper m (module-sound bytes m (w .module-is)) f both-held 0 e p (stateIn bytes t s rs open-marks totals f at visits)
-        (stateIn bytes t u us open-marks totals f at v) tt fine before (sym held-asked) in
-        record {
-          ready = record {
-            was-read = w;
-            function = S .ready .function;
-            memory = E .ready .memory;
-            low = S .ready .low;
-            high = omega (arith, S .ready .high, E .others .long);
-            sums = E .ready .sums;
-            owned = omega (arith, E .ready .owned, a, b);
-            small = omega (arith, E .ready .small, a, b);
-          };
-          typed = S .typed;
-          placed = S .placed;
-          open-long = S .open-long;
-          totals-long = S .totals-long;
-          totals-sum = rw (functions-same (read s rs) (read u us) w totals-kept totals, totals-same (read s rs) (read u us) w totals-kept) (S .totals-sum);
-          unwalked = λ g l x. rw (total-slots (read s rs) (read u us) w totals-kept g l .0, total-slots (read s rs) (read u us) w totals-kept g l .1) (S .unwalked g l x);
-          proper = record {
-            context = rw held-second (S .proper .context);
-            exprs = left .exprs;
-            marks = left .marks;
-            globals = left .globals;
-            functions = left .functions;
-            visits = left .visits;
-          };
-          closed = λ k x y. closed-kept k x y ∙ S .closed k x y;
-          above = λ k x. above-kept k (omega arith) ∙ S .above k x;
-        }
+    -- the context that was asked in is a fine one
+    module _ (fine : Fine p) (below : FineContext m f (contextAt (read s rs) at)) where
+      pub held-proper : ProperState m 0 f (stateIn bytes t u us open-marks totals f at v)
+      held-proper =
+          let before : ProperState m 0 f (stateIn bytes t s rs open-marks totals f at visits) = record {
+            context = below;
+            exprs = S .proper .exprs;
+            marks = S .proper .marks;
+            globals = S .proper .globals;
+            functions = S .proper .functions;
+            visits = S .proper .visits;
+          } in
+          expression-proper m (module-sound bytes m (S .ready .was-read .module-is)) f both-held 0 e p (stateIn bytes t s rs open-marks totals f at visits)
+          (stateIn bytes t u us open-marks totals f at v) tt fine before (sym held-asked)
+
+      pub held-standing : Standing bytes t types places u us open-marks totals f (at + 4 + 4) (held + contextIn u us at + contextIn u us (at + 4)) n v
+      held-standing =
+          let w = S .ready .was-read in
+          let a = ap pieces held-first in
+          let b = ap pieces held-second in
+          let left = held-proper in
+          record {
+            ready = record {
+              was-read = w;
+              function = S .ready .function;
+              memory = E .ready .memory;
+              low = S .ready .low;
+              high = omega (arith, S .ready .high, E .others .long);
+              sums = E .ready .sums;
+              owned = omega (arith, E .ready .owned, a, b);
+              small = omega (arith, E .ready .small, a, b);
+            };
+            typed = S .typed;
+            placed = S .placed;
+            open-long = S .open-long;
+            totals-long = S .totals-long;
+            totals-sum = rw (functions-same (read s rs) (read u us) w totals-kept totals, totals-same (read s rs) (read u us) w totals-kept) (S .totals-sum);
+            unwalked = λ g l x. rw (total-slots (read s rs) (read u us) w totals-kept g l .0, total-slots (read s rs) (read u us) w totals-kept g l .1) (S .unwalked g l x);
+            proper = record {
+              context = rw held-second (S .proper .context);
+              exprs = left .exprs;
+              marks = left .marks;
+              globals = left .globals;
+              functions = left .functions;
+              visits = left .visits;
+            };
+            closed = λ k x y. closed-kept k x y ∙ S .closed k x y;
+            above = λ k x. above-kept k (omega arith) ∙ S .above k x;
+          }

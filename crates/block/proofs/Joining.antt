@@ -25,7 +25,7 @@ use Rattle.block.proofs.Steps.{beside-popped}
 use Rattle.block.proofs.Unroll.{over-is}
 
 -- a join within the limits
-fine-merged : {bytes t : List ℕ} {f : ℕ} (c d : RequiredContext) → WasRead bytes t → FineContext (moduleOf bytes t) f c → FineContext (moduleOf bytes t) f d → overContext (mergeContext c d) ≡ false
+pub fine-merged : {bytes t : List ℕ} {f : ℕ} (c d : RequiredContext) → WasRead bytes t → FineContext (moduleOf bytes t) f c → FineContext (moduleOf bytes t) f d → overContext (mergeContext c d) ≡ false
     → FineContext (moduleOf bytes t) f (mergeContext c d)
 fine-merged {bytes} {t} {f} c d w hc hd o =
     let m = moduleOf bytes t in

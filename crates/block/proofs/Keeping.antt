@@ -28,6 +28,7 @@ use Rattle.marks.proofs.Sums.{total-there, total-missing}
 use Rattle.state.specs.State.{recordsIn, totalsSum}
 use Rattle.state.proofs.Others.{sum-same}
 use Rattle.block.specs.Standing.{totalOf, totalIn, functionsIn, stateIn, Standing}
+use Rattle.block.specs.Blocks.{Beside}
 use Rattle.block.specs.Total.{NewTotal, totalCount}
 use Rattle.block.proofs.Same.{records-same, context-same}
 use Rattle.block.proofs.Totalled.{functions-set, other-count, total-sums}
@@ -58,10 +59,10 @@ module _ {bytes t types places s rs open-marks totals : List ℕ} {f at held sum
   within : totalsSlot + itemsTo (rowAt t f) ≤ functionsSlot
   within = let h = S .ready .was-read .laid .within f (rw (functions-are t bytes) (S .ready .function)) in omega arith
 
-  pub below : (k : ℕ) → k < totalsSlot → getD (read u us) k none ≡ getD (read s rs) k none
+  below : (k : ℕ) → k < totalsSlot → getD (read u us) k none ≡ getD (read s rs) k none
   below k l = N .same k (λ e i z. omega arith) (λ i j z. omega arith)
 
-  pub beyond : (k : ℕ) → stackSlot ≤ k → getD (read u us) k none ≡ getD (read s rs) k none
+  beyond : (k : ℕ) → stackSlot ≤ k → getD (read u us) k none ≡ getD (read s rs) k none
   beyond k l =
       let h = within in
       let few : functionsSlot + 4 * f + 4 ≤ stackSlot = few-slots in
@@ -69,6 +70,15 @@ module _ {bytes t types places s rs open-marks totals : List ℕ} {f at held sum
     where
       few-slots : functionsSlot + 4 * f + 4 ≤ stackSlot
       few-slots = let h = S .ready .function in omega (arith, valid bytes (moduleOf bytes t) (S .ready .was-read .module-is) .few-functions)
+
+  pub beside-total : Beside bytes t f at s rs open-marks u us open-marks
+  beside-total = record {
+    long = sym (read-long u us) ∙ N .long ∙ read-long s rs;
+    stack = λ k x y. beyond k x;
+    records = λ k x y n. below k y;
+    marks-long = refl;
+    marks = λ k x. refl;
+  }
 
   own-records : recordsIn t exprsSlot f (read u us) ≡ recordsIn t exprsSlot f (read s rs)
   own-records =

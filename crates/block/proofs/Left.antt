@@ -11,11 +11,11 @@ use Rattle.module.specs.Module.{FunctionHandle, Module}
 use Rattle.module.specs.Tables.{rowAt, expressionsFrom, itemsTo, moduleOf}
 use Rattle.access.proofs.Access.{functions-are}
 use Rattle.context.specs.RequiredContext.{RequiredContext, emptyContext, pieces}
-use Rattle.walk.specs.State.{Records, recordPieces}
+use Rattle.walk.specs.State.{recordPieces}
 use Rattle.walk.specs.Marks.{stretch, writeMarks}
 use Rattle.walk.specs.Statement.{back}
 use Rattle.memory.specs.Layout.{globalsSlot, exprsSlot, totalsSlot, stackSlot, returned}
-use Rattle.memory.specs.Memory.{read, contextAt, withContext, Memory}
+use Rattle.memory.specs.Memory.{read, contextAt, withContext}
 use Rattle.memory.specs.Stretches.{fourSet, forgotten}
 use Rattle.memory.proofs.Slots.{read-long}
 use Rattle.memory.proofs.Records.{records-pieces}
@@ -31,12 +31,10 @@ use Rattle.leave.proofs.Leaving.{forgot-long, cleared-long, left-long, left-sam
 use Rattle.block.specs.Standing.{functionsIn, stateIn, Standing}
 use Rattle.block.specs.Blocks.{Beside}
 use Rattle.block.specs.Saved.{Saved}
-use Rattle.block.specs.Total.{NewTotal}
 use Rattle.block.specs.Left.{Left}
 use Rattle.block.proofs.Same.{records-same, context-same, total-slots, functions-same, totals-same}
 use Rattle.block.proofs.Tops.{empty-slots, put-below}
 use Rattle.block.proofs.Steps.{items-within}
-use Rattle.block.proofs.Keeping.{below, beyond}
 use Rattle.block.proofs.Calling.{items-before}
 
 -- bytes that are the same from `from` on
@@ -97,7 +95,11 @@ module _ {bytes t types places s rs open-marks totals : List ℕ} {f at held sum
   higher-back : (k : ℕ) → exprsSlot + itemsTo (rowAt t g) ≤ k → k < totalsSlot → getD (read u left) k none ≡ getD (read s rs) k none
   higher-back k a b =
       let l = low in
-      still k (omega arith) (omega arith) (λ e x y. omega arith) ∙ L .beside .records k a b
+      let n : (e : ℕ) → e < rowAt t g .expressions → from + e ≡ k → ⊥ = λ e x y. omega arith in
+      still k (omega arith) (omega arith) n ∙ L .beside .records k (omega arith) b n
+
+  higher-same : (k : ℕ) → exprsSlot + itemsTo (rowAt t g) ≤ k → k < totalsSlot → getD (read u us) k none ≡ getD (read s rs) k none
+  higher-same k a b = L .beside .records k (omega arith) b (λ e x y. omega arith)
 
   context-back : contextAt (read u left) at ≡ contextAt (read s rs) at
   context-back =
@@ -138,7 +140,7 @@ module _ {bytes t types places s rs open-marks totals : List ℕ} {f at held sum
       record {
         long = left-long t us g (at + 4) (at + 8) ∙ L .beside .long;
         stack = λ k x y. stack-back k x (omega arith);
-        records = λ k x y. higher-back k (omega arith) y;
+        records = λ k x y n. higher-back k (omega arith) y;
         marks-long = L .beside .marks-long;
         marks = λ k x. L .beside .marks k (omega (arith, start-within m (suc g) (suc f) (omega (arith, L .lower))));
       }
@@ -159,7 +161,7 @@ module _ {bytes t types places s rs open-marks totals : List ℕ} {f at held sum
           let l = low in
           let c = before in
           let w = within in
-          still k (omega arith) (omega arith) none-there ∙ L .idle k a b none-there
+          still k (omega arith) (omega arith) none-there ∙ L .beside .records k a (omega arith) none-there ∙ L .caller .closed k (omega arith) (omega arith)
 
   lower-closed : (k : ℕ) → exprsSlot ≤ k → k < exprsSlot + rowAt t f .items → getD (read u left) k none ≡ none
   lower-closed k a b =
@@ -221,7 +223,7 @@ module _ {bytes t types places s rs open-marks totals : List ℕ} {f at held sum
           memory = left-memory (L .leaving);
           low = low;
           high = omega (arith, L .caller .ready .high, L .beside .long, left-long t us g (at + 4) (at + 8));
-          sums = omega (arith, L .callee .ready .sums, ap recordPieces (caller-records (read u us) (L .beside .records)), left-sum (L .leaving) f (L .caller .ready .function) (λ e. omega (arith, L .lower)));
+          sums = omega (arith, L .callee .ready .sums, ap recordPieces (caller-records (read u us) higher-same), left-sum (L .leaving) f (L .caller .ready .function) (λ e. omega (arith, L .lower)));
           owned = omega (arith, L .callee .ready .owned, L .most, own-pieces, left-counts (L .leaving) (omega arith));
           small = omega (arith, L .callee .ready .small, L .least);
         };
@@ -244,7 +246,7 @@ module _ {bytes t types places s rs open-marks totals : List ℕ} {f at held sum
         above = nothing-above;
       }
 
--- What a call leaves of the caller until then: g begins, and its total is made.
+-- What a call leaves of the caller as g begins.
 module _ {bytes t types places s rs open-marks totals : List ℕ} {f at held sum visits : ℕ} (S : Standing bytes t types places s rs open-marks totals f at held sum visits) where
   pub beside-entered : {g : FunctionHandle} {base : RequiredContext} {u us cleared : List ℕ} → g < f → Saved s rs (at + 4) base u us
       → cleared ≡ writeMarks open-marks (startIn places g) (replicate (sizeIn places g) 0) → Beside bytes t g (at + 4) s rs open-marks u us cleared
@@ -257,7 +259,7 @@ module _ {bytes t types places s rs open-marks totals : List ℕ} {f at held sum
       record {
         long = d .long;
         stack = λ k x y. under k y;
-        records = λ k x y. under k (omega arith);
+        records = λ k x y n. under k (omega arith);
         marks-long = ap length marks ∙ write-long open-marks (startIn places g) zeros;
         marks = λ k x.
             rw marks
@@ -271,12 +273,3 @@ module _ {bytes t types places s rs open-marks totals : List ℕ} {f at held sum
               ap (startOf (moduleOf bytes t)) one,
             )));
       }
-
-  pub beside-total : {c : RequiredContext} {es : Records} {u us : List ℕ} → Memory u us → NewTotal t f (read s rs) (read u us) c es → Beside bytes t f at s rs open-marks u us open-marks
-  beside-total {u = u} {us = us} M N = record {
-    long = sym (read-long u us) ∙ N .long ∙ read-long s rs;
-    stack = λ k x y. beyond S M N k x;
-    records = λ k x y. below S M N k y;
-    marks-long = refl;
-    marks = λ k x. refl;
-  }

@@ -1,7 +1,7 @@
 -- Steps of the walk of blocks over a state that stands: a block begins, an arm without blocks ends, and what each step leaves of the slots below and of other functions.
 use Prim.Native.Nat.{ℕ, _+_, _*_, _<_, _≤_}
 use native.Mathlib.Omega.{arith}
-use mathlib.Core.Path.{_≡_, refl, ap, _∙_}
+use mathlib.Core.Path.{_≡_, refl, sym, ap, _∙_}
 use mathlib.Core.List.{List}
 use lib.ListN.{length, getD}
 use Rattle.field.specs.Limits.{maxPieces}
@@ -21,7 +21,7 @@ use Rattle.block.specs.Standing.{restIn, stateIn, Standing}
 use Rattle.block.specs.Saved.{Popped}
 use Rattle.block.specs.Blocks.{contextIn, Deep, Entered, Beside}
 use Rattle.block.proofs.Same.{context-same, total-slots, functions-same, totals-same}
-use Rattle.block.proofs.Tops.{up, popped-below}
+use Rattle.block.proofs.Tops.{up, up-empty, popped-below}
 
 -- all items of a function have numbers
 pub items-within : {bytes t : List ℕ} (f : FunctionHandle) → WasRead bytes t → f < length (moduleOf bytes t .functions) → exprsSlot + itemsTo (rowAt t f) ≤ totalsSlot
@@ -33,7 +33,7 @@ module _ {bytes t : List ℕ} {f : FunctionHandle} where
   beside-same l e = record {
     long = l;
     stack = λ k a b. ap (λ (ps : List PartReq). getD ps k none) e;
-    records = λ k a b. ap (λ (ps : List PartReq). getD ps k none) e;
+    records = λ k a b n. ap (λ (ps : List PartReq). getD ps k none) e;
     marks-long = refl;
     marks = λ k a. refl;
   }
@@ -43,7 +43,7 @@ module _ {bytes t : List ℕ} {f : FunctionHandle} where
   beside-then to a b l = record {
     long = b .long ∙ a .long;
     stack = λ k x y. b .stack k x (omega arith) ∙ a .stack k x y;
-    records = λ k x y. b .records k x y ∙ a .records k x y;
+    records = λ k x y n. b .records k x y n ∙ a .records k x y n;
     marks-long = b .marks-long ∙ a .marks-long;
     marks = λ k x. b .marks k x ∙ a .marks k x;
   }
@@ -59,7 +59,7 @@ pub beside-popped : {bytes t types places s rs open-marks totals : List ℕ} {f 
 beside-popped S d low = record {
   long = d .long;
   stack = λ j a b. popped-below S d low j b;
-  records = λ j a b. popped-below S d low j (omega arith);
+  records = λ j a b n. popped-below S d low j (omega arith);
   marks-long = refl;
   marks = λ j a. refl;
 }
@@ -67,10 +67,11 @@ beside-popped S d low = record {
 module _ {bytes t types places s rs open-marks totals : List ℕ} {f at held sum visits : ℕ} (S : Standing bytes t types places s rs open-marks totals f at held sum visits) where
   -- a block whose context is to be above the current one
   pub enters : (b : BlockHandle) (base : ℕ) → b < rowAt t f .blocks → stackSlot ≤ base → base ≤ at → FineContext (moduleOf bytes t) f (contextAt (read s rs) base)
-      → contextIn s rs base ≤ 2 * maxPieces → held + contextIn s rs at + (contextIn s rs base + sum) ≤ 8 * maxPieces → Deep t rs f b (at + 4) → Room s room
-      → Entered bytes t types places s rs open-marks totals f b base (at + 4) (held + contextIn s rs at) sum visits
+      → contextIn s rs base ≤ 2 * maxPieces → held + contextIn s rs at + (contextIn s rs base + sum) ≤ 8 * maxPieces → Deep bytes t rs f b (at + 4) → Room s room
+      → Entered bytes t types places s rs open-marks totals f b base (at + 4) (held + contextIn s rs at) (held + contextIn s rs at) sum visits
   enters b base there low below fine base-few few deep roomy = record {
     standing = up S (omega arith);
+    empty = up-empty S;
     block = there;
     base-low = low;
     base-below = omega arith;
@@ -121,7 +122,7 @@ module _ {bytes t types places s rs open-marks totals : List ℕ} {f at held sum
         record {
           long = a .long;
           stack = λ k x y. a .same k (omega arith) (record { no-total = omega arith; no-record = λ e i z. no-stack k e x i z; no-context = λ i j z. omega arith });
-          records = λ k x y. a .same k (omega arith) (record { no-total = omega arith; no-record = λ e i z. omega arith; no-context = λ i j z. omega arith });
+          records = λ k x y n. a .same k (omega arith) (record { no-total = omega arith; no-record = λ e i z. n e i (sym z); no-context = λ i j z. omega arith });
           marks-long = refl;
           marks = λ k x. refl;
         }

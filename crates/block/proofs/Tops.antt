@@ -149,9 +149,12 @@ module _ {bytes t types places s rs open-marks totals : List ℕ} {f at held sum
   pub up-state : stateIn bytes t s rs open-marks totals f (at + 4) visits ≡ walk.withContext emptyContext (stateIn bytes t s rs open-marks totals f at visits)
   up-state = moved-state still (at + 4) ∙ rw above-empty
 
+  pub up-empty : pieces (contextAt (read s rs) (at + 4)) ≡ 0
+  up-empty = ap pieces above-empty ∙ empty-pieces
+
   pub up : at + 8 ≤ length rs → Standing bytes t types places s rs open-marks totals f (at + 4) (held + pieces (contextAt (read s rs) at)) sum visits
   up high =
-      let e : pieces (contextAt (read s rs) (at + 4)) ≡ 0 = ap pieces above-empty ∙ empty-pieces in
+      let e = up-empty in
       moved still (at + 4) (held + pieces (contextAt (read s rs) at)) (omega (arith, S .ready .low)) (omega arith)
       (rw above-empty (empty-fine (moduleOf bytes t) f)) (λ k l. S .above k (omega arith)) (omega (arith, S .ready .owned)) (omega (arith, S .ready .small))
 

@@ -33,7 +33,7 @@ use Rattle.block.specs.Total.{NewTotal, totalCount}
 use Rattle.block.proofs.Same.{records-same, context-same}
 
 -- slots that differ in one stretch alone count for what that changes
-sum-stretch : (ps qs : List PartReq) (a n b k : ℕ) → a ≤ b → b + k ≤ a + n → ((j : ℕ) → a ≤ j → j < a + n → (b ≤ j → j < b + k → ⊥) → getD qs j none ≡ getD ps j none)
+pub sum-stretch : (ps qs : List PartReq) (a n b k : ℕ) → a ≤ b → b + k ≤ a + n → ((j : ℕ) → a ≤ j → j < a + n → (b ≤ j → j < b + k → ⊥) → getD qs j none ≡ getD ps j none)
     → sumFrom qs a n + sumFrom ps b k ≡ sumFrom ps a n + sumFrom qs b k
 sum-stretch ps qs a n b k l h same =
     let e : n ≡ (b - a) + (k + (n - (b - a) - k)) = omega arith in

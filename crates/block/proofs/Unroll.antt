@@ -6,14 +6,14 @@ use mathlib.Core.Bool.{Bool, true, false, _||_}
 use mathlib.Core.List.{List}
 use mathlib.Core.Option.{Option}
 use lib.ListN.{length, getD}
-use Rattle.field.specs.Limits.{maxTurns}
 use Rattle.part.specs.PartReq.{all}
 use Rattle.module.specs.Module.{ExpressionHandle, FunctionHandle, BlockHandle, Module, SwitchCase}
-use Rattle.context.specs.RequiredContext.{RequiredContext, mergeContext, containsContext, pieces}
+use Rattle.context.specs.RequiredContext.{RequiredContext, mergeContext, pieces}
 use Rattle.context.specs.RequiredContext as context
 use Rattle.walk.specs.State.{State, Place, Out, went, halt, Walk, _>>_, withContext, recordPieces, limitedContext, overContext}
 use Rattle.walk.specs.StatementReq.{StatementReq}
-use Rattle.walk.specs.Statement.{BlockWalk, FunctionWalk, Frame, here, holding, ask, askOptional, recordOf, merged, addNested, endIf, addIf, addCases, endSwitch, addSwitch, endTurn, turns, startTurns, endLoop, addLoop, back, retvalOf, endCall, addCall, addStatements}
+use Rattle.walk.specs.Statement.{BlockWalk, FunctionWalk, Frame, here, holding, ask, askOptional, recordOf, merged, addNested, endIf, addCases, endSwitch, addSwitch, endTurn, turns, startTurns, endLoop, addLoop, back, retvalOf, endCall, addCall, addStatements}
+use Rattle.walk.specs.Statement.{BlockWalk, FunctionWalk, Frame, here, ask, recordOf, merged, addNested, endIf, addIf, addCases, endSwitch, addSwitch, endTurn, turns, endLoop, back, retvalOf, endCall, addCall, addStatements}
 
 -- 15: the limit of a join
 pub over-is : (c : RequiredContext) → overContext c ≡ context.overContext c
@@ -58,28 +58,7 @@ module _ (block : BlockWalk) (fr : Frame) (b : BlockHandle) (st : State) where
   unfolding addNested
   nested-halt e = rw (← e)
 
--- `If`: the accepted block, the rejected one, and the end
-module _ (m : Module) (block : BlockWalk) (fr : Frame) (condition : ExpressionHandle) (accept reject : BlockHandle) (st : State) where
-  abbrev Accepted : Out Bool
-  Accepted = block accept (fr .held + pieces (st .context)) (st .context) (fr .breakRequired) st
-
-  abbrev Rejected : State → Out Bool
-  Rejected accepted = block reject (fr .held + pieces (st .context) + pieces (accepted .context)) (st .context) (fr .breakRequired) accepted
-
-  pub if-halt : {k : ℕ} {at : Place} → halt k at ≡ Accepted → addIf m block fr condition accept reject st ≡ halt k at
-  unfolding addIf
-  if-halt e = rw (← e)
-
-  module _ {accepted : State} {a : Bool} (e : went accepted a ≡ Accepted) where
-    pub if-halt-2 : {k : ℕ} {at : Place} → halt k at ≡ Rejected accepted → addIf m block fr condition accept reject st ≡ halt k at
-    unfolding addIf
-    if-halt-2 f = rw (← e) (rw (← f))
-
-    pub if-ends : {rejected : State} {r : Bool} → went rejected r ≡ Rejected accepted
-        → addIf m block fr condition accept reject st ≡ endIf m fr condition (st .context) (accepted .context) (a || r) rejected
-    unfolding addIf
-    if-ends f = rw (← e) (rw (← f))
-
+-- `If`: its end
 module _ (m : Module) (fr : Frame) (condition : ExpressionHandle) (before accepted : RequiredContext) (rejected : State) where
   pub if-over : true ≡ context.overContext (mergeContext accepted (rejected .context)) → endIf m fr condition before accepted true rejected ≡ halt 15 (here fr)
   unfolding endIf
@@ -129,90 +108,18 @@ module _ (m : Module) (block : BlockWalk) (fr : Frame) (selector : ExpressionHan
   unfolding addSwitch
   switch-halt e = rw (← e)
 
--- `Loop`: the first pass, and its end
-module _ (m : Module) (block : BlockWalk) (fr : Frame) (body continuing : BlockHandle) (breakIf : Option ExpressionHandle) (st : State) where
-  abbrev Body : Out Bool
-  Body = block body (fr .held + pieces (st .context)) (st .context) false st
+-- `Loop`: a first pass that is not required, and turns that are used up
+pub loop-not : (m : Module) (block : BlockWalk) (fr : Frame) (body continuing : BlockHandle) (breakIf : Option ExpressionHandle) (before walked : RequiredContext) (st : State)
+    → endLoop m block fr body continuing breakIf before walked false st ≡ went (withContext before st) (StatementReq.Loop false)
+unfolding endLoop
+loop-not m block fr body continuing breakIf before walked st = refl
 
-  abbrev Continuing : State → Out Bool
-  Continuing walked = block continuing (fr .held + pieces (st .context) + pieces (walked .context)) (st .context) false walked
+pub turns-none : (block : BlockWalk) (fr : Frame) (held : ℕ) (body continuing : BlockHandle) (working : RequiredContext) (st : State)
+    → turns block fr held body continuing working 0 st ≡ halt 14 (here fr)
+unfolding turns
+turns-none block fr held body continuing working st = refl
 
-  pub loop-halt : {k : ℕ} {at : Place} → halt k at ≡ Body → addLoop m block fr body continuing breakIf st ≡ halt k at
-  unfolding addLoop
-  loop-halt e = rw (← e)
-
-  module _ {walked : State} {b : Bool} (e : went walked b ≡ Body) where
-    pub loop-halt-2 : {k : ℕ} {at : Place} → halt k at ≡ Continuing walked → addLoop m block fr body continuing breakIf st ≡ halt k at
-    unfolding addLoop
-    loop-halt-2 f = rw (← e) (rw (← f))
-
-    pub loop-ends : {continued : State} {c : Bool} → went continued c ≡ Continuing walked
-        → addLoop m block fr body continuing breakIf st ≡ endLoop m block fr body continuing breakIf (st .context) (walked .context) (b || c) continued
-    unfolding addLoop
-    loop-ends f = rw (← e) (rw (← f))
-
-module _ (m : Module) (block : BlockWalk) (fr : Frame) (body continuing : BlockHandle) (breakIf : Option ExpressionHandle) (before walked : RequiredContext) (st : State) where
-  abbrev BreakIf : Out (Unit {0})
-  BreakIf = askOptional m (holding (pieces walked + pieces (st .context)) fr) breakIf all (withContext before st)
-
-  pub loop-not : endLoop m block fr body continuing breakIf before walked false st ≡ went (withContext before st) (StatementReq.Loop false)
-  unfolding endLoop
-  loop-not = refl
-
-  pub loop-asks-halt : {k : ℕ} {at : Place} → halt k at ≡ BreakIf → endLoop m block fr body continuing breakIf before walked true st ≡ halt k at
-  unfolding endLoop
-  loop-asks-halt e = rw (← e)
-
-  module _ {asked : State} {u : Unit {0}} (e : went asked u ≡ BreakIf) where
-    pub loop-over : true ≡ context.overContext (mergeContext walked (st .context)) → endLoop m block fr body continuing breakIf before walked true st ≡ halt 15 (here fr)
-    unfolding endLoop
-    loop-over o = rw (← e) (rw (← merged-over fr walked (st .context) asked o))
-
-    pub loop-starts : false ≡ context.overContext (mergeContext walked (st .context))
-        → endLoop m block fr body continuing breakIf before walked true st
-        ≡ turns block fr (fr .held + pieces (asked .context) + pieces (mergeContext walked (st .context))) body continuing (mergeContext walked (st .context)) maxTurns
-        (withContext (mergeContext walked (st .context)) asked)
-    unfolding endLoop startTurns
-    loop-starts o = rw (← e) (rw (← merged-within fr walked (st .context) asked o))
-
--- a turn
-module _ (block : BlockWalk) (fr : Frame) (held : ℕ) (body continuing : BlockHandle) (working : RequiredContext) (st : State) where
-  pub turns-none : turns block fr held body continuing working 0 st ≡ halt 14 (here fr)
-  unfolding turns
-  turns-none = refl
-
-  abbrev TurnBody : Out Bool
-  TurnBody = block body held working true st
-
-  abbrev TurnContinuing : State → Out Bool
-  TurnContinuing walked = block continuing (held + pieces (walked .context)) working true walked
-
-  module _ (n : ℕ) where
-    abbrev Turns : Out StatementReq
-    Turns = turns block fr held body continuing working (suc n) st
-
-    pub turn-halt : {k : ℕ} {at : Place} → halt k at ≡ TurnBody → Turns ≡ halt k at
-    unfolding turns
-    turn-halt e = rw (← e)
-
-    module _ {walked : State} {b : Bool} (e : went walked b ≡ TurnBody) where
-      pub turn-halt-2 : {k : ℕ} {at : Place} → halt k at ≡ TurnContinuing walked → Turns ≡ halt k at
-      unfolding turns
-      turn-halt-2 f = rw (← e) (rw (← f))
-
-      module _ {continued : State} {c : Bool} (f : went continued c ≡ TurnContinuing walked) where
-        abbrev joint : RequiredContext
-        joint = mergeContext (walked .context) (continued .context)
-
-        pub turn-over : true ≡ context.overContext joint → Turns ≡ halt 15 (here fr)
-        unfolding turns
-        turn-over o = rw (← e) (rw (← f) (rw (← merged-over fr (walked .context) (continued .context) continued o)))
-
-        module _ (o : false ≡ context.overContext joint) where
-          pub turn-ends : {r : Bool} → r ≡ containsContext working joint → Turns ≡ endTurn working (turns block fr held body continuing working n) r (withContext joint continued)
-          unfolding turns
-          turn-ends g = rw (← e) (rw (← f) (rw (← merged-within fr (walked .context) (continued .context) continued o, ← g)))
-
+-- a turn's end
 pub turn-settled : (working : RequiredContext) (again : Walk StatementReq) (st : State) → endTurn working again true st ≡ went (withContext working st) (StatementReq.Loop true)
 unfolding endTurn
 turn-settled working again st = refl

@@ -20,6 +20,7 @@ use Rattle.state.specs.declared.answer.Place.{Place}
 use Rattle.state.specs.declared.answer.Walked.{Walked}
 use Rattle.state.specs.declared.answer.Walked.the-variants.{Went, Halt}
 use Rattle.block.specs.Standing.{functionsIn, stateIn, Standing}
+use Rattle.block.specs.Blocks.{Beside}
 use Rattle.block.specs.Adding.{Adding}
 
 pub record TotalAsked (bytes t places s rs open-marks totals : List ℕ) (f : FunctionHandle) (at sum : ℕ) : Type 0 where
@@ -33,6 +34,7 @@ pub record TotalEnded (bytes t types places s rs open-marks : List ℕ) (f : Fun
   pub is : went (stateIn bytes t u us open-marks after f at visits) tt ≡ total
   pub few : sum ≤ before + (recordPieces (recordsIn t exprsSlot f (read s rs)) + pieces (contextAt (read s rs) at))
   pub standing : Sound (moduleOf bytes t) → held + (pieces (contextAt (read s rs) at) + sum) ≤ entriesCap → Standing bytes t types places u us open-marks after f at held sum visits
+  pub beside : Beside bytes t f at s rs open-marks u us open-marks
 
 abbrev pub TotalEnding : (bytes t types places s rs open-marks : List ℕ) → FunctionHandle → (at held before : ℕ) → Out (Unit {0}) → Walked → (u us after : List ℕ) → Type 0
 TotalEnding bytes t types places s rs open-marks f at held before total (Went tally) u us after =

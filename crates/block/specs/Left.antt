@@ -1,12 +1,8 @@
 -- What is known as a called function is left: the caller f as it stood before the call, and g as its walk and its total have left it, its base above the
 -- caller's context and its own above that.
-use mathlib.Core.Path.{_≡_}
 use mathlib.Core.List.{List}
 use Prim.Native.Nat.{ℕ, _+_, _<_, _≤_}
-use lib.ListN.{getD}
-use Rattle.part.specs.PartReq.{none}
 use Rattle.module.specs.Module.{FunctionHandle}
-use Rattle.module.specs.Tables.{rowAt, expressionsFrom, itemsTo}
 use Rattle.walk.specs.State.{recordPieces}
 use Rattle.memory.specs.Layout.{exprsSlot}
 use Rattle.memory.specs.Memory.{read}
@@ -19,7 +15,7 @@ use Rattle.block.specs.Blocks.{contextIn, Beside}
 abbrev pub heldBy : (t s rs : List ℕ) → FunctionHandle → (at held : ℕ) → ℕ
 heldBy t s rs f at held = held + contextIn s rs at + recordPieces (recordsIn t exprsSlot f (read s rs))
 
--- `inner` is what g counts as held, with or without its base. Items of g that are no expressions have no record.
+-- `inner` is what g counts as held, with or without its base.
 pub record Left (bytes t types places s rs open-marks totals : List ℕ) (f : FunctionHandle) (at held sum visits : ℕ) (g : FunctionHandle) (inner less later : ℕ) (u us open-after totals-after : List ℕ) : Type 0 where
   pub caller : Standing bytes t types places s rs open-marks totals f at held sum visits
   pub callee : Standing bytes t types places u us open-after totals-after g (at + 8) inner less later
@@ -27,6 +23,4 @@ pub record Left (bytes t types places s rs open-marks totals : List ℕ) (f : Fu
   pub least : heldBy t s rs f at held ≤ inner
   pub most : inner ≤ heldBy t s rs f at held + contextIn u us (at + 4)
   pub beside : Beside bytes t g (at + 4) s rs open-marks u us open-after
-  pub idle : (k : ℕ) → exprsSlot + rowAt t g .items ≤ k → k < exprsSlot + itemsTo (rowAt t g) → ((e : ℕ) → e < rowAt t g .expressions → exprsSlot + expressionsFrom (rowAt t g) + e ≡ k → ⊥)
-      → getD (read u us) k none ≡ none
   pub leaving : Leaving bytes t u us g (at + 4) (at + 8)

@@ -7,3 +7,6 @@ pub mod Total
 pub mod Adding
 pub mod AddTotal
 pub mod Left
+pub mod Visiting
+pub mod Pairing
+pub mod Functions

@@ -2,17 +2,10 @@
 use marks::set::clear_marks;
 use memory::stretches::save_context;
 use module::handles::FunctionHandle;
-use part::limits::SPINE;
-use part::store::look;
-use part::store::make;
 ghost use mathlib.Core.Path.{_≡_};
-ghost use Prim.Native.Nat.{_+_, _≤_, _<_};
-ghost use Rattle.part.specs.Store.{part, Room, Made};
+ghost use Prim.Native.Nat.{_+_, _≤_};
 ghost use lib.ListN.{length, getD, replicate};
 ghost use Rattle.walk.specs.Marks.{writeMarks};
-ghost use Rattle.walk.specs.Statement.{needOf, retvalOf};
-ghost use Rattle.memory.specs.Layout.{exprsSlot, functionsSlot};
-ghost use Rattle.memory.specs.Memory.{recordOf, Memory};
 ghost use Rattle.memory.specs.Stretches.{fourSet};
 ghost use Rattle.marks.specs.Places.{startIn, sizeIn, Inside};
 
@@ -33,19 +26,4 @@ pub fn enter(
     let globals = slots[at];
     save_context(slots, at + 4, globals, 2, 2, retval);
     clear_marks(open, places, g);
-}
-
-// What is asked of the returned value, by the record in the slot k.
-pub fn retval_of(cells: &mut [u32], slots: &[u32], k: usize) -> u32
-    requires { ⌜ Memory (now cells) (now slots) ⌝ }
-    requires { ⌜ (exprsSlot ≤ k) × (k < functionsSlot) ⌝ }
-    requires { ⌜ Room (now cells) 1 ⌝ }
-    ensures { λ r. ⌜ Made (now (cells .entry)) (now (cells .exit)) (retvalOf (needOf (recordOf (part (now (cells .entry)) (getD (now (slots .entry)) k 0))))) 1 r ⌝ }
-{
-    let q = slots[k];
-    if q == 2 {
-        return 2;
-    }
-    let x = look(cells, q);
-    make(cells, SPINE, x.child, 2)
 }

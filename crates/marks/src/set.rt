@@ -36,7 +36,7 @@ pub fn set_call(marks: &mut [u8], at: usize, call_required: bool, result_require
     set_mark(marks, at + 1, result_required);
 }
 
-fn or(a: bool, b: bool) -> bool
+pub fn or(a: bool, b: bool) -> bool
     ensures { λ r. ⌜ r ≡ (a || b) ⌝ }
 {
     if a {

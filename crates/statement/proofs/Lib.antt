@@ -13,4 +13,3 @@ pub mod RayArms
 pub mod ByKind
 pub mod Loading
 pub mod AtomicArms
-pub mod Said

@@ -32,7 +32,14 @@ ghost use Rattle.statement.specs.Leaf.{Arm, Leaves};
 ghost use Rattle.statement.specs.Aside.{asideField, asideSlots, someField, Loading};
 
 // The record of a result, which may be absent.
-fn record_of(bytes: &[u8], t: &[u32], cells: &[u32], slots: &[u32], fr: Frame, result: u16) -> Found
+pub fn record_of(
+    bytes: &[u8],
+    t: &[u32],
+    cells: &[u32],
+    slots: &[u32],
+    fr: Frame,
+    result: u16,
+) -> Found
     requires { ⌜ Loading (now bytes) (now t) (now cells) (now slots) fr result ⌝ }
     ensures { λ r. ⌜ Got (now (cells .entry)) (recordOf (recordsIn (now (t .entry)) exprsSlot (fr .function .0) (read (now (cells .entry)) (now (slots .entry)))) (optionOf result)) r ⌝ }
 {
