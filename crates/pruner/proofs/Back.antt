@@ -11,6 +11,7 @@ use borrow.Author.Tests.{le-leb, eq-eqb}
 use lib.ListN.{length, getD, drop}
 use lib.Seq.{take-at}
 use Rattle.field.specs.Field.{fieldAt, wordAt}
+use Rattle.field.specs.Limits.{maxPieces}
 use Rattle.part.specs.PartReq.{PartReq, spine}
 use Rattle.module.specs.Module.{FunctionHandle, Module}
 use Rattle.context.specs.RequiredContext.{variable}
@@ -23,7 +24,7 @@ use Rattle.request.proofs.Back.{readPart-writePart, readVariables-writeVariable
 use Rattle.walk.specs.State.{Records, FunctionReq}
 use Rattle.walk.specs.Requests.{Pruner, fresh}
 use Rattle.walk.specs.Proper.{FineRecord, EachRecord, EachMark, FineFunction, FinePruner}
-use Rattle.pruner.specs.Form.{minPruner, writeRecord, writeRecords, writeTotal, writeTotals, writeBody, writePruner, only, readMarks, readRecords, knownIn, readKept, readTotal, readTotals, readBody, stated, isPruner, isFresh, readPruner}
+use Rattle.pruner.specs.Form.{minPruner, prunerPieces, writeRecord, writeRecords, writeTotal, writeTotals, writeBody, writePruner, only, readMarks, readRecords, knownIn, readKept, readTotal, readTotals, readBody, stated, isPruner, isFresh, readPruner}
 use Rattle.pruner.specs.Filed.{NamedRecord, NamedRecords, NamedFunction, NamedTotal, NamedTotals, NamedPruner}
 use Rattle.pruner.proofs.Fine.{FineTotal, part-filed, variables-filed, all-below, context-filed, context-known}
 
@@ -127,13 +128,13 @@ module _ (pruner : Pruner) (rest : List ℕ) where
   unfolding writePruner bytesOf
   fields-back = fields-bytesOf (writeBody pruner)
 
--- Totals that are written are read back, where they fit the least buffer.
+-- Totals that are written are read back, where they fit the least buffer and 16 allows them.
 pub readPruner-writePruner : (m : Module) (pruner : Pruner) (rest : List ℕ) → FinePruner m pruner → NamedPruner pruner → length (writePruner pruner) ≤ minPruner
-    → readPruner m (writePruner pruner ++ rest) ≡ accepted pruner
+    → prunerPieces pruner ≤ maxPieces → readPruner m (writePruner pruner ++ rest) ≡ accepted pruner
 unfolding readPruner whole
-readPruner-writePruner m pruner rest h u fits =
+readPruner-writePruner m pruner rest h u fits few =
     let read : readBody m (writeBody pruner) ≡ got pruner [] = ap (readBody m) (sym (append-nil (writeBody pruner))) ∙ body-back m pruner [] h u in
-    rw (not-fresh pruner rest, pruner-back pruner rest fits, stated-back pruner rest, fields-back pruner rest, read)
+    rw (not-fresh pruner rest, pruner-back pruner rest fits, stated-back pruner rest, fields-back pruner rest, read, le-leb (prunerPieces pruner) maxPieces few)
 
 -- Two bytes that are zero are the fresh pruner.
 pub readPruner-zero : (m : Module) (s : List ℕ) → readPruner m (0 ∷ (0 ∷ s)) ≡ accepted (fresh m)

@@ -7,3 +7,14 @@ pub mod Indexes
 pub mod Walks
 pub mod Writing
 pub mod Fresh
+pub mod Whole
+pub mod Pieces
+pub mod Marking
+pub mod Recording
+pub mod Keeping
+pub mod Flagged
+pub mod Through
+pub mod Body
+pub mod Clearing
+pub mod Header
+pub mod Telling

@@ -1,6 +1,6 @@
--- What is read is fine, and no index of it is absent: so that any buffer that is accepted is a pruner that a request can begin with. From what is read as a
+-- What is read is fine, no index of it is absent, and 16 allows it: so that any buffer that is accepted is a pruner that a request can begin with. From what is read as a
 -- part, list by list.
-use Prim.Native.Nat.{ℕ, zero, suc, _+_}
+use Prim.Native.Nat.{ℕ, zero, suc, _+_, _≤_}
 use native.Mathlib.Omega.{arith}
 use native.Mathlib.Nat.{zero-add, add-zero}
 use mathlib.Core.Path.{_≡_, refl, sym, subst}
@@ -10,15 +10,15 @@ use mathlib.Core.Option.{Option, some, none as nothing, Option·some-injective, 
 use lib.Dec.{leb, eqb}
 use borrow.Author.Tests.{leb-true}
 use lib.ListN.{length, getD, drop, replicate}
-use Rattle.field.specs.Limits.{absent}
-use Rattle.part.specs.PartReq.{PartReq, spine}
+use Rattle.field.specs.Limits.{absent, maxPieces}
+use Rattle.part.specs.PartReq.{PartReq, entries, spine}
 use Rattle.module.specs.Module.{FunctionHandle, Module}
 use Rattle.context.specs.RequiredContext.{RequiredContext, variable}
-use Rattle.request.specs.Fields.{fields, Read, malformed, got, whole, Answer, accepted}
+use Rattle.request.specs.Fields.{fields, Read, malformed, got, whole, Answer, refused, accepted}
 use Rattle.request.specs.Part.{readReturn, readVariables}
 use Rattle.request.specs.Request.{allBelow}
 use Rattle.request.specs.Context.{readContextBody}
-use Rattle.walk.specs.State.{Records, FunctionReq}
+use Rattle.walk.specs.State.{Records, FunctionReq, functionPieces, totalPieces}
 use Rattle.walk.specs.Resolve.{functionAt}
 use Rattle.walk.specs.Marks.{stretch}
 use Rattle.walk.specs.Requests.{Pruner, fresh}
@@ -27,7 +27,7 @@ use Rattle.walk.proofs.Proper.{fresh-fine}
 use Rattle.sound.proofs.Parts.{OnGot, on-then, on-cond, return-fine, SomeVariables, variables-read, variables-there}
 use Rattle.sound.proofs.Asked.{OnSome, OnAccepted, whole-on, some-when}
 use Rattle.sound.proofs.Contexts.{SomeContext, body-read, known-fine}
-use Rattle.pruner.specs.Form.{only, readMarks, readRecords, knownIn, readKept, readTotal, readTotals, readBody, stated, isPruner, isFresh, answered, readPruner}
+use Rattle.pruner.specs.Form.{prunerPieces, only, readMarks, readRecords, knownIn, readKept, readTotal, readTotals, readBody, stated, isPruner, isFresh, answered, readPruner}
 use Rattle.pruner.specs.Filed.{Named, NamedContext, NamedRecord, NamedRecords, NamedFunction, NamedTotal, NamedTotals, NamedPruner}
 use Rattle.pruner.proofs.Fine.{FineTotal}
 use Rattle.pruner.proofs.Named.{return-named, variables-named, context-named}
@@ -175,24 +175,41 @@ module _ (m : Module) where
   unfolding fresh
   fresh-read = (fresh-fine m, record { globals = tt; functions = fresh-totals (length (m .functions)) })
 
-  answered-on : (o : Option Pruner) → OnSome PrunerRead o → OnAccepted PrunerRead (answered o)
-  answered-on nothing h = tt
-  answered-on (some pruner) h = h
+  pub nothing-counts : (n : ℕ) → totalPieces (replicate n nothing) ≡ 0
+  unfolding totalPieces functionPieces
+  nothing-counts zero = refl
+  nothing-counts (suc n) = omega (arith, nothing-counts n)
 
-  either : (b : Bool) (x y : Answer Pruner) → OnAccepted PrunerRead x → OnAccepted PrunerRead y → OnAccepted PrunerRead (cond b x y)
-  either true x y h k = h
+  -- it is fine, and 16 allows it
+  abbrev Allowed : Pruner → Type 0
+  Allowed pruner = PrunerRead pruner × (prunerPieces pruner ≤ maxPieces)
+
+  fresh-allowed : Allowed (fresh m)
+  unfolding fresh entries
+  fresh-allowed = (fresh-read, omega (arith, nothing-counts (length (m .functions))))
+
+  either : (b : Bool) (x y : Answer Pruner) → (b ≡ true → OnAccepted Allowed x) → OnAccepted Allowed y → OnAccepted Allowed (cond b x y)
+  either true x y h k = h refl
   either false x y h k = k
 
-  pruner-read : (s : List ℕ) → OnAccepted PrunerRead (readPruner m s)
+  answered-on : (o : Option Pruner) → OnSome PrunerRead o → OnAccepted Allowed (answered o)
+  answered-on nothing h = tt
+  answered-on (some pruner) h =
+      either (leb (prunerPieces pruner) maxPieces) (accepted pruner) (refused 19) (λ e. (h, leb-true (prunerPieces pruner) maxPieces e)) tt
+
+  pruner-read : (s : List ℕ) → OnAccepted Allowed (readPruner m s)
   unfolding readPruner
   pruner-read s =
       let body = readBody m (fields (drop 6 (stated s))) in
-      either (isFresh s) (accepted (fresh m)) _ fresh-read
+      either (isFresh s) (accepted (fresh m)) _ (λ e. fresh-allowed)
       (answered-on (cond (isPruner s) (whole body) nothing) (some-when PrunerRead (isPruner s) (whole body) (whole-on PrunerRead body (pruner-body (fields (drop 6 (stated s)))))))
 
   module _ (s : List ℕ) (pruner : Pruner) (e : readPruner m s ≡ accepted pruner) where
     pub read-fine : FinePruner m pruner
-    read-fine = subst (OnAccepted PrunerRead) e (pruner-read s) .0
+    read-fine = subst (OnAccepted Allowed) e (pruner-read s) .0 .0
 
     pub read-named : NamedPruner pruner
-    read-named = subst (OnAccepted PrunerRead) e (pruner-read s) .1
+    read-named = subst (OnAccepted Allowed) e (pruner-read s) .0 .1
+
+    pub read-few : prunerPieces pruner ≤ maxPieces
+    read-few = subst (OnAccepted Allowed) e (pruner-read s) .1

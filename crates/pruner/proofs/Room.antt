@@ -34,12 +34,12 @@ unfolding writeRecord recordPieces
 record-long nothing es = omega arith
 record-long (some p) es = omega (arith, part-long p)
 
-records-long : (es : Records) → length (writeRecords es) ≤ length es + 3 * recordPieces es
+pub records-long : (es : Records) → length (writeRecords es) ≤ length es + 3 * recordPieces es
 unfolding writeRecords
 records-long [] = omega arith
 records-long (o ∷ es) = omega (arith, length-append (writeRecord o) (writeRecords es), record-long o es, records-long es)
 
-lists-long : (c : RequiredContext) → length (writeContextBody c) ≤ 4 + 3 * pieces c
+pub lists-long : (c : RequiredContext) → length (writeContextBody c) ≤ 4 + 3 * pieces c
 lists-long c = omega (arith, length-context c, context-long c)
 
 module _ (m : Module) where

@@ -331,3 +331,4 @@ module _ (bytes : List ℕ) (m : Module) (read : file.readModule bytes ≡ file.
     pub request-back : (rest : List ℕ) → readPruner m (writePruner totals ++ rest) ≡ accepted totals
     request-back rest =
         readPruner-writePruner m totals rest fine (kept-named m (module-valid bytes m read) pruner q (read-named m s pruner before) (request-named m q asked)) request-fits
+        (reported-few m pruner q r answer)

@@ -34,12 +34,12 @@ none-written = record { few = omega arith; written = record { is = refl; next-is
 pub all-written : (fs : ℕ → List ℕ) {n k at next : ℕ} {a o : List ℕ} → Going n k a o at (fs k) next → n ≤ k → Written a o at (fs n) next
 all-written fs {n} {k} g l = let same : k ≡ n = omega (arith, g .few) in rw same at (g .written)
 
-one-more : (fs : ℕ → List ℕ) (gs : List ℕ) {n k at next end : ℕ} {a o p : List ℕ} → Going n k a o at (fs k) next → k < n → fs (k + 1) ≡ fs k ++ gs
+pub one-more : (fs : ℕ → List ℕ) (gs : List ℕ) {n k at next end : ℕ} {a o p : List ℕ} → Going n k a o at (fs k) next → k < n → fs (k + 1) ≡ fs k ++ gs
     → Written o p next gs end → Going n (k + 1) a p at (fs (k + 1)) end
 one-more fs gs {k = k} g l e w = record { few = omega arith; written = rw e (written-then (fs k) gs (g .written) w) }
 
 -- there is room for one more
-next-room : (fs : ℕ → List ℕ) (gs : List ℕ) {n k at next : ℕ} {a o : List ℕ} → Going n k a o at (fs k) next → fs (k + 1) ≡ fs k ++ gs
+pub next-room : (fs : ℕ → List ℕ) (gs : List ℕ) {n k at next : ℕ} {a o : List ℕ} → Going n k a o at (fs k) next → fs (k + 1) ≡ fs k ++ gs
     → length (fs (k + 1)) ≤ length (fs n) → Fits a at (fs n) → Fits o next gs
 next-room fs gs {k = k} g e l h =
     omega (arith, written-long (g .written), g .written .next-is, ap length e, length-append (fs k) gs)
@@ -120,7 +120,7 @@ module _ (s rs : List ℕ) (base n : ℕ) (inside : base + n ≤ length rs) wher
     pub record-again : {p : List ℕ} {end : ℕ} → Written o p next (written k) end → Going n (k + 1) a p at (recordFields (k + 1)) end
     record-again w = one-more recordFields (written k) g l (record-more l) w
 
-front : (o : List ℕ) (at : ℕ) (fs gs : List ℕ) → Fits o at (fs ++ gs) → Fits o at fs
+pub front : (o : List ℕ) (at : ℕ) (fs gs : List ℕ) → Fits o at (fs ++ gs) → Fits o at fs
 front o at fs gs h = omega (arith, length-append fs gs)
 
 -- the lists of the context in the four slots from x on, one after the other

@@ -8,6 +8,7 @@ use mathlib.Core.Option.{Option, some, none as nothing}
 use lib.Dec.{leb, eqb}
 use lib.ListN.{length, getD, take, drop}
 use Rattle.field.specs.Field.{wordAt}
+use Rattle.field.specs.Limits.{maxPieces}
 use Rattle.part.specs.PartReq.{PartReq, entries}
 use Rattle.module.specs.Module.{FunctionHandle, Module}
 use Rattle.context.specs.RequiredContext.{RequiredContext, variable}
@@ -109,14 +110,15 @@ isPruner s = framed 80 78 6 (wordAt s 2) (stated s) && leb (6 + wordAt s 2) minP
 unfoldable pub isFresh : List ℕ → Bool
 isFresh s = leb 2 (length s) && eqb (getD s 0 0) 0 && eqb (getD s 1 0) 0
 
+-- what was read, where 16 allows it
 abbrev pub answered : Option Pruner → Answer Pruner
 answered nothing = refused 19
-answered (some pruner) = accepted pruner
+answered (some pruner) = cond (leb (prunerPieces pruner) maxPieces) (accepted pruner) (refused 19)
 
 -- What a lent buffer means. Refused, by 19, is one that is too short for its mark, its header or its stated length; one of another mark, of an odd length, or
 -- longer than the least buffer; one whose fields end too early or are left over; and one with a flag or a mark of a statement other than 0 and 1, a part of
 -- another code, too deep, too wide or of indexes that do not ascend or are absent, or variables that do not ascend or that the module or the function
--- does not have.
+-- does not have; and one that counts for more pieces than 16 allows, as no request leaves it.
 unfoldable pub readPruner : Module → List ℕ → Answer Pruner
 readPruner m s =
     let pruner = whole (readBody m (fields (drop 6 (stated s)))) in

@@ -1,3 +1,4 @@
 pub mod Form
 pub mod Filed
 pub mod Stored
+pub mod Reading
