@@ -1,4 +1,4 @@
--- Cases A and J of 01: the lines that their reports (crate walk) come to, against 01's.
+-- Cases A and J of 01: the lines that their reports (crate walk) come to, against 01's. Case I is refused.
 use mathlib.Core.Path.{_≡_, refl}
 use mathlib.Core.Bool.{true}
 use mathlib.Core.List.{List, [], _∷_, _++_}
@@ -11,7 +11,7 @@ use Rattle.module.specs.Marks.{markCount}
 use Rattle.walk.specs.Resolve.{functionAt}
 use Rattle.walk.specs.Requests.{Report, reported, fresh, requests}
 use Rattle.walk.proofs.Cases.{caseA, caseJ}
-use Rattle.lines.specs.Text.{digits, number, textFrom, variablesText, retvalText, contextText, recordText, recordsText, nameOf, markText, marksText, statementsText, requiredText, reportText}
+use Rattle.lines.specs.Text.{digits, number, textFrom, variablesText, retvalText, contextText, recordText, recordsText, nameOf, markText, marksText, statementsText, requiredText, reportText, refusedText}
 
 abbrev reportA : Report
 reportA =
@@ -82,3 +82,8 @@ linesJ = refl
 pub partTwo : textFrom (more 0 all (more 12 (more 2 exist none) none)) true ≡ (123 ∷ 48 ∷ 58 ∷ 97 ∷ 108 ∷ 108 ∷ 44 ∷ 49 ∷ 50 ∷ 58 ∷ 123 ∷ 50 ∷ 58 ∷ 101 ∷ 120 ∷ 105 ∷ 115 ∷ 116 ∷ 125 ∷ 125 ∷ [])
 unfolding number digits knot tie textFrom
 partTwo = refl
+
+-- `refused 14`
+pub refusedI : refusedText 14 ≡ (114 ∷ 101 ∷ 102 ∷ 117 ∷ 115 ∷ 101 ∷ 100 ∷ 32 ∷ 49 ∷ 52 ∷ 10 ∷ [])
+unfolding number digits knot tie refusedText
+refusedI = refl

@@ -6,3 +6,7 @@ pub mod Along
 pub mod Rows
 pub mod Whole
 pub mod Own
+pub mod Named
+pub mod StatementLines
+pub mod Long
+pub mod ReportText

@@ -4,9 +4,9 @@ use mathlib.Core.Path.{_≡_, refl, sym, ap, _∙_}
 use mathlib.Core.List.{List, [], _∷_, _++_}
 use native.Mathlib.Omega.{arith}
 use native.Mathlib.Numerals.{add-one}
-use lib.ListN.{length, getD, take, set, length-append}
-use lib.Seq.{sets, length-sets, take-suc, take-all, length-take-le}
-use Rattle.lines.specs.Wrote.{longest, Fits, Wrote}
+use lib.ListN.{length, getD, take, drop, set, length-append}
+use lib.Seq.{sets, sets-eq, length-sets, take-suc, take-all, length-take-le}
+use Rattle.lines.specs.Wrote.{longest, Fits, Wrote, Front}
 
 -- behind the end nothing is set
 set-past : (xs : List ℕ) (i b : ℕ) → length xs ≤ i → set xs i b ≡ xs
@@ -72,3 +72,15 @@ word-more word {xs} {ys} {zs} {at} {k} {n} h a b =
 
 pub word-done : (word : List ℕ) {xs ys : List ℕ} {at k : ℕ} → length word ≤ k → Wrote xs ys at (take k word) (at + k) → Wrote xs ys at word (at + k)
 word-done word {xs} {ys} {at} {k} h a = rw (take-all k word h) at a
+
+-- a text from byte 0 on, in a buffer that is long enough
+from-zero : (n : ℕ) → 0 + n ≡ n
+from-zero n = omega arith
+
+pub wrote-front : {xs ys text : List ℕ} {n : ℕ} → Wrote xs ys 0 text n → length text ≤ length xs → Front xs ys text n
+wrote-front {xs} {ys} {text} {n} w l =
+    record {
+      is = w .is ∙ sets-eq text xs 0 (omega arith) ∙ ap (λ (e : ℕ). text ++ drop e xs) (from-zero (length text));
+      behind = omega (arith, w .behind);
+      within = omega (arith, w .behind);
+    }

@@ -1,10 +1,10 @@
--- The lines that the program `report` prints for an accepted request, as bytes; all but the last, `check`.
+-- The lines that the program `report` prints, as bytes: those for an accepted request, all but the last, `check`; and the one for a refusal.
 use Prim.Native.Nat.{ℕ, suc, _+_, _-_, _/_, _%_}
 use mathlib.Core.Bool.{Bool, true, false, cond}
 use mathlib.Core.List.{List, [], _∷_, _++_}
 use mathlib.Core.Option.{Option, some, none as nothing}
 use lib.Dec.{ltb, eqb}
-use lib.ListN.{take, drop}
+use lib.ListN.{getD, take, drop}
 use Rattle.part.specs.PartReq.{PartReq, all, exist, none, more, spine}
 use Rattle.context.specs.RequiredContext.{RequiredContext}
 use Rattle.module.specs.Knot.{knot}
@@ -35,6 +35,9 @@ yesWord = 32 ∷ 121 ∷ 101 ∷ 115 ∷ []
 
 abbrev pub noWord : List ℕ
 noWord = 32 ∷ 110 ∷ 111 ∷ []
+
+abbrev pub refusedWord : List ℕ
+refusedWord = 114 ∷ 101 ∷ 102 ∷ 117 ∷ 115 ∷ 101 ∷ 100 ∷ 32 ∷ []
 
 abbrev pub globalWord : List ℕ
 globalWord = 103 ∷ 108 ∷ 111 ∷ 98 ∷ 97 ∷ 108 ∷ 32 ∷ []
@@ -170,6 +173,35 @@ nameOf (SubgroupBallot result predicate) = rayqueryName
 nameOf (SubgroupGather mode argument result) = rayqueryName
 nameOf (SubgroupCollectiveOperation argument result) = rayqueryName
 
+-- the names by the statement's kind; another kind is decoded as a break
+abbrev pub names : List (List ℕ)
+names =
+    emitName
+    ∷ blockstmtName
+    ∷ ifName
+    ∷ switchName
+    ∷ loopName
+    ∷ breakName
+    ∷ continueName
+    ∷ returnName
+    ∷ killName
+    ∷ barrierName
+    ∷ barrierName
+    ∷ []
+    ∷ storeName
+    ∷ atomicName
+    ∷ callName
+    ∷ imagestoreName
+    ∷ rayqueryName
+    ∷ rayqueryName
+    ∷ rayqueryName
+    ∷ rayqueryName
+    ∷ rayqueryName
+    ∷ []
+
+unfoldable pub kindName : (kind : ℕ) → List ℕ
+kindName kind = getD names kind breakName
+
 unfoldable pub markText : ℕ → List ℕ
 markText b = cond (eqb b 0) noWord yesWord
 
@@ -177,12 +209,15 @@ unfoldable pub marksText : List ℕ → List ℕ
 marksText [] = []
 marksText (b ∷ bs) = markText b ++ marksText bs
 
--- a line for each statement, from statement n on, with its own marks
+-- the line of statement n with its own marks, the first of `marks`
+abbrev pub statementText : (n : ℕ) → Statement → (marks : List ℕ) → List ℕ
+statementText n s marks =
+    stmtWord ++ (number n ++ ((32 ∷ []) ++ (nameOf s ++ (marksText (take (markCount s) marks) ++ (10 ∷ [])))))
+
+-- a line for each statement, from statement n on
 unfoldable pub statementsText : (n : ℕ) → List Statement → (marks : List ℕ) → List ℕ
 statementsText n [] marks = []
-statementsText n (s ∷ ss) marks =
-    stmtWord ++ (number n ++ ((32 ∷ []) ++ (nameOf s ++ (marksText (take (markCount s) marks) ++ (10 ∷ [])))))
-    ++ statementsText (suc n) ss (drop (markCount s) marks)
+statementsText n (s ∷ ss) marks = statementText n s marks ++ statementsText (suc n) ss (drop (markCount s) marks)
 
 unfoldable pub requiredText : Bool → List ℕ
 requiredText required = requiredWord ++ (cond required yesWord noWord ++ (10 ∷ []))
@@ -192,3 +227,7 @@ unfoldable pub reportText : Module → FunctionHandle → Report → List ℕ
 reportText m f report =
     requiredText (report .required)
     ++ (contextText (report .context) ++ (recordsText 0 (report .exprs) ++ statementsText 0 (functionAt m f .statements) (report .marks)))
+
+-- of a refusal
+unfoldable pub refusedText : (n : ℕ) → List ℕ
+refusedText n = refusedWord ++ (number n ++ (10 ∷ []))
