@@ -1,0 +1,4 @@
+pub mod Answer
+pub mod Serve
+pub mod Loaded
+pub mod Finish

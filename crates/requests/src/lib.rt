@@ -1,0 +1,3 @@
+// A request from bytes to bytes.
+pub mod answer;
+pub mod finish;
