@@ -79,6 +79,7 @@ module _ {s rs t us : List ℕ} {n : ℕ} (g : Good s) (none-used : top s ≡ 3)
     };
     none-asked = λ k a b. rw (at-low k (omega arith) (omega arith)) (part-2 t);
     none-counted = λ k a b. rw (at-high k a (omega (arith, lengths))) (part-2 t);
+    few = omega (arith, x .cost);
     roomy = omega (arith, x .cost, x .kept .long);
   }
     where

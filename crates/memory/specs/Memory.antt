@@ -104,6 +104,7 @@ pub record Empty (s rs : List ℕ) : Type 0 where
   pub memory : Memory s rs
   pub none-asked : (k : ℕ) → ask ≤ k → k ≤ returned → part s (getD rs k 0) ≡ none
   pub none-counted : (k : ℕ) → globalsSlot ≤ k → k < length rs → part s (getD rs k 0) ≡ none
+  pub few : top s ≤ 3 + 4 * flatCount
   pub roomy : Room s room
 
 -- what a store into the slot `at`, which counts, asks of the memory: r is the piece to be there, and `sum` counts the slot
