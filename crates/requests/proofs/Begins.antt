@@ -32,7 +32,7 @@ use Rattle.memory.proofs.Records.{records-none}
 use Rattle.memory.proofs.Runs.{context-pieces}
 use Rattle.marks.specs.Places.{slice, startOf}
 use Rattle.marks.proofs.Placed.{at-function}
-use Rattle.state.specs.State.{recordsIn}
+use Rattle.state.specs.State.{recordsIn, totalsSum}
 use Rattle.state.proofs.Own.{fits}
 use Rattle.block.specs.Standing.{stateIn, Standing}
 use Rattle.block.specs.Blocks.{Deep}
@@ -48,6 +48,22 @@ sum-empty ps a zero h = sum-none ps a
 sum-empty ps a (suc n) h =
     let e : entries (getD ps (a + n) none) ≡ 0 = rw (h (a + n) (omega arith) (omega arith)) in
     omega (arith, sum-suc ps a n, sum-empty ps a n (λ k x y. h k x (omega arith)))
+
+-- what 16 counts where only the base context, at the bottom of the stack, and totals are there
+pub base-counts : (ps : List PartReq) → stackSlot + 4 ≤ length ps → ((k : ℕ) → exprsSlot ≤ k → k < totalsSlot → getD ps k none ≡ none) → ((k : ℕ) → stackSlot + 4 ≤ k → getD ps k none ≡ none)
+    → counted ps ≡ pieces (contextAt ps stackSlot) + (entries (getD ps globalsSlot none) + totalsSum ps)
+base-counts ps l no-records above =
+    let rest = length ps - stackSlot - 4 in
+    let e : length ps - stackSlot ≡ 4 + rest = omega arith in
+    omega (
+      arith,
+      counted-split ps (omega arith),
+      sum-empty ps exprsSlot maxItems (λ k x y. no-records k x (omega arith)),
+      ap (sumFrom ps stackSlot) e,
+      sum-split ps stackSlot 4 rest,
+      context-pieces ps stackSlot,
+      sum-empty ps (stackSlot + 4) rest (λ k x y. above k x),
+    )
 
 retval-asked : (o : Option PartReq) → FineRecord o → Variables 1 (asked o)
 unfolding needOf retvalOf
@@ -118,19 +134,10 @@ module _ {bytes t types places s rs open-marks totals : List ℕ} {q : Request} 
 
   counts : counted (read s rs) ≡ pieces (contextAt (read s rs) stackSlot) + prunerPieces pruner
   counts =
-      let l = read-long s rs in
       let h = high in
-      let a = L .memory .slots in
-      let rest = length (read s rs) - stackSlot - 4 in
-      let e : length (read s rs) - stackSlot ≡ 4 + rest = omega arith in
       omega (
         arith,
-        counted-split (read s rs) (omega arith),
-        sum-empty (read s rs) exprsSlot maxItems (λ k x y. L .no-records k x (omega arith)),
-        ap (sumFrom (read s rs) stackSlot) e,
-        sum-split (read s rs) stackSlot 4 rest,
-        context-pieces (read s rs) stackSlot,
-        sum-empty (read s rs) (stackSlot + 4) rest (λ k x y. L .above k x),
+        base-counts (read s rs) (omega (arith, read-long s rs)) (L .no-records) (L .above),
         L .totals-sum,
         ap entries (L .globals-are),
         ap totalPieces (L .functions-are),

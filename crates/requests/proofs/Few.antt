@@ -1,4 +1,4 @@
--- What a request can ask for: an entry takes two fields at least, and a request's body has fewer than 2^15 fields.
+-- What a request can ask for: an entry takes two fields at least, and a request's body has fewer than 2^15 fields. So its base context has at most twice the pieces that 16 allows.
 use Prim.Native.Nat.{ℕ, zero, suc, _+_, _*_, _<_, _≤_}
 use native.Mathlib.Omega.{arith}
 use mathlib.Core.Path.{_≡_, refl, subst}
@@ -6,12 +6,18 @@ use mathlib.Core.Bool.{Bool, true, false, cond, _&&_}
 use mathlib.Core.List.{List, [], _∷_}
 use mathlib.Core.Option.{Option, some, none as nothing}
 use lib.Dec.{leb, ltb, eqb}
-use lib.ListN.{length}
-use Rattle.field.specs.Limits.{absent, maxDepth, maxEntries}
+use lib.ListN.{length, drop, length-drop}
+use Rattle.field.specs.Limits.{absent, maxDepth, maxEntries, maxPieces, minReport}
 use Rattle.part.specs.PartReq.{PartReq, all, exist, none, more, entries, spine}
-use Rattle.request.specs.Fields.{Read, malformed, got, _>>=_}
+use Rattle.context.specs.RequiredContext.{pieces}
+use Rattle.request.specs.Fields.{fields, Read, malformed, got, _>>=_, whole, Answer, accepted, refused}
 use Rattle.request.specs.Part.{readEntries, readLevel, byCode, readPart, readReturn, readVariables}
-use Rattle.request.specs.Request.{Request, asking, readBody}
+use Rattle.request.specs.Request.{Request, asking, readBody, isRequest, requestOf, known, judge}
+use Rattle.walk.specs.Statement.{needOf, retvalOf}
+use Rattle.walk.specs.Requests.{asked}
+use Rattle.sound.proofs.Parts.{OnGot}
+use Rattle.sound.proofs.Asked.{OnSome, OnAccepted, whole-on, some-when}
+use Rattle.requests.specs.Begin.{baseOf}
 
 -- of n fields, what was read has two for each piece, and k beside; the others are left
 abbrev Costs : {A : Type 0} → (A → ℕ) → (n k : ℕ) → Read A → Type 0
@@ -98,3 +104,46 @@ body-cost (f ∷ fs) =
     (chained returned asks (length fs) 1 (suc (length fs)) 3 (readReturn fs) _ (return-cost fs)
     (λ p gs h. chained entries asks (length gs) 1 (suc (length fs)) 3 (readVariables gs) _ (variables-cost gs) (λ g hs l. omega arith)))
     tt
+
+-- a field has two bytes
+fields-few : (s : List ℕ) → 2 * length (fields s) ≤ length s
+unfolding fields
+fields-few [] = omega arith
+fields-few (b ∷ []) = omega arith
+fields-few (b ∷ (c ∷ bs)) = omega (arith, fields-few bs)
+
+-- of n fields, or of as many bytes
+abbrev Asks : ℕ → Request → Type 0
+Asks n q = 2 * asks q + 3 ≤ n
+
+got-few : (n : ℕ) (x : Read Request) → Costs asks n 3 x → OnGot (Asks n) x
+got-few n malformed h = tt
+got-few n (got q gs) h = omega arith
+
+judged-few : (n : ℕ) (q : Request) (a b : Bool) → Asks n q → OnAccepted (Asks n) (cond a (cond b (refused 18) (accepted q)) (refused 11))
+judged-few n q true true h = tt
+judged-few n q true false h = h
+judged-few n q false b h = tt
+
+judge-few : (functions globals report n : ℕ) (o : Option Request) → OnSome (Asks n) o → OnAccepted (Asks n) (judge functions globals report o)
+unfolding judge
+judge-few functions globals report n nothing h = tt
+judge-few functions globals report n (some q) h = judged-few n q (known functions globals q) (ltb report minReport) h
+
+request-few : (functions globals report : ℕ) (s : List ℕ) → OnAccepted (Asks (length (fields (drop 4 s)))) (judge functions globals report (requestOf s))
+unfolding requestOf
+request-few functions globals report s =
+    let fs = fields (drop 4 s) in
+    judge-few functions globals report (length fs) (cond (isRequest s) (whole (readBody fs)) nothing)
+    (some-when (Asks (length fs)) (isRequest s) (whole (readBody fs)) (whole-on (Asks (length fs)) (readBody fs) (got-few (length fs) (readBody fs) (body-cost fs))))
+
+asked-few : (o : Option PartReq) → entries (asked o) ≤ 1 + returned o
+unfolding needOf retvalOf entries
+asked-few nothing = omega arith
+asked-few (some p) = omega arith
+
+pub base-few : (functions globals report : ℕ) (s : List ℕ) (q : Request) → judge functions globals report (requestOf s) ≡ accepted q → length s ≤ 4 + absent → pieces (baseOf q) ≤ 2 * maxPieces
+unfolding pieces entries
+base-few functions globals report s q e l =
+    let h : Asks (length (fields (drop 4 s))) q = subst (OnAccepted (Asks (length (fields (drop 4 s))))) e (request-few functions globals report s) in
+    omega (arith, fields-few (drop 4 s), length-drop 4 s, asked-few (q .retval))

@@ -1,6 +1,9 @@
 pub mod Sequence
 pub mod Answers
+pub mod Basing
+pub mod Beginning
 pub mod Ends
 pub mod Begins
 pub mod Few
 pub mod Finishing
+pub mod Serving

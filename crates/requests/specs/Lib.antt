@@ -2,3 +2,5 @@ pub mod Answer
 pub mod Serve
 pub mod Loaded
 pub mod Finish
+pub mod Begin
+pub mod Served

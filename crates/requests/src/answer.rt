@@ -15,6 +15,9 @@ ghost use Rattle.walk.specs.StatementReq.{mark};
 ghost use Rattle.request.specs.Written.{Written};
 ghost use Rattle.requests.specs.Answer.{minAnswer, Answering, answerIn};
 
+// the least buffer
+pub const MIN_ANSWER: usize = 327680;
+
 fn flag(b: bool) -> u16
     ensures { λ r. ⌜ r ≡ mark b ⌝ }
 {
