@@ -9,6 +9,24 @@
 uint32_t tickingtor_read(const uint8_t *bytes, size_t length);
 
 /*
+ * A request over a pruner. Answers one number: below 2^32, the visits of a request that is accepted; otherwise 2^32 times the number by
+ * which it refuses, plus the place: 0 for none, 2^30 + 2^15 * function + expression, or 2^31 + 2^15 * function + statement.
+ * In this order: a module's 1 to 5; 12; 11; 18 (`report` has fewer than 65,536 bytes); 19 (`pruner` has fewer than 131,072 bytes, or holds
+ * other than totals of this module); 20 (`answer` has fewer than 327,680 bytes); then the walk's 13 to 17.
+ * Refused: all three buffers are as they were. Accepted: each is written from the first byte on, and what lies past that is as it was.
+ *   pruner   the totals, for the next request over this pruner: the record PN. Before the first request its first two bytes are zero.
+ *   report   the marks of all functions, a byte each, 0 or 1, functions and statements ascending.
+ *   answer   the record AN: required, visits, input context, and the record of each expression.
+ * PN and AN are two letters, a 32-bit length and 16-bit fields, little-endian. A context is the return part, then globals, arguments and
+ * locals, each a count and then number and part each; a part is as in a request, and 3 where there is none.
+ *   PN       the globals, a count and then number and part each; for each function 0, or 1, its marks, its context, and each expression's part.
+ *   AN       0 or 1; the visits, low and high half; the context; each expression's part.
+ * The buffers share no byte with each other or with the other slices.
+ */
+uint64_t tickingtor_request(const uint8_t *module, size_t module_length, const uint8_t *request, size_t request_length, uint8_t *pruner,
+                            size_t pruner_length, uint8_t *report, size_t report_length, uint8_t *answer, size_t answer_length);
+
+/*
  * Operations on bindings. Each answers one number: below 2^32, how many bytes it wrote to `out`, from the first on; otherwise 2^32
  * times the number by which it refuses (a module's 1 to 5 come first), and then `out` is as it was. 13 alone adds the argument's
  * number. `out` shares no byte with the other slices. A call takes at most 1.5 MB of stack.

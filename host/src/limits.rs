@@ -13,8 +13,12 @@ pub const ITEMS: usize = 16;
 pub const BINDING: u16 = 63;
 /// The least buffer for a report, and for a request that is written.
 pub const REPORT: usize = 65536;
+/// The least buffers for a pruner and for an answer.
+pub const PRUNER: usize = 131072;
+pub const ANSWER: usize = 327680;
 pub const DEPTH: usize = 8;
 pub const ENTRIES: usize = 16;
+pub const PIECES: usize = 8192;
 
 /// Bounds of this program alone: how deep a part's text may nest, how long a file a listing may make.
 pub const NESTING: usize = 64;

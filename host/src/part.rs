@@ -5,12 +5,15 @@ use crate::limits;
 use crate::record::Cursor;
 use std::fmt;
 
+/// Variables or indexes, each with a requirement.
+pub type Parts = Vec<(u16, Part)>;
+
 #[derive(Clone, PartialEq, Eq, Debug)]
 pub enum Part {
     All,
     Exist,
     None,
-    Entries(Vec<(u16, Part)>),
+    Entries(Parts),
 }
 
 impl fmt::Display for Part {
@@ -76,6 +79,24 @@ impl Part {
         }
     }
 
+    /// The entries at every depth.
+    pub fn entries(&self) -> usize {
+        if let Part::Entries(entries) = self {
+            pieces(entries)
+        } else {
+            0
+        }
+    }
+
+    /// What 16 counts of it as a record or a return part, which may be none.
+    pub fn record_pieces(&self) -> usize {
+        if *self == Part::None {
+            0
+        } else {
+            1 + self.entries()
+        }
+    }
+
     /// Why a request may not ask for it, if it may not; `top` for a return value's own requirement.
     pub fn fault(&self, depth: usize, top: bool) -> Option<String> {
         match self {
@@ -86,6 +107,31 @@ impl Part {
             _ => None,
         }
     }
+}
+
+/// A count, then number and part each, as `Part::read` has it.
+pub fn read_list(fields: &mut Cursor) -> Option<Parts> {
+    let count = fields.next()?;
+    (0..count).map(|_| Some((fields.next()?, Part::read(fields, 0)?))).collect()
+}
+
+pub fn write_list(parts: &Parts, fields: &mut Vec<u16>) {
+    fields.push(parts.len() as u16);
+    for (n, part) in parts {
+        fields.push(*n);
+        part.write(fields);
+    }
+}
+
+/// What 16 counts: one for each, and its entries at every depth.
+pub fn pieces(parts: &Parts) -> usize {
+    parts.iter().map(|(_, part)| 1 + part.entries()).sum()
+}
+
+/// Whether they are of variables below `count` that ascend, each part within the limits.
+pub fn fits(parts: &Parts, count: usize) -> bool {
+    let known = parts.iter().all(|(n, part)| (*n as usize) < count && part.fault(0, false).is_none());
+    known && ascending(parts).is_none()
 }
 
 /// Why these numbers do not ascend, if they do not.

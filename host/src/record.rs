@@ -45,6 +45,22 @@ pub fn write(letters: [u8; 2], fields: &[u16]) -> Option<Vec<u8>> {
     Some(bytes)
 }
 
+/// A record of the library's own: its length has 32 bits.
+pub fn write_long(letters: [u8; 2], fields: &[u16]) -> Vec<u8> {
+    let mut bytes = letters.to_vec();
+    bytes.extend((2 * fields.len() as u32).to_le_bytes());
+    bytes.extend(fields.iter().flat_map(|f| f.to_le_bytes()));
+    bytes
+}
+
+/// The fields of such a record where it stands whole at the start; bytes may follow it.
+pub fn read_long(letters: [u8; 2], bytes: &[u8]) -> Option<Vec<u16>> {
+    let (head, rest) = bytes.split_at_checked(6)?;
+    let length = u32::from_le_bytes([head[2], head[3], head[4], head[5]]) as usize;
+    let body = rest.get(..length)?;
+    (head.starts_with(&letters) && length % 2 == 0).then(|| fields(body))
+}
+
 /// Fields taken one after the other.
 pub struct Cursor<'a> {
     left: &'a [u16],

@@ -1,14 +1,14 @@
 //! A request: a function, what is asked of its return value, and what is asked of globals. As text: `0 all 3={1:exist}`.
 use crate::form::ABSENT;
 use crate::operands::{number, show_number};
-use crate::part::{ascending, Part};
+use crate::part::{ascending, read_list, write_list, Part, Parts};
 use crate::record::Cursor;
 
 #[derive(Clone, PartialEq, Eq, Debug)]
 pub struct Request {
     pub function: u16,
     pub retval: Part,
-    pub globals: Vec<(u16, Part)>,
+    pub globals: Parts,
 }
 
 impl Request {
@@ -39,11 +39,7 @@ impl Request {
     pub fn fields(&self) -> Vec<u16> {
         let mut fields = vec![self.function];
         self.retval.write(&mut fields);
-        fields.push(self.globals.len() as u16);
-        for (global, part) in &self.globals {
-            fields.push(*global);
-            part.write(&mut fields);
-        }
+        write_list(&self.globals, &mut fields);
         fields
     }
 
@@ -52,11 +48,7 @@ impl Request {
         let mut cursor = Cursor::new(fields);
         let function = cursor.next()?;
         let retval = Part::read(&mut cursor, 0)?;
-        let count = cursor.next()?;
-        let mut globals = Vec::new();
-        for _ in 0..count {
-            globals.push((cursor.next()?, Part::read(&mut cursor, 0)?));
-        }
+        let globals = read_list(&mut cursor)?;
         (cursor.left() == 0).then_some(Request { function, retval, globals })
     }
 

@@ -1,0 +1,59 @@
+//! A module's requests asked of the library, one after the other over one pruner, and held against the oracle's answers: lines, marks,
+//! totals, visits, the refusal and its place, and every byte of the buffers.
+use crate::lent::{Lent, Served};
+use crate::library::Reply;
+use crate::oracle::Answer;
+use crate::outline::Outline;
+use crate::record::fields;
+use crate::stored::Requests;
+
+/// A message where the library answers otherwise.
+pub fn replay(case: &Requests) -> Result<(), String> {
+    let outline = Outline::of(&case.module);
+    let mut lent = Lent::with_report(case.buffer as usize);
+    let mut totals = String::new();
+    for (n, (request, answer)) in case.requests.iter().enumerate() {
+        let place = |reason: String| format!("request {n}: {reason}");
+        let served = lent.serve(&case.module, &outline, request).map_err(place)?;
+        same(&outline, request, answer, &served).map_err(place)?;
+        if let Some(written) = &served.written {
+            totals = written.totals.lines(&outline);
+        }
+        equal("totals", &answer.totals, &totals).map_err(place)?;
+    }
+    Ok(())
+}
+
+/// Whether an answer is the oracle's but for the totals.
+pub fn same(outline: &Outline, request: &[u8], answer: &Answer, served: &Served) -> Result<(), String> {
+    if !agrees(answer, served.reply) {
+        return Err(format!(
+            "the oracle answers {} at {:?} in {} visits, the library {:?}",
+            answer.refusal, answer.place, answer.visits, served.reply
+        ));
+    }
+    let Some(written) = &served.written else { return Ok(()) };
+    let function = fields(&request[4..])[0] as usize;
+    let marks = &written.marks[outline.stretch(function)];
+    let report = written.reported.lines() + &outline.functions[function].lines(marks);
+    equal("report", &answer.report, &report)?;
+    equal("visits in the answer", &answer.visits, &written.reported.visits)?;
+    equal("marks", &answer.marks, &written.marks)
+}
+
+fn equal<T: PartialEq + std::fmt::Debug>(what: &str, oracle: &T, library: &T) -> Result<(), String> {
+    if oracle == library {
+        return Ok(());
+    }
+    Err(format!("{what}: the oracle has\n{oracle:#?}\nthe library\n{library:#?}"))
+}
+
+/// Whether the reply is the oracle's. 17 has another place: the oracle names the innermost visit that is open, the library the one that
+/// does not begin.
+fn agrees(answer: &Answer, reply: Reply) -> bool {
+    match (answer.refusal, reply) {
+        (0, _) => reply == Reply::Visited(answer.visits),
+        (17, Reply::Refused { number: 17, place }) => place.is_some(),
+        (number, _) => reply == Reply::Refused { number: u32::from(number), place: answer.place },
+    }
+}
