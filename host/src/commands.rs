@@ -1,6 +1,6 @@
 //! The commands: each reads its files, does one thing and says what went wrong.
 use crate::stored::{Reading, Requests, Source};
-use crate::{assemble, bindings, check, compare, count, form, list, model, store};
+use crate::{assemble, bindings, check, compare, count, form, list, model, requests, store};
 
 const USAGE: &str = "\
 host assemble [--any] LISTING OUT   a listing to a file; --any: also one that reading would refuse
@@ -13,6 +13,7 @@ host stored report ORACLE OUT SOURCE...
 host stored count READING REQUESTS          a table of what the two lists reach
 host compare reading ORACLE SEED COUNT SOURCE...    the library against the oracle: the sources' modules and damaged copies of them
 host compare bindings ORACLE SEED COUNT SOURCE...   the same for the operations on bindings, asked anew of the sources' modules
+host compare requests ORACLE SEED COUNT SOURCE...   the same for requests: the sources, varied, damaged and generated modules, asked anew
 ";
 
 pub fn run(words: &[&str]) -> Result<(), String> {
@@ -28,6 +29,7 @@ pub fn run(words: &[&str]) -> Result<(), String> {
         ["stored", "count", reading, requests] => count_lists(reading, requests),
         ["compare", "reading", oracle, seed, count, ref sources @ ..] => compare_reading(oracle, seed, count, sources),
         ["compare", "bindings", oracle, seed, count, ref sources @ ..] => compare_bindings(oracle, seed, count, sources),
+        ["compare", "requests", oracle, seed, count, ref sources @ ..] => compare_requests(oracle, seed, count, sources),
         _ => Err(USAGE.into()),
     }
 }
@@ -90,6 +92,12 @@ fn compare_reading(oracle: &str, seed: &str, count: &str, sources: &[&str]) -> R
 fn compare_bindings(oracle: &str, seed: &str, count: &str, sources: &[&str]) -> Result<(), String> {
     let reached = bindings::compare(oracle, number(seed)?, number(count)?, &store::sources(sources)?)?;
     print(&reached.iter().map(|(name, count)| format!("{name}: {count}\n")).collect::<String>())
+}
+
+fn compare_requests(oracle: &str, seed: &str, count: &str, sources: &[&str]) -> Result<(), String> {
+    let start = std::time::Instant::now();
+    let reached = requests::compare(oracle, number(seed)?, number(count)?, &store::sources(sources)?)?;
+    print(&format!("seed: {seed}\nseconds: {}\n{}", start.elapsed().as_secs(), reached.lines()))
 }
 
 fn generate(statements: &str, seed: &str) -> Result<(), String> {

@@ -40,7 +40,14 @@ impl Counts {
         counts
     }
 
-    fn add(&mut self, bytes: &[u8]) {
+    /// How many records of these letters have this kind.
+    pub fn of(&self, letters: &str, kind: u16) -> usize {
+        let mark = FORMS.iter().find(|f| f.letters == letters.as_bytes()).map(|f| f.mark);
+        mark.and_then(|m| self.kinds.get(&(m, kind))).copied().unwrap_or(0)
+    }
+
+    /// A file's records and kinds.
+    pub fn add(&mut self, bytes: &[u8]) {
         for record in records(bytes).0 {
             let Some(mark) = Mark::of_letters(record.letters) else { continue };
             *self.records.entry(mark).or_default() += 1;

@@ -29,6 +29,13 @@ impl Buffer {
         &self.0[GUARD..self.0.len() - GUARD]
     }
 
+    /// One of only so many of its bytes.
+    pub fn cut(&self, length: usize) -> Buffer {
+        let mut shorter = Buffer::new(length);
+        shorter.lent().copy_from_slice(&self.bytes()[..length]);
+        shorter
+    }
+
     /// Whether it is what it was but for these bytes at the front.
     fn holds(&self, written: &[u8], before: &Buffer) -> bool {
         let end = GUARD + written.len();
@@ -44,11 +51,13 @@ pub struct Lent {
 }
 
 /// An answer, with what was written if it was accepted.
+#[derive(PartialEq, Eq)]
 pub struct Served {
     pub reply: Reply,
     pub written: Option<Written>,
 }
 
+#[derive(PartialEq, Eq)]
 pub struct Written {
     pub reported: Reported,
     /// The marks of all functions.

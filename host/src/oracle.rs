@@ -3,6 +3,7 @@
 use crate::record::{records, split};
 use std::io::Write;
 use std::process::{Command, Stdio};
+use std::sync::atomic::{AtomicUsize, Ordering};
 
 /// One answer to a request.
 #[derive(Clone, Default, PartialEq, Eq, Debug)]
@@ -21,6 +22,16 @@ pub struct Answer {
     pub marks: Vec<u8>,
     /// The pruner's totals after it.
     pub totals: String,
+    /// What the Rust says as it panics (13). It is not stored.
+    pub panic: String,
+}
+
+/// What the oracle says to a module with requests.
+#[derive(Clone, PartialEq, Eq, Debug)]
+pub enum Outcome {
+    /// Reading's refusal of the module.
+    Refused(u16),
+    Answers(Vec<Answer>),
 }
 
 /// The innermost open visit of a refusal.
@@ -52,26 +63,67 @@ pub fn reading(program: &str, bytes: &[u8]) -> Result<u16, String> {
 
 /// The same of many, in one run of the program.
 pub fn readings(program: &str, modules: &[Vec<u8>]) -> Result<Vec<u16>, String> {
-    let folder = std::env::temp_dir().join(format!("host-{}", std::process::id()));
+    let files: Vec<Vec<u8>> = modules.iter().map(|m| without_requests(m)).collect();
+    run_many(program, &[], &files)?.iter().map(|text| refusal(text)).collect()
+}
+
+/// The answers to the requests of many files, in one run of the program. A file without a request is a module that reading refuses.
+pub fn outcomes(program: &str, files: &[Vec<u8>]) -> Result<Vec<Outcome>, String> {
+    let texts = run_many(program, &["--totals", "--marks", "--visits", "--why"], files)?;
+    let other = |text: &str| format!("an answer of another form:\n{text}");
+    texts.iter().map(|text| outcome(text).ok_or_else(|| other(text))).collect()
+}
+
+/// Where reading refuses, one line says so and one says where.
+fn outcome(text: &str) -> Option<Outcome> {
+    let mut lines = text.lines();
+    let first = lines.next()?.strip_prefix("refused ");
+    match (first, lines.next()) {
+        (Some(number), Some(place)) if place.starts_with("# at byte ") => number.parse().ok().map(Outcome::Refused),
+        _ => parse(text).map(Outcome::Answers),
+    }
+}
+
+/// The number of folders that were made, so that each has a name of its own.
+static FOLDERS: AtomicUsize = AtomicUsize::new(0);
+
+/// The texts that one run prints for these files, in their order.
+fn run_many(program: &str, options: &[&str], files: &[Vec<u8>]) -> Result<Vec<String>, String> {
+    let number = FOLDERS.fetch_add(1, Ordering::Relaxed);
+    let folder = std::env::temp_dir().join(format!("host-{}-{number}", std::process::id()));
     let fault = |e: std::io::Error| format!("{}: {e}", folder.display());
     std::fs::create_dir_all(&folder).map_err(fault)?;
     let mut command = Command::new(program);
-    for (n, module) in modules.iter().enumerate() {
+    command.args(options);
+    for (n, bytes) in files.iter().enumerate() {
         let file = folder.join(n.to_string());
-        std::fs::write(&file, without_requests(module)).map_err(fault)?;
+        std::fs::write(&file, bytes).map_err(fault)?;
         command.arg(file);
     }
     let done = command.output().map_err(|e| format!("{program}: {e}"))?;
     std::fs::remove_dir_all(&folder).map_err(fault)?;
     let text = String::from_utf8(done.stdout).map_err(|e| format!("{program}: {e}"))?;
-    let answers: Vec<&str> = text.lines().filter(|l| l.starts_with("refused ")).collect();
-    if answers.len() != modules.len() {
-        return Err(format!("{} answers to {} modules", answers.len(), modules.len()));
+    let texts = if files.len() == 1 { vec![text] } else { by_file(&text) };
+    if texts.len() != files.len() || !done.status.success() {
+        return Err(format!("{program}: {}, {} answers to {} files", done.status, texts.len(), files.len()));
     }
-    answers.into_iter().map(refusal).collect()
+    Ok(texts)
 }
 
-fn without_requests(bytes: &[u8]) -> Vec<u8> {
+/// Each file's text follows a line with its name.
+fn by_file(text: &str) -> Vec<String> {
+    let mut texts: Vec<String> = Vec::new();
+    for line in text.split_inclusive('\n') {
+        match texts.last_mut() {
+            _ if line.starts_with("== ") => texts.push(String::new()),
+            Some(open) => open.push_str(line),
+            None => {}
+        }
+    }
+    texts
+}
+
+pub fn without_requests(bytes: &[u8]) -> Vec<u8> {
     let mut module = bytes.to_vec();
     let (found, rest) = records(bytes);
     let starts = found.iter().map(|r| r.at).chain([bytes.len() - rest.len()]);
@@ -153,6 +205,9 @@ fn parse_note(note: &str, answer: &mut Answer) -> Option<()> {
         let number = |n: usize| words.get(n)?.parse::<u16>().ok();
         answer.place = Some(Place { statement: words.get(2)? == &"stmt", function: number(1)?, number: number(3)? });
     }
+    if answer.refusal == 13 {
+        answer.panic = note.split_once('(').and_then(|n| n.1.rsplit_once(" @")).map_or("", |n| n.0).to_string();
+    }
     let counts = note.strip_prefix("visits ").or_else(|| note.rsplit_once(" visits ").map(|n| n.1))?;
     let words: Vec<&str> = counts.split(' ').collect();
     answer.visits = words.first()?.parse().ok()?;
@@ -169,6 +224,14 @@ mod tests {
     use super::*;
 
     #[test]
+    fn files_are_told_apart() {
+        let texts = by_file("== a/0\nrefused 2\n# at byte 0\n== a/1\nrefused 12\ntotals\nend\n");
+        let found: Vec<Outcome> = texts.iter().map(|t| outcome(t).unwrap()).collect();
+        let malformed = Answer { refusal: 12, report: "refused 12\n".into(), ..Answer::default() };
+        assert_eq!(found, [Outcome::Refused(2), Outcome::Answers(vec![malformed])]);
+    }
+
+    #[test]
     fn answers_are_taken_apart() {
         let text = "required yes\nretval all\n# visits 33 turns 2 max 1 peak pieces 29\n# marks 101/ 11/\ntotals\nglobal 0 all\nend\n\
                     refused 13\n# fn 1 expr 4 (not visits 9 @12) visits 7 turns 0 pieces held 1 records 6 totals 0; open: fn 0 stmt 4\ntotals\nend\n";
@@ -178,6 +241,7 @@ mod tests {
         assert_eq!(found[0].marks, [1, 0, 1, 1, 1]);
         assert_eq!(found[0].totals, "global 0 all\n");
         assert_eq!((found[1].refusal, found[1].visits), (13, 7));
+        assert_eq!(found[1].panic, "not visits 9");
         assert_eq!(found[1].place, Some(Place { statement: false, function: 1, number: 4 }));
     }
 }

@@ -88,7 +88,7 @@ impl Function {
     }
 
     /// Each statement's own marks.
-    fn own<'a>(&self, marks: &'a [u8]) -> Vec<&'a [u8]> {
+    pub fn own<'a>(&self, marks: &'a [u8]) -> Vec<&'a [u8]> {
         let mut rest = marks;
         let mut found = Vec::new();
         for statement in &self.statements {

@@ -15,30 +15,27 @@ pub fn replay(case: &Requests) -> Result<(), String> {
     for (n, (request, answer)) in case.requests.iter().enumerate() {
         let place = |reason: String| format!("request {n}: {reason}");
         let served = lent.serve(&case.module, &outline, request).map_err(place)?;
-        same(&outline, request, answer, &served).map_err(place)?;
-        if let Some(written) = &served.written {
-            totals = written.totals.lines(&outline);
-        }
-        equal("totals", &answer.totals, &totals).map_err(place)?;
+        same(&outline, request, answer, &served, &mut totals).map_err(place)?;
     }
     Ok(())
 }
 
-/// Whether an answer is the oracle's but for the totals.
-pub fn same(outline: &Outline, request: &[u8], answer: &Answer, served: &Served) -> Result<(), String> {
+/// Whether an answer is the oracle's, where `totals` are those before it; then they are those after it.
+pub fn same(outline: &Outline, request: &[u8], answer: &Answer, served: &Served, totals: &mut String) -> Result<(), String> {
     if !agrees(answer, served.reply) {
-        return Err(format!(
-            "the oracle answers {} at {:?} in {} visits, the library {:?}",
-            answer.refusal, answer.place, answer.visits, served.reply
-        ));
+        let (number, visits) = (answer.refusal, answer.visits);
+        return Err(format!("the oracle answers {number} at {:?} in {visits} visits, the library {:?}", answer.place, served.reply));
     }
-    let Some(written) = &served.written else { return Ok(()) };
-    let function = fields(&request[4..])[0] as usize;
-    let marks = &written.marks[outline.stretch(function)];
-    let report = written.reported.lines() + &outline.functions[function].lines(marks);
-    equal("report", &answer.report, &report)?;
-    equal("visits in the answer", &answer.visits, &written.reported.visits)?;
-    equal("marks", &answer.marks, &written.marks)
+    if let Some(written) = &served.written {
+        let function = fields(&request[4..])[0] as usize;
+        let marks = &written.marks[outline.stretch(function)];
+        let report = written.reported.lines() + &outline.functions[function].lines(marks);
+        equal("report", &answer.report, &report)?;
+        equal("visits in the answer", &answer.visits, &written.reported.visits)?;
+        equal("marks", &answer.marks, &written.marks)?;
+        *totals = written.totals.lines(outline);
+    }
+    equal("totals", &answer.totals, totals)
 }
 
 fn equal<T: PartialEq + std::fmt::Debug>(what: &str, oracle: &T, library: &T) -> Result<(), String> {

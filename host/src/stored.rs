@@ -94,6 +94,7 @@ fn read_answer(source: &mut Source) -> Option<Answer> {
         report: source.text()?,
         marks: source.string()?,
         totals: source.text()?,
+        panic: String::new(),
     })
 }
 
