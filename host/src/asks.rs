@@ -216,7 +216,7 @@ fn queries() -> Vec<Asked> {
 }
 
 /// A loop that finds one call's argument, and with it one global, in each turn: it settles one turn after the last of them.
-fn chain(calls: usize) -> String {
+pub fn chain(calls: usize) -> String {
     let globals = "global 0\n".repeat(calls);
     let called = "fn function 0 -\narg 0 -\nexpr 0 FunctionArgument 0\nblock\nstmt Return 0\n";
     let results = "expr 0 CallResult\n".repeat(calls);

@@ -1,6 +1,7 @@
 //! The commands: each reads its files, does one thing and says what went wrong.
+use crate::measured::{self, File};
 use crate::stored::{Reading, Requests, Source};
-use crate::{assemble, bindings, check, compare, count, form, list, model, requests, store};
+use crate::{assemble, bench, bindings, check, compare, count, form, list, model, requests, store};
 
 const USAGE: &str = "\
 host assemble [--any] LISTING OUT   a listing to a file; --any: also one that reading would refuse
@@ -14,6 +15,7 @@ host stored count READING REQUESTS          a table of what the two lists reach
 host compare reading ORACLE SEED COUNT SOURCE...    the library against the oracle: the sources' modules and damaged copies of them
 host compare bindings ORACLE SEED COUNT SOURCE...   the same for the operations on bindings, asked anew of the sources' modules
 host compare requests ORACLE SEED COUNT SOURCE...   the same for requests: the sources, varied, damaged and generated modules, asked anew
+host bench BENCH FILE...    the library's requests timed against the original's (BENCH: its program for timing); without FILE, on our own
 ";
 
 pub fn run(words: &[&str]) -> Result<(), String> {
@@ -30,6 +32,7 @@ pub fn run(words: &[&str]) -> Result<(), String> {
         ["compare", "reading", oracle, seed, count, ref sources @ ..] => compare_reading(oracle, seed, count, sources),
         ["compare", "bindings", oracle, seed, count, ref sources @ ..] => compare_bindings(oracle, seed, count, sources),
         ["compare", "requests", oracle, seed, count, ref sources @ ..] => compare_requests(oracle, seed, count, sources),
+        ["bench", program, ref files @ ..] => measure(program, files),
         _ => Err(USAGE.into()),
     }
 }
@@ -98,6 +101,14 @@ fn compare_requests(oracle: &str, seed: &str, count: &str, sources: &[&str]) -> 
     let start = std::time::Instant::now();
     let reached = requests::compare(oracle, number(seed)?, number(count)?, &store::sources(sources)?)?;
     print(&format!("seed: {seed}\nseconds: {}\n{}", start.elapsed().as_secs(), reached.lines()))
+}
+
+fn measure(program: &str, paths: &[&str]) -> Result<(), String> {
+    let mut files = if paths.is_empty() { measured::files()? } else { Vec::new() };
+    for path in paths {
+        files.extend(store::sources(&[path])?.into_iter().map(|bytes| File { name: path.to_string(), bytes }));
+    }
+    print(&bench::bench(program, &files)?)
 }
 
 fn generate(statements: &str, seed: &str) -> Result<(), String> {

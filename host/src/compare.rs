@@ -44,7 +44,7 @@ fn case(modules: &[Vec<u8>], n: usize, random: &mut Random) -> Vec<u8> {
 }
 
 /// A module with types more, up to a file's greatest length, or past it.
-fn longest(module: &[u8], random: &mut Random) -> Vec<u8> {
+pub fn longest(module: &[u8], random: &mut Random) -> Vec<u8> {
     let length = limits::BYTES - 1 + random.below(3);
     let mut bytes = b"TY\x02\0\0\0".repeat(length / 6);
     bytes.truncate(length.saturating_sub(module.len()));

@@ -1,5 +1,6 @@
 //! Requests made anew for a module, and cases of them: the sources' modules, varied, damaged and generated ones, each with one to four
 //! requests over one pruner.
+use crate::compare::longest;
 use crate::damage::damaged;
 use crate::limits;
 use crate::outline::Outline;
@@ -15,15 +16,18 @@ const DEPTH: usize = 5;
 
 /// A module with requests; its outline, if reading accepts it.
 pub struct Case {
+    /// The source's number, if it stands here as it is.
+    pub source: Option<usize>,
     pub module: Vec<u8>,
     pub outline: Option<Outline>,
     pub requests: Vec<Vec<u8>>,
 }
 
 impl Case {
-    fn of(module: Vec<u8>) -> Case {
+    /// Of this module, without a request.
+    pub fn of(module: Vec<u8>) -> Case {
         let outline = check::module(&module).is_ok().then(|| Outline::of(&module));
-        Case { module, outline, requests: Vec::new() }
+        Case { source: None, module, outline, requests: Vec::new() }
     }
 }
 
@@ -47,12 +51,13 @@ pub fn case(sources: &Sources, n: usize, random: &mut Random) -> Case {
     let (module, rest) = source.split_at(split(source));
     let own: Vec<Vec<u8>> = records(rest).0.iter().map(|r| rest[r.at..r.at + 4 + r.body.len()].to_vec()).take(4).collect();
     if n < sources.files.len() && !own.is_empty() {
-        return Case { requests: own, ..Case::of(module.to_vec()) };
+        return Case { source: Some(n), requests: own, ..Case::of(module.to_vec()) };
     }
     let mut case = Case::of(module.to_vec());
     match (random.below(100), &case.outline) {
         (0..=34, Some(outline)) => case = Case::of(varied(module, outline, random)),
-        (35..=49, _) => case = Case::of(damaged(module, random)),
+        (35, _) => case = Case::of(longest(module, random)),
+        (36..=49, _) => case = Case::of(damaged(module, random)),
         (50..=54, _) => case = Case::of(generated(random)),
         _ => {}
     }
@@ -132,7 +137,7 @@ fn wide(count: usize, depth: usize, random: &mut Random) -> Part {
     Part::Entries((0..count as u16).map(|i| (i, if random.chance(90) { inner.clone() } else { Part::Exist })).collect())
 }
 
-/// Indexes into a type, ascending, each with its type where there is a number for it.
+/// Indexes into a type, ascending, each with its type where there is a number for it; now and then one that a struct does not have.
 fn members(fields: &[u16], random: &mut Random) -> Vec<(u16, Option<u16>)> {
     let element = |kind: u16, random: &mut Random| {
         let first = random.below(4) as u16;
@@ -141,7 +146,10 @@ fn members(fields: &[u16], random: &mut Random) -> Vec<(u16, Option<u16>)> {
     match *fields {
         [1 | 2, size, ..] => (0..size).map(|i| (i, None)).collect(),
         [5 | 7, base, ..] => element(base, random),
-        [6, _, ref members @ ..] => members.chunks(2).enumerate().map(|(i, m)| (i as u16, Some(m[0]))).collect(),
+        [6, count, ref members @ ..] => {
+            let past = random.chance(10).then(|| (*random.pick(&[count, count + 1, 17, 300]), None));
+            members.chunks(2).enumerate().map(|(i, m)| (i as u16, Some(m[0]))).chain(past).collect()
+        }
         _ => Vec::new(),
     }
 }

@@ -30,19 +30,26 @@ pub fn same(outline: &Outline, request: &[u8], answer: &Answer, served: &Served,
         let function = fields(&request[4..])[0] as usize;
         let marks = &written.marks[outline.stretch(function)];
         let report = written.reported.lines() + &outline.functions[function].lines(marks);
-        equal("report", &answer.report, &report)?;
+        equal_lines("the report", &answer.report, &report)?;
         equal("visits in the answer", &answer.visits, &written.reported.visits)?;
         equal("marks", &answer.marks, &written.marks)?;
         *totals = written.totals.lines(outline);
     }
-    equal("totals", &answer.totals, totals)
+    equal_lines("the totals", &answer.totals, totals)
 }
 
 fn equal<T: PartialEq + std::fmt::Debug>(what: &str, oracle: &T, library: &T) -> Result<(), String> {
     if oracle == library {
         return Ok(());
     }
-    Err(format!("{what}: the oracle has\n{oracle:#?}\nthe library\n{library:#?}"))
+    Err(format!("{what}: the oracle has {oracle:?}, the library {library:?}"))
+}
+
+/// Texts by their first lines that differ.
+fn equal_lines(what: &str, oracle: &str, library: &str) -> Result<(), String> {
+    let at = oracle.lines().zip(library.lines()).take_while(|(a, b)| a == b).count();
+    let place = format!("line {} of {what}", at + 1);
+    equal(&place, &oracle.lines().nth(at), &library.lines().nth(at))
 }
 
 /// Whether the reply is the oracle's. 17 has another place: the oracle names the innermost visit that is open, the library the one that

@@ -5,6 +5,7 @@ use crate::library::{self, Reply};
 use crate::oracle::{self, Answer, Outcome};
 use crate::outline::Outline;
 use crate::probe::{probe, Asked};
+use crate::raise::raised;
 use crate::random::Random;
 use crate::reached::Reached;
 use crate::record::fields;
@@ -14,6 +15,8 @@ use crate::{limits, list, replay};
 const BATCH: usize = 400;
 /// How many requests of a hundred are asked with other buffers too.
 const PROBED: usize = 8;
+/// How many accepted requests of a hundred are asked again at the limit of pieces, or near it.
+const RAISED: usize = 3;
 /// A source whose requests take more visits than this is drawn seldom.
 const LIGHT: u32 = 20_000;
 
@@ -22,29 +25,51 @@ pub fn compare(program: &str, seed: u64, count: usize, files: &[Vec<u8>]) -> Res
     if files.is_empty() {
         return Err("no source".into());
     }
-    let mut sources = Sources { files, light: Vec::new() };
     let mut random = Random::new(seed);
-    let mut reached = Reached::default();
+    let mut sources = Sources { files, light: Vec::new() };
+    let (mut reached, mut drawn, mut cases) = (Reached::default(), 0, Vec::new());
     while reached.requests < count {
-        let cases: Vec<Case> = (0..BATCH).map(|n| case(&sources, reached.modules + n, &mut random)).collect();
-        let files: Vec<Vec<u8>> = cases.iter().map(file).collect();
-        let (outcomes, served) = std::thread::scope(|scope| {
-            let oracle = scope.spawn(|| oracle::outcomes(program, &files));
-            let served = library::with_stack(|| cases.iter().map(|c| serve(c, &mut random, &mut reached)).collect::<Vec<_>>());
-            (oracle.join().expect("no panic"), served)
-        });
-        for ((case, outcome), served) in cases.iter().zip(outcomes?).zip(served) {
-            let compared = served.and_then(|served| same(case, &outcome, &served, &mut reached));
-            compared.map_err(|reason| format!("seed {seed}, module {}: {reason}\n{}", reached.modules, list::list(&file(case))))?;
-            if reached.modules < files.len() && visits(&outcome) <= LIGHT {
-                sources.light.push(reached.modules);
-            }
-            reached.modules += 1;
-        }
+        cases.extend((drawn..drawn + BATCH).map(|n| case(&sources, n, &mut random)));
+        drawn += BATCH;
+        let outcomes = batch(program, &cases, &mut random, &mut reached)
+            .map_err(|(n, reason)| format!("seed {seed}: {reason}\n{}", list::list(&file(&cases[n]))))?;
+        let light = cases.iter().zip(&outcomes).filter(|(_, outcome)| visits(outcome) <= LIGHT);
+        sources.light.extend(light.filter_map(|(case, _)| case.source));
+        cases = cases.iter().zip(&outcomes).flat_map(|(c, outcome)| raises(c, outcome, &mut random)).collect();
         eprint!("\r{} of {count}", reached.requests);
     }
     eprintln!();
     Ok(reached)
+}
+
+/// The oracle's outcomes where the library's are the same; else the case and what differs.
+fn batch(program: &str, cases: &[Case], random: &mut Random, reached: &mut Reached) -> Result<Vec<Outcome>, (usize, String)> {
+    let files: Vec<Vec<u8>> = cases.iter().map(file).collect();
+    let (outcomes, served) = std::thread::scope(|scope| {
+        let oracle = scope.spawn(|| oracle::outcomes(program, &files));
+        let served = library::with_stack(|| cases.iter().map(|c| serve(c, random, reached)).collect::<Vec<_>>());
+        (oracle.join().expect("no panic"), served)
+    });
+    let outcomes = outcomes.map_err(|reason| (0, reason))?;
+    for (n, (outcome, served)) in outcomes.iter().zip(served).enumerate() {
+        served.and_then(|served| same(&cases[n], outcome, &served, reached)).map_err(|reason| (n, reason))?;
+        reached.modules += 1;
+    }
+    Ok(outcomes)
+}
+
+/// Some accepted requests again, with a total before them that brings them to the limit of pieces, one past it, or anywhere between.
+fn raises(case: &Case, outcome: &Outcome, random: &mut Random) -> Vec<Case> {
+    let (Outcome::Answers(answers), Some(outline)) = (outcome, &case.outline) else { return Vec::new() };
+    let mut found = Vec::new();
+    for (n, answer) in answers.iter().enumerate().filter(|(_, a)| a.refusal == 0) {
+        let (peak, more) = (answer.peak as usize, [0, 1, random.below(answer.peak as usize + 1)]);
+        if random.chance(RAISED) && answer.visits <= LIGHT {
+            let total = limits::PIECES - peak + random.pick(&more);
+            found.extend(raised(&case.module, outline, &case.requests[..=n], total));
+        }
+    }
+    found
 }
 
 fn visits(outcome: &Outcome) -> u32 {

@@ -2,6 +2,7 @@
 use crate::asks::{self, Asked};
 use crate::assemble::assemble;
 use crate::oracle;
+use crate::pairs;
 use crate::readings;
 use crate::record::{records, split};
 use crate::stored::{Reading, Report, Requests};
@@ -49,11 +50,12 @@ pub fn reading(program: &str, sources: &[Vec<u8>]) -> Result<Vec<u8>, String> {
     Ok(out)
 }
 
-/// The list for requests: the sources' and our own, where reading accepts the module.
+/// The list for requests: the sources', our own and pairs at each limit, where reading accepts the module.
 pub fn requests(program: &str, sources: &[Vec<u8>]) -> Result<Vec<u8>, String> {
     let given = sources.iter().flat_map(|s| asks::groups(s));
     let mut out = Vec::new();
-    for asked in given.chain(asks::all()).filter(asks::splits) {
+    let pairs = pairs::all().into_iter().flat_map(|pair| [pair.within, pair.past]);
+    for asked in given.chain(asks::all()).chain(pairs).chain(pairs::walks::deepest()).filter(asks::splits) {
         if let Some(case) = answered(program, asked)? {
             case.write(&mut out);
         }
