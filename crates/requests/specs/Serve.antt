@@ -1,6 +1,6 @@
 -- A request from bytes to bytes: what it answers, and what is left of the three buffers that are lent. Refusals come in 01's order: of the module (1 to 5), of the request (12, 11, 18),
 -- of our own buffers (19, 20), and then those of the walk. A refusal leaves every buffer as it was.
-use Prim.Native.Nat.{ℕ, _+_, _*_}
+use Prim.Native.Nat.{ℕ, _+_, _*_, _%_}
 use mathlib.Core.Bool.{cond}
 use mathlib.Core.List.{List, [], _∷_}
 use lib.Dec.{ltb}
@@ -70,13 +70,14 @@ serveAll s (bytes ∷ rest) lent =
     let others = serveAll s rest (first .1) in
     (first .0 ∷ (others .0), others .1)
 
--- A place as a number below 2^32: 0, or 2^30 for an expression and 2^31 for a statement, with 2^15 times the function and the number added.
+-- A place as a number of 32 bits: 0, or 2^30 for an expression and 2^31 for a statement, with the function's number in the 15 bits from 2^15 on and the expression's or the
+-- statement's in those below.
 unfoldable pub placeWord : Place → ℕ
 placeWord nowhere = 0
-placeWord (atExpression f e) = 1073741824 + (32768 * f + e)
-placeWord (atStatement f s) = 2147483648 + (32768 * f + s)
+placeWord (atExpression f e) = 1073741824 + (32768 * (f % 32768) + e % 32768)
+placeWord (atStatement f s) = 2147483648 + (32768 * (f % 32768) + s % 32768)
 
--- a reply as one number: the visits, which are below 2^32, or 2^32 times the refusal's number and its place
+-- A reply as a number of 64 bits: the visits, which are below 2^32, or the refusal's number in the 16 bits from 2^32 on, and its place.
 unfoldable pub replyWord : Reply → ℕ
 replyWord (visited n) = n
-replyWord (refusedAt n at) = 4294967296 * n + placeWord at
+replyWord (refusedAt n at) = 4294967296 * (n % 65536) + placeWord at

@@ -4,7 +4,11 @@ use crate::begin::Begun;
 use crate::begin::begin_request;
 use crate::finish::Reply;
 use crate::finish::finish_request;
+use field::limits::MIN_REPORT;
 use function::functions::add_function;
+use marks::report::TOTALS_SIZE;
+use memory::layout::CELLS;
+use memory::layout::SLOTS;
 use memory::layout::STACK;
 use module::handles::FunctionHandle;
 use pruner::frame::MIN_PRUNER;
@@ -13,7 +17,8 @@ use state::answer::Place;
 ghost use mathlib.Core.Path.{_≡_};
 ghost use Rattle.module.specs.Tables.{moduleOf};
 ghost use Rattle.context.specs.Types.{typesOf};
-ghost use Rattle.requests.specs.Begin.{Beginning};
+ghost use Rattle.marks.specs.Places.{Places};
+ghost use Rattle.state.specs.Ready.{WasRead};
 ghost use Rattle.requests.specs.Served.{Walking, Walked, Served};
 
 // The walk of f, and how it ends.
@@ -72,22 +77,22 @@ fn walk_request(
     }
 }
 
-// A refusal leaves the three buffers.
-pub fn serve_read(
+// The request in a walk's memory. A refusal leaves the three buffers.
+fn serve_in(
     bytes: &[u8],
     t: &[u32],
     types: &[u32],
     places: &[u32],
-    cells: &mut [u32],
-    slots: &mut [u32],
-    open: &mut [u8],
-    totals: &mut [u8],
+    cells: &mut [u32; CELLS],
+    slots: &mut [u32; SLOTS],
+    open: &mut [u8; MIN_REPORT],
+    totals: &mut [u8; TOTALS_SIZE],
     request: &[u8],
     pruner: &mut [u8],
     report: &mut [u8],
     answer: &mut [u8],
 ) -> Reply
-    requires { ⌜ Beginning (now bytes) (now t) (now places) (now cells) (now slots) (now «open») (now totals) × (typesOf (now types) ≡ moduleOf (now bytes) (now t) .types) ⌝ }
+    requires { ⌜ WasRead (now bytes) (now t) × Places (now bytes) (now t) (now places) × (typesOf (now types) ≡ moduleOf (now bytes) (now t) .types) ⌝ }
     ensures { λ r. ⌜ Served (now (bytes .entry)) (now (t .entry)) (now (request .entry)) (now (pruner .entry)) (now (report .entry)) (now (answer .entry)) r (now (pruner .exit)) (now (report .exit)) (now (answer .exit)) ⌝ }
 {
     let begun = begin_request(
@@ -128,4 +133,38 @@ pub fn serve_read(
             )
         }
     }
+}
+
+// The same with a memory of its own.
+pub fn serve_read(
+    bytes: &[u8],
+    t: &[u32],
+    types: &[u32],
+    places: &[u32],
+    request: &[u8],
+    pruner: &mut [u8],
+    report: &mut [u8],
+    answer: &mut [u8],
+) -> Reply
+    requires { ⌜ WasRead (now bytes) (now t) × Places (now bytes) (now t) (now places) × (typesOf (now types) ≡ moduleOf (now bytes) (now t) .types) ⌝ }
+    ensures { λ r. ⌜ Served (now (bytes .entry)) (now (t .entry)) (now (request .entry)) (now (pruner .entry)) (now (report .entry)) (now (answer .entry)) r (now (pruner .exit)) (now (report .exit)) (now (answer .exit)) ⌝ }
+{
+    let mut cells: [u32; CELLS] = [0; CELLS];
+    let mut slots: [u32; SLOTS] = [0; SLOTS];
+    let mut open: [u8; MIN_REPORT] = [0; MIN_REPORT];
+    let mut totals: [u8; TOTALS_SIZE] = [0; TOTALS_SIZE];
+    serve_in(
+        bytes,
+        t,
+        types,
+        places,
+        &mut cells,
+        &mut slots,
+        &mut open,
+        &mut totals,
+        request,
+        pruner,
+        report,
+        answer,
+    )
 }

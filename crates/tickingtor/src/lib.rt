@@ -4,3 +4,4 @@ pub mod answer;
 pub mod file;
 pub mod input;
 pub mod output;
+pub mod serve;
