@@ -1,17 +1,16 @@
 -- What is too long for the store is refused by 12: a request that is longer than it says is none, and of a context the definition says it.
-use Prim.Native.Nat.{ℕ, _+_, _%_, _<_, _≤_}
-use native.Mathlib.Omega.{arith}
+use Prim.Native.Nat.{ℕ, _+_, _<_, _≤_}
 use mathlib.Core.Path.{_≡_, refl}
-use mathlib.Core.Bool.{Bool, true, false, cond, _&&_}
+use mathlib.Core.Bool.{Bool, true, false, cond}
 use mathlib.Core.List.{List}
-use lib.Dec.{leb, eqb, ltb}
-use lib.ListN.{length, getD}
-use borrow.Author.Tests.{lt-ltb, le-ltb, ne-eqb}
+use lib.Dec.{ltb}
+use lib.ListN.{length}
+use borrow.Author.Tests.{lt-ltb, le-ltb}
 use Rattle.field.specs.Field.{fieldAt}
 use Rattle.module.specs.Module.{Module}
 use Rattle.module.specs.Operands.{bindings}
-use Rattle.request.specs.Fields.{framed}
-use Rattle.request.specs.Request.{isRequest, requestOf, judge}
+use Rattle.request.specs.Request.{requestOf, judge}
+use Rattle.requests.proofs.Basing.{not-request}
 use Rattle.bindings.specs.ContextBindings.{refused}
 use Rattle.bindings_request.specs.Boundary.{ownNumber, onRead, addBytes}
 use Rattle.bindings_request.specs.Inputs.{inputBytes}
@@ -20,14 +19,6 @@ use Rattle.tickingtor.specs.Answers.{maxContext, contextBytes, Answers}
 both-same : {A : Type 0} (b : Bool) (x : A) → cond b x x ≡ x
 both-same true x = refl
 both-same false x = refl
-
-and-off : (x y : Bool) → (x && false && y) ≡ false
-and-off true y = refl
-and-off false y = refl
-
-not-request : (s : List ℕ) → 4 + fieldAt s 2 < length s → isRequest s ≡ false
-unfolding framed
-not-request s h = rw (ne-eqb (4 + fieldAt s 2) (length s) (λ e. absurd (omega (arith, h, e)))) (and-off (leb 4 (length s) && eqb (getD s 0 0) 82 && eqb (getD s 1 0) 81) (eqb (fieldAt s 2 % 2) 0))
 
 pub long-request : (m : Module) (room b : ℕ) (s : List ℕ) → 4 + fieldAt s 2 < length s → addBytes m room b s ≡ refused 12
 unfolding addBytes onRead ownNumber judge requestOf

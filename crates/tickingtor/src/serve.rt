@@ -13,10 +13,11 @@ use requests::serve::serve_read;
 use state::answer::Place;
 use type_table::fill;
 ghost use mathlib.Core.Path.{_≡_};
-ghost use Prim.Native.Nat.{_≤_};
+ghost use Prim.Native.Nat.{_*_, _≤_};
 ghost use lib.ListN.{length};
-ghost use Rattle.module.specs.Tables.{words};
+ghost use Rattle.module.specs.Tables.{words, moduleOf};
 ghost use Rattle.reading.specs.Reads.{Reads};
+ghost use Rattle.context.specs.Types.{typeWords};
 ghost use Rattle.state.specs.State.{placeOf};
 ghost use Rattle.state.specs.Ready.{WasRead};
 ghost use Rattle.requests.specs.Serve.{placeWord, replyWord};
@@ -56,8 +57,28 @@ fn read_into(bytes: &[u8], t: &mut [u32]) -> u32
     read(bytes, t, &mut seen, &mut held)
 }
 
-// Of a module that was read.
+// Of a module that was read, with a row for each type.
 fn request_of(
+    bytes: &[u8],
+    t: &[u32],
+    table: &mut [u32],
+    places: &mut [u32; PLACES],
+    request: &[u8],
+    pruner: &mut [u8],
+    report: &mut [u8],
+    answer: &mut [u8],
+) -> u64
+    requires { ⌜ WasRead (now bytes) (now t) × (length (now table) ≡ typeWords * length (moduleOf (now bytes) (now t) .types)) ⌝ }
+    ensures { λ r. ⌜ RequestsRead (now (bytes .entry)) (now (t .entry)) (now (request .entry)) (now (pruner .entry)) (now (report .entry)) (now (answer .entry)) r (now (pruner .exit)) (now (report .exit)) (now (answer .exit)) ⌝ }
+{
+    fill(bytes, t, table);
+    place_marks(bytes, t, places);
+    let r = serve_read(bytes, t, table, places, request, pruner, report, answer);
+    reply_word(r)
+}
+
+// The same with tables of its own.
+fn request_in(
     bytes: &[u8],
     t: &[u32],
     request: &[u8],
@@ -71,19 +92,16 @@ fn request_of(
     let mut table: [u32; TYPE_WORDS * MAX_TYPES] = [0; TYPE_WORDS * MAX_TYPES];
     let mut places: [u32; PLACES] = [0; PLACES];
     let e = TYPE_WORDS * (types(t) as usize);
-    fill(bytes, t, &mut table[0..e]);
-    place_marks(bytes, t, &mut places);
-    let r = serve_read(
+    request_of(
         bytes,
         t,
-        &table[0..e],
-        &places,
+        &mut table[0..e],
+        &mut places,
         request,
         pruner,
         report,
         answer,
-    );
-    reply_word(r)
+    )
 }
 
 // The request's reply. Where it is refused, the three slices are as they were.
@@ -102,5 +120,5 @@ pub extern "C" fn tickingtor_request(
     if 0 < refusal {
         return reply_word(Reply::Refused(refusal, Place::Nowhere));
     }
-    request_of(bytes, &t, request, pruner, report, answer)
+    request_in(bytes, &t, request, pruner, report, answer)
 }
