@@ -13,6 +13,8 @@ use std::fmt::Write;
 pub struct Reached {
     pub modules: usize,
     pub requests: usize,
+    /// Of all requests, those that were refused on the way too.
+    all_visits: u64,
     /// Refusals by number, 0 for accepted.
     pub answers: BTreeMap<u16, usize>,
     /// Accepted requests by the digits of their visits.
@@ -28,6 +30,7 @@ pub struct Reached {
 impl Reached {
     pub fn answer(&mut self, outline: &Outline, answer: &Answer) {
         self.requests += 1;
+        self.all_visits += u64::from(answer.visits);
         *self.answers.entry(answer.refusal).or_default() += 1;
         if answer.refusal == 0 {
             *self.visits.entry(answer.visits.to_string().len()).or_default() += 1;
@@ -48,7 +51,7 @@ impl Reached {
     }
 
     pub fn lines(&self) -> String {
-        let mut text = format!("modules: {}\nrequests: {}\n", self.modules, self.requests);
+        let mut text = format!("modules: {}\nrequests: {}\nvisits: {}\n", self.modules, self.requests, self.all_visits);
         for (number, count) in &self.answers {
             let name = if *number == 0 { "accepted".into() } else { format!("refused {number}") };
             writeln!(text, "{name}: {count}").expect("text");

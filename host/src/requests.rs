@@ -18,7 +18,7 @@ const PROBED: usize = 8;
 /// How many accepted requests of a hundred are asked again at the limit of pieces, or near it.
 const RAISED: usize = 3;
 /// A source whose requests take more visits than this is drawn seldom.
-const LIGHT: u32 = 20_000;
+const LIGHT: u32 = 5_000;
 
 /// Asks `count` requests or a few more. The oracle answers a batch while the library does.
 pub fn compare(program: &str, seed: u64, count: usize, files: &[Vec<u8>]) -> Result<Reached, String> {
