@@ -1,0 +1,2 @@
+// The text that the program `report` prints for its input.
+pub mod split;
