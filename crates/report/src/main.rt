@@ -1,14 +1,14 @@
 // Reads a module and then one request from standard input, and prints the lines of its report or the line of its refusal.
-use lines::report::MAX_TEXT;
 use field::limits::MIN_REPORT;
+use lines::report::MAX_TEXT;
 use marks::places::PLACES;
 use memory::layout::CELLS;
 use memory::layout::SLOTS;
 use module::tables::WORDS;
-use report_text::split::MAX_INPUT;
-use report_text::text::write_text;
 use report_text::outcome::Outcome;
 use report_text::outcome::walk_input;
+use report_text::split::MAX_INPUT;
+use report_text::text::write_text;
 ghost use Prim.Native.Nat.{_≤_};
 ghost use lib.ListN.{length};
 ghost use Rattle.io.specs.Counts.{Counts};

@@ -113,11 +113,29 @@ fn walk_request(
     // a fresh pruner
     let pruner = b"\0\0";
     match begin_request(
-        bytes, t, places, cells, slots, open, totals, request, pruner, MIN_REPORT,
+        bytes,
+        t,
+        places,
+        cells,
+        slots,
+        open,
+        totals,
+        request,
+        pruner,
+        MIN_REPORT,
     ) {
         Begun::Refused(n) => Outcome::Refused(n),
         Begun::Ready(f, sum) => walk_function(
-            bytes, t, table, places, cells, slots, open, totals, f, sum,
+            bytes,
+            t,
+            table,
+            places,
+            cells,
+            slots,
+            open,
+            totals,
+            f,
+            sum,
         ),
     }
 }
@@ -170,13 +188,5 @@ pub fn walk_input(
     if 0 < refusal {
         return Outcome::Refused(refusal);
     }
-    walk_read(
-        &input[0..at],
-        t,
-        places,
-        cells,
-        slots,
-        open,
-        &input[at..n],
-    )
+    walk_read(&input[0..at], t, places, cells, slots, open, &input[at..n])
 }

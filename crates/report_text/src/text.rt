@@ -1,6 +1,6 @@
 // The text of an outcome.
-use crate::split::split;
 use crate::outcome::Outcome;
+use crate::split::split;
 use lines::report::write_refused;
 use lines::report::write_report_text;
 use memory::layout::STACK;
