@@ -14,7 +14,7 @@ ghost use lib.ListN.{length};
 ghost use Rattle.io.specs.Counts.{Counts};
 ghost use Rattle.report_text.specs.Split.{moduleIn};
 ghost use Rattle.report_text.specs.Input.{maxInput, reportInput};
-ghost use Rattle.report_text.specs.Outcome.{TextIs};
+ghost use Rattle.report_text.specs.Outcome.{Arrays, TextIs};
 
 // The input, or as much of it as can change the answer.
 fn read_input(input: &mut [u8]) -> usize
@@ -41,13 +41,27 @@ fn print(
     io::write_all(1, &text[0..n]);
 }
 
+fn answer(
+    input: &[u8],
+    t: &mut [u32],
+    places: &mut [u32],
+    cells: &mut [u32],
+    slots: &mut [u32],
+    open: &mut [u8],
+)
+    requires { ⌜ Arrays (now t) (now places) (now cells) (now slots) (now «open») ⌝ }
+{
+    let outcome = walk_input(input, t, places, cells, slots, open);
+    print(input, t, places, cells, slots, open, outcome);
+}
+
 fn report(input: &[u8]) {
     let mut t: [u32; WORDS] = [0; WORDS];
     let mut places: [u32; PLACES] = [0; PLACES];
     let mut cells: [u32; CELLS] = [0; CELLS];
     let mut slots: [u32; SLOTS] = [0; SLOTS];
     let mut open: [u8; MIN_REPORT] = [0; MIN_REPORT];
-    let outcome = walk_input(
+    answer(
         input,
         &mut t,
         &mut places,
@@ -55,7 +69,6 @@ fn report(input: &[u8]) {
         &mut slots,
         &mut open,
     );
-    print(input, &t, &places, &cells, &slots, &open, outcome);
 }
 
 fn main() {
