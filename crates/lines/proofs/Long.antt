@@ -19,6 +19,7 @@ use Rattle.walk.specs.Resolve.{functionAt}
 use Rattle.walk.specs.Requests.{Report}
 use Rattle.walk.specs.Proper.{VariablesFrom, FineContext, FineRecords, EachRecord}
 use Rattle.lines.specs.Text.{number, noWord, yesWord, requiredText, globalWord, argWord, localWord, exprWord, stmtWord, textFrom, partText, lineText, variablesText, retvalWord, retvalText, contextText, recordText, recordsText, nameOf, markText, marksText, statementText, statementsText, reportText}
+use Rattle.lines.specs.Wrote.{longest}
 use Rattle.lines.proofs.Numbers.{number-digit, number-more}
 
 -- numbers below 65536 have at most five digits
@@ -34,10 +35,20 @@ number-next d k few one n h =
     rw (number-more n (omega arith)) (omega (arith, length-append (number (n / 10)) ((48 + n % 10) ∷ []))))
     (eq-zero-or-pos (n - 9))
 
-pub number-long : (n : ℕ) → n < spine → length (number n) ≤ 5
-number-long n h =
+five-long : (n : ℕ) → n < 100000 → length (number n) ≤ 5
+five-long =
     number-next 10000 4
     (number-next 1000 3 (number-next 100 2 (number-next 10 1 number-one (omega arith)) (omega arith)) (omega arith))
+    (omega arith)
+
+pub number-long : (n : ℕ) → n < spine → length (number n) ≤ 5
+number-long n h = five-long n (omega arith)
+
+-- those of 32 bits at most ten
+pub ten-long : (n : ℕ) → n < longest → length (number n) ≤ 10
+ten-long n h =
+    number-next 1000000000 9
+    (number-next 100000000 8 (number-next 10000000 7 (number-next 1000000 6 (number-next 100000 5 five-long (omega arith)) (omega arith)) (omega arith)) (omega arith))
     (omega arith)
     n
     (omega arith)

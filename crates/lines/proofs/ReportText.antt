@@ -7,7 +7,6 @@ use mathlib.Core.Option.{Option}
 use native.Mathlib.Omega.{arith}
 use lib.ListN.{length, getD, drop, length-take, length-append}
 use Rattle.field.specs.Limits.{maxPieces}
-use Rattle.part.specs.PartReq.{spine}
 use Rattle.module.specs.Module.{Module, FunctionHandle}
 use Rattle.module.specs.File.{readModule, accepted}
 use Rattle.module.specs.declared.tables.Row.{Row}
@@ -31,7 +30,7 @@ use Rattle.lines.specs.Text.{number, requiredText, contextText, recordsT
 use Rattle.lines.specs.Reported.{statementsIn, reportIn, textIn, maxText, Reporting}
 use Rattle.lines.specs.Wrote.{longest, Wrote, Front}
 use Rattle.lines.proofs.Writing.{texts, Rooms, rooms, wrote-then, wrote-as, wrote-front}
-use Rattle.lines.proofs.Long.{number-long, FewOwn, report-long}
+use Rattle.lines.proofs.Long.{ten-long, FewOwn, report-long}
 
 -- of the context in four slots
 module _ (s rs : List ℕ) (k : ℕ) (high : k + 4 ≤ length rs) where
@@ -100,10 +99,10 @@ module _ {bytes t places s rs marks : List ℕ} {f at : ℕ} (h : Reporting byte
       wrote-front (wrote-as (sym text-is) (wrote-then a (wrote-then b (wrote-then c d)))) (omega (arith, text-long))
 
 -- of a refusal
-module _ (n : ℕ) (h : n < spine) where
-  refused-long : length (refusedText n) ≤ 14
+module _ (n : ℕ) (h : n < longest) where
+  refused-long : length (refusedText n) ≤ 19
   unfolding refusedText
-  refused-long = omega (arith, length-append (number n) (10 ∷ []), number-long n h)
+  refused-long = omega (arith, length-append (number n) (10 ∷ []), ten-long n h)
 
   pub refused-rooms : Rooms 0 (refusedWord ∷ (number n ∷ ((10 ∷ []) ∷ [])))
   unfolding texts refusedText

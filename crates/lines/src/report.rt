@@ -93,11 +93,11 @@ pub fn write_report_text(
     write_statements(out, statements, bytes, t, places, marks, f)
 }
 
-pub fn write_refused(out: &mut [u8], n: u16) -> usize
+pub fn write_refused(out: &mut [u8], n: u32) -> usize
     requires { ⌜ maxText ≤ length (now out) ⌝ }
     ensures { λ r. ⌜ Front (now (out .entry)) (now (out .exit)) (refusedText n) r ⌝ }
 {
     let number = write_word(out, 0, b"refused ");
-    let end = write_number(out, number, n as u32);
+    let end = write_number(out, number, n);
     write_byte(out, end, b'\n')
 }

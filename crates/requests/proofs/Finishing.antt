@@ -66,12 +66,26 @@ module _ {bytes t types places s rs open-marks totals : List ℕ} {f at held sum
   few-functions : length (moduleOf bytes t .functions) ≤ totalsAt
   few-functions = valid bytes m (S .ready .was-read .module-is) .few-functions
 
-  own-pieces : ownIn t s rs f ≡ recordPieces records
+  pub own-pieces : ownIn t s rs f ≡ recordPieces records
   own-pieces =
       sym (records-pieces (read s rs) (exprsSlot + expressionsFrom (rowAt t f)) (rowAt t f .expressions) (records-there t f (fits f (S .ready .was-read) (S .ready .function)) (S .ready .memory)))
 
-  own-few : ownIn t s rs f ≤ sum
+  pub own-few : ownIn t s rs f ≤ sum
   own-few = omega (arith, own-pieces, S .ready .sums)
+
+  -- what the count of the records asks
+  pub own-asks : sum ≤ entriesCap → (Memory s rs × Placed t rs f) × (ownIn t s rs f ≤ entriesCap)
+  own-asks few = (
+    (
+      S .ready .memory,
+      record {
+        few = omega (arith, few-functions, S .ready .function);
+        records = fits f (S .ready .was-read) (S .ready .function);
+        slots = S .ready .memory .slots;
+      },
+    ),
+    omega (arith, own-few),
+  )
 
   totals-are : Totals m totals (functionsIn m t (read s rs) totals)
   unfolding functionsIn totalIn
@@ -116,18 +130,7 @@ module _ {bytes t types places s rs open-marks totals : List ℕ} {f at held sum
 module _ {bytes t places s rs open-marks totals : List ℕ} {f : FunctionHandle} {base : ℕ} {required : Bool} {visits sum : ℕ} {pruner report answer : List ℕ}
     (F : Finishing bytes t places s rs open-marks totals f base required visits sum pruner report answer) where
   pub finish-own : (Memory s rs × Placed t rs f) × (ownIn t s rs f ≤ entriesCap)
-  finish-own =
-      let S = F .ended .standing in (
-        (
-          S .ready .memory,
-          record {
-            few = omega (arith, few-functions S, S .ready .function);
-            records = fits f (S .ready .was-read) (S .ready .function);
-            slots = S .ready .memory .slots;
-          },
-        ),
-        omega (arith, own-few S, F .ended .sum-few),
-      )
+  finish-own = own-asks (F .ended .standing) (omega (arith, F .ended .sum-few))
 
   pub finish-sub : {own : ℕ} → own ≡ ownIn t s rs f → own ≤ sum
   finish-sub e = omega (arith, own-few (F .ended .standing))

@@ -45,13 +45,13 @@ use Rattle.requests.proofs.Begins.{enters, walks-request}
 use Rattle.requests.proofs.Ends.{walks, request-halts}
 
 -- the walk of f, as memory has it at its beginning
-abbrev walkIn : (bytes t s rs open-marks totals : List ℕ) → ℕ → Out Bool
+abbrev pub walkIn : (bytes t s rs open-marks totals : List ℕ) → ℕ → Out Bool
 walkIn bytes t s rs open-marks totals f =
     addFunction (moduleOf bytes t) f nowhere 0 (getD (read s rs) stackSlot none) (getD (read s rs) (stackSlot + 3) none) (stateIn bytes t s rs open-marks totals f stackSlot 0)
 
 module _ {bytes t types places s rs open-marks totals : List ℕ} {f : ℕ} where
   -- it is the walk of the request that was loaded
-  walk-is : {q : Request} {old : Pruner} → Loaded bytes t types places s rs open-marks totals q old → q .function ≡ f → walkIn bytes t s rs open-marks totals f ≡ walks bytes t old q
+  pub walk-is : {q : Request} {old : Pruner} → Loaded bytes t types places s rs open-marks totals q old → q .function ≡ f → walkIn bytes t s rs open-marks totals f ≡ walks bytes t old q
   walk-is L named = ap (walkIn bytes t s rs open-marks totals) (sym named) ∙ walks-request L
 
   module _ {sum : ℕ} {pruner report answer : List ℕ} (W : Walking bytes t types places s rs open-marks totals f sum pruner report answer) where

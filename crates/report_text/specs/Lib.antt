@@ -1,0 +1,3 @@
+pub mod Split
+pub mod Input
+pub mod Outcome

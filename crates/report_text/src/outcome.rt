@@ -1,0 +1,192 @@
+// From the bytes of an input to the end of the walk of its request.
+use crate::split::split;
+use access::whole::types;
+use context::remove::TYPE_WORDS;
+use field::limits::MAX_PIECES;
+use field::limits::MAX_TYPES;
+use field::limits::MIN_REPORT;
+use function::functions::add_function;
+use leave::leave::own_pieces;
+use marks::places::place_marks;
+use marks::report::TOTALS_SIZE;
+use memory::layout::STACK;
+use module::handles::FunctionHandle;
+use reading::read::HELD;
+use reading::read::SEEN;
+use reading::read::read;
+use requests::begin::Begun;
+use requests::begin::begin_request;
+use state::answer::Answered;
+use state::answer::Place;
+use type_table::fill;
+ghost use mathlib.Core.Path.{_≡_};
+ghost use Prim.Native.Nat.{_*_, _≤_};
+ghost use lib.ListN.{length};
+ghost use Rattle.field.specs.Limits.{minReport};
+ghost use Rattle.module.specs.Tables.{words, moduleOf};
+ghost use Rattle.context.specs.Types.{typeWords};
+ghost use Rattle.request.specs.Request.{readRequest};
+ghost use Rattle.reading.specs.Reads.{Reads};
+ghost use Rattle.marks.specs.Report.{totalsSize};
+ghost use Rattle.state.specs.Ready.{WasRead};
+ghost use Rattle.report_text.specs.Split.{moduleIn};
+ghost use Rattle.report_text.specs.Input.{requestText, reportInput};
+ghost use Rattle.report_text.specs.Outcome.{Arrays, TextIs, Asked, Walked};
+
+// 01's number; or the asked function, of which memory has a report, and whether it is required.
+pub enum Outcome {
+    Refused(u32),
+    Reported(FunctionHandle, bool),
+}
+
+// The arrays of reading are gone when it ends.
+fn read_module(bytes: &[u8], t: &mut [u32]) -> u32
+    requires { ⌜ words ≤ length (now t) ⌝ }
+    ensures { λ r. ⌜ Reads (now (bytes .entry)) (now (t .exit)) r ⌝ }
+{
+    let mut seen: [u32; SEEN] = [0; SEEN];
+    let mut held: [u32; HELD] = [0; HELD];
+    read(bytes, t, &mut seen, &mut held)
+}
+
+// The walk of f, and 16 at its end.
+fn walk_function(
+    bytes: &[u8],
+    t: &[u32],
+    types: &[u32],
+    places: &[u32],
+    cells: &mut [u32],
+    slots: &mut [u32],
+    open: &mut [u8],
+    totals: &mut [u8],
+    f: FunctionHandle,
+    sum: usize,
+) -> Outcome
+    requires { ⌜ Asked (now bytes) (now t) (now types) (now places) (now cells) (now slots) (now «open») (now totals) (f .0) sum ⌝ }
+    ensures { λ r. ⌜ Walked (now (bytes .entry)) (now (t .entry)) (now (types .entry)) (now (places .entry)) (now (cells .entry)) (now (slots .entry)) (now («open» .entry)) (now (totals .entry)) (f .0) (now (cells .exit)) (now (slots .exit)) (now («open» .exit)) r ⌝ }
+{
+    match add_function(
+        bytes,
+        t,
+        types,
+        places,
+        cells,
+        slots,
+        open,
+        totals,
+        f,
+        STACK,
+        Place::Nowhere,
+        0,
+        0,
+        sum,
+    ) {
+        Answered::Halt(n, _) => Outcome::Refused(n),
+        Answered::Went(tally, required) => {
+            let own = own_pieces(t, cells, slots, f);
+            if MAX_PIECES < tally.sum - own {
+                return Outcome::Refused(16);
+            }
+            Outcome::Reported(f, required)
+        }
+    }
+}
+
+// The request of a module that was read, with a row for each type.
+fn walk_request(
+    bytes: &[u8],
+    t: &[u32],
+    table: &mut [u32],
+    places: &mut [u32],
+    cells: &mut [u32],
+    slots: &mut [u32],
+    open: &mut [u8],
+    totals: &mut [u8],
+    request: &[u8],
+) -> Outcome
+    requires { ⌜ WasRead (now bytes) (now t) × Arrays (now t) (now places) (now cells) (now slots) (now «open») ⌝ }
+    requires { ⌜ (length (now table) ≡ typeWords * length (moduleOf (now bytes) (now t) .types)) × (totalsSize ≤ length (now totals)) ⌝ }
+    ensures { λ r. ⌜ TextIs (requestText (moduleOf (now (bytes .entry)) (now (t .entry))) (readRequest (moduleOf (now (bytes .entry)) (now (t .entry))) minReport (now (request .entry)))) (now (bytes .entry)) (now (t .entry)) (now (places .exit)) (now (cells .exit)) (now (slots .exit)) (now («open» .exit)) r ⌝ }
+{
+    place_marks(bytes, t, places);
+    fill(bytes, t, table);
+    // a fresh pruner
+    let pruner = b"\0\0";
+    match begin_request(
+        bytes,
+        t,
+        places,
+        cells,
+        slots,
+        open,
+        totals,
+        request,
+        pruner,
+        MIN_REPORT,
+    ) {
+        Begun::Refused(n) => Outcome::Refused(n),
+        Begun::Ready(f, sum) => walk_function(
+            bytes,
+            t,
+            table,
+            places,
+            cells,
+            slots,
+            open,
+            totals,
+            f,
+            sum,
+        ),
+    }
+}
+
+// The request of a module that was read.
+fn walk_read(
+    bytes: &[u8],
+    t: &[u32],
+    places: &mut [u32],
+    cells: &mut [u32],
+    slots: &mut [u32],
+    open: &mut [u8],
+    request: &[u8],
+) -> Outcome
+    requires { ⌜ WasRead (now bytes) (now t) × Arrays (now t) (now places) (now cells) (now slots) (now «open») ⌝ }
+    ensures { λ r. ⌜ TextIs (requestText (moduleOf (now (bytes .entry)) (now (t .entry))) (readRequest (moduleOf (now (bytes .entry)) (now (t .entry))) minReport (now (request .entry)))) (now (bytes .entry)) (now (t .entry)) (now (places .exit)) (now (cells .exit)) (now (slots .exit)) (now («open» .exit)) r ⌝ }
+{
+    let mut table: [u32; TYPE_WORDS * MAX_TYPES] = [0; TYPE_WORDS * MAX_TYPES];
+    let mut totals: [u8; TOTALS_SIZE] = [0; TOTALS_SIZE];
+    let n = types(t) as usize;
+    let e = TYPE_WORDS * n;
+    walk_request(
+        bytes,
+        t,
+        &mut table[0..e],
+        places,
+        cells,
+        slots,
+        open,
+        &mut totals,
+        request,
+    )
+}
+
+// A module and behind it one request, asked of a fresh pruner.
+pub fn walk_input(
+    input: &[u8],
+    t: &mut [u32],
+    places: &mut [u32],
+    cells: &mut [u32],
+    slots: &mut [u32],
+    open: &mut [u8],
+) -> Outcome
+    requires { ⌜ Arrays (now t) (now places) (now cells) (now slots) (now «open») ⌝ }
+    ensures { λ r. ⌜ TextIs (reportInput (now (input .entry))) (moduleIn (now (input .entry))) (now (t .exit)) (now (places .exit)) (now (cells .exit)) (now (slots .exit)) (now («open» .exit)) r ⌝ }
+{
+    let n = input.len();
+    let at = split(input);
+    let refusal = read_module(&input[0..at], t);
+    if 0 < refusal {
+        return Outcome::Refused(refusal);
+    }
+    walk_read(&input[0..at], t, places, cells, slots, open, &input[at..n])
+}
