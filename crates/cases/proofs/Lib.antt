@@ -1,1 +1,3 @@
+pub mod Compute
+pub mod Served
 pub mod Table

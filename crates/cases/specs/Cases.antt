@@ -1,19 +1,30 @@
--- 01's "Cases to prove", a field each, under its letter. A part is written as its entries: `none` is {}, `more 1 all none` is {1:all}.
-use Prim.Native.Nat.{ℕ}
+-- 01's "Cases to prove", a field each, under its letter. A part is written as its entries: `none` is {}, `more 1 all none` is {1:all}. Cases A, I and J begin with the bytes of a file and
+-- of a request on it.
+use Prim.Native.Nat.{ℕ, _≤_}
 use mathlib.Core.Path.{_≡_}
 use mathlib.Core.Bool.{true, false}
 use mathlib.Core.List.{List, [], _∷_}
 use mathlib.Core.Option.{Option, some, none as nothing}
-use lib.ListN.{getD}
+use lib.ListN.{length, replicate, getD}
+use lib.Seq.{sets}
+use Rattle.field.specs.Limits.{minReport}
 use Rattle.part.specs.PartReq.{all, exist, none, more, contains, add, fromIndexes}
 use Rattle.module.specs.Module.{TypeHandle, TypeInner, Scalar, Vector, Array, Opaque, Module}
+use Rattle.module.specs.File.{accepted, readModule}
 use Rattle.context.specs.Remove.{left, remove}
 use Rattle.context.specs.RequiredContext.{variable}
-use Rattle.programs.specs.Programs.{moduleA, functionA, moduleI, moduleJ, functionJ}
+use Rattle.request.specs.Request.{Request, asking}
+use Rattle.programs.specs.Files.{fileA, pointerFileA, fileI, fileJ, returnAll, globalAll}
+use Rattle.programs.specs.Programs.{moduleA, functionA, moduleJ, functionJ}
+use Rattle.programs.specs.Texts.{textA, textI, textJ}
 use Rattle.walk.specs.State.{atStatement}
-use Rattle.request.specs.Request.{Request}
-use Rattle.walk.specs.Requests.{Answer, Report, reported, refused, fresh, requests}
+use Rattle.walk.specs.Requests.{Answer, Report, reported, fresh, requests}
+use Rattle.pruner.specs.Form.{minPruner}
+use Rattle.requests.specs.Answer.{minAnswer}
+use Rattle.requests.specs.Serve.{visited, refusedAt, Lent, serve}
 use Rattle.clearance.specs.Verdict as verdict
+use Rattle.cases.specs.Buffers.{totalsA, answerA, totalsJ, answerJ}
+use Rattle.cases.specs.Printed.{printed}
 
 -- the type t is of this kind
 abbrev pub Is : List TypeInner → TypeHandle → TypeInner → Type 0
@@ -67,10 +78,29 @@ reportJ =
 abbrev pub judgedOf : Report → verdict.Report
 judgedOf r = record { marks = r .marks; globals = r .context .globals; args = r .context .args }
 
+-- buffers that are long enough, the pruner's with nothing asked yet
+pub record Ready (lent : Lent) : Type 0 where
+  pub pruner-long : minPruner ≤ length (lent .pruner)
+  pub report-long : minReport ≤ length (lent .report)
+  pub answer-long : minAnswer ≤ length (lent .answer)
+  pub first-zero : getD (lent .pruner) 0 0 ≡ 0
+  pub second-zero : getD (lent .pruner) 1 0 ≡ 0
+
+-- the buffers with these bytes at their front
+abbrev pub written : Lent → (totals marks answer : List ℕ) → Lent
+written lent totals marks answer =
+    record { pruner = sets (lent .pruner) 0 totals; report = sets (lent .report) 0 marks; answer = sets (lent .answer) 0 answer }
+
 pub record Cases : Type 0 where
-  -- asked: return value all
-  pub A : answerOf moduleA (record { function = 0; retval = some all; globals = none }) ≡ (reported reportA ∷ [])
-  -- check clear
+  -- Asked: return value all. It prints, all but `check`:
+  pub A : printed fileA returnAll ≡ textA
+  -- the same where the file has a pointer to the three-vector.
+  pub A-pointer : printed pointerFileA returnAll ≡ textA
+  -- The visits, and what is left in the buffers.
+  pub A-buffers : (lent : Lent) → Ready lent → serve fileA returnAll lent ≡ (visited 8, written lent totalsA (1 ∷ 1 ∷ 1 ∷ 1 ∷ []) answerA)
+  -- Of the module that the file means, and of the report of its walk: check clear
+  pub A-module : readModule fileA ≡ accepted moduleA
+  pub A-walk : answerOf moduleA (asking 0 (some all) none) ≡ (reported reportA ∷ [])
   pub A-check : verdict.clearance (record { program = moduleA; function = functionA 1 }) (record { globals = none; value = all }) (judgedOf reportA)
       ≡ verdict.clear
   -- exist does not contain the empty part.
@@ -89,11 +119,18 @@ pub record Cases : Type 0 where
   pub G : fromIndexes [] ≡ all
   -- index 1, then 2, is {1:{2:all}}: a path is followed from its end, so its last index stands first.
   pub H : fromIndexes (2 ∷ 1 ∷ []) ≡ more 1 (more 2 all none) none
-  -- loop body a=b; b=c, all locals, a returned: refusal 14.
-  pub I : answerOf moduleI (record { function = 0; retval = some all; globals = none }) ≡ (refused 14 (atStatement 0 4) ∷ [])
+  -- loop body a=b; b=c, all locals, a returned: refusal 14, at the loop. The buffers stay.
+  pub I : printed fileI returnAll ≡ textI
+  pub I-buffers : (lent : Lent) → Ready lent → serve fileI returnAll lent ≡ (refusedAt 14 (atStatement 0 4), lent)
   -- global 0 asked, all: mark 1 is no,
-  pub J : answerOf moduleJ (record { function = 0; retval = nothing; globals = more (variable 0) all none }) ≡ (reported reportJ ∷ [])
+  pub J : printed fileJ globalAll ≡ textJ
+  pub J-buffers : (lent : Lent) → Ready lent → serve fileJ globalAll lent ≡ (visited 7, written lent totalsJ (1 ∷ 0 ∷ 1 ∷ 1 ∷ []) answerJ)
   -- not clear at 1.
+  pub J-module : readModule fileJ ≡ accepted moduleJ
+  pub J-walk : answerOf moduleJ (asking 0 nothing (more (variable 0) all none)) ≡ (reported reportJ ∷ [])
   pub J-check : verdict.clearance (record { program = moduleJ; function = functionJ }) (record { globals = more (variable 0) all none; value = none })
       (judgedOf reportJ)
       ≡ verdict.atStatement 1
+  -- Zeros are buffers as A, I and J ask for.
+  pub zeros : (pruner report answer : ℕ) → minPruner ≤ pruner → minReport ≤ report → minAnswer ≤ answer
+      → Ready (record { pruner = replicate pruner 0; report = replicate report 0; answer = replicate answer 0 })

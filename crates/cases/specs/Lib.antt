@@ -1,1 +1,3 @@
+pub mod Buffers
 pub mod Cases
+pub mod Printed

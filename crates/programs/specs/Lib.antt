@@ -1,1 +1,3 @@
+pub mod Files
 pub mod Programs
+pub mod Texts

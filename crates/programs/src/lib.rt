@@ -1,1 +1,1 @@
-// The modules of 01's cases A, I and J, and what is asked of them (specs/).
+// Cases A, I and J of 01: their files and the requests on them, the modules that the files mean, and what `report` prints (specs/).
