@@ -107,3 +107,13 @@ pub fn read(bytes: &[u8], t: &mut [u32], seen: &mut [u32], held: &mut [u32]) -> 
         Step::Stop(n) => n,
     }
 }
+
+// The same with room of its own, which is gone when it ends.
+pub fn read_module(bytes: &[u8], t: &mut [u32]) -> u32
+    requires { ⌜ words ≤ length (now t) ⌝ }
+    ensures { λ r. ⌜ Reads (now (bytes .entry)) (now (t .exit)) r ⌝ }
+{
+    let mut seen: [u32; SEEN] = [0; SEEN];
+    let mut held: [u32; HELD] = [0; HELD];
+    read(bytes, t, &mut seen, &mut held)
+}

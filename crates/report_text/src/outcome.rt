@@ -11,9 +11,7 @@ use marks::places::place_marks;
 use marks::report::TOTALS_SIZE;
 use memory::layout::STACK;
 use module::handles::FunctionHandle;
-use reading::read::HELD;
-use reading::read::SEEN;
-use reading::read::read;
+use reading::read::read_module;
 use requests::begin::Begun;
 use requests::begin::begin_request;
 use state::answer::Answered;
@@ -23,10 +21,9 @@ ghost use mathlib.Core.Path.{_≡_};
 ghost use Prim.Native.Nat.{_*_, _≤_};
 ghost use lib.ListN.{length};
 ghost use Rattle.field.specs.Limits.{minReport};
-ghost use Rattle.module.specs.Tables.{words, moduleOf};
+ghost use Rattle.module.specs.Tables.{moduleOf};
 ghost use Rattle.context.specs.Types.{typeWords};
 ghost use Rattle.request.specs.Request.{readRequest};
-ghost use Rattle.reading.specs.Reads.{Reads};
 ghost use Rattle.marks.specs.Report.{totalsSize};
 ghost use Rattle.state.specs.Ready.{WasRead};
 ghost use Rattle.report_text.specs.Split.{moduleIn};
@@ -37,16 +34,6 @@ ghost use Rattle.report_text.specs.Outcome.{Arrays, TextIs, Asked, Walke
 pub enum Outcome {
     Refused(u32),
     Reported(FunctionHandle, bool),
-}
-
-// The arrays of reading are gone when it ends.
-fn read_module(bytes: &[u8], t: &mut [u32]) -> u32
-    requires { ⌜ words ≤ length (now t) ⌝ }
-    ensures { λ r. ⌜ Reads (now (bytes .entry)) (now (t .exit)) r ⌝ }
-{
-    let mut seen: [u32; SEEN] = [0; SEEN];
-    let mut held: [u32; HELD] = [0; HELD];
-    read(bytes, t, &mut seen, &mut held)
 }
 
 // The walk of f, and 16 at its end.

@@ -4,7 +4,7 @@ use reading::read::HELD;
 use reading::read::SEEN;
 use reading::read::read;
 ghost use mathlib.Core.Path.{_≡_};
-ghost use Rattle.tickingtor.specs.Answers.{readNumber};
+ghost use Rattle.boundary.specs.Answers.{readNumber};
 
 // Whether the bytes are a module: 0, or the number by which they are refused.
 #[no_mangle]

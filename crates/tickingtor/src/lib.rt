@@ -1,6 +1,5 @@
-// The boundary: what a program in C or Rust calls, on byte slices and numbers. No function here asks anything of its caller.
+// What a program in C or Rust calls, on byte slices and numbers. No function here asks anything of its caller.
 pub mod add;
-pub mod answer;
 pub mod file;
 pub mod input;
 pub mod output;

@@ -6,7 +6,7 @@ use Rattle.report_text.proofs.outcome.walk_input.Statement.{statement}
 use Rattle.report_text.proofs.outcome.walk_input.Tie as tie
 use Rattle.report_text.proofs.outcome.walk_input.Reads as reads
 use Rattle.report_text.proofs.outcome.walk_input.Lts as lts
-use Rattle.report_text.proofs.outcome.read_module.Reads as read-module-reads
+use Rattle.reading.proofs.read.read_module.Reads as read-module-reads
 use Rattle.report_text.proofs.outcome.walk_read.Reads as walk-read-reads
 use Rattle.report_text.proofs.split.split.Reads as split-reads
 

@@ -4,7 +4,7 @@ use Rattle.tickingtor.proofs.add.tickingtor_add_binding.Statement.{stat
 use Rattle.tickingtor.proofs.add.tickingtor_add_binding.Tie as tie
 use Rattle.tickingtor.proofs.add.tickingtor_add_binding.Reads as reads
 use Rattle.tickingtor.proofs.add.tickingtor_add_binding.Lts as lts
-use Rattle.tickingtor.proofs.add.add_in.Reads as add-in-reads
+use Rattle.boundary.proofs.add.add_in.Reads as add-in-reads
 
 slice-aggregate-add-in : tie.Need-slice-aggregate-add-in
 slice-aggregate-add-in c = search needs

@@ -1,5 +1,5 @@
 -- `tickingtor_read` meets its contract: it is `read` over arrays of its own.
-use Rattle.tickingtor.proofs.Answers.{read-is}
+use Rattle.boundary.proofs.Answers.{read-is}
 use borrow.Author.Needs.{needs}
 use Rattle.tickingtor.proofs.file.tickingtor_read.Statement.{statement}
 use Rattle.tickingtor.proofs.file.tickingtor_read.Tie as tie

@@ -4,7 +4,7 @@ use Rattle.tickingtor.proofs.input.tickingtor_input_to_bindings.Stateme
 use Rattle.tickingtor.proofs.input.tickingtor_input_to_bindings.Tie as tie
 use Rattle.tickingtor.proofs.input.tickingtor_input_to_bindings.Reads as reads
 use Rattle.tickingtor.proofs.input.tickingtor_input_to_bindings.Lts as lts
-use Rattle.tickingtor.proofs.input.input_in.Reads as input-in-reads
+use Rattle.boundary.proofs.input.input_in.Reads as input-in-reads
 
 slice-aggregate-input-in : tie.Need-slice-aggregate-input-in
 slice-aggregate-input-in c = search needs

@@ -4,7 +4,7 @@ use Rattle.tickingtor.proofs.output.tickingtor_output_from_bindings.Sta
 use Rattle.tickingtor.proofs.output.tickingtor_output_from_bindings.Tie as tie
 use Rattle.tickingtor.proofs.output.tickingtor_output_from_bindings.Reads as reads
 use Rattle.tickingtor.proofs.output.tickingtor_output_from_bindings.Lts as lts
-use Rattle.tickingtor.proofs.output.output_in.Reads as output-in-reads
+use Rattle.boundary.proofs.output.output_in.Reads as output-in-reads
 
 slice-aggregate-output-in : tie.Need-slice-aggregate-output-in
 slice-aggregate-output-in c = search needs
