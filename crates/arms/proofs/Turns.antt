@@ -85,7 +85,7 @@ module _ {bytes t types places s rs open-marks totals : List ℕ} {fr : Frame} {
   turns-weigh-2 = (T .standing .ready .memory, (T .standing .ready .high, omega (arith, T .working-few, context-pieces (read s rs) (at + 4))))
 
   pub turns-begin : TurnsLeft bytes t types places s rs open-marks totals fr b body continuing visits maxTurns visits sum s rs open-marks totals
-  turns-begin = record { turning = T; beside = beside-same refl refl; cells = refl; totals-long = refl; rest = refl }
+  turns-begin = record { turning = T; beside = beside-same refl refl; rest = refl }
 
   pub turns-fit : {a : ℕ} → a ≡ sumFrom (read s rs) at 4 → fr .held + a ≤ maxPieces
   turns-fit weighed = omega (arith, weighed, context-pieces (read s rs) at, T .few)
@@ -266,9 +266,9 @@ module _ {bytes t types places s rs open-marks totals : List ℕ} {fr : Frame} {
                   };
                 }
 
-            goes-on : {x xs : List ℕ} → length x ≡ length s → length totals-2 ≡ length totals → TurnAgain w ws at x xs
+            goes-on : {x xs : List ℕ} → TurnAgain w ws at x xs
                 → TurnsLeft bytes t types places s rs open-marks totals fr b body continuing visits (n - 1) (tally .visits) (tally .sum) x xs open-2 totals-2
-            goes-on {x} {xs} cells-long totals-long K =
+            goes-on {x} {xs} K =
                 let J = K .joined in
                 let D = K .dropped in
                 let S = down-standing J D in
@@ -292,8 +292,6 @@ module _ {bytes t types places s rs open-marks totals : List ℕ} {fr : Frame} {
                     roomy = K .tidied .roomy;
                   };
                   beside = beside;
-                  cells = cells-long;
-                  totals-long = totals-long;
                   rest = ap (turnsIn bytes t s rs fr body continuing (n - 1)) (tidied-state S (K .tidied) ∙ down-state J D)
                       ∙ fresh working
                       ∙ sym (fresh joint)
@@ -315,6 +313,6 @@ module _ {bytes t types places s rs open-marks totals : List ℕ} {fr : Frame} {
                   → StatementEnds bytes t types places s rs open-marks totals fr Total StatementReq.Loop (Went (record { visits = tally .visits; sum = tally .sum }) true) x xs open-2 totals-2
               turn-settles e = record { by = settles (ended e) }
 
-              pub turn-goes-on : q ≡ Again → length x ≡ length s → length totals-2 ≡ length totals
+              pub turn-goes-on : q ≡ Again
                   → TurnsLeft bytes t types places s rs open-marks totals fr b body continuing visits (n - 1) (tally .visits) (tally .sum) x xs open-2 totals-2
-              turn-goes-on e cells-long totals-long = goes-on cells-long totals-long (ended e)
+              turn-goes-on e = goes-on (ended e)

@@ -113,8 +113,6 @@ turnsIn bytes t s rs fr body continuing n =
 pub record TurnsLeft (bytes t types places s rs open-marks totals : List ℕ) (fr : Frame) (b body continuing : BlockHandle) (begun n visits sum : ℕ) (u us open-after totals-after : List ℕ) : Type 0 where
   pub turning : Turning bytes t types places u us open-after totals-after fr b body continuing sum visits
   pub beside : Beside bytes t (fr .function .0) (fr .at + 4 + 4) s rs open-marks u us open-after
-  pub cells : length u ≡ length s
-  pub totals-long : length totals-after ≡ length totals
   pub rest : turnsIn bytes t s rs fr body continuing n (stateIn bytes t u us open-after totals-after (fr .function .0) (fr .at + 4) visits)
       ≡ turnsIn bytes t s rs fr body continuing maxTurns (stateIn bytes t s rs open-marks totals (fr .function .0) (fr .at + 4) begun)
 

@@ -59,8 +59,6 @@ pub record StatementsLeft (bytes t types places s rs open-marks totals : List �
   pub settled : Settled held (contextAt (read s rs) base) sum (contextAt (read u us) at) m
   pub roomy : Room u room
   pub beside : Beside bytes t f at s rs open-marks u us open-after
-  pub cells : length u ≡ length s
-  pub totals-long : length totals-after ≡ length totals
 
 module _ {bytes t types places s rs open-marks totals : List ℕ} (f : Handle) {b : BlockHandle} {base at held sum visits : ℕ}
     (E : Entered bytes t types places s rs open-marks totals (f .0) b base at held (held + contextIn s rs base) sum visits) where
@@ -145,8 +143,6 @@ module _ {bytes t types places s rs open-marks totals : List ℕ} (f : Handle) {
         settled = untouched copied-is refl;
         roomy = E .roomy;
         beside = beside-same refl refl;
-        cells = refl;
-        totals-long = refl;
       }
 
       module _ {first inner v m : ℕ} {behind needed : Bool} {n : ℕ} {u us open-1 totals-1 : List ℕ}
@@ -219,9 +215,9 @@ module _ {bytes t types places s rs open-marks totals : List ℕ} (f : Handle) {
               ended : VisitEnded bytes t types places u us open-1 totals-1 frame Visited (tally .visits) (tally .sum) q x xs open-2 totals-2
               ended = subst (λ (y : Answered). VisitEnding bytes t types places u us open-1 totals-1 frame Visited y x xs open-2 totals-2) e (R .by)
 
-              pub statements-next : {o p : Bool} → o ≡ (behind || q) → p ≡ (needed || q) → length x ≡ length u → length totals-2 ≡ length totals-1
+              pub statements-next : {o p : Bool} → o ≡ (behind || q) → p ≡ (needed || q)
                   → StatementsLeft bytes t types places s bs open-marks totals (f .0) b base at held sum Begun first inner (tally .visits) (tally .sum) o p (n - 1) x xs open-2 totals-2
-              statements-next eo ep lx lt = record {
+              statements-next eo ep = record {
                 holds = L .holds;
                 within = λ j h. L .within j (omega arith);
                 rest = rw (eo, ep) (sym (statements-again visits-one first behind needed now (n - 1) (ended .is ∙ visited-is)) ∙ left-is);
@@ -229,6 +225,4 @@ module _ {bytes t types places s rs open-marks totals : List ℕ} (f : Handle) {
                 settled = checked (omega (arith, ended .few, L .holds));
                 roomy = ended .roomy;
                 beside = beside-then at (L .beside) (ended .beside) (le-refl at);
-                cells = lx ∙ L .cells;
-                totals-long = lt ∙ L .totals-long;
               }

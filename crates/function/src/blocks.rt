@@ -1,11 +1,17 @@
 // The walk of a block.
 use crate::statements::add_statement;
 use access::function::block;
+use field::limits::MIN_REPORT;
+use marks::places::PLACES;
+use marks::report::TOTALS_SIZE;
 use marks::set::or;
+use memory::layout::CELLS;
+use memory::layout::SLOTS;
 use memory::memory::weigh;
 use memory::stretches::copy_context;
 use module::handles::BlockHandle;
 use module::handles::FunctionHandle;
+use module::tables::WORDS;
 use state::answer::Answered;
 use state::answer::Tally;
 use state::frame::Frame;
@@ -18,13 +24,13 @@ ghost use Rattle.block.specs.Visiting.{blockIn};
 // `add_block`: the block b of f, whose base stands in the slots from `base` on. Its context is left in those from `at` on.
 pub fn add_block(
     bytes: &[u8],
-    t: &[u32],
+    t: &[u32; WORDS],
     types: &[u32],
-    places: &[u32],
-    cells: &mut [u32],
-    slots: &mut [u32],
-    open: &mut [u8],
-    totals: &mut [u8],
+    places: &[u32; PLACES],
+    cells: &mut [u32; CELLS],
+    slots: &mut [u32; SLOTS],
+    open: &mut [u8; MIN_REPORT],
+    totals: &mut [u8; TOTALS_SIZE],
     f: FunctionHandle,
     b: BlockHandle,
     base: usize,

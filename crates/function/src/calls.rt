@@ -5,8 +5,14 @@ use access::kinded::operand;
 use arms::calls::begin_call;
 use arms::calls::leave_call;
 use arms::calls::return_call;
+use field::limits::MIN_REPORT;
+use marks::places::PLACES;
+use marks::report::TOTALS_SIZE;
+use memory::layout::CELLS;
+use memory::layout::SLOTS;
 use module::handles::BlockHandle;
 use module::handles::FunctionHandle;
+use module::tables::WORDS;
 use state::answer::Answered;
 use state::answer::Place;
 use state::frame::Frame;
@@ -24,13 +30,13 @@ ghost use Rattle.block.specs.Visiting.{blockIn, marked, Arms};
 // `Call`, with its marks.
 pub fn add_call(
     bytes: &[u8],
-    t: &[u32],
+    t: &[u32; WORDS],
     types: &[u32],
-    places: &[u32],
-    cells: &mut [u32],
-    slots: &mut [u32],
-    open: &mut [u8],
-    totals: &mut [u8],
+    places: &[u32; PLACES],
+    cells: &mut [u32; CELLS],
+    slots: &mut [u32; SLOTS],
+    open: &mut [u8; MIN_REPORT],
+    totals: &mut [u8; TOTALS_SIZE],
     fr: Frame,
     b: BlockHandle,
     row: Kinded,

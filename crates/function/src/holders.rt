@@ -4,10 +4,16 @@ use access::kinded::Kinded;
 use access::kinded::operand;
 use arms::ifs::end_if;
 use block::stack::lower;
+use field::limits::MIN_REPORT;
+use marks::places::PLACES;
+use marks::report::TOTALS_SIZE;
 use marks::set::or;
+use memory::layout::CELLS;
+use memory::layout::SLOTS;
 use memory::memory::weigh;
 use module::handles::BlockHandle;
 use module::handles::FunctionHandle;
+use module::tables::WORDS;
 use state::answer::Answered;
 use state::frame::Frame;
 ghost use mathlib.Core.Path.{_≡_};
@@ -25,13 +31,13 @@ ghost use Rattle.block.specs.Visiting.{blockIn, Arms};
 // Two blocks one after the other, both from the base in the slots from `base` on. Their contexts are left in the slots from `at` on, and behind them. A statement of the block b holds them.
 pub fn add_pair(
     bytes: &[u8],
-    t: &[u32],
+    t: &[u32; WORDS],
     types: &[u32],
-    places: &[u32],
-    cells: &mut [u32],
-    slots: &mut [u32],
-    open: &mut [u8],
-    totals: &mut [u8],
+    places: &[u32; PLACES],
+    cells: &mut [u32; CELLS],
+    slots: &mut [u32; SLOTS],
+    open: &mut [u8; MIN_REPORT],
+    totals: &mut [u8; TOTALS_SIZE],
     f: FunctionHandle,
     b: BlockHandle,
     first: BlockHandle,
@@ -96,13 +102,13 @@ pub fn add_pair(
 // `Block`.
 pub fn add_nested(
     bytes: &[u8],
-    t: &[u32],
+    t: &[u32; WORDS],
     types: &[u32],
-    places: &[u32],
-    cells: &mut [u32],
-    slots: &mut [u32],
-    open: &mut [u8],
-    totals: &mut [u8],
+    places: &[u32; PLACES],
+    cells: &mut [u32; CELLS],
+    slots: &mut [u32; SLOTS],
+    open: &mut [u8; MIN_REPORT],
+    totals: &mut [u8; TOTALS_SIZE],
     fr: Frame,
     b: BlockHandle,
     row: Kinded,
@@ -147,13 +153,13 @@ pub fn add_nested(
 // `If`.
 pub fn add_if(
     bytes: &[u8],
-    t: &[u32],
+    t: &[u32; WORDS],
     types: &[u32],
-    places: &[u32],
-    cells: &mut [u32],
-    slots: &mut [u32],
-    open: &mut [u8],
-    totals: &mut [u8],
+    places: &[u32; PLACES],
+    cells: &mut [u32; CELLS],
+    slots: &mut [u32; SLOTS],
+    open: &mut [u8; MIN_REPORT],
+    totals: &mut [u8; TOTALS_SIZE],
     fr: Frame,
     b: BlockHandle,
     row: Kinded,

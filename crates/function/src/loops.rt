@@ -7,8 +7,14 @@ use arms::loops::end_pass;
 use arms::loops::end_turn;
 use block::branches::drop_both;
 use field::limits::MAX_TURNS;
+use field::limits::MIN_REPORT;
+use marks::places::PLACES;
+use marks::report::TOTALS_SIZE;
+use memory::layout::CELLS;
+use memory::layout::SLOTS;
 use memory::memory::weigh;
 use module::handles::BlockHandle;
+use module::tables::WORDS;
 use state::answer::Answered;
 use state::answer::Place;
 use state::answer::Tally;
@@ -32,13 +38,13 @@ ghost use Rattle.arms.specs.Loops.{Turning};
 // `Loop`: the first pass, and the turns where it is required.
 pub fn add_loop(
     bytes: &[u8],
-    t: &[u32],
+    t: &[u32; WORDS],
     types: &[u32],
-    places: &[u32],
-    cells: &mut [u32],
-    slots: &mut [u32],
-    open: &mut [u8],
-    totals: &mut [u8],
+    places: &[u32; PLACES],
+    cells: &mut [u32; CELLS],
+    slots: &mut [u32; SLOTS],
+    open: &mut [u8; MIN_REPORT],
+    totals: &mut [u8; TOTALS_SIZE],
     fr: Frame,
     b: BlockHandle,
     row: Kinded,
@@ -117,13 +123,13 @@ pub fn add_loop(
 // The turns, each from the working context behind the current one, until that contains what a turn leaves.
 fn add_turns(
     bytes: &[u8],
-    t: &[u32],
+    t: &[u32; WORDS],
     types: &[u32],
-    places: &[u32],
-    cells: &mut [u32],
-    slots: &mut [u32],
-    open: &mut [u8],
-    totals: &mut [u8],
+    places: &[u32; PLACES],
+    cells: &mut [u32; CELLS],
+    slots: &mut [u32; SLOTS],
+    open: &mut [u8; MIN_REPORT],
+    totals: &mut [u8; TOTALS_SIZE],
     fr: Frame,
     b: BlockHandle,
     body: BlockHandle,

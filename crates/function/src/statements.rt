@@ -11,7 +11,13 @@ use arms::visit::end_statement;
 use arms::visit::mark_statement;
 use expression::visit::allowed;
 use field::limits::MAX_VISITS;
+use field::limits::MIN_REPORT;
+use marks::places::PLACES;
+use marks::report::TOTALS_SIZE;
+use memory::layout::CELLS;
+use memory::layout::SLOTS;
 use module::handles::BlockHandle;
+use module::tables::WORDS;
 use state::answer::Answered;
 use state::answer::Place;
 use state::frame::Frame;
@@ -25,7 +31,6 @@ ghost use Rattle.access.specs.Access.{operandAt};
 ghost use Rattle.walk.specs.Statement.{addStatement, visitStatement};
 ghost use Rattle.walk.specs.Function.{addFunction};
 ghost use Rattle.state.specs.Frame.{frameOf};
-ghost use Rattle.statement.specs.Leaf.{leafReq};
 ghost use Rattle.block.specs.Standing.{stateIn};
 ghost use Rattle.block.specs.Blocks.{StatementEnds};
 ghost use Rattle.block.specs.Visiting.{blockIn, marked, Visits, Arms, VisitEnds};
@@ -45,13 +50,13 @@ const CALL: u16 = 14;
 // `add_statement`, as a visit: 17, 16, the arm with its marks, and 16 again. The statement stands in the block b.
 pub fn add_statement(
     bytes: &[u8],
-    t: &[u32],
+    t: &[u32; WORDS],
     types: &[u32],
-    places: &[u32],
-    cells: &mut [u32],
-    slots: &mut [u32],
-    open: &mut [u8],
-    totals: &mut [u8],
+    places: &[u32; PLACES],
+    cells: &mut [u32; CELLS],
+    slots: &mut [u32; SLOTS],
+    open: &mut [u8; MIN_REPORT],
+    totals: &mut [u8; TOTALS_SIZE],
     fr: Frame,
     b: BlockHandle,
     visits: usize,
@@ -89,13 +94,13 @@ pub fn add_statement(
 // The arm with its marks.
 fn add_arm(
     bytes: &[u8],
-    t: &[u32],
+    t: &[u32; WORDS],
     types: &[u32],
-    places: &[u32],
-    cells: &mut [u32],
-    slots: &mut [u32],
-    open: &mut [u8],
-    totals: &mut [u8],
+    places: &[u32; PLACES],
+    cells: &mut [u32; CELLS],
+    slots: &mut [u32; SLOTS],
+    open: &mut [u8; MIN_REPORT],
+    totals: &mut [u8; TOTALS_SIZE],
     fr: Frame,
     b: BlockHandle,
     row: Kinded,
@@ -127,7 +132,49 @@ fn add_arm(
         );
     }
     if kind < BREAK {
-        let r = add_holder(
+        return add_holder(
+            bytes,
+            t,
+            types,
+            places,
+            cells,
+            slots,
+            open,
+            totals,
+            fr,
+            b,
+            row,
+            visits,
+            sum,
+        );
+    }
+    let r = add_leaf(bytes, t, types, cells, slots, fr, row, visits, sum);
+    mark_statement(t, places, open, fr, row, r)
+}
+
+// The arm of a statement that holds blocks, with its marks: each takes them by itself, so that no answer of a walk waits beside those of the others.
+fn add_holder(
+    bytes: &[u8],
+    t: &[u32; WORDS],
+    types: &[u32],
+    places: &[u32; PLACES],
+    cells: &mut [u32; CELLS],
+    slots: &mut [u32; SLOTS],
+    open: &mut [u8; MIN_REPORT],
+    totals: &mut [u8; TOTALS_SIZE],
+    fr: Frame,
+    b: BlockHandle,
+    row: Kinded,
+    visits: usize,
+    sum: usize,
+) -> Answered
+    requires { ⌜ Arms (now bytes) (now t) (now types) (now places) (now cells) (now slots) (now «open») (now totals) fr (b .0) row sum visits ⌝ }
+    requires { ⌜ (1 ≤ row .kind) × (row .kind ≤ 4) ⌝ }
+    ensures { λ r. ⌜ StatementEnds (now (bytes .entry)) (now (t .entry)) (now (types .entry)) (now (places .entry)) (now (cells .entry)) (now (slots .entry)) (now («open» .entry)) (now (totals .entry)) fr (marked (moduleOf (now (bytes .entry)) (now (t .entry))) (frameOf (now (cells .entry)) (now (slots .entry)) fr) (addStatement (moduleOf (now (bytes .entry)) (now (t .entry))) (addFunction (moduleOf (now (bytes .entry)) (now (t .entry)))) (blockIn (now (bytes .entry)) (now (t .entry)) (fr .function .0)) (frameOf (now (cells .entry)) (now (slots .entry)) fr) (statementOf (row .kind) (operandAt (now (bytes .entry)) row)) (stateIn (now (bytes .entry)) (now (t .entry)) (now (cells .entry)) (now (slots .entry)) (now («open» .entry)) (now (totals .entry)) (fr .function .0) (fr .at) visits))) (λ b. b) r (now (cells .exit)) (now (slots .exit)) (now («open» .exit)) (now (totals .exit)) ⌝ }
+{
+    let kind = row.kind;
+    if kind == BLOCK {
+        let r = add_nested(
             bytes,
             t,
             types,
@@ -144,50 +191,8 @@ fn add_arm(
         );
         return mark_statement(t, places, open, fr, row, r);
     }
-    let r = add_leaf(bytes, t, types, cells, slots, fr, row, visits, sum);
-    mark_statement(t, places, open, fr, row, r)
-}
-
-// The arm of a statement that holds blocks.
-fn add_holder(
-    bytes: &[u8],
-    t: &[u32],
-    types: &[u32],
-    places: &[u32],
-    cells: &mut [u32],
-    slots: &mut [u32],
-    open: &mut [u8],
-    totals: &mut [u8],
-    fr: Frame,
-    b: BlockHandle,
-    row: Kinded,
-    visits: usize,
-    sum: usize,
-) -> Answered
-    requires { ⌜ Arms (now bytes) (now t) (now types) (now places) (now cells) (now slots) (now «open») (now totals) fr (b .0) row sum visits ⌝ }
-    requires { ⌜ (1 ≤ row .kind) × (row .kind ≤ 4) ⌝ }
-    ensures { λ r. ⌜ StatementEnds (now (bytes .entry)) (now (t .entry)) (now (types .entry)) (now (places .entry)) (now (cells .entry)) (now (slots .entry)) (now («open» .entry)) (now (totals .entry)) fr (addStatement (moduleOf (now (bytes .entry)) (now (t .entry))) (addFunction (moduleOf (now (bytes .entry)) (now (t .entry)))) (blockIn (now (bytes .entry)) (now (t .entry)) (fr .function .0)) (frameOf (now (cells .entry)) (now (slots .entry)) fr) (statementOf (row .kind) (operandAt (now (bytes .entry)) row)) (stateIn (now (bytes .entry)) (now (t .entry)) (now (cells .entry)) (now (slots .entry)) (now («open» .entry)) (now (totals .entry)) (fr .function .0) (fr .at) visits)) (leafReq (statementOf (row .kind) (operandAt (now (bytes .entry)) row))) r (now (cells .exit)) (now (slots .exit)) (now («open» .exit)) (now (totals .exit)) ⌝ }
-{
-    let kind = row.kind;
-    if kind == BLOCK {
-        return add_nested(
-            bytes,
-            t,
-            types,
-            places,
-            cells,
-            slots,
-            open,
-            totals,
-            fr,
-            b,
-            row,
-            visits,
-            sum,
-        );
-    }
     if kind == IF {
-        return add_if(
+        let r = add_if(
             bytes,
             t,
             types,
@@ -202,9 +207,10 @@ fn add_holder(
             visits,
             sum,
         );
+        return mark_statement(t, places, open, fr, row, r);
     }
     if kind == SWITCH {
-        return add_switch(
+        let r = add_switch(
             bytes,
             t,
             types,
@@ -219,8 +225,9 @@ fn add_holder(
             visits,
             sum,
         );
+        return mark_statement(t, places, open, fr, row, r);
     }
-    add_loop(
+    let r = add_loop(
         bytes,
         t,
         types,
@@ -234,5 +241,6 @@ fn add_holder(
         row,
         visits,
         sum,
-    )
+    );
+    mark_statement(t, places, open, fr, row, r)
 }

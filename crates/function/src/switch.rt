@@ -5,10 +5,16 @@ use access::kinded::operand;
 use arms::switch::case_body;
 use arms::switch::end_case;
 use arms::switch::end_switch;
+use field::limits::MIN_REPORT;
+use marks::places::PLACES;
+use marks::report::TOTALS_SIZE;
 use marks::set::or;
+use memory::layout::CELLS;
+use memory::layout::SLOTS;
 use memory::memory::weigh;
 use memory::stretches::copy_context;
 use module::handles::BlockHandle;
+use module::tables::WORDS;
 use state::answer::Answered;
 use state::answer::Place;
 use state::frame::Frame;
@@ -26,13 +32,13 @@ ghost use Rattle.block.specs.Visiting.{blockIn, Arms};
 // `Switch`: the cases, the last first, joined behind the current context.
 pub fn add_switch(
     bytes: &[u8],
-    t: &[u32],
+    t: &[u32; WORDS],
     types: &[u32],
-    places: &[u32],
-    cells: &mut [u32],
-    slots: &mut [u32],
-    open: &mut [u8],
-    totals: &mut [u8],
+    places: &[u32; PLACES],
+    cells: &mut [u32; CELLS],
+    slots: &mut [u32; SLOTS],
+    open: &mut [u8; MIN_REPORT],
+    totals: &mut [u8; TOTALS_SIZE],
     fr: Frame,
     b: BlockHandle,
     row: Kinded,

@@ -344,10 +344,10 @@ abbrev loops·add-turns-called : ℕ → loops·add-turns-lts.Claims
 loops·add-turns-called t = (weigh-reads.Asked, weigh-reads.Learnt, holders·add-pair-below t, holders·add-pair.Post, end-turn-reads.Asked, end-turn-reads.Learnt)
 
 abbrev statements·add-arm-called : ℕ → statements·add-arm-lts.Claims
-statements·add-arm-called t = (add-emit-reads.Asked, add-emit-reads.Learnt, calls·add-call-below t, calls·add-call.Post, statements·add-holder-below t, statements·add-holder.Post, mark-statement-reads.Asked, mark-statement-reads.Learnt, add-leaf-reads.Asked, add-leaf-reads.Learnt)
+statements·add-arm-called t = (add-emit-reads.Asked, add-emit-reads.Learnt, calls·add-call-below t, calls·add-call.Post, statements·add-holder-below t, statements·add-holder.Post, add-leaf-reads.Asked, add-leaf-reads.Learnt, mark-statement-reads.Asked, mark-statement-reads.Learnt)
 
 abbrev statements·add-holder-called : ℕ → statements·add-holder-lts.Claims
-statements·add-holder-called t = (holders·add-nested-below t, holders·add-nested.Post, holders·add-if-below t, holders·add-if.Post, switch·add-switch-below t, switch·add-switch.Post, loops·add-loop-below t, loops·add-loop.Post)
+statements·add-holder-called t = (holders·add-nested-below t, holders·add-nested.Post, mark-statement-reads.Asked, mark-statement-reads.Learnt, holders·add-if-below t, holders·add-if.Post, switch·add-switch-below t, switch·add-switch.Post, loops·add-loop-below t, loops·add-loop.Post)
 
 abbrev statements·add-statement-called : ℕ → statements·add-statement-lts.Claims
 statements·add-statement-called t = (allowed-reads.Asked, allowed-reads.Learnt, statement-reads.Asked, statement-reads.Learnt, statements·add-arm-below t, statements·add-arm.Post, end-statement-reads.Asked, end-statement-reads.Learnt)
@@ -365,22 +365,22 @@ blocks·add-block-block-requires : (t : ℕ) → blocks·add-block-lts.Need-bloc
 blocks·add-block-block-requires t c κs = search needs
 
 blocks·add-block-weigh-requires : (t : ℕ) → blocks·add-block-lts.Need-weigh-requires (blocks·add-block-called t) (blocks·add-block-at t) blocks·add-block.Post blocks·add-block-Inv-loop blocks·add-block-μ-loop
-blocks·add-block-weigh-requires t c κs = base-weighs (c .before .before .before .before .before .before .before .before .before .before .before .args .f) (c .before .before .before .before .before .before .before .before .before .before .before .pre .1)
+blocks·add-block-weigh-requires t c κs = base-weighs (c .before .before .before .before .before .before .before .before .args .f) (c .before .before .before .before .before .before .before .before .pre .1)
 
 blocks·add-block-add-inner : (t : ℕ) → blocks·add-block-lts.Need-add-inner (blocks·add-block-called t) (blocks·add-block-at t) blocks·add-block.Post blocks·add-block-Inv-loop blocks·add-block-μ-loop
-blocks·add-block-add-inner t c = let h = base-small (c .before .before .before .before .before .before .before .before .before .before .before .before .args .f) (c .before .before .before .before .before .before .before .before .before .before .before .before .pre .1) (c .weigh .ensures) in omega (arith, h)
+blocks·add-block-add-inner t c = let h = base-small (c .before .before .before .before .before .before .before .before .before .args .f) (c .before .before .before .before .before .before .before .before .before .pre .1) (c .weigh .ensures) in omega (arith, h)
 
 blocks·add-block-copy-context-requires : (t : ℕ) → blocks·add-block-lts.Need-copy-context-requires (blocks·add-block-called t) (blocks·add-block-at t) blocks·add-block.Post blocks·add-block-Inv-loop blocks·add-block-μ-loop
-blocks·add-block-copy-context-requires t c κs = base-copies (c .before .before .before .before .before .before .before .before .before .before .before .before .before .args .f) (c .before .before .before .before .before .before .before .before .before .before .before .before .before .pre .1)
+blocks·add-block-copy-context-requires t c κs = base-copies (c .before .before .before .before .before .before .before .before .before .before .args .f) (c .before .before .before .before .before .before .before .before .before .before .pre .1)
 
 blocks·add-block-loop-holds : (t : ℕ) → blocks·add-block-lts.Need-loop-holds (blocks·add-block-called t) (blocks·add-block-at t) blocks·add-block.Post blocks·add-block-Inv-loop blocks·add-block-μ-loop
-blocks·add-block-loop-holds t c = all-left (c .before .before .before .before .before .before .before .before .before .before .before .before .before .before .before .before .args .f) (c .before .before .before .before .before .before .before .before .before .before .before .before .before .before .before .before .pre .1) (c .before .before .before .before .before .before .before .before .before .before .before .before .before .before .before .before .args .break-required) (c .before .before .copy-context .ensures) (c .before .before .before .before .before .before .before .block .result) (c .before .before .before .before .before .before .before .block .ensures) (c .before .before .before .before .weigh .ensures)
+blocks·add-block-loop-holds t c = all-left (c .before .before .before .before .before .before .before .before .before .before .before .args .f) (c .before .before .before .before .before .before .before .before .before .before .before .pre .1) (c .before .before .before .before .before .before .before .before .before .before .before .args .break-required) (c .copy-context .ensures) (c .before .before .before .before .before .before .before .block .result) (c .before .before .before .before .before .before .before .block .ensures) (c .before .before .weigh .ensures)
 
 blocks·add-block-sub-k : (t : ℕ) → blocks·add-block-lts.Need-sub-k (blocks·add-block-called t) (blocks·add-block-at t) blocks·add-block.Post blocks·add-block-Inv-loop blocks·add-block-μ-loop
 blocks·add-block-sub-k t c = omega (arith, c .loop-test .taken)
 
-blocks·add-block-add-t40 : (t : ℕ) → blocks·add-block-lts.Need-add-t40 (blocks·add-block-called t) (blocks·add-block-at t) blocks·add-block.Post blocks·add-block-Inv-loop blocks·add-block-μ-loop
-blocks·add-block-add-t40 t c = let h = statement-low (c .before .before .before .before .before .before .before .before .before .before .before .before .before .before .before .before .before .before .args .f) (c .before .before .before .before .before .before .before .before .before .before .before .before .before .before .before .before .before .before .pre .1) (c .before .before .before .before .before .before .before .before .before .before .before .before .before .before .before .before .before .before .args .break-required) (c .before .before .before .before .copy-context .ensures) (c .before .loop .inv) (c .loop-test .taken) in omega (arith, h)
+blocks·add-block-add-t42 : (t : ℕ) → blocks·add-block-lts.Need-add-t42 (blocks·add-block-called t) (blocks·add-block-at t) blocks·add-block.Post blocks·add-block-Inv-loop blocks·add-block-μ-loop
+blocks·add-block-add-t42 t c = let h = statement-low (c .before .before .before .before .before .before .before .before .before .before .before .before .before .args .f) (c .before .before .before .before .before .before .before .before .before .before .before .before .before .pre .1) (c .before .before .before .before .before .before .before .before .before .before .before .before .before .args .break-required) (c .before .before .copy-context .ensures) (c .before .loop .inv) (c .loop-test .taken) in omega (arith, h)
 
 blocks·add-block-add-statement-requires :
     (t : ℕ) → blocks·add-block-lts.Need-add-statement-requires (blocks·add-block-called t)
@@ -388,7 +388,7 @@ blocks·add-block-add-statement-requires :
     blocks·add-block.Post
     blocks·add-block-Inv-loop
     blocks·add-block-μ-loop
-blocks·add-block-add-statement-requires t c κs = (omega (arith, c .before .before .before .before .before .before .before .before .before .before .before .before .before .before .before .before .before .before .before .before .before .before .pre .0), statement-visits (c .before .before .before .before .before .before .before .before .before .before .before .before .before .before .before .before .before .before .before .before .before .before .args .f) (c .before .before .before .before .before .before .before .before .before .before .before .before .before .before .before .before .before .before .before .before .before .before .pre .1) (c .before .before .before .before .before .before .before .before .before .before .before .before .before .before .before .before .before .before .before .before .before .before .args .break-required) (c .before .before .before .before .before .before .before .before .copy-context .ensures) (c .before .before .before .before .before .loop .inv) (c .before .before .before .before .loop-test .taken))
+blocks·add-block-add-statement-requires t c κs = (omega (arith, c .before .before .before .before .before .before .before .before .before .before .before .before .before .before .before .before .before .pre .0), statement-visits (c .before .before .before .before .before .before .before .before .before .before .before .before .before .before .before .before .before .args .f) (c .before .before .before .before .before .before .before .before .before .before .before .before .before .before .before .before .before .pre .1) (c .before .before .before .before .before .before .before .before .before .before .before .before .before .before .before .before .before .args .break-required) (c .before .before .before .before .before .before .copy-context .ensures) (c .before .before .before .before .before .loop .inv) (c .before .before .before .before .loop-test .taken))
 
 blocks·add-block-enum-known-tally : (t : ℕ) → blocks·add-block-lts.Need-enum-known-tally (blocks·add-block-called t) (blocks·add-block-at t) blocks·add-block.Post blocks·add-block-Inv-loop blocks·add-block-μ-loop
 blocks·add-block-enum-known-tally t c = search needs
@@ -402,41 +402,17 @@ blocks·add-block-or-requires-2 t c κs = search needs
 blocks·add-block-enum-known-number : (t : ℕ) → blocks·add-block-lts.Need-enum-known-number (blocks·add-block-called t) (blocks·add-block-at t) blocks·add-block.Post blocks·add-block-Inv-loop blocks·add-block-μ-loop
 blocks·add-block-enum-known-number t c = search needs
 
-blocks·add-block-same-length : (t : ℕ) → blocks·add-block-lts.Need-same-length (blocks·add-block-called t) (blocks·add-block-at t) blocks·add-block.Post blocks·add-block-Inv-loop blocks·add-block-μ-loop
-blocks·add-block-same-length t c = c .before .before .before .before .before .before .before .before .before .before .before .add-statement .kept .1 .1 .1 .1 .0 ∙ c .before .before .before .before .before .before .before .before .before .before .before .before .before .before .before .before .before .loop .inv .cells
-
-blocks·add-block-same-length-2 : (t : ℕ) → blocks·add-block-lts.Need-same-length-2 (blocks·add-block-called t) (blocks·add-block-at t) blocks·add-block.Post blocks·add-block-Inv-loop blocks·add-block-μ-loop
-blocks·add-block-same-length-2 t c = c .before .before .before .before .before .before .before .before .before .before .before .add-statement .kept .1 .1 .1 .1 .1 .0 ∙ c .before .before .before .before .before .before .before .before .before .before .before .before .before .before .before .before .before .loop .inv .beside .long ∙ c .before .before .before .before .before .before .before .before .before .before .before .before .before .before .before .before .before .before .before .before .copy-context .kept .0
-
-blocks·add-block-same-length-3 : (t : ℕ) → blocks·add-block-lts.Need-same-length-3 (blocks·add-block-called t) (blocks·add-block-at t) blocks·add-block.Post blocks·add-block-Inv-loop blocks·add-block-μ-loop
-blocks·add-block-same-length-3 t c = c .before .before .before .before .before .before .before .before .before .before .before .add-statement .kept .1 .1 .1 .1 .1 .1 .0 ∙ c .before .before .before .before .before .before .before .before .before .before .before .before .before .before .before .before .before .loop .inv .beside .marks-long
-
-blocks·add-block-same-length-4 : (t : ℕ) → blocks·add-block-lts.Need-same-length-4 (blocks·add-block-called t) (blocks·add-block-at t) blocks·add-block.Post blocks·add-block-Inv-loop blocks·add-block-μ-loop
-blocks·add-block-same-length-4 t c = c .before .before .before .before .before .before .before .before .before .before .before .add-statement .kept .1 .1 .1 .1 .1 .1 .1 .0 ∙ c .before .before .before .before .before .before .before .before .before .before .before .before .before .before .before .before .before .loop .inv .totals-long
-
 blocks·add-block-returns : (t : ℕ) → blocks·add-block-lts.Need-returns (blocks·add-block-called t) (blocks·add-block-at t) blocks·add-block.Post blocks·add-block-Inv-loop blocks·add-block-μ-loop
-blocks·add-block-returns t c = statements-stop (c .before .before .before .before .before .before .before .before .before .before .before .before .before .before .before .before .before .before .before .before .before .before .before .before .before .before .before .before .before .before .before .before .before .before .args .f) (c .before .before .before .before .before .before .before .before .before .before .before .before .before .before .before .before .before .before .before .before .before .before .before .before .before .before .before .before .before .before .before .before .before .before .pre .1) (c .before .before .before .before .before .before .before .before .before .before .before .before .before .before .before .before .before .before .before .before .before .before .before .before .before .before .before .before .before .before .before .before .before .before .args .break-required) (c .before .before .before .before .before .before .before .before .before .before .before .before .before .before .before .before .before .before .before .before .copy-context .ensures) (c .before .before .before .before .before .before .before .before .before .before .before .before .before .before .before .before .before .loop .inv) (c .before .before .before .before .before .before .before .before .before .before .before .before .before .before .before .before .loop-test .taken) (c .before .before .before .before .before .before .before .before .before .before .before .add-statement .ensures) (c .before .number .given .1)
+blocks·add-block-returns t c = statements-stop (c .before .before .before .before .before .before .before .before .before .before .before .before .before .before .before .before .before .before .before .before .before .args .f) (c .before .before .before .before .before .before .before .before .before .before .before .before .before .before .before .before .before .before .before .before .before .pre .1) (c .before .before .before .before .before .before .before .before .before .before .before .before .before .before .before .before .before .before .before .before .before .args .break-required) (c .before .before .before .before .before .before .before .before .before .before .copy-context .ensures) (c .before .before .before .before .before .before .before .before .before .loop .inv) (c .before .before .before .before .before .before .before .before .loop-test .taken) (c .before .before .before .add-statement .ensures) (c .before .number .given .1)
 
 blocks·add-block-loop-less : (t : ℕ) → blocks·add-block-lts.Need-loop-less (blocks·add-block-called t) (blocks·add-block-at t) blocks·add-block.Post blocks·add-block-Inv-loop blocks·add-block-μ-loop
-blocks·add-block-loop-less t c = omega (arith, c .before .before .before .before .before .before .before .before .before .before .before .before .before .before .before .before .before .before .loop-test .taken)
+blocks·add-block-loop-less t c = omega (arith, c .before .before .before .before .before .before .before .before .before .before .loop-test .taken)
 
 blocks·add-block-loop-again : (t : ℕ) → blocks·add-block-lts.Need-loop-again (blocks·add-block-called t) (blocks·add-block-at t) blocks·add-block.Post blocks·add-block-Inv-loop blocks·add-block-μ-loop
-blocks·add-block-loop-again t c = statements-next (c .before .before .before .before .before .before .before .before .before .before .before .before .before .before .before .before .before .before .before .before .before .before .before .before .before .before .before .before .before .before .before .before .before .before .before .before .args .f) (c .before .before .before .before .before .before .before .before .before .before .before .before .before .before .before .before .before .before .before .before .before .before .before .before .before .before .before .before .before .before .before .before .before .before .before .before .pre .1) (c .before .before .before .before .before .before .before .before .before .before .before .before .before .before .before .before .before .before .before .before .before .before .before .before .before .before .before .before .before .before .before .before .before .before .before .before .args .break-required) (c .before .before .before .before .before .before .before .before .before .before .before .before .before .before .before .before .before .before .before .before .before .before .copy-context .ensures) (c .before .before .before .before .before .before .before .before .before .before .before .before .before .before .before .before .before .before .before .loop .inv) (c .before .before .before .before .before .before .before .before .before .before .before .before .before .before .before .before .before .before .loop-test .taken) (c .before .before .before .before .before .before .before .before .before .before .before .before .before .add-statement .ensures) (c .before .before .before .tally .given .1) (c .before .or .ensures) (c .or2 .ensures) (c .before .before .before .before .before .before .before .before .before .before .before .before .before .add-statement .kept .1 .1 .1 .1 .0) (c .before .before .before .before .before .before .before .before .before .before .before .before .before .add-statement .kept .1 .1 .1 .1 .1 .1 .1 .0)
-
-blocks·add-block-same-length-5 : (t : ℕ) → blocks·add-block-lts.Need-same-length-5 (blocks·add-block-called t) (blocks·add-block-at t) blocks·add-block.Post blocks·add-block-Inv-loop blocks·add-block-μ-loop
-blocks·add-block-same-length-5 t c = c .before .loop .inv .cells
-
-blocks·add-block-same-length-6 : (t : ℕ) → blocks·add-block-lts.Need-same-length-6 (blocks·add-block-called t) (blocks·add-block-at t) blocks·add-block.Post blocks·add-block-Inv-loop blocks·add-block-μ-loop
-blocks·add-block-same-length-6 t c = c .before .loop .inv .beside .long ∙ c .before .before .before .before .copy-context .kept .0
-
-blocks·add-block-same-length-7 : (t : ℕ) → blocks·add-block-lts.Need-same-length-7 (blocks·add-block-called t) (blocks·add-block-at t) blocks·add-block.Post blocks·add-block-Inv-loop blocks·add-block-μ-loop
-blocks·add-block-same-length-7 t c = c .before .loop .inv .beside .marks-long
-
-blocks·add-block-same-length-8 : (t : ℕ) → blocks·add-block-lts.Need-same-length-8 (blocks·add-block-called t) (blocks·add-block-at t) blocks·add-block.Post blocks·add-block-Inv-loop blocks·add-block-μ-loop
-blocks·add-block-same-length-8 t c = c .before .loop .inv .totals-long
+blocks·add-block-loop-again t c = statements-next (c .before .before .before .before .before .before .before .before .before .before .before .before .before .before .before .before .before .before .before .before .before .before .before .args .f) (c .before .before .before .before .before .before .before .before .before .before .before .before .before .before .before .before .before .before .before .before .before .before .before .pre .1) (c .before .before .before .before .before .before .before .before .before .before .before .before .before .before .before .before .before .before .before .before .before .before .before .args .break-required) (c .before .before .before .before .before .before .before .before .before .before .before .before .copy-context .ensures) (c .before .before .before .before .before .before .before .before .before .before .before .loop .inv) (c .before .before .before .before .before .before .before .before .before .before .loop-test .taken) (c .before .before .before .before .before .add-statement .ensures) (c .before .before .before .tally .given .1) (c .before .or .ensures) (c .or2 .ensures)
 
 blocks·add-block-returns-2 : (t : ℕ) → blocks·add-block-lts.Need-returns-2 (blocks·add-block-called t) (blocks·add-block-at t) blocks·add-block.Post blocks·add-block-Inv-loop blocks·add-block-μ-loop
-blocks·add-block-returns-2 t c = none-left (c .before .before .before .before .before .before .before .before .before .before .before .before .before .before .before .before .before .before .args .f) (c .before .before .before .before .before .before .before .before .before .before .before .before .before .before .before .before .before .before .pre .1) (c .before .before .before .before .before .before .before .before .before .before .before .before .before .before .before .before .before .before .args .break-required) (c .before .before .before .before .copy-context .ensures) (c .before .loop .inv) (omega (arith, c .loop-test .left))
+blocks·add-block-returns-2 t c = none-left (c .before .before .before .before .before .before .before .before .before .before .before .before .before .args .f) (c .before .before .before .before .before .before .before .before .before .before .before .before .before .pre .1) (c .before .before .before .before .before .before .before .before .before .before .before .before .before .args .break-required) (c .before .before .copy-context .ensures) (c .before .loop .inv) (omega (arith, c .loop-test .left))
 
 calls·add-call-operand-requires : (t : ℕ) → calls·add-call-lts.Need-operand-requires (calls·add-call-called t) (calls·add-call-at t) calls·add-call.Post
 calls·add-call-operand-requires t c κs = search needs
@@ -445,16 +421,16 @@ calls·add-call-cast-t26 : (t : ℕ) → calls·add-call-lts.Need-cast-t26 (call
 calls·add-call-cast-t26 t c = search needs
 
 calls·add-call-begin-call-requires : (t : ℕ) → calls·add-call-lts.Need-begin-call-requires (calls·add-call-called t) (calls·add-call-at t) calls·add-call.Post
-calls·add-call-begin-call-requires t c κs = call-begins (c .before .before .before .before .before .before .before .before .before .before .before .before .before .pre .1 .0) (c .before .before .before .before .before .before .before .before .before .before .before .before .before .pre .1 .1)
+calls·add-call-begin-call-requires t c κs = call-begins (c .before .before .before .before .before .before .before .before .before .pre .1 .0) (c .before .before .before .before .before .before .before .before .before .pre .1 .1)
 
 calls·add-call-add-add-function : (t : ℕ) → calls·add-call-lts.Need-add-add-function (calls·add-call-called t) (calls·add-call-at t) calls·add-call.Post
-calls·add-call-add-add-function t c = omega (arith, call-high (c .before .before .before .before .before .before .before .before .before .before .before .before .before .before .before .before .before .before .before .before .before .before .before .before .pre .1 .0) (c .before .before .before .before .before .before .before .before .before .before .before .before .before .before .before .before .before .before .before .before .before .before .before .before .pre .1 .1), c .before .before .before .before .before .before .before .before .before .before .before .before .before .before .before .before .before .before .before .before .before .before .before .before .good .1 .1 .1 .1 .1 .0)
+calls·add-call-add-add-function t c = omega (arith, call-high (c .before .before .before .before .before .before .before .before .before .before .before .before .before .before .pre .1 .0) (c .before .before .before .before .before .before .before .before .before .before .before .before .before .before .pre .1 .1), c .before .before .before .before .before .before .begin-call-arg4 .given .0 .1)
 
 calls·add-call-sub-add-function : (t : ℕ) → calls·add-call-lts.Need-sub-add-function (calls·add-call-called t) (calls·add-call-at t) calls·add-call.Post
-calls·add-call-sub-add-function t c = omega (arith, call-own (c .before .before .before .before .before .before .before .before .before .before .before .before .before .before .before .before .before .before .before .before .before .before .before .before .pre .1 .0) (c .before .before .before .before .before .before .before .before .before .before .before .before .before .before .before .before .before .before .before .before .before .before .before .before .pre .1 .1) (c .before .before .before .before .before .before .before .before .before .before .before .before .before .before .operand .ensures) (c .before .before .before .before .before .before .before .before .before .before .begin-call .ensures))
+calls·add-call-sub-add-function t c = omega (arith, call-own (c .before .before .before .before .before .before .before .before .before .before .before .before .before .before .pre .1 .0) (c .before .before .before .before .before .before .before .before .before .before .before .before .before .before .pre .1 .1) (c .before .before .before .before .before .before .before .before .before .before .operand .ensures) (c .before .before .before .before .begin-call .ensures))
 
 calls·add-call-add-function-requires : (t : ℕ) → calls·add-call-lts.Need-add-function-requires (calls·add-call-called t) (calls·add-call-at t) calls·add-call.Post
-calls·add-call-add-function-requires t c κs = (omega (arith, c .before .before .before .before .before .before .before .before .before .before .before .before .before .before .before .before .before .before .before .before .before .before .before .before .pre .0, callee-below (c .before .before .before .before .before .before .before .before .before .before .before .before .before .before .before .before .before .before .before .before .before .before .before .before .pre .1 .0) (c .before .before .before .before .before .before .before .before .before .before .before .before .before .before .before .before .before .before .before .before .before .before .before .before .pre .1 .1), c .before .before .before .before .before .before .before .before .before .before .before .before .before .before .operand .ensures), function-enters (c .before .before .before .before .before .before .before .before .before .before .before .before .before .before .before .before .before .before .before .before .before .before .before .before .pre .1 .0) (c .before .before .before .before .before .before .before .before .before .before .before .before .before .before .before .before .before .before .before .before .before .before .before .before .pre .1 .1) (c .before .before .before .before .before .before .before .before .before .before .before .before .before .before .operand .ensures) (c .before .before .before .before .before .before .before .before .before .before .begin-call .ensures))
+calls·add-call-add-function-requires t c κs = (omega (arith, c .before .before .before .before .before .before .before .before .before .before .before .before .before .before .pre .0, callee-below (c .before .before .before .before .before .before .before .before .before .before .before .before .before .before .pre .1 .0) (c .before .before .before .before .before .before .before .before .before .before .before .before .before .before .pre .1 .1), c .before .before .before .before .before .before .before .before .before .before .operand .ensures), (function-enters (c .before .before .before .before .before .before .before .before .before .before .before .before .before .before .pre .1 .0) (c .before .before .before .before .before .before .before .before .before .before .before .before .before .before .pre .1 .1) (c .before .before .before .before .before .before .before .before .before .before .operand .ensures) (c .before .before .before .before .begin-call .ensures), omega (arith, call-high (c .before .before .before .before .before .before .before .before .before .before .before .before .before .before .pre .1 .0) (c .before .before .before .before .before .before .before .before .before .before .before .before .before .before .pre .1 .1), c .before .before .before .before .before .before .begin-call-arg4 .given .0 .1)))
 
 calls·add-call-enum-known-r : (t : ℕ) → calls·add-call-lts.Need-enum-known-r (calls·add-call-called t) (calls·add-call-at t) calls·add-call.Post
 calls·add-call-enum-known-r t c = search needs
@@ -463,54 +439,30 @@ calls·add-call-enum-known-r-2 : (t : ℕ) → calls·add-call-lts.Need-enum-kno
 calls·add-call-enum-known-r-2 t c = search needs
 
 calls·add-call-add-leave-call : (t : ℕ) → calls·add-call-lts.Need-add-leave-call (calls·add-call-called t) (calls·add-call-at t) calls·add-call.Post
-calls·add-call-add-leave-call t c = omega (arith, call-sum (c .before .before .before .before .before .before .before .before .before .before .before .before .before .before .before .before .before .before .before .before .before .before .before .before .before .before .before .before .before .before .before .before .before .before .before .before .before .before .before .pre .1 .0) (c .before .before .before .before .before .before .before .before .before .before .before .before .before .before .before .before .before .before .before .before .before .before .before .before .before .before .before .before .before .before .before .before .before .before .before .before .before .before .before .pre .1 .1) (c .before .before .before .before .before .before .before .before .before .before .before .before .before .before .before .before .before .before .before .before .before .before .before .before .before .before .before .before .before .operand .ensures) (c .before .before .before .before .before .before .before .before .before .before .before .before .before .before .before .before .before .before .before .before .before .before .before .before .before .begin-call .ensures) (c .before .before .before .before .before .before .before .before .before .before .before .before .before .before .add-function .ensures) (c .before .before .before .before .r2 .given .1))
+calls·add-call-add-leave-call t c = omega (arith, call-sum (c .before .before .before .before .before .before .before .before .before .before .before .before .before .before .before .before .before .before .before .before .before .before .before .pre .1 .0) (c .before .before .before .before .before .before .before .before .before .before .before .before .before .before .before .before .before .before .before .before .before .before .before .pre .1 .1) (c .before .before .before .before .before .before .before .before .before .before .before .before .before .before .before .before .before .before .before .operand .ensures) (c .before .before .before .before .before .before .before .before .before .before .before .before .before .begin-call .ensures) (c .before .before .before .before .before .before .before .before .add-function .ensures) (c .before .before .before .before .before .before .r2 .given .1))
 
 calls·add-call-leave-call-requires : (t : ℕ) → calls·add-call-lts.Need-leave-call-requires (calls·add-call-called t) (calls·add-call-at t) calls·add-call.Post
-calls·add-call-leave-call-requires t c κs = call-leaves (c .before .before .before .before .before .before .before .before .before .before .before .before .before .before .before .before .before .before .before .before .before .before .before .before .before .before .before .before .before .before .before .before .before .before .before .before .before .before .before .pre .1 .0) (c .before .before .before .before .before .before .before .before .before .before .before .before .before .before .before .before .before .before .before .before .before .before .before .before .before .before .before .before .before .before .before .before .before .before .before .before .before .before .before .pre .1 .1) (c .before .before .before .before .before .before .before .before .before .before .before .before .before .before .before .before .before .before .before .before .before .before .before .before .before .before .before .before .before .operand .ensures) (c .before .before .before .before .before .before .before .before .before .before .before .before .before .before .before .before .before .before .before .before .before .before .before .before .before .begin-call .ensures) (c .before .before .before .before .before .before .before .before .before .before .before .before .before .before .add-function .ensures) (c .before .before .before .before .r2 .given .1)
+calls·add-call-leave-call-requires t c κs = call-leaves (c .before .before .before .before .before .before .before .before .before .before .before .before .before .before .before .before .before .before .before .before .before .before .before .pre .1 .0) (c .before .before .before .before .before .before .before .before .before .before .before .before .before .before .before .before .before .before .before .before .before .before .before .pre .1 .1) (c .before .before .before .before .before .before .before .before .before .before .before .before .before .before .before .before .before .before .before .operand .ensures) (c .before .before .before .before .before .before .before .before .before .before .before .before .before .begin-call .ensures) (c .before .before .before .before .before .before .before .before .add-function .ensures) (c .before .before .before .before .before .before .r2 .given .1)
 
 calls·add-call-return-call-requires : (t : ℕ) → calls·add-call-lts.Need-return-call-requires (calls·add-call-called t) (calls·add-call-at t) calls·add-call.Post
-calls·add-call-return-call-requires t c κs = call-returns (c .before .before .before .before .before .before .before .before .before .before .before .before .before .before .before .before .before .before .before .before .before .before .before .before .before .before .before .before .before .before .before .before .before .before .before .before .before .before .before .before .before .before .before .before .before .pre .1 .0) (c .before .before .before .before .before .before .before .before .before .before .before .before .before .before .before .before .before .before .before .before .before .before .before .before .before .before .before .before .before .before .before .before .before .before .before .before .before .before .before .before .before .before .before .before .before .pre .1 .1) (c .before .before .before .before .before .before .before .before .before .before .before .before .before .before .before .before .before .before .before .before .before .before .before .before .before .before .before .before .before .before .before .before .before .before .before .operand .ensures) (c .before .before .before .before .before .before .before .before .before .before .before .before .before .before .before .before .before .before .before .before .before .before .before .before .before .before .before .before .before .before .before .begin-call .ensures) (c .before .before .before .before .before .before .before .before .before .before .before .before .before .before .before .before .before .before .before .before .add-function .ensures) (c .before .before .before .before .before .before .before .before .before .before .r2 .given .1) (c .before .before .before .before .before .leave-call .ensures)
-
-calls·add-call-same-length : (t : ℕ) → calls·add-call-lts.Need-same-length (calls·add-call-called t) (calls·add-call-at t) calls·add-call.Post
-calls·add-call-same-length t c = c .before .before .before .before .before .before .before .before .before .before .before .add-function .kept .1 .1 .1 .1 .0 ∙ c .before .before .before .before .before .before .before .before .before .before .before .before .before .before .before .before .before .before .before .before .before .before .begin-call .kept .1 .1 .1 .0
-
-calls·add-call-same-length-2 : (t : ℕ) → calls·add-call-lts.Need-same-length-2 (calls·add-call-called t) (calls·add-call-at t) calls·add-call.Post
-calls·add-call-same-length-2 t c = c .before .before .before .before .before .before .before .before .before .before .before .add-function .kept .1 .1 .1 .1 .1 .0 ∙ c .before .before .before .before .before .before .before .before .before .before .before .before .before .before .before .before .before .before .before .before .before .before .begin-call .kept .1 .1 .1 .1 .0
-
-calls·add-call-same-length-3 : (t : ℕ) → calls·add-call-lts.Need-same-length-3 (calls·add-call-called t) (calls·add-call-at t) calls·add-call.Post
-calls·add-call-same-length-3 t c = c .before .before .before .before .before .before .before .before .before .before .before .add-function .kept .1 .1 .1 .1 .1 .1 .0 ∙ c .before .before .before .before .before .before .before .before .before .before .before .before .before .before .before .before .before .before .before .before .before .before .begin-call .kept .1 .1 .1 .1 .1 .0
-
-calls·add-call-same-length-4 : (t : ℕ) → calls·add-call-lts.Need-same-length-4 (calls·add-call-called t) (calls·add-call-at t) calls·add-call.Post
-calls·add-call-same-length-4 t c = c .before .before .before .before .before .before .before .before .before .before .before .add-function .kept .1 .1 .1 .1 .1 .1 .1 .0
+calls·add-call-return-call-requires t c κs = call-returns (c .before .before .before .before .before .before .before .before .before .before .before .before .before .before .before .before .before .before .before .before .before .before .before .before .before .before .before .before .before .pre .1 .0) (c .before .before .before .before .before .before .before .before .before .before .before .before .before .before .before .before .before .before .before .before .before .before .before .before .before .before .before .before .before .pre .1 .1) (c .before .before .before .before .before .before .before .before .before .before .before .before .before .before .before .before .before .before .before .before .before .before .before .before .before .operand .ensures) (c .before .before .before .before .before .before .before .before .before .before .before .before .before .before .before .before .before .before .before .begin-call .ensures) (c .before .before .before .before .before .before .before .before .before .before .before .before .before .before .add-function .ensures) (c .before .before .before .before .before .before .before .before .before .before .before .before .r2 .given .1) (c .before .before .before .before .before .leave-call .ensures)
 
 calls·add-call-returns : (t : ℕ) → calls·add-call-lts.Need-returns (calls·add-call-called t) (calls·add-call-at t) calls·add-call.Post
-calls·add-call-returns t c = call-stops (c .before .before .before .before .before .before .before .before .before .before .before .before .before .before .before .before .before .before .before .before .before .before .before .before .before .before .before .before .before .before .before .before .before .before .before .before .pre .1 .0) (c .before .before .before .before .before .before .before .before .before .before .before .before .before .before .before .before .before .before .before .before .before .before .before .before .before .before .before .before .before .before .before .before .before .before .before .before .pre .1 .1) (c .before .before .before .before .before .before .before .before .before .before .before .before .before .before .before .before .before .before .before .before .before .before .before .before .before .before .operand .ensures) (c .before .before .before .before .before .before .before .before .before .before .before .before .before .before .before .before .before .before .before .before .before .before .begin-call .ensures) (c .before .before .before .before .before .before .before .before .before .before .before .add-function .ensures) (c .before .r .given .1)
-
-calls·add-call-same-length-5 : (t : ℕ) → calls·add-call-lts.Need-same-length-5 (calls·add-call-called t) (calls·add-call-at t) calls·add-call.Post
-calls·add-call-same-length-5 t c = c .before .before .before .before .before .before .return-call .kept .1 .1 .1 .0 ∙ c .before .before .before .before .before .before .before .before .before .before .before .before .before .before .before .before .before .before .before .before .before .before .before .before .before .before .before .add-function .kept .1 .1 .1 .1 .0 ∙ c .before .before .before .before .before .before .before .before .before .before .before .before .before .before .before .before .before .before .before .before .before .before .before .before .before .before .before .before .before .before .before .before .before .before .before .before .before .before .begin-call .kept .1 .1 .1 .0
-
-calls·add-call-same-length-6 : (t : ℕ) → calls·add-call-lts.Need-same-length-6 (calls·add-call-called t) (calls·add-call-at t) calls·add-call.Post
-calls·add-call-same-length-6 t c = c .before .before .before .before .before .before .return-call .kept .1 .1 .1 .1 .0 ∙ c .before .before .before .before .before .before .before .before .before .before .before .before .leave-call .kept .1 .1 .0 ∙ c .before .before .before .before .before .before .before .before .before .before .before .before .before .before .before .before .before .before .before .before .before .before .before .before .before .before .before .add-function .kept .1 .1 .1 .1 .1 .0 ∙ c .before .before .before .before .before .before .before .before .before .before .before .before .before .before .before .before .before .before .before .before .before .before .before .before .before .before .before .before .before .before .before .before .before .before .before .before .before .before .begin-call .kept .1 .1 .1 .1 .0
-
-calls·add-call-same-length-7 : (t : ℕ) → calls·add-call-lts.Need-same-length-7 (calls·add-call-called t) (calls·add-call-at t) calls·add-call.Post
-calls·add-call-same-length-7 t c = c .before .before .before .before .before .before .return-call .kept .1 .1 .1 .1 .1 .0 ∙ c .before .before .before .before .before .before .before .before .before .before .before .before .before .before .before .before .before .before .before .before .before .before .before .before .before .before .before .add-function .kept .1 .1 .1 .1 .1 .1 .0 ∙ c .before .before .before .before .before .before .before .before .before .before .before .before .before .before .before .before .before .before .before .before .before .before .before .before .before .before .before .before .before .before .before .before .before .before .before .before .before .before .begin-call .kept .1 .1 .1 .1 .1 .0
-
-calls·add-call-same-length-8 : (t : ℕ) → calls·add-call-lts.Need-same-length-8 (calls·add-call-called t) (calls·add-call-at t) calls·add-call.Post
-calls·add-call-same-length-8 t c = c .before .before .before .before .before .before .before .before .before .before .before .before .before .before .before .before .before .before .before .before .before .before .before .before .before .before .before .add-function .kept .1 .1 .1 .1 .1 .1 .1 .0
+calls·add-call-returns t c = call-stops (c .before .before .before .before .before .before .before .before .before .before .before .before .before .before .before .before .before .before .pre .1 .0) (c .before .before .before .before .before .before .before .before .before .before .before .before .before .before .before .before .before .before .pre .1 .1) (c .before .before .before .before .before .before .before .before .before .before .before .before .before .before .operand .ensures) (c .before .before .before .before .before .before .before .before .begin-call .ensures) (c .before .before .before .add-function .ensures) (c .before .r .given .1)
 
 calls·add-call-returns-2 : (t : ℕ) → calls·add-call-lts.Need-returns-2 (calls·add-call-called t) (calls·add-call-at t) calls·add-call.Post
-calls·add-call-returns-2 t c = call-ended (c .before .before .before .before .before .before .before .before .before .before .before .before .before .before .before .before .before .before .before .before .before .before .before .before .before .before .before .before .before .before .before .before .before .before .before .before .before .before .before .before .before .before .before .before .before .before .before .before .before .before .before .before .pre .1 .0) (c .before .before .before .before .before .before .before .before .before .before .before .before .before .before .before .before .before .before .before .before .before .before .before .before .before .before .before .before .before .before .before .before .before .before .before .before .before .before .before .before .before .before .before .before .before .before .before .before .before .before .before .before .pre .1 .1) (c .before .before .before .before .before .before .before .before .before .before .before .before .before .before .before .before .before .before .before .before .before .before .before .before .before .before .before .before .before .before .before .before .before .before .before .before .before .before .before .before .before .before .operand .ensures) (c .before .before .before .before .before .before .before .before .before .before .before .before .before .before .before .before .before .before .before .before .before .before .before .before .before .before .before .before .before .before .before .before .before .before .before .before .before .before .begin-call .ensures) (c .before .before .before .before .before .before .before .before .before .before .before .before .before .before .before .before .before .before .before .before .before .before .before .before .before .before .before .add-function .ensures) (c .before .before .before .before .before .before .before .before .before .before .before .before .before .before .before .before .before .r2 .given .1) (c .before .before .before .before .before .before .before .before .before .before .before .before .leave-call .ensures) (c .before .before .before .before .before .before .return-call .ensures)
+calls·add-call-returns-2 t c = call-ended (c .before .before .before .before .before .before .before .before .before .before .before .before .before .before .before .before .before .before .before .before .before .before .before .before .before .before .before .before .before .before .pre .1 .0) (c .before .before .before .before .before .before .before .before .before .before .before .before .before .before .before .before .before .before .before .before .before .before .before .before .before .before .before .before .before .before .pre .1 .1) (c .before .before .before .before .before .before .before .before .before .before .before .before .before .before .before .before .before .before .before .before .before .before .before .before .before .before .operand .ensures) (c .before .before .before .before .before .before .before .before .before .before .before .before .before .before .before .before .before .before .before .before .begin-call .ensures) (c .before .before .before .before .before .before .before .before .before .before .before .before .before .before .before .add-function .ensures) (c .before .before .before .before .before .before .before .before .before .before .before .before .before .r2 .given .1) (c .before .before .before .before .before .before .leave-call .ensures) (c .return-call .ensures)
 
 functions·add-function-body-block-requires :
     (t : ℕ) → functions·add-function-lts.Need-body-block-requires (functions·add-function-called t) (functions·add-function-at t) functions·add-function.Post
 functions·add-function-body-block-requires t c κs = search needs
 
 functions·add-function-add-at : (t : ℕ) → functions·add-function-lts.Need-add-at (functions·add-function-called t) (functions·add-function-at t) functions·add-function.Post
-functions·add-function-add-at t c = search needs
+functions·add-function-add-at t c = omega (arith, c .before .before .before .before .pre .1 .1)
 
 functions·add-function-add-block-requires :
     (t : ℕ) → functions·add-function-lts.Need-add-block-requires (functions·add-function-called t) (functions·add-function-at t) functions·add-function.Post
-functions·add-function-add-block-requires t c κs = (omega (arith, c .before .before .before .before .before .before .before .before .before .before .before .before .before .pre .0, body-below (c .before .before .before .before .before .before .before .before .before .before .before .before .before .pre .1) (c .before .before .before .before .body-block .ensures _)), body-enters (c .before .before .before .before .before .before .before .before .before .before .before .before .before .pre .1) (c .before .before .before .before .body-block .ensures _))
+functions·add-function-add-block-requires t c κs = (omega (arith, c .before .before .before .before .before .before .before .before .pre .0, body-below (c .before .before .before .before .before .before .before .before .pre .1 .0) (c .before .before .before .before .body-block .ensures _)), body-enters (c .before .before .before .before .before .before .before .before .pre .1 .0) (c .before .before .before .before .body-block .ensures _))
 
 functions·add-function-enum-known-n : (t : ℕ) → functions·add-function-lts.Need-enum-known-n (functions·add-function-called t) (functions·add-function-at t) functions·add-function.Post
 functions·add-function-enum-known-n t c = search needs
@@ -521,7 +473,7 @@ functions·add-function-enum-known-tally t c = search needs
 
 functions·add-function-add-total-requires :
     (t : ℕ) → functions·add-function-lts.Need-add-total-requires (functions·add-function-called t) (functions·add-function-at t) functions·add-function.Post
-functions·add-function-add-total-requires t c κs = body-asked (c .before .before .before .before .before .before .before .before .before .before .before .before .before .before .before .before .before .before .before .before .before .before .before .before .before .before .before .before .before .pre .1) (c .before .before .before .before .before .before .before .before .before .before .before .before .before .before .before .before .before .before .before .before .body-block .ensures _) (c .before .before .before .before .before .before .before .before .before .before .before .before .before .before .before .before .before .before .before .before .before .before .before .before .before .before .before .before .before .args .here) (c .before .before .before .before .before .before .before .before .before .before .before .before .before .before .before .add-block .ensures) (c .before .before .before .before .before .tally .given .1)
+functions·add-function-add-total-requires t c κs = body-asked (c .before .before .before .before .before .before .before .before .before .before .before .before .before .before .before .before .before .before .before .pre .1 .0) (c .before .before .before .before .before .before .before .before .before .before .before .before .before .before .before .body-block .ensures _) (c .before .before .before .before .before .before .before .before .before .before .before .before .before .before .before .before .before .before .before .args .here) (c .before .before .before .before .before .before .before .before .before .before .add-block .ensures) (c .before .before .before .before .before .before .before .before .tally .given .1)
 
 functions·add-function-enum-known-r : (t : ℕ) → functions·add-function-lts.Need-enum-known-r (functions·add-function-called t) (functions·add-function-at t) functions·add-function.Post
 functions·add-function-enum-known-r t c = search needs
@@ -529,50 +481,14 @@ functions·add-function-enum-known-r t c = search needs
 functions·add-function-enum-known-r-2 : (t : ℕ) → functions·add-function-lts.Need-enum-known-r-2 (functions·add-function-called t) (functions·add-function-at t) functions·add-function.Post
 functions·add-function-enum-known-r-2 t c = search needs
 
-functions·add-function-same-length : (t : ℕ) → functions·add-function-lts.Need-same-length (functions·add-function-called t) (functions·add-function-at t) functions·add-function.Post
-functions·add-function-same-length t c = search needs
-
-functions·add-function-same-length-2 : (t : ℕ) → functions·add-function-lts.Need-same-length-2 (functions·add-function-called t) (functions·add-function-at t) functions·add-function.Post
-functions·add-function-same-length-2 t c = search needs
-
-functions·add-function-same-length-3 : (t : ℕ) → functions·add-function-lts.Need-same-length-3 (functions·add-function-called t) (functions·add-function-at t) functions·add-function.Post
-functions·add-function-same-length-3 t c = search needs
-
-functions·add-function-same-length-4 : (t : ℕ) → functions·add-function-lts.Need-same-length-4 (functions·add-function-called t) (functions·add-function-at t) functions·add-function.Post
-functions·add-function-same-length-4 t c = search needs
-
 functions·add-function-returns : (t : ℕ) → functions·add-function-lts.Need-returns (functions·add-function-called t) (functions·add-function-at t) functions·add-function.Post
-functions·add-function-returns t c = function-halt (c .before .before .before .before .before .before .before .before .before .before .before .before .before .before .before .before .before .before .before .before .before .before .before .before .before .pre .1) (c .before .before .before .before .before .before .before .before .before .before .before .before .before .before .before .before .body-block .ensures _) (c .before .before .before .before .before .before .before .before .before .before .before .before .before .before .before .before .before .before .before .before .before .before .before .before .before .args .here) (c .before .before .before .before .before .before .before .before .before .before .before .add-block .ensures) (c .before .n .given .1)
-
-functions·add-function-same-length-5 : (t : ℕ) → functions·add-function-lts.Need-same-length-5 (functions·add-function-called t) (functions·add-function-at t) functions·add-function.Post
-functions·add-function-same-length-5 t c = search needs
-
-functions·add-function-same-length-6 : (t : ℕ) → functions·add-function-lts.Need-same-length-6 (functions·add-function-called t) (functions·add-function-at t) functions·add-function.Post
-functions·add-function-same-length-6 t c = search needs
-
-functions·add-function-same-length-7 : (t : ℕ) → functions·add-function-lts.Need-same-length-7 (functions·add-function-called t) (functions·add-function-at t) functions·add-function.Post
-functions·add-function-same-length-7 t c = search needs
-
-functions·add-function-same-length-8 : (t : ℕ) → functions·add-function-lts.Need-same-length-8 (functions·add-function-called t) (functions·add-function-at t) functions·add-function.Post
-functions·add-function-same-length-8 t c = search needs
+functions·add-function-returns t c = function-halt (c .before .before .before .before .before .before .before .before .before .before .before .before .pre .1 .0) (c .before .before .before .before .before .before .before .before .body-block .ensures _) (c .before .before .before .before .before .before .before .before .before .before .before .before .args .here) (c .before .before .before .add-block .ensures) (c .before .n .given .1)
 
 functions·add-function-returns-2 : (t : ℕ) → functions·add-function-lts.Need-returns-2 (functions·add-function-called t) (functions·add-function-at t) functions·add-function.Post
-functions·add-function-returns-2 t c = function-halt-2 (c .before .before .before .before .before .before .before .before .before .before .before .before .before .before .before .before .before .before .before .before .before .before .before .before .before .before .before .before .before .before .before .before .before .before .before .before .before .before .before .pre .1) (c .before .before .before .before .before .before .before .before .before .before .before .before .before .before .before .before .before .before .before .before .before .before .before .before .before .before .before .before .before .before .body-block .ensures _) (c .before .before .before .before .before .before .before .before .before .before .before .before .before .before .before .before .before .before .before .before .before .before .before .before .before .before .before .before .before .before .before .before .before .before .before .before .before .before .before .args .here) (c .before .before .before .before .before .before .before .before .before .before .before .before .before .before .before .before .before .before .before .before .before .before .before .before .before .add-block .ensures) (c .before .before .before .before .before .before .before .before .before .before .before .before .before .before .before .tally .given .1) (c .before .before .before .before .before .before .before .before .before .add-total .ensures) (c .before .r .given .1)
-
-functions·add-function-same-length-9 : (t : ℕ) → functions·add-function-lts.Need-same-length-9 (functions·add-function-called t) (functions·add-function-at t) functions·add-function.Post
-functions·add-function-same-length-9 t c = search needs
-
-functions·add-function-same-length-10 : (t : ℕ) → functions·add-function-lts.Need-same-length-10 (functions·add-function-called t) (functions·add-function-at t) functions·add-function.Post
-functions·add-function-same-length-10 t c = search needs
-
-functions·add-function-same-length-11 : (t : ℕ) → functions·add-function-lts.Need-same-length-11 (functions·add-function-called t) (functions·add-function-at t) functions·add-function.Post
-functions·add-function-same-length-11 t c = search needs
-
-functions·add-function-same-length-12 : (t : ℕ) → functions·add-function-lts.Need-same-length-12 (functions·add-function-called t) (functions·add-function-at t) functions·add-function.Post
-functions·add-function-same-length-12 t c = search needs
+functions·add-function-returns-2 t c = function-halt-2 (c .before .before .before .before .before .before .before .before .before .before .before .before .before .before .before .before .before .before .before .before .before .before .before .pre .1 .0) (c .before .before .before .before .before .before .before .before .before .before .before .before .before .before .before .before .before .before .before .body-block .ensures _) (c .before .before .before .before .before .before .before .before .before .before .before .before .before .before .before .before .before .before .before .before .before .before .before .args .here) (c .before .before .before .before .before .before .before .before .before .before .before .before .before .before .add-block .ensures) (c .before .before .before .before .before .before .before .before .before .before .before .before .tally .given .1) (c .before .before .before .add-total .ensures) (c .before .r .given .1)
 
 functions·add-function-returns-3 : (t : ℕ) → functions·add-function-lts.Need-returns-3 (functions·add-function-called t) (functions·add-function-at t) functions·add-function.Post
-functions·add-function-returns-3 t c = function-ends (c .before .before .before .before .before .before .before .before .before .before .before .before .before .before .before .before .before .before .before .before .before .before .before .before .before .before .before .before .before .before .before .before .before .before .before .before .before .before .before .pre .1) (c .before .before .before .before .before .before .before .before .before .before .before .before .before .before .before .before .before .before .before .before .before .before .before .before .before .before .before .before .before .before .body-block .ensures _) (c .before .before .before .before .before .before .before .before .before .before .before .before .before .before .before .before .before .before .before .before .before .before .before .before .before .before .before .before .before .before .before .before .before .before .before .before .before .before .before .args .here) (c .before .before .before .before .before .before .before .before .before .before .before .before .before .before .before .before .before .before .before .before .before .before .before .before .before .add-block .ensures) (c .before .before .before .before .before .before .before .before .before .before .before .before .before .before .before .tally .given .1) (c .before .before .before .before .before .before .before .before .before .add-total .ensures) (c .before .r2 .given .1)
+functions·add-function-returns-3 t c = function-ends (c .before .before .before .before .before .before .before .before .before .before .before .before .before .before .before .before .before .before .before .before .before .before .before .pre .1 .0) (c .before .before .before .before .before .before .before .before .before .before .before .before .before .before .before .before .before .before .before .body-block .ensures _) (c .before .before .before .before .before .before .before .before .before .before .before .before .before .before .before .before .before .before .before .before .before .before .before .args .here) (c .before .before .before .before .before .before .before .before .before .before .before .before .before .before .add-block .ensures) (c .before .before .before .before .before .before .before .before .before .before .before .before .tally .given .1) (c .before .before .before .add-total .ensures) (c .before .r2 .given .1)
 
 holders·add-if-operand-requires : (t : ℕ) → holders·add-if-lts.Need-operand-requires (holders·add-if-called t) (holders·add-if-at t) holders·add-if.Post
 holders·add-if-operand-requires t c κs = search needs
@@ -587,16 +503,16 @@ holders·add-if-cast-t26-2 : (t : ℕ) → holders·add-if-lts.Need-cast-t26-2 (
 holders·add-if-cast-t26-2 t c = search needs
 
 holders·add-if-weigh-requires : (t : ℕ) → holders·add-if-lts.Need-weigh-requires (holders·add-if-called t) (holders·add-if-at t) holders·add-if.Post
-holders·add-if-weigh-requires t c κs = if-weighs (c .before .before .before .before .before .before .before .before .before .before .before .before .before .pre .1 .0) (c .before .before .before .before .before .before .before .before .before .before .before .before .before .pre .1 .1)
+holders·add-if-weigh-requires t c κs = if-weighs (c .before .before .before .before .before .before .before .before .before .pre .1 .0) (c .before .before .before .before .before .before .before .before .before .pre .1 .1)
 
 holders·add-if-add-held : (t : ℕ) → holders·add-if-lts.Need-add-held (holders·add-if-called t) (holders·add-if-at t) holders·add-if.Post
-holders·add-if-add-held t c = omega (arith, if-few (c .before .before .before .before .before .before .before .before .before .before .before .before .before .before .before .pre .1 .0) (c .before .before .before .before .before .before .before .before .before .before .before .before .before .before .before .pre .1 .1) (c .before .weigh .ensures))
+holders·add-if-add-held t c = omega (arith, if-few (c .before .before .before .before .before .before .before .before .before .before .before .pre .1 .0) (c .before .before .before .before .before .before .before .before .before .before .before .pre .1 .1) (c .before .weigh .ensures))
 
 holders·add-if-add-add-pair : (t : ℕ) → holders·add-if-lts.Need-add-add-pair (holders·add-if-called t) (holders·add-if-at t) holders·add-if.Post
-holders·add-if-add-add-pair t c = omega (arith, c .before .before .before .before .before .before .before .before .before .before .before .before .before .before .before .before .before .before .before .pre .1 .0 .begins .standing .ready .high, c .before .before .before .before .before .before .before .before .before .before .before .before .before .before .before .before .before .before .before .good .1 .1 .1 .1 .1 .0)
+holders·add-if-add-add-pair t c = omega (arith, c .before .before .before .before .before .before .before .before .before .before .before .before .before .before .before .pre .1 .0 .begins .standing .ready .high, c .before .before .before .before .before .before .weigh-arg4 .given .0)
 
 holders·add-if-add-pair-requires : (t : ℕ) → holders·add-if-lts.Need-add-pair-requires (holders·add-if-called t) (holders·add-if-at t) holders·add-if.Post
-holders·add-if-add-pair-requires t c κs = (omega (arith, c .before .before .before .before .before .before .before .before .before .before .before .before .before .before .before .before .before .before .before .pre .0), if-paired (c .before .before .before .before .before .before .before .before .before .before .before .before .before .before .before .before .before .before .before .pre .1 .0) (c .before .before .before .before .before .before .before .before .before .before .before .before .before .before .before .before .before .before .before .pre .1 .1) (c .before .before .before .before .before .weigh .ensures) (c .before .before .before .before .before .before .before .before .before .operand .ensures) (c .before .before .before .before .before .before .before .before .operand2 .ensures))
+holders·add-if-add-pair-requires t c κs = (omega (arith, c .before .before .before .before .before .before .before .before .before .before .before .before .before .before .before .pre .0), if-paired (c .before .before .before .before .before .before .before .before .before .before .before .before .before .before .before .pre .1 .0) (c .before .before .before .before .before .before .before .before .before .before .before .before .before .before .before .pre .1 .1) (c .before .before .before .before .before .weigh .ensures) (c .before .before .before .before .before .before .before .before .before .before .before .operand .ensures) (c .before .before .before .before .before .before .before .before .before .before .operand2 .ensures))
 
 holders·add-if-enum-known-r : (t : ℕ) → holders·add-if-lts.Need-enum-known-r (holders·add-if-called t) (holders·add-if-at t) holders·add-if.Post
 holders·add-if-enum-known-r t c = search needs
@@ -608,37 +524,13 @@ holders·add-if-operand-requires-3 : (t : ℕ) → holders·add-if-lts.Need-oper
 holders·add-if-operand-requires-3 t c κs = search needs
 
 holders·add-if-end-if-requires : (t : ℕ) → holders·add-if-lts.Need-end-if-requires (holders·add-if-called t) (holders·add-if-at t) holders·add-if.Post
-holders·add-if-end-if-requires t c κs = if-asked (c .before .before .before .before .before .before .before .before .before .before .before .before .before .before .before .before .before .before .before .before .before .before .before .before .before .before .before .before .before .before .before .before .before .before .pre .1 .0) (c .before .before .before .before .before .before .before .before .before .before .before .before .before .before .before .before .before .before .before .before .before .before .before .before .before .before .before .before .before .before .before .before .before .before .pre .1 .1) (c .before .before .before .before .before .before .before .before .before .before .before .before .before .before .before .before .before .before .before .before .weigh .ensures) (c .before .before .before .before .before .before .before .before .before .before .before .before .before .before .before .before .before .before .before .before .before .before .before .before .operand .ensures) (c .before .before .before .before .before .before .before .before .before .before .before .before .before .before .before .before .before .before .before .before .before .before .before .operand2 .ensures) (c .before .before .before .before .before .before .before .before .before .before .before .before .before .before .add-pair .ensures) (c .before .before .before .before .r2 .given .1) (c .before .before .operand3 .ensures)
-
-holders·add-if-same-length : (t : ℕ) → holders·add-if-lts.Need-same-length (holders·add-if-called t) (holders·add-if-at t) holders·add-if.Post
-holders·add-if-same-length t c = search needs
-
-holders·add-if-same-length-2 : (t : ℕ) → holders·add-if-lts.Need-same-length-2 (holders·add-if-called t) (holders·add-if-at t) holders·add-if.Post
-holders·add-if-same-length-2 t c = search needs
-
-holders·add-if-same-length-3 : (t : ℕ) → holders·add-if-lts.Need-same-length-3 (holders·add-if-called t) (holders·add-if-at t) holders·add-if.Post
-holders·add-if-same-length-3 t c = search needs
-
-holders·add-if-same-length-4 : (t : ℕ) → holders·add-if-lts.Need-same-length-4 (holders·add-if-called t) (holders·add-if-at t) holders·add-if.Post
-holders·add-if-same-length-4 t c = search needs
+holders·add-if-end-if-requires t c κs = if-asked (c .before .before .before .before .before .before .before .before .before .before .before .before .before .before .before .before .before .before .before .before .before .before .before .pre .1 .0) (c .before .before .before .before .before .before .before .before .before .before .before .before .before .before .before .before .before .before .before .before .before .before .before .pre .1 .1) (c .before .before .before .before .before .before .before .before .before .before .before .before .before .weigh .ensures) (c .before .before .before .before .before .before .before .before .before .before .before .before .before .before .before .before .before .before .before .operand .ensures) (c .before .before .before .before .before .before .before .before .before .before .before .before .before .before .before .before .before .before .operand2 .ensures) (c .before .before .before .before .before .before .before .add-pair .ensures) (c .before .before .before .before .before .r2 .given .1) (c .before .before .before .operand3 .ensures)
 
 holders·add-if-returns : (t : ℕ) → holders·add-if-lts.Need-returns (holders·add-if-called t) (holders·add-if-at t) holders·add-if.Post
-holders·add-if-returns t c = if-halts (c .before .before .before .before .before .before .before .before .before .before .before .before .before .before .before .before .before .before .before .before .before .before .before .before .before .before .before .before .before .before .before .pre .1 .0) (c .before .before .before .before .before .before .before .before .before .before .before .before .before .before .before .before .before .before .before .before .before .before .before .before .before .before .before .before .before .before .before .pre .1 .1) (c .before .before .before .before .before .before .before .before .before .before .before .before .before .before .before .before .before .weigh .ensures) (c .before .before .before .before .before .before .before .before .before .before .before .before .before .before .before .before .before .before .before .before .before .operand .ensures) (c .before .before .before .before .before .before .before .before .before .before .before .before .before .before .before .before .before .before .before .before .operand2 .ensures) (c .before .before .before .before .before .before .before .before .before .before .before .add-pair .ensures) (c .before .r .given .1)
-
-holders·add-if-same-length-5 : (t : ℕ) → holders·add-if-lts.Need-same-length-5 (holders·add-if-called t) (holders·add-if-at t) holders·add-if.Post
-holders·add-if-same-length-5 t c = search needs
-
-holders·add-if-same-length-6 : (t : ℕ) → holders·add-if-lts.Need-same-length-6 (holders·add-if-called t) (holders·add-if-at t) holders·add-if.Post
-holders·add-if-same-length-6 t c = search needs
-
-holders·add-if-same-length-7 : (t : ℕ) → holders·add-if-lts.Need-same-length-7 (holders·add-if-called t) (holders·add-if-at t) holders·add-if.Post
-holders·add-if-same-length-7 t c = search needs
-
-holders·add-if-same-length-8 : (t : ℕ) → holders·add-if-lts.Need-same-length-8 (holders·add-if-called t) (holders·add-if-at t) holders·add-if.Post
-holders·add-if-same-length-8 t c = search needs
+holders·add-if-returns t c = if-halts (c .before .before .before .before .before .before .before .before .before .before .before .before .before .before .before .before .before .before .before .pre .1 .0) (c .before .before .before .before .before .before .before .before .before .before .before .before .before .before .before .before .before .before .before .pre .1 .1) (c .before .before .before .before .before .before .before .before .before .weigh .ensures) (c .before .before .before .before .before .before .before .before .before .before .before .before .before .before .before .operand .ensures) (c .before .before .before .before .before .before .before .before .before .before .before .before .before .before .operand2 .ensures) (c .before .before .before .add-pair .ensures) (c .before .r .given .1)
 
 holders·add-if-returns-2 : (t : ℕ) → holders·add-if-lts.Need-returns-2 (holders·add-if-called t) (holders·add-if-at t) holders·add-if.Post
-holders·add-if-returns-2 t c = if-ends (c .before .before .before .before .before .before .before .before .before .before .before .before .before .before .before .before .before .before .before .before .before .before .before .before .before .before .before .before .before .before .before .before .before .before .before .before .before .before .before .pre .1 .0) (c .before .before .before .before .before .before .before .before .before .before .before .before .before .before .before .before .before .before .before .before .before .before .before .before .before .before .before .before .before .before .before .before .before .before .before .before .before .before .before .pre .1 .1) (c .before .before .before .before .before .before .before .before .before .before .before .before .before .before .before .before .before .before .before .before .before .before .before .before .before .weigh .ensures) (c .before .before .before .before .before .before .before .before .before .before .before .before .before .before .before .before .before .before .before .before .before .before .before .before .before .before .before .before .before .operand .ensures) (c .before .before .before .before .before .before .before .before .before .before .before .before .before .before .before .before .before .before .before .before .before .before .before .before .before .before .before .before .operand2 .ensures) (c .before .before .before .before .before .before .before .before .before .before .before .before .before .before .before .before .before .before .before .add-pair .ensures) (c .before .before .before .before .before .before .before .before .before .r2 .given .1) (c .before .before .before .before .before .before .before .operand3 .ensures) _ (c .before .before .before .before .end-if .ensures)
+holders·add-if-returns-2 t c = if-ends (c .before .before .before .before .before .before .before .before .before .before .before .before .before .before .before .before .before .before .before .before .before .before .before .before .pre .1 .0) (c .before .before .before .before .before .before .before .before .before .before .before .before .before .before .before .before .before .before .before .before .before .before .before .before .pre .1 .1) (c .before .before .before .before .before .before .before .before .before .before .before .before .before .before .weigh .ensures) (c .before .before .before .before .before .before .before .before .before .before .before .before .before .before .before .before .before .before .before .before .operand .ensures) (c .before .before .before .before .before .before .before .before .before .before .before .before .before .before .before .before .before .before .before .operand2 .ensures) (c .before .before .before .before .before .before .before .before .add-pair .ensures) (c .before .before .before .before .before .before .r2 .given .1) (c .before .before .before .before .operand3 .ensures) _ (c .end-if .ensures)
 
 holders·add-nested-operand-requires : (t : ℕ) → holders·add-nested-lts.Need-operand-requires (holders·add-nested-called t) (holders·add-nested-at t) holders·add-nested.Post
 holders·add-nested-operand-requires t c κs = search needs
@@ -647,16 +539,16 @@ holders·add-nested-cast-t24 : (t : ℕ) → holders·add-nested-lts.Need-cast-t
 holders·add-nested-cast-t24 t c = search needs
 
 holders·add-nested-weigh-requires : (t : ℕ) → holders·add-nested-lts.Need-weigh-requires (holders·add-nested-called t) (holders·add-nested-at t) holders·add-nested.Post
-holders·add-nested-weigh-requires t c κs = arm-weighs (c .before .before .before .before .before .before .before .before .before .before .before .before .pre .1 .0)
+holders·add-nested-weigh-requires t c κs = arm-weighs (c .before .before .before .before .before .before .before .before .pre .1 .0)
 
 holders·add-nested-add-held : (t : ℕ) → holders·add-nested-lts.Need-add-held (holders·add-nested-called t) (holders·add-nested-at t) holders·add-nested.Post
-holders·add-nested-add-held t c = let h = arm-small (c .before .before .before .before .before .before .before .before .before .before .before .before .before .before .pre .1 .0) (c .before .weigh .ensures) in omega (arith, h)
+holders·add-nested-add-held t c = let h = arm-small (c .before .before .before .before .before .before .before .before .before .before .pre .1 .0) (c .before .weigh .ensures) in omega (arith, h)
 
 holders·add-nested-add-add-block : (t : ℕ) → holders·add-nested-lts.Need-add-add-block (holders·add-nested-called t) (holders·add-nested-at t) holders·add-nested.Post
-holders·add-nested-add-add-block t c = omega (arith, arm-high (c .before .before .before .before .before .before .before .before .before .before .before .before .before .before .before .before .before .before .pre .1 .0), c .before .before .before .before .before .before .before .before .before .before .before .before .before .before .before .before .before .before .good .1 .1 .1 .1 .1 .0)
+holders·add-nested-add-add-block t c = omega (arith, arm-high (c .before .before .before .before .before .before .before .before .before .before .before .before .before .before .pre .1 .0), c .before .before .before .before .before .before .weigh-arg4 .given .0)
 
 holders·add-nested-add-block-requires : (t : ℕ) → holders·add-nested-lts.Need-add-block-requires (holders·add-nested-called t) (holders·add-nested-at t) holders·add-nested.Post
-holders·add-nested-add-block-requires t c κs = (omega (arith, c .before .before .before .before .before .before .before .before .before .before .before .before .before .before .before .before .before .before .pre .0, nested-lower (c .before .before .before .before .before .before .before .before .before .before .before .before .before .before .before .before .before .before .pre .1 .0) (c .before .before .before .before .before .before .before .before .before .before .before .before .before .before .before .before .before .before .pre .1 .1), c .before .before .before .before .before .before .before .before .operand .ensures), nested-enters (c .before .before .before .before .before .before .before .before .before .before .before .before .before .before .before .before .before .before .pre .1 .0) (c .before .before .before .before .before .before .before .before .before .before .before .before .before .before .before .before .before .before .pre .1 .1) (c .before .before .before .before .before .before .before .before .operand .ensures) (c .before .before .before .before .before .weigh .ensures))
+holders·add-nested-add-block-requires t c κs = (omega (arith, c .before .before .before .before .before .before .before .before .before .before .before .before .before .before .pre .0, nested-lower (c .before .before .before .before .before .before .before .before .before .before .before .before .before .before .pre .1 .0) (c .before .before .before .before .before .before .before .before .before .before .before .before .before .before .pre .1 .1), c .before .before .before .before .before .before .before .before .before .before .operand .ensures), nested-enters (c .before .before .before .before .before .before .before .before .before .before .before .before .before .before .pre .1 .0) (c .before .before .before .before .before .before .before .before .before .before .before .before .before .before .pre .1 .1) (c .before .before .before .before .before .before .before .before .before .before .operand .ensures) (c .before .before .before .before .before .weigh .ensures))
 
 holders·add-nested-enum-known-r : (t : ℕ) → holders·add-nested-lts.Need-enum-known-r (holders·add-nested-called t) (holders·add-nested-at t) holders·add-nested.Post
 holders·add-nested-enum-known-r t c = search needs
@@ -665,40 +557,16 @@ holders·add-nested-enum-known-r-2 : (t : ℕ) → holders·add-nested-lts.Need-
 holders·add-nested-enum-known-r-2 t c = search needs
 
 holders·add-nested-lower-requires : (t : ℕ) → holders·add-nested-lts.Need-lower-requires (holders·add-nested-called t) (holders·add-nested-at t) holders·add-nested.Post
-holders·add-nested-lower-requires t c κs = nested-lowers (c .before .before .before .before .before .before .before .before .before .before .before .before .before .before .before .before .before .before .before .before .before .before .before .before .before .before .before .before .before .before .before .pre .1 .0) (c .before .before .before .before .before .before .before .before .before .before .before .before .before .before .before .before .before .before .before .before .before .before .before .before .before .before .before .before .before .before .before .pre .1 .1) (c .before .before .before .before .before .before .before .before .before .before .before .before .before .before .before .before .before .before .before .before .before .operand .ensures) (c .before .before .before .before .before .before .before .before .before .before .before .before .before .before .before .before .before .before .weigh .ensures) (c .before .before .before .before .before .before .before .before .before .before .before .before .add-block .ensures) (c .before .before .r2 .given .1)
-
-holders·add-nested-same-length : (t : ℕ) → holders·add-nested-lts.Need-same-length (holders·add-nested-called t) (holders·add-nested-at t) holders·add-nested.Post
-holders·add-nested-same-length t c = search needs
-
-holders·add-nested-same-length-2 : (t : ℕ) → holders·add-nested-lts.Need-same-length-2 (holders·add-nested-called t) (holders·add-nested-at t) holders·add-nested.Post
-holders·add-nested-same-length-2 t c = search needs
-
-holders·add-nested-same-length-3 : (t : ℕ) → holders·add-nested-lts.Need-same-length-3 (holders·add-nested-called t) (holders·add-nested-at t) holders·add-nested.Post
-holders·add-nested-same-length-3 t c = search needs
-
-holders·add-nested-same-length-4 : (t : ℕ) → holders·add-nested-lts.Need-same-length-4 (holders·add-nested-called t) (holders·add-nested-at t) holders·add-nested.Post
-holders·add-nested-same-length-4 t c = search needs
+holders·add-nested-lower-requires t c κs = nested-lowers (c .before .before .before .before .before .before .before .before .before .before .before .before .before .before .before .before .before .before .before .pre .1 .0) (c .before .before .before .before .before .before .before .before .before .before .before .before .before .before .before .before .before .before .before .pre .1 .1) (c .before .before .before .before .before .before .before .before .before .before .before .before .before .before .before .operand .ensures) (c .before .before .before .before .before .before .before .before .before .before .weigh .ensures) (c .before .before .before .before .add-block .ensures) (c .before .before .r2 .given .1)
 
 holders·add-nested-returns : (t : ℕ) → holders·add-nested-lts.Need-returns (holders·add-nested-called t) (holders·add-nested-at t) holders·add-nested.Post
-holders·add-nested-returns t c = nested-stops (c .before .before .before .before .before .before .before .before .before .before .before .before .before .before .before .before .before .before .before .before .before .before .before .before .before .before .before .before .before .before .pre .1 .0) (c .before .before .before .before .before .before .before .before .before .before .before .before .before .before .before .before .before .before .before .before .before .before .before .before .before .before .before .before .before .before .pre .1 .1) (c .before .before .before .before .before .before .before .before .before .before .before .before .before .before .before .before .before .before .before .before .operand .ensures) (c .before .before .before .before .before .before .before .before .before .before .before .before .before .before .before .before .before .weigh .ensures) (c .before .before .before .before .before .before .before .before .before .before .before .add-block .ensures) (c .before .r .given .1)
-
-holders·add-nested-same-length-5 : (t : ℕ) → holders·add-nested-lts.Need-same-length-5 (holders·add-nested-called t) (holders·add-nested-at t) holders·add-nested.Post
-holders·add-nested-same-length-5 t c = search needs
-
-holders·add-nested-same-length-6 : (t : ℕ) → holders·add-nested-lts.Need-same-length-6 (holders·add-nested-called t) (holders·add-nested-at t) holders·add-nested.Post
-holders·add-nested-same-length-6 t c = search needs
-
-holders·add-nested-same-length-7 : (t : ℕ) → holders·add-nested-lts.Need-same-length-7 (holders·add-nested-called t) (holders·add-nested-at t) holders·add-nested.Post
-holders·add-nested-same-length-7 t c = search needs
-
-holders·add-nested-same-length-8 : (t : ℕ) → holders·add-nested-lts.Need-same-length-8 (holders·add-nested-called t) (holders·add-nested-at t) holders·add-nested.Post
-holders·add-nested-same-length-8 t c = search needs
+holders·add-nested-returns t c = nested-stops (c .before .before .before .before .before .before .before .before .before .before .before .before .before .before .before .before .before .before .pre .1 .0) (c .before .before .before .before .before .before .before .before .before .before .before .before .before .before .before .before .before .before .pre .1 .1) (c .before .before .before .before .before .before .before .before .before .before .before .before .before .before .operand .ensures) (c .before .before .before .before .before .before .before .before .before .weigh .ensures) (c .before .before .before .add-block .ensures) (c .before .r .given .1)
 
 holders·add-nested-returns-2 : (t : ℕ) → holders·add-nested-lts.Need-returns-2 (holders·add-nested-called t) (holders·add-nested-at t) holders·add-nested.Post
-holders·add-nested-returns-2 t c = nested-ends (c .before .before .before .before .before .before .before .before .before .before .before .before .before .before .before .before .before .before .before .before .before .before .before .before .before .before .before .before .before .before .before .before .before .before .pre .1 .0) (c .before .before .before .before .before .before .before .before .before .before .before .before .before .before .before .before .before .before .before .before .before .before .before .before .before .before .before .before .before .before .before .before .before .before .pre .1 .1) (c .before .before .before .before .before .before .before .before .before .before .before .before .before .before .before .before .before .before .before .before .before .before .before .before .operand .ensures) (c .before .before .before .before .before .before .before .before .before .before .before .before .before .before .before .before .before .before .before .before .before .weigh .ensures) (c .before .before .before .before .before .before .before .before .before .before .before .before .before .before .before .add-block .ensures) (c .before .before .before .before .before .r2 .given .1) (c .before .before .lower .ensures)
+holders·add-nested-returns-2 t c = nested-ends (c .before .before .before .before .before .before .before .before .before .before .before .before .before .before .before .before .before .before .before .before .pre .1 .0) (c .before .before .before .before .before .before .before .before .before .before .before .before .before .before .before .before .before .before .before .before .pre .1 .1) (c .before .before .before .before .before .before .before .before .before .before .before .before .before .before .before .before .operand .ensures) (c .before .before .before .before .before .before .before .before .before .before .before .weigh .ensures) (c .before .before .before .before .before .add-block .ensures) (c .before .before .before .r2 .given .1) (c .lower .ensures)
 
 holders·add-pair-add-block-requires : (t : ℕ) → holders·add-pair-lts.Need-add-block-requires (holders·add-pair-called t) (holders·add-pair-at t) holders·add-pair.Post
-holders·add-pair-add-block-requires t c κs = (omega (arith, c .before .before .before .before .before .before .before .before .before .before .before .before .pre .0, c .before .before .before .before .before .before .before .before .before .before .before .before .pre .1 .first-lower), pair-first (c .before .before .before .before .before .before .before .before .before .before .before .before .pre .1))
+holders·add-pair-add-block-requires t c κs = (omega (arith, c .before .before .before .before .before .before .pre .0, c .before .before .before .before .before .before .pre .1 .first-lower), pair-first (c .before .before .before .before .before .before .pre .1))
 
 holders·add-pair-enum-known-n : (t : ℕ) → holders·add-pair-lts.Need-enum-known-n (holders·add-pair-called t) (holders·add-pair-at t) holders·add-pair.Post
 holders·add-pair-enum-known-n t c = search needs
@@ -707,16 +575,16 @@ holders·add-pair-enum-known-tally : (t : ℕ) → holders·add-pair-lts.Need-en
 holders·add-pair-enum-known-tally t c = search needs
 
 holders·add-pair-weigh-requires : (t : ℕ) → holders·add-pair-lts.Need-weigh-requires (holders·add-pair-called t) (holders·add-pair-at t) holders·add-pair.Post
-holders·add-pair-weigh-requires t c κs = pair-weighs (c .before .before .before .before .before .before .before .before .before .before .before .before .before .before .before .before .before .before .before .before .before .before .before .before .before .before .pre .1) (c .before .before .before .before .before .before .before .before .before .before .before .before .before .before .before .before .before .before .before .before .before .before .before .before .before .before .args .break-required) (c .before .before .before .before .before .before .before .before .before .before .before .before .before .add-block .ensures) (c .before .before .before .tally .given .1)
+holders·add-pair-weigh-requires t c κs = pair-weighs (c .before .before .before .before .before .before .before .before .before .before .before .before .before .before .pre .1) (c .before .before .before .before .before .before .before .before .before .before .before .before .before .before .args .break-required) (c .before .before .before .before .before .before .before .add-block .ensures) (c .before .before .before .before .before .tally .given .1)
 
 holders·add-pair-add-more : (t : ℕ) → holders·add-pair-lts.Need-add-more (holders·add-pair-called t) (holders·add-pair-at t) holders·add-pair.Post
-holders·add-pair-add-more t c = let h = pair-small (c .before .before .before .before .before .before .before .before .before .before .before .before .before .before .before .before .before .before .before .before .before .before .before .before .before .before .before .pre .1) (c .before .before .before .before .before .before .before .before .before .before .before .before .before .before .before .before .before .before .before .before .before .before .before .before .before .before .before .args .break-required) (c .before .before .before .before .before .before .before .before .before .before .before .before .before .before .add-block .ensures) (c .before .before .before .before .tally .given .1) (c .weigh .ensures) in omega (arith, h)
+holders·add-pair-add-more t c = let h = pair-small (c .before .before .before .before .before .before .before .before .before .before .before .before .before .before .before .pre .1) (c .before .before .before .before .before .before .before .before .before .before .before .before .before .before .before .args .break-required) (c .before .before .before .before .before .before .before .before .add-block .ensures) (c .before .before .before .before .before .before .tally .given .1) (c .weigh .ensures) in omega (arith, h)
 
 holders·add-pair-add-add-block : (t : ℕ) → holders·add-pair-lts.Need-add-add-block (holders·add-pair-called t) (holders·add-pair-at t) holders·add-pair.Post
-holders·add-pair-add-add-block t c = omega (arith, c .before .before .before .before .before .before .before .before .before .before .before .before .before .before .before .before .before .before .before .before .before .before .before .before .before .before .before .before .before .before .before .pre .1 .standing .ready .high, c .before .before .before .before .before .before .before .before .before .before .before .before .before .before .before .before .before .before .before .before .before .before .before .before .before .before .before .before .before .before .before .good .1 .1 .1 .1 .1 .0)
+holders·add-pair-add-add-block t c = omega (arith, pair-weighs (c .before .before .before .before .before .before .before .before .before .before .before .before .before .before .before .before .before .before .before .pre .1) (c .before .before .before .before .before .before .before .before .before .before .before .before .before .before .before .before .before .before .before .args .break-required) (c .before .before .before .before .before .before .before .before .before .before .before .before .add-block .ensures) (c .before .before .before .before .before .before .before .before .before .before .tally .given .1) .1 .0, c .before .before .before .before .before .weigh-arg4 .given .0)
 
 holders·add-pair-add-block-requires-2 : (t : ℕ) → holders·add-pair-lts.Need-add-block-requires-2 (holders·add-pair-called t) (holders·add-pair-at t) holders·add-pair.Post
-holders·add-pair-add-block-requires-2 t c κs = (omega (arith, c .before .before .before .before .before .before .before .before .before .before .before .before .before .before .before .before .before .before .before .before .before .before .before .before .before .before .before .before .before .before .before .pre .0, c .before .before .before .before .before .before .before .before .before .before .before .before .before .before .before .before .before .before .before .before .before .before .before .before .before .before .before .before .before .before .before .pre .1 .second-lower), pair-second (c .before .before .before .before .before .before .before .before .before .before .before .before .before .before .before .before .before .before .before .before .before .before .before .before .before .before .before .before .before .before .before .pre .1) (c .before .before .before .before .before .before .before .before .before .before .before .before .before .before .before .before .before .before .before .before .before .before .before .before .before .before .before .before .before .before .before .args .break-required) (c .before .before .before .before .before .before .before .before .before .before .before .before .before .before .before .before .before .before .add-block .ensures) (c .before .before .before .before .before .before .before .before .tally .given .1) (c .before .before .before .before .weigh .ensures))
+holders·add-pair-add-block-requires-2 t c κs = (omega (arith, c .before .before .before .before .before .before .before .before .before .before .before .before .before .before .before .before .before .before .before .pre .0, c .before .before .before .before .before .before .before .before .before .before .before .before .before .before .before .before .before .before .before .pre .1 .second-lower), pair-second (c .before .before .before .before .before .before .before .before .before .before .before .before .before .before .before .before .before .before .before .pre .1) (c .before .before .before .before .before .before .before .before .before .before .before .before .before .before .before .before .before .before .before .args .break-required) (c .before .before .before .before .before .before .before .before .before .before .before .before .add-block .ensures) (c .before .before .before .before .before .before .before .before .before .before .tally .given .1) (c .before .before .before .before .weigh .ensures))
 
 holders·add-pair-enum-known-r : (t : ℕ) → holders·add-pair-lts.Need-enum-known-r (holders·add-pair-called t) (holders·add-pair-at t) holders·add-pair.Post
 holders·add-pair-enum-known-r t c = search needs
@@ -727,50 +595,14 @@ holders·add-pair-enum-known-r-2 t c = search needs
 holders·add-pair-or-requires : (t : ℕ) → holders·add-pair-lts.Need-or-requires (holders·add-pair-called t) (holders·add-pair-at t) holders·add-pair.Post
 holders·add-pair-or-requires t c κs = search needs
 
-holders·add-pair-same-length : (t : ℕ) → holders·add-pair-lts.Need-same-length (holders·add-pair-called t) (holders·add-pair-at t) holders·add-pair.Post
-holders·add-pair-same-length t c = search needs
-
-holders·add-pair-same-length-2 : (t : ℕ) → holders·add-pair-lts.Need-same-length-2 (holders·add-pair-called t) (holders·add-pair-at t) holders·add-pair.Post
-holders·add-pair-same-length-2 t c = search needs
-
-holders·add-pair-same-length-3 : (t : ℕ) → holders·add-pair-lts.Need-same-length-3 (holders·add-pair-called t) (holders·add-pair-at t) holders·add-pair.Post
-holders·add-pair-same-length-3 t c = search needs
-
-holders·add-pair-same-length-4 : (t : ℕ) → holders·add-pair-lts.Need-same-length-4 (holders·add-pair-called t) (holders·add-pair-at t) holders·add-pair.Post
-holders·add-pair-same-length-4 t c = search needs
-
 holders·add-pair-returns : (t : ℕ) → holders·add-pair-lts.Need-returns (holders·add-pair-called t) (holders·add-pair-at t) holders·add-pair.Post
-holders·add-pair-returns t c = pair-halt (c .before .before .before .before .before .before .before .before .before .before .before .before .before .before .before .before .before .before .before .before .before .before .before .before .pre .1) (c .before .before .before .before .before .before .before .before .before .before .before .before .before .before .before .before .before .before .before .before .before .before .before .before .args .break-required) (c .before .before .before .before .before .before .before .before .before .before .before .add-block .ensures) (c .before .n .given .1)
-
-holders·add-pair-same-length-5 : (t : ℕ) → holders·add-pair-lts.Need-same-length-5 (holders·add-pair-called t) (holders·add-pair-at t) holders·add-pair.Post
-holders·add-pair-same-length-5 t c = c .before .before .before .before .before .before .before .before .before .before .before .add-block2 .kept .1 .1 .1 .1 .0 ∙ c .before .before .before .before .before .before .before .before .before .before .before .before .before .before .before .before .before .before .before .before .before .before .before .before .before .before .before .before .before .before .add-block .kept .1 .1 .1 .1 .0
-
-holders·add-pair-same-length-6 : (t : ℕ) → holders·add-pair-lts.Need-same-length-6 (holders·add-pair-called t) (holders·add-pair-at t) holders·add-pair.Post
-holders·add-pair-same-length-6 t c = c .before .before .before .before .before .before .before .before .before .before .before .add-block2 .kept .1 .1 .1 .1 .1 .0 ∙ c .before .before .before .before .before .before .before .before .before .before .before .before .before .before .before .before .before .before .before .before .before .before .before .before .before .before .before .before .before .before .add-block .kept .1 .1 .1 .1 .1 .0
-
-holders·add-pair-same-length-7 : (t : ℕ) → holders·add-pair-lts.Need-same-length-7 (holders·add-pair-called t) (holders·add-pair-at t) holders·add-pair.Post
-holders·add-pair-same-length-7 t c = c .before .before .before .before .before .before .before .before .before .before .before .add-block2 .kept .1 .1 .1 .1 .1 .1 .0 ∙ c .before .before .before .before .before .before .before .before .before .before .before .before .before .before .before .before .before .before .before .before .before .before .before .before .before .before .before .before .before .before .add-block .kept .1 .1 .1 .1 .1 .1 .0
-
-holders·add-pair-same-length-8 : (t : ℕ) → holders·add-pair-lts.Need-same-length-8 (holders·add-pair-called t) (holders·add-pair-at t) holders·add-pair.Post
-holders·add-pair-same-length-8 t c = c .before .before .before .before .before .before .before .before .before .before .before .add-block2 .kept .1 .1 .1 .1 .1 .1 .1 .0 ∙ c .before .before .before .before .before .before .before .before .before .before .before .before .before .before .before .before .before .before .before .before .before .before .before .before .before .before .before .before .before .before .add-block .kept .1 .1 .1 .1 .1 .1 .1 .0
+holders·add-pair-returns t c = pair-halt (c .before .before .before .before .before .before .before .before .before .before .pre .1) (c .before .before .before .before .before .before .before .before .before .before .args .break-required) (c .before .before .before .add-block .ensures) (c .before .n .given .1)
 
 holders·add-pair-returns-2 : (t : ℕ) → holders·add-pair-lts.Need-returns-2 (holders·add-pair-called t) (holders·add-pair-at t) holders·add-pair.Post
-holders·add-pair-returns-2 t c = pair-halt-2 (c .before .before .before .before .before .before .before .before .before .before .before .before .before .before .before .before .before .before .before .before .before .before .before .before .before .before .before .before .before .before .before .before .before .before .before .before .before .before .before .before .before .before .before .pre .1) (c .before .before .before .before .before .before .before .before .before .before .before .before .before .before .before .before .before .before .before .before .before .before .before .before .before .before .before .before .before .before .before .before .before .before .before .before .before .before .before .before .before .before .before .args .break-required) (c .before .before .before .before .before .before .before .before .before .before .before .before .before .before .before .before .before .before .before .before .before .before .before .before .before .before .before .before .before .before .add-block .ensures) (c .before .before .before .before .before .before .before .before .before .before .before .before .before .before .before .before .before .before .before .before .tally .given .1) (c .before .before .before .before .before .before .before .before .before .before .before .before .before .before .before .before .weigh .ensures) (c .before .before .before .before .before .before .before .before .before .before .before .add-block2 .ensures) (c .before .r .given .1)
-
-holders·add-pair-same-length-9 : (t : ℕ) → holders·add-pair-lts.Need-same-length-9 (holders·add-pair-called t) (holders·add-pair-at t) holders·add-pair.Post
-holders·add-pair-same-length-9 t c = c .before .before .before .before .before .before .before .before .before .before .before .before .add-block2 .kept .1 .1 .1 .1 .0 ∙ c .before .before .before .before .before .before .before .before .before .before .before .before .before .before .before .before .before .before .before .before .before .before .before .before .before .before .before .before .before .before .before .add-block .kept .1 .1 .1 .1 .0
-
-holders·add-pair-same-length-10 : (t : ℕ) → holders·add-pair-lts.Need-same-length-10 (holders·add-pair-called t) (holders·add-pair-at t) holders·add-pair.Post
-holders·add-pair-same-length-10 t c = c .before .before .before .before .before .before .before .before .before .before .before .before .add-block2 .kept .1 .1 .1 .1 .1 .0 ∙ c .before .before .before .before .before .before .before .before .before .before .before .before .before .before .before .before .before .before .before .before .before .before .before .before .before .before .before .before .before .before .before .add-block .kept .1 .1 .1 .1 .1 .0
-
-holders·add-pair-same-length-11 : (t : ℕ) → holders·add-pair-lts.Need-same-length-11 (holders·add-pair-called t) (holders·add-pair-at t) holders·add-pair.Post
-holders·add-pair-same-length-11 t c = c .before .before .before .before .before .before .before .before .before .before .before .before .add-block2 .kept .1 .1 .1 .1 .1 .1 .0 ∙ c .before .before .before .before .before .before .before .before .before .before .before .before .before .before .before .before .before .before .before .before .before .before .before .before .before .before .before .before .before .before .before .add-block .kept .1 .1 .1 .1 .1 .1 .0
-
-holders·add-pair-same-length-12 : (t : ℕ) → holders·add-pair-lts.Need-same-length-12 (holders·add-pair-called t) (holders·add-pair-at t) holders·add-pair.Post
-holders·add-pair-same-length-12 t c = c .before .before .before .before .before .before .before .before .before .before .before .before .add-block2 .kept .1 .1 .1 .1 .1 .1 .1 .0 ∙ c .before .before .before .before .before .before .before .before .before .before .before .before .before .before .before .before .before .before .before .before .before .before .before .before .before .before .before .before .before .before .before .add-block .kept .1 .1 .1 .1 .1 .1 .1 .0
+holders·add-pair-returns-2 t c = pair-halt-2 (c .before .before .before .before .before .before .before .before .before .before .before .before .before .before .before .before .before .before .before .before .before .before .before .pre .1) (c .before .before .before .before .before .before .before .before .before .before .before .before .before .before .before .before .before .before .before .before .before .before .before .args .break-required) (c .before .before .before .before .before .before .before .before .before .before .before .before .before .before .before .before .add-block .ensures) (c .before .before .before .before .before .before .before .before .before .before .before .before .before .before .tally .given .1) (c .before .before .before .before .before .before .before .before .weigh .ensures) (c .before .before .before .add-block2 .ensures) (c .before .r .given .1)
 
 holders·add-pair-returns-3 : (t : ℕ) → holders·add-pair-lts.Need-returns-3 (holders·add-pair-called t) (holders·add-pair-at t) holders·add-pair.Post
-holders·add-pair-returns-3 t c = pair-ends (c .before .before .before .before .before .before .before .before .before .before .before .before .before .before .before .before .before .before .before .before .before .before .before .before .before .before .before .before .before .before .before .before .before .before .before .before .before .before .before .before .before .before .before .before .pre .1) (c .before .before .before .before .before .before .before .before .before .before .before .before .before .before .before .before .before .before .before .before .before .before .before .before .before .before .before .before .before .before .before .before .before .before .before .before .before .before .before .before .before .before .before .before .args .break-required) (c .before .before .before .before .before .before .before .before .before .before .before .before .before .before .before .before .before .before .before .before .before .before .before .before .before .before .before .before .before .before .before .add-block .ensures) (c .before .before .before .before .before .before .before .before .before .before .before .before .before .before .before .before .before .before .before .before .before .tally .given .1) (c .before .before .before .before .before .before .before .before .before .before .before .before .before .before .before .before .before .weigh .ensures) (c .before .before .before .before .before .before .before .before .before .before .before .before .add-block2 .ensures) (c .before .before .r2 .given .1) (c .or .ensures)
+holders·add-pair-returns-3 t c = pair-ends (c .before .before .before .before .before .before .before .before .before .before .before .before .before .before .before .before .before .before .before .before .before .before .before .before .pre .1) (c .before .before .before .before .before .before .before .before .before .before .before .before .before .before .before .before .before .before .before .before .before .before .before .before .args .break-required) (c .before .before .before .before .before .before .before .before .before .before .before .before .before .before .before .before .before .add-block .ensures) (c .before .before .before .before .before .before .before .before .before .before .before .before .before .before .before .tally .given .1) (c .before .before .before .before .before .before .before .before .before .weigh .ensures) (c .before .before .before .before .add-block2 .ensures) (c .before .before .r2 .given .1) (c .or .ensures)
 
 loops·add-loop-operand-requires : (t : ℕ) → loops·add-loop-lts.Need-operand-requires (loops·add-loop-called t) (loops·add-loop-at t) loops·add-loop.Post
 loops·add-loop-operand-requires t c κs = search needs
@@ -785,16 +617,16 @@ loops·add-loop-cast-t29-2 : (t : ℕ) → loops·add-loop-lts.Need-cast-t29-2 (
 loops·add-loop-cast-t29-2 t c = search needs
 
 loops·add-loop-weigh-requires : (t : ℕ) → loops·add-loop-lts.Need-weigh-requires (loops·add-loop-called t) (loops·add-loop-at t) loops·add-loop.Post
-loops·add-loop-weigh-requires t c κs = loop-weighs (c .before .before .before .before .before .before .before .before .before .before .before .before .before .pre .1 .0) (c .before .before .before .before .before .before .before .before .before .before .before .before .before .pre .1 .1)
+loops·add-loop-weigh-requires t c κs = loop-weighs (c .before .before .before .before .before .before .before .before .before .pre .1 .0) (c .before .before .before .before .before .before .before .before .before .pre .1 .1)
 
 loops·add-loop-add-held : (t : ℕ) → loops·add-loop-lts.Need-add-held (loops·add-loop-called t) (loops·add-loop-at t) loops·add-loop.Post
-loops·add-loop-add-held t c = omega (arith, loop-fits (c .before .before .before .before .before .before .before .before .before .before .before .before .before .before .before .pre .1 .0) (c .before .before .before .before .before .before .before .before .before .before .before .before .before .before .before .pre .1 .1) (c .before .weigh .ensures))
+loops·add-loop-add-held t c = omega (arith, loop-fits (c .before .before .before .before .before .before .before .before .before .before .before .pre .1 .0) (c .before .before .before .before .before .before .before .before .before .before .before .pre .1 .1) (c .before .weigh .ensures))
 
 loops·add-loop-add-add-pair : (t : ℕ) → loops·add-loop-lts.Need-add-add-pair (loops·add-loop-called t) (loops·add-loop-at t) loops·add-loop.Post
-loops·add-loop-add-add-pair t c = omega (arith, loop-weighs (c .before .before .before .before .before .before .before .before .before .before .before .before .before .before .before .before .before .before .before .pre .1 .0) (c .before .before .before .before .before .before .before .before .before .before .before .before .before .before .before .before .before .before .before .pre .1 .1) .1 .0, c .before .before .before .before .before .before .before .before .before .before .before .before .before .before .before .before .before .before .before .good)
+loops·add-loop-add-add-pair t c = omega (arith, loop-weighs (c .before .before .before .before .before .before .before .before .before .before .before .before .before .before .before .pre .1 .0) (c .before .before .before .before .before .before .before .before .before .before .before .before .before .before .before .pre .1 .1) .1 .0, c .before .before .before .before .before .before .weigh-arg4 .given .0)
 
 loops·add-loop-add-pair-requires : (t : ℕ) → loops·add-loop-lts.Need-add-pair-requires (loops·add-loop-called t) (loops·add-loop-at t) loops·add-loop.Post
-loops·add-loop-add-pair-requires t c κs = (omega (arith, c .before .before .before .before .before .before .before .before .before .before .before .before .before .before .before .before .before .before .before .pre .0), loop-paired (c .before .before .before .before .before .before .before .before .before .before .before .before .before .before .before .before .before .before .before .pre .1 .0) (c .before .before .before .before .before .before .before .before .before .before .before .before .before .before .before .before .before .before .before .pre .1 .1) (c .before .before .before .before .before .weigh .ensures) (c .before .before .before .before .before .before .before .before .before .operand .ensures) (c .before .before .before .before .before .before .before .before .operand2 .ensures))
+loops·add-loop-add-pair-requires t c κs = (omega (arith, c .before .before .before .before .before .before .before .before .before .before .before .before .before .before .before .pre .0), loop-paired (c .before .before .before .before .before .before .before .before .before .before .before .before .before .before .before .pre .1 .0) (c .before .before .before .before .before .before .before .before .before .before .before .before .before .before .before .pre .1 .1) (c .before .before .before .before .before .weigh .ensures) (c .before .before .before .before .before .before .before .before .before .before .before .operand .ensures) (c .before .before .before .before .before .before .before .before .before .before .operand2 .ensures))
 
 loops·add-loop-enum-known-r : (t : ℕ) → loops·add-loop-lts.Need-enum-known-r (loops·add-loop-called t) (loops·add-loop-at t) loops·add-loop.Post
 loops·add-loop-enum-known-r t c = search needs
@@ -803,28 +635,16 @@ loops·add-loop-enum-known-r-2 : (t : ℕ) → loops·add-loop-lts.Need-enum-kno
 loops·add-loop-enum-known-r-2 t c = search needs
 
 loops·add-loop-drop-both-requires : (t : ℕ) → loops·add-loop-lts.Need-drop-both-requires (loops·add-loop-called t) (loops·add-loop-at t) loops·add-loop.Post
-loops·add-loop-drop-both-requires t c κs = loop-drops (c .before .before .before .before .before .before .before .before .before .before .before .before .before .before .before .before .before .before .before .before .before .before .before .before .before .before .before .before .before .before .before .before .before .pre .1 .0) (c .before .before .before .before .before .before .before .before .before .before .before .before .before .before .before .before .before .before .before .before .before .before .before .before .before .before .before .before .before .before .before .before .before .pre .1 .1) (c .before .before .before .before .before .before .before .before .before .before .before .before .before .before .before .before .before .before .before .weigh .ensures) (c .before .before .before .before .before .before .before .before .before .before .before .before .before .before .before .before .before .before .before .before .before .before .before .operand .ensures) (c .before .before .before .before .before .before .before .before .before .before .before .before .before .before .before .before .before .before .before .before .before .before .operand2 .ensures) (c .before .before .before .before .before .before .before .before .before .before .before .before .before .add-pair .ensures) (c .before .before .before .r2 .given .1)
-
-loops·add-loop-same-length : (t : ℕ) → loops·add-loop-lts.Need-same-length (loops·add-loop-called t) (loops·add-loop-at t) loops·add-loop.Post
-loops·add-loop-same-length t c = c .before .before .before .before .before .before .before .before .before .before .before .before .before .before .before .before .add-pair .kept .1 .1 .1 .1 .0
-
-loops·add-loop-same-length-2 : (t : ℕ) → loops·add-loop-lts.Need-same-length-2 (loops·add-loop-called t) (loops·add-loop-at t) loops·add-loop.Post
-loops·add-loop-same-length-2 t c = c .before .before .drop-both .kept .0 ∙ c .before .before .before .before .before .before .before .before .before .before .before .before .before .before .before .before .add-pair .kept .1 .1 .1 .1 .1 .0
-
-loops·add-loop-same-length-3 : (t : ℕ) → loops·add-loop-lts.Need-same-length-3 (loops·add-loop-called t) (loops·add-loop-at t) loops·add-loop.Post
-loops·add-loop-same-length-3 t c = c .before .before .before .before .before .before .before .before .before .before .before .before .before .before .before .before .add-pair .kept .1 .1 .1 .1 .1 .1 .0
-
-loops·add-loop-same-length-4 : (t : ℕ) → loops·add-loop-lts.Need-same-length-4 (loops·add-loop-called t) (loops·add-loop-at t) loops·add-loop.Post
-loops·add-loop-same-length-4 t c = c .before .before .before .before .before .before .before .before .before .before .before .before .before .before .before .before .add-pair .kept .1 .1 .1 .1 .1 .1 .1 .0
+loops·add-loop-drop-both-requires t c κs = loop-drops (c .before .before .before .before .before .before .before .before .before .before .before .before .before .before .before .before .before .before .before .before .before .pre .1 .0) (c .before .before .before .before .before .before .before .before .before .before .before .before .before .before .before .before .before .before .before .before .before .pre .1 .1) (c .before .before .before .before .before .before .before .before .before .before .before .weigh .ensures) (c .before .before .before .before .before .before .before .before .before .before .before .before .before .before .before .before .before .operand .ensures) (c .before .before .before .before .before .before .before .before .before .before .before .before .before .before .before .before .operand2 .ensures) (c .before .before .before .before .before .add-pair .ensures) (c .before .before .before .r2 .given .1)
 
 loops·add-loop-returns : (t : ℕ) → loops·add-loop-lts.Need-returns (loops·add-loop-called t) (loops·add-loop-at t) loops·add-loop.Post
-loops·add-loop-returns t c = loop-dropped (c .before .before .before .before .before .before .before .before .before .before .before .before .before .before .before .before .before .before .before .before .before .before .before .before .before .before .before .before .before .before .before .before .before .before .before .before .pre .1 .0) (c .before .before .before .before .before .before .before .before .before .before .before .before .before .before .before .before .before .before .before .before .before .before .before .before .before .before .before .before .before .before .before .before .before .before .before .before .pre .1 .1) (c .before .before .before .before .before .before .before .before .before .before .before .before .before .before .before .before .before .before .before .before .before .before .weigh .ensures) (c .before .before .before .before .before .before .before .before .before .before .before .before .before .before .before .before .before .before .before .before .before .before .before .before .before .before .operand .ensures) (c .before .before .before .before .before .before .before .before .before .before .before .before .before .before .before .before .before .before .before .before .before .before .before .before .before .operand2 .ensures) (c .before .before .before .before .before .before .before .before .before .before .before .before .before .before .before .before .add-pair .ensures) (c .before .before .before .before .before .before .r2 .given .1) (not-true _ (c .before .before .before .before .if1 .taken)) (c .before .before .drop-both .ensures)
+loops·add-loop-returns t c = loop-dropped (c .before .before .before .before .before .before .before .before .before .before .before .before .before .before .before .before .before .before .before .before .before .before .pre .1 .0) (c .before .before .before .before .before .before .before .before .before .before .before .before .before .before .before .before .before .before .before .before .before .before .pre .1 .1) (c .before .before .before .before .before .before .before .before .before .before .before .before .weigh .ensures) (c .before .before .before .before .before .before .before .before .before .before .before .before .before .before .before .before .before .before .operand .ensures) (c .before .before .before .before .before .before .before .before .before .before .before .before .before .before .before .before .before .operand2 .ensures) (c .before .before .before .before .before .before .add-pair .ensures) (c .before .before .before .before .r2 .given .1) (not-true _ (c .before .before .if1 .taken)) (c .drop-both .ensures)
 
 loops·add-loop-operand-requires-3 : (t : ℕ) → loops·add-loop-lts.Need-operand-requires-3 (loops·add-loop-called t) (loops·add-loop-at t) loops·add-loop.Post
 loops·add-loop-operand-requires-3 t c κs = search needs
 
 loops·add-loop-end-pass-requires : (t : ℕ) → loops·add-loop-lts.Need-end-pass-requires (loops·add-loop-called t) (loops·add-loop-at t) loops·add-loop.Post
-loops·add-loop-end-pass-requires t c κs = loop-passing (c .before .before .before .before .before .before .before .before .before .before .before .before .before .before .before .before .before .before .before .before .before .before .before .before .before .before .before .before .before .before .before .before .before .before .before .pre .1 .0) (c .before .before .before .before .before .before .before .before .before .before .before .before .before .before .before .before .before .before .before .before .before .before .before .before .before .before .before .before .before .before .before .before .before .before .before .pre .1 .1) (c .before .before .before .before .before .before .before .before .before .before .before .before .before .before .before .before .before .before .before .before .before .weigh .ensures) (c .before .before .before .before .before .before .before .before .before .before .before .before .before .before .before .before .before .before .before .before .before .before .before .before .before .operand .ensures) (c .before .before .before .before .before .before .before .before .before .before .before .before .before .before .before .before .before .before .before .before .before .before .before .before .operand2 .ensures) (c .before .before .before .before .before .before .before .before .before .before .before .before .before .before .before .add-pair .ensures) (c .before .before .before .before .before .r2 .given .1) (c .before .before .operand3 .ensures)
+loops·add-loop-end-pass-requires t c κs = loop-passing (c .before .before .before .before .before .before .before .before .before .before .before .before .before .before .before .before .before .before .before .before .before .before .before .before .pre .1 .0) (c .before .before .before .before .before .before .before .before .before .before .before .before .before .before .before .before .before .before .before .before .before .before .before .before .pre .1 .1) (c .before .before .before .before .before .before .before .before .before .before .before .before .before .before .weigh .ensures) (c .before .before .before .before .before .before .before .before .before .before .before .before .before .before .before .before .before .before .before .before .operand .ensures) (c .before .before .before .before .before .before .before .before .before .before .before .before .before .before .before .before .before .before .before .operand2 .ensures) (c .before .before .before .before .before .before .before .before .add-pair .ensures) (c .before .before .before .before .before .before .r2 .given .1) (c .before .before .before .operand3 .ensures)
 
 loops·add-loop-enum-known-n : (t : ℕ) → loops·add-loop-lts.Need-enum-known-n (loops·add-loop-called t) (loops·add-loop-at t) loops·add-loop.Post
 loops·add-loop-enum-known-n t c = search needs
@@ -833,52 +653,16 @@ loops·add-loop-enum-known-left : (t : ℕ) → loops·add-loop-lts.Need-enum-kn
 loops·add-loop-enum-known-left t c = search needs
 
 loops·add-loop-add-turns-requires : (t : ℕ) → loops·add-loop-lts.Need-add-turns-requires (loops·add-loop-called t) (loops·add-loop-at t) loops·add-loop.Post
-loops·add-loop-add-turns-requires t c κs = (omega (arith, c .before .before .before .before .before .before .before .before .before .before .before .before .before .before .before .before .before .before .before .before .before .before .before .before .before .before .before .before .before .before .before .before .before .before .before .before .before .before .before .before .before .before .before .before .before .before .before .pre .0), loop-turning (c .before .before .before .before .before .before .before .before .before .before .before .before .before .before .before .before .before .before .before .before .before .before .before .before .before .before .before .before .before .before .before .before .before .before .before .before .before .before .before .before .before .before .before .before .before .before .before .pre .1 .0) (c .before .before .before .before .before .before .before .before .before .before .before .before .before .before .before .before .before .before .before .before .before .before .before .before .before .before .before .before .before .before .before .before .before .before .before .before .before .before .before .before .before .before .before .before .before .before .before .pre .1 .1) (c .before .before .before .before .before .before .before .before .before .before .before .before .before .before .before .before .before .before .before .before .before .before .before .before .before .before .before .before .before .before .before .before .before .weigh .ensures) (c .before .before .before .before .before .before .before .before .before .before .before .before .before .before .before .before .before .before .before .before .before .before .before .before .before .before .before .before .before .before .before .before .before .before .before .before .before .operand .ensures) (c .before .before .before .before .before .before .before .before .before .before .before .before .before .before .before .before .before .before .before .before .before .before .before .before .before .before .before .before .before .before .before .before .before .before .before .before .operand2 .ensures) (c .before .before .before .before .before .before .before .before .before .before .before .before .before .before .before .before .before .before .before .before .before .before .before .before .before .before .before .add-pair .ensures) (c .before .before .before .before .before .before .before .before .before .before .before .before .before .before .before .before .before .r2 .given .1) (c .before .before .before .before .before .before .before .before .before .before .before .before .before .before .operand3 .ensures) (not-false _ (c .before .before .before .before .before .before .before .before .before .before .before .before .before .before .before .if1 .left)) (c .before .before .before .before .before .before .before .before .before .before .before .end-pass .ensures) (c .before .before .before .before .before .left .given .1))
-
-loops·add-loop-same-length-5 : (t : ℕ) → loops·add-loop-lts.Need-same-length-5 (loops·add-loop-called t) (loops·add-loop-at t) loops·add-loop.Post
-loops·add-loop-same-length-5 t c = c .before .before .before .before .before .before .before .before .before .before .before .add-pair .kept .1 .1 .1 .1 .0
-
-loops·add-loop-same-length-6 : (t : ℕ) → loops·add-loop-lts.Need-same-length-6 (loops·add-loop-called t) (loops·add-loop-at t) loops·add-loop.Post
-loops·add-loop-same-length-6 t c = c .before .before .before .before .before .before .before .before .before .before .before .add-pair .kept .1 .1 .1 .1 .1 .0
-
-loops·add-loop-same-length-7 : (t : ℕ) → loops·add-loop-lts.Need-same-length-7 (loops·add-loop-called t) (loops·add-loop-at t) loops·add-loop.Post
-loops·add-loop-same-length-7 t c = c .before .before .before .before .before .before .before .before .before .before .before .add-pair .kept .1 .1 .1 .1 .1 .1 .0
-
-loops·add-loop-same-length-8 : (t : ℕ) → loops·add-loop-lts.Need-same-length-8 (loops·add-loop-called t) (loops·add-loop-at t) loops·add-loop.Post
-loops·add-loop-same-length-8 t c = c .before .before .before .before .before .before .before .before .before .before .before .add-pair .kept .1 .1 .1 .1 .1 .1 .1 .0
+loops·add-loop-add-turns-requires t c κs = (omega (arith, c .before .before .before .before .before .before .before .before .before .before .before .before .before .before .before .before .before .before .before .before .before .before .before .before .before .before .before .before .before .before .before .before .pre .0), loop-turning (c .before .before .before .before .before .before .before .before .before .before .before .before .before .before .before .before .before .before .before .before .before .before .before .before .before .before .before .before .before .before .before .before .pre .1 .0) (c .before .before .before .before .before .before .before .before .before .before .before .before .before .before .before .before .before .before .before .before .before .before .before .before .before .before .before .before .before .before .before .before .pre .1 .1) (c .before .before .before .before .before .before .before .before .before .before .before .before .before .before .before .before .before .before .before .before .before .before .weigh .ensures) (c .before .before .before .before .before .before .before .before .before .before .before .before .before .before .before .before .before .before .before .before .before .before .before .before .before .before .before .before .operand .ensures) (c .before .before .before .before .before .before .before .before .before .before .before .before .before .before .before .before .before .before .before .before .before .before .before .before .before .before .before .operand2 .ensures) (c .before .before .before .before .before .before .before .before .before .before .before .before .before .before .before .before .add-pair .ensures) (c .before .before .before .before .before .before .before .before .before .before .before .before .before .before .r2 .given .1) (c .before .before .before .before .before .before .before .before .before .before .before .operand3 .ensures) (not-false _ (c .before .before .before .before .before .before .before .before .before .before .before .before .if1 .left)) (c .before .before .before .before .before .before .before .end-pass .ensures) (c .before .before .before .before .before .left .given .1))
 
 loops·add-loop-returns-2 : (t : ℕ) → loops·add-loop-lts.Need-returns-2 (loops·add-loop-called t) (loops·add-loop-at t) loops·add-loop.Post
-loops·add-loop-returns-2 t c = loop-halts (c .before .before .before .before .before .before .before .before .before .before .before .before .before .before .before .before .before .before .before .before .before .before .before .before .before .before .before .before .before .before .before .pre .1 .0) (c .before .before .before .before .before .before .before .before .before .before .before .before .before .before .before .before .before .before .before .before .before .before .before .before .before .before .before .before .before .before .before .pre .1 .1) (c .before .before .before .before .before .before .before .before .before .before .before .before .before .before .before .before .before .weigh .ensures) (c .before .before .before .before .before .before .before .before .before .before .before .before .before .before .before .before .before .before .before .before .before .operand .ensures) (c .before .before .before .before .before .before .before .before .before .before .before .before .before .before .before .before .before .before .before .before .operand2 .ensures) (c .before .before .before .before .before .before .before .before .before .before .before .add-pair .ensures) (c .before .r .given .1)
-
-loops·add-loop-same-length-9 : (t : ℕ) → loops·add-loop-lts.Need-same-length-9 (loops·add-loop-called t) (loops·add-loop-at t) loops·add-loop.Post
-loops·add-loop-same-length-9 t c = c .before .before .before .before .before .before .before .end-pass .kept .1 .1 .0 ∙ c .before .before .before .before .before .before .before .before .before .before .before .before .before .before .before .before .before .before .before .before .before .before .before .add-pair .kept .1 .1 .1 .1 .0
-
-loops·add-loop-same-length-10 : (t : ℕ) → loops·add-loop-lts.Need-same-length-10 (loops·add-loop-called t) (loops·add-loop-at t) loops·add-loop.Post
-loops·add-loop-same-length-10 t c = c .before .before .before .before .before .before .before .end-pass .kept .1 .1 .1 .0 ∙ c .before .before .before .before .before .before .before .before .before .before .before .before .before .before .before .before .before .before .before .before .before .before .before .add-pair .kept .1 .1 .1 .1 .1 .0
-
-loops·add-loop-same-length-11 : (t : ℕ) → loops·add-loop-lts.Need-same-length-11 (loops·add-loop-called t) (loops·add-loop-at t) loops·add-loop.Post
-loops·add-loop-same-length-11 t c = c .before .before .before .before .before .before .before .before .before .before .before .before .before .before .before .before .before .before .before .before .before .before .before .add-pair .kept .1 .1 .1 .1 .1 .1 .0
-
-loops·add-loop-same-length-12 : (t : ℕ) → loops·add-loop-lts.Need-same-length-12 (loops·add-loop-called t) (loops·add-loop-at t) loops·add-loop.Post
-loops·add-loop-same-length-12 t c = c .before .before .before .before .before .before .before .before .before .before .before .before .before .before .before .before .before .before .before .before .before .before .before .add-pair .kept .1 .1 .1 .1 .1 .1 .1 .0
+loops·add-loop-returns-2 t c = loop-halts (c .before .before .before .before .before .before .before .before .before .before .before .before .before .before .before .before .before .before .before .pre .1 .0) (c .before .before .before .before .before .before .before .before .before .before .before .before .before .before .before .before .before .before .before .pre .1 .1) (c .before .before .before .before .before .before .before .before .before .weigh .ensures) (c .before .before .before .before .before .before .before .before .before .before .before .before .before .before .before .operand .ensures) (c .before .before .before .before .before .before .before .before .before .before .before .before .before .before .operand2 .ensures) (c .before .before .before .add-pair .ensures) (c .before .r .given .1)
 
 loops·add-loop-returns-3 : (t : ℕ) → loops·add-loop-lts.Need-returns-3 (loops·add-loop-called t) (loops·add-loop-at t) loops·add-loop.Post
-loops·add-loop-returns-3 t c = loop-pass-halts (c .before .before .before .before .before .before .before .before .before .before .before .before .before .before .before .before .before .before .before .before .before .before .before .before .before .before .before .before .before .before .before .before .before .before .before .before .before .before .before .before .before .before .before .pre .1 .0) (c .before .before .before .before .before .before .before .before .before .before .before .before .before .before .before .before .before .before .before .before .before .before .before .before .before .before .before .before .before .before .before .before .before .before .before .before .before .before .before .before .before .before .before .pre .1 .1) (c .before .before .before .before .before .before .before .before .before .before .before .before .before .before .before .before .before .before .before .before .before .before .before .before .before .before .before .before .before .weigh .ensures) (c .before .before .before .before .before .before .before .before .before .before .before .before .before .before .before .before .before .before .before .before .before .before .before .before .before .before .before .before .before .before .before .before .before .operand .ensures) (c .before .before .before .before .before .before .before .before .before .before .before .before .before .before .before .before .before .before .before .before .before .before .before .before .before .before .before .before .before .before .before .before .operand2 .ensures) (c .before .before .before .before .before .before .before .before .before .before .before .before .before .before .before .before .before .before .before .before .before .before .before .add-pair .ensures) (c .before .before .before .before .before .before .before .before .before .before .before .before .before .r2 .given .1) (c .before .before .before .before .before .before .before .before .before .before .operand3 .ensures) (not-false _ (c .before .before .before .before .before .before .before .before .before .before .before .if1 .left)) (c .before .before .before .before .before .before .before .end-pass .ensures) (c .before .n .given .1)
-
-loops·add-loop-same-length-13 : (t : ℕ) → loops·add-loop-lts.Need-same-length-13 (loops·add-loop-called t) (loops·add-loop-at t) loops·add-loop.Post
-loops·add-loop-same-length-13 t c = c .before .before .before .before .before .before .before .before .add-turns .kept .1 .1 .1 .1 .0 ∙ c .before .before .before .before .before .before .before .before .before .before .before .before .before .before .before .before .before .before .before .before .end-pass .kept .1 .1 .0 ∙ c .before .before .before .before .before .before .before .before .before .before .before .before .before .before .before .before .before .before .before .before .before .before .before .before .before .before .before .before .before .before .before .before .before .before .before .before .add-pair .kept .1 .1 .1 .1 .0
-
-loops·add-loop-same-length-14 : (t : ℕ) → loops·add-loop-lts.Need-same-length-14 (loops·add-loop-called t) (loops·add-loop-at t) loops·add-loop.Post
-loops·add-loop-same-length-14 t c = c .before .before .before .before .before .before .before .before .add-turns .kept .1 .1 .1 .1 .1 .0 ∙ c .before .before .before .before .before .before .before .before .before .before .before .before .before .before .before .before .before .before .before .before .end-pass .kept .1 .1 .1 .0 ∙ c .before .before .before .before .before .before .before .before .before .before .before .before .before .before .before .before .before .before .before .before .before .before .before .before .before .before .before .before .before .before .before .before .before .before .before .before .add-pair .kept .1 .1 .1 .1 .1 .0
-
-loops·add-loop-same-length-15 : (t : ℕ) → loops·add-loop-lts.Need-same-length-15 (loops·add-loop-called t) (loops·add-loop-at t) loops·add-loop.Post
-loops·add-loop-same-length-15 t c = c .before .before .before .before .before .before .before .before .add-turns .kept .1 .1 .1 .1 .1 .1 .0 ∙ c .before .before .before .before .before .before .before .before .before .before .before .before .before .before .before .before .before .before .before .before .before .before .before .before .before .before .before .before .before .before .before .before .before .before .before .before .add-pair .kept .1 .1 .1 .1 .1 .1 .0
-
-loops·add-loop-same-length-16 : (t : ℕ) → loops·add-loop-lts.Need-same-length-16 (loops·add-loop-called t) (loops·add-loop-at t) loops·add-loop.Post
-loops·add-loop-same-length-16 t c = c .before .before .before .before .before .before .before .before .add-turns .kept .1 .1 .1 .1 .1 .1 .1 .0 ∙ c .before .before .before .before .before .before .before .before .before .before .before .before .before .before .before .before .before .before .before .before .before .before .before .before .before .before .before .before .before .before .before .before .before .before .before .before .add-pair .kept .1 .1 .1 .1 .1 .1 .1 .0
+loops·add-loop-returns-3 t c = loop-pass-halts (c .before .before .before .before .before .before .before .before .before .before .before .before .before .before .before .before .before .before .before .before .before .before .before .before .before .before .before .before .pre .1 .0) (c .before .before .before .before .before .before .before .before .before .before .before .before .before .before .before .before .before .before .before .before .before .before .before .before .before .before .before .before .pre .1 .1) (c .before .before .before .before .before .before .before .before .before .before .before .before .before .before .before .before .before .before .weigh .ensures) (c .before .before .before .before .before .before .before .before .before .before .before .before .before .before .before .before .before .before .before .before .before .before .before .before .operand .ensures) (c .before .before .before .before .before .before .before .before .before .before .before .before .before .before .before .before .before .before .before .before .before .before .before .operand2 .ensures) (c .before .before .before .before .before .before .before .before .before .before .before .before .add-pair .ensures) (c .before .before .before .before .before .before .before .before .before .before .r2 .given .1) (c .before .before .before .before .before .before .before .operand3 .ensures) (not-false _ (c .before .before .before .before .before .before .before .before .if1 .left)) (c .before .before .before .end-pass .ensures) (c .before .n .given .1)
 
 loops·add-loop-returns-4 : (t : ℕ) → loops·add-loop-lts.Need-returns-4 (loops·add-loop-called t) (loops·add-loop-at t) loops·add-loop.Post
-loops·add-loop-returns-4 t c = loop-ends (c .before .before .before .before .before .before .before .before .before .before .before .before .before .before .before .before .before .before .before .before .before .before .before .before .before .before .before .before .before .before .before .before .before .before .before .before .before .before .before .before .before .before .before .before .before .before .before .before .before .before .before .before .before .before .before .before .pre .1 .0) (c .before .before .before .before .before .before .before .before .before .before .before .before .before .before .before .before .before .before .before .before .before .before .before .before .before .before .before .before .before .before .before .before .before .before .before .before .before .before .before .before .before .before .before .before .before .before .before .before .before .before .before .before .before .before .before .before .pre .1 .1) (c .before .before .before .before .before .before .before .before .before .before .before .before .before .before .before .before .before .before .before .before .before .before .before .before .before .before .before .before .before .before .before .before .before .before .before .before .before .before .before .before .before .before .weigh .ensures) (c .before .before .before .before .before .before .before .before .before .before .before .before .before .before .before .before .before .before .before .before .before .before .before .before .before .before .before .before .before .before .before .before .before .before .before .before .before .before .before .before .before .before .before .before .before .before .operand .ensures) (c .before .before .before .before .before .before .before .before .before .before .before .before .before .before .before .before .before .before .before .before .before .before .before .before .before .before .before .before .before .before .before .before .before .before .before .before .before .before .before .before .before .before .before .before .before .operand2 .ensures) (c .before .before .before .before .before .before .before .before .before .before .before .before .before .before .before .before .before .before .before .before .before .before .before .before .before .before .before .before .before .before .before .before .before .before .before .before .add-pair .ensures) (c .before .before .before .before .before .before .before .before .before .before .before .before .before .before .before .before .before .before .before .before .before .before .before .before .before .before .r2 .given .1) (c .before .before .before .before .before .before .before .before .before .before .before .before .before .before .before .before .before .before .before .before .before .before .before .operand3 .ensures) (not-false _ (c .before .before .before .before .before .before .before .before .before .before .before .before .before .before .before .before .before .before .before .before .before .before .before .before .if1 .left)) (c .before .before .before .before .before .before .before .before .before .before .before .before .before .before .before .before .before .before .before .before .end-pass .ensures) (c .before .before .before .before .before .before .before .before .before .before .before .before .before .before .left .given .1) _ (c .before .before .before .before .before .before .before .before .add-turns .ensures)
+loops·add-loop-returns-4 t c = loop-ends (c .before .before .before .before .before .before .before .before .before .before .before .before .before .before .before .before .before .before .before .before .before .before .before .before .before .before .before .before .before .before .before .before .before .pre .1 .0) (c .before .before .before .before .before .before .before .before .before .before .before .before .before .before .before .before .before .before .before .before .before .before .before .before .before .before .before .before .before .before .before .before .before .pre .1 .1) (c .before .before .before .before .before .before .before .before .before .before .before .before .before .before .before .before .before .before .before .before .before .before .before .weigh .ensures) (c .before .before .before .before .before .before .before .before .before .before .before .before .before .before .before .before .before .before .before .before .before .before .before .before .before .before .before .before .before .operand .ensures) (c .before .before .before .before .before .before .before .before .before .before .before .before .before .before .before .before .before .before .before .before .before .before .before .before .before .before .before .before .operand2 .ensures) (c .before .before .before .before .before .before .before .before .before .before .before .before .before .before .before .before .before .add-pair .ensures) (c .before .before .before .before .before .before .before .before .before .before .before .before .before .before .before .r2 .given .1) (c .before .before .before .before .before .before .before .before .before .before .before .before .operand3 .ensures) (not-false _ (c .before .before .before .before .before .before .before .before .before .before .before .before .before .if1 .left)) (c .before .before .before .before .before .before .before .before .end-pass .ensures) (c .before .before .before .before .before .before .left .given .1) _ (c .add-turns .ensures)
 
 abbrev loops·add-turns-Inv-loop : loops·add-turns-lts.InvT-loop
 loops·add-turns-Inv-loop bytes t types places cells₀ slots₀ open₀ totals₀ fr b body continuing visits sum f at held v₀ m₀ left₀ cells slots «open» totals v m left = TurnsLeft bytes t types places cells₀ slots₀ open₀ totals₀ fr (b .0) (body .0) (continuing .0) visits left v m cells slots «open» totals
@@ -887,316 +671,172 @@ abbrev loops·add-turns-μ-loop : loops·add-turns-lts.MeasureT-loop
 loops·add-turns-μ-loop bytes t types places cells₀ slots₀ open₀ totals₀ fr b body continuing visits sum f at held v₀ m₀ left₀ cells slots «open» totals v m left = left
 
 loops·add-turns-weigh-requires : (t : ℕ) → loops·add-turns-lts.Need-weigh-requires (loops·add-turns-called t) (loops·add-turns-at t) loops·add-turns.Post loops·add-turns-Inv-loop loops·add-turns-μ-loop
-loops·add-turns-weigh-requires t c κs = turns-weigh (c .before .before .before .before .before .before .before .before .before .before .before .pre .1)
+loops·add-turns-weigh-requires t c κs = turns-weigh (c .before .before .before .before .before .before .before .pre .1)
 
 loops·add-turns-add-held : (t : ℕ) → loops·add-turns-lts.Need-add-held (loops·add-turns-called t) (loops·add-turns-at t) loops·add-turns.Post loops·add-turns-Inv-loop loops·add-turns-μ-loop
-loops·add-turns-add-held t c = omega (arith, turns-fit (c .before .before .before .before .before .before .before .before .before .before .before .before .before .pre .1) (c .before .weigh .ensures))
+loops·add-turns-add-held t c = omega (arith, turns-fit (c .before .before .before .before .before .before .before .before .before .pre .1) (c .before .weigh .ensures))
 
 loops·add-turns-add-weigh : (t : ℕ) → loops·add-turns-lts.Need-add-weigh (loops·add-turns-called t) (loops·add-turns-at t) loops·add-turns.Post loops·add-turns-Inv-loop loops·add-turns-μ-loop
-loops·add-turns-add-weigh t c = omega (arith, turns-weigh (c .before .before .before .before .before .before .before .before .before .before .before .before .before .before .before .pre .1) .1 .0, c .before .before .before .before .before .before .before .before .before .before .before .before .before .before .before .good)
+loops·add-turns-add-weigh t c = omega (arith, turns-weigh (c .before .before .before .before .before .before .before .before .before .before .before .before .before .pre .1) .1 .0, c .before .before .before .before .before .before .weigh-arg4 .given .0)
 
 loops·add-turns-weigh-requires-2 : (t : ℕ) → loops·add-turns-lts.Need-weigh-requires-2 (loops·add-turns-called t) (loops·add-turns-at t) loops·add-turns.Post loops·add-turns-Inv-loop loops·add-turns-μ-loop
-loops·add-turns-weigh-requires-2 t c κs = turns-weigh-2 (c .before .before .before .before .before .before .before .before .before .before .before .before .before .before .before .pre .1)
+loops·add-turns-weigh-requires-2 t c κs = turns-weigh-2 (c .before .before .before .before .before .before .before .before .before .before .before .before .before .pre .1)
 
 loops·add-turns-add-held-2 : (t : ℕ) → loops·add-turns-lts.Need-add-held-2 (loops·add-turns-called t) (loops·add-turns-at t) loops·add-turns.Post loops·add-turns-Inv-loop loops·add-turns-μ-loop
-loops·add-turns-add-held-2 t c = omega (arith, turns-fit-2 (c .before .before .before .before .before .before .before .before .before .before .before .before .before .before .before .before .pre .1) (c .before .before .before .before .weigh .ensures) (c .weigh2 .ensures))
+loops·add-turns-add-held-2 t c = omega (arith, turns-fit-2 (c .before .before .before .before .before .before .before .before .before .before .before .before .before .before .pre .1) (c .before .before .before .before .before .before .weigh .ensures) (c .weigh2 .ensures))
 
 loops·add-turns-loop-holds : (t : ℕ) → loops·add-turns-lts.Need-loop-holds (loops·add-turns-called t) (loops·add-turns-at t) loops·add-turns.Post loops·add-turns-Inv-loop loops·add-turns-μ-loop
-loops·add-turns-loop-holds t c = turns-begin (c .before .before .before .before .before .before .before .before .before .before .before .before .before .before .before .before .pre .1)
+loops·add-turns-loop-holds t c = turns-begin (c .before .before .before .before .before .before .before .before .before .before .before .before .before .before .pre .1)
 
 loops·add-turns-add-add-pair : (t : ℕ) → loops·add-turns-lts.Need-add-add-pair (loops·add-turns-called t) (loops·add-turns-at t) loops·add-turns.Post loops·add-turns-Inv-loop loops·add-turns-μ-loop
-loops·add-turns-add-add-pair t c = omega (arith, turns-weigh-2 (c .before .before .before .before .before .before .before .before .before .before .before .before .before .before .before .before .before .before .before .before .before .before .pre .1) .1 .0, c .before .before .before .before .before .before .before .before .before .before .before .before .before .before .before .before .before .before .before .before .before .before .good)
+loops·add-turns-add-add-pair t c = omega (arith, turns-weigh-2 (c .before .before .before .before .before .before .before .before .before .before .before .before .before .before .before .before .before .before .before .before .pre .1) .1 .0, c .before .before .before .before .before .before .before .before .before .before .before .before .before .weigh-arg4 .given .0)
 
 loops·add-turns-add-add-pair-2 : (t : ℕ) → loops·add-turns-lts.Need-add-add-pair-2 (loops·add-turns-called t) (loops·add-turns-at t) loops·add-turns.Post loops·add-turns-Inv-loop loops·add-turns-μ-loop
-loops·add-turns-add-add-pair-2 t c = omega (arith, turns-weigh-2 (c .before .before .before .before .before .before .before .before .before .before .before .before .before .before .before .before .before .before .before .before .before .before .pre .1) .1 .0, c .before .before .before .before .before .before .before .before .before .before .before .before .before .before .before .before .before .before .before .before .before .before .good)
+loops·add-turns-add-add-pair-2 t c = omega (arith, turns-weigh-2 (c .before .before .before .before .before .before .before .before .before .before .before .before .before .before .before .before .before .before .before .before .pre .1) .1 .0, c .before .before .before .before .before .before .before .before .before .before .before .before .before .weigh-arg4 .given .0)
 
 loops·add-turns-add-pair-requires : (t : ℕ) → loops·add-turns-lts.Need-add-pair-requires (loops·add-turns-called t) (loops·add-turns-at t) loops·add-turns.Post loops·add-turns-Inv-loop loops·add-turns-μ-loop
-loops·add-turns-add-pair-requires t c κs = (omega (arith, c .before .before .before .before .before .before .before .before .before .before .before .before .before .before .before .before .before .before .before .before .before .before .pre .0), turn-paired (c .before .before .before .before .before .before .before .before .before .before .before .before .before .before .before .before .before .before .before .before .before .before .pre .1) (c .before .before .before .before .before .before .before .before .before .before .weigh .ensures) (c .before .before .before .before .before .before .weigh2 .ensures) (c .before .before .before .before .before .loop .inv))
+loops·add-turns-add-pair-requires t c κs = (omega (arith, c .before .before .before .before .before .before .before .before .before .before .before .before .before .before .before .before .before .before .before .before .pre .0), turn-paired (c .before .before .before .before .before .before .before .before .before .before .before .before .before .before .before .before .before .before .before .before .pre .1) (c .before .before .before .before .before .before .before .before .before .before .before .before .weigh .ensures) (c .before .before .before .before .before .before .weigh2 .ensures) (c .before .before .before .before .before .loop .inv))
 
 loops·add-turns-enum-known-number : (t : ℕ) → loops·add-turns-lts.Need-enum-known-number (loops·add-turns-called t) (loops·add-turns-at t) loops·add-turns.Post loops·add-turns-Inv-loop loops·add-turns-μ-loop
 loops·add-turns-enum-known-number t c = search needs
 
-loops·add-turns-same-length : (t : ℕ) → loops·add-turns-lts.Need-same-length (loops·add-turns-called t) (loops·add-turns-at t) loops·add-turns.Post loops·add-turns-Inv-loop loops·add-turns-μ-loop
-loops·add-turns-same-length t c = c .before .before .before .before .before .before .before .before .before .before .before .add-pair .kept .1 .1 .1 .1 .0 ∙ c .before .before .before .before .before .before .before .before .before .before .before .before .before .before .before .before .before .loop .inv .cells
-
-loops·add-turns-same-length-2 : (t : ℕ) → loops·add-turns-lts.Need-same-length-2 (loops·add-turns-called t) (loops·add-turns-at t) loops·add-turns.Post loops·add-turns-Inv-loop loops·add-turns-μ-loop
-loops·add-turns-same-length-2 t c = c .before .before .before .before .before .before .before .before .before .before .before .add-pair .kept .1 .1 .1 .1 .1 .0 ∙ c .before .before .before .before .before .before .before .before .before .before .before .before .before .before .before .before .before .loop .inv .beside .long
-
-loops·add-turns-same-length-3 : (t : ℕ) → loops·add-turns-lts.Need-same-length-3 (loops·add-turns-called t) (loops·add-turns-at t) loops·add-turns.Post loops·add-turns-Inv-loop loops·add-turns-μ-loop
-loops·add-turns-same-length-3 t c = c .before .before .before .before .before .before .before .before .before .before .before .add-pair .kept .1 .1 .1 .1 .1 .1 .0 ∙ c .before .before .before .before .before .before .before .before .before .before .before .before .before .before .before .before .before .loop .inv .beside .marks-long
-
-loops·add-turns-same-length-4 : (t : ℕ) → loops·add-turns-lts.Need-same-length-4 (loops·add-turns-called t) (loops·add-turns-at t) loops·add-turns.Post loops·add-turns-Inv-loop loops·add-turns-μ-loop
-loops·add-turns-same-length-4 t c = c .before .before .before .before .before .before .before .before .before .before .before .add-pair .kept .1 .1 .1 .1 .1 .1 .1 .0 ∙ c .before .before .before .before .before .before .before .before .before .before .before .before .before .before .before .before .before .loop .inv .totals-long
-
 loops·add-turns-returns : (t : ℕ) → loops·add-turns-lts.Need-returns (loops·add-turns-called t) (loops·add-turns-at t) loops·add-turns.Post loops·add-turns-Inv-loop loops·add-turns-μ-loop
-loops·add-turns-returns t c = turn-halts (c .before .before .before .before .before .before .before .before .before .before .before .before .before .before .before .before .before .before .before .before .before .before .before .before .before .before .before .before .before .before .before .before .before .before .pre .1) (c .before .before .before .before .before .before .before .before .before .before .before .before .before .before .before .before .before .before .before .before .before .before .weigh .ensures) (c .before .before .before .before .before .before .before .before .before .before .before .before .before .before .before .before .before .before .weigh2 .ensures) (c .before .before .before .before .before .before .before .before .before .before .before .before .before .before .before .before .before .loop .inv) (c .before .before .before .before .before .before .before .before .before .before .before .before .before .before .before .before .loop-test .taken) (c .before .before .before .before .before .before .before .before .before .before .before .add-pair .ensures) (c .before .number .given .1)
+loops·add-turns-returns t c = turn-halts (c .before .before .before .before .before .before .before .before .before .before .before .before .before .before .before .before .before .before .before .before .before .before .before .before .pre .1) (c .before .before .before .before .before .before .before .before .before .before .before .before .before .before .before .before .weigh .ensures) (c .before .before .before .before .before .before .before .before .before .before .weigh2 .ensures) (c .before .before .before .before .before .before .before .before .before .loop .inv) (c .before .before .before .before .before .before .before .before .loop-test .taken) (c .before .before .before .add-pair .ensures) (c .before .number .given .1)
 
 loops·add-turns-enum-known-tally : (t : ℕ) → loops·add-turns-lts.Need-enum-known-tally (loops·add-turns-called t) (loops·add-turns-at t) loops·add-turns.Post loops·add-turns-Inv-loop loops·add-turns-μ-loop
 loops·add-turns-enum-known-tally t c = search needs
 
 loops·add-turns-end-turn-requires : (t : ℕ) → loops·add-turns-lts.Need-end-turn-requires (loops·add-turns-called t) (loops·add-turns-at t) loops·add-turns.Post loops·add-turns-Inv-loop loops·add-turns-μ-loop
-loops·add-turns-end-turn-requires t c κs = turn-walked (c .before .before .before .before .before .before .before .before .before .before .before .before .before .before .before .before .before .before .before .before .before .before .before .before .before .before .before .before .before .before .before .before .before .before .before .before .pre .1) (c .before .before .before .before .before .before .before .before .before .before .before .before .before .before .before .before .before .before .before .before .before .before .before .before .weigh .ensures) (c .before .before .before .before .before .before .before .before .before .before .before .before .before .before .before .before .before .before .before .before .weigh2 .ensures) (c .before .before .before .before .before .before .before .before .before .before .before .before .before .before .before .before .before .before .before .loop .inv) (c .before .before .before .before .before .before .before .before .before .before .before .before .before .before .before .before .before .before .loop-test .taken) (c .before .before .before .before .before .before .before .before .before .before .before .before .before .add-pair .ensures) (c .before .before .before .tally .given .1)
+loops·add-turns-end-turn-requires t c κs = turn-walked (c .before .before .before .before .before .before .before .before .before .before .before .before .before .before .before .before .before .before .before .before .before .before .before .before .before .before .pre .1) (c .before .before .before .before .before .before .before .before .before .before .before .before .before .before .before .before .before .before .weigh .ensures) (c .before .before .before .before .before .before .before .before .before .before .before .before .weigh2 .ensures) (c .before .before .before .before .before .before .before .before .before .before .before .loop .inv) (c .before .before .before .before .before .before .before .before .before .before .loop-test .taken) (c .before .before .before .before .before .add-pair .ensures) (c .before .before .before .tally .given .1)
 
 loops·add-turns-enum-told : (t : ℕ) → loops·add-turns-lts.Need-enum-told (loops·add-turns-called t) (loops·add-turns-at t) loops·add-turns.Post loops·add-turns-Inv-loop loops·add-turns-μ-loop
 loops·add-turns-enum-told t c = search needs
 
-loops·add-turns-same-length-5 : (t : ℕ) → loops·add-turns-lts.Need-same-length-5 (loops·add-turns-called t) (loops·add-turns-at t) loops·add-turns.Post loops·add-turns-Inv-loop loops·add-turns-μ-loop
-loops·add-turns-same-length-5 t c = c .before .before .before .before .before .before .end-turn .kept .0 ∙ c .before .before .before .before .before .before .before .before .before .before .before .before .before .before .before .before .before .before .before .before .add-pair .kept .1 .1 .1 .1 .0 ∙ c .before .before .before .before .before .before .before .before .before .before .before .before .before .before .before .before .before .before .before .before .before .before .before .before .before .before .loop .inv .cells
-
-loops·add-turns-same-length-6 : (t : ℕ) → loops·add-turns-lts.Need-same-length-6 (loops·add-turns-called t) (loops·add-turns-at t) loops·add-turns.Post loops·add-turns-Inv-loop loops·add-turns-μ-loop
-loops·add-turns-same-length-6 t c = c .before .before .before .before .before .before .end-turn .kept .1 .0 ∙ c .before .before .before .before .before .before .before .before .before .before .before .before .before .before .before .before .before .before .before .before .add-pair .kept .1 .1 .1 .1 .1 .0 ∙ c .before .before .before .before .before .before .before .before .before .before .before .before .before .before .before .before .before .before .before .before .before .before .before .before .before .before .loop .inv .beside .long
-
-loops·add-turns-same-length-7 : (t : ℕ) → loops·add-turns-lts.Need-same-length-7 (loops·add-turns-called t) (loops·add-turns-at t) loops·add-turns.Post loops·add-turns-Inv-loop loops·add-turns-μ-loop
-loops·add-turns-same-length-7 t c = c .before .before .before .before .before .before .before .before .before .before .before .before .before .before .before .before .before .before .before .before .add-pair .kept .1 .1 .1 .1 .1 .1 .0 ∙ c .before .before .before .before .before .before .before .before .before .before .before .before .before .before .before .before .before .before .before .before .before .before .before .before .before .before .loop .inv .beside .marks-long
-
-loops·add-turns-same-length-8 : (t : ℕ) → loops·add-turns-lts.Need-same-length-8 (loops·add-turns-called t) (loops·add-turns-at t) loops·add-turns.Post loops·add-turns-Inv-loop loops·add-turns-μ-loop
-loops·add-turns-same-length-8 t c = c .before .before .before .before .before .before .before .before .before .before .before .before .before .before .before .before .before .before .before .before .add-pair .kept .1 .1 .1 .1 .1 .1 .1 .0 ∙ c .before .before .before .before .before .before .before .before .before .before .before .before .before .before .before .before .before .before .before .before .before .before .before .before .before .before .loop .inv .totals-long
-
 loops·add-turns-returns-2 : (t : ℕ) → loops·add-turns-lts.Need-returns-2 (loops·add-turns-called t) (loops·add-turns-at t) loops·add-turns.Post loops·add-turns-Inv-loop loops·add-turns-μ-loop
-loops·add-turns-returns-2 t c = turn-limits (c .before .before .before .before .before .before .before .before .before .before .before .before .before .before .before .before .before .before .before .before .before .before .before .before .before .before .before .before .before .before .before .before .before .before .before .before .before .before .before .before .before .before .before .pre .1) (c .before .before .before .before .before .before .before .before .before .before .before .before .before .before .before .before .before .before .before .before .before .before .before .before .before .before .before .before .before .before .before .weigh .ensures) (c .before .before .before .before .before .before .before .before .before .before .before .before .before .before .before .before .before .before .before .before .before .before .before .before .before .before .before .weigh2 .ensures) (c .before .before .before .before .before .before .before .before .before .before .before .before .before .before .before .before .before .before .before .before .before .before .before .before .before .before .loop .inv) (c .before .before .before .before .before .before .before .before .before .before .before .before .before .before .before .before .before .before .before .before .before .before .before .before .before .loop-test .taken) (c .before .before .before .before .before .before .before .before .before .before .before .before .before .before .before .before .before .before .before .before .add-pair .ensures) (c .before .before .before .before .before .before .before .before .before .before .tally .given .1) (c .before .before .before .before .before .before .end-turn .ensures) (c .enum-told .given .1)
+loops·add-turns-returns-2 t c = turn-limits (c .before .before .before .before .before .before .before .before .before .before .before .before .before .before .before .before .before .before .before .before .before .before .before .before .before .before .before .before .before .pre .1) (c .before .before .before .before .before .before .before .before .before .before .before .before .before .before .before .before .before .before .before .before .before .weigh .ensures) (c .before .before .before .before .before .before .before .before .before .before .before .before .before .before .before .weigh2 .ensures) (c .before .before .before .before .before .before .before .before .before .before .before .before .before .before .loop .inv) (c .before .before .before .before .before .before .before .before .before .before .before .before .before .loop-test .taken) (c .before .before .before .before .before .before .before .before .add-pair .ensures) (c .before .before .before .before .before .before .tally .given .1) (c .before .before .end-turn .ensures) (c .enum-told .given .1)
 
 loops·add-turns-enum-told-2 : (t : ℕ) → loops·add-turns-lts.Need-enum-told-2 (loops·add-turns-called t) (loops·add-turns-at t) loops·add-turns.Post loops·add-turns-Inv-loop loops·add-turns-μ-loop
 loops·add-turns-enum-told-2 t c = search needs
 
-loops·add-turns-same-length-9 : (t : ℕ) → loops·add-turns-lts.Need-same-length-9 (loops·add-turns-called t) (loops·add-turns-at t) loops·add-turns.Post loops·add-turns-Inv-loop loops·add-turns-μ-loop
-loops·add-turns-same-length-9 t c = c .before .before .before .before .before .before .end-turn .kept .0 ∙ c .before .before .before .before .before .before .before .before .before .before .before .before .before .before .before .before .before .before .before .before .add-pair .kept .1 .1 .1 .1 .0 ∙ c .before .before .before .before .before .before .before .before .before .before .before .before .before .before .before .before .before .before .before .before .before .before .before .before .before .before .loop .inv .cells
-
-loops·add-turns-same-length-10 : (t : ℕ) → loops·add-turns-lts.Need-same-length-10 (loops·add-turns-called t) (loops·add-turns-at t) loops·add-turns.Post loops·add-turns-Inv-loop loops·add-turns-μ-loop
-loops·add-turns-same-length-10 t c = c .before .before .before .before .before .before .end-turn .kept .1 .0 ∙ c .before .before .before .before .before .before .before .before .before .before .before .before .before .before .before .before .before .before .before .before .add-pair .kept .1 .1 .1 .1 .1 .0 ∙ c .before .before .before .before .before .before .before .before .before .before .before .before .before .before .before .before .before .before .before .before .before .before .before .before .before .before .loop .inv .beside .long
-
-loops·add-turns-same-length-11 : (t : ℕ) → loops·add-turns-lts.Need-same-length-11 (loops·add-turns-called t) (loops·add-turns-at t) loops·add-turns.Post loops·add-turns-Inv-loop loops·add-turns-μ-loop
-loops·add-turns-same-length-11 t c = c .before .before .before .before .before .before .before .before .before .before .before .before .before .before .before .before .before .before .before .before .add-pair .kept .1 .1 .1 .1 .1 .1 .0 ∙ c .before .before .before .before .before .before .before .before .before .before .before .before .before .before .before .before .before .before .before .before .before .before .before .before .before .before .loop .inv .beside .marks-long
-
-loops·add-turns-same-length-12 : (t : ℕ) → loops·add-turns-lts.Need-same-length-12 (loops·add-turns-called t) (loops·add-turns-at t) loops·add-turns.Post loops·add-turns-Inv-loop loops·add-turns-μ-loop
-loops·add-turns-same-length-12 t c = c .before .before .before .before .before .before .before .before .before .before .before .before .before .before .before .before .before .before .before .before .add-pair .kept .1 .1 .1 .1 .1 .1 .1 .0 ∙ c .before .before .before .before .before .before .before .before .before .before .before .before .before .before .before .before .before .before .before .before .before .before .before .before .before .before .loop .inv .totals-long
-
 loops·add-turns-returns-3 : (t : ℕ) → loops·add-turns-lts.Need-returns-3 (loops·add-turns-called t) (loops·add-turns-at t) loops·add-turns.Post loops·add-turns-Inv-loop loops·add-turns-μ-loop
-loops·add-turns-returns-3 t c = turn-settles (c .before .before .before .before .before .before .before .before .before .before .before .before .before .before .before .before .before .before .before .before .before .before .before .before .before .before .before .before .before .before .before .before .before .before .before .before .before .before .before .before .before .before .before .pre .1) (c .before .before .before .before .before .before .before .before .before .before .before .before .before .before .before .before .before .before .before .before .before .before .before .before .before .before .before .before .before .before .before .weigh .ensures) (c .before .before .before .before .before .before .before .before .before .before .before .before .before .before .before .before .before .before .before .before .before .before .before .before .before .before .before .weigh2 .ensures) (c .before .before .before .before .before .before .before .before .before .before .before .before .before .before .before .before .before .before .before .before .before .before .before .before .before .before .loop .inv) (c .before .before .before .before .before .before .before .before .before .before .before .before .before .before .before .before .before .before .before .before .before .before .before .before .before .loop-test .taken) (c .before .before .before .before .before .before .before .before .before .before .before .before .before .before .before .before .before .before .before .before .add-pair .ensures) (c .before .before .before .before .before .before .before .before .before .before .tally .given .1) (c .before .before .before .before .before .before .end-turn .ensures) (c .enum-told2 .given .1)
+loops·add-turns-returns-3 t c = turn-settles (c .before .before .before .before .before .before .before .before .before .before .before .before .before .before .before .before .before .before .before .before .before .before .before .before .before .before .before .before .before .pre .1) (c .before .before .before .before .before .before .before .before .before .before .before .before .before .before .before .before .before .before .before .before .before .weigh .ensures) (c .before .before .before .before .before .before .before .before .before .before .before .before .before .before .before .weigh2 .ensures) (c .before .before .before .before .before .before .before .before .before .before .before .before .before .before .loop .inv) (c .before .before .before .before .before .before .before .before .before .before .before .before .before .loop-test .taken) (c .before .before .before .before .before .before .before .before .add-pair .ensures) (c .before .before .before .before .before .before .tally .given .1) (c .before .before .end-turn .ensures) (c .enum-told2 .given .1)
 
 loops·add-turns-enum-told-3 : (t : ℕ) → loops·add-turns-lts.Need-enum-told-3 (loops·add-turns-called t) (loops·add-turns-at t) loops·add-turns.Post loops·add-turns-Inv-loop loops·add-turns-μ-loop
 loops·add-turns-enum-told-3 t c = search needs
 
 loops·add-turns-sub-left : (t : ℕ) → loops·add-turns-lts.Need-sub-left (loops·add-turns-called t) (loops·add-turns-at t) loops·add-turns.Post loops·add-turns-Inv-loop loops·add-turns-μ-loop
-loops·add-turns-sub-left t c = omega (arith, c .before .before .before .before .before .before .before .before .before .before .before .before .before .before .before .before .before .before .before .before .before .before .before .before .before .loop-test .taken)
+loops·add-turns-sub-left t c = omega (arith, c .before .before .before .before .before .before .before .before .before .before .before .before .before .loop-test .taken)
 
 loops·add-turns-loop-less : (t : ℕ) → loops·add-turns-lts.Need-loop-less (loops·add-turns-called t) (loops·add-turns-at t) loops·add-turns.Post loops·add-turns-Inv-loop loops·add-turns-μ-loop
-loops·add-turns-loop-less t c = omega (arith, c .before .before .before .before .before .before .before .before .before .before .before .before .before .before .before .before .before .before .before .before .before .before .before .before .before .loop-test .taken)
+loops·add-turns-loop-less t c = omega (arith, c .before .before .before .before .before .before .before .before .before .before .before .before .before .loop-test .taken)
 
 loops·add-turns-loop-again : (t : ℕ) → loops·add-turns-lts.Need-loop-again (loops·add-turns-called t) (loops·add-turns-at t) loops·add-turns.Post loops·add-turns-Inv-loop loops·add-turns-μ-loop
-loops·add-turns-loop-again t c = turn-goes-on (c .before .before .before .before .before .before .before .before .before .before .before .before .before .before .before .before .before .before .before .before .before .before .before .before .before .before .before .before .before .before .before .before .before .before .before .before .before .before .before .before .before .before .before .pre .1) (c .before .before .before .before .before .before .before .before .before .before .before .before .before .before .before .before .before .before .before .before .before .before .before .before .before .before .before .before .before .before .before .weigh .ensures) (c .before .before .before .before .before .before .before .before .before .before .before .before .before .before .before .before .before .before .before .before .before .before .before .before .before .before .before .weigh2 .ensures) (c .before .before .before .before .before .before .before .before .before .before .before .before .before .before .before .before .before .before .before .before .before .before .before .before .before .before .loop .inv) (c .before .before .before .before .before .before .before .before .before .before .before .before .before .before .before .before .before .before .before .before .before .before .before .before .before .loop-test .taken) (c .before .before .before .before .before .before .before .before .before .before .before .before .before .before .before .before .before .before .before .before .add-pair .ensures) (c .before .before .before .before .before .before .before .before .before .before .tally .given .1) (c .before .before .before .before .before .before .end-turn .ensures) (c .enum-told3 .given .1) (c .before .before .before .before .before .before .end-turn .kept .0 ∙ c .before .before .before .before .before .before .before .before .before .before .before .before .before .before .before .before .before .before .before .before .add-pair .kept .1 .1 .1 .1 .0 ∙ c .before .before .before .before .before .before .before .before .before .before .before .before .before .before .before .before .before .before .before .before .before .before .before .before .before .before .loop .inv .cells) (c .before .before .before .before .before .before .before .before .before .before .before .before .before .before .before .before .before .before .before .before .add-pair .kept .1 .1 .1 .1 .1 .1 .1 .0 ∙ c .before .before .before .before .before .before .before .before .before .before .before .before .before .before .before .before .before .before .before .before .before .before .before .before .before .before .loop .inv .totals-long)
-
-loops·add-turns-same-length-13 : (t : ℕ) → loops·add-turns-lts.Need-same-length-13 (loops·add-turns-called t) (loops·add-turns-at t) loops·add-turns.Post loops·add-turns-Inv-loop loops·add-turns-μ-loop
-loops·add-turns-same-length-13 t c = c .before .loop .inv .cells
-
-loops·add-turns-same-length-14 : (t : ℕ) → loops·add-turns-lts.Need-same-length-14 (loops·add-turns-called t) (loops·add-turns-at t) loops·add-turns.Post loops·add-turns-Inv-loop loops·add-turns-μ-loop
-loops·add-turns-same-length-14 t c = c .before .loop .inv .beside .long
-
-loops·add-turns-same-length-15 : (t : ℕ) → loops·add-turns-lts.Need-same-length-15 (loops·add-turns-called t) (loops·add-turns-at t) loops·add-turns.Post loops·add-turns-Inv-loop loops·add-turns-μ-loop
-loops·add-turns-same-length-15 t c = c .before .loop .inv .beside .marks-long
-
-loops·add-turns-same-length-16 : (t : ℕ) → loops·add-turns-lts.Need-same-length-16 (loops·add-turns-called t) (loops·add-turns-at t) loops·add-turns.Post loops·add-turns-Inv-loop loops·add-turns-μ-loop
-loops·add-turns-same-length-16 t c = c .before .loop .inv .totals-long
+loops·add-turns-loop-again t c = turn-goes-on (c .before .before .before .before .before .before .before .before .before .before .before .before .before .before .before .before .before .before .before .before .before .before .before .before .before .before .before .before .before .pre .1) (c .before .before .before .before .before .before .before .before .before .before .before .before .before .before .before .before .before .before .before .before .before .weigh .ensures) (c .before .before .before .before .before .before .before .before .before .before .before .before .before .before .before .weigh2 .ensures) (c .before .before .before .before .before .before .before .before .before .before .before .before .before .before .loop .inv) (c .before .before .before .before .before .before .before .before .before .before .before .before .before .loop-test .taken) (c .before .before .before .before .before .before .before .before .add-pair .ensures) (c .before .before .before .before .before .before .tally .given .1) (c .before .before .end-turn .ensures) (c .enum-told3 .given .1)
 
 loops·add-turns-returns-4 : (t : ℕ) → loops·add-turns-lts.Need-returns-4 (loops·add-turns-called t) (loops·add-turns-at t) loops·add-turns.Post loops·add-turns-Inv-loop loops·add-turns-μ-loop
-loops·add-turns-returns-4 t c = turns-over (c .before .before .before .before .before .before .before .before .before .before .before .before .before .before .before .before .before .before .pre .1) (c .before .before .before .before .before .before .weigh .ensures) (c .before .before .weigh2 .ensures) (c .before .loop .inv) (omega (arith, c .loop-test .left))
+loops·add-turns-returns-4 t c = turns-over (c .before .before .before .before .before .before .before .before .before .before .before .before .before .before .before .before .pre .1) (c .before .before .before .before .before .before .before .before .weigh .ensures) (c .before .before .weigh2 .ensures) (c .before .loop .inv) (omega (arith, c .loop-test .left))
 
 statements·add-arm-add-emit-requires : (t : ℕ) → statements·add-arm-lts.Need-add-emit-requires (statements·add-arm-called t) (statements·add-arm-at t) statements·add-arm.Post
-statements·add-arm-add-emit-requires t c κs = emit-asks (c .before .before .before .before .before .before .before .before .before .before .before .before .pre .1) (c .before .before .before .if1 .taken)
-
-statements·add-arm-same-length : (t : ℕ) → statements·add-arm-lts.Need-same-length (statements·add-arm-called t) (statements·add-arm-at t) statements·add-arm.Post
-statements·add-arm-same-length t c = search needs
-
-statements·add-arm-same-length-2 : (t : ℕ) → statements·add-arm-lts.Need-same-length-2 (statements·add-arm-called t) (statements·add-arm-at t) statements·add-arm.Post
-statements·add-arm-same-length-2 t c = search needs
-
-statements·add-arm-same-length-3 : (t : ℕ) → statements·add-arm-lts.Need-same-length-3 (statements·add-arm-called t) (statements·add-arm-at t) statements·add-arm.Post
-statements·add-arm-same-length-3 t c = search needs
+statements·add-arm-add-emit-requires t c κs = emit-asks (c .before .before .before .before .before .before .before .before .before .before .pre .1) (c .before .before .before .before .before .before .before .if1 .taken)
 
 statements·add-arm-returns : (t : ℕ) → statements·add-arm-lts.Need-returns (statements·add-arm-called t) (statements·add-arm-at t) statements·add-arm.Post
-statements·add-arm-returns t c = emit-arm (c .before .before .before .before .before .before .before .before .before .before .before .before .before .before .before .pre .1) (c .before .before .add-emit .ensures)
+statements·add-arm-returns t c = emit-arm (c .before .before .before .before .before .before .before .before .before .before .before .pre .1) (c .add-emit .ensures)
 
 statements·add-arm-add-call-requires : (t : ℕ) → statements·add-arm-lts.Need-add-call-requires (statements·add-arm-called t) (statements·add-arm-at t) statements·add-arm.Post
-statements·add-arm-add-call-requires t c κs = (omega (arith, c .before .before .before .before .before .before .before .before .before .before .before .before .before .before .pre .0), (c .before .before .before .before .before .before .before .before .before .before .before .before .before .before .pre .1, c .before .before .before .before .if2 .taken))
-
-statements·add-arm-same-length-4 : (t : ℕ) → statements·add-arm-lts.Need-same-length-4 (statements·add-arm-called t) (statements·add-arm-at t) statements·add-arm.Post
-statements·add-arm-same-length-4 t c = search needs
-
-statements·add-arm-same-length-5 : (t : ℕ) → statements·add-arm-lts.Need-same-length-5 (statements·add-arm-called t) (statements·add-arm-at t) statements·add-arm.Post
-statements·add-arm-same-length-5 t c = search needs
-
-statements·add-arm-same-length-6 : (t : ℕ) → statements·add-arm-lts.Need-same-length-6 (statements·add-arm-called t) (statements·add-arm-at t) statements·add-arm.Post
-statements·add-arm-same-length-6 t c = search needs
-
-statements·add-arm-same-length-7 : (t : ℕ) → statements·add-arm-lts.Need-same-length-7 (statements·add-arm-called t) (statements·add-arm-at t) statements·add-arm.Post
-statements·add-arm-same-length-7 t c = search needs
+statements·add-arm-add-call-requires t c κs = (omega (arith, c .before .before .before .before .before .before .before .before .pre .0), (c .before .before .before .before .before .before .before .before .pre .1, c .before .before .before .before .if2 .taken))
 
 statements·add-arm-returns-2 : (t : ℕ) → statements·add-arm-lts.Need-returns-2 (statements·add-arm-called t) (statements·add-arm-at t) statements·add-arm.Post
-statements·add-arm-returns-2 t c = c .before .before .before .before .before .before .before .before .add-call .ensures
+statements·add-arm-returns-2 t c = c .add-call .ensures
 
 statements·add-arm-add-holder-requires : (t : ℕ) → statements·add-arm-lts.Need-add-holder-requires (statements·add-arm-called t) (statements·add-arm-at t) statements·add-arm.Post
-statements·add-arm-add-holder-requires t c κs = (omega (arith, c .before .before .before .before .before .before .before .before .before .before .before .before .before .before .before .pre .0), (c .before .before .before .before .before .before .before .before .before .before .before .before .before .before .before .pre .1, holder-kind _ (c .before .before .before .before .before .before .if1 .left) (c .before .before .before .before .if3 .taken)))
+statements·add-arm-add-holder-requires t c κs = (omega (arith, c .before .before .before .before .before .before .before .before .before .pre .0), (c .before .before .before .before .before .before .before .before .before .pre .1, holder-kind _ (c .before .before .before .before .before .before .if1 .left) (c .before .before .before .before .if3 .taken)))
+
+statements·add-arm-returns-3 : (t : ℕ) → statements·add-arm-lts.Need-returns-3 (statements·add-arm-called t) (statements·add-arm-at t) statements·add-arm.Post
+statements·add-arm-returns-3 t c = c .add-holder .ensures
+
+statements·add-arm-add-leaf-requires : (t : ℕ) → statements·add-arm-lts.Need-add-leaf-requires (statements·add-arm-called t) (statements·add-arm-at t) statements·add-arm.Post
+statements·add-arm-add-leaf-requires t c κs = leaf-asks (c .before .before .before .before .before .before .before .before .pre .1) (c .before .before .before .if3 .left) (c .before .before .before .before .if2 .left)
 
 statements·add-arm-mark-statement-requires :
     (t : ℕ) → statements·add-arm-lts.Need-mark-statement-requires (statements·add-arm-called t) (statements·add-arm-at t) statements·add-arm.Post
-statements·add-arm-mark-statement-requires t c κs = mark-asks (c .before .before .before .before .before .before .before .before .before .before .before .before .before .before .before .before .before .before .before .before .before .before .before .before .before .pre .1) _ (c .before .before .before .before .before .before .before .before .before .add-holder .ensures)
-
-statements·add-arm-same-length-8 : (t : ℕ) → statements·add-arm-lts.Need-same-length-8 (statements·add-arm-called t) (statements·add-arm-at t) statements·add-arm.Post
-statements·add-arm-same-length-8 t c = search needs
-
-statements·add-arm-same-length-9 : (t : ℕ) → statements·add-arm-lts.Need-same-length-9 (statements·add-arm-called t) (statements·add-arm-at t) statements·add-arm.Post
-statements·add-arm-same-length-9 t c = search needs
-
-statements·add-arm-same-length-10 : (t : ℕ) → statements·add-arm-lts.Need-same-length-10 (statements·add-arm-called t) (statements·add-arm-at t) statements·add-arm.Post
-statements·add-arm-same-length-10 t c = search needs
-
-statements·add-arm-same-length-11 : (t : ℕ) → statements·add-arm-lts.Need-same-length-11 (statements·add-arm-called t) (statements·add-arm-at t) statements·add-arm.Post
-statements·add-arm-same-length-11 t c = search needs
-
-statements·add-arm-returns-3 : (t : ℕ) → statements·add-arm-lts.Need-returns-3 (statements·add-arm-called t) (statements·add-arm-at t) statements·add-arm.Post
-statements·add-arm-returns-3 t c = mark-ends (c .before .before .before .before .before .before .before .before .before .before .before .before .before .before .before .before .before .before .before .before .before .before .before .before .before .before .before .before .pre .1) (c .before .before .mark-statement .ensures) (c .before .before .before .before .before .before .before .before .before .before .before .before .add-holder .ensures)
-
-statements·add-arm-add-leaf-requires : (t : ℕ) → statements·add-arm-lts.Need-add-leaf-requires (statements·add-arm-called t) (statements·add-arm-at t) statements·add-arm.Post
-statements·add-arm-add-leaf-requires t c κs = leaf-asks (c .before .before .before .before .before .before .before .before .before .before .before .before .before .pre .1) (c .before .before .if3 .left) (c .before .before .before .if2 .left)
-
-statements·add-arm-mark-statement-requires-2 :
-    (t : ℕ) → statements·add-arm-lts.Need-mark-statement-requires-2 (statements·add-arm-called t) (statements·add-arm-at t) statements·add-arm.Post
-statements·add-arm-mark-statement-requires-2 t c κs = mark-asks (c .before .before .before .before .before .before .before .before .before .before .before .before .before .before .before .before .before .before .before .pre .1) _ (leaf-ends (c .before .before .before .before .before .before .before .before .before .before .before .before .before .before .before .before .before .before .before .pre .1) _ (c .before .before .before .before .before .add-leaf .ensures))
-
-statements·add-arm-same-length-12 : (t : ℕ) → statements·add-arm-lts.Need-same-length-12 (statements·add-arm-called t) (statements·add-arm-at t) statements·add-arm.Post
-statements·add-arm-same-length-12 t c = search needs
-
-statements·add-arm-same-length-13 : (t : ℕ) → statements·add-arm-lts.Need-same-length-13 (statements·add-arm-called t) (statements·add-arm-at t) statements·add-arm.Post
-statements·add-arm-same-length-13 t c = search needs
-
-statements·add-arm-same-length-14 : (t : ℕ) → statements·add-arm-lts.Need-same-length-14 (statements·add-arm-called t) (statements·add-arm-at t) statements·add-arm.Post
-statements·add-arm-same-length-14 t c = search needs
+statements·add-arm-mark-statement-requires t c κs = mark-asks (c .before .before .before .before .before .before .before .before .before .before .before .before .pre .1) _ (leaf-ends (c .before .before .before .before .before .before .before .before .before .before .before .before .pre .1) _ (c .before .before .before .add-leaf .ensures))
 
 statements·add-arm-returns-4 : (t : ℕ) → statements·add-arm-lts.Need-returns-4 (statements·add-arm-called t) (statements·add-arm-at t) statements·add-arm.Post
-statements·add-arm-returns-4 t c = mark-ends (c .before .before .before .before .before .before .before .before .before .before .before .before .before .before .before .before .before .before .before .before .before .before .pre .1) (c .before .before .mark-statement2 .ensures) (leaf-ends (c .before .before .before .before .before .before .before .before .before .before .before .before .before .before .before .before .before .before .before .before .before .before .pre .1) _ (c .before .before .before .before .before .before .before .before .add-leaf .ensures))
+statements·add-arm-returns-4 t c = mark-ends (c .before .before .before .before .before .before .before .before .before .before .before .before .before .pre .1) (c .mark-statement .ensures) (leaf-ends (c .before .before .before .before .before .before .before .before .before .before .before .before .before .pre .1) _ (c .before .before .before .before .add-leaf .ensures))
 
 statements·add-holder-add-nested-requires :
     (t : ℕ) → statements·add-holder-lts.Need-add-nested-requires (statements·add-holder-called t) (statements·add-holder-at t) statements·add-holder.Post
-statements·add-holder-add-nested-requires t c κs = (omega (arith, c .before .before .before .before .before .before .before .before .before .before .before .before .before .pre .0), (c .before .before .before .before .before .before .before .before .before .before .before .before .before .pre .1 .0, c .before .before .before .before .if1 .taken))
+statements·add-holder-add-nested-requires t c κs = (omega (arith, c .before .before .before .before .before .before .before .pre .0), (c .before .before .before .before .before .before .before .pre .1 .0, c .before .before .before .before .if1 .taken))
 
-statements·add-holder-same-length : (t : ℕ) → statements·add-holder-lts.Need-same-length (statements·add-holder-called t) (statements·add-holder-at t) statements·add-holder.Post
-statements·add-holder-same-length t c = search needs
-
-statements·add-holder-same-length-2 : (t : ℕ) → statements·add-holder-lts.Need-same-length-2 (statements·add-holder-called t) (statements·add-holder-at t) statements·add-holder.Post
-statements·add-holder-same-length-2 t c = search needs
-
-statements·add-holder-same-length-3 : (t : ℕ) → statements·add-holder-lts.Need-same-length-3 (statements·add-holder-called t) (statements·add-holder-at t) statements·add-holder.Post
-statements·add-holder-same-length-3 t c = search needs
-
-statements·add-holder-same-length-4 : (t : ℕ) → statements·add-holder-lts.Need-same-length-4 (statements·add-holder-called t) (statements·add-holder-at t) statements·add-holder.Post
-statements·add-holder-same-length-4 t c = search needs
+statements·add-holder-mark-statement-requires :
+    (t : ℕ) → statements·add-holder-lts.Need-mark-statement-requires (statements·add-holder-called t) (statements·add-holder-at t) statements·add-holder.Post
+statements·add-holder-mark-statement-requires t c κs = mark-asks (c .before .before .before .before .before .before .before .before .before .before .before .pre .1 .0) _ (nested-arm (c .before .before .before .before .before .before .before .before .before .before .before .pre .1 .0) (c .before .before .before .before .before .before .before .before .if1 .taken) (c .before .before .before .add-nested .ensures))
 
 statements·add-holder-returns : (t : ℕ) → statements·add-holder-lts.Need-returns (statements·add-holder-called t) (statements·add-holder-at t) statements·add-holder.Post
-statements·add-holder-returns t c = nested-arm (c .before .before .before .before .before .before .before .before .before .before .before .before .before .before .before .before .before .before .before .before .before .before .pre .1 .0) (c .before .before .before .before .before .before .before .before .before .before .before .before .before .if1 .taken) (c .before .before .before .before .before .before .before .before .add-nested .ensures)
+statements·add-holder-returns t c = mark-ends (c .before .before .before .before .before .before .before .before .before .before .before .before .pre .1 .0) (c .mark-statement .ensures) (nested-arm (c .before .before .before .before .before .before .before .before .before .before .before .before .pre .1 .0) (c .before .before .before .before .before .before .before .before .before .if1 .taken) (c .before .before .before .before .add-nested .ensures))
 
 statements·add-holder-add-if-requires : (t : ℕ) → statements·add-holder-lts.Need-add-if-requires (statements·add-holder-called t) (statements·add-holder-at t) statements·add-holder.Post
-statements·add-holder-add-if-requires t c κs = (omega (arith, c .before .before .before .before .before .before .before .before .before .before .before .before .before .before .pre .0), (c .before .before .before .before .before .before .before .before .before .before .before .before .before .before .pre .1 .0, c .before .before .before .before .if2 .taken))
+statements·add-holder-add-if-requires t c κs = (omega (arith, c .before .before .before .before .before .before .before .before .pre .0), (c .before .before .before .before .before .before .before .before .pre .1 .0, c .before .before .before .before .if2 .taken))
 
-statements·add-holder-same-length-5 : (t : ℕ) → statements·add-holder-lts.Need-same-length-5 (statements·add-holder-called t) (statements·add-holder-at t) statements·add-holder.Post
-statements·add-holder-same-length-5 t c = search needs
-
-statements·add-holder-same-length-6 : (t : ℕ) → statements·add-holder-lts.Need-same-length-6 (statements·add-holder-called t) (statements·add-holder-at t) statements·add-holder.Post
-statements·add-holder-same-length-6 t c = search needs
-
-statements·add-holder-same-length-7 : (t : ℕ) → statements·add-holder-lts.Need-same-length-7 (statements·add-holder-called t) (statements·add-holder-at t) statements·add-holder.Post
-statements·add-holder-same-length-7 t c = search needs
-
-statements·add-holder-same-length-8 : (t : ℕ) → statements·add-holder-lts.Need-same-length-8 (statements·add-holder-called t) (statements·add-holder-at t) statements·add-holder.Post
-statements·add-holder-same-length-8 t c = search needs
+statements·add-holder-mark-statement-requires-2 :
+    (t : ℕ) → statements·add-holder-lts.Need-mark-statement-requires-2 (statements·add-holder-called t) (statements·add-holder-at t) statements·add-holder.Post
+statements·add-holder-mark-statement-requires-2 t c κs = mark-asks (c .before .before .before .before .before .before .before .before .before .before .before .before .pre .1 .0) _ (if-arm (c .before .before .before .before .before .before .before .before .before .before .before .before .pre .1 .0) (c .before .before .before .before .before .before .before .before .if2 .taken) (c .before .before .before .add-if .ensures))
 
 statements·add-holder-returns-2 : (t : ℕ) → statements·add-holder-lts.Need-returns-2 (statements·add-holder-called t) (statements·add-holder-at t) statements·add-holder.Post
-statements·add-holder-returns-2 t c = if-arm (c .before .before .before .before .before .before .before .before .before .before .before .before .before .before .before .before .before .before .before .before .before .before .before .pre .1 .0) (c .before .before .before .before .before .before .before .before .before .before .before .before .before .if2 .taken) (c .before .before .before .before .before .before .before .before .add-if .ensures)
+statements·add-holder-returns-2 t c = mark-ends (c .before .before .before .before .before .before .before .before .before .before .before .before .before .pre .1 .0) (c .mark-statement2 .ensures) (if-arm (c .before .before .before .before .before .before .before .before .before .before .before .before .before .pre .1 .0) (c .before .before .before .before .before .before .before .before .before .if2 .taken) (c .before .before .before .before .add-if .ensures))
 
 statements·add-holder-add-switch-requires :
     (t : ℕ) → statements·add-holder-lts.Need-add-switch-requires (statements·add-holder-called t) (statements·add-holder-at t) statements·add-holder.Post
-statements·add-holder-add-switch-requires t c κs = (omega (arith, c .before .before .before .before .before .before .before .before .before .before .before .before .before .before .before .pre .0), (c .before .before .before .before .before .before .before .before .before .before .before .before .before .before .before .pre .1 .0, c .before .before .before .before .if3 .taken))
+statements·add-holder-add-switch-requires t c κs = (omega (arith, c .before .before .before .before .before .before .before .before .before .pre .0), (c .before .before .before .before .before .before .before .before .before .pre .1 .0, c .before .before .before .before .if3 .taken))
 
-statements·add-holder-same-length-9 : (t : ℕ) → statements·add-holder-lts.Need-same-length-9 (statements·add-holder-called t) (statements·add-holder-at t) statements·add-holder.Post
-statements·add-holder-same-length-9 t c = search needs
-
-statements·add-holder-same-length-10 : (t : ℕ) → statements·add-holder-lts.Need-same-length-10 (statements·add-holder-called t) (statements·add-holder-at t) statements·add-holder.Post
-statements·add-holder-same-length-10 t c = search needs
-
-statements·add-holder-same-length-11 : (t : ℕ) → statements·add-holder-lts.Need-same-length-11 (statements·add-holder-called t) (statements·add-holder-at t) statements·add-holder.Post
-statements·add-holder-same-length-11 t c = search needs
-
-statements·add-holder-same-length-12 : (t : ℕ) → statements·add-holder-lts.Need-same-length-12 (statements·add-holder-called t) (statements·add-holder-at t) statements·add-holder.Post
-statements·add-holder-same-length-12 t c = search needs
+statements·add-holder-mark-statement-requires-3 :
+    (t : ℕ) → statements·add-holder-lts.Need-mark-statement-requires-3 (statements·add-holder-called t) (statements·add-holder-at t) statements·add-holder.Post
+statements·add-holder-mark-statement-requires-3 t c κs = mark-asks (c .before .before .before .before .before .before .before .before .before .before .before .before .before .pre .1 .0) _ (switch-arm (c .before .before .before .before .before .before .before .before .before .before .before .before .before .pre .1 .0) (c .before .before .before .before .before .before .before .before .if3 .taken) (c .before .before .before .add-switch .ensures))
 
 statements·add-holder-returns-3 : (t : ℕ) → statements·add-holder-lts.Need-returns-3 (statements·add-holder-called t) (statements·add-holder-at t) statements·add-holder.Post
-statements·add-holder-returns-3 t c = switch-arm (c .before .before .before .before .before .before .before .before .before .before .before .before .before .before .before .before .before .before .before .before .before .before .before .before .pre .1 .0) (c .before .before .before .before .before .before .before .before .before .before .before .before .before .if3 .taken) (c .before .before .before .before .before .before .before .before .add-switch .ensures)
+statements·add-holder-returns-3 t c = mark-ends (c .before .before .before .before .before .before .before .before .before .before .before .before .before .before .pre .1 .0) (c .mark-statement3 .ensures) (switch-arm (c .before .before .before .before .before .before .before .before .before .before .before .before .before .before .pre .1 .0) (c .before .before .before .before .before .before .before .before .before .if3 .taken) (c .before .before .before .before .add-switch .ensures))
 
 statements·add-holder-add-loop-requires :
     (t : ℕ) → statements·add-holder-lts.Need-add-loop-requires (statements·add-holder-called t) (statements·add-holder-at t) statements·add-holder.Post
-statements·add-holder-add-loop-requires t c κs = (omega (arith, c .before .before .before .before .before .before .before .before .before .before .before .before .before .before .before .pre .0), (c .before .before .before .before .before .before .before .before .before .before .before .before .before .before .before .pre .1 .0, loop-kind _ (c .before .before .before .before .before .before .before .before .before .before .before .before .before .before .before .pre .1 .1) (c .before .before .before .before .before .before .if1 .left) (c .before .before .before .before .before .if2 .left) (c .before .before .before .before .if3 .left)))
+statements·add-holder-add-loop-requires t c κs = (omega (arith, c .before .before .before .before .before .before .before .before .before .pre .0), (c .before .before .before .before .before .before .before .before .before .pre .1 .0, loop-kind _ (c .before .before .before .before .before .before .before .before .before .pre .1 .1) (c .before .before .before .before .before .before .if1 .left) (c .before .before .before .before .before .if2 .left) (c .before .before .before .before .if3 .left)))
 
-statements·add-holder-same-length-13 : (t : ℕ) → statements·add-holder-lts.Need-same-length-13 (statements·add-holder-called t) (statements·add-holder-at t) statements·add-holder.Post
-statements·add-holder-same-length-13 t c = search needs
-
-statements·add-holder-same-length-14 : (t : ℕ) → statements·add-holder-lts.Need-same-length-14 (statements·add-holder-called t) (statements·add-holder-at t) statements·add-holder.Post
-statements·add-holder-same-length-14 t c = search needs
-
-statements·add-holder-same-length-15 : (t : ℕ) → statements·add-holder-lts.Need-same-length-15 (statements·add-holder-called t) (statements·add-holder-at t) statements·add-holder.Post
-statements·add-holder-same-length-15 t c = search needs
-
-statements·add-holder-same-length-16 : (t : ℕ) → statements·add-holder-lts.Need-same-length-16 (statements·add-holder-called t) (statements·add-holder-at t) statements·add-holder.Post
-statements·add-holder-same-length-16 t c = search needs
+statements·add-holder-mark-statement-requires-4 :
+    (t : ℕ) → statements·add-holder-lts.Need-mark-statement-requires-4 (statements·add-holder-called t) (statements·add-holder-at t) statements·add-holder.Post
+statements·add-holder-mark-statement-requires-4 t c κs = mark-asks (c .before .before .before .before .before .before .before .before .before .before .before .before .before .pre .1 .0) _ (loop-arm (c .before .before .before .before .before .before .before .before .before .before .before .before .before .pre .1 .0) (loop-kind _ (c .before .before .before .before .before .before .before .before .before .before .before .before .before .pre .1 .1) (c .before .before .before .before .before .before .before .before .before .before .if1 .left) (c .before .before .before .before .before .before .before .before .before .if2 .left) (c .before .before .before .before .before .before .before .before .if3 .left)) (c .before .before .before .add-loop .ensures))
 
 statements·add-holder-returns-4 : (t : ℕ) → statements·add-holder-lts.Need-returns-4 (statements·add-holder-called t) (statements·add-holder-at t) statements·add-holder.Post
-statements·add-holder-returns-4 t c = loop-arm (c .before .before .before .before .before .before .before .before .before .before .before .before .before .before .before .before .before .before .before .before .before .before .before .before .pre .1 .0) (loop-kind _ (c .before .before .before .before .before .before .before .before .before .before .before .before .before .before .before .before .before .before .before .before .before .before .before .before .pre .1 .1) (c .before .before .before .before .before .before .before .before .before .before .before .before .before .before .before .if1 .left) (c .before .before .before .before .before .before .before .before .before .before .before .before .before .before .if2 .left) (c .before .before .before .before .before .before .before .before .before .before .before .before .before .if3 .left)) (c .before .before .before .before .before .before .before .before .add-loop .ensures)
+statements·add-holder-returns-4 t c = mark-ends (c .before .before .before .before .before .before .before .before .before .before .before .before .before .before .pre .1 .0) (c .mark-statement4 .ensures) (loop-arm (c .before .before .before .before .before .before .before .before .before .before .before .before .before .before .pre .1 .0) (loop-kind _ (c .before .before .before .before .before .before .before .before .before .before .before .before .before .before .pre .1 .1) (c .before .before .before .before .before .before .before .before .before .before .before .if1 .left) (c .before .before .before .before .before .before .before .before .before .before .if2 .left) (c .before .before .before .before .before .before .before .before .before .if3 .left)) (c .before .before .before .before .add-loop .ensures))
 
 statements·add-statement-returns : (t : ℕ) → statements·add-statement-lts.Need-returns (statements·add-statement-called t) (statements·add-statement-at t) statements·add-statement.Post
-statements·add-statement-returns t c = visit-17 (c .before .before .before .before .before .before .before .before .before .before .pre .1) (c .if1 .taken)
+statements·add-statement-returns t c = visit-17 (c .before .before .before .before .pre .1) (c .if1 .taken)
 
 statements·add-statement-allowed-requires :
     (t : ℕ) → statements·add-statement-lts.Need-allowed-requires (statements·add-statement-called t) (statements·add-statement-at t) statements·add-statement.Post
-statements·add-statement-allowed-requires t c κs = visit-counting (c .before .before .before .before .before .before .before .before .before .before .before .before .pre .1)
-
-statements·add-statement-same-length : (t : ℕ) → statements·add-statement-lts.Need-same-length (statements·add-statement-called t) (statements·add-statement-at t) statements·add-statement.Post
-statements·add-statement-same-length t c = search needs
-
-statements·add-statement-same-length-2 : (t : ℕ) → statements·add-statement-lts.Need-same-length-2 (statements·add-statement-called t) (statements·add-statement-at t) statements·add-statement.Post
-statements·add-statement-same-length-2 t c = search needs
+statements·add-statement-allowed-requires t c κs = visit-counting (c .before .before .before .before .before .before .pre .1)
 
 statements·add-statement-returns-2 : (t : ℕ) → statements·add-statement-lts.Need-returns-2 (statements·add-statement-called t) (statements·add-statement-at t) statements·add-statement.Post
-statements·add-statement-returns-2 t c = visit-16 (c .before .before .before .before .before .before .before .before .before .before .before .before .before .before .before .before .before .before .pre .1) (c .before .before .before .before .before .before .before .before .if1 .left) (c .before .before .before .before .before .allowed .ensures) (not-true _ (c .if2 .taken))
+statements·add-statement-returns-2 t c = visit-16 (c .before .before .before .before .before .before .before .before .pre .1) (c .before .before .before .before .if1 .left) (c .before .allowed .ensures) (not-true _ (c .if2 .taken))
 
 statements·add-statement-statement-requires :
     (t : ℕ) → statements·add-statement-lts.Need-statement-requires (statements·add-statement-called t) (statements·add-statement-at t) statements·add-statement.Post
 statements·add-statement-statement-requires t c κs = search needs
 
 statements·add-statement-add-add-arm : (t : ℕ) → statements·add-statement-lts.Need-add-add-arm (statements·add-statement-called t) (statements·add-statement-at t) statements·add-statement.Post
-statements·add-statement-add-add-arm t c = omega (arith, c .before .before .before .before .before .before .before .before .before .before .before .before .before .if1 .left)
+statements·add-statement-add-add-arm t c = omega (arith, c .before .before .before .before .before .before .before .before .before .before .if1 .left)
 
 statements·add-statement-add-arm-requires :
     (t : ℕ) → statements·add-statement-lts.Need-add-arm-requires (statements·add-statement-called t) (statements·add-statement-at t) statements·add-statement.Post
-statements·add-statement-add-arm-requires t c κs = (omega (arith, c .before .before .before .before .before .before .before .before .before .before .before .before .before .before .before .before .before .before .before .before .before .before .before .pre .0), visit-arms (c .before .before .before .before .before .before .before .before .before .before .before .before .before .before .before .before .before .before .before .before .before .before .before .pre .1) (c .before .before .before .before .before .before .before .before .before .before .before .before .before .if1 .left) (c .before .before .before .before .before .before .before .before .before .before .allowed .ensures) (not-false _ (c .before .before .before .before .before .if2 .left)) _ (c .before .before .before .before .statement .ensures))
+statements·add-statement-add-arm-requires t c κs = (omega (arith, c .before .before .before .before .before .before .before .before .before .before .before .before .before .before .pre .0), visit-arms (c .before .before .before .before .before .before .before .before .before .before .before .before .before .before .pre .1) (c .before .before .before .before .before .before .before .before .before .before .if1 .left) (c .before .before .before .before .before .before .before .allowed .ensures) (not-false _ (c .before .before .before .before .before .before .if2 .left)) _ (c .before .before .before .before .statement .ensures))
 
 statements·add-statement-end-statement-requires :
     (t : ℕ) → statements·add-statement-lts.Need-end-statement-requires (statements·add-statement-called t) (statements·add-statement-at t) statements·add-statement.Post
-statements·add-statement-end-statement-requires t c κs = last-asks _ (c .before .before .before .before .before .before .before .before .before .before .add-arm .ensures)
-
-statements·add-statement-same-length-3 : (t : ℕ) → statements·add-statement-lts.Need-same-length-3 (statements·add-statement-called t) (statements·add-statement-at t) statements·add-statement.Post
-statements·add-statement-same-length-3 t c = search needs
-
-statements·add-statement-same-length-4 : (t : ℕ) → statements·add-statement-lts.Need-same-length-4 (statements·add-statement-called t) (statements·add-statement-at t) statements·add-statement.Post
-statements·add-statement-same-length-4 t c = search needs
-
-statements·add-statement-same-length-5 : (t : ℕ) → statements·add-statement-lts.Need-same-length-5 (statements·add-statement-called t) (statements·add-statement-at t) statements·add-statement.Post
-statements·add-statement-same-length-5 t c = search needs
-
-statements·add-statement-same-length-6 : (t : ℕ) → statements·add-statement-lts.Need-same-length-6 (statements·add-statement-called t) (statements·add-statement-at t) statements·add-statement.Post
-statements·add-statement-same-length-6 t c = search needs
+statements·add-statement-end-statement-requires t c κs = last-asks _ (c .before .before .add-arm .ensures)
 
 statements·add-statement-returns-3 : (t : ℕ) → statements·add-statement-lts.Need-returns-3 (statements·add-statement-called t) (statements·add-statement-at t) statements·add-statement.Post
-statements·add-statement-returns-3 t c = visit-ends (c .before .before .before .before .before .before .before .before .before .before .before .before .before .before .before .before .before .before .before .before .before .before .before .before .before .before .before .before .before .before .before .before .before .before .before .before .before .before .before .pre .1) (c .before .before .before .before .before .before .before .before .before .before .before .before .before .before .before .before .before .before .before .before .before .before .before .before .before .before .before .before .before .if1 .left) (c .before .before .before .before .before .before .before .before .before .before .before .before .before .before .before .before .before .before .before .before .before .before .before .before .before .before .allowed .ensures) (not-false _ (c .before .before .before .before .before .before .before .before .before .before .before .before .before .before .before .before .before .before .before .before .before .if2 .left)) _ _ (c .before .before .before .before .before .before .before .before .before .before .before .before .before .before .before .before .before .before .before .before .statement .ensures) (c .before .before .before .before .before .before .before .before .before .before .before .before .before .before .before .add-arm .ensures) (c .before .before .before .before .end-statement .ensures)
+statements·add-statement-returns-3 t c = visit-ends (c .before .before .before .before .before .before .before .before .before .before .before .before .before .before .before .before .before .before .pre .1) (c .before .before .before .before .before .before .before .before .before .before .before .before .before .before .if1 .left) (c .before .before .before .before .before .before .before .before .before .before .before .allowed .ensures) (not-false _ (c .before .before .before .before .before .before .before .before .before .before .if2 .left)) _ _ (c .before .before .before .before .before .before .before .before .statement .ensures) (c .before .before .before .add-arm .ensures) (c .end-statement .ensures)
 
 abbrev switch·add-switch-Inv-loop : switch·add-switch-lts.InvT-loop
-switch·add-switch-Inv-loop bytes t types places cells₀ slots₀ open₀ totals₀ fr row visits sum f at outside v₀ m₀ any₀ n₀ cells slots «open» totals v m any n = CasesGo bytes t types places cells₀ slots₀ open₀ totals₀ fr row sum visits outside n any m v cells slots «open» totals × ((length cells ≡ length cells₀) × ((length slots ≡ length slots₀) × ((length «open» ≡ length open₀) × (length totals ≡ length totals₀))))
+switch·add-switch-Inv-loop bytes t types places cells₀ slots₀ open₀ totals₀ fr row visits sum f at outside v₀ m₀ any₀ n₀ cells slots «open» totals v m any n = CasesGo bytes t types places cells₀ slots₀ open₀ totals₀ fr row sum visits outside n any m v cells slots «open» totals
 
 abbrev switch·add-switch-μ-loop : switch·add-switch-lts.MeasureT-loop
 switch·add-switch-μ-loop bytes t types places cells₀ slots₀ open₀ totals₀ fr row visits sum f at outside v₀ m₀ any₀ n₀ cells slots «open» totals v m any n = n
@@ -1206,21 +846,21 @@ switch·add-switch-weigh-requires : (t : ℕ) → switch·add-switch-lts.Need-we
     switch·add-switch.Post
     switch·add-switch-Inv-loop
     switch·add-switch-μ-loop
-switch·add-switch-weigh-requires t c κs = weigh-asks (c .before .before .before .before .before .before .before .before .before .before .before .pre .1 .0 .begins .standing)
+switch·add-switch-weigh-requires t c κs = weigh-asks (c .before .before .before .before .before .before .before .pre .1 .0 .begins .standing)
 
 switch·add-switch-add-outside : (t : ℕ) → switch·add-switch-lts.Need-add-outside (switch·add-switch-called t)
     (switch·add-switch-at t)
     switch·add-switch.Post
     switch·add-switch-Inv-loop
     switch·add-switch-μ-loop
-switch·add-switch-add-outside t c = omega (arith, outside-few (c .before .before .before .before .before .before .before .before .before .before .before .before .before .pre .1 .0) (c .before .weigh .ensures))
+switch·add-switch-add-outside t c = omega (arith, outside-few (c .before .before .before .before .before .before .before .before .before .pre .1 .0) (c .before .weigh .ensures))
 
 switch·add-switch-add-copy-context : (t : ℕ) → switch·add-switch-lts.Need-add-copy-context (switch·add-switch-called t)
     (switch·add-switch-at t)
     switch·add-switch.Post
     switch·add-switch-Inv-loop
     switch·add-switch-μ-loop
-switch·add-switch-add-copy-context t c = search needs
+switch·add-switch-add-copy-context t c = omega (arith, copy-asks (c .before .before .before .before .before .before .before .before .before .before .pre .1 .0) .1, c .before .before .before .weigh-arg4 .given .0)
 
 switch·add-switch-copy-context-requires :
     (t : ℕ) → switch·add-switch-lts.Need-copy-context-requires (switch·add-switch-called t)
@@ -1228,7 +868,7 @@ switch·add-switch-copy-context-requires :
     switch·add-switch.Post
     switch·add-switch-Inv-loop
     switch·add-switch-μ-loop
-switch·add-switch-copy-context-requires t c κs = copy-asks (c .before .before .before .before .before .before .before .before .before .before .before .before .before .before .pre .1 .0)
+switch·add-switch-copy-context-requires t c κs = copy-asks (c .before .before .before .before .before .before .before .before .before .before .pre .1 .0)
 
 switch·add-switch-operand-requires : (t : ℕ) → switch·add-switch-lts.Need-operand-requires (switch·add-switch-called t)
     (switch·add-switch-at t)
@@ -1242,7 +882,7 @@ switch·add-switch-loop-holds : (t : ℕ) → switch·add-switch-lts.Need-loop-h
     switch·add-switch.Post
     switch·add-switch-Inv-loop
     switch·add-switch-μ-loop
-switch·add-switch-loop-holds t c = (cases-begin (c .operand .ensures), (refl, (refl, (refl, refl))))
+switch·add-switch-loop-holds t c = cases-begin (c .operand .ensures)
 
 switch·add-switch-sub-k : (t : ℕ) → switch·add-switch-lts.Need-sub-k (switch·add-switch-called t)
     (switch·add-switch-at t)
@@ -1263,35 +903,35 @@ switch·add-switch-add-weigh : (t : ℕ) → switch·add-switch-lts.Need-add-wei
     switch·add-switch.Post
     switch·add-switch-Inv-loop
     switch·add-switch-μ-loop
-switch·add-switch-add-weigh t c = omega (arith, copy-asks (c .before .before .before .before .before .before .before .before .before .before .before .before .before .before .before .before .before .before .before .before .before .before .before .pre .1 .0) .1, c .before .before .before .before .before .before .before .before .before .before .before .before .before .before .before .before .before .before .before .before .before .before .before .good .1 .1 .1 .1 .1 .0 .0)
+switch·add-switch-add-weigh t c = omega (arith, copy-asks (c .before .before .before .before .before .before .before .before .before .before .before .before .before .before .before .before .before .before .before .pre .1 .0) .1, c .before .before .before .before .before .before .before .before .before .before .before .before .weigh-arg4 .given .0)
 
 switch·add-switch-weigh-requires-2 : (t : ℕ) → switch·add-switch-lts.Need-weigh-requires-2 (switch·add-switch-called t)
     (switch·add-switch-at t)
     switch·add-switch.Post
     switch·add-switch-Inv-loop
     switch·add-switch-μ-loop
-switch·add-switch-weigh-requires-2 t c κs = weigh-asks (c .before .before .before .before .loop .inv .0 .by _ _ (began (c .before .before .before .before .before .before .before .before .before .before .before .before .before .before .before .before .before .before .before .before .before .before .before .pre .1 .0) (c .before .before .before .before .before .before .before .before .before .before .before .before .before .before .before .before .before .before .before .before .before .before .before .pre .1 .1) (c .before .before .before .before .before .before .before .before .copy-context .ensures) (c .before .before .before .before .before .before .before .before .before .before .before .weigh .ensures)) .switched .standing)
+switch·add-switch-weigh-requires-2 t c κs = weigh-asks (c .before .before .before .before .before .before .loop .inv .by _ _ (began (c .before .before .before .before .before .before .before .before .before .before .before .before .before .before .before .before .before .before .before .pre .1 .0) (c .before .before .before .before .before .before .before .before .before .before .before .before .before .before .before .before .before .before .before .pre .1 .1) (c .before .before .before .before .before .before .before .before .copy-context .ensures) (c .before .before .before .before .before .before .before .before .before .before .before .weigh .ensures)) .switched .standing)
 
 switch·add-switch-add-held : (t : ℕ) → switch·add-switch-lts.Need-add-held (switch·add-switch-called t)
     (switch·add-switch-at t)
     switch·add-switch.Post
     switch·add-switch-Inv-loop
     switch·add-switch-μ-loop
-switch·add-switch-add-held t c = let G = began (c .before .before .before .before .before .before .before .before .before .before .before .before .before .before .before .before .before .before .before .before .before .before .before .before .pre .1 .0) (c .before .before .before .before .before .before .before .before .before .before .before .before .before .before .before .before .before .before .before .before .before .before .before .before .pre .1 .1) (c .before .before .before .before .before .before .before .before .before .copy-context .ensures) (c .before .before .before .before .before .before .before .before .before .before .before .before .weigh .ensures) in omega (arith, held-fits (c .before .before .before .before .before .before .before .before .before .before .before .before .before .before .before .before .before .before .before .before .before .before .before .before .pre .1 .0) (c .before .before .before .before .before .loop .inv .0 .by _ _ G) (c .before .before .before .before .before .before .before .before .before .before .before .before .before .before .before .before .before .before .before .before .before .before .before .before .pre .1 .1) (G .outside-is) (c .weigh2 .ensures))
+switch·add-switch-add-held t c = let G = began (c .before .before .before .before .before .before .before .before .before .before .before .before .before .before .before .before .before .before .before .before .pre .1 .0) (c .before .before .before .before .before .before .before .before .before .before .before .before .before .before .before .before .before .before .before .before .pre .1 .1) (c .before .before .before .before .before .before .before .before .before .copy-context .ensures) (c .before .before .before .before .before .before .before .before .before .before .before .before .weigh .ensures) in omega (arith, held-fits (c .before .before .before .before .before .before .before .before .before .before .before .before .before .before .before .before .before .before .before .before .pre .1 .0) (c .before .before .before .before .before .before .before .loop .inv .by _ _ G) (c .before .before .before .before .before .before .before .before .before .before .before .before .before .before .before .before .before .before .before .before .pre .1 .1) (G .outside-is) (c .weigh2 .ensures))
 
 switch·add-switch-add-add-block : (t : ℕ) → switch·add-switch-lts.Need-add-add-block (switch·add-switch-called t)
     (switch·add-switch-at t)
     switch·add-switch.Post
     switch·add-switch-Inv-loop
     switch·add-switch-μ-loop
-switch·add-switch-add-add-block t c = omega (arith, copy-asks (c .before .before .before .before .before .before .before .before .before .before .before .before .before .before .before .before .before .before .before .before .before .before .before .before .before .before .before .before .pre .1 .0) .1, c .before .before .before .before .before .before .before .before .before .before .before .before .before .before .before .before .before .before .before .before .before .before .before .before .before .before .before .before .good .1 .1 .1 .1 .1 .0 .0)
+switch·add-switch-add-add-block t c = omega (arith, copy-asks (c .before .before .before .before .before .before .before .before .before .before .before .before .before .before .before .before .before .before .before .before .before .before .before .before .pre .1 .0) .1, c .before .before .before .before .before .before .before .before .before .before .before .before .before .before .before .before .before .weigh-arg4 .given .0)
 
 switch·add-switch-add-block-requires : (t : ℕ) → switch·add-switch-lts.Need-add-block-requires (switch·add-switch-called t)
     (switch·add-switch-at t)
     switch·add-switch.Post
     switch·add-switch-Inv-loop
     switch·add-switch-μ-loop
-switch·add-switch-add-block-requires t c κs = let G = began (c .before .before .before .before .before .before .before .before .before .before .before .before .before .before .before .before .before .before .before .before .before .before .before .before .before .before .before .before .pre .1 .0) (c .before .before .before .before .before .before .before .before .before .before .before .before .before .before .before .before .before .before .before .before .before .before .before .before .before .before .before .before .pre .1 .1) (c .before .before .before .before .before .before .before .before .before .before .before .before .before .copy-context .ensures) (c .before .before .before .before .before .before .before .before .before .before .before .before .before .before .before .before .weigh .ensures) in (omega (arith, c .before .before .before .before .before .before .before .before .before .before .before .before .before .before .before .before .before .before .before .before .before .before .before .before .before .before .before .before .pre .0, body-lower (c .before .before .before .before .before .before .before .before .before .before .before .before .before .before .before .before .before .before .before .before .before .before .before .before .before .before .before .before .pre .1 .0) (c .before .before .before .before .before .before .before .before .before .loop .inv .0 .by _ _ G) (c .before .before .before .before .before .before .before .before .before .before .before .before .before .before .before .before .before .before .before .before .before .before .before .before .before .before .before .before .pre .1 .1) (G .outside-is) (c .before .before .before .before .weigh2 .ensures) (c .before .before .before .before .before .before .before .case-body .ensures) (omega (arith, c .before .before .before .before .before .before .before .before .loop-test .taken))), case-enters (c .before .before .before .before .before .before .before .before .before .before .before .before .before .before .before .before .before .before .before .before .before .before .before .before .before .before .before .before .pre .1 .0) (c .before .before .before .before .before .before .before .before .before .loop .inv .0 .by _ _ G) (c .before .before .before .before .before .before .before .before .before .before .before .before .before .before .before .before .before .before .before .before .before .before .before .before .before .before .before .before .pre .1 .1) (G .outside-is) (c .before .before .before .before .weigh2 .ensures) (c .before .before .before .before .before .before .before .case-body .ensures) (omega (arith, c .before .before .before .before .before .before .before .before .loop-test .taken)))
+switch·add-switch-add-block-requires t c κs = let G = began (c .before .before .before .before .before .before .before .before .before .before .before .before .before .before .before .before .before .before .before .before .before .before .before .before .pre .1 .0) (c .before .before .before .before .before .before .before .before .before .before .before .before .before .before .before .before .before .before .before .before .before .before .before .before .pre .1 .1) (c .before .before .before .before .before .before .before .before .before .before .before .before .before .copy-context .ensures) (c .before .before .before .before .before .before .before .before .before .before .before .before .before .before .before .before .weigh .ensures) in (omega (arith, c .before .before .before .before .before .before .before .before .before .before .before .before .before .before .before .before .before .before .before .before .before .before .before .before .pre .0, body-lower (c .before .before .before .before .before .before .before .before .before .before .before .before .before .before .before .before .before .before .before .before .before .before .before .before .pre .1 .0) (c .before .before .before .before .before .before .before .before .before .before .before .loop .inv .by _ _ G) (c .before .before .before .before .before .before .before .before .before .before .before .before .before .before .before .before .before .before .before .before .before .before .before .before .pre .1 .1) (G .outside-is) (c .before .before .before .before .weigh2 .ensures) (c .before .before .before .before .before .before .before .before .before .case-body .ensures) (omega (arith, c .before .before .before .before .before .before .before .before .before .before .loop-test .taken))), case-enters (c .before .before .before .before .before .before .before .before .before .before .before .before .before .before .before .before .before .before .before .before .before .before .before .before .pre .1 .0) (c .before .before .before .before .before .before .before .before .before .before .before .loop .inv .by _ _ G) (c .before .before .before .before .before .before .before .before .before .before .before .before .before .before .before .before .before .before .before .before .before .before .before .before .pre .1 .1) (G .outside-is) (c .before .before .before .before .weigh2 .ensures) (c .before .before .before .before .before .before .before .before .before .case-body .ensures) (omega (arith, c .before .before .before .before .before .before .before .before .before .before .loop-test .taken)))
 
 switch·add-switch-enum-known-number : (t : ℕ) → switch·add-switch-lts.Need-enum-known-number (switch·add-switch-called t)
     (switch·add-switch-at t)
@@ -1300,40 +940,12 @@ switch·add-switch-enum-known-number : (t : ℕ) → switch·add-switch-lts.Need
     switch·add-switch-μ-loop
 switch·add-switch-enum-known-number t c = search needs
 
-switch·add-switch-same-length : (t : ℕ) → switch·add-switch-lts.Need-same-length (switch·add-switch-called t)
-    (switch·add-switch-at t)
-    switch·add-switch.Post
-    switch·add-switch-Inv-loop
-    switch·add-switch-μ-loop
-switch·add-switch-same-length t c = c .before .before .before .before .before .before .before .before .before .before .before .add-block .kept .1 .1 .1 .1 .0 ∙ c .before .before .before .before .before .before .before .before .before .before .before .before .before .before .before .before .before .before .before .before .before .loop .inv .1 .0
-
-switch·add-switch-same-length-2 : (t : ℕ) → switch·add-switch-lts.Need-same-length-2 (switch·add-switch-called t)
-    (switch·add-switch-at t)
-    switch·add-switch.Post
-    switch·add-switch-Inv-loop
-    switch·add-switch-μ-loop
-switch·add-switch-same-length-2 t c = c .before .before .before .before .before .before .before .before .before .before .before .add-block .kept .1 .1 .1 .1 .1 .0 ∙ c .before .before .before .before .before .before .before .before .before .before .before .before .before .before .before .before .before .before .before .before .before .loop .inv .1 .1 .0 ∙ c .before .before .before .before .before .before .before .before .before .before .before .before .before .before .before .before .before .before .before .before .before .before .before .before .before .copy-context .kept .0
-
-switch·add-switch-same-length-3 : (t : ℕ) → switch·add-switch-lts.Need-same-length-3 (switch·add-switch-called t)
-    (switch·add-switch-at t)
-    switch·add-switch.Post
-    switch·add-switch-Inv-loop
-    switch·add-switch-μ-loop
-switch·add-switch-same-length-3 t c = c .before .before .before .before .before .before .before .before .before .before .before .add-block .kept .1 .1 .1 .1 .1 .1 .0 ∙ c .before .before .before .before .before .before .before .before .before .before .before .before .before .before .before .before .before .before .before .before .before .loop .inv .1 .1 .1 .0
-
-switch·add-switch-same-length-4 : (t : ℕ) → switch·add-switch-lts.Need-same-length-4 (switch·add-switch-called t)
-    (switch·add-switch-at t)
-    switch·add-switch.Post
-    switch·add-switch-Inv-loop
-    switch·add-switch-μ-loop
-switch·add-switch-same-length-4 t c = c .before .before .before .before .before .before .before .before .before .before .before .add-block .kept .1 .1 .1 .1 .1 .1 .1 .0 ∙ c .before .before .before .before .before .before .before .before .before .before .before .before .before .before .before .before .before .before .before .before .before .loop .inv .1 .1 .1 .1
-
 switch·add-switch-returns : (t : ℕ) → switch·add-switch-lts.Need-returns (switch·add-switch-called t)
     (switch·add-switch-at t)
     switch·add-switch.Post
     switch·add-switch-Inv-loop
     switch·add-switch-μ-loop
-switch·add-switch-returns t c = let G = began (c .before .before .before .before .before .before .before .before .before .before .before .before .before .before .before .before .before .before .before .before .before .before .before .before .before .before .before .before .before .before .before .before .before .before .before .before .before .before .before .before .pre .1 .0) (c .before .before .before .before .before .before .before .before .before .before .before .before .before .before .before .before .before .before .before .before .before .before .before .before .before .before .before .before .before .before .before .before .before .before .before .before .before .before .before .before .pre .1 .1) (c .before .before .before .before .before .before .before .before .before .before .before .before .before .before .before .before .before .before .before .before .before .before .before .before .before .copy-context .ensures) (c .before .before .before .before .before .before .before .before .before .before .before .before .before .before .before .before .before .before .before .before .before .before .before .before .before .before .before .before .weigh .ensures) in case-halts (c .before .before .before .before .before .before .before .before .before .before .before .before .before .before .before .before .before .before .before .before .before .before .before .before .before .before .before .before .before .before .before .before .before .before .before .before .before .before .before .before .pre .1 .0) (c .before .before .before .before .before .before .before .before .before .before .before .before .before .before .before .before .before .before .before .before .before .loop .inv .0 .by _ _ G) (c .before .before .before .before .before .before .before .before .before .before .before .before .before .before .before .before .before .before .before .before .before .before .before .before .before .before .before .before .before .before .before .before .before .before .before .before .before .before .before .before .pre .1 .1) (G .outside-is) (c .before .before .before .before .before .before .before .before .before .before .before .before .before .before .before .before .weigh2 .ensures) (c .before .before .before .before .before .before .before .before .before .before .before .before .before .before .before .before .before .before .before .case-body .ensures) (omega (arith, c .before .before .before .before .before .before .before .before .before .before .before .before .before .before .before .before .before .before .before .before .loop-test .taken)) (c .before .before .before .before .before .before .before .before .before .before .before .add-block .ensures) (c .before .number .given .1)
+switch·add-switch-returns t c = let G = began (c .before .before .before .before .before .before .before .before .before .before .before .before .before .before .before .before .before .before .before .before .before .before .before .before .before .before .before .before .pre .1 .0) (c .before .before .before .before .before .before .before .before .before .before .before .before .before .before .before .before .before .before .before .before .before .before .before .before .before .before .before .before .pre .1 .1) (c .before .before .before .before .before .before .before .before .before .before .before .before .before .before .before .before .before .copy-context .ensures) (c .before .before .before .before .before .before .before .before .before .before .before .before .before .before .before .before .before .before .before .before .weigh .ensures) in case-halts (c .before .before .before .before .before .before .before .before .before .before .before .before .before .before .before .before .before .before .before .before .before .before .before .before .before .before .before .before .pre .1 .0) (c .before .before .before .before .before .before .before .before .before .before .before .before .before .before .before .loop .inv .by _ _ G) (c .before .before .before .before .before .before .before .before .before .before .before .before .before .before .before .before .before .before .before .before .before .before .before .before .before .before .before .before .pre .1 .1) (G .outside-is) (c .before .before .before .before .before .before .before .before .weigh2 .ensures) (c .before .before .before .before .before .before .before .before .before .before .before .before .before .case-body .ensures) (omega (arith, c .before .before .before .before .before .before .before .before .before .before .before .before .before .before .loop-test .taken)) (c .before .before .before .add-block .ensures) (c .before .number .given .1)
 
 switch·add-switch-enum-known-tally : (t : ℕ) → switch·add-switch-lts.Need-enum-known-tally (switch·add-switch-called t)
     (switch·add-switch-at t)
@@ -1347,49 +959,21 @@ switch·add-switch-add-end-case : (t : ℕ) → switch·add-switch-lts.Need-add-
     switch·add-switch.Post
     switch·add-switch-Inv-loop
     switch·add-switch-μ-loop
-switch·add-switch-add-end-case t c = omega (arith, copy-asks (c .before .before .before .before .before .before .before .before .before .before .before .before .before .before .before .before .before .before .before .before .before .before .before .before .before .before .before .before .before .before .before .before .before .before .before .before .before .before .before .before .before .before .pre .1 .0) .1, c .before .before .before .before .before .before .before .before .before .before .before .before .before .before .before .before .before .before .before .before .before .before .before .before .before .before .before .before .before .before .before .before .before .before .before .before .before .before .before .before .before .before .good .1 .1 .1 .1 .1 .0 .0)
+switch·add-switch-add-end-case t c = omega (arith, copy-asks (c .before .before .before .before .before .before .before .before .before .before .before .before .before .before .before .before .before .before .before .before .before .before .before .before .before .before .before .before .before .before .pre .1 .0) .1, c .before .before .before .before .before .before .before .before .before .before .before .before .before .before .before .before .before .before .before .before .before .before .before .weigh-arg4 .given .0)
 
 switch·add-switch-end-case-requires : (t : ℕ) → switch·add-switch-lts.Need-end-case-requires (switch·add-switch-called t)
     (switch·add-switch-at t)
     switch·add-switch.Post
     switch·add-switch-Inv-loop
     switch·add-switch-μ-loop
-switch·add-switch-end-case-requires t c κs = let G = began (c .before .before .before .before .before .before .before .before .before .before .before .before .before .before .before .before .before .before .before .before .before .before .before .before .before .before .before .before .before .before .before .before .before .before .before .before .before .before .before .before .before .before .pre .1 .0) (c .before .before .before .before .before .before .before .before .before .before .before .before .before .before .before .before .before .before .before .before .before .before .before .before .before .before .before .before .before .before .before .before .before .before .before .before .before .before .before .before .before .before .pre .1 .1) (c .before .before .before .before .before .before .before .before .before .before .before .before .before .before .before .before .before .before .before .before .before .before .before .before .before .before .before .copy-context .ensures) (c .before .before .before .before .before .before .before .before .before .before .before .before .before .before .before .before .before .before .before .before .before .before .before .before .before .before .before .before .before .before .weigh .ensures) in case-ends (c .before .before .before .before .before .before .before .before .before .before .before .before .before .before .before .before .before .before .before .before .before .before .before .before .before .before .before .before .before .before .before .before .before .before .before .before .before .before .before .before .before .before .pre .1 .0) (c .before .before .before .before .before .before .before .before .before .before .before .before .before .before .before .before .before .before .before .before .before .before .before .loop .inv .0 .by _ _ G) (c .before .before .before .before .before .before .before .before .before .before .before .before .before .before .before .before .before .before .before .before .before .before .before .before .before .before .before .before .before .before .before .before .before .before .before .before .before .before .before .before .before .before .pre .1 .1) (G .outside-is) (c .before .before .before .before .before .before .before .before .before .before .before .before .before .before .before .before .before .before .weigh2 .ensures) (c .before .before .before .before .before .before .before .before .before .before .before .before .before .before .before .before .before .before .before .before .before .case-body .ensures) (omega (arith, c .before .before .before .before .before .before .before .before .before .before .before .before .before .before .before .before .before .before .before .before .before .before .loop-test .taken)) (c .before .before .before .before .before .before .before .before .before .before .before .before .before .add-block .ensures) (c .before .before .before .tally .given .1)
-
-switch·add-switch-same-length-5 : (t : ℕ) → switch·add-switch-lts.Need-same-length-5 (switch·add-switch-called t)
-    (switch·add-switch-at t)
-    switch·add-switch.Post
-    switch·add-switch-Inv-loop
-    switch·add-switch-μ-loop
-switch·add-switch-same-length-5 t c = c .before .before .before .before .before .end-case .kept .0 ∙ c .before .before .before .before .before .before .before .before .before .before .before .before .before .before .before .before .before .before .before .add-block .kept .1 .1 .1 .1 .0 ∙ c .before .before .before .before .before .before .before .before .before .before .before .before .before .before .before .before .before .before .before .before .before .before .before .before .before .before .before .before .before .loop .inv .1 .0
-
-switch·add-switch-same-length-6 : (t : ℕ) → switch·add-switch-lts.Need-same-length-6 (switch·add-switch-called t)
-    (switch·add-switch-at t)
-    switch·add-switch.Post
-    switch·add-switch-Inv-loop
-    switch·add-switch-μ-loop
-switch·add-switch-same-length-6 t c = c .before .before .before .before .before .end-case .kept .1 .0 ∙ c .before .before .before .before .before .before .before .before .before .before .before .before .before .before .before .before .before .before .before .add-block .kept .1 .1 .1 .1 .1 .0 ∙ c .before .before .before .before .before .before .before .before .before .before .before .before .before .before .before .before .before .before .before .before .before .before .before .before .before .before .before .before .before .loop .inv .1 .1 .0 ∙ c .before .before .before .before .before .before .before .before .before .before .before .before .before .before .before .before .before .before .before .before .before .before .before .before .before .before .before .before .before .before .before .before .before .copy-context .kept .0
-
-switch·add-switch-same-length-7 : (t : ℕ) → switch·add-switch-lts.Need-same-length-7 (switch·add-switch-called t)
-    (switch·add-switch-at t)
-    switch·add-switch.Post
-    switch·add-switch-Inv-loop
-    switch·add-switch-μ-loop
-switch·add-switch-same-length-7 t c = c .before .before .before .before .before .before .before .before .before .before .before .before .before .before .before .before .before .before .before .add-block .kept .1 .1 .1 .1 .1 .1 .0 ∙ c .before .before .before .before .before .before .before .before .before .before .before .before .before .before .before .before .before .before .before .before .before .before .before .before .before .before .before .before .before .loop .inv .1 .1 .1 .0
-
-switch·add-switch-same-length-8 : (t : ℕ) → switch·add-switch-lts.Need-same-length-8 (switch·add-switch-called t)
-    (switch·add-switch-at t)
-    switch·add-switch.Post
-    switch·add-switch-Inv-loop
-    switch·add-switch-μ-loop
-switch·add-switch-same-length-8 t c = c .before .before .before .before .before .before .before .before .before .before .before .before .before .before .before .before .before .before .before .add-block .kept .1 .1 .1 .1 .1 .1 .1 .0 ∙ c .before .before .before .before .before .before .before .before .before .before .before .before .before .before .before .before .before .before .before .before .before .before .before .before .before .before .before .before .before .loop .inv .1 .1 .1 .1
+switch·add-switch-end-case-requires t c κs = let G = began (c .before .before .before .before .before .before .before .before .before .before .before .before .before .before .before .before .before .before .before .before .before .before .before .before .before .before .before .before .before .before .pre .1 .0) (c .before .before .before .before .before .before .before .before .before .before .before .before .before .before .before .before .before .before .before .before .before .before .before .before .before .before .before .before .before .before .pre .1 .1) (c .before .before .before .before .before .before .before .before .before .before .before .before .before .before .before .before .before .before .before .copy-context .ensures) (c .before .before .before .before .before .before .before .before .before .before .before .before .before .before .before .before .before .before .before .before .before .before .weigh .ensures) in case-ends (c .before .before .before .before .before .before .before .before .before .before .before .before .before .before .before .before .before .before .before .before .before .before .before .before .before .before .before .before .before .before .pre .1 .0) (c .before .before .before .before .before .before .before .before .before .before .before .before .before .before .before .before .before .loop .inv .by _ _ G) (c .before .before .before .before .before .before .before .before .before .before .before .before .before .before .before .before .before .before .before .before .before .before .before .before .before .before .before .before .before .before .pre .1 .1) (G .outside-is) (c .before .before .before .before .before .before .before .before .before .before .weigh2 .ensures) (c .before .before .before .before .before .before .before .before .before .before .before .before .before .before .before .case-body .ensures) (omega (arith, c .before .before .before .before .before .before .before .before .before .before .before .before .before .before .before .before .loop-test .taken)) (c .before .before .before .before .before .add-block .ensures) (c .before .before .before .tally .given .1)
 
 switch·add-switch-returns-2 : (t : ℕ) → switch·add-switch-lts.Need-returns-2 (switch·add-switch-called t)
     (switch·add-switch-at t)
     switch·add-switch.Post
     switch·add-switch-Inv-loop
     switch·add-switch-μ-loop
-switch·add-switch-returns-2 t c = let G = began (c .before .before .before .before .before .before .before .before .before .before .before .before .before .before .before .before .before .before .before .before .before .before .before .before .before .before .before .before .before .before .before .before .before .before .before .before .before .before .before .before .before .before .before .before .before .before .before .before .pre .1 .0) (c .before .before .before .before .before .before .before .before .before .before .before .before .before .before .before .before .before .before .before .before .before .before .before .before .before .before .before .before .before .before .before .before .before .before .before .before .before .before .before .before .before .before .before .before .before .before .before .before .pre .1 .1) (c .before .before .before .before .before .before .before .before .before .before .before .before .before .before .before .before .before .before .before .before .before .before .before .before .before .before .before .before .before .before .before .before .before .copy-context .ensures) (c .before .before .before .before .before .before .before .before .before .before .before .before .before .before .before .before .before .before .before .before .before .before .before .before .before .before .before .before .before .before .before .before .before .before .before .before .weigh .ensures) in case-limit (c .before .before .before .before .before .before .before .before .before .before .before .before .before .before .before .before .before .before .before .before .before .before .before .before .before .before .before .before .before .before .before .before .before .before .before .before .before .before .before .before .before .before .before .before .before .before .before .before .pre .1 .0) (c .before .before .before .before .before .before .before .before .before .before .before .before .before .before .before .before .before .before .before .before .before .before .before .before .before .before .before .before .before .loop .inv .0 .by _ _ G) (c .before .before .before .before .before .before .before .before .before .before .before .before .before .before .before .before .before .before .before .before .before .before .before .before .before .before .before .before .before .before .before .before .before .before .before .before .before .before .before .before .before .before .before .before .before .before .before .before .pre .1 .1) (G .outside-is) (c .before .before .before .before .before .before .before .before .before .before .before .before .before .before .before .before .before .before .before .before .before .before .before .before .weigh2 .ensures) (c .before .before .before .before .before .before .before .before .before .before .before .before .before .before .before .before .before .before .before .before .before .before .before .before .before .before .before .case-body .ensures) (omega (arith, c .before .before .before .before .before .before .before .before .before .before .before .before .before .before .before .before .before .before .before .before .before .before .before .before .before .before .before .before .loop-test .taken)) (c .before .before .before .before .before .before .before .before .before .before .before .before .before .before .before .before .before .before .before .add-block .ensures) (c .before .before .before .before .before .before .before .before .before .tally .given .1) (c .before .before .before .before .before .end-case .ensures) (c .if1 .taken)
+switch·add-switch-returns-2 t c = let G = began (c .before .before .before .before .before .before .before .before .before .before .before .before .before .before .before .before .before .before .before .before .before .before .before .before .before .before .before .before .before .before .before .before .pre .1 .0) (c .before .before .before .before .before .before .before .before .before .before .before .before .before .before .before .before .before .before .before .before .before .before .before .before .before .before .before .before .before .before .before .before .pre .1 .1) (c .before .before .before .before .before .before .before .before .before .before .before .before .before .before .before .before .before .before .before .before .before .copy-context .ensures) (c .before .before .before .before .before .before .before .before .before .before .before .before .before .before .before .before .before .before .before .before .before .before .before .before .weigh .ensures) in case-limit (c .before .before .before .before .before .before .before .before .before .before .before .before .before .before .before .before .before .before .before .before .before .before .before .before .before .before .before .before .before .before .before .before .pre .1 .0) (c .before .before .before .before .before .before .before .before .before .before .before .before .before .before .before .before .before .before .before .loop .inv .by _ _ G) (c .before .before .before .before .before .before .before .before .before .before .before .before .before .before .before .before .before .before .before .before .before .before .before .before .before .before .before .before .before .before .before .before .pre .1 .1) (G .outside-is) (c .before .before .before .before .before .before .before .before .before .before .before .before .weigh2 .ensures) (c .before .before .before .before .before .before .before .before .before .before .before .before .before .before .before .before .before .case-body .ensures) (omega (arith, c .before .before .before .before .before .before .before .before .before .before .before .before .before .before .before .before .before .before .loop-test .taken)) (c .before .before .before .before .before .before .before .add-block .ensures) (c .before .before .before .before .before .tally .given .1) (c .before .end-case .ensures) (c .if1 .taken)
 
 switch·add-switch-or-requires : (t : ℕ) → switch·add-switch-lts.Need-or-requires (switch·add-switch-called t)
     (switch·add-switch-at t)
@@ -1403,14 +987,14 @@ switch·add-switch-loop-less : (t : ℕ) → switch·add-switch-lts.Need-loop-le
     switch·add-switch.Post
     switch·add-switch-Inv-loop
     switch·add-switch-μ-loop
-switch·add-switch-loop-less t c = omega (arith, c .before .before .before .before .before .before .before .before .before .before .before .before .before .before .before .before .before .before .before .before .before .before .before .before .before .before .before .before .before .loop-test .taken)
+switch·add-switch-loop-less t c = omega (arith, c .before .before .before .before .before .before .before .before .before .before .before .before .before .before .before .before .before .before .before .loop-test .taken)
 
 switch·add-switch-loop-again : (t : ℕ) → switch·add-switch-lts.Need-loop-again (switch·add-switch-called t)
     (switch·add-switch-at t)
     switch·add-switch.Post
     switch·add-switch-Inv-loop
     switch·add-switch-μ-loop
-switch·add-switch-loop-again t c = (cases-next (c .before .before .before .before .before .before .before .before .before .before .before .before .before .before .before .before .before .before .before .before .before .before .before .before .before .before .before .before .before .before .loop .inv .0) (c .before .before .before .before .before .before .before .before .before .before .before .before .before .before .before .before .before .before .before .before .before .before .before .before .before .weigh2 .ensures) (c .before .before .before .before .before .before .before .before .before .before .before .before .before .before .before .before .before .before .before .before .before .before .before .before .before .before .before .before .case-body .ensures) (omega (arith, c .before .before .before .before .before .before .before .before .before .before .before .before .before .before .before .before .before .before .before .before .before .before .before .before .before .before .before .before .before .loop-test .taken)) (c .before .before .before .before .before .before .before .before .before .before .before .before .before .before .before .before .before .before .before .before .add-block .ensures) (c .before .before .before .before .before .before .before .before .before .before .tally .given .1) (c .before .before .before .before .before .before .end-case .ensures) (c .before .if1 .left) (c .or .ensures), (c .before .before .before .before .before .before .end-case .kept .0 ∙ c .before .before .before .before .before .before .before .before .before .before .before .before .before .before .before .before .before .before .before .before .add-block .kept .1 .1 .1 .1 .0 ∙ c .before .before .before .before .before .before .before .before .before .before .before .before .before .before .before .before .before .before .before .before .before .before .before .before .before .before .before .before .before .before .loop .inv .1 .0, (c .before .before .before .before .before .before .end-case .kept .1 .0 ∙ c .before .before .before .before .before .before .before .before .before .before .before .before .before .before .before .before .before .before .before .before .add-block .kept .1 .1 .1 .1 .1 .0 ∙ c .before .before .before .before .before .before .before .before .before .before .before .before .before .before .before .before .before .before .before .before .before .before .before .before .before .before .before .before .before .before .loop .inv .1 .1 .0, (c .before .before .before .before .before .before .before .before .before .before .before .before .before .before .before .before .before .before .before .before .add-block .kept .1 .1 .1 .1 .1 .1 .0 ∙ c .before .before .before .before .before .before .before .before .before .before .before .before .before .before .before .before .before .before .before .before .before .before .before .before .before .before .before .before .before .before .loop .inv .1 .1 .1 .0, c .before .before .before .before .before .before .before .before .before .before .before .before .before .before .before .before .before .before .before .before .add-block .kept .1 .1 .1 .1 .1 .1 .1 .0 ∙ c .before .before .before .before .before .before .before .before .before .before .before .before .before .before .before .before .before .before .before .before .before .before .before .before .before .before .before .before .before .before .loop .inv .1 .1 .1 .1))))
+switch·add-switch-loop-again t c = cases-next (c .before .before .before .before .before .before .before .before .before .before .before .before .before .before .before .before .before .before .before .before .loop .inv) (c .before .before .before .before .before .before .before .before .before .before .before .before .before .weigh2 .ensures) (c .before .before .before .before .before .before .before .before .before .before .before .before .before .before .before .before .before .before .case-body .ensures) (omega (arith, c .before .before .before .before .before .before .before .before .before .before .before .before .before .before .before .before .before .before .before .loop-test .taken)) (c .before .before .before .before .before .before .before .before .add-block .ensures) (c .before .before .before .before .before .before .tally .given .1) (c .before .before .end-case .ensures) (c .before .if1 .left) (c .or .ensures)
 
 switch·add-switch-operand-requires-2 : (t : ℕ) → switch·add-switch-lts.Need-operand-requires-2 (switch·add-switch-called t)
     (switch·add-switch-at t)
@@ -1424,42 +1008,14 @@ switch·add-switch-end-switch-requires : (t : ℕ) → switch·add-switch-lts.Ne
     switch·add-switch.Post
     switch·add-switch-Inv-loop
     switch·add-switch-μ-loop
-switch·add-switch-end-switch-requires t c κs = let G = began (c .before .before .before .before .before .before .before .before .before .before .before .before .before .before .before .before .before .before .before .before .before .before .before .pre .1 .0) (c .before .before .before .before .before .before .before .before .before .before .before .before .before .before .before .before .before .before .before .before .before .before .before .pre .1 .1) (c .before .before .before .before .before .before .before .before .copy-context .ensures) (c .before .before .before .before .before .before .before .before .before .before .before .weigh .ensures) in switch-asks (c .before .before .before .before .before .before .before .before .before .before .before .before .before .before .before .before .before .before .before .before .before .before .before .pre .1 .0) (c .before .before .before .before .loop .inv .0 .by _ _ G) (c .before .before .before .before .before .before .before .before .before .before .before .before .before .before .before .before .before .before .before .before .before .before .before .pre .1 .1) (c .before .before .operand2 .ensures)
-
-switch·add-switch-same-length-9 : (t : ℕ) → switch·add-switch-lts.Need-same-length-9 (switch·add-switch-called t)
-    (switch·add-switch-at t)
-    switch·add-switch.Post
-    switch·add-switch-Inv-loop
-    switch·add-switch-μ-loop
-switch·add-switch-same-length-9 t c = c .before .before .before .before .end-switch .kept .1 .1 .0 ∙ c .before .before .before .before .before .before .before .before .before .loop .inv .1 .0
-
-switch·add-switch-same-length-10 : (t : ℕ) → switch·add-switch-lts.Need-same-length-10 (switch·add-switch-called t)
-    (switch·add-switch-at t)
-    switch·add-switch.Post
-    switch·add-switch-Inv-loop
-    switch·add-switch-μ-loop
-switch·add-switch-same-length-10 t c = c .before .before .before .before .end-switch .kept .1 .1 .1 .0 ∙ c .before .before .before .before .before .before .before .before .before .loop .inv .1 .1 .0 ∙ c .before .before .before .before .before .before .before .before .before .before .before .before .before .copy-context .kept .0
-
-switch·add-switch-same-length-11 : (t : ℕ) → switch·add-switch-lts.Need-same-length-11 (switch·add-switch-called t)
-    (switch·add-switch-at t)
-    switch·add-switch.Post
-    switch·add-switch-Inv-loop
-    switch·add-switch-μ-loop
-switch·add-switch-same-length-11 t c = c .before .before .before .before .before .before .before .before .before .loop .inv .1 .1 .1 .0
-
-switch·add-switch-same-length-12 : (t : ℕ) → switch·add-switch-lts.Need-same-length-12 (switch·add-switch-called t)
-    (switch·add-switch-at t)
-    switch·add-switch.Post
-    switch·add-switch-Inv-loop
-    switch·add-switch-μ-loop
-switch·add-switch-same-length-12 t c = c .before .before .before .before .before .before .before .before .before .loop .inv .1 .1 .1 .1
+switch·add-switch-end-switch-requires t c κs = let G = began (c .before .before .before .before .before .before .before .before .before .before .before .before .before .before .before .before .before .before .pre .1 .0) (c .before .before .before .before .before .before .before .before .before .before .before .before .before .before .before .before .before .before .pre .1 .1) (c .before .before .before .before .before .before .before .copy-context .ensures) (c .before .before .before .before .before .before .before .before .before .before .weigh .ensures) in switch-asks (c .before .before .before .before .before .before .before .before .before .before .before .before .before .before .before .before .before .before .pre .1 .0) (c .before .before .before .before .before .loop .inv .by _ _ G) (c .before .before .before .before .before .before .before .before .before .before .before .before .before .before .before .before .before .before .pre .1 .1) (c .before .before .before .operand2 .ensures)
 
 switch·add-switch-returns-3 : (t : ℕ) → switch·add-switch-lts.Need-returns-3 (switch·add-switch-called t)
     (switch·add-switch-at t)
     switch·add-switch.Post
     switch·add-switch-Inv-loop
     switch·add-switch-μ-loop
-switch·add-switch-returns-3 t c = let G = began (c .before .before .before .before .before .before .before .before .before .before .before .before .before .before .before .before .before .before .before .before .before .before .before .before .before .before .before .before .pre .1 .0) (c .before .before .before .before .before .before .before .before .before .before .before .before .before .before .before .before .before .before .before .before .before .before .before .before .before .before .before .before .pre .1 .1) (c .before .before .before .before .before .before .before .before .before .before .before .before .before .copy-context .ensures) (c .before .before .before .before .before .before .before .before .before .before .before .before .before .before .before .before .weigh .ensures) in switch-whole (c .before .before .before .before .before .before .before .before .before .before .before .before .before .before .before .before .before .before .before .before .before .before .before .before .before .before .before .before .pre .1 .0) (c .before .before .before .before .before .before .before .before .before .loop .inv .0 .by _ _ G) (omega (arith, c .before .before .before .before .before .before .before .before .loop-test .left)) (c .before .before .before .before .before .before .before .operand2 .ensures) (c .before .before .before .before .end-switch .ensures)
+switch·add-switch-returns-3 t c = let G = began (c .before .before .before .before .before .before .before .before .before .before .before .before .before .before .before .before .before .before .before .pre .1 .0) (c .before .before .before .before .before .before .before .before .before .before .before .before .before .before .before .before .before .before .before .pre .1 .1) (c .before .before .before .before .before .before .before .before .copy-context .ensures) (c .before .before .before .before .before .before .before .before .before .before .before .weigh .ensures) in switch-whole (c .before .before .before .before .before .before .before .before .before .before .before .before .before .before .before .before .before .before .before .pre .1 .0) (c .before .before .before .before .before .before .loop .inv .by _ _ G) (omega (arith, c .before .before .before .before .before .loop-test .left)) (c .before .before .before .before .operand2 .ensures) (c .end-switch .ensures)
 
 pub +blocks·add-block+calls·add-call+functions·add-function+holders·add-if+holders·add-nested+holders·add-pair+loops·add-loop+loops·add-turns+statements·add-arm+statements·add-holder+statements·add-statement+switch·add-switch-spec :
     {M : Type 1} → statement M
@@ -1488,23 +1044,15 @@ pub +blocks·add-block+calls·add-call+functions·add-function+holders·add-if+h
     (blocks·add-block-copy-context-requires t)
     (blocks·add-block-loop-holds t)
     (blocks·add-block-sub-k t)
-    (blocks·add-block-add-t40 t)
+    (blocks·add-block-add-t42 t)
     (blocks·add-block-add-statement-requires t)
     (blocks·add-block-enum-known-tally t)
     (blocks·add-block-or-requires t)
     (blocks·add-block-or-requires-2 t)
     (blocks·add-block-enum-known-number t)
-    (blocks·add-block-same-length t)
-    (blocks·add-block-same-length-2 t)
-    (blocks·add-block-same-length-3 t)
-    (blocks·add-block-same-length-4 t)
     (blocks·add-block-returns t)
     (blocks·add-block-loop-less t)
     (blocks·add-block-loop-again t)
-    (blocks·add-block-same-length-5 t)
-    (blocks·add-block-same-length-6 t)
-    (blocks·add-block-same-length-7 t)
-    (blocks·add-block-same-length-8 t)
     (blocks·add-block-returns-2 t))
     (λ t. calls·add-call-lts.spec (calls·add-call-called t)
     (calls·add-call-at t)
@@ -1520,15 +1068,7 @@ pub +blocks·add-block+calls·add-call+functions·add-function+holders·add-if+h
     (calls·add-call-add-leave-call t)
     (calls·add-call-leave-call-requires t)
     (calls·add-call-return-call-requires t)
-    (calls·add-call-same-length t)
-    (calls·add-call-same-length-2 t)
-    (calls·add-call-same-length-3 t)
-    (calls·add-call-same-length-4 t)
     (calls·add-call-returns t)
-    (calls·add-call-same-length-5 t)
-    (calls·add-call-same-length-6 t)
-    (calls·add-call-same-length-7 t)
-    (calls·add-call-same-length-8 t)
     (calls·add-call-returns-2 t))
     (λ t. functions·add-function-lts.spec (functions·add-function-called t)
     (functions·add-function-at t)
@@ -1541,20 +1081,8 @@ pub +blocks·add-block+calls·add-call+functions·add-function+holders·add-if+h
     (functions·add-function-add-total-requires t)
     (functions·add-function-enum-known-r t)
     (functions·add-function-enum-known-r-2 t)
-    (functions·add-function-same-length t)
-    (functions·add-function-same-length-2 t)
-    (functions·add-function-same-length-3 t)
-    (functions·add-function-same-length-4 t)
     (functions·add-function-returns t)
-    (functions·add-function-same-length-5 t)
-    (functions·add-function-same-length-6 t)
-    (functions·add-function-same-length-7 t)
-    (functions·add-function-same-length-8 t)
     (functions·add-function-returns-2 t)
-    (functions·add-function-same-length-9 t)
-    (functions·add-function-same-length-10 t)
-    (functions·add-function-same-length-11 t)
-    (functions·add-function-same-length-12 t)
     (functions·add-function-returns-3 t))
     (λ t. holders·add-if-lts.spec (holders·add-if-called t)
     (holders·add-if-at t)
@@ -1571,15 +1099,7 @@ pub +blocks·add-block+calls·add-call+functions·add-function+holders·add-if+h
     (holders·add-if-enum-known-r-2 t)
     (holders·add-if-operand-requires-3 t)
     (holders·add-if-end-if-requires t)
-    (holders·add-if-same-length t)
-    (holders·add-if-same-length-2 t)
-    (holders·add-if-same-length-3 t)
-    (holders·add-if-same-length-4 t)
     (holders·add-if-returns t)
-    (holders·add-if-same-length-5 t)
-    (holders·add-if-same-length-6 t)
-    (holders·add-if-same-length-7 t)
-    (holders·add-if-same-length-8 t)
     (holders·add-if-returns-2 t))
     (λ t. holders·add-nested-lts.spec (holders·add-nested-called t)
     (holders·add-nested-at t)
@@ -1593,15 +1113,7 @@ pub +blocks·add-block+calls·add-call+functions·add-function+holders·add-if+h
     (holders·add-nested-enum-known-r t)
     (holders·add-nested-enum-known-r-2 t)
     (holders·add-nested-lower-requires t)
-    (holders·add-nested-same-length t)
-    (holders·add-nested-same-length-2 t)
-    (holders·add-nested-same-length-3 t)
-    (holders·add-nested-same-length-4 t)
     (holders·add-nested-returns t)
-    (holders·add-nested-same-length-5 t)
-    (holders·add-nested-same-length-6 t)
-    (holders·add-nested-same-length-7 t)
-    (holders·add-nested-same-length-8 t)
     (holders·add-nested-returns-2 t))
     (λ t. holders·add-pair-lts.spec (holders·add-pair-called t)
     (holders·add-pair-at t)
@@ -1616,20 +1128,8 @@ pub +blocks·add-block+calls·add-call+functions·add-function+holders·add-if+h
     (holders·add-pair-enum-known-r t)
     (holders·add-pair-enum-known-r-2 t)
     (holders·add-pair-or-requires t)
-    (holders·add-pair-same-length t)
-    (holders·add-pair-same-length-2 t)
-    (holders·add-pair-same-length-3 t)
-    (holders·add-pair-same-length-4 t)
     (holders·add-pair-returns t)
-    (holders·add-pair-same-length-5 t)
-    (holders·add-pair-same-length-6 t)
-    (holders·add-pair-same-length-7 t)
-    (holders·add-pair-same-length-8 t)
     (holders·add-pair-returns-2 t)
-    (holders·add-pair-same-length-9 t)
-    (holders·add-pair-same-length-10 t)
-    (holders·add-pair-same-length-11 t)
-    (holders·add-pair-same-length-12 t)
     (holders·add-pair-returns-3 t))
     (λ t. loops·add-loop-lts.spec (loops·add-loop-called t)
     (loops·add-loop-at t)
@@ -1645,30 +1145,14 @@ pub +blocks·add-block+calls·add-call+functions·add-function+holders·add-if+h
     (loops·add-loop-enum-known-r t)
     (loops·add-loop-enum-known-r-2 t)
     (loops·add-loop-drop-both-requires t)
-    (loops·add-loop-same-length t)
-    (loops·add-loop-same-length-2 t)
-    (loops·add-loop-same-length-3 t)
-    (loops·add-loop-same-length-4 t)
     (loops·add-loop-returns t)
     (loops·add-loop-operand-requires-3 t)
     (loops·add-loop-end-pass-requires t)
     (loops·add-loop-enum-known-n t)
     (loops·add-loop-enum-known-left t)
     (loops·add-loop-add-turns-requires t)
-    (loops·add-loop-same-length-5 t)
-    (loops·add-loop-same-length-6 t)
-    (loops·add-loop-same-length-7 t)
-    (loops·add-loop-same-length-8 t)
     (loops·add-loop-returns-2 t)
-    (loops·add-loop-same-length-9 t)
-    (loops·add-loop-same-length-10 t)
-    (loops·add-loop-same-length-11 t)
-    (loops·add-loop-same-length-12 t)
     (loops·add-loop-returns-3 t)
-    (loops·add-loop-same-length-13 t)
-    (loops·add-loop-same-length-14 t)
-    (loops·add-loop-same-length-15 t)
-    (loops·add-loop-same-length-16 t)
     (loops·add-loop-returns-4 t))
     (λ t. loops·add-turns-lts.spec (loops·add-turns-called t)
     (loops·add-turns-at t)
@@ -1685,104 +1169,55 @@ pub +blocks·add-block+calls·add-call+functions·add-function+holders·add-if+h
     (loops·add-turns-add-add-pair-2 t)
     (loops·add-turns-add-pair-requires t)
     (loops·add-turns-enum-known-number t)
-    (loops·add-turns-same-length t)
-    (loops·add-turns-same-length-2 t)
-    (loops·add-turns-same-length-3 t)
-    (loops·add-turns-same-length-4 t)
     (loops·add-turns-returns t)
     (loops·add-turns-enum-known-tally t)
     (loops·add-turns-end-turn-requires t)
     (loops·add-turns-enum-told t)
-    (loops·add-turns-same-length-5 t)
-    (loops·add-turns-same-length-6 t)
-    (loops·add-turns-same-length-7 t)
-    (loops·add-turns-same-length-8 t)
     (loops·add-turns-returns-2 t)
     (loops·add-turns-enum-told-2 t)
-    (loops·add-turns-same-length-9 t)
-    (loops·add-turns-same-length-10 t)
-    (loops·add-turns-same-length-11 t)
-    (loops·add-turns-same-length-12 t)
     (loops·add-turns-returns-3 t)
     (loops·add-turns-enum-told-3 t)
     (loops·add-turns-sub-left t)
     (loops·add-turns-loop-less t)
     (loops·add-turns-loop-again t)
-    (loops·add-turns-same-length-13 t)
-    (loops·add-turns-same-length-14 t)
-    (loops·add-turns-same-length-15 t)
-    (loops·add-turns-same-length-16 t)
     (loops·add-turns-returns-4 t))
     (λ t. statements·add-arm-lts.spec (statements·add-arm-called t)
     (statements·add-arm-at t)
     statements·add-arm.Post
     (statements·add-arm-add-emit-requires t)
-    (statements·add-arm-same-length t)
-    (statements·add-arm-same-length-2 t)
-    (statements·add-arm-same-length-3 t)
     (statements·add-arm-returns t)
     (statements·add-arm-add-call-requires t)
-    (statements·add-arm-same-length-4 t)
-    (statements·add-arm-same-length-5 t)
-    (statements·add-arm-same-length-6 t)
-    (statements·add-arm-same-length-7 t)
     (statements·add-arm-returns-2 t)
     (statements·add-arm-add-holder-requires t)
-    (statements·add-arm-mark-statement-requires t)
-    (statements·add-arm-same-length-8 t)
-    (statements·add-arm-same-length-9 t)
-    (statements·add-arm-same-length-10 t)
-    (statements·add-arm-same-length-11 t)
     (statements·add-arm-returns-3 t)
     (statements·add-arm-add-leaf-requires t)
-    (statements·add-arm-mark-statement-requires-2 t)
-    (statements·add-arm-same-length-12 t)
-    (statements·add-arm-same-length-13 t)
-    (statements·add-arm-same-length-14 t)
+    (statements·add-arm-mark-statement-requires t)
     (statements·add-arm-returns-4 t))
     (λ t. statements·add-holder-lts.spec (statements·add-holder-called t)
     (statements·add-holder-at t)
     statements·add-holder.Post
     (statements·add-holder-add-nested-requires t)
-    (statements·add-holder-same-length t)
-    (statements·add-holder-same-length-2 t)
-    (statements·add-holder-same-length-3 t)
-    (statements·add-holder-same-length-4 t)
+    (statements·add-holder-mark-statement-requires t)
     (statements·add-holder-returns t)
     (statements·add-holder-add-if-requires t)
-    (statements·add-holder-same-length-5 t)
-    (statements·add-holder-same-length-6 t)
-    (statements·add-holder-same-length-7 t)
-    (statements·add-holder-same-length-8 t)
+    (statements·add-holder-mark-statement-requires-2 t)
     (statements·add-holder-returns-2 t)
     (statements·add-holder-add-switch-requires t)
-    (statements·add-holder-same-length-9 t)
-    (statements·add-holder-same-length-10 t)
-    (statements·add-holder-same-length-11 t)
-    (statements·add-holder-same-length-12 t)
+    (statements·add-holder-mark-statement-requires-3 t)
     (statements·add-holder-returns-3 t)
     (statements·add-holder-add-loop-requires t)
-    (statements·add-holder-same-length-13 t)
-    (statements·add-holder-same-length-14 t)
-    (statements·add-holder-same-length-15 t)
-    (statements·add-holder-same-length-16 t)
+    (statements·add-holder-mark-statement-requires-4 t)
     (statements·add-holder-returns-4 t))
     (λ t. statements·add-statement-lts.spec (statements·add-statement-called t)
     (statements·add-statement-at t)
     statements·add-statement.Post
     (statements·add-statement-returns t)
     (statements·add-statement-allowed-requires t)
-    (statements·add-statement-same-length t)
-    (statements·add-statement-same-length-2 t)
     (statements·add-statement-returns-2 t)
     (statements·add-statement-statement-requires t)
     (statements·add-statement-add-add-arm t)
     (statements·add-statement-add-arm-requires t)
     (statements·add-statement-end-statement-requires t)
-    (statements·add-statement-same-length-3 t)
-    (statements·add-statement-same-length-4 t)
-    (statements·add-statement-same-length-5 t)
-    (statements·add-statement-same-length-6 t)
     (statements·add-statement-returns-3 t))
     λ t. switch·add-switch-lts.spec (switch·add-switch-called t)
     (switch·add-switch-at t)
@@ -1803,26 +1238,14 @@ pub +blocks·add-block+calls·add-call+functions·add-function+holders·add-if+h
     (switch·add-switch-add-add-block t)
     (switch·add-switch-add-block-requires t)
     (switch·add-switch-enum-known-number t)
-    (switch·add-switch-same-length t)
-    (switch·add-switch-same-length-2 t)
-    (switch·add-switch-same-length-3 t)
-    (switch·add-switch-same-length-4 t)
     (switch·add-switch-returns t)
     (switch·add-switch-enum-known-tally t)
     (switch·add-switch-add-end-case t)
     (switch·add-switch-end-case-requires t)
-    (switch·add-switch-same-length-5 t)
-    (switch·add-switch-same-length-6 t)
-    (switch·add-switch-same-length-7 t)
-    (switch·add-switch-same-length-8 t)
     (switch·add-switch-returns-2 t)
     (switch·add-switch-or-requires t)
     (switch·add-switch-loop-less t)
     (switch·add-switch-loop-again t)
     (switch·add-switch-operand-requires-2 t)
     (switch·add-switch-end-switch-requires t)
-    (switch·add-switch-same-length-9 t)
-    (switch·add-switch-same-length-10 t)
-    (switch·add-switch-same-length-11 t)
-    (switch·add-switch-same-length-12 t)
     (switch·add-switch-returns-3 t)
