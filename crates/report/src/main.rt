@@ -1,20 +1,23 @@
 // Reads a module and then one request from standard input, and prints the lines of its report or the line of its refusal.
+mod outcome;
+mod text;
+
+use crate::outcome::Outcome;
+use crate::outcome::walk_input;
+use crate::text::write_text;
 use field::limits::MIN_REPORT;
 use lines::report::MAX_TEXT;
 use marks::places::PLACES;
 use memory::layout::CELLS;
 use memory::layout::SLOTS;
 use module::tables::WORDS;
-use report_text::outcome::Outcome;
-use report_text::outcome::walk_input;
 use report_text::split::MAX_INPUT;
-use report_text::text::write_text;
 ghost use Prim.Native.Nat.{_≤_};
 ghost use lib.ListN.{length};
 ghost use Rattle.io.specs.Counts.{Counts};
 ghost use Rattle.report_text.specs.Split.{moduleIn};
 ghost use Rattle.report_text.specs.Input.{maxInput, reportInput};
-ghost use Rattle.report_text.specs.Outcome.{Arrays, TextIs};
+ghost use Rattle.report.specs.Outcome.{Arrays, TextIs};
 
 // The input, or as much of it as can change the answer.
 fn read_input(input: &mut [u8]) -> usize

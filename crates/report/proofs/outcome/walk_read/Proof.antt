@@ -1,13 +1,13 @@
--- `report_text::outcome::walk_read` meets its contract: its own arrays are long enough.
-use Rattle.report_text.proofs.Requesting.{rows-end, rows-part}
+-- `report::outcome::walk_read` meets its contract: its own arrays are long enough.
+use Rattle.report.proofs.Requesting.{rows-end, rows-part}
 use native.Mathlib.Omega.{arith}
 use borrow.Author.Needs.{needs}
-use Rattle.report_text.proofs.outcome.walk_read.Statement.{statement}
-use Rattle.report_text.proofs.outcome.walk_read.Tie as tie
-use Rattle.report_text.proofs.outcome.walk_read.Reads as reads
-use Rattle.report_text.proofs.outcome.walk_read.Lts as lts
+use Rattle.report.proofs.outcome.walk_read.Statement.{statement}
+use Rattle.report.proofs.outcome.walk_read.Tie as tie
+use Rattle.report.proofs.outcome.walk_read.Reads as reads
+use Rattle.report.proofs.outcome.walk_read.Lts as lts
 use Rattle.access.proofs.whole.types.Reads as types-reads
-use Rattle.report_text.proofs.outcome.walk_request.Reads as walk-request-reads
+use Rattle.report.proofs.outcome.walk_request.Reads as walk-request-reads
 
 types-requires : tie.Need-types-requires
 types-requires c κs = search needs

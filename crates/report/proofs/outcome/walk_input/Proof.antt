@@ -1,14 +1,14 @@
--- `report_text::outcome::walk_input` meets its contract: the module's refusal, or what its request comes to.
+-- `report::outcome::walk_input` meets its contract: the module's refusal, or what its request comes to.
 use native.Mathlib.Omega.{arith}
-use Rattle.report_text.proofs.Whole.{split-inside, input-refused, input-read, input-walked, arrays-kept}
+use Rattle.report.proofs.Whole.{split-inside, input-refused, input-read, input-walked, arrays-kept}
 use borrow.Author.Needs.{needs}
-use Rattle.report_text.proofs.outcome.walk_input.Statement.{statement}
-use Rattle.report_text.proofs.outcome.walk_input.Tie as tie
-use Rattle.report_text.proofs.outcome.walk_input.Reads as reads
-use Rattle.report_text.proofs.outcome.walk_input.Lts as lts
-use Rattle.report_text.proofs.outcome.read_module.Reads as read-module-reads
-use Rattle.report_text.proofs.outcome.walk_read.Reads as walk-read-reads
+use Rattle.report.proofs.outcome.walk_input.Statement.{statement}
+use Rattle.report.proofs.outcome.walk_input.Tie as tie
+use Rattle.report.proofs.outcome.walk_input.Reads as reads
+use Rattle.report.proofs.outcome.walk_input.Lts as lts
+use Rattle.report.proofs.outcome.read_module.Reads as read-module-reads
+use Rattle.report.proofs.outcome.walk_read.Reads as walk-read-reads
 use Rattle.report_text.proofs.split.split.Reads as split-reads
 
 split-requires : tie.Need-split-requires
 split-requires c κs = search needs

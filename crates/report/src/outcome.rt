@@ -1,5 +1,4 @@
 // From the bytes of an input to the end of the walk of its request.
-use crate::split::split;
 use access::whole::types;
 use context::remove::TYPE_WORDS;
 use field::limits::MAX_PIECES;
@@ -14,6 +13,7 @@ use module::handles::FunctionHandle;
 use reading::read::HELD;
 use reading::read::SEEN;
 use reading::read::read;
+use report_text::split::split;
 use requests::begin::Begun;
 use requests::begin::begin_request;
 use state::answer::Answered;
@@ -29,9 +29,9 @@ ghost use Rattle.request.specs.Request.{readRequest};
 ghost use Rattle.reading.specs.Reads.{Reads};
 ghost use Rattle.marks.specs.Report.{totalsSize};
 ghost use Rattle.state.specs.Ready.{WasRead};
 ghost use Rattle.report_text.specs.Split.{moduleIn};
 ghost use Rattle.report_text.specs.Input.{requestText, reportInput};
-ghost use Rattle.report_text.specs.Outcome.{Arrays, TextIs, Asked, Walked};
+ghost use Rattle.report.specs.Outcome.{Arrays, TextIs, Asked, Walked};
 
 // 01's number; or the asked function, of which memory has a report, and whether it is required.
 pub enum Outcome {

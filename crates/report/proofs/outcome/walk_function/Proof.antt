@@ -1,10 +1,10 @@
--- `report_text::outcome::walk_function` meets its contract: the walk's refusal, 16 at its end, or a report in memory.
-use Rattle.report_text.proofs.Walking.{walk-enters, walk-halted, walk-own, walk-sub, walk-over, walk-went}
+-- `report::outcome::walk_function` meets its contract: the walk's refusal, 16 at its end, or a report in memory.
+use Rattle.report.proofs.Walking.{walk-enters, walk-halted, walk-own, walk-sub, walk-over, walk-went}
 use borrow.Author.Needs.{needs}
-use Rattle.report_text.proofs.outcome.walk_function.Statement.{statement}
-use Rattle.report_text.proofs.outcome.walk_function.Tie as tie
-use Rattle.report_text.proofs.outcome.walk_function.Reads as reads
-use Rattle.report_text.proofs.outcome.walk_function.Lts as lts
+use Rattle.report.proofs.outcome.walk_function.Statement.{statement}
+use Rattle.report.proofs.outcome.walk_function.Tie as tie
+use Rattle.report.proofs.outcome.walk_function.Reads as reads
+use Rattle.report.proofs.outcome.walk_function.Lts as lts
 use Rattle.function.proofs.functions.add_function.Reads as add-function-reads
 use Rattle.leave.proofs.leave.own_pieces.Reads as own-pieces-reads
 

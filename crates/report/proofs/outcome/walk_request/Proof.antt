@@ -1,13 +1,13 @@
--- `report_text::outcome::walk_request` meets its contract: the request's refusal, or what its walk comes to.
+-- `report::outcome::walk_request` meets its contract: the request's refusal, or what its walk comes to.
 use native.Mathlib.Omega.{arith}
-use Rattle.report_text.proofs.Requesting.{fill-asks, begin-asks, request-refused, request-asked, request-walked}
+use Rattle.report.proofs.Requesting.{fill-asks, begin-asks, request-refused, request-asked, request-walked}
 use borrow.Author.Needs.{needs}
-use Rattle.report_text.proofs.outcome.walk_request.Statement.{statement}
-use Rattle.report_text.proofs.outcome.walk_request.Tie as tie
-use Rattle.report_text.proofs.outcome.walk_request.Reads as reads
-use Rattle.report_text.proofs.outcome.walk_request.Lts as lts
+use Rattle.report.proofs.outcome.walk_request.Statement.{statement}
+use Rattle.report.proofs.outcome.walk_request.Tie as tie
+use Rattle.report.proofs.outcome.walk_request.Reads as reads
+use Rattle.report.proofs.outcome.walk_request.Lts as lts
 use Rattle.marks.proofs.places.place_marks.Reads as place-marks-reads
-use Rattle.report_text.proofs.outcome.walk_function.Reads as walk-function-reads
+use Rattle.report.proofs.outcome.walk_function.Reads as walk-function-reads
 use Rattle.requests.proofs.begin.begin_request.Reads as begin-request-reads
 use Rattle.type_table.proofs.fill.Reads as fill-reads
 
