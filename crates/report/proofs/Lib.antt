@@ -1,1 +1,5 @@
+pub mod Shown
+pub mod Walking
+pub mod Requesting
+pub mod Whole
 pub mod Printing

@@ -1,20 +1,23 @@
 // Reads a module and then one request from standard input, and prints the lines of its report or the line of its refusal.
+mod outcome;
+mod text;
+
+use crate::outcome::Outcome;
+use crate::outcome::walk_input;
+use crate::text::write_text;
 use field::limits::MIN_REPORT;
 use lines::report::MAX_TEXT;
 use marks::places::PLACES;
 use memory::layout::CELLS;
 use memory::layout::SLOTS;
 use module::tables::WORDS;
-use report_text::outcome::Outcome;
-use report_text::outcome::walk_input;
 use report_text::split::MAX_INPUT;
-use report_text::text::write_text;
 ghost use Prim.Native.Nat.{_≤_};
 ghost use lib.ListN.{length};
 ghost use Rattle.io.specs.Counts.{Counts};
 ghost use Rattle.report_text.specs.Split.{moduleIn};
 ghost use Rattle.report_text.specs.Input.{maxInput, reportInput};
-ghost use Rattle.report_text.specs.Outcome.{Arrays, TextIs};
+ghost use Rattle.report.specs.Outcome.{TextIs};
 
 // The input, or as much of it as can change the answer.
 fn read_input(input: &mut [u8]) -> usize
@@ -43,14 +46,12 @@ fn print(
 
 fn answer(
     input: &[u8],
-    t: &mut [u32],
-    places: &mut [u32],
-    cells: &mut [u32],
-    slots: &mut [u32],
-    open: &mut [u8],
-)
-    requires { ⌜ Arrays (now t) (now places) (now cells) (now slots) (now «open») ⌝ }
-{
+    t: &mut [u32; WORDS],
+    places: &mut [u32; PLACES],
+    cells: &mut [u32; CELLS],
+    slots: &mut [u32; SLOTS],
+    open: &mut [u8; MIN_REPORT],
+) {
     let outcome = walk_input(input, t, places, cells, slots, open);
     print(input, t, places, cells, slots, open, outcome);
 }

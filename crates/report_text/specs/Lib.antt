@@ -1,3 +1,2 @@
 pub mod Split
 pub mod Input
-pub mod Outcome

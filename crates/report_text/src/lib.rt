@@ -1,4 +1,2 @@
-// The text that the program `report` prints for its input.
-pub mod outcome;
+// The input of the program `report`, and what it prints for it.
 pub mod split;
-pub mod text;

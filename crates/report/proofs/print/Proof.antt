@@ -7,7 +7,7 @@ use Rattle.report.proofs.print.Tie as tie
 use Rattle.report.proofs.print.Reads as reads
 use Rattle.report.proofs.print.Lts as lts
 use Rattle.io.proofs.write_all.Reads as write-all-reads
-use Rattle.report_text.proofs.text.write_text.Reads as write-text-reads
+use Rattle.report.proofs.text.write_text.Reads as write-text-reads
 
 slice-aggregate-write-text : tie.Need-slice-aggregate-write-text
 slice-aggregate-write-text c = search needs

@@ -18,12 +18,12 @@ use Rattle.state.specs.Ready.{WasRead}
 use Rattle.lines.specs.Text.{refusedText}
 use Rattle.lines.specs.Reported.{Reporting, textIn}
 use Rattle.lines.specs.Wrote.{Front}
 use Rattle.report_text.specs.Split.{moduleBytes, moduleIn, requestIn}
 use Rattle.report_text.specs.Input.{requestText, moduleText, reportInput}
-use Rattle.report_text.specs.Outcome.{Arrays, TextIs}
-use Rattle.report_text.specs.declared.outcome.Outcome.{Outcome}
-use Rattle.report_text.specs.declared.outcome.Outcome.the-variants.{Refused, Reported}
+use Rattle.report.specs.Outcome.{Arrays, TextIs}
+use Rattle.report.specs.declared.outcome.Outcome.{Outcome}
+use Rattle.report.specs.declared.outcome.Outcome.the-variants.{Refused, Reported}
 use Rattle.report_text.proofs.Cut.{within}
 
 module _ (input : List ℕ) {at : ℕ} (e : at ≡ moduleBytes input 0) where
   pub split-inside : at ≤ length input

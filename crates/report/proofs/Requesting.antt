@@ -26,10 +26,10 @@ use Rattle.requests.specs.declared.begin.Begun.{Begun}
 use Rattle.requests.specs.declared.begin.Begun.the-variants as begun
 use Rattle.requests.proofs.Serving.{both-read}
 use Rattle.lines.specs.Text.{refusedText}
 use Rattle.report_text.specs.Input.{requestText}
-use Rattle.report_text.specs.Outcome.{Arrays, TextIs, Asked, Walked}
-use Rattle.report_text.specs.declared.outcome.Outcome.{Outcome}
-use Rattle.report_text.specs.declared.outcome.Outcome.the-variants.{Refused}
+use Rattle.report.specs.Outcome.{Arrays, TextIs, Asked, Walked}
+use Rattle.report.specs.declared.outcome.Outcome.{Outcome}
+use Rattle.report.specs.declared.outcome.Outcome.the-variants.{Refused}
 
 -- a pruner of which nothing was asked yet
 abbrev none-yet : List ℕ

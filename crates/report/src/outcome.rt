@@ -1,5 +1,4 @@
 // From the bytes of an input to the end of the walk of its request.
-use crate::split::split;
 use access::whole::types;
 use context::remove::TYPE_WORDS;
 use field::limits::MAX_PIECES;
@@ -7,11 +6,16 @@ use field::limits::MAX_TYPES;
 use field::limits::MIN_REPORT;
 use function::functions::add_function;
 use leave::leave::own_pieces;
+use marks::places::PLACES;
 use marks::places::place_marks;
 use marks::report::TOTALS_SIZE;
+use memory::layout::CELLS;
+use memory::layout::SLOTS;
 use memory::layout::STACK;
 use module::handles::FunctionHandle;
+use module::tables::WORDS;
 use reading::read::read_module;
+use report_text::split::split;
 use requests::begin::Begun;
 use requests::begin::begin_request;
 use state::answer::Answered;
@@ -26,9 +30,9 @@ ghost use Rattle.context.specs.Types.{typeWords};
 ghost use Rattle.request.specs.Request.{readRequest};
 ghost use Rattle.marks.specs.Report.{totalsSize};
 ghost use Rattle.state.specs.Ready.{WasRead};
 ghost use Rattle.report_text.specs.Split.{moduleIn};
 ghost use Rattle.report_text.specs.Input.{requestText, reportInput};
-ghost use Rattle.report_text.specs.Outcome.{Arrays, TextIs, Asked, Walked};
+ghost use Rattle.report.specs.Outcome.{Arrays, TextIs, Asked, Walked};
 
 // 01's number; or the asked function, of which memory has a report, and whether it is required.
 pub enum Outcome {
@@ -39,13 +43,13 @@ pub enum Outcome {
 // The walk of f, and 16 at its end.
 fn walk_function(
     bytes: &[u8],
-    t: &[u32],
+    t: &[u32; WORDS],
     types: &[u32],
-    places: &[u32],
-    cells: &mut [u32],
-    slots: &mut [u32],
-    open: &mut [u8],
-    totals: &mut [u8],
+    places: &[u32; PLACES],
+    cells: &mut [u32; CELLS],
+    slots: &mut [u32; SLOTS],
+    open: &mut [u8; MIN_REPORT],
+    totals: &mut [u8; TOTALS_SIZE],
     f: FunctionHandle,
     sum: usize,
 ) -> Outcome
@@ -82,13 +86,13 @@ fn walk_function(
 // The request of a module that was read, with a row for each type.
 fn walk_request(
     bytes: &[u8],
-    t: &[u32],
+    t: &[u32; WORDS],
     table: &mut [u32],
-    places: &mut [u32],
-    cells: &mut [u32],
-    slots: &mut [u32],
-    open: &mut [u8],
-    totals: &mut [u8],
+    places: &mut [u32; PLACES],
+    cells: &mut [u32; CELLS],
+    slots: &mut [u32; SLOTS],
+    open: &mut [u8; MIN_REPORT],
+    totals: &mut [u8; TOTALS_SIZE],
     request: &[u8],
 ) -> Outcome
     requires { ⌜ WasRead (now bytes) (now t) × Arrays (now t) (now places) (now cells) (now slots) (now «open») ⌝ }
@@ -130,11 +134,11 @@ fn walk_request(
 // The request of a module that was read.
 fn walk_read(
     bytes: &[u8],
-    t: &[u32],
-    places: &mut [u32],
-    cells: &mut [u32],
-    slots: &mut [u32],
-    open: &mut [u8],
+    t: &[u32; WORDS],
+    places: &mut [u32; PLACES],
+    cells: &mut [u32; CELLS],
+    slots: &mut [u32; SLOTS],
+    open: &mut [u8; MIN_REPORT],
     request: &[u8],
 ) -> Outcome
     requires { ⌜ WasRead (now bytes) (now t) × Arrays (now t) (now places) (now cells) (now slots) (now «open») ⌝ }
@@ -160,11 +164,11 @@ fn walk_read(
 // A module and behind it one request, asked of a fresh pruner.
 pub fn walk_input(
     input: &[u8],
-    t: &mut [u32],
-    places: &mut [u32],
-    cells: &mut [u32],
-    slots: &mut [u32],
-    open: &mut [u8],
+    t: &mut [u32; WORDS],
+    places: &mut [u32; PLACES],
+    cells: &mut [u32; CELLS],
+    slots: &mut [u32; SLOTS],
+    open: &mut [u8; MIN_REPORT],
 ) -> Outcome
     requires { ⌜ Arrays (now t) (now places) (now cells) (now slots) (now «open») ⌝ }
     ensures { λ r. ⌜ TextIs (reportInput (now (input .entry))) (moduleIn (now (input .entry))) (now (t .exit)) (now (places .exit)) (now (cells .exit)) (now (slots .exit)) (now («open» .exit)) r ⌝ }

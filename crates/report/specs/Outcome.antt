@@ -14,9 +14,9 @@ use Rattle.pruner.specs.Form.{prunerPieces}
 use Rattle.requests.specs.Loaded.{Loaded}
 use Rattle.lines.specs.Text.{refusedText}
 use Rattle.lines.specs.Reported.{Reporting, textIn}
 use Rattle.report_text.specs.Input.{answerText}
-use Rattle.report_text.specs.declared.outcome.Outcome.{Outcome}
-use Rattle.report_text.specs.declared.outcome.Outcome.the-variants.{Refused, Reported}
+use Rattle.report.specs.declared.outcome.Outcome.{Outcome}
+use Rattle.report.specs.declared.outcome.Outcome.the-variants.{Refused, Reported}
 
 -- the arrays are long enough
 pub record Arrays (t places s rs open-marks : List ℕ) : Type 0 where

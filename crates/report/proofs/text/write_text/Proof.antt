@@ -1,13 +1,13 @@
--- `report_text::text::write_text` meets its contract: the line of a refusal, or the report that memory has.
-use Rattle.report_text.proofs.Whole.{split-inside, text-asks, wrote-refused, wrote-reported}
+-- `report::text::write_text` meets its contract: the line of a refusal, or the report that memory has.
+use Rattle.report.proofs.Whole.{split-inside, text-asks, wrote-refused, wrote-reported}
 use borrow.Author.Needs.{needs}
-use Rattle.report_text.proofs.text.write_text.Statement.{statement}
-use Rattle.report_text.proofs.text.write_text.Tie as tie
-use Rattle.report_text.proofs.text.write_text.Reads as reads
-use Rattle.report_text.proofs.text.write_text.Lts as lts
+use Rattle.report.proofs.text.write_text.Statement.{statement}
+use Rattle.report.proofs.text.write_text.Tie as tie
+use Rattle.report.proofs.text.write_text.Reads as reads
+use Rattle.report.proofs.text.write_text.Lts as lts
 use Rattle.lines.proofs.report.write_refused.Reads as write-refused-reads
 use Rattle.lines.proofs.report.write_report_text.Reads as write-report-text-reads
 use Rattle.report_text.proofs.split.split.Reads as split-reads
 
 enum-known-outcome : tie.Need-enum-known-outcome
 enum-known-outcome c = search needs

@@ -34,10 +34,10 @@ use Rattle.requests.proofs.Finishing.{own-pieces, own-few, own-asks}
 use Rattle.requests.proofs.Serving.{walkIn, walk-is}
 use Rattle.lines.specs.Reported.{Reporting, textIn}
 use Rattle.lines.proofs.ReportText.{text-of}
 use Rattle.report_text.specs.Input.{answerText}
-use Rattle.report_text.specs.Outcome.{TextIs, Asked, Walked}
-use Rattle.report_text.specs.declared.outcome.Outcome.the-variants.{Refused, Reported}
-use Rattle.report_text.proofs.Shown.{shows, fresh-shows}
+use Rattle.report.specs.Outcome.{TextIs, Asked, Walked}
+use Rattle.report.specs.declared.outcome.Outcome.the-variants.{Refused, Reported}
+use Rattle.report.proofs.Shown.{shows, fresh-shows}
 
 -- the walk of the request q has ended
 module _ {bytes t types places s rs open-marks totals : List ℕ} {q : Request} (L : Loaded bytes t types places s rs open-marks totals q (fresh (moduleOf bytes t)))

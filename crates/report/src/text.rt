@@ -1,16 +1,16 @@
 // The text of an outcome.
 use crate::outcome::Outcome;
-use crate::split::split;
 use lines::report::write_refused;
 use lines::report::write_report_text;
 use memory::layout::STACK;
+use report_text::split::split;
 ghost use Prim.Native.Nat.{_≤_};
 ghost use lib.ListN.{length};
 ghost use Rattle.lines.specs.Reported.{maxText};
 ghost use Rattle.lines.specs.Wrote.{Front};
 ghost use Rattle.report_text.specs.Split.{moduleIn};
 ghost use Rattle.report_text.specs.Input.{reportInput};
-ghost use Rattle.report_text.specs.Outcome.{TextIs};
+ghost use Rattle.report.specs.Outcome.{TextIs};
 
 // What `report` prints for the input, from what its walk has left; the answer is how long it is.
 pub fn write_text(
