@@ -47,7 +47,7 @@ fn reply_word(r: Reply) -> u64
 // Of a module that was read, with a row for each type.
 fn request_of(
     bytes: &[u8],
-    t: &[u32],
+    t: &[u32; WORDS],
     table: &mut [u32],
     places: &mut [u32; PLACES],
     request: &[u8],
@@ -67,7 +67,7 @@ fn request_of(
 // The same with tables of its own.
 fn request_in(
     bytes: &[u8],
-    t: &[u32],
+    t: &[u32; WORDS],
     request: &[u8],
     pruner: &mut [u8],
     report: &mut [u8],

@@ -4,7 +4,7 @@ use context::remove::TYPE_WORDS;
 use field::limits::MAX_PIECES;
 use field::limits::MAX_TYPES;
 use field::limits::MIN_REPORT;
-use function::functions::add_function;
+use function::add::add_function;
 use leave::leave::own_pieces;
 use marks::places::PLACES;
 use marks::places::place_marks;

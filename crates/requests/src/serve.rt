@@ -5,12 +5,14 @@ use crate::begin::begin_request;
 use crate::finish::Reply;
 use crate::finish::finish_request;
 use field::limits::MIN_REPORT;
-use function::functions::add_function;
+use function::add::add_function;
+use marks::places::PLACES;
 use marks::report::TOTALS_SIZE;
 use memory::layout::CELLS;
 use memory::layout::SLOTS;
 use memory::layout::STACK;
 use module::handles::FunctionHandle;
+use module::tables::WORDS;
 use pruner::frame::MIN_PRUNER;
 use state::answer::Answered;
 use state::answer::Place;
@@ -24,13 +26,13 @@ ghost use Rattle.requests.specs.Served.{Walking, Walked, Served};
 // The walk of f, and how it ends.
 fn walk_request(
     bytes: &[u8],
-    t: &[u32],
+    t: &[u32; WORDS],
     types: &[u32],
-    places: &[u32],
-    cells: &mut [u32],
-    slots: &mut [u32],
-    open: &mut [u8],
-    totals: &mut [u8],
+    places: &[u32; PLACES],
+    cells: &mut [u32; CELLS],
+    slots: &mut [u32; SLOTS],
+    open: &mut [u8; MIN_REPORT],
+    totals: &mut [u8; TOTALS_SIZE],
     f: FunctionHandle,
     sum: usize,
     pruner: &mut [u8],
@@ -80,9 +82,9 @@ fn walk_request(
 // The request in a walk's memory. A refusal leaves the three buffers.
 fn serve_in(
     bytes: &[u8],
-    t: &[u32],
+    t: &[u32; WORDS],
     types: &[u32],
-    places: &[u32],
+    places: &[u32; PLACES],
     cells: &mut [u32; CELLS],
     slots: &mut [u32; SLOTS],
     open: &mut [u8; MIN_REPORT],
@@ -138,9 +140,9 @@ fn serve_in(
 // The same with a memory of its own.
 pub fn serve_read(
     bytes: &[u8],
-    t: &[u32],
+    t: &[u32; WORDS],
     types: &[u32],
-    places: &[u32],
+    places: &[u32; PLACES],
     request: &[u8],
     pruner: &mut [u8],
     report: &mut [u8],

@@ -3,6 +3,10 @@ use Rattle.requests.proofs.Serving.{served-refused, served-19, served-2
 use borrow.Author.Needs.{needs}
 use Rattle.requests.proofs.serve.serve_in.Statement.{statement}
 use Rattle.requests.proofs.serve.serve_in.Tie as tie
+use Rattle.requests.proofs.serve.serve_in.Reads as reads
+use Rattle.requests.proofs.serve.serve_in.Lts as lts
+use Rattle.requests.proofs.begin.begin_request.Reads as begin-request-reads
+use Rattle.requests.proofs.serve.walk_request.Reads as walk-request-reads
 
 begin-request-requires : tie.Need-begin-request-requires
 begin-request-requires c κs = record { was-read = c .before .before .before .before .before .before .before .before .before .before .before .before .before .pre .0; placed = c .before .before .before .before .before .before .before .before .before .before .before .before .before .pre .1; cells-long = search needs; cells-fit = search needs; slots-long = search needs; open-long = search needs; totals-long = search needs }
