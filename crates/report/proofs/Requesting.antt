@@ -1,7 +1,7 @@
 -- A request of a module that was read: what its calls ask, and that the text is the definition's. Two bytes that are zero stand for a fresh pruner.
 use Prim.Native.Nat.{ℕ, _*_, _-_, _≤_}
 use native.Mathlib.Omega.{arith}
-use mathlib.Core.Path.{_≡_, refl, ap, subst}
+use mathlib.Core.Path.{_≡_, ap}
 use mathlib.Core.List.{List, [], _∷_}
 use lib.ListN.{length, take, length-take}
 use Rattle.field.specs.Limits.{maxTypes, minReport}
@@ -14,14 +14,13 @@ use Rattle.type_table.proofs.AllSized.{all-sized}
 use Rattle.request.specs.Fields as reading
 use Rattle.request.specs.Request.{Request, readRequest}
 use Rattle.walk.specs.Requests.{Pruner, fresh}
-use Rattle.marks.specs.Places.{placesSize, Places}
+use Rattle.marks.specs.Places.{Places}
 use Rattle.marks.specs.Report.{totalsSize}
 use Rattle.state.specs.Ready.{WasRead}
-use Rattle.pruner.specs.Form.{prunerPieces, readPruner}
+use Rattle.pruner.specs.Form.{readPruner}
 use Rattle.pruner.proofs.Back.{readPruner-zero}
 use Rattle.requests.specs.Loaded.{Loaded}
-use Rattle.requests.specs.Serve.{Lent}
-use Rattle.requests.specs.Begin.{withTotals, afterRequest, beginning, Beginning, Begins, Ready}
+use Rattle.requests.specs.Begin.{withTotals, afterRequest, Beginning, Begins, Ready}
 use Rattle.requests.specs.declared.begin.Begun.{Begun}
 use Rattle.requests.specs.declared.begin.Begun.the-variants as begun
 use Rattle.requests.proofs.Serving.{both-read}

@@ -1,41 +1,37 @@
 -- The walk of a request of a fresh pruner: what it is refused by, or that memory has its report, with the text that the definition says.
 use Prim.Native.Nat.{ℕ, _+_, _-_, _*_, _<_, _≤_}
 use native.Mathlib.Omega.{arith}
-use mathlib.Core.Path.{_≡_, refl, sym, ap, _∙_}
+use mathlib.Core.Path.{_≡_, sym, ap, _∙_}
 use mathlib.Core.Bool.{Bool}
 use mathlib.Core.List.{List}
-use lib.ListN.{length}
 use Rattle.field.specs.Limits.{maxPieces}
 use Rattle.part.specs.PartReq.{none}
 use Rattle.part.specs.StoreLimits.{entriesCap}
-use Rattle.module.specs.Module.{Module}
 use Rattle.module.specs.Tables.{moduleOf}
 use Rattle.module.specs.declared.handles.FunctionHandle.{FunctionHandle as Handle}
-use Rattle.context.specs.RequiredContext.{RequiredContext, pieces}
+use Rattle.context.specs.RequiredContext.{pieces}
 use Rattle.request.specs.Request.{Request}
-use Rattle.walk.specs.State.{State, nowhere, recordPieces}
+use Rattle.walk.specs.State.{nowhere}
 use Rattle.walk.specs.Requests.{Answer, Pruner, asked, fresh, request, endCount}
 use Rattle.walk.proofs.Ends.{ended}
-use Rattle.memory.specs.Layout.{exprsSlot, stackSlot}
+use Rattle.memory.specs.Layout.{stackSlot}
 use Rattle.memory.specs.Memory.{read, Memory}
-use Rattle.state.specs.State.{recordsIn}
 use Rattle.state.specs.declared.answer.Answered.{Answered}
 use Rattle.state.specs.declared.answer.Answered.the-variants.{Went, Halt}
 use Rattle.state.specs.declared.answer.Place.{Place}
 use Rattle.state.specs.declared.answer.Tally.{Tally}
 use Rattle.leave.specs.Leave.{Placed, ownIn}
 use Rattle.block.specs.Standing.{stateIn, functionsIn}
-use Rattle.block.specs.Blocks.{contextIn}
 use Rattle.block.specs.Functions.{FunctionEntered, FunctionEnded, FunctionEnds}
 use Rattle.requests.specs.Loaded.{Loaded}
 use Rattle.requests.proofs.Begins.{enters}
-use Rattle.requests.proofs.Ends.{walks, last, request-halts, end-count, request-over, request-went}
+use Rattle.requests.proofs.Ends.{walks, request-halts, end-count, request-over, request-went}
 use Rattle.requests.proofs.Finishing.{own-pieces, own-few, own-asks}
 use Rattle.requests.proofs.Serving.{walkIn, walk-is}
 use Rattle.lines.specs.Reported.{Reporting, textIn}
 use Rattle.lines.proofs.ReportText.{text-of}
 use Rattle.report_text.specs.Input.{answerText}
-use Rattle.report.specs.Outcome.{TextIs, Asked, Walked}
+use Rattle.report.specs.Outcome.{Asked, Walked}
 use Rattle.report.specs.declared.outcome.Outcome.the-variants.{Refused, Reported}
 use Rattle.report.proofs.Shown.{shows, fresh-shows}
 
