@@ -26,7 +26,7 @@ use Rattle.requests.specs.declared.begin.Begun.the-variants as begun
 use Rattle.requests.proofs.Serving.{both-read}
 use Rattle.lines.specs.Text.{refusedText}
 use Rattle.report_text.specs.Input.{requestText}
-use Rattle.report.specs.Outcome.{Arrays, TextIs, Asked, Walked}
+use Rattle.report.specs.Outcome.{TextIs, Asked, Walked}
 use Rattle.report.specs.declared.outcome.Outcome.{Outcome}
 use Rattle.report.specs.declared.outcome.Outcome.the-variants.{Refused}
 
@@ -50,17 +50,6 @@ module _ {bytes t : List ℕ} (R : WasRead bytes t) where
 
   pub rows-part : {n : ℕ} → n ≡ length (moduleOf bytes t .types) → (table : List ℕ) → typeWords * maxTypes ≤ length table → length (take (typeWords * n - 0) table) ≡ typeWords * length (moduleOf bytes t .types)
   rows-part e table h = simp length-take (omega (arith, types-few, e))
-
-  pub begin-asks : {places places-after s rs open-marks totals : List ℕ} → Arrays t places s rs open-marks → Places bytes t places-after → totalsSize ≤ length totals → Beginning bytes t places-after s rs open-marks totals
-  begin-asks A P l = record {
-    was-read = R;
-    placed = P;
-    cells-long = A .cells-long;
-    cells-fit = A .cells-fit;
-    slots-long = A .slots-long;
-    open-long = A .open-long;
-    totals-long = l;
-  }
 
 -- the request alone can be refused
 with-refused : {n : ℕ} (q : Request) (x : reading.Answer Pruner) (y : Pruner) → x ≡ reading.accepted y → withTotals q x ≡ reading.refused n → ⊥

@@ -20,7 +20,7 @@ use Rattle.lines.specs.Reported.{Reporting, textIn}
 use Rattle.lines.specs.Wrote.{Front}
 use Rattle.report_text.specs.Split.{moduleBytes, moduleIn, requestIn}
 use Rattle.report_text.specs.Input.{requestText, moduleText, reportInput}
-use Rattle.report.specs.Outcome.{Arrays, TextIs}
+use Rattle.report.specs.Outcome.{TextIs}
 use Rattle.report.specs.declared.outcome.Outcome.{Outcome}
 use Rattle.report.specs.declared.outcome.Outcome.the-variants.{Refused, Reported}
 use Rattle.report_text.proofs.Cut.{within}
@@ -51,17 +51,6 @@ module _ (input : List ℕ) {at : ℕ} (e : at ≡ moduleBytes input 0) where
       input-walked {places} {s} {rs} {open-marks} {r} T =
           let read : readModule (moduleIn input) ≡ accepted (moduleOf (moduleIn input) t) = rw (← front) (R .accepts z .0) in
           rw read (rw (front, back) at T)
-
--- tables of the same length
-pub arrays-kept : {t u places s rs open-marks : List ℕ} → length u ≡ length t → Arrays t places s rs open-marks → Arrays u places s rs open-marks
-arrays-kept e A = record {
-  tables-long = omega (arith, A .tables-long);
-  places-long = A .places-long;
-  cells-long = A .cells-long;
-  cells-fit = A .cells-fit;
-  slots-long = A .slots-long;
-  open-long = A .open-long;
-}
 
 -- the text is written
 module _ {text bytes t places s rs open-marks : List ℕ} {a : Outcome} (T : TextIs text bytes t places s rs open-marks a) where

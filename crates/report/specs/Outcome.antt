@@ -1,15 +1,11 @@
 -- What the walk of an input's request comes to, and what stands in memory then: a text, or a report that has it.
 use mathlib.Core.Path.{_≡_}
 use mathlib.Core.List.{List}
-use Prim.Native.Nat.{ℕ, _+_, _≤_}
-use lib.ListN.{length}
-use Rattle.field.specs.Limits.{minReport}
-use Rattle.part.specs.StoreLimits.{storeWords}
-use Rattle.module.specs.Tables.{words, moduleOf}
+use Prim.Native.Nat.{ℕ, _+_}
+use Rattle.module.specs.Tables.{moduleOf}
 use Rattle.request.specs.Request.{Request}
 use Rattle.walk.specs.Requests.{fresh, request}
-use Rattle.memory.specs.Layout.{stackSlot, slotCount, storeSize}
-use Rattle.marks.specs.Places.{placesSize}
+use Rattle.memory.specs.Layout.{stackSlot}
 use Rattle.pruner.specs.Form.{prunerPieces}
 use Rattle.requests.specs.Loaded.{Loaded}
 use Rattle.lines.specs.Text.{refusedText}
@@ -17,15 +13,6 @@ use Rattle.lines.specs.Reported.{Reporting, textIn}
 use Rattle.report_text.specs.Input.{answerText}
 use Rattle.report.specs.declared.outcome.Outcome.{Outcome}
 use Rattle.report.specs.declared.outcome.Outcome.the-variants.{Refused, Reported}
-
--- the arrays are long enough
-pub record Arrays (t places s rs open-marks : List ℕ) : Type 0 where
-  pub tables-long : words ≤ length t
-  pub places-long : placesSize ≤ length places
-  pub cells-long : storeSize ≤ length s
-  pub cells-fit : length s ≤ storeWords
-  pub slots-long : slotCount ≤ length rs
-  pub open-long : minReport ≤ length open-marks
 
 -- The text is the line of the refusal, or memory has a report with that text, its context behind the base.
 abbrev pub TextBy : (text bytes t places s rs open-marks : List ℕ) → Outcome → Type 0

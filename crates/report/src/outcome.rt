@@ -22,17 +22,16 @@ use state::answer::Answered;
 use state::answer::Place;
 use type_table::fill;
 ghost use mathlib.Core.Path.{_≡_};
-ghost use Prim.Native.Nat.{_*_, _≤_};
+ghost use Prim.Native.Nat.{_*_};
 ghost use lib.ListN.{length};
 ghost use Rattle.field.specs.Limits.{minReport};
 ghost use Rattle.module.specs.Tables.{moduleOf};
 ghost use Rattle.context.specs.Types.{typeWords};
 ghost use Rattle.request.specs.Request.{readRequest};
-ghost use Rattle.marks.specs.Report.{totalsSize};
 ghost use Rattle.state.specs.Ready.{WasRead};
 ghost use Rattle.report_text.specs.Split.{moduleIn};
 ghost use Rattle.report_text.specs.Input.{requestText, reportInput};
-ghost use Rattle.report.specs.Outcome.{Arrays, TextIs, Asked, Walked};
+ghost use Rattle.report.specs.Outcome.{TextIs, Asked, Walked};
 
 // 01's number; or the asked function, of which memory has a report, and whether it is required.
 pub enum Outcome {
@@ -95,8 +94,7 @@ fn walk_request(
     totals: &mut [u8; TOTALS_SIZE],
     request: &[u8],
 ) -> Outcome
-    requires { ⌜ WasRead (now bytes) (now t) × Arrays (now t) (now places) (now cells) (now slots) (now «open») ⌝ }
-    requires { ⌜ (length (now table) ≡ typeWords * length (moduleOf (now bytes) (now t) .types)) × (totalsSize ≤ length (now totals)) ⌝ }
+    requires { ⌜ WasRead (now bytes) (now t) × (length (now table) ≡ typeWords * length (moduleOf (now bytes) (now t) .types)) ⌝ }
     ensures { λ r. ⌜ TextIs (requestText (moduleOf (now (bytes .entry)) (now (t .entry))) (readRequest (moduleOf (now (bytes .entry)) (now (t .entry))) minReport (now (request .entry)))) (now (bytes .entry)) (now (t .entry)) (now (places .exit)) (now (cells .exit)) (now (slots .exit)) (now («open» .exit)) r ⌝ }
 {
     place_marks(bytes, t, places);
@@ -141,7 +139,7 @@ fn walk_read(
     open: &mut [u8; MIN_REPORT],
     request: &[u8],
 ) -> Outcome
-    requires { ⌜ WasRead (now bytes) (now t) × Arrays (now t) (now places) (now cells) (now slots) (now «open») ⌝ }
+    requires { ⌜ WasRead (now bytes) (now t) ⌝ }
     ensures { λ r. ⌜ TextIs (requestText (moduleOf (now (bytes .entry)) (now (t .entry))) (readRequest (moduleOf (now (bytes .entry)) (now (t .entry))) minReport (now (request .entry)))) (now (bytes .entry)) (now (t .entry)) (now (places .exit)) (now (cells .exit)) (now (slots .exit)) (now («open» .exit)) r ⌝ }
 {
     let mut table: [u32; TYPE_WORDS * MAX_TYPES] = [0; TYPE_WORDS * MAX_TYPES];
@@ -170,7 +168,6 @@ pub fn walk_input(
     slots: &mut [u32; SLOTS],
     open: &mut [u8; MIN_REPORT],
 ) -> Outcome
-    requires { ⌜ Arrays (now t) (now places) (now cells) (now slots) (now «open») ⌝ }
     ensures { λ r. ⌜ TextIs (reportInput (now (input .entry))) (moduleIn (now (input .entry))) (now (t .exit)) (now (places .exit)) (now (cells .exit)) (now (slots .exit)) (now («open» .exit)) r ⌝ }
 {
     let n = input.len();

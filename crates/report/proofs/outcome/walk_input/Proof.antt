@@ -1,6 +1,6 @@
 -- `report::outcome::walk_input` meets its contract: the module's refusal, or what its request comes to.
 use native.Mathlib.Omega.{arith}
-use Rattle.report.proofs.Whole.{split-inside, input-refused, input-read, input-walked, arrays-kept}
+use Rattle.report.proofs.Whole.{split-inside, input-refused, input-read, input-walked}
 use borrow.Author.Needs.{needs}
 use Rattle.report.proofs.outcome.walk_input.Statement.{statement}
 use Rattle.report.proofs.outcome.walk_input.Tie as tie
@@ -42,7 +42,7 @@ part-walk-read-end-2 : tie.Need-part-walk-read-end-2
 part-walk-read-end-2 c = search needs
 
 walk-read-requires : tie.Need-walk-read-requires
-walk-read-requires c κs = (input-read (c .before .before .before .before .before .before .before .before .before .before .before .before .before .args .input .now) (c .before .before .before .before .before .before .before .before .before .before .before .split .ensures) (c .before .before .before .before .before .before .before .before .read-module .ensures) (omega (arith, c .before .before .before .before .before .before .before .if1 .left)), arrays-kept (omega (arith, c .before .before .before .before .before .before .before .before .read-module .kept)) (c .before .before .before .before .before .before .before .before .before .before .before .before .before .pre))
+walk-read-requires c κs = input-read (c .before .before .before .before .before .before .before .before .before .before .before .before .before .args .input .now) (c .before .before .before .before .before .before .before .before .before .before .before .split .ensures) (c .before .before .before .before .before .before .before .before .read-module .ensures) (omega (arith, c .before .before .before .before .before .before .before .if1 .left))
 
 returns-2 : tie.Need-returns-2
 returns-2 c = input-walked (c .before .before .before .before .before .before .before .before .before .before .before .before .before .before .args .input .now) (c .before .before .before .before .before .before .before .before .before .before .before .before .split .ensures) (c .before .before .before .before .before .before .before .before .before .read-module .ensures) (omega (arith, c .before .before .before .before .before .before .before .before .if1 .left)) (c .walk-read .ensures)

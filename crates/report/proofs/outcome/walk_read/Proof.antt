@@ -21,10 +21,10 @@ part-table-start : tie.Need-part-table-start
 part-table-start c = search needs
 
 part-table-end : tie.Need-part-table-end
-part-table-end c = rows-end (c .before .before .before .before .pre .0) (c .types .ensures (c .before .before .before .before .args .bytes .now)) (omega arith)
+part-table-end c = rows-end (c .before .before .before .before .pre) (c .types .ensures (c .before .before .before .before .args .bytes .now)) (omega arith)
 
 walk-request-requires : tie.Need-walk-request-requires
-walk-request-requires c κs = (c .before .before .before .before .before .before .before .before .before .before .pre, (rows-part (c .before .before .before .before .before .before .before .before .before .before .pre .0) (c .before .before .before .before .before .before .types .ensures (c .before .before .before .before .before .before .before .before .before .before .args .bytes .now)) _ (search needs), search needs))
+walk-request-requires c κs = (c .before .before .before .before .before .before .before .before .before .before .pre, rows-part (c .before .before .before .before .before .before .before .before .before .before .pre) (c .before .before .before .before .before .before .types .ensures (c .before .before .before .before .before .before .before .before .before .before .args .bytes .now)) _ (search needs))
 
 returns : tie.Need-returns
 returns c = search needs

@@ -1,18 +1,18 @@
 -- `report::outcome::walk_request` meets its contract: the request's refusal, or what its walk comes to.
 use native.Mathlib.Omega.{arith}
-use Rattle.report.proofs.Requesting.{fill-asks, begin-asks, request-refused, request-asked, request-walked}
+use Rattle.report.proofs.Requesting.{fill-asks, request-refused, request-asked, request-walked}
 use borrow.Author.Needs.{needs}
 use Rattle.report.proofs.outcome.walk_request.Statement.{statement}
 use Rattle.report.proofs.outcome.walk_request.Tie as tie
 
 place-marks-requires : tie.Need-place-marks-requires
-place-marks-requires c κs = (c .before .before .before .before .before .pre .0 .0, c .before .before .before .before .before .pre .0 .1 .places-long)
+place-marks-requires c κs = (c .before .before .before .before .before .pre .0, search needs)
 
 fill-requires : tie.Need-fill-requires
-fill-requires c κs = fill-asks (c .before .before .before .before .before .before .before .before .pre .0 .0) (c .before .before .before .before .before .before .before .before .pre .1 .0)
+fill-requires c κs = fill-asks (c .before .before .before .before .before .before .before .before .pre .0) (c .before .before .before .before .before .before .before .before .pre .1)
 
 begin-request-requires : tie.Need-begin-request-requires
-begin-request-requires c κs = begin-asks (c .before .before .before .before .before .before .before .before .before .before .before .before .before .before .before .before .before .before .before .before .pre .0 .0) (c .before .before .before .before .before .before .before .before .before .before .before .before .before .before .before .before .before .before .before .before .pre .0 .1) (c .before .before .before .before .before .before .before .before .before .before .before .before .before .before .place-marks .ensures) (c .before .before .before .before .before .before .before .before .before .before .before .before .before .before .before .before .before .before .before .before .pre .1 .1)
+begin-request-requires c κs = record { was-read = c .before .before .before .before .before .before .before .before .before .before .before .before .before .before .before .before .before .before .before .before .pre .0; placed = c .before .before .before .before .before .before .before .before .before .before .before .before .before .before .place-marks .ensures; cells-long = search needs; cells-fit = search needs; slots-long = search needs; open-long = search needs; totals-long = search needs }
 
 enum-known-n : tie.Need-enum-known-n
 enum-known-n c = search needs
@@ -24,13 +24,13 @@ walk-function-requires : tie.Need-walk-function-requires
 walk-function-requires c κs = request-asked (c .before .before .before .before .before .before .before .before .before .begin-request .ensures) (c .before .before .before .before .before .before .before .f .given .1) (c .before .before .before .before .before .before .before .before .before .before .before .before .before .before .before .before .before .before .before .before .before .fill .ensures)
 
 same-length : tie.Need-same-length
-same-length c = search needs
+same-length c = omega (arith, c .before .before .before .before .before .before .before .before .before .before .before .before .before .before .before .fill .kept)
 
 returns : tie.Need-returns
 returns c = request-refused (c .before .before .before .begin-request .ensures) (c .before .n .given .1)
 
 same-length-2 : tie.Need-same-length-2
-same-length-2 c = search needs
+same-length-2 c = omega (arith, c .before .before .before .before .before .before .before .before .before .before .before .before .before .before .before .before .before .before .before .before .before .before .fill .kept)
 
 returns-2 : tie.Need-returns-2
 returns-2 c = request-walked (c .before .before .before .before .before .before .before .before .before .before .begin-request .ensures) (c .before .before .before .before .before .before .before .before .f .given .1) (c .before .before .before .before .before .before .before .before .before .before .before .before .before .before .before .before .before .before .before .before .before .before .fill .ensures) (c .walk-function .ensures)
