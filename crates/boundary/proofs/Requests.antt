@@ -1,12 +1,8 @@
 -- A request across the boundary: the reply as a number, the file's refusal first, and what is left of the lent slices.
-use Prim.Native.Nat.{ℕ, zero, suc, _+_, _*_, _-_, _%_, _<_, _≤_}
+use Prim.Native.Nat.{ℕ, _+_, _*_, _-_, _%_, _≤_}
 use native.Mathlib.Omega.{arith}
-use native.Mathlib.Nat.{mod-lt}
-use mathlib.Core.Path.{_≡_, refl, sym, ap, _∙_}
+use mathlib.Core.Path.{_≡_, ap, _∙_}
 use mathlib.Core.List.{List}
-use lib.ListN.{length, take}
-use Rattle.field.specs.Limits.{maxTypes}
-use Rattle.module.specs.Tables.{moduleOf}
 use Rattle.module.specs.declared.handles.ExpressionHandle.{ExpressionHandle as Expression}
 use Rattle.module.specs.declared.handles.FunctionHandle.{FunctionHandle as Handle}
 use Rattle.reading.specs.Reads.{Reads}

@@ -1,21 +1,19 @@
 -- What a request asks, in memory: its pieces are read into a fresh memory, and its base context stands at the bottom of the stack. Each law answers a need of crate's `begin`.
-use Prim.Native.Nat.{ℕ, zero, suc, _+_, _-_, _*_, _/_, _%_, _<_, _≤_}
+use Prim.Native.Nat.{ℕ, _+_, _-_, _*_, _%_, _<_, _≤_}
 use native.Mathlib.Omega.{arith}
-use mathlib.Core.Path.{_≡_, refl, sym, ap, subst, _∙_}
-use mathlib.Core.Bool.{Bool, true, false, cond, _&&_}
+use mathlib.Core.Path.{_≡_, refl, sym, subst, _∙_}
+use mathlib.Core.Bool.{Bool, true, false, _&&_}
 use mathlib.Core.List.{List}
-use mathlib.Core.Option.{Option, some, none as nothing}
-use lib.Dec.{leb, eqb, ltb}
+use lib.Dec.{leb, eqb}
 use lib.ListN.{length, getD, length-set, List·getD-eq-default}
 use native.Mathlib.Decide.{decLt}
 use borrow.Author.Tests.{ne-eqb}
-use Rattle.field.specs.Limits.{absent, maxPieces, minReport}
+use Rattle.field.specs.Limits.{absent}
 use Rattle.field.specs.Field.{fieldAt}
-use Rattle.part.specs.PartReq.{PartReq, none, more, entries}
-use Rattle.part.specs.Store.{top, part, Good, Kept, Room, Made}
-use Rattle.part.specs.StoreLimits.{storeWords}
+use Rattle.part.specs.PartReq.{none, more}
+use Rattle.part.specs.Store.{top, part, Good, Room, Made}
 use Rattle.part.proofs.Pieces.{part-2}
-use Rattle.context.specs.RequiredContext.{RequiredContext, variable, pieces}
+use Rattle.context.specs.RequiredContext.{variable, pieces}
 use Rattle.request.specs.Fields.{framed, accepted, refused}
 use Rattle.request.specs.Request.{Request, asking, isRequest, requestOf, judge}
 use Rattle.request.specs.Answers.{optional, Held, RequestHeld, RequestWasRead}
@@ -26,9 +24,9 @@ use Rattle.request.specs.declared.requests.RequestAnswer.{RequestAnswer}
 use Rattle.request.specs.declared.requests.RequestAnswer.the-variants as answer
 use Rattle.walk.specs.Statement.{needOf, retvalOf}
 use Rattle.walk.specs.Requests.{asked}
-use Rattle.memory.specs.Layout.{globalsSlot, functionsSlot, stackSlot, slotCount, storeSize, flatCount}
+use Rattle.memory.specs.Layout.{globalsSlot, stackSlot}
 use Rattle.memory.specs.Stretches.{fourSet}
-use Rattle.memory.specs.Memory.{read, contextAt, withContext, Memory, Empty}
+use Rattle.memory.specs.Memory.{read, Empty}
 use Rattle.memory.proofs.Slots.{read-at, read-long, kept-self, kept-read, kept-memory}
 use Rattle.memory.proofs.Runs.{four-read, four-memory, four-outside, context-put}
 use Rattle.module.specs.declared.handles.FunctionHandle.{FunctionHandle as Handle}

@@ -1,19 +1,17 @@
 -- How a request begins, in memory: the totals are read beside the request, the marks of the asked function are cleared, and room is made. From there the walk begins (`Loaded`).
 use Prim.Native.Nat.{ℕ, _+_, _-_, _*_, _<_, _≤_}
 use native.Mathlib.Omega.{arith}
-use mathlib.Core.Path.{_≡_, refl, sym, ap, _∙_}
+use mathlib.Core.Path.{_≡_, ap, _∙_}
 use mathlib.Core.Bool.{Bool, true, false}
 use mathlib.Core.List.{List}
 use mathlib.Core.Option.{Option}
 use lib.ListN.{length, getD, replicate}
-use Rattle.field.specs.Limits.{absent, maxPieces, maxFunctions, minReport}
-use Rattle.part.specs.PartReq.{PartReq, none, entries}
-use Rattle.part.specs.Store.{top, Kept}
+use Rattle.field.specs.Limits.{absent, maxPieces, maxFunctions}
+use Rattle.part.specs.PartReq.{none, entries}
 use Rattle.part.specs.StoreLimits.{entriesCap}
 use Rattle.module.specs.Module.{Module}
 use Rattle.module.specs.Tables.{maxItems, moduleOf}
 use Rattle.module.specs.declared.handles.FunctionHandle.{FunctionHandle as Handle}
-use Rattle.context.specs.Types.{typesOf}
 use Rattle.context.specs.RequiredContext.{pieces}
 use Rattle.request.specs.Fields as reading
 use Rattle.request.specs.Request.{Request, requestOf, judge, readRequest}
@@ -21,21 +19,19 @@ use Rattle.valid.proofs.Accepted.{valid}
 use Rattle.walk.specs.Marks.{writeMarks}
 use Rattle.walk.specs.Requests.{Pruner, asked}
 use Rattle.sound.proofs.Asked as sound
-use Rattle.memory.specs.Layout.{globalsSlot, exprsSlot, totalsSlot, functionsSlot, stackSlot, slotCount, storeSize, most}
+use Rattle.memory.specs.Layout.{globalsSlot, exprsSlot, totalsSlot, stackSlot, most}
 use Rattle.memory.specs.Memory.{read, sumFrom, counted, contextAt, Memory, Tidied}
-use Rattle.memory.proofs.Slots.{read-long, sum-none, sum-suc, sum-split, counted-split}
-use Rattle.memory.proofs.Runs.{context-pieces}
-use Rattle.marks.specs.Places.{Inside, Places, startIn, sizeIn}
+use Rattle.memory.proofs.Slots.{read-long, sum-none, sum-suc, sum-split}
+use Rattle.marks.specs.Places.{Inside, startIn, sizeIn}
 use Rattle.marks.proofs.Buffers.{all-inside, cleared-own}
 use Rattle.marks.proofs.Write.{write-long}
 use Rattle.state.specs.State.{totalsSum}
-use Rattle.state.specs.Ready.{WasRead}
 use Rattle.pruner.specs.Form.{prunerPieces, readPruner}
 use Rattle.pruner.specs.Stored.{prunerIn, HasTotals}
 use Rattle.pruner.specs.Reading.{Untold, PrunerIs, PrunerWasRead}
 use Rattle.pruner.proofs.Read.{read-fine, read-few}
 use Rattle.requests.specs.Loaded.{Loaded}
-use Rattle.requests.specs.Begin.{baseOf, withTotals, afterRequest, beginning, Standing, RequestStands, RequestLoaded, Weighing, Beginning, Begins}
+use Rattle.requests.specs.Begin.{baseOf, withTotals, afterRequest, Standing, RequestStands, RequestLoaded, Weighing, Beginning, Begins}
 use Rattle.requests.specs.declared.begin.Asked.{Asked}
 use Rattle.requests.specs.declared.begin.Asked.the-variants as asks
 use Rattle.requests.specs.declared.begin.Begun.the-variants as begun

@@ -1,16 +1,15 @@
 -- From what was loaded, the walk of the asked function can begin, in the definition's first state of a request: a walk of a function looks at nothing of the state before but the totals and
 -- the visits.
-use Prim.Native.Nat.{ℕ, zero, suc, _+_, _-_, _*_, _<_, _≤_}
+use Prim.Native.Nat.{ℕ, zero, suc, _+_, _-_, _<_, _≤_}
 use native.Mathlib.Omega.{arith}
 use mathlib.Core.Path.{_≡_, refl, sym, ap, _∙_}
 use mathlib.Core.List.{List}
 use mathlib.Core.Option.{Option, some, none as nothing}
 use lib.ListN.{length, getD, replicate, length-replicate}
-use Rattle.field.specs.Limits.{maxBlocks, maxPieces}
 use Rattle.part.specs.PartReq.{PartReq, none, entries}
 use Rattle.module.specs.Module.{Function, Module}
 use Rattle.module.specs.File.{readModule, accepted}
-use Rattle.module.specs.Tables.{rowAt, expressionsFrom, itemsTo, maxItems, moduleOf}
+use Rattle.module.specs.Tables.{rowAt, expressionsFrom, maxItems, moduleOf}
 use Rattle.access.proofs.Access.{expressions-are}
 use Rattle.context.specs.RequiredContext.{RequiredContext, pieces}
 use Rattle.request.specs.Request.{Request}
@@ -30,7 +29,6 @@ use Rattle.memory.specs.Memory.{read, sumFrom, counted, contextAt}
 use Rattle.memory.proofs.Slots.{read-long, sum-none, sum-suc, sum-split, counted-split}
 use Rattle.memory.proofs.Records.{records-none}
 use Rattle.memory.proofs.Runs.{context-pieces}
-use Rattle.marks.specs.Places.{slice, startOf}
 use Rattle.marks.proofs.Placed.{at-function}
 use Rattle.state.specs.State.{recordsIn, totalsSum}
 use Rattle.state.proofs.Own.{fits}

@@ -1,18 +1,18 @@
 -- What a request can ask for: an entry takes two fields at least, and a request's body has fewer than 2^15 fields. So its base context has at most twice the pieces that 16 allows.
-use Prim.Native.Nat.{ℕ, zero, suc, _+_, _*_, _<_, _≤_}
+use Prim.Native.Nat.{ℕ, zero, suc, _+_, _*_, _≤_}
 use native.Mathlib.Omega.{arith}
-use mathlib.Core.Path.{_≡_, refl, subst}
+use mathlib.Core.Path.{_≡_, subst}
 use mathlib.Core.Bool.{Bool, true, false, cond, _&&_}
 use mathlib.Core.List.{List, [], _∷_}
 use mathlib.Core.Option.{Option, some, none as nothing}
 use lib.Dec.{leb, ltb, eqb}
 use lib.ListN.{length, drop, length-drop}
 use Rattle.field.specs.Limits.{absent, maxDepth, maxEntries, maxPieces, minReport}
-use Rattle.part.specs.PartReq.{PartReq, all, exist, none, more, entries, spine}
+use Rattle.part.specs.PartReq.{PartReq, all, exist, entries, spine}
 use Rattle.context.specs.RequiredContext.{pieces}
-use Rattle.request.specs.Fields.{fields, Read, malformed, got, _>>=_, whole, Answer, accepted, refused}
+use Rattle.request.specs.Fields.{fields, Read, malformed, got, _>>=_, whole, accepted, refused}
 use Rattle.request.specs.Part.{readEntries, readLevel, byCode, readPart, readReturn, readVariables}
-use Rattle.request.specs.Request.{Request, asking, readBody, isRequest, requestOf, known, judge}
+use Rattle.request.specs.Request.{Request, readBody, isRequest, requestOf, known, judge}
 use Rattle.walk.specs.Statement.{needOf, retvalOf}
 use Rattle.walk.specs.Requests.{asked}
 use Rattle.sound.proofs.Parts.{OnGot}

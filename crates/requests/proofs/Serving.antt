@@ -1,14 +1,14 @@
 -- A request in code equals `serveRead`: what begins as the definition does is walked as its request, and ends as `finish` says; a refusal leaves the buffers.
 use Prim.Native.Nat.{ℕ, _+_, _<_, _≤_}
 use native.Mathlib.Omega.{arith}
-use mathlib.Core.Path.{_≡_, refl, sym, ap, subst, _∙_}
+use mathlib.Core.Path.{_≡_, refl, sym, ap, _∙_}
 use mathlib.Core.Bool.{Bool, true, false, cond}
 use mathlib.Core.List.{List}
 use mathlib.Core.Option.{Option, some, none as nothing}
 use lib.Dec.{leb, ltb}
 use lib.ListN.{length, getD, drop}
 use borrow.Author.Tests.{lt-ltb, le-ltb}
-use Rattle.field.specs.Limits.{maxPieces, minReport}
+use Rattle.field.specs.Limits.{maxPieces}
 use Rattle.part.specs.PartReq.{none}
 use Rattle.module.specs.Module.{Module}
 use Rattle.module.specs.Tables.{moduleOf}
@@ -27,7 +27,6 @@ use Rattle.state.specs.declared.answer.Answered.the-variants.{Went, Halt}
 use Rattle.state.specs.declared.answer.Place.{Place}
 use Rattle.state.specs.declared.answer.Place.the-variants.{Nowhere}
 use Rattle.state.specs.declared.answer.Tally.{Tally}
-use Rattle.state.specs.State.{placeOf}
 use Rattle.block.specs.Standing.{stateIn}
 use Rattle.block.specs.Functions.{FunctionEntered, FunctionEnded, FunctionEnds}
 use Rattle.pruner.specs.Form.{minPruner, prunerPieces, readBody, stated, isPruner, isFresh, answered, readPruner}

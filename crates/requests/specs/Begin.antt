@@ -5,7 +5,7 @@ use Prim.Native.Nat.{ℕ, _+_, _*_, _<_, _≤_}
 use lib.ListN.{length, getD}
 use Rattle.field.specs.Limits.{maxPieces, minReport}
 use Rattle.part.specs.PartReq.{none, entries}
-use Rattle.part.specs.Store.{top, part, Kept, Room}
+use Rattle.part.specs.Store.{top, part, Room}
 use Rattle.part.specs.StoreLimits.{storeWords, entriesCap}
 use Rattle.module.specs.Module.{Module}
 use Rattle.module.specs.Tables.{moduleOf}

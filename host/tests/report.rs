@@ -1,0 +1,40 @@
+//! The program `report`, on the stored list of inputs and outputs, and on inputs past every limit. `rt check report` makes it.
+use host::stored::{Report, Source};
+use std::io::Write;
+use std::path::PathBuf;
+use std::process::{Command, Stdio};
+
+fn folder() -> PathBuf {
+    PathBuf::from(env!("CARGO_MANIFEST_DIR")).join("..")
+}
+
+fn run(input: &[u8]) -> String {
+    let program = folder().join("target/bin/report");
+    let mut child = Command::new(program).stdin(Stdio::piped()).stdout(Stdio::piped()).spawn().expect("target/bin/report");
+    // the program reads no more than can change its answer, and may have ended by then
+    let _ = child.stdin.take().expect("a pipe").write_all(input);
+    let output = child.wait_with_output().expect("an output");
+    assert!(output.status.success());
+    String::from_utf8(output.stdout).expect("text")
+}
+
+#[test]
+fn reports_are_printed_as_the_oracle_prints_them() {
+    let stored = std::fs::read(folder().join("tests/report.list")).expect("report.list");
+    let cases = Source(&stored).all(Report::read).expect("a whole list");
+    assert!(cases.len() > 300);
+    for (n, case) in cases.iter().enumerate() {
+        assert_eq!(run(&case.input), case.output, "item {n}");
+    }
+}
+
+#[test]
+fn any_input_has_an_answer() {
+    assert_eq!(run(&[]), "refused 12\n");
+    assert_eq!(run(&[0; 1_000_000]), "refused 1\n");
+    // a module of the greatest length, then a request that never ends
+    let mut long = vec![0; 65_536];
+    long.extend(b"RQ\xff\xff");
+    long.extend([0; 1_000_000]);
+    assert_eq!(run(&long), "refused 3\n");
+}
