@@ -41,6 +41,7 @@ use Rattle.block.specs.Blocks.{contextIn, StatementEnds}
 use Rattle.block.specs.Visiting.{blockIn, Arms}
 use Rattle.block.specs.Pairing.{addPair, Paired, PairEnded, PairEnding, PairEnds, Branched}
 use Rattle.block.proofs.Tops.{up-state, up-empty, up}
+use Rattle.block.proofs.Depth.{held-before}
 use Rattle.block.proofs.Steps.{beside-then, beside-context}
 use Rattle.block.proofs.Dropped.{beside-down}
 use Rattle.arms.specs.Ifs.{IfAsked, endIn, IfEnds}
@@ -135,7 +136,8 @@ module _ {bytes t types places s rs open-marks totals : List ℕ} {fr : Frame} {
             base-few = omega (arith, few);
             few = omega (arith, few, counted);
             sum-few = omega (arith, few);
-            deep = omega (arith, G .deep);
+            first-deep = rw accept-is (omega (arith, G .deep, held-before (A .within) (operandAt bytes row 1) (lower .0)));
+            second-deep = rw reject-is (omega (arith, G .deep, held-before (A .within) (operandAt bytes row 2) (lower .1)));
             roomy = G .begun .roomy;
           }
 

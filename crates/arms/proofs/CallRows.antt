@@ -14,8 +14,8 @@ use Rattle.access.specs.declared.kinded.Kinded.{Kinded}
 use Rattle.access.proofs.Access.{function-is, statements-are, statement-at}
 use Rattle.valid.specs.Valid.{MaybeBelow, StatementValid, entriesBelow}
 use Rattle.walk.specs.Resolve.{functionAt}
-use Rattle.walk.specs.Marks.{statementAt, bodyOf}
-use Rattle.sound.specs.Sizes.{blockNumber}
+use Rattle.walk.specs.Marks.{statementAt, blockAt, bodyOf}
+use Rattle.sound.specs.Sizes.{recordNumber}
 use Rattle.sound.proofs.Walks.{module-valid}
 use Rattle.sound.proofs.Numbers.{callee}
 use Rattle.sound.proofs.Blocks.{callee-number}
@@ -51,12 +51,12 @@ module _ {bytes t : List ℕ} {f s : ℕ} {row : Kinded} (w : WasRead bytes t) (
   pub result-there : MaybeBelow (length (functionAt m f .expressions)) (resultOf bytes row)
   result-there = call-valid .uses .2
 
-  -- the called function is below the caller, and its body's number below that of any block of the caller
+  -- the called function is below the caller, and its body ends before any block of the caller that has a statement
   pub callee-lower : o 0 < f
   callee-lower = callee m (module-valid bytes m (w .module-is)) f s (o 0) _ _ call-is .0
 
   pub callee-there : o 0 < length (m .functions)
   callee-there = omega (arith, callee-lower)
 
-  pub body-lower : (b : BlockHandle) → blockNumber m (o 0) (bodyOf m (o 0)) < blockNumber m f b
-  body-lower b = callee-number m (module-valid bytes m (w .module-is)) f (o 0) b callee-lower callee-there
+  pub body-lower : (b : BlockHandle) → 0 < blockAt m f b .count → recordNumber m (o 0) (bodyOf m (o 0)) + 2 ≤ recordNumber m f b
+  body-lower b l = callee-number m (module-valid bytes m (w .module-is)) f (o 0) b callee-lower callee-there l

@@ -29,7 +29,7 @@ use Rattle.walk.proofs.Bind.{then-halt}
 use Rattle.walk.proofs.Statements.{record-needs}
 use Rattle.walk.proofs.Proper.{proper, good, context-fine}
 use Rattle.module.specs.Marks.{marksBefore}
-use Rattle.sound.specs.Sizes.{blockNumber}
+use Rattle.sound.specs.Sizes.{recordNumber}
 use Rattle.sound.proofs.Walks.{module-sound, function-is}
 use Rattle.memory.specs.Layout.{exprsSlot, returned}
 use Rattle.memory.specs.Memory.{read, contextAt}
@@ -130,7 +130,7 @@ module _ {bytes t types places s rs open-marks totals : List ℕ} {fr : Frame} {
   own-few : own-records ≤ sum
   own-few = omega (arith, standing .ready .sums)
 
-  high : at + 12 * (blockNumber m f b + 1) ≤ length rs
+  high : at + 6 * (recordNumber m f b + 1) ≤ length rs
   high = A .begins .deep
 
   sound : Sound m
@@ -178,7 +178,8 @@ module _ {bytes t types places s rs open-marks totals : List ℕ} {fr : Frame} {
     function-enters =
         let l = called-few bytes t s rs f at row in
         let i = C .own-is in
-        let body : blockNumber m g (bodyOf m g) < blockNumber m f b = rw callee (body-lower (standing .ready .was-read) (standing .ready .function) (A .begins .begun .statement) (A .is) kind b) in
+        let body : recordNumber m g (bodyOf m g) + 2 ≤ recordNumber m f b =
+        rw callee (body-lower (standing .ready .was-read) (standing .ready .function) (A .begins .begun .statement) (A .is) kind b (omega (arith, A .within .low, A .within .high))) in
         record {
           standing = rw (C .held-is) (entered-standing standing lower (C .saved) (omega (arith, high)) cleared (omega (arith, own-few, i)) sound (base-fine g) (omega (arith, few, own-few, l, i)));
           no-locals = ap (λ (c : RequiredContext). c .locals) new-context;

@@ -43,6 +43,7 @@ use Rattle.block.specs.Blocks.{contextIn, Beside, StatementEnds}
 use Rattle.block.specs.Visiting.{blockIn, Arms}
 use Rattle.block.specs.Pairing.{addPair, Paired, PairEnded, PairEnding, PairEnds, Branched}
 use Rattle.block.proofs.Tops.{up, up-state, up-empty}
+use Rattle.block.proofs.Depth.{held-before}
 use Rattle.block.proofs.Steps.{beside-then, beside-context}
 use Rattle.block.proofs.Unroll.{loop-not}
 use Rattle.block.proofs.Dropped.{dropped}
@@ -126,7 +127,8 @@ module _ {bytes t types places s rs open-marks totals : List ℕ} {fr : Frame} {
             base-few = omega (arith, few);
             few = omega (arith, outer, few);
             sum-few = omega (arith, few);
-            deep = omega (arith, A .begins .deep);
+            first-deep = rw body (omega (arith, A .begins .deep, held-before (A .within) (o 0) (blocks .0)));
+            second-deep = rw continuing (omega (arith, A .begins .deep, held-before (A .within) (o 1) (blocks .1)));
             roomy = A .begins .begun .roomy;
           }
 
@@ -244,7 +246,8 @@ module _ {bytes t types places s rs open-marks totals : List ℕ} {fr : Frame} {
                       working-few = T .working-few;
                       few = T .few;
                       sum-few = T .sum-few;
-                      deep = omega (arith, A .begins .deep, pass-beside .long);
+                      body-deep = rw body (omega (arith, A .begins .deep, held-before (A .within) (o 0) (blocks .0), pass-beside .long));
+                      continuing-deep = rw continuing (omega (arith, A .begins .deep, held-before (A .within) (o 1) (blocks .1), pass-beside .long));
                       roomy = T .roomy;
                     }
 

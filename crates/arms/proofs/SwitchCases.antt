@@ -46,6 +46,7 @@ use Rattle.block.specs.Blocks.{contextIn, Entered, Beside, BlockEnded, BlockEnd
 use Rattle.block.specs.Visiting.{blockIn, Arms}
 use Rattle.block.proofs.Saving.{saved-copy}
 use Rattle.block.proofs.Tops.{up, up-state, saved-context, saved-state, saved-standing, popped-context, popped-state, popped-standing}
+use Rattle.block.proofs.Depth.{held-before}
 use Rattle.block.proofs.Steps.{beside-same, beside-then, beside-context, beside-popped, enters}
 use Rattle.block.proofs.Bounds.{contains-itself, contains-more, settled-pieces, settled-sum, case-few}
 use Rattle.block.proofs.Joining.{fine-merged, join-room}
@@ -251,7 +252,7 @@ module _ {bytes t types places s rs open-marks totals : List ℕ} {fr : Frame} {
             enters (C .switched .standing) body at (omega (arith, A .begins .block, body-lower)) low (omega arith) (C .switched .outer-fine)
             (omega (arith, held-few))
             (omega (arith, held-few, C .switched .few, C .sum-few))
-            (omega (arith, A .begins .deep, body-lower, C .beside .long))
+            (omega (arith, A .begins .deep, held-before (A .within) body body-lower, C .beside .long))
             (C .switched .roomy)
 
         pub case-enters : Entered bytes t types places u us open-1 totals-1 f body at (at + 8) (outside + more) (outside + more + contextIn u us at) m′ v

@@ -118,7 +118,7 @@ module _ {bytes t types places s rs open-marks totals : List ℕ} {fr : Frame} {
       paired =
           let G = L .turning in
           record {
-            standing = subst (λ (h : ℕ). Standing bytes t types places u us open-1 totals-1 f (at + 4 + 4) h k v) before-held (up (G .standing) (omega (arith, G .deep)));
+            standing = subst (λ (h : ℕ). Standing bytes t types places u us open-1 totals-1 f (at + 4 + 4) h k v) before-held (up (G .standing) (omega (arith, G .body-deep)));
             empty = up-empty (G .standing);
             block = G .block;
             first-lower = G .body-lower;
@@ -129,7 +129,8 @@ module _ {bytes t types places s rs open-marks totals : List ℕ} {fr : Frame} {
             base-few = G .working-few;
             few = turns-fit-2;
             sum-few = G .sum-few;
-            deep = omega (arith, G .deep);
+            first-deep = omega (arith, G .body-deep);
+            second-deep = omega (arith, G .continuing-deep);
             roomy = G .roomy;
           }
 
@@ -288,7 +289,8 @@ module _ {bytes t types places s rs open-marks totals : List ℕ} {fr : Frame} {
                     working-few = omega (arith, ap pieces above, T .working-few);
                     few = omega (arith, h, T .few);
                     sum-few = walked .sum-few;
-                    deep = omega (arith, T .deep, beside .long);
+                    body-deep = omega (arith, T .body-deep, beside .long);
+                    continuing-deep = omega (arith, T .continuing-deep, beside .long);
                     roomy = K .tidied .roomy;
                   };
                   beside = beside;

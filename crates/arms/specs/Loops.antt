@@ -18,7 +18,6 @@ use Rattle.walk.specs.StatementReq.{StatementReq}
 use Rattle.walk.specs.Resolve.{functionAt}
 use Rattle.walk.specs.Statement.{holding, askOptional, merged, turns}
 use Rattle.walk.specs.Statement as walk
-use Rattle.sound.specs.Sizes.{blockNumber}
 use Rattle.memory.specs.Layout.{stackSlot, most, room}
 use Rattle.memory.specs.Memory.{read, counted, contextAt, Memory, Tidied}
 use Rattle.state.specs.State.{placeOf}
@@ -28,7 +27,7 @@ use Rattle.state.specs.declared.answer.Walked.the-variants.{Went, Halt}
 use Rattle.state.specs.declared.frame.Frame.{Frame}
 use Rattle.block.specs.Standing.{stateIn, Standing}
 use Rattle.block.specs.Saved.{Lowered, Dropped, Joined}
-use Rattle.block.specs.Blocks.{contextIn, Beside}
+use Rattle.block.specs.Blocks.{contextIn, Deep, Beside}
 use Rattle.block.specs.Visiting.{blockIn}
 use Rattle.block.specs.Pairing.{Branched}
 use Rattle.arms.specs.declared.loops.Turn.{Turn}
@@ -101,7 +100,8 @@ pub record Turning (bytes t types places s rs open-marks totals : List ℕ) (fr 
   pub working-few : contextIn s rs (fr .at + 4) ≤ 2 * maxPieces
   pub few : fr .held + contextIn s rs (fr .at) ≤ maxPieces
   pub sum-few : sum ≤ maxPieces
-  pub deep : fr .at + 12 + 12 * blockNumber (moduleOf bytes t) (fr .function .0) b ≤ length rs
+  pub body-deep : Deep bytes t rs (fr .function .0) body (fr .at + 8)
+  pub continuing-deep : Deep bytes t rs (fr .function .0) continuing (fr .at + 12)
   pub roomy : Room s room
 
 -- the turns from the memory s rs on, at most n, where the state is st

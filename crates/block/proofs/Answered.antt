@@ -5,9 +5,8 @@ use mathlib.Core.Path.{_≡_, refl, sym, ap, _∙_, subst}
 use mathlib.Core.Bool.{Bool}
 use mathlib.Core.List.{List}
 use lib.ListN.{length}
-use Rattle.field.specs.Limits.{maxBlocks}
 use Rattle.module.specs.Module.{FunctionHandle, BlockHandle, Function}
-use Rattle.module.specs.Tables.{rowAt, moduleOf}
+use Rattle.module.specs.Tables.{maxItems, rowAt, moduleOf}
 use Rattle.access.proofs.Access.{blocks-are}
 use Rattle.context.specs.RequiredContext.{RequiredContext}
 use Rattle.walk.specs.State.{State, Out, halt, withContext}
@@ -15,7 +14,7 @@ use Rattle.walk.specs.Resolve.{functionAt}
 use Rattle.walk.specs.Statement.{stepBlock}
 use Rattle.walk.specs.Function.{addFunction}
 use Rattle.sound.proofs.Walks.{block-is}
-use Rattle.sound.proofs.Blocks.{block-within}
+use Rattle.sound.proofs.Blocks.{record-within}
 use Rattle.marks.proofs.Placed.{at-function}
 use Rattle.state.specs.State.{placeOf}
 use Rattle.state.specs.Ready.{WasRead}
@@ -48,5 +47,5 @@ module _ {bytes t : List ℕ} (w : WasRead bytes t) (f : FunctionHandle) where
   pub blocks-there : f < length (moduleOf bytes t .functions) → rowAt t f .blocks ≡ length (functionAt (moduleOf bytes t) f .blocks)
   blocks-there l = blocks-are t f (rowAt t f) refl bytes ∙ ap (λ (x : Function). length (x .blocks)) (sym (at-function bytes t w f l))
 
-  pub block-low : (b : BlockHandle) → f < length (moduleOf bytes t .functions) → b < rowAt t f .blocks → b < maxBlocks
-  block-low b l h = omega (arith, block-within bytes (moduleOf bytes t) (w .module-is) f b (omega (arith, blocks-there l)))
+  pub block-low : (b : BlockHandle) → f < length (moduleOf bytes t .functions) → b < rowAt t f .blocks → b < maxItems
+  block-low b l h = omega (arith, record-within bytes (moduleOf bytes t) (w .module-is) f b (omega (arith, blocks-there l)))

@@ -7,10 +7,10 @@ use mathlib.Core.Bool.{Bool, true, false, cond}
 use mathlib.Core.List.{List}
 use mathlib.Core.Option.{Option, some, none as nothing}
 use lib.ListN.{length, getD}
-use Rattle.field.specs.Limits.{maxBlocks, maxPieces}
+use Rattle.field.specs.Limits.{maxPieces}
 use Rattle.part.specs.PartReq.{PartReq, none, entries}
 use Rattle.module.specs.Module.{FunctionHandle, BlockHandle, Function, Module}
-use Rattle.module.specs.Tables.{rowAt, functionOf, moduleOf}
+use Rattle.module.specs.Tables.{maxItems, rowAt, functionOf, moduleOf}
 use Rattle.context.specs.RequiredContext.{RequiredContext, emptyContext, mergeContext, pieces}
 use Rattle.walk.specs.State.{FunctionReq, State, Place, Out, went, halt, _>>_, overContext, limitedContext}
 use Rattle.walk.specs.State as walk
@@ -108,7 +108,7 @@ module _ {bytes t : List ℕ} (w : WasRead bytes t) {f : FunctionHandle} (l : f 
   body-row : bodyOf (moduleOf bytes t) f < rowAt t f .blocks
   body-row = omega (arith, body-there (moduleOf bytes t) (module-valid bytes (moduleOf bytes t) (w .module-is)) f l, blocks-there w f l)
 
-  pub body-low : bodyOf (moduleOf bytes t) f < maxBlocks
+  pub body-low : bodyOf (moduleOf bytes t) f < maxItems
   body-low = block-low w f (bodyOf (moduleOf bytes t) f) l body-row
 
 module _ {bytes t types places s rs open-marks totals : List ℕ} {f : FunctionHandle} {base held sum visits : ℕ}
@@ -136,7 +136,7 @@ module _ {bytes t types places s rs open-marks totals : List ℕ} {f : FunctionH
     number : b ≡ bodyOf m f
     number = body-is (F .standing .ready .was-read) (F .standing .ready .function) i
 
-    pub body-below : b < maxBlocks
+    pub body-below : b < maxItems
     body-below = omega (arith, number, body-low (F .standing .ready .was-read) (F .standing .ready .function))
 
     pub body-enters : Entered bytes t types places s rs open-marks totals f b base (base + 4) held (held + contextIn s rs base) sum visits

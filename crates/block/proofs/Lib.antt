@@ -26,4 +26,5 @@ pub mod Paired
 pub mod Nested
 pub mod Statements
 pub mod Bodies
+pub mod Depth
 pub mod Dropped

@@ -53,7 +53,7 @@ module _ {bytes t types places s rs open-marks totals : List ℕ} {fr : Frame} {
 
   module _ (k : row .kind ≡ 1) {inner : BlockHandle} (j : inner ≡ operandAt bytes row 0) where
     nested-held : Entered bytes t types places s rs open-marks totals (fr .function .0) inner (fr .at) (fr .at + 4) (fr .held + contextIn s rs (fr .at)) (fr .held + contextIn s rs (fr .at)) sum visits
-    nested-held = rw j (first-enters (A .begins) (operandAt bytes row 0) (nested-lower k))
+    nested-held = rw j (first-enters (A .begins) (A .within) (operandAt bytes row 0) (nested-lower k))
 
     abbrev Inside : ℕ → Out Bool
     Inside w = blockIn bytes t (fr .function .0) inner (fr .held + w) (contextAt (read s rs) (fr .at)) (fr .«break_required») (stateIn bytes t s rs open-marks totals (fr .function .0) (fr .at + 4) visits)

@@ -61,7 +61,7 @@ module _ {bytes t types places s rs open-marks totals : List ℕ} {f : FunctionH
     base-fine = P .base-fine;
     base-few = P .base-few;
     few = omega (arith, P .few, P .base-few, P .sum-few);
-    deep = omega (arith, P .deep, P .first-lower);
+    deep = P .first-deep;
     roomy = P .roomy;
   }
 
@@ -105,7 +105,7 @@ module _ {bytes t types places s rs open-marks totals : List ℕ} {f : FunctionH
               settled-pieces (2 * maxPieces) (ended .settled) (P .base-few) (omega arith),
               settled-sum maxPieces (ended .settled) (P .sum-few) (le-refl maxPieces),
             ))
-            (omega (arith, P .deep, P .second-lower, ended .beside .long))
+            (omega (arith, P .second-deep, ended .beside .long))
             (ended .roomy)
 
         -- the second block is the definition's

@@ -12,7 +12,7 @@ use Rattle.module.specs.Tables.{rowAt, expressionsFrom, moduleOf}
 use Rattle.context.specs.RequiredContext.{RequiredContext, pieces}
 use Rattle.walk.specs.State.{Out, went, halt}
 use Rattle.walk.specs.Proper.{FineContext}
-use Rattle.sound.specs.Sizes.{blockNumber}
+use Rattle.sound.specs.Sizes.{recordNumber}
 use Rattle.memory.specs.Layout.{exprsSlot, totalsSlot, stackSlot, room}
 use Rattle.memory.specs.Memory.{read, contextAt}
 use Rattle.marks.specs.Places.{startOf}
@@ -27,9 +27,9 @@ use Rattle.block.specs.Standing.{stateIn, Standing}
 abbrev pub contextIn : (s rs : List ℕ) → ℕ → ℕ
 contextIn s rs k = pieces (contextAt (read s rs) k)
 
--- The slots above the current context suffice for the block b of f: three contexts for each block of the file up to it.
+-- The slots above the current context suffice for the block b of f: six for each block and statement of the file up to its end.
 abbrev pub Deep : (bytes t rs : List ℕ) → FunctionHandle → BlockHandle → (at : ℕ) → Type 0
-Deep bytes t rs f b at = at + 12 * (blockNumber (moduleOf bytes t) f b + 1) ≤ length rs
+Deep bytes t rs f b at = at + 6 * (recordNumber (moduleOf bytes t) f b + 1) ≤ length rs
 
 -- What a block asks, whose base stands in the slots from `base` on. `own` is what the slots have beside the current context, records and totals: the base of a nested block is
 -- the holder's context, which `held` counts, and that of a function's body is not counted there.

@@ -12,7 +12,6 @@ use Rattle.context.specs.RequiredContext.{RequiredContext, pieces}
 use Rattle.walk.specs.State.{Out, went, halt, Walk, _>>=_}
 use Rattle.walk.specs.Statement.{BlockWalk}
 use Rattle.walk.specs.Proper.{FineContext}
-use Rattle.sound.specs.Sizes.{blockNumber}
 use Rattle.memory.specs.Layout.{stackSlot, room}
 use Rattle.memory.specs.Memory.{read, contextAt}
 use Rattle.state.specs.State.{placeOf}
@@ -20,7 +19,7 @@ use Rattle.state.specs.declared.answer.Answered.{Answered}
 use Rattle.state.specs.declared.answer.Answered.the-variants.{Went, Halt}
 use Rattle.state.specs.declared.frame.Frame.{Frame}
 use Rattle.block.specs.Standing.{stateIn, Standing}
-use Rattle.block.specs.Blocks.{contextIn, Beside}
+use Rattle.block.specs.Blocks.{contextIn, Deep, Beside}
 
 -- The first one's context is held while the second is walked. The answer has that context, and whether either is required.
 unfoldable pub addPair : BlockWalk → (first second : BlockHandle) → (held : ℕ) → (base : RequiredContext) → (breakRequired : Bool) → Walk (RequiredContext × Bool)
@@ -41,7 +40,8 @@ pub record Paired (bytes t types places s rs open-marks totals : List ℕ) (f : 
   pub base-few : contextIn s rs base ≤ 2 * maxPieces
   pub few : held ≤ 3 * maxPieces
   pub sum-few : sum ≤ maxPieces
-  pub deep : at + 4 + 12 * blockNumber (moduleOf bytes t) f b ≤ length rs
+  pub first-deep : Deep bytes t rs f first at
+  pub second-deep : Deep bytes t rs f second (at + 4)
   pub roomy : Room s room
 
 pub record PairEnded (bytes t types places s rs open-marks totals : List ℕ) (f : FunctionHandle) (base at held : ℕ) (total : Out (RequiredContext × Bool)) (visits sum : ℕ) (b : Bool) (u us open-after totals-after : List ℕ) : Type 0 where

@@ -1,6 +1,6 @@
 -- How the slots of a walk's memory are laid out, and how large it is. No proof computes with one of these values.
 use Prim.Native.Nat.{ℕ, _+_, _*_}
-use Rattle.field.specs.Limits.{maxFunctions, maxBlocks, maxDepth, maxPieces}
+use Rattle.field.specs.Limits.{maxFunctions, maxDepth, maxPieces}
 use Rattle.module.specs.Tables.{maxItems}
 
 -- the slots of all and of exist
@@ -49,12 +49,13 @@ functionsSlot = totalsSlot + maxItems
 abbrev pub stackSlot : ℕ
 stackSlot = functionsSlot + 4 * maxFunctions
 
--- a block takes at most three contexts above its own, and two stand below the first
-abbrev pub stackContexts : ℕ
-stackContexts = 3 * maxBlocks + 4
+-- A block that holds others takes at most three contexts above its own, and has a statement: so six slots for each of the file's blocks and statements suffice. Two
+-- contexts stand below the first block's.
+abbrev pub stackSlots : ℕ
+stackSlots = 6 * maxItems + 16
 
 abbrev pub slotCount : ℕ
-slotCount = stackSlot + 4 * stackContexts
+slotCount = stackSlot + stackSlots
 
 -- The most entries that the slots have when what is not needed is freed. Between two visits they may pass what 16 allows: a join is counted only as the
 -- next visit begins.

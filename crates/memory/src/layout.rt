@@ -1,5 +1,4 @@
 // How the slots of a walk's memory are laid out, each with its definition in specs/Layout.antt.
-use field::limits::MAX_BLOCKS;
 use field::limits::MAX_DEPTH;
 use field::limits::MAX_FUNCTIONS;
 use field::limits::MAX_PIECES;
@@ -38,9 +37,10 @@ pub const FUNCTIONS: usize = TOTALS + MAX_ITEMS;
 // The open contexts, four slots each.
 pub const STACK: usize = FUNCTIONS + 4 * MAX_FUNCTIONS;
 
-pub const STACK_CONTEXTS: usize = 3 * MAX_BLOCKS + 4;
+// A block that holds others takes at most three contexts above its own, and has a statement: six slots for each block and statement.
+pub const STACK_SLOTS: usize = 6 * MAX_ITEMS + 16;
 
-pub const SLOTS: usize = STACK + 4 * STACK_CONTEXTS;
+pub const SLOTS: usize = STACK + STACK_SLOTS;
 
 // The most cells that stay after a collection, and those that a visit may make by itself.
 pub const LIVE: usize = 7 * MAX_PIECES + 12 + 4 * FLATS;

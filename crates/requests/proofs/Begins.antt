@@ -21,7 +21,7 @@ use Rattle.walk.specs.Function.{entered, stepFunction, addFunction}
 use Rattle.walk.specs.Requests.{Pruner, asked, begun}
 use Rattle.walk.specs.Proper.{FineRecord, EachRecord, EachMark, Variables, FineContext, ProperState}
 use Rattle.walk.proofs.Counts.{recordPieces-replicate}
-use Rattle.sound.proofs.Blocks.{block-within}
+use Rattle.sound.proofs.Blocks.{record-within}
 use Rattle.sound.proofs.Numbers.{body-there}
 use Rattle.sound.proofs.Walks.{module-valid, function-is}
 use Rattle.memory.specs.Layout.{globalsSlot, exprsSlot, totalsSlot, stackSlot}
@@ -172,7 +172,7 @@ module _ {bytes t types places s rs open-marks totals : List ℕ} {q : Request} 
   deep : Deep bytes t rs (q .function) (bodyOf m (q .function)) (stackSlot + 4)
   deep =
       let r = L .was-read .module-is in
-      omega (arith, L .slots-long, block-within bytes m r (q .function) (bodyOf m (q .function)) (body-there m (module-valid bytes m r) (q .function) (L .function)))
+      omega (arith, L .slots-long, record-within bytes m r (q .function) (bodyOf m (q .function)) (body-there m (module-valid bytes m r) (q .function) (L .function)))
 
   pub enters : FunctionEntered bytes t types places s rs open-marks totals (q .function) stackSlot 0 (prunerPieces pruner) 0
   enters = record {

@@ -1,8 +1,9 @@
 -- How many records of a file a function has beside its own: arguments, locals, expressions, statements and blocks.
-use Prim.Native.Nat.{ℕ, _+_}
+use Prim.Native.Nat.{ℕ, suc, _+_}
 use mathlib.Core.List.{List, [], _∷_}
 use lib.ListN.{length, take}
 use Rattle.module.specs.Module.{FunctionHandle, BlockHandle, Function, Module}
+use Rattle.walk.specs.Marks.{blockAt}
 
 abbrev pub blocksOf : Function → ℕ
 blocksOf f = length (f .blocks)
@@ -15,10 +16,10 @@ unfoldable pub total : (Function → ℕ) → List Function → ℕ
 total n [] = 0
 total n (f ∷ fs) = n f + total n fs
 
--- the blocks of the functions below f
-abbrev pub blocksBefore : Module → FunctionHandle → ℕ
-blocksBefore m f = total blocksOf (take f (m .functions))
+-- its blocks and statements
+abbrev pub bodyRecords : Function → ℕ
+bodyRecords f = length (f .statements) + blocksOf f
 
--- the number of a block among those of the file
-abbrev pub blockNumber : Module → FunctionHandle → BlockHandle → ℕ
-blockNumber m f b = blocksBefore m f + b
+-- how many blocks and statements the file has up to the end of a block
+abbrev pub recordNumber : Module → FunctionHandle → BlockHandle → ℕ
+recordNumber m f b = total bodyRecords (take f (m .functions)) + suc b + (blockAt m f b .first + blockAt m f b .count)

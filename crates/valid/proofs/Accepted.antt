@@ -6,7 +6,7 @@ use mathlib.Core.List.{List, [], _∷_, _++_, map}
 use mathlib.Core.Option.{Option, some, none as nothing}
 use mathlib.Core.Logic.{⊎-elim}
 use Prim.Native.Nat.{ℕ, zero, suc, _+_, _-_, _<_, _≤_}
-use native.Mathlib.Nat.{eq-or-lt-of-le, le-of-suc-le-suc, le-refl, le-trans}
+use native.Mathlib.Nat.{add-zero, eq-or-lt-of-le, le-of-suc-le-suc, le-refl, le-trans}
 use native.Mathlib.Omega.{arith}
 use lib.Dec.{ltb, leb, eqb}
 use lib.ListN.{length, getD, length-append, List·getD-append, List·getD-eq-default}
@@ -162,6 +162,7 @@ function-further {f = f} p q v =
       result = result-further (f .result) p (v .result);
       blocks = v .blocks;
       ranges = v .ranges;
+      apart = v .apart;
     }
 
 abbrev OpenValid : (types globals : ℕ) → List Bool → Open → Type 0
@@ -197,6 +198,25 @@ range-within starts m b v l =
     let low = v .ascend b n in
     subst (λ (k : ℕ). getD starts b 0 + (k - getD starts b 0) ≤ m) (sym same) (omega arith))
     (eq-or-lt-of-le l)
+
+-- and they come before those of a later block
+starts-before : (starts : List ℕ) (m : ℕ) → Starts starts m → (k a : ℕ) → suc (a + k) < length starts → getD starts (suc a) 0 ≤ getD starts (suc (a + k)) 0
+starts-before starts m v zero a l = rw add-zero (le-refl (getD starts (suc a) 0))
+starts-before starts m v (suc k) a l =
+    let before = starts-before starts m v k a (omega arith) in
+    let step = v .ascend (suc (a + k)) (omega arith) in
+    let same : suc (a + suc k) ≡ suc (suc (a + k)) = omega arith in
+    rw same (le-trans before step)
+
+ranges-apart : (starts : List ℕ) (m a b : ℕ) → Starts starts m → a < b → b < length starts → rangeOf starts m a .first + rangeOf starts m a .count ≤ rangeOf starts m b .first
+unfolding rangeOf
+ranges-apart starts m a b v l h =
+    let next : suc a < length starts = omega arith in
+    let same = in-range starts (suc a) m 0 next in
+    let low = v .ascend a next in
+    let here : suc (a + (b - suc a)) ≡ b = omega arith in
+    let far : getD starts (suc a) 0 ≤ getD starts b 0 = subst (λ (k : ℕ). getD starts (suc a) 0 ≤ getD starts k 0) here (starts-before starts m v (b - suc a) a (omega arith)) in
+    subst (λ (k : ℕ). getD starts a 0 + (k - getD starts a 0) ≤ getD starts b 0) (sym same) (omega arith)
 
 more-starts : (starts : List ℕ) (m : ℕ) → Starts starts m → Starts (starts ++ (m ∷ [])) m
 more-starts starts m v =
@@ -253,6 +273,12 @@ module _ (r : Reading) (v : ReadValid r) where
             (λ (x : BlockRange). x .first + x .count ≤ length (r .open-one .statements))
             (sym (getD-tab (length (r .open-one .starts)) (rangeOf (r .open-one .starts) (length (r .open-one .statements))) b d k))
             (range-within (r .open-one .starts) (length (r .open-one .statements)) b (v .starts) k);
+        apart = λ a b d l h.
+            let n = length (r .open-one .starts) in
+            let range = rangeOf (r .open-one .starts) (length (r .open-one .statements)) in
+            let k : b < n = rw length-tab at h in
+            rw (getD-tab n range a d (omega arith), getD-tab n range b d k)
+            (ranges-apart (r .open-one .starts) (length (r .open-one .statements)) a b (v .starts) l k);
       }
 
   functions-more : ResultBelow (length (r .types)) (r .open-one .result) → blockRule (closed (r .open-one)) ≡ true → All (λ f. FunctionValid (length (r .types)) (length (r .globals)) (entriesBelow f (r .functions ++ (closed (r .open-one) ∷ [])))) (r .functions ++ (closed (r .open-one) ∷ []))

@@ -7,7 +7,7 @@ use mathlib.Core.Option.{Option, some, none as nothing}
 use Prim.Native.Nat.{ℕ, _+_, _<_, _≤_}
 use lib.ListN.{length, getD, take}
 use Rattle.field.specs.Limits.{absent, maxTypes, maxGlobals, maxFunctions, maxArguments, maxMembers, maxComponents, maxLocals, maxExpressions, maxStatements}
-use Rattle.module.specs.Module.{Member, TypeInner, Scalar, Vector, Matrix, Atomic, Pointer, Array, Struct, BindingArray, Opaque, SampleLevel, Auto, Zero, Exact, Bias, Gradient, GatherMode, BroadcastFirst, Broadcast, Expression, Literal, ZeroValue, WorkGroupUniformLoadResult, AccessIndex, Access, Constant, Splat, Swizzle, Compose, FunctionArgument, GlobalVariable, LocalVariable, Load, ImageSample, ImageLoad, ImageQuery, Unary, Binary, Select, Derivative, Relational, Math, As, CallResult, AtomicResult, ArrayLength, RayQueryProceedResult, RayQueryGetIntersection, Override, SubgroupBallotResult, SubgroupOperationResult, RayQueryVertexPositions, Statement, Emit, Block, If, Switch, Loop, Break, Continue, Return, Kill, ControlBarrier, MemoryBarrier, ImageAtomic, Store, AtomicStatement, Call, ImageStore, RayQuery, WorkGroupUniformLoad, SubgroupBallot, SubgroupGather, SubgroupCollectiveOperation, Typed, FunctionArg, FunctionResult, Function, Module}
+use Rattle.module.specs.Module.{Member, TypeInner, Scalar, Vector, Matrix, Atomic, Pointer, Array, Struct, BindingArray, Opaque, SampleLevel, Auto, Zero, Exact, Bias, Gradient, GatherMode, BroadcastFirst, Broadcast, Expression, Literal, ZeroValue, WorkGroupUniformLoadResult, AccessIndex, Access, Constant, Splat, Swizzle, Compose, FunctionArgument, GlobalVariable, LocalVariable, Load, ImageSample, ImageLoad, ImageQuery, Unary, Binary, Select, Derivative, Relational, Math, As, CallResult, AtomicResult, ArrayLength, RayQueryProceedResult, RayQueryGetIntersection, Override, SubgroupBallotResult, SubgroupOperationResult, RayQueryVertexPositions, Statement, Emit, Block, If, Switch, Loop, Break, Continue, Return, Kill, ControlBarrier, MemoryBarrier, ImageAtomic, Store, AtomicStatement, Call, ImageStore, RayQuery, WorkGroupUniformLoad, SubgroupBallot, SubgroupGather, SubgroupCollectiveOperation, Typed, FunctionArg, FunctionResult, BlockRange, Function, Module}
 use Rattle.module.specs.Operands.{bindings}
 use Rattle.module.specs.Blocks.{blockRule}
 
@@ -244,6 +244,7 @@ pub record FunctionValid (types globals : ℕ) (entries : List Bool) (f : Functi
   pub result : ResultBelow types (f .result)
   pub blocks : blockRule f ≡ true
   pub ranges : All (λ b x. x .first + x .count ≤ length (f .statements)) (f .blocks)
+  pub apart : (a b : ℕ) (d : BlockRange) → a < b → b < length (f .blocks) → getD (f .blocks) a d .first + getD (f .blocks) a d .count ≤ getD (f .blocks) b d .first
 
 pub record TypeValid (n : ℕ) (x : TypeInner) : Type 0 where
   pub fine : TypeFine n x

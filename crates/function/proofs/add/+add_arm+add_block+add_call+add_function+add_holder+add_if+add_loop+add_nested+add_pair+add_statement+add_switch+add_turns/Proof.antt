@@ -15,7 +15,7 @@ use Rattle.block.proofs.Paired.{pair-ends, pair-first, pair-halt, pair-halt-2, 
 use Rattle.block.proofs.Statements.{StatementsLeft, all-left, base-copies, base-small, base-weighs, none-left, statement-low, statement-visits, statements-next, statements-stop}
 use Rattle.block.specs.Standing.{stateIn}
 use Rattle.block.specs.Visiting.{blockIn}
-use Rattle.field.specs.Limits.{maxBlocks}
+use Rattle.module.specs.Tables.{maxItems}
 use Rattle.memory.specs.Memory.{contextAt, read}
 use borrow.Author.Tests.{not-false, not-true}
 use lib.ListN.{length}
@@ -92,40 +92,40 @@ use Rattle.function.proofs.add.+add_arm+add_block+add_call+add_function
 }
 
 abbrev μ-add-arm : Measures 8 add-arm-kinds.ps ℕ
-μ-add-arm κs a = 8 * (maxBlocks * a .1 .1 .1 .1 .1 .1 .1 .1 .0 .function .0 + a .1 .1 .1 .1 .1 .1 .1 .1 .1 .0 .0) + 5
+μ-add-arm κs a = 8 * (maxItems * a .1 .1 .1 .1 .1 .1 .1 .1 .0 .function .0 + a .1 .1 .1 .1 .1 .1 .1 .1 .1 .0 .0) + 5
 
 abbrev μ-add-block : Measures 8 add-block-kinds.ps ℕ
-μ-add-block κs a = 8 * (maxBlocks * a .1 .1 .1 .1 .1 .1 .1 .1 .0 .0 + a .1 .1 .1 .1 .1 .1 .1 .1 .1 .0 .0) + 7
+μ-add-block κs a = 8 * (maxItems * a .1 .1 .1 .1 .1 .1 .1 .1 .0 .0 + a .1 .1 .1 .1 .1 .1 .1 .1 .1 .0 .0) + 7
 
 abbrev μ-add-call : Measures 8 add-call-kinds.ps ℕ
-μ-add-call κs a = 8 * (maxBlocks * a .1 .1 .1 .1 .1 .1 .1 .1 .0 .function .0 + a .1 .1 .1 .1 .1 .1 .1 .1 .1 .0 .0) + 3
+μ-add-call κs a = 8 * (maxItems * a .1 .1 .1 .1 .1 .1 .1 .1 .0 .function .0 + a .1 .1 .1 .1 .1 .1 .1 .1 .1 .0 .0) + 3
 
 abbrev μ-add-function : Measures 8 add-function-kinds.ps ℕ
-μ-add-function κs a = 8 * (maxBlocks * a .1 .1 .1 .1 .1 .1 .1 .1 .0 .0 + maxBlocks)
+μ-add-function κs a = 8 * (maxItems * a .1 .1 .1 .1 .1 .1 .1 .1 .0 .0 + maxItems)
 
 abbrev μ-add-holder : Measures 8 add-holder-kinds.ps ℕ
-μ-add-holder κs a = 8 * (maxBlocks * a .1 .1 .1 .1 .1 .1 .1 .1 .0 .function .0 + a .1 .1 .1 .1 .1 .1 .1 .1 .1 .0 .0) + 4
+μ-add-holder κs a = 8 * (maxItems * a .1 .1 .1 .1 .1 .1 .1 .1 .0 .function .0 + a .1 .1 .1 .1 .1 .1 .1 .1 .1 .0 .0) + 4
 
 abbrev μ-add-if : Measures 8 add-if-kinds.ps ℕ
-μ-add-if κs a = 8 * (maxBlocks * a .1 .1 .1 .1 .1 .1 .1 .1 .0 .function .0 + a .1 .1 .1 .1 .1 .1 .1 .1 .1 .0 .0) + 3
+μ-add-if κs a = 8 * (maxItems * a .1 .1 .1 .1 .1 .1 .1 .1 .0 .function .0 + a .1 .1 .1 .1 .1 .1 .1 .1 .1 .0 .0) + 3
 
 abbrev μ-add-loop : Measures 8 add-loop-kinds.ps ℕ
-μ-add-loop κs a = 8 * (maxBlocks * a .1 .1 .1 .1 .1 .1 .1 .1 .0 .function .0 + a .1 .1 .1 .1 .1 .1 .1 .1 .1 .0 .0) + 3
+μ-add-loop κs a = 8 * (maxItems * a .1 .1 .1 .1 .1 .1 .1 .1 .0 .function .0 + a .1 .1 .1 .1 .1 .1 .1 .1 .1 .0 .0) + 3
 
 abbrev μ-add-nested : Measures 8 add-nested-kinds.ps ℕ
-μ-add-nested κs a = 8 * (maxBlocks * a .1 .1 .1 .1 .1 .1 .1 .1 .0 .function .0 + a .1 .1 .1 .1 .1 .1 .1 .1 .1 .0 .0) + 3
+μ-add-nested κs a = 8 * (maxItems * a .1 .1 .1 .1 .1 .1 .1 .1 .0 .function .0 + a .1 .1 .1 .1 .1 .1 .1 .1 .1 .0 .0) + 3
 
 abbrev μ-add-pair : Measures 8 add-pair-kinds.ps ℕ
-μ-add-pair κs a = 8 * (maxBlocks * a .1 .1 .1 .1 .1 .1 .1 .1 .0 .0 + a .1 .1 .1 .1 .1 .1 .1 .1 .1 .0 .0) + 1
+μ-add-pair κs a = 8 * (maxItems * a .1 .1 .1 .1 .1 .1 .1 .1 .0 .0 + a .1 .1 .1 .1 .1 .1 .1 .1 .1 .0 .0) + 1
 
 abbrev μ-add-statement : Measures 8 add-statement-kinds.ps ℕ
-μ-add-statement κs a = 8 * (maxBlocks * a .1 .1 .1 .1 .1 .1 .1 .1 .0 .function .0 + a .1 .1 .1 .1 .1 .1 .1 .1 .1 .0 .0) + 6
+μ-add-statement κs a = 8 * (maxItems * a .1 .1 .1 .1 .1 .1 .1 .1 .0 .function .0 + a .1 .1 .1 .1 .1 .1 .1 .1 .1 .0 .0) + 6
 
 abbrev μ-add-switch : Measures 8 add-switch-kinds.ps ℕ
-μ-add-switch κs a = 8 * (maxBlocks * a .1 .1 .1 .1 .1 .1 .1 .1 .0 .function .0 + a .1 .1 .1 .1 .1 .1 .1 .1 .1 .0 .0) + 3
+μ-add-switch κs a = 8 * (maxItems * a .1 .1 .1 .1 .1 .1 .1 .1 .0 .function .0 + a .1 .1 .1 .1 .1 .1 .1 .1 .1 .0 .0) + 3
 
 abbrev μ-add-turns : Measures 8 add-turns-kinds.ps ℕ
-μ-add-turns κs a = 8 * (maxBlocks * a .1 .1 .1 .1 .1 .1 .1 .1 .0 .function .0 + a .1 .1 .1 .1 .1 .1 .1 .1 .1 .0 .0) + 2
+μ-add-turns κs a = 8 * (maxItems * a .1 .1 .1 .1 .1 .1 .1 .1 .0 .function .0 + a .1 .1 .1 .1 .1 .1 .1 .1 .1 .0 .0) + 2
 
 abbrev add-arm-at : ℕ → In 8 add-arm-kinds.ps
 add-arm-at t = and 8 add-arm-kinds.ps (is 8 add-arm-kinds.ps μ-add-arm t) add-arm.Pre
