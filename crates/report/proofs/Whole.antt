@@ -5,7 +5,7 @@ use native.Mathlib.Nat.{sub-zero}
 use mathlib.Core.Path.{_≡_, _∙_}
 use mathlib.Core.Bool.{Bool}
 use mathlib.Core.List.{List}
-use lib.ListN.{length, take, drop, length-drop}
+use lib.ListN.{length, take, drop, length-drop, length-take}
 use lib.Seq.{take-all}
 use Rattle.field.specs.Limits.{minReport}
 use Rattle.module.specs.File.{accepted, readModule}
@@ -35,22 +35,30 @@ module _ (input : List ℕ) {at : ℕ} (e : at ≡ moduleBytes input 0) where
   back : take (length input - at) (drop at input) ≡ requestIn input
   back = take-all (length input - at) (drop at input) (omega (arith, length-drop at input)) ∙ rw e
 
-  module _ {t : List ℕ} {n : ℕ} (R : Reads (take (at - 0) input) t n) where
-    pub input-refused : {places s rs open-marks : List ℕ} → 1 ≤ n → TextIs (reportInput input) (moduleIn input) t places s rs open-marks (Refused n)
+  pub front-read : {t : List ℕ} {n : ℕ} → Reads (take (at - 0) input) t n → Reads (moduleIn input) t n
+  front-read R = rw (← front) R
+
+  module _ {t : List ℕ} (w : WasRead (moduleIn input) t) where
+    pub input-read : WasRead (take (at - 0) input) t
+    input-read = rw front w
+
+    pub input-walked : {places s rs open-marks : List ℕ} {r : Outcome}
+        → TextIs (requestText (moduleOf (take (at - 0) input) t) (readRequest (moduleOf (take (at - 0) input) t) minReport (take (length input - at) (drop at input)))) (take (at - 0) input) t places s rs open-marks r
+        → TextIs (reportInput input) (moduleIn input) t places s rs open-marks r
     unfolding reportInput moduleText
-    input-refused h = record { by = rw (← front, R .refuses h) }
+    input-walked {places} {s} {rs} {open-marks} {r} T = rw (w .module-is) (rw (front, back) at T)
 
-    module _ (z : n ≡ 0) where
-      pub input-read : WasRead (take (at - 0) input) t
-      input-read = record { module-is = R .accepts z .0; laid = R .accepts z .1 }
+-- what a front of a list has room for
+pub front-long : (xs : List ℕ) (n : ℕ) → n ≤ length xs → n ≤ length (take (n - 0) xs)
+front-long xs n l = rw (sub-zero n, length-take n xs) (omega (arith, l))
 
-      pub input-walked : {places s rs open-marks : List ℕ} {r : Outcome}
-          → TextIs (requestText (moduleOf (take (at - 0) input) t) (readRequest (moduleOf (take (at - 0) input) t) minReport (take (length input - at) (drop at input)))) (take (at - 0) input) t places s rs open-marks r
-          → TextIs (reportInput input) (moduleIn input) t places s rs open-marks r
-      unfolding reportInput moduleText
-      input-walked {places} {s} {rs} {open-marks} {r} T =
-          let read : readModule (moduleIn input) ≡ accepted (moduleOf (moduleIn input) t) = rw (← front) (R .accepts z .0) in
-          rw read (rw (front, back) at T)
+module _ (input : List ℕ) {t : List ℕ} {n : ℕ} (R : Reads (moduleIn input) t n) where
+  pub input-refused : {places s rs open-marks : List ℕ} → 1 ≤ n → TextIs (reportInput input) (moduleIn input) t places s rs open-marks (Refused n)
+  unfolding reportInput moduleText
+  input-refused h = record { by = rw (R .refuses h) }
+
+  pub was-read : n ≡ 0 → WasRead (moduleIn input) t
+  was-read z = record { module-is = R .accepts z .0; laid = R .accepts z .1 }
 
 -- the text is written
 module _ {text bytes t places s rs open-marks : List ℕ} {a : Outcome} (T : TextIs text bytes t places s rs open-marks a) where

@@ -3,6 +3,7 @@ mod outcome;
 mod text;
 
 use crate::outcome::Outcome;
+use crate::outcome::read_front;
 use crate::outcome::walk_input;
 use crate::text::write_text;
 use field::limits::MIN_REPORT;
@@ -27,7 +28,8 @@ fn read_input(input: &mut [u8]) -> usize
     io::read_full(0, input)
 }
 
-// The text's array is needed only when the walk has ended.
+// The text's array is needed only when the walk has ended. Called from two places, this stays a function of its own, so that the array is not on the stack during
+// the walk.
 fn print(
     input: &[u8],
     t: &[u32],
@@ -52,6 +54,19 @@ fn answer(
     slots: &mut [u32; SLOTS],
     open: &mut [u8; MIN_REPORT],
 ) {
+    let refusal = read_front(input, t, cells, slots);
+    if 0 < refusal {
+        print(
+            input,
+            t,
+            places,
+            cells,
+            slots,
+            open,
+            Outcome::Refused(refusal),
+        );
+        return;
+    }
     let outcome = walk_input(input, t, places, cells, slots, open);
     print(input, t, places, cells, slots, open, outcome);
 }

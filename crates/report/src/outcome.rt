@@ -14,7 +14,9 @@ use memory::layout::SLOTS;
 use memory::layout::STACK;
 use module::handles::FunctionHandle;
 use module::tables::WORDS;
-use reading::read::read_module;
+use reading::read::HELD;
+use reading::read::SEEN;
+use reading::read::read;
 use report_text::split::split;
 use requests::begin::Begun;
 use requests::begin::begin_request;
@@ -22,12 +24,14 @@ use state::answer::Answered;
 use state::answer::Place;
 use type_table::fill;
 ghost use mathlib.Core.Path.{_≡_};
-ghost use Prim.Native.Nat.{_*_};
+ghost use Prim.Native.Nat.{_*_, _≤_};
 ghost use lib.ListN.{length};
 ghost use Rattle.field.specs.Limits.{minReport};
-ghost use Rattle.module.specs.Tables.{moduleOf};
+ghost use Rattle.module.specs.Scan.{values};
+ghost use Rattle.module.specs.Tables.{words, maxItems, moduleOf};
 ghost use Rattle.context.specs.Types.{typeWords};
 ghost use Rattle.request.specs.Request.{readRequest};
+ghost use Rattle.reading.specs.Reads.{Reads};
 ghost use Rattle.state.specs.Ready.{WasRead};
 ghost use Rattle.report_text.specs.Split.{moduleIn};
 ghost use Rattle.report_text.specs.Input.{requestText, reportInput};
@@ -159,22 +163,39 @@ fn walk_read(
     )
 }
 
-// A module and behind it one request, asked of a fresh pruner.
+// The module in front of the request. The walk's memory is room for its reading.
+pub fn read_front(
+    input: &[u8],
+    t: &mut [u32],
+    cells: &mut [u32],
+    slots: &mut [u32],
+) -> u32
+    requires { ⌜ words ≤ length (now t) ⌝ }
+    requires { ⌜ (values ≤ length (now cells)) × (maxItems ≤ length (now slots)) ⌝ }
+    ensures { λ r. ⌜ Reads (moduleIn (now (input .entry))) (now (t .exit)) r ⌝ }
+{
+    let at = split(input);
+    read(
+        &input[0..at],
+        t,
+        &mut cells[0..SEEN],
+        &mut slots[0..HELD],
+    )
+}
+
+// The request behind a module that was read, asked of a fresh pruner.
 pub fn walk_input(
     input: &[u8],
-    t: &mut [u32; WORDS],
+    t: &[u32; WORDS],
     places: &mut [u32; PLACES],
     cells: &mut [u32; CELLS],
     slots: &mut [u32; SLOTS],
     open: &mut [u8; MIN_REPORT],
 ) -> Outcome
-    ensures { λ r. ⌜ TextIs (reportInput (now (input .entry))) (moduleIn (now (input .entry))) (now (t .exit)) (now (places .exit)) (now (cells .exit)) (now (slots .exit)) (now («open» .exit)) r ⌝ }
+    requires { ⌜ WasRead (moduleIn (now input)) (now t) ⌝ }
+    ensures { λ r. ⌜ TextIs (reportInput (now (input .entry))) (moduleIn (now (input .entry))) (now (t .entry)) (now (places .exit)) (now (cells .exit)) (now (slots .exit)) (now («open» .exit)) r ⌝ }
 {
     let n = input.len();
     let at = split(input);
-    let refusal = read_module(&input[0..at], t);
-    if 0 < refusal {
-        return Outcome::Refused(refusal);
-    }
     walk_read(&input[0..at], t, places, cells, slots, open, &input[at..n])
 }

@@ -1,27 +1,11 @@
--- `report::outcome::walk_input` meets its contract: the module's refusal, or what its request comes to.
-use native.Mathlib.Omega.{arith}
-use Rattle.report.proofs.Whole.{split-inside, input-refused, input-read, input-walked}
+-- `report::outcome::walk_input` meets its contract: what the request of a module that was read comes to.
+use Rattle.report.proofs.Whole.{split-inside, input-read, input-walked}
 use borrow.Author.Needs.{needs}
 use Rattle.report.proofs.outcome.walk_input.Statement.{statement}
 use Rattle.report.proofs.outcome.walk_input.Tie as tie
 
 split-requires : tie.Need-split-requires
 split-requires c κs = search needs
-
-sub-read-module : tie.Need-sub-read-module
-sub-read-module c = search needs
-
-part-read-module-start : tie.Need-part-read-module-start
-part-read-module-start c = search needs
-
-part-read-module-end : tie.Need-part-read-module-end
-part-read-module-end c = split-inside (c .before .before .args .input .now) (c .split .ensures)
-
-read-module-requires : tie.Need-read-module-requires
-read-module-requires c κs = search needs
-
-returns : tie.Need-returns
-returns c = input-refused (c .before .before .before .before .before .before .args .input .now) (c .before .before .before .before .split .ensures) (c .before .read-module .ensures) (omega (arith, c .if1 .taken))
 
 sub-walk-read : tie.Need-sub-walk-read
 sub-walk-read c = search needs
@@ -30,33 +14,28 @@ part-walk-read-start : tie.Need-part-walk-read-start
 part-walk-read-start c = search needs
 
 part-walk-read-end : tie.Need-part-walk-read-end
-part-walk-read-end c = split-inside (c .before .before .before .before .before .before .args .input .now) (c .before .before .before .before .split .ensures)
+part-walk-read-end c = split-inside (c .before .before .args .input .now) (c .split .ensures)
 
 sub-walk-read-2 : tie.Need-sub-walk-read-2
-sub-walk-read-2 c = split-inside (c .before .before .before .before .before .before .before .before .before .before .before .before .args .input .now) (c .before .before .before .before .before .before .before .before .before .before .split .ensures)
+sub-walk-read-2 c = split-inside (c .before .before .before .before .before .before .before .args .input .now) (c .before .before .before .before .before .split .ensures)
 
 part-walk-read-start-2 : tie.Need-part-walk-read-start-2
-part-walk-read-start-2 c = split-inside (c .before .before .before .before .before .before .before .before .before .before .before .before .args .input .now) (c .before .before .before .before .before .before .before .before .before .before .split .ensures)
+part-walk-read-start-2 c = split-inside (c .before .before .before .before .before .before .before .args .input .now) (c .before .before .before .before .before .split .ensures)
 
 part-walk-read-end-2 : tie.Need-part-walk-read-end-2
 part-walk-read-end-2 c = search needs
 
 walk-read-requires : tie.Need-walk-read-requires
-walk-read-requires c κs = input-read (c .before .before .before .before .before .before .before .before .before .before .before .before .before .args .input .now) (c .before .before .before .before .before .before .before .before .before .before .before .split .ensures) (c .before .before .before .before .before .before .before .before .read-module .ensures) (omega (arith, c .before .before .before .before .before .before .before .if1 .left))
+walk-read-requires c κs = input-read (c .before .before .before .before .before .before .before .before .args .input .now) (c .before .before .before .before .before .before .split .ensures) (c .before .before .before .before .before .before .before .before .pre)
 
-returns-2 : tie.Need-returns-2
-returns-2 c = input-walked (c .before .before .before .before .before .before .before .before .before .before .before .before .before .before .args .input .now) (c .before .before .before .before .before .before .before .before .before .before .before .before .split .ensures) (c .before .before .before .before .before .before .before .before .before .read-module .ensures) (omega (arith, c .before .before .before .before .before .before .before .before .if1 .left)) (c .walk-read .ensures)
+returns : tie.Need-returns
+returns c = input-walked (c .before .before .before .before .before .before .before .before .before .args .input .now) (c .before .before .before .before .before .before .before .split .ensures) (c .before .before .before .before .before .before .before .before .before .pre) (c .walk-read .ensures)
 
 pub walk-input-spec : {M : Type 1} → statement M
 walk-input-spec =
     tie.close
     (tie.spec
     split-requires
-    sub-read-module
-    part-read-module-start
-    part-read-module-end
-    read-module-requires
-    returns
     sub-walk-read
     part-walk-read-start
     part-walk-read-end
@@ -64,4 +43,4 @@ walk-input-spec =
     part-walk-read-start-2
     part-walk-read-end-2
     walk-read-requires
-    returns-2)
+    returns)
