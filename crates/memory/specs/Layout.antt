@@ -1,6 +1,7 @@
 -- How the slots of a walk's memory are laid out, and how large it is. No proof computes with one of these values.
 use Prim.Native.Nat.{ℕ, _+_, _*_}
 use Rattle.field.specs.Limits.{maxFunctions, maxDepth, maxPieces}
+use Rattle.part.specs.StoreLimits.{cellWords}
 use Rattle.module.specs.Tables.{maxItems}
 
 -- the slots of all and of exist
@@ -72,4 +73,4 @@ room = 4 * maxPieces + 4 * maxDepth + 16
 
 -- the words of the store
 abbrev pub storeSize : ℕ
-storeSize = 8 * (3 + live + room)
+storeSize = cellWords * (3 + live + room)

@@ -6,6 +6,7 @@ use crate::layout::ROOM;
 use crate::want::Want;
 use crate::want::piece;
 use part::collect::collect;
+use part::limits::CELL_WORDS;
 use part::limits::SPINE;
 use part::req::Found;
 use part::req::add;
@@ -89,7 +90,7 @@ pub fn tidy(cells: &mut [u32], slots: &mut [u32])
     ensures { λ _. ⌜ Tidied (now (cells .entry)) (now (slots .entry)) (now (cells .exit)) (now (slots .exit)) ⌝ }
 {
     let used = cells[0] as usize;
-    if 8 * (used + ROOM) <= cells.len() {
+    if CELL_WORDS * (used + ROOM) <= cells.len() {
         return;
     }
     collect(cells, slots);

@@ -10,6 +10,7 @@ use lib.ListN.{length, getD, set, length-set}
 use lib.Seq.{getD-set-same, getD-set-other}
 use borrow.Author.Tests.{lt-ltb, le-ltb}
 use Rattle.part.specs.PartReq.{entries}
+use Rattle.part.specs.StoreLimits.{cellWords}
 use Rattle.part.specs.Store.{top, child, rest, part, Good, Seen}
 use Rattle.part.specs.Collect.{sumOf, mark, SameCells, on, tally, weigh, Cleared, Marked, Rooted, Marking}
 use Rattle.part.proofs.Pieces.{part-agree}
@@ -42,7 +43,7 @@ module _ {s t : List ℕ} (c : SameCells s t) where
           child-low = rw (c .words n 1 (omega arith)) (a .child-low);
           rest-low = rw (c .words n 2 (omega arith)) (a .rest-low);
           sizes =
-              rw (cells-part n, c .words n 3 (omega arith), c .words n 4 (omega arith), c .words n 5 (omega arith), c .words n 6 (omega arith))
+              rw (cells-part n, c .words n 3 (omega arith), c .words n 4 (omega arith), c .words n 5 (omega arith))
               (a .sizes);
         };
   }
@@ -53,17 +54,17 @@ module _ {s t : List ℕ} (c : SameCells s t) where
 
 -- a mark that is set
 module _ (s : List ℕ) (x v : ℕ) where
-  set-cells : SameCells s (set s (8 * x + 7) v)
+  set-cells : SameCells s (set s (cellWords * x + 6) v)
   set-cells = record {
-    long = length-set s (8 * x + 7) v;
-    words = λ n k h. let ne : 8 * n + k ≡ 8 * x + 7 → ⊥ = omega arith in getD-set-other s (8 * x + 7) (8 * n + k) v 0 ne;
+    long = length-set s (cellWords * x + 6) v;
+    words = λ n k h. let ne : cellWords * n + k ≡ cellWords * x + 6 → ⊥ = omega arith in getD-set-other s (cellWords * x + 6) (cellWords * n + k) v 0 ne;
   }
 
-  mark-other : (m : ℕ) → (m ≡ x → ⊥) → mark (set s (8 * x + 7) v) m ≡ mark s m
-  mark-other m ne = let d : 8 * m + 7 ≡ 8 * x + 7 → ⊥ = λ e. ne (omega arith) in getD-set-other s (8 * x + 7) (8 * m + 7) v 0 d
+  mark-other : (m : ℕ) → (m ≡ x → ⊥) → mark (set s (cellWords * x + 6) v) m ≡ mark s m
+  mark-other m ne = let d : cellWords * m + 6 ≡ cellWords * x + 6 → ⊥ = λ e. ne (omega arith) in getD-set-other s (cellWords * x + 6) (cellWords * m + 6) v 0 d
 
-  mark-here : 8 * x + 7 < length s → mark (set s (8 * x + 7) v) x ≡ v
-  mark-here h = getD-set-same s (8 * x + 7) v 0 h
+  mark-here : cellWords * x + 6 < length s → mark (set s (cellWords * x + 6) v) x ≡ v
+  mark-here h = getD-set-same s (cellWords * x + 6) v 0 h
 
 on-le : (v x : ℕ) → on v x ≤ x
 on-le zero x = omega arith
@@ -77,28 +78,28 @@ pub tally-suc : (s : List ℕ) (w : ℕ → ℕ) (k : ℕ) → tally s w (suc k)
 unfolding tally
 tally-suc s w k = refl
 
-tally-other : (s : List ℕ) (w : ℕ → ℕ) (x v k : ℕ) → k ≤ x → tally (set s (8 * x + 7) v) w k ≡ tally s w k
+tally-other : (s : List ℕ) (w : ℕ → ℕ) (x v k : ℕ) → k ≤ x → tally (set s (cellWords * x + 6) v) w k ≡ tally s w k
 unfolding tally
 tally-other s w x v zero h = refl
 tally-other s w x v (suc k) h =
     let ne : k ≡ x → ⊥ = omega arith in
     rw (mark-other s x v k ne, tally-other s w x v k (omega arith))
 
-tally-mark : (s : List ℕ) (w : ℕ → ℕ) (x v k : ℕ) → tally (set s (8 * x + 7) v) w k ≤ tally s w k + w x
+tally-mark : (s : List ℕ) (w : ℕ → ℕ) (x v k : ℕ) → tally (set s (cellWords * x + 6) v) w k ≤ tally s w k + w x
 tally-mark s w x v zero = rw (tally-other s w x v 0 (omega arith)) (omega arith)
 tally-mark s w x v (suc k) =
     elim (ℕ-discrete k x) [
       | yes e ↦
-          rw (tally-suc (set s (8 * x + 7) v) w k, tally-suc s w k, tally-other s w x v k (omega arith))
-          (rw e (omega (arith, on-le (mark (set s (8 * x + 7) v) x) (w x))))
+          rw (tally-suc (set s (cellWords * x + 6) v) w k, tally-suc s w k, tally-other s w x v k (omega arith))
+          (rw e (omega (arith, on-le (mark (set s (cellWords * x + 6) v) x) (w x))))
       | no ne ↦
-          rw (tally-suc (set s (8 * x + 7) v) w k, tally-suc s w k, mark-other s x v k ne)
+          rw (tally-suc (set s (cellWords * x + 6) v) w k, tally-suc s w k, mark-other s x v k ne)
           (omega (arith, tally-mark s w x v k))
     ]
 
-pub marked : {s t : List ℕ} {x : ℕ} → Good s → x < top s → t ≡ set s (8 * x + 7) 1 → Marked s t x
+pub marked : {s t : List ℕ} {x : ℕ} → Good s → x < top s → t ≡ set s (cellWords * x + 6) 1 → Marked s t x
 marked {s} {t} {x} g l e =
-    let h : 8 * x + 7 < length s = omega (arith, g .room) in
+    let h : cellWords * x + 6 < length s = omega (arith, g .room) in
     rw e
     (record {
       cells = set-cells s x 1;
@@ -116,7 +117,7 @@ marked {s} {t} {x} g l e =
 pub cleared-none : (s : List ℕ) → Cleared s s 0
 cleared-none s = record { cells = cells-refl s; none = λ m h. absurd (omega arith) }
 
-pub cleared-more : {s t u : List ℕ} {k : ℕ} → Good s → k < top s → Cleared s t k → u ≡ set t (8 * k + 7) 0 → Cleared s u (k + 1)
+pub cleared-more : {s t u : List ℕ} {k : ℕ} → Good s → k < top s → Cleared s t k → u ≡ set t (cellWords * k + 6) 0 → Cleared s u (k + 1)
 cleared-more {s} {t} {u} {k} g l a e =
     rw e
     (record {

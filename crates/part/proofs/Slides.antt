@@ -12,6 +12,7 @@ use lib.ListN.{length, getD, set, length-set}
 use lib.Seq.{getD-set-same, getD-set-other}
 use borrow.Author.Tests.{lt-ltb, le-ltb}
 use Rattle.part.specs.PartReq.{entries}
+use Rattle.part.specs.StoreLimits.{cellWords}
 use Rattle.part.specs.Store.{word, top, child, rest, part, Sound, Good, Put, Below}
 use Rattle.part.specs.Collect.{sumOf, total, mark, SameCells, on, tally, weigh, sent, Cleared, Rooted, Marking, Closed, Slid, Sliding, Turned, Collected}
 use Rattle.part.proofs.Pieces.{part-cell}
@@ -30,34 +31,33 @@ sent-same : (s t : List ℕ) (n : ℕ) → mark t n ≡ mark s n → sent t n �
 unfolding sent
 sent-same s t n e = rw e
 
-put-mark : {s t : List ℕ} {n i c r e d w o : ℕ} → Put s t n i c r e d w o → (m : ℕ) → mark t m ≡ mark s m
+put-mark : {s t : List ℕ} {n i c r e d w : ℕ} → Put s t n i c r e d w → (m : ℕ) → mark t m ≡ mark s m
 put-mark {n = n} p m =
     elim (decLt m n) [
-      | yes l ↦ p .before (8 * m + 7) (omega arith)
-      | no g ↦ p .after (8 * m + 7) (omega arith)
+      | yes l ↦ p .before (cellWords * m + 6) (omega arith)
+      | no g ↦ p .after (cellWords * m + 6) (omega arith)
     ]
 
 -- what the calls of `slide_one` say, put together
-pub slid : {s t u : List ℕ} {n v x y i c r e d w o : ℕ} → (8 * n + 8 ≤ length s) × (v ≤ n) → x ≡ word s n 1 → c ≡ sent s x → y ≡ word s n 2
-    → r ≡ sent s y → i ≡ word s n 0 → e ≡ word s n 3 → d ≡ word s n 4 → w ≡ word s n 5 → o ≡ word s n 6 → Put s t v i c r e d w o
-    → u ≡ set t (8 * n + 7) v → Slid s u n v
-slid {s} {t} {u} {n} {v} h ex ec ey er ei ee ed ew eo p eu =
-    let old : (x : ℕ) → (x ≡ 8 * n + 7 → ⊥) → getD (set t (8 * n + 7) v) x 0 ≡ getD t x 0 = λ x ne. getD-set-other t (8 * n + 7) x v 0 ne in
-    let at : (k : ℕ) → k < 7 → word (set t (8 * n + 7) v) v k ≡ word t v k = λ k l. old (8 * v + k) (omega (arith, h)) in
+pub slid : {s t u : List ℕ} {n v x y i c r e d w : ℕ} → (cellWords * n + cellWords ≤ length s) × (v ≤ n) → x ≡ word s n 1 → c ≡ sent s x → y ≡ word s n 2
+    → r ≡ sent s y → i ≡ word s n 0 → e ≡ word s n 3 → d ≡ word s n 4 → w ≡ word s n 5 → Put s t v i c r e d w
+    → u ≡ set t (cellWords * n + 6) v → Slid s u n v
+slid {s} {t} {u} {n} {v} h ex ec ey er ei ee ed ew p eu =
+    let old : (x : ℕ) → (x ≡ cellWords * n + 6 → ⊥) → getD (set t (cellWords * n + 6) v) x 0 ≡ getD t x 0 = λ x ne. getD-set-other t (cellWords * n + 6) x v 0 ne in
+    let at : (k : ℕ) → k < 6 → word (set t (cellWords * n + 6) v) v k ≡ word t v k = λ k l. old (cellWords * v + k) (omega (arith, h)) in
     rw eu
     (record {
-      long = length-set t (8 * n + 7) v ∙ p .long;
+      long = length-set t (cellWords * n + 6) v ∙ p .long;
       before = λ x l. old x (omega (arith, h)) ∙ p .before x l;
-      later = λ m k l z. old (8 * m + k) (omega arith) ∙ p .after (8 * m + k) (omega (arith, h));
-      here = getD-set-same t (8 * n + 7) v 0 (omega (arith, h, p .long));
-      others = λ m ne. old (8 * m + 7) (λ z. ne (omega arith)) ∙ put-mark p m;
+      later = λ m k l z. old (cellWords * m + k) (omega arith) ∙ p .after (cellWords * m + k) (omega (arith, h));
+      here = getD-set-same t (cellWords * n + 6) v 0 (omega (arith, h, p .long));
+      others = λ m ne. old (cellWords * m + 6) (λ z. ne (omega arith)) ∙ put-mark p m;
       index-is = at 0 (omega arith) ∙ p .index-is ∙ ei;
       child-is = at 1 (omega arith) ∙ p .child-is ∙ ec ∙ ap (sent s) ex;
       rest-is = at 2 (omega arith) ∙ p .rest-is ∙ er ∙ ap (sent s) ey;
       entries-is = at 3 (omega arith) ∙ p .entries-is ∙ ee;
       depth-is = at 4 (omega arith) ∙ p .depth-is ∙ ed;
-      width-is = at 5 (omega arith) ∙ p .width-is ∙ ew;
-      over-is = at 6 (omega arith) ∙ p .over-is ∙ eo;
+      packed-is = at 5 (omega arith) ∙ p .packed-is ∙ ew;
     })
 
 -- the turns of `slide`
@@ -81,7 +81,7 @@ module _ {s t : List ℕ} {n v : ℕ} (good : Good s) (w : Sliding s t n v) (ins
       rw (add-one, tally-suc, weigh-above s 3 n lo) (omega (arith, w .fill))
 
   same-mark : mark t n ≡ mark s n
-  same-mark = w .later n 7 (omega arith) (omega arith)
+  same-mark = w .later n 6 (omega arith) (omega arith)
 
   pub sliding-skip : mark t n ≤ 0 → Sliding s t (n + 1) v
   sliding-skip z = record {
@@ -101,16 +101,16 @@ module _ {s t : List ℕ} {n v : ℕ} (good : Good s) (w : Sliding s t n v) (ins
   }
 
   -- the next cell and what it names
-  at-n : (k : ℕ) → k < 8 → word t n k ≡ word s n k
+  at-n : (k : ℕ) → k < cellWords → word t n k ≡ word s n k
   at-n k h = w .later n k (omega arith) h
 
   names : Sound s n
   names = good .sound n (omega (arith, w .low, w .slack)) inside
 
-  pub slide-asked : (8 * n + 8 ≤ length t) × (v ≤ n)
+  pub slide-asked : (cellWords * n + cellWords ≤ length t) × (v ≤ n)
   slide-asked = (omega (arith, w .long, good .room), w .slack)
 
-  pub slide-named : (8 * word t n 1 + 8 ≤ length t) × (8 * word t n 2 + 8 ≤ length t)
+  pub slide-named : (cellWords * word t n 1 + cellWords ≤ length t) × (cellWords * word t n 2 + cellWords ≤ length t)
   slide-named =
       rw (at-n 1 (omega arith), at-n 2 (omega arith))
       (omega (arith, w .long, good .room, names .child-low), omega (arith, w .long, good .room, names .rest-low))
@@ -131,7 +131,7 @@ module _ {s t : List ℕ} {n v : ℕ} (good : Good s) (w : Sliding s t n v) (ins
     rest-is : rest u v ≡ sent t (rest s n)
     rest-is = x .rest-is ∙ ap (sent t) (at-n 2 (omega arith))
 
-    old : (z : ℕ) → 0 < z → z < 8 * v → getD u z 0 ≡ getD t z 0
+    old : (z : ℕ) → 0 < z → z < cellWords * v → getD u z 0 ≡ getD t z 0
     old z h l = x .before z l
 
     moved : part u v ≡ part s n
@@ -149,8 +149,7 @@ module _ {s t : List ℕ} {n v : ℕ} (good : Good s) (w : Sliding s t n v) (ins
             moved,
             x .entries-is ∙ at-n 3 (omega arith),
             x .depth-is ∙ at-n 4 (omega arith),
-            x .width-is ∙ at-n 5 (omega arith),
-            x .over-is ∙ at-n 6 (omega arith),
+            x .packed-is ∙ at-n 5 (omega arith),
           )
           (names .sizes);
     }
@@ -235,7 +234,7 @@ module _ (rs : List ℕ) {s s₁ : List ℕ} (good : Good s) (below : Below rs (
         top-is : top s₄ ≡ top s
         top-is = w .tops ∙ cells-top same₃
 
-        pub turn-asked : Below rs (top s₄) × (8 * top s₄ ≤ length s₄)
+        pub turn-asked : Below rs (top s₄) × (cellWords * top s₄ ≤ length s₄)
         turn-asked = ((λ j l. omega (arith, below j l, top-is)), omega (arith, top-is, w .long, same₃ .long, good .room))
 
         used : v ≤ 3 + total s rs
@@ -266,7 +265,7 @@ module _ (rs : List ℕ) {s s₁ : List ℕ} (good : Good s) (below : Below rs (
           unfolding u
           long = collect-long
 
-          kept : (x : ℕ) → 0 < x → x < 8 * v → getD u x 0 ≡ getD s₄ x 0
+          kept : (x : ℕ) → 0 < x → x < cellWords * v → getD u x 0 ≡ getD s₄ x 0
           unfolding u
           kept x h l = let ne : x ≡ 0 → ⊥ = omega arith in getD-set-other s₄ 0 x v 0 ne
 

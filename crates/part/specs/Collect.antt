@@ -6,6 +6,7 @@ use mathlib.Core.List.{List}
 use lib.Dec.{ltb}
 use lib.ListN.{length, getD}
 use Rattle.part.specs.PartReq.{entries}
+use Rattle.part.specs.StoreLimits.{cellWords}
 use Rattle.part.specs.Store.{word, top, index, child, rest, part, Sound, Good}
 
 -- the weights w of the first k of a list, in sum
@@ -28,12 +29,12 @@ pub record Collected (s rs t us : List ℕ) : Type 0 where
   pub same : (j : ℕ) → j < length rs → (getD us j 0 < top t) × (part t (getD us j 0) ≡ part s (getD rs j 0))
 
 abbrev pub mark : List ℕ → ℕ → ℕ
-mark s n = word s n 7
+mark s n = word s n 6
 
 -- the words of t are those of s, but for marks
 pub record SameCells (s t : List ℕ) : Type 0 where
   pub long : length t ≡ length s
-  pub words : (n k : ℕ) → k < 7 → word t n k ≡ word s n k
+  pub words : (n k : ℕ) → k < 6 → word t n k ≡ word s n k
 
 abbrev pub on : ℕ → ℕ → ℕ
 on zero x = 0
@@ -87,8 +88,8 @@ sent s n = cond (ltb n 3) n (mark s n)
 -- the cell n of s is the cell v of t, with what it names where that went; its mark says so
 pub record Slid (s t : List ℕ) (n v : ℕ) : Type 0 where
   pub long : length t ≡ length s
-  pub before : (x : ℕ) → x < 8 * v → getD t x 0 ≡ getD s x 0
-  pub later : (m k : ℕ) → n < m → k < 8 → word t m k ≡ word s m k
+  pub before : (x : ℕ) → x < cellWords * v → getD t x 0 ≡ getD s x 0
+  pub later : (m k : ℕ) → n < m → k < cellWords → word t m k ≡ word s m k
   pub here : mark t n ≡ v
   pub others : (m : ℕ) → (m ≡ n → ⊥) → mark t m ≡ mark s m
   pub index-is : index t v ≡ index s n
@@ -96,8 +97,7 @@ pub record Slid (s t : List ℕ) (n v : ℕ) : Type 0 where
   pub rest-is : rest t v ≡ sent s (rest s n)
   pub entries-is : word t v 3 ≡ word s n 3
   pub depth-is : word t v 4 ≡ word s n 4
-  pub width-is : word t v 5 ≡ word s n 5
-  pub over-is : word t v 6 ≡ word s n 6
+  pub packed-is : word t v 5 ≡ word s n 5
 
 -- the marked pieces of s below n have gone to the first v numbers, in their order; those from n on are as they were
 pub record Sliding (s t : List ℕ) (n v : ℕ) : Type 0 where
@@ -106,7 +106,7 @@ pub record Sliding (s t : List ℕ) (n v : ℕ) : Type 0 where
   pub low : 3 ≤ v
   pub slack : v ≤ n
   pub fill : v ≤ 3 + tally s (weigh s 3) n
-  pub later : (m k : ℕ) → n ≤ m → k < 8 → word t m k ≡ word s m k
+  pub later : (m k : ℕ) → n ≤ m → k < cellWords → word t m k ≡ word s m k
   pub grows : (m : ℕ) → 0 < mark s m → 0 < mark t m
   pub sound : (m : ℕ) → 2 < m → m < v → Sound t m
   pub went : (m : ℕ) → m < n → 0 < mark s m → (sent t m < v) × (part t (sent t m) ≡ part s m)

@@ -1,7 +1,7 @@
--- A store of pieces: a list of words, eight to a cell. A number MEANS a requirement: 0 is all, 1 exist, 2 none, and n from 3 on
--- the cell at 8n: its index, the number of its child, that of its rest, then its sizes, and a mark that only `collect` reads.
+-- A store of pieces: a list of words, seven to a cell. A number MEANS a requirement: 0 is all, 1 exist, 2 none, and n from 3 on
+-- the cell at 7n: its index, the number of its child, that of its rest, then its sizes in three words, and a mark that only `collect` reads.
 -- The first word of the list is the next free number. A cell names only lower numbers.
-use Prim.Native.Nat.{ℕ, zero, suc, _+_, _*_, _<_, _≤_, min}
+use Prim.Native.Nat.{ℕ, zero, suc, _+_, _*_, _/_, _%_, _<_, _≤_, min}
 use mathlib.Core.Path.{_≡_}
 use mathlib.Core.Bool.{Bool, true, false, cond, _||_, _&&_}
 use mathlib.Core.List.{List}
@@ -9,11 +9,11 @@ use lib.Dec.{ltb, eqb}
 use lib.ListN.{length, getD}
 use Rattle.part.specs.PartReq.{PartReq, all, exist, none, more, add, entries, depth, width, over, spine}
 use Rattle.field.specs.Limits.{maxDepth, maxEntries}
-use Rattle.part.specs.StoreLimits.{storeWords, entriesCap}
+use Rattle.part.specs.StoreLimits.{cellWords, storeWords, entriesCap}
 
 -- the word k of the piece n
 abbrev pub word : List ℕ → ℕ → ℕ → ℕ
-word s n k = getD s (8 * n + k) 0
+word s n k = getD s (cellWords * n + k) 0
 
 -- the next free number
 abbrev pub top : List ℕ → ℕ
@@ -62,16 +62,16 @@ pub record Passes (i d w c r o : ℕ) : Type 0 where
 pub record SizesOf (i pe pd pw po re rd rv ro e d w o : ℕ) : Type 0 where
   pub is : (p r : PartReq) → Measures p pe pd pw po → Measures r re rd rv ro → Measures (more i p r) e d w o
 
--- the cell n names lower numbers, and has the sizes of what it means
+-- the cell n names lower numbers, and has the sizes of what it means: of its word 5 half is the width, and the rest says whether it passes a limit
 pub record Sound (s : List ℕ) (n : ℕ) : Type 0 where
   pub child-low : child s n < n
   pub rest-low : rest s n < n
-  pub sizes : Measures (part s n) (word s n 3) (word s n 4) (word s n 5) (word s n 6)
+  pub sizes : Measures (part s n) (word s n 3) (word s n 4) (word s n 5 / 2) (word s n 5 % 2)
 
 -- the store is well formed
 pub record Good (s : List ℕ) : Type 0 where
   pub base : 3 ≤ top s
-  pub room : 8 * top s ≤ length s
+  pub room : cellWords * top s ≤ length s
   pub fits : length s ≤ storeWords
   pub sound : (n : ℕ) → 2 < n → n < top s → Sound s n
 
@@ -84,7 +84,7 @@ pub record Kept (s t : List ℕ) : Type 0 where
 
 -- k cells more fit
 abbrev pub Room : List ℕ → ℕ → Type 0
-Room s k = 8 * (top s + k) ≤ length s
+Room s k = cellWords * (top s + k) ≤ length s
 
 -- from s, t was left: the piece r means p there, and at most k cells more are used
 pub record Made (s t : List ℕ) (p : PartReq) (k r : ℕ) : Type 0 where
@@ -107,17 +107,16 @@ abbrev pub Below : List ℕ → ℕ → Type 0
 Below rs n = (j : ℕ) → j < length rs → getD rs j 0 < n
 
 -- t is s with another cell n, but for its mark
-pub record Put (s t : List ℕ) (n i c r e d w o : ℕ) : Type 0 where
+pub record Put (s t : List ℕ) (n i c r e d w : ℕ) : Type 0 where
   pub long : length t ≡ length s
-  pub before : (x : ℕ) → x < 8 * n → getD t x 0 ≡ getD s x 0
-  pub after : (x : ℕ) → 8 * n + 7 ≤ x → getD t x 0 ≡ getD s x 0
+  pub before : (x : ℕ) → x < cellWords * n → getD t x 0 ≡ getD s x 0
+  pub after : (x : ℕ) → cellWords * n + 6 ≤ x → getD t x 0 ≡ getD s x 0
   pub index-is : index t n ≡ i
   pub child-is : child t n ≡ c
   pub rest-is : rest t n ≡ r
   pub entries-is : word t n 3 ≡ e
   pub depth-is : word t n 4 ≡ d
-  pub width-is : word t n 5 ≡ w
-  pub over-is : word t n 6 ≡ o
+  pub packed-is : word t n 5 ≡ w
 
 -- of a, which is no cell, and another piece b, r is the sum, whichever stands first
 pub record Plain (a b r : ℕ) : Type 0 where

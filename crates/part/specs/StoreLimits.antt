@@ -1,5 +1,9 @@
--- The bounds of a store of pieces. No proof computes with one of these values.
+-- The sizes of a store of pieces. No proof computes with one of the last two values.
 use Prim.Native.Nat.{ℕ}
+
+-- the words of a cell
+abbrev pub cellWords : ℕ
+cellWords = 7
 
 -- the most words that a store may have
 abbrev pub storeWords : ℕ

@@ -3,10 +3,10 @@
 ghost use mathlib.Core.Path.{_≡_};
 ghost use Prim.Native.Nat.{_+_, _*_, _≤_, _<_};
 ghost use lib.ListN.{length};
+ghost use Rattle.part.specs.StoreLimits.{cellWords};
 ghost use Rattle.part.specs.Store.{word, top, Good, Below};
 ghost use Rattle.part.specs.Collect.{mark, sent, Closed, Cleared, Marked, Rooted, Marking, Slid, Sliding, Turned, Collected};
 use crate::store::Cell;
-use crate::store::Sizes;
 use crate::store::look;
 use crate::store::put;
 use crate::store::set_word;
@@ -20,7 +20,7 @@ fn clear(cells: &mut [u32])
     let end = cells[0];
     let mut n = 0;
     while n < end {
-        set_word(cells, n, 7, 0);
+        set_word(cells, n, 6, 0);
         n += 1;
     }
 }
@@ -31,7 +31,7 @@ fn mark(cells: &mut [u32], n: u32)
     requires { ⌜ n < top (now cells) ⌝ }
     ensures { λ _. ⌜ Marked (now (cells .entry)) (now (cells .exit)) n ⌝ }
 {
-    set_word(cells, n, 7, 1);
+    set_word(cells, n, 6, 1);
 }
 
 fn mark_roots(cells: &mut [u32], roots: &[u32])
@@ -54,7 +54,7 @@ fn mark_down(cells: &mut [u32])
     let mut n = cells[0];
     while 3 < n {
         let k = n - 1;
-        if 0 < word(cells, k, 7) {
+        if 0 < word(cells, k, 6) {
             let x = look(cells, k);
             mark(cells, x.child);
             mark(cells, x.rest);
@@ -65,19 +65,19 @@ fn mark_down(cells: &mut [u32])
 
 // Where the marked piece n went.
 fn send(cells: &[u32], n: u32) -> u32
-    requires { ⌜ 8 * n + 8 ≤ length (now cells) ⌝ }
+    requires { ⌜ cellWords * n + cellWords ≤ length (now cells) ⌝ }
     ensures { λ r. ⌜ r ≡ sent (now (cells .entry)) n ⌝ }
 {
     if n < 3 {
         return n;
     }
-    word(cells, n, 7)
+    word(cells, n, 6)
 }
 
 // Moves the cell n to the number v, where what it names has gone already, and leaves v as its mark.
 fn slide_one(cells: &mut [u32], n: u32, v: u32)
-    requires { ⌜ (8 * n + 8 ≤ length (now cells)) × (v ≤ n) ⌝ }
-    requires { ⌜ (8 * word (now cells) n 1 + 8 ≤ length (now cells)) × (8 * word (now cells) n 2 + 8 ≤ length (now cells)) ⌝ }
+    requires { ⌜ (cellWords * n + cellWords ≤ length (now cells)) × (v ≤ n) ⌝ }
+    requires { ⌜ (cellWords * word (now cells) n 1 + cellWords ≤ length (now cells)) × (cellWords * word (now cells) n 2 + cellWords ≤ length (now cells)) ⌝ }
     ensures { λ _. ⌜ Slid (now (cells .entry)) (now (cells .exit)) n v ⌝ }
 {
     let c = send(cells, word(cells, n, 1));
@@ -87,14 +87,11 @@ fn slide_one(cells: &mut [u32], n: u32, v: u32)
         child: c,
         rest: r,
     };
-    let m = Sizes {
-        entries: word(cells, n, 3),
-        depth: word(cells, n, 4),
-        width: word(cells, n, 5),
-        over: word(cells, n, 6),
-    };
-    put(cells, v, x, m);
-    set_word(cells, n, 7, v);
+    let entries = word(cells, n, 3);
+    let depth = word(cells, n, 4);
+    let packed = word(cells, n, 5);
+    put(cells, v, x, entries, depth, packed);
+    set_word(cells, n, 6, v);
 }
 
 // Moves the marked cells up, the first first, and gives the next free number.
@@ -108,7 +105,7 @@ fn slide(cells: &mut [u32]) -> u32
     let mut n = 3;
     while n < end {
         let k = n + 1;
-        if 0 < word(cells, n, 7) {
+        if 0 < word(cells, n, 6) {
             slide_one(cells, n, v);
             v += 1;
         }
@@ -119,7 +116,7 @@ fn slide(cells: &mut [u32]) -> u32
 
 // Numbers the roots anew.
 fn turn(cells: &[u32], roots: &mut [u32])
-    requires { ⌜ Below (now roots) (top (now cells)) × (8 * top (now cells) ≤ length (now cells)) ⌝ }
+    requires { ⌜ Below (now roots) (top (now cells)) × (cellWords * top (now cells) ≤ length (now cells)) ⌝ }
     ensures { λ _. ⌜ Turned (now (cells .entry)) (now (roots .entry)) (now (roots .exit)) (length (now (roots .entry))) ⌝ }
 {
     let mut k = 0;

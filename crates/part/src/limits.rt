@@ -1,5 +1,8 @@
 // The bounds of a store, each with its definition in specs/StoreLimits.antt.
 
+// The words of a cell of a store.
+pub const CELL_WORDS: usize = 7;
+
 // The most words that a store may have: a number of a piece, and its sizes, fit 32 bits.
 pub const STORE_WORDS: usize = 2097152;
 

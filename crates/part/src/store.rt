@@ -1,12 +1,13 @@
-// A store of pieces: immutable cells in a lent slice, eight words to a cell: its index, the number of its child, that of its rest,
-// its entries, depth and width, whether it passes a limit, and a mark that only `collect` uses.
-// The number 0 is all, 1 is exist, 2 is the empty part, and n from 3 on is the cell at 8n. The slice's first word is the next free number.
+// A store of pieces: immutable cells in a lent slice, seven words to a cell: its index, the number of its child, that of its rest,
+// its entries, its depth, twice its width (and 1 more where it passes a limit), and a mark that only `collect` uses.
+// The number 0 is all, 1 is exist, 2 is the empty part, and n from 3 on is the cell at 7n. The slice's first word is the next free number.
 ghost use mathlib.Core.Path.{_≡_};
 ghost use Prim.Native.Nat.{_+_, _*_, _≤_, _<_, min, max};
 ghost use lib.ListN.{length, set};
 ghost use Rattle.part.specs.PartReq.{more, entries, depth, width, over};
-ghost use Rattle.part.specs.StoreLimits.{storeWords, entriesCap};
+ghost use Rattle.part.specs.StoreLimits.{cellWords, storeWords, entriesCap};
 ghost use Rattle.part.specs.Store.{word, top, part, Measures, Passes, SizesOf, Good, Room, Made, Seen, Put};
+use crate::limits::CELL_WORDS;
 use crate::limits::ENTRIES_CAP;
 use crate::limits::SPINE;
 use field::limits::MAX_DEPTH;
@@ -30,24 +31,24 @@ pub struct Sizes {
 
 // The word k of the piece n.
 pub(crate) fn word(cells: &[u32], n: u32, k: usize) -> u32
-    requires { ⌜ (8 * n + k < length (now cells)) × (k < 8) ⌝ }
+    requires { ⌜ (cellWords * n + k < length (now cells)) × (k < cellWords) ⌝ }
     ensures { λ r. ⌜ r ≡ word (now (cells .entry)) n k ⌝ }
 {
-    let at = 8 * (n as usize) + k;
+    let at = CELL_WORDS * (n as usize) + k;
     cells[at]
 }
 
 pub(crate) fn set_word(cells: &mut [u32], n: u32, k: usize, v: u32)
-    requires { ⌜ (8 * n + k < length (now cells)) × (k < 8) ⌝ }
-    ensures { λ _. ⌜ now (cells .exit) ≡ set (now (cells .entry)) (8 * n + k) v ⌝ }
+    requires { ⌜ (cellWords * n + k < length (now cells)) × (k < cellWords) ⌝ }
+    ensures { λ _. ⌜ now (cells .exit) ≡ set (now (cells .entry)) (cellWords * n + k) v ⌝ }
 {
-    let at = 8 * (n as usize) + k;
+    let at = CELL_WORDS * (n as usize) + k;
     cells[at] = v;
 }
 
 // A store with no cell in use.
 pub fn init(cells: &mut [u32])
-    requires { ⌜ (24 ≤ length (now cells)) × (length (now cells) ≤ storeWords) ⌝ }
+    requires { ⌜ (cellWords * 3 ≤ length (now cells)) × (length (now cells) ≤ storeWords) ⌝ }
     ensures { λ _. ⌜ Good (now (cells .exit)) × (top (now (cells .exit)) ≡ 3) × (length (now (cells .exit)) ≡ length (now (cells .entry))) ⌝ }
 {
     cells[0] = 3;
@@ -88,11 +89,12 @@ pub fn measure(cells: &[u32], n: u32) -> Sizes
             over: 0,
         };
     }
+    let packed = word(cells, n, 5);
     Sizes {
         entries: word(cells, n, 3),
         depth: word(cells, n, 4),
-        width: word(cells, n, 5),
-        over: word(cells, n, 6),
+        width: packed / 2,
+        over: packed % 2,
     }
 }
 
@@ -186,18 +188,17 @@ pub fn sizes_of(index: u32, p: Sizes, r: Sizes) -> Sizes
     }
 }
 
-// Writes the cell n.
-pub(crate) fn put(cells: &mut [u32], n: u32, x: Cell, m: Sizes)
-    requires { ⌜ 8 * n + 8 ≤ length (now cells) ⌝ }
-    ensures { λ _. ⌜ Put (now (cells .entry)) (now (cells .exit)) n (x .index) (x .child) (x .rest) (m .entries) (m .depth) (m .width) (m .over) ⌝ }
+// Writes the cell n, but for its mark.
+pub(crate) fn put(cells: &mut [u32], n: u32, x: Cell, entries: u32, depth: u32, packed: u32)
+    requires { ⌜ cellWords * n + cellWords ≤ length (now cells) ⌝ }
+    ensures { λ _. ⌜ Put (now (cells .entry)) (now (cells .exit)) n (x .index) (x .child) (x .rest) entries depth packed ⌝ }
 {
     set_word(cells, n, 0, x.index);
     set_word(cells, n, 1, x.child);
     set_word(cells, n, 2, x.rest);
-    set_word(cells, n, 3, m.entries);
-    set_word(cells, n, 4, m.depth);
-    set_word(cells, n, 5, m.width);
-    set_word(cells, n, 6, m.over);
+    set_word(cells, n, 3, entries);
+    set_word(cells, n, 4, depth);
+    set_word(cells, n, 5, packed);
 }
 
 // Makes the requirement whose first entry is index: child and whose others are those of rest.
@@ -216,7 +217,7 @@ pub fn make(cells: &mut [u32], index: u32, child: u32, rest: u32) -> u32
         child: child,
         rest: rest,
     };
-    put(cells, n, x, m);
+    put(cells, n, x, m.entries, m.depth, 2 * m.width + m.over);
     cells[0] = n + 1;
     n
 }

@@ -3,10 +3,11 @@
 ghost use mathlib.Core.Path.{_≡_};
 ghost use Prim.Native.Nat.{_*_, _+_, _≤_, _<_};
 ghost use lib.ListN.{length};
-ghost use Rattle.part.specs.StoreLimits.{storeWords};
+ghost use Rattle.part.specs.StoreLimits.{cellWords, storeWords};
 ghost use Rattle.part.specs.Store.{top, Good};
 ghost use Rattle.part_run.specs.Live.{Live, Went, Piece, Told};
 use part::collect::collect;
+use part::limits::CELL_WORDS;
 use part::limits::ENTRIES_CAP;
 use part::req::add;
 use part::req::contains;
@@ -23,7 +24,7 @@ fn fits(cells: &[u32], k: u32) -> bool
     ensures { λ r. ⌜ Told (now (cells .entry)) k r ⌝ }
 {
     let next = cells[0] as usize;
-    8 * (next + k as usize) <= cells.len()
+    CELL_WORDS * (next + k as usize) <= cells.len()
 }
 
 // {i:{j:all}}, or the empty part where there is no room.
@@ -190,7 +191,7 @@ fn show(cells: &mut [u32], roots: &mut [u32], k: usize)
 }
 
 fn run(cells: &mut [u32], roots: &mut [u32])
-    requires { ⌜ (24 ≤ length (now cells)) × (length (now cells) ≤ storeWords) ⌝ }
+    requires { ⌜ (cellWords * 3 ≤ length (now cells)) × (length (now cells) ≤ storeWords) ⌝ }
     requires { ⌜ length (now roots) ≡ 2 ⌝ }
 {
     part::store::init(cells);

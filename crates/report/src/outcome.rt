@@ -164,23 +164,13 @@ fn walk_read(
 }
 
 // The module in front of the request. The walk's memory is room for its reading.
-pub fn read_front(
-    input: &[u8],
-    t: &mut [u32],
-    cells: &mut [u32],
-    slots: &mut [u32],
-) -> u32
+pub fn read_front(input: &[u8], t: &mut [u32], cells: &mut [u32], slots: &mut [u32]) -> u32
     requires { ⌜ words ≤ length (now t) ⌝ }
     requires { ⌜ (values ≤ length (now cells)) × (maxItems ≤ length (now slots)) ⌝ }
     ensures { λ r. ⌜ Reads (moduleIn (now (input .entry))) (now (t .exit)) r ⌝ }
 {
     let at = split(input);
-    read(
-        &input[0..at],
-        t,
-        &mut cells[0..SEEN],
-        &mut slots[0..HELD],
-    )
+    read(&input[0..at], t, &mut cells[0..SEEN], &mut slots[0..HELD])
 }
 
 // The request behind a module that was read, asked of a fresh pruner.

@@ -11,6 +11,7 @@ use borrow.Author.Tests.{ne-eqb}
 use Rattle.field.specs.Limits.{absent}
 use Rattle.field.specs.Field.{fieldAt}
 use Rattle.part.specs.PartReq.{none, more}
+use Rattle.part.specs.StoreLimits.{cellWords}
 use Rattle.part.specs.Store.{top, part, Good, Room, Made}
 use Rattle.part.proofs.Pieces.{part-2}
 use Rattle.context.specs.RequiredContext.{variable, pieces}
@@ -91,7 +92,7 @@ fresh-slot {s} {rs} E k l =
     ]
 
 module _ {s rs : List ℕ} (E : Empty s rs) (request : List ℕ) (functions globals report : ℕ) (short : length request ≤ 4 + absent) where
-  pub reading-room : 8 * top s + 2 * length request ≤ length s + 2 * 0
+  pub reading-room : cellWords * top s + 2 * length request ≤ length s + 2 * 0
   reading-room = omega (arith, E .few, E .memory .fits)
 
   module _ {t : List ℕ} {a : RequestAnswer} (W : RequestWasRead s t (length request) (judge functions globals report (requestOf request)) a) where

@@ -40,8 +40,7 @@ module _ (m : Module) (v : Valid m) where
 
 pub record-within : (bytes : List ℕ) (m : Module) → readModule bytes ≡ accepted m → (f : FunctionHandle) (b : BlockHandle) → b < length (functionAt m f .blocks) → recordNumber m f b ≤ maxItems
 record-within bytes m read f b l =
-    omega
-    (
+    omega (
       arith,
       record-before m (valid bytes m read) f b l,
       total-take bodyRecords (m .functions) (suc f),

@@ -1,6 +1,7 @@
 -- `make` meets its contract.
 use Rattle.part.proofs.Write.{made}
-use Rattle.part.proofs.Measures.{small}
+use Rattle.part.proofs.Measures.{small, packed-small}
+use native.Mathlib.Omega.{arith}
 use borrow.Author.Needs.{needs}
 use Rattle.part.proofs.store.make.Statement.{statement}
 use Rattle.part.proofs.store.make.Tie as tie
@@ -22,6 +23,12 @@ sizes-of-requires c κs = let p = small (c .before .before .before .before .befo
 slice-read-n : tie.Need-slice-read-n
 slice-read-n c = search needs
 
+mul-put : tie.Need-mul-put
+mul-put c = omega (arith, packed-small (c .before .before .before .before .before .before .before .before .before .pre .0) (c .before .before .before .before .before .before .before .before .before .pre .1 .1 .1) (c .before .before .before .before .before .before .measure .ensures) (c .before .before .before .before .measure2 .ensures) (c .before .before .before .sizes-of .ensures))
+
+add-put : tie.Need-add-put
+add-put c = omega (arith, packed-small (c .before .before .before .before .before .before .before .before .before .before .pre .0) (c .before .before .before .before .before .before .before .before .before .before .pre .1 .1 .1) (c .before .before .before .before .before .before .before .measure .ensures) (c .before .before .before .before .before .measure2 .ensures) (c .before .before .before .before .sizes-of .ensures))
+
 put-requires : tie.Need-put-requires
 put-requires c κs = search needs
 
@@ -35,7 +42,7 @@ same-length : tie.Need-same-length
 same-length c = search needs
 
 returns : tie.Need-returns
-returns c = made (c .before .before .before .before .before .before .before .before .before .before .before .pre .0) (c .before .before .before .before .before .before .before .before .before .before .before .pre .1 .0) (c .before .before .before .before .before .before .before .before .before .before .before .pre .1 .1 .0) (c .before .before .before .before .before .before .before .before .before .before .before .pre .1 .1 .1) (c .before .before .before .before .before .before .before .before .measure .ensures) (c .before .before .before .before .before .before .measure2 .ensures) (c .before .before .before .before .before .sizes-of .ensures) (c .before .before .put .ensures)
+returns c = made (c .before .before .before .before .before .before .before .before .before .before .before .before .before .pre .0) (c .before .before .before .before .before .before .before .before .before .before .before .before .before .pre .1 .0) (c .before .before .before .before .before .before .before .before .before .before .before .before .before .pre .1 .1 .0) (c .before .before .before .before .before .before .before .before .before .before .before .before .before .pre .1 .1 .1) (c .before .before .before .before .before .before .before .before .before .before .measure .ensures) (c .before .before .before .before .before .before .before .before .measure2 .ensures) (c .before .before .before .before .before .before .before .sizes-of .ensures) (c .before .before .put .ensures)
 
 pub make-spec : {M : Type 1} → statement M
 make-spec =
@@ -45,6 +52,8 @@ make-spec =
     measure-requires-2
     sizes-of-requires
     slice-read-n
+    mul-put
+    add-put
     put-requires
     add-cells
     slice-write-cells
