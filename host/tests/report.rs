@@ -1,5 +1,5 @@
-//! The program `report`, on the stored list of inputs and outputs, and on inputs past every limit. `rt check report` makes it.
-use host::stored::{Report, Source};
+//! The program `report`, on the stored lists, and on inputs past every limit, each with a stack of 8 MiB. `rt check report` makes it.
+use host::stored::{Report, Requests, Source};
 use std::io::Write;
 use std::path::PathBuf;
 use std::process::{Command, Stdio};
@@ -9,8 +9,13 @@ fn folder() -> PathBuf {
 }
 
 fn run(input: &[u8]) -> String {
-    let program = folder().join("target/bin/report");
-    let mut child = Command::new(program).stdin(Stdio::piped()).stdout(Stdio::piped()).spawn().expect("target/bin/report");
+    let mut child = Command::new("sh")
+        .args(["-c", "ulimit -S -s 8192 && exec \"$0\""])
+        .arg(folder().join("target/bin/report"))
+        .stdin(Stdio::piped())
+        .stdout(Stdio::piped())
+        .spawn()
+        .expect("sh");
     // the program reads no more than can change its answer, and may have ended by then
     let _ = child.stdin.take().expect("a pipe").write_all(input);
     let output = child.wait_with_output().expect("an output");
@@ -26,6 +31,23 @@ fn reports_are_printed_as_the_oracle_prints_them() {
     for (n, case) in cases.iter().enumerate() {
         assert_eq!(run(&case.input), case.output, "item {n}");
     }
+}
+
+/// The first request of each module of the stored requests, which a fresh pruner answers. Blocks, branches, loops, calls and operands in each other, as deep as a
+/// file allows, are among them.
+#[test]
+fn the_deepest_walks_have_room() {
+    let stored = std::fs::read(folder().join("tests/requests.list")).expect("requests.list");
+    let cases = Source(&stored).all(Requests::read).expect("a whole list");
+    let mut long = 0;
+    for (n, case) in cases.iter().enumerate().filter(|(_, case)| case.buffer >= 65_536) {
+        let (request, answer) = &case.requests[0];
+        let mut input = case.module.clone();
+        input.extend(request);
+        assert_eq!(run(&input), answer.report, "item {n}");
+        long += usize::from(case.module.len() > 65_000);
+    }
+    assert!(long >= 5);
 }
 
 #[test]
