@@ -9,13 +9,13 @@ host list FILE                      a file as a listing, with a message if readi
 host kinds                          every record and kind of a listing, with its operands
 host generate N SEED                a casting model of N statements, as a listing
 host stored reading ORACLE OUT SOURCE...    stored lists, from files and folders of files (.bin) and listings (.txt);
-host stored requests ORACLE OUT SOURCE...   ORACLE is the oracle's program
+host stored requests ORACLE OUT SOURCE...   ORACLE is the oracle's program, or the folder that has it
 host stored report ORACLE OUT SOURCE...
 host stored count READING REQUESTS          a table of what the two lists reach
 host compare reading ORACLE SEED COUNT SOURCE...    the library against the oracle: the sources' modules and damaged copies of them
 host compare bindings ORACLE SEED COUNT SOURCE...   the same for the operations on bindings, asked anew of the sources' modules
 host compare requests ORACLE SEED COUNT SOURCE...   the same for requests: the sources, varied, damaged and generated modules, asked anew
-host bench BENCH FILE...    the library's requests timed against the original's (BENCH: its program for timing); without FILE, on our own
+host bench BENCH FILE...    the library's requests timed against the original's (BENCH: its program for timing, or the folder that has it); without FILE, on our own
 ";
 
 pub fn run(words: &[&str]) -> Result<(), String> {
@@ -32,7 +32,7 @@ pub fn run(words: &[&str]) -> Result<(), String> {
         ["compare", "reading", oracle, seed, count, ref sources @ ..] => compare_reading(oracle, seed, count, sources),
         ["compare", "bindings", oracle, seed, count, ref sources @ ..] => compare_bindings(oracle, seed, count, sources),
         ["compare", "requests", oracle, seed, count, ref sources @ ..] => compare_requests(oracle, seed, count, sources),
-        ["bench", program, ref files @ ..] => measure(program, files),
+        ["bench", bench, ref files @ ..] => measure(bench, files),
         _ => Err(USAGE.into()),
     }
 }
@@ -72,8 +72,17 @@ fn list_file(file: &str) -> Result<(), String> {
 
 type Store = fn(&str, &[Vec<u8>]) -> Result<Vec<u8>, String>;
 
+/// The program itself, or the one of that name in a folder.
+fn program(path: &str, name: &str) -> String {
+    if std::path::Path::new(path).is_dir() {
+        format!("{path}/{name}")
+    } else {
+        path.into()
+    }
+}
+
 fn store_list(make: Store, oracle: &str, out: &str, sources: &[&str]) -> Result<(), String> {
-    write(out, &make(oracle, &store::sources(sources)?)?)
+    write(out, &make(&program(oracle, "oracle"), &store::sources(sources)?)?)
 }
 
 fn count_lists(reading: &str, requests: &str) -> Result<(), String> {
@@ -88,27 +97,27 @@ fn number<T: std::str::FromStr>(word: &str) -> Result<T, String> {
 }
 
 fn compare_reading(oracle: &str, seed: &str, count: &str, sources: &[&str]) -> Result<(), String> {
-    let counts = compare::reading(oracle, number(seed)?, number(count)?, &store::sources(sources)?)?;
+    let counts = compare::reading(&program(oracle, "oracle"), number(seed)?, number(count)?, &store::sources(sources)?)?;
     print(&count::lines(&counts))
 }
 
 fn compare_bindings(oracle: &str, seed: &str, count: &str, sources: &[&str]) -> Result<(), String> {
-    let reached = bindings::compare(oracle, number(seed)?, number(count)?, &store::sources(sources)?)?;
+    let reached = bindings::compare(&program(oracle, "oracle"), number(seed)?, number(count)?, &store::sources(sources)?)?;
     print(&reached.iter().map(|(name, count)| format!("{name}: {count}\n")).collect::<String>())
 }
 
 fn compare_requests(oracle: &str, seed: &str, count: &str, sources: &[&str]) -> Result<(), String> {
     let start = std::time::Instant::now();
-    let reached = requests::compare(oracle, number(seed)?, number(count)?, &store::sources(sources)?)?;
+    let reached = requests::compare(&program(oracle, "oracle"), number(seed)?, number(count)?, &store::sources(sources)?)?;
     print(&format!("seed: {seed}\nseconds: {}\n{}", start.elapsed().as_secs(), reached.lines()))
 }
 
-fn measure(program: &str, paths: &[&str]) -> Result<(), String> {
+fn measure(bench: &str, paths: &[&str]) -> Result<(), String> {
     let mut files = if paths.is_empty() { measured::files()? } else { Vec::new() };
     for path in paths {
         files.extend(store::sources(&[path])?.into_iter().map(|bytes| File { name: path.to_string(), bytes }));
     }
-    print(&bench::bench(program, &files)?)
+    print(&bench::bench(&program(bench, "bench"), &files)?)
 }
 
 fn generate(statements: &str, seed: &str) -> Result<(), String> {

@@ -204,9 +204,6 @@ module _ {bytes t types places s rs open-marks totals : List ℕ} {fr : Frame} {
               up-beside =
                   beside-then (at + 4 + 4) (beside-then (at + 4 + 4) (L .beside) (walked .beside) (le-refl (at + 4 + 4))) (join-beside (walked .standing) high J) (le-refl (at + 4 + 4))
 
-              up-outer : contextAt (read x xs) at ≡ contextAt (read s rs) at
-              up-outer = beside-context up-beside at (T .low) (omega arith)
-
               up-working : contextAt (read x xs) (at + 4) ≡ working
               up-working = beside-context up-beside (at + 4) low (le-refl (at + 4 + 4))
 
