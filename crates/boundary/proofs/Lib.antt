@@ -2,3 +2,4 @@ pub mod Answers
 pub mod Lengths
 pub mod Types
 pub mod Requests
+pub mod Numbers

@@ -15,20 +15,24 @@ use Rattle.requests.specs.Finish.{replyOf}
 use Rattle.requests.specs.Served.{Served}
 use Rattle.requests.specs.declared.finish.Reply as declared
 use Rattle.requests.specs.declared.finish.Reply.the-variants as reply
+use Rattle.requests.proofs.Numbers.{place-small}
 use Rattle.boundary.specs.Requests.{RequestsRead, Requests}
 
 -- the number of a place
+word-small : {w : ℕ} (p : Place) → w ≡ placeWord (placeOf p) → (w ≡ placeWord (placeOf p)) × (w ≤ 4294967295)
+word-small p e = (e, omega (arith, e, place-small (placeOf p)))
+
 pub at-expression : {p : Place} {f : Handle} {e : Expression} → p ≡ place.Expression f e → (1073741824 + 32768 * (f .0 % 32768) + e .0 % 32768 ≡ placeWord (placeOf p)) × (1073741824 + 32768 * (f .0 % 32768) + e .0 % 32768 ≤ 4294967295)
 unfolding placeWord
-at-expression h = (rw h (omega arith), omega arith)
+at-expression {p} h = word-small p (rw h (omega arith))
 
 pub at-statement : {p : Place} {f : Handle} {s : ℕ} → p ≡ place.Statement f s → (2147483648 + 32768 * (f .0 % 32768) + s % 32768 ≡ placeWord (placeOf p)) × (2147483648 + 32768 * (f .0 % 32768) + s % 32768 ≤ 4294967295)
 unfolding placeWord
-at-statement h = (rw h (omega arith), omega arith)
+at-statement {p} h = word-small p (rw h (omega arith))
 
 pub at-nowhere : {p : Place} → p ≡ place.Nowhere → (0 ≡ placeWord (placeOf p)) × (0 ≤ 4294967295)
 unfolding placeWord
-at-nowhere h = (rw h, omega arith)
+at-nowhere {p} h = word-small p (rw h)
 
 -- the number of a reply
 pub word-visits : {r : declared.Reply} {n : ℕ} → r ≡ reply.Visits n → n ≡ replyWord (replyOf r)

@@ -18,7 +18,7 @@ use Rattle.walk.specs.Marks.{addMarks, bodyOf, firstRay}
 use Rattle.walk.specs.Function.{extend, keep, joinTotal, addTotal, entered, stepFunction, addFunction}
 use Rattle.walk.specs.Requests.{fresh, begun}
 use Rattle.walk.proofs.Counts.{own, recordPieces-replicate}
-use Rattle.walk.proofs.Ends.{Ends, ends, stops, ends-then, ends-next, ends-limited-context}
+use Rattle.walk.proofs.Ends.{Ends, ends, stops, Any, ends-weaker, ends-then, ends-next, ends-limited-context}
 use Rattle.walk.proofs.Room.{block-owns}
 use Rattle.sound.proofs.Walks.{function-is}
 use Rattle.pruner.proofs.Read.{nothing-counts}
@@ -31,17 +31,17 @@ unfolding count sumOf
 owned st = omega arith
 
 -- totals are changed, what is shown is not
-join-shows : (f : FunctionHandle) (at : Place) (total : FunctionReq) (ray : Option ℕ) (n : ℕ) (st : State) → shows st ≤ n → Ends (λ left u. shows left ≤ n) (joinTotal f at total ray st)
+join-shows : (f : FunctionHandle) (at : Place) (total : FunctionReq) (ray : Option ℕ) (n : ℕ) (st : State) → shows st ≤ n → Ends Any (λ left u. shows left ≤ n) (joinTotal f at total ray st)
 unfolding joinTotal
-join-shows f at total (some s) n st h = stops
+join-shows f at total (some s) n st h = stops tt
 join-shows f at total nothing n st h =
     let context = mergeContext (total .context) (st .context) in
     ends-next {P = λ left u. shows left ≤ n}
     (λ left. went (keep f (record { marks = addMarks (total .marks) (left .marks); context = context; exprs = extend (total .exprs) (left .exprs) }) left) tt)
-    (ends-limited-context at context st (λ o. h))
+    (ends-weaker (ends-limited-context at context st (λ o. h)) (λ k t. tt) (λ left u few. few))
     (λ left hl. ends hl)
 
-total-shows : (m : Module) (f : FunctionHandle) (at : Place) (o : Option FunctionReq) (n : ℕ) (st : State) → shows st ≤ n → Ends (λ left u. shows left ≤ n) (addTotal m f at o st)
+total-shows : (m : Module) (f : FunctionHandle) (at : Place) (o : Option FunctionReq) (n : ℕ) (st : State) → shows st ≤ n → Ends Any (λ left u. shows left ≤ n) (addTotal m f at o st)
 unfolding addTotal
 total-shows m f at nothing n st h = ends h
 total-shows m f at (some total) n st h = join-shows f at total (firstRay m f (bodyOf m f)) n st h
@@ -50,7 +50,7 @@ abbrev baseOf : (globals retval : PartReq) → RequiredContext
 baseOf globals retval = record { globals = globals; locals = none; args = none; retval = retval }
 
 module _ (bytes : List ℕ) (m : Module) (was : readModule bytes ≡ accepted m) (f : FunctionHandle) (at : Place) (n held : ℕ) (globals retval : PartReq) (allowed : maxPieces ≤ n) where
-  function-shows : (st : State) → own (entered m f (baseOf globals retval) st) ≤ n → Ends (λ left a. shows left ≤ n) (addFunction m f at held globals retval st)
+  function-shows : (st : State) → own (entered m f (baseOf globals retval) st) ≤ n → Ends Any (λ left a. shows left ≤ n) (addFunction m f at held globals retval st)
   unfolding stepFunction entered
   function-shows st h =
       rw (function-is bytes m was f at held globals retval st)
@@ -64,5 +64,5 @@ module _ (bytes : List ℕ) (m : Module) (was : readModule bytes ≡ accepted m)
   unfolding count sumOf begun fresh entries entered
   fresh-owns = omega (arith, recordPieces-replicate (length (functionAt m f .expressions)), nothing-counts m (length (m .functions)))
 
-  pub fresh-shows : pieces (baseOf globals retval) ≤ n → Ends (λ left a. shows left ≤ n) (addFunction m f at held globals retval (begun (fresh m)))
+  pub fresh-shows : pieces (baseOf globals retval) ≤ n → Ends Any (λ left a. shows left ≤ n) (addFunction m f at held globals retval (begun (fresh m)))
   fresh-shows h = function-shows (begun (fresh m)) (omega (arith, fresh-owns))

@@ -7,3 +7,4 @@ pub mod Begins
 pub mod Few
 pub mod Finishing
 pub mod Serving
+pub mod Numbers

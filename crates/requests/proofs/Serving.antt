@@ -90,11 +90,11 @@ module _ {bytes t types places s rs open-marks totals : List ℕ} {f : ℕ} wher
         }
 
 -- totals are refused by 19 alone
-abbrev Only19 : {A : Type 0} → reading.Answer A → Type 0
+abbrev pub Only19 : {A : Type 0} → reading.Answer A → Type 0
 Only19 (reading.refused n) = n ≡ 19
 Only19 (reading.accepted a) = Unit {0}
 
-either-19 : {A : Type 0} (b : Bool) (x y : reading.Answer A) → Only19 x → Only19 y → Only19 (cond b x y)
+pub either-19 : {A : Type 0} (b : Bool) (x y : reading.Answer A) → Only19 x → Only19 y → Only19 (cond b x y)
 either-19 true x y h k = h
 either-19 false x y h k = k
 
@@ -102,7 +102,7 @@ answered-19 : (o : Option Pruner) → Only19 (answered o)
 answered-19 nothing = refl
 answered-19 (some pruner) = either-19 (leb (prunerPieces pruner) maxPieces) (reading.accepted pruner) (reading.refused 19) tt refl
 
-pruner-19 : (m : Module) (s : List ℕ) → Only19 (readPruner m s)
+pub pruner-19 : (m : Module) (s : List ℕ) → Only19 (readPruner m s)
 unfolding readPruner
 pruner-19 m s =
     let read = reading.whole (readBody m (reading.fields (drop 6 (stated s)))) in

@@ -28,7 +28,7 @@ module _ {m : Module} (K : Kept m) where
 
   join-goes : (f : FunctionHandle) (at : Place) (total : FunctionReq) (ray : Option ℕ) (st : State) → getD (st .functions) f nothing ≡ some total → Good K f st → Goes K f (joinTotal f at total ray st)
   unfolding joinTotal
-  join-goes f at total (some s) st there h = stops
+  join-goes f at total (some s) st there h = stops refl
   join-goes f at total nothing st there h =
       let context = mergeContext (total .context) (st .context) in
       let joined : State → FunctionReq = λ left. record { marks = addMarks (total .marks) (left .marks); context = context; exprs = extend (total .exprs) (left .exprs) } in
@@ -61,7 +61,7 @@ module _ {m : Module} (K : Kept m) where
   -- the walk of a function keeps what single changes keep
   pub function-keeps : (f : FunctionHandle) → Calls K f (addFunction m f)
   unfolding addFunction
-  function-keeps f = knot-all (Calls K) (stepFunction m) noFunction (λ g at held globals retval st hb h. stops) function-step f
+  function-keeps f = knot-all (Calls K) (stepFunction m) noFunction (λ g at held globals retval st hb h. stops refl) function-step f
 
   -- the properties of a pruner, for a request that begins with no visits
   pub record Keeping (pruner : Pruner) : Type 0 where
@@ -77,7 +77,7 @@ module _ {m : Module} (K : Kept m) where
   end-goes f r st h = go (ltb maxPieces (endCount st))
     where
       go : (b : Bool) → Goes K f (cond b (halt 16 nowhere) (went st r))
-      go true = stops
+      go true = stops refl
       go false = ends h
 
   pub walk-keeps : (pruner : Pruner) (q : Request) → K .Visits 0 → Keeping pruner → Asking q → Goes K (q .function) (walkRequest m pruner q)
@@ -90,7 +90,7 @@ module _ {m : Module} (K : Kept m) where
 
   answer-keeps : (pruner : Pruner) (f : FunctionHandle) (x : Out Bool) → Keeping pruner → Goes K f x → Keeping (answered m pruner f x .1)
   answer-keeps pruner f (went st r) h (ends good) = record { globals = good .globals; functions = good .functions }
-  answer-keeps pruner f (halt n at) h stops = h
+  answer-keeps pruner f (halt n at) h (stops t) = h
 
   -- a request keeps the properties of the pruner
   pub request-keeps : (pruner : Pruner) (q : Request) → K .Visits 0 → Keeping pruner → Asking q → Keeping (request m pruner q .1)

@@ -20,7 +20,7 @@ use Rattle.walk.specs.Marks.{stretch, addMarks, writeMarks}
 use Rattle.walk.specs.Statement.{retvalOf}
 use Rattle.walk.specs.Function.{extend}
 use Rattle.module.proofs.Knot.{knot-all}
-use Rattle.walk.proofs.Ends.{Ends, ends, stops, ends-next, ends-limited, ends-visit}
+use Rattle.walk.proofs.Ends.{Ends, ends, stops, Told, ends-next, ends-limited, ends-visit}
 
 -- q of each entry of a list
 abbrev pub EachEntry : (PartReq → Type 0) → PartReq → Type 0
@@ -83,7 +83,7 @@ pub record Good {m : Module} (K : Kept m) (f : FunctionHandle) (st : State) : Ty
   pub visits : K .Visits (st .visits)
 
 abbrev pub Goes : {m : Module} {A : Type 0} → Kept m → FunctionHandle → Out A → Type 0
-Goes K f x = Ends (λ st a. Good K f st) x
+Goes K f x = Ends Told (λ st a. Good K f st) x
 
 module _ {m : Module} (K : Kept m) (f : FunctionHandle) where
   pub good-context : (c : RequiredContext) (st : State) → Good K f st → K .Context f c → Good K f (withContext c st)
@@ -105,7 +105,7 @@ module _ {m : Module} (K : Kept m) (f : FunctionHandle) where
   AskedAll e (ofArgument i p ∷ rest) = (expressionAt m f e ≡ FunctionArgument i) × K .Asked p × AskedAll e rest
   AskedAll e (ofGlobal g p ∷ rest) = (expressionAt m f e ≡ GlobalVariable g) × K .Asked p × AskedAll e rest
   AskedAll e (ofLocal l p ∷ rest) = (expressionAt m f e ≡ LocalVariable l) × K .Asked p × AskedAll e rest
-  AskedAll e (refuse n ∷ rest) = AskedAll e rest
+  AskedAll e (refuse n ∷ rest) = Told n × AskedAll e rest
 
   optional-asked : (e : ExpressionHandle) (o : Option ExpressionHandle) (rest : List Ask) → AskedAll e rest → AskedAll e (optional o rest)
   unfolding optional
@@ -125,20 +125,20 @@ module _ {m : Module} (K : Kept m) (f : FunctionHandle) where
   formed-asked e a p h = go (over p) refl
     where
       go : (b : Bool) → over p ≡ b → AskedAll e (cond (over p) (refuse 15 ∷ []) (ofOperand a p ∷ []))
-      go true o = rw o tt
+      go true o = rw o (refl, tt)
       go false o = rw o (h o, tt)
 
   swizzle-asks : (e vector : ExpressionHandle) (pattern : List ℕ) (p : PartReq) (s : Swizzled) → expressionAt m f e ≡ Swizzle vector pattern → K .Asked p → swizzled pattern p ≡ s → AskedAll e (swizzleAsks vector s)
   unfolding swizzleAsks
   swizzle-asks e vector pattern p (asks q) is h picked = formed-asked e vector q (K .swizzle-asked f e vector pattern p q is h picked)
-  swizzle-asks e vector pattern p panics is h picked = tt
+  swizzle-asks e vector pattern p panics is h picked = (refl, tt)
 
   constant-asks : (e : ExpressionHandle) (p : PartReq) → AskedAll e (constantAsks p)
   unfolding constantAsks
   constant-asks e all = tt
   constant-asks e exist = tt
-  constant-asks e none = tt
-  constant-asks e (more i p r) = tt
+  constant-asks e none = (refl, tt)
+  constant-asks e (more i p r) = (refl, tt)
 
   each-asked : (e : ExpressionHandle) (cs : List ExpressionHandle) → AskedAll e (allOfEach cs)
   unfolding allOfEach
@@ -147,7 +147,7 @@ module _ {m : Module} (K : Kept m) (f : FunctionHandle) where
 
   component-asked : (e : ExpressionHandle) (c : Option ExpressionHandle) (p : PartReq) (rest : List Ask) → K .Asked p → AskedAll e rest → AskedAll e (componentAsk c p ∷ rest)
   unfolding componentAsk
-  component-asked e nothing p rest q h = h
+  component-asked e nothing p rest q h = (refl, h)
   component-asked e (some c) p rest q h = (q, h)
 
   entry-asks : (e : ExpressionHandle) (cs : List ExpressionHandle) (p : PartReq) → EachEntry (K .Asked) p → AskedAll e (entryAsks cs p)
@@ -201,7 +201,7 @@ module _ {m : Module} (K : Kept m) (f : FunctionHandle) where
   arm-asks e Override p is h = tt
   arm-asks e SubgroupBallotResult p is h = tt
   arm-asks e SubgroupOperationResult p is h = tt
-  arm-asks e RayQueryVertexPositions p is h = tt
+  arm-asks e RayQueryVertexPositions p is h = (refl, tt)
 
   -- the walk of an expression, by what it is asked
   abbrev pub Walks : (PartReq → Walk (Unit {0})) → Type 0
@@ -256,14 +256,14 @@ module _ {m : Module} (K : Kept m) (f : FunctionHandle) where
       (λ left good. asks-go w e here hw rest left (q .2) good)
   asks-go w e here hw (ofLocal l p ∷ rest) st q h =
       ends-next (addAsks w here rest) (local-goes e here l p st (q .0) (q .1) h) (λ left good. asks-go w e here hw rest left (q .2) good)
-  asks-go w e here hw (refuse n ∷ rest) st q h = stops
+  asks-go w e here hw (refuse n ∷ rest) st q h = stops (q .0)
 
   step-goes : (held : ℕ) (w : ExpressionHandle → PartReq → Walk (Unit {0})) (e : ExpressionHandle) → ((a : ExpressionHandle) → Walks (w a)) → Walks (stepExpression m f held w e)
   unfolding stepExpression
   step-goes held w e hw p st q h =
       let here = atExpression f e in
       let asked = armAsks (expressionAt m f e) p in
-      ends-visit held here (λ begun. addAsks w here asked begun >> λ ended. went (recorded e p ended) tt) st
+      ends-visit (λ n t. t) held here (λ begun. addAsks w here asked begun >> λ ended. went (recorded e p ended) tt) st
       (λ few.
       ends-next (λ ended. went (recorded e p ended) tt)
       (asks-go w e here hw asked (visited st) (arm-asks e (expressionAt m f e) p refl q) (good-visited st h few))
@@ -273,4 +273,4 @@ module _ {m : Module} (K : Kept m) (f : FunctionHandle) where
   -- the walk of an expression keeps what single changes keep
   pub expression-keeps : (held : ℕ) (e : ExpressionHandle) → Walks (addExpression m f held e)
   unfolding addExpression
-  expression-keeps held e = knot-all (λ a w. Walks w) (stepExpression m f held) noOperand (λ a p st q h. stops) (step-goes held) e
+  expression-keeps held e = knot-all (λ a w. Walks w) (stepExpression m f held) noOperand (λ a p st q h. stops refl) (step-goes held) e

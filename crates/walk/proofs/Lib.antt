@@ -8,6 +8,7 @@ pub mod Ends
 pub mod Keeps
 pub mod Statements
 pub mod Functions
+pub mod Numbers
 pub mod Parts
 pub mod Proper
 pub mod Limits

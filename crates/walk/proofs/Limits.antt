@@ -13,21 +13,21 @@ use Rattle.walk.specs.State.{Records, State, atExpression, Out, went, ha
 use Rattle.walk.specs.Resolve.{needed, neededAt, checkPart, storeRequired}
 use Rattle.walk.specs.Expression.{stepExpression, noOperand, addExpression}
 use Rattle.walk.specs.Statement.{FunctionWalk, BlockWalk, Frame, here, needOf, recordAt, visitStatement}
-use Rattle.walk.proofs.Ends.{Ends, ends, stops, ends-visit}
+use Rattle.walk.proofs.Ends.{Ends, ends, stops, Any, ends-visit}
 
-whatever : {A : Type 0} (x : Out A) → Ends (λ left a. Unit {0}) x
+whatever : {A : Type 0} (x : Out A) → Ends Any (λ left a. Unit {0}) x
 whatever (went left a) = ends tt
-whatever (halt n place) = stops
+whatever (halt n place) = stops tt
 
-pub expression-counted : (m : Module) (f : FunctionHandle) (held : ℕ) (e : ExpressionHandle) (p : PartReq) (st : State) → Ends (λ left u. count held left ≤ maxPieces) (addExpression m f held e p st)
+pub expression-counted : (m : Module) (f : FunctionHandle) (held : ℕ) (e : ExpressionHandle) (p : PartReq) (st : State) → Ends Any (λ left u. count held left ≤ maxPieces) (addExpression m f held e p st)
 unfolding addExpression stepExpression
 expression-counted m f held e =
-    knot-all (λ a w. (p : PartReq) (st : State) → Ends (λ left u. count held left ≤ maxPieces) (w p st)) (stepExpression m f held) noOperand (λ a p st. stops)
-    (λ w a hw p st. ends-visit held (atExpression f a) _ st (λ few. whatever _) (λ left u t few. few)) e
+    knot-all (λ a w. (p : PartReq) (st : State) → Ends Any (λ left u. count held left ≤ maxPieces) (w p st)) (stepExpression m f held) noOperand (λ a p st. stops tt)
+    (λ w a hw p st. ends-visit (λ n t. tt) held (atExpression f a) _ st (λ few. whatever _) (λ left u t few. few)) e
 
-pub statement-counted : (m : Module) (call : FunctionWalk) (block : BlockWalk) (fr : Frame) (st : State) → Ends (λ left r. count (fr .held) left ≤ maxPieces) (visitStatement m call block fr st)
+pub statement-counted : (m : Module) (call : FunctionWalk) (block : BlockWalk) (fr : Frame) (st : State) → Ends Any (λ left r. count (fr .held) left ≤ maxPieces) (visitStatement m call block fr st)
 unfolding visitStatement
-statement-counted m call block fr st = ends-visit (fr .held) (here fr) _ st (λ few. whatever _) (λ left r t few. few)
+statement-counted m call block fr st = ends-visit (λ n t. tt) (fr .held) (here fr) _ st (λ few. whatever _) (λ left r t few. few)
 
 -- what is needed has at most n entries
 abbrev pub Few : ℕ → Subpart → Type 0

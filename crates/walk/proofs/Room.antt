@@ -18,21 +18,16 @@ use Rattle.walk.specs.Marks.{addMarks, blockAt, bodyOf, firstRay}
 use Rattle.walk.specs.Statement.{FunctionWalk, BlockWalk, Frame, visitStatement, addStatements, stepBlock, noBlock, addBlock}
 use Rattle.walk.specs.Function.{extend, walked, keep, joinTotal, addTotal, entered, stepFunction, noFunction, addFunction}
 use Rattle.walk.proofs.Counts.{own, count-held, recordPieces-extend}
-use Rattle.walk.proofs.Ends.{Ends, ends, stops, ends-then, ends-next, ends-limited-context}
+use Rattle.walk.proofs.Ends.{Ends, ends, stops, Any, ends-weaker, ends-then, ends-next, ends-limited-context}
 use Rattle.walk.proofs.Limits.{statement-counted}
 
 -- at most n pieces of its own
 abbrev pub Owns : {A : Type 0} → ℕ → Out A → Type 0
-Owns n x = Ends (λ left a. own left ≤ n) x
-
--- a weaker claim
-ends-weaker : {A : Type 0} {P R : State → A → Type 0} {x : Out A} → Ends P x → ((st : State) (a : A) → P st a → R st a) → Ends R x
-ends-weaker (ends {st} {a} h) f = ends (f st a h)
-ends-weaker stops f = stops
+Owns n x = Ends Any (λ left a. own left ≤ n) x
 
 statement-owns : (m : Module) (call : FunctionWalk) (block : BlockWalk) (fr : Frame) (st : State) → Owns maxPieces (visitStatement m call block fr st)
 statement-owns m call block fr st =
-    ends-weaker (statement-counted m call block fr st) (λ left r h. let e = count-held (fr .held) left in omega (arith, h))
+    ends-weaker (statement-counted m call block fr st) (λ n t. t) (λ left r h. let e = count-held (fr .held) left in omega (arith, h))
 
 statements-own : (n : ℕ) (visitOne : ℕ → Bool → Walk Bool) (first k : ℕ) (b r : Bool) (st : State) → maxPieces ≤ n → ((s : ℕ) (q : Bool) (u : State) → Owns maxPieces (visitOne s q u)) → own st ≤ n → Owns n (addStatements visitOne first k b r st)
 unfolding addStatements
@@ -46,7 +41,7 @@ pub block-owns : (m : Module) (call : FunctionWalk) (f : FunctionHandle) (b : Bl
 unfolding addBlock
 block-owns m call f b n held base r st l h =
     knot-all (λ a w. (held : ℕ) (base : RequiredContext) (r : Bool) (st : State) → own (withContext base st) ≤ n → Owns n (w held base r st))
-    (stepBlock m call f) noBlock (λ a held base r st h. stops) step b held base r st h
+    (stepBlock m call f) noBlock (λ a held base r st h. stops tt) step b held base r st h
   where
     step : (block : BlockWalk) (b : BlockHandle) → ((a : BlockHandle) (held : ℕ) (base : RequiredContext) (r : Bool) (st : State) → own (withContext base st) ≤ n → Owns n (block a held base r st)) → (held : ℕ) (base : RequiredContext) (r : Bool) (st : State) → own (withContext base st) ≤ n → Owns n (stepBlock m call f block b held base r st)
     step block b hb held base r st h =
@@ -101,17 +96,19 @@ joined-pieces total st =
 
 join-owns : (f : FunctionHandle) (at : Place) (total : FunctionReq) (ray : Option ℕ) (n : ℕ) (st : State) → getD (st .functions) f nothing ≡ some total → own st ≤ n → Owns (n + n) (joinTotal f at total ray st)
 unfolding joinTotal
-join-owns f at total (some s) n st there h = stops
+join-owns f at total (some s) n st there h = stops tt
 join-owns f at total nothing n st there h =
     let context = mergeContext (total .context) (st .context) in
     let joined : State → FunctionReq = λ left. record { marks = addMarks (total .marks) (left .marks); context = context; exprs = extend (total .exprs) (left .exprs) } in
     ends-next {P = λ left u. own (keep f (joined left) left) ≤ n + n} (λ left. went (keep f (joined left) left) tt)
+    (ends-weaker
     (ends-limited-context at context st
     (λ o.
     let same = total-replaced (st .functions) f total (some (joined st)) there in
     let few = joined-pieces total st in
     let grown = own-kept (set (st .functions) f (some (joined st))) st (omega (arith, same, few)) in
     omega (arith, grown)))
+    (λ n t. tt) (λ left u few. few))
     (λ left hl. ends hl)
 
 total-owns : (m : Module) (f : FunctionHandle) (at : Place) (o : Option FunctionReq) (n : ℕ) (st : State) → getD (st .functions) f nothing ≡ o → own st ≤ n → Owns (n + n) (addTotal m f at o st)
@@ -128,7 +125,7 @@ unfolding addFunction entered
 function-owns m f at n held globals retval st l h =
     knot-all
     (λ g w. (at : Place) (held : ℕ) (globals retval : PartReq) (st : State) → own (entered m g (record { globals = globals; locals = none; args = none; retval = retval }) st) ≤ n → Owns (n + n) (w at held globals retval st))
-    (stepFunction m) noFunction (λ g at held globals retval st h. stops) step f at held globals retval st h
+    (stepFunction m) noFunction (λ g at held globals retval st h. stops tt) step f at held globals retval st h
   where
     step : (call : FunctionWalk) (g : FunctionHandle) → ((a : FunctionHandle) (at : Place) (held : ℕ) (globals retval : PartReq) (st : State) → own (entered m a (record { globals = globals; locals = none; args = none; retval = retval }) st) ≤ n → Owns (n + n) (call a at held globals retval st)) → (at : Place) (held : ℕ) (globals retval : PartReq) (st : State) → own (entered m g (record { globals = globals; locals = none; args = none; retval = retval }) st) ≤ n → Owns (n + n) (stepFunction m call g at held globals retval st)
     step call g hc at held globals retval st h =

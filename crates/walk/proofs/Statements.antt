@@ -17,7 +17,7 @@ use Rattle.module.specs.Marks.{marksBefore}
 use Rattle.walk.specs.Marks.{writeMarks, statementAt, blockAt}
 use Rattle.walk.specs.Statement.{BlockWalk, FunctionWalk, Frame, here, holding, ask, askOptional, askNeeded, needOf, recordOf, askResult, merged, addNested, endIf, addIf, addCases, endSwitch, addSwitch, endTurn, turns, startTurns, endLoop, addLoop, addReturn, Target, targetOf, takenOut, addStore, store, addAtomic, askArguments, back, retvalOf, endCall, addCall, whenNeeded, ray, askMode, addStatement, visitStatement, addStatements, stepBlock, noBlock, addBlock}
 use Rattle.module.proofs.Knot.{knot-all}
-use Rattle.walk.proofs.Ends.{Ends, ends, stops, ends-then, ends-next, ends-limited, ends-limited-context, ends-visit}
+use Rattle.walk.proofs.Ends.{Ends, ends, stops, Told, ends-then, ends-next, ends-limited, ends-limited-context, ends-visit}
 use Rattle.walk.proofs.Keeps.{Needs, Kept, Good, Goes, good-context, good-visited, expression-keeps}
 
 -- the properties of the totals and the visits alone
@@ -135,7 +135,7 @@ module _ {m : Module} (K : Kept m) where
 
   pub turns-go : (block : BlockWalk) (fr : Frame) (held : ℕ) (body continuing : BlockHandle) (working : RequiredContext) (n : ℕ) (st : State) → ((b : BlockHandle) → Blocks (fr .function) (block b)) → K .Context (fr .function) working → Good K (fr .function) st → Goes K (fr .function) (turns block fr held body continuing working n st)
   unfolding turns
-  turns-go block fr held body continuing working zero st hb hw h = stops
+  turns-go block fr held body continuing working zero st hb hw h = stops refl
   turns-go block fr held body continuing working (suc n) st hb hw h =
       let again = turns block fr held body continuing working n in
       ends-then
@@ -196,9 +196,9 @@ module _ {m : Module} (K : Kept m) where
     pub path : resolveVar m (fr .function) e [] ≡ resolved (t .var) (t .part)
     pub need : Needs (K .Asked) (t .needed)
 
-  pub target-found : (fr : Frame) (e : ExpressionHandle) (v : VarRefPart) (st : State) → resolveVar m (fr .function) e [] ≡ v → Good K (fr .function) st → Ends (Found fr e) (targetOf fr v st)
+  pub target-found : (fr : Frame) (e : ExpressionHandle) (v : VarRefPart) (st : State) → resolveVar m (fr .function) e [] ≡ v → Good K (fr .function) st → Ends Told (Found fr e) (targetOf fr v st)
   unfolding targetOf
-  target-found fr e unresolved st path h = stops
+  target-found fr e unresolved st path h = stops refl
   target-found fr e (resolved var part) st path h =
       ends-next {P = λ s u. Good K (fr .function) s}
       (λ left. went left (record { var = var; part = part; needed = storeRequired (left .context) var part }))
@@ -210,7 +210,7 @@ module _ {m : Module} (K : Kept m) where
   taken-goes fr e c var part (leftContext d) st path left hc h =
       ends-limited-context (here fr) d (withContext d st)
       (λ o. good-context K (fr .function) d st h (K .context-taken (fr .function) e c d var part hc path left o))
-  taken-goes fr e c var part panicContext st path left hc h = stops
+  taken-goes fr e c var part panicContext st path left hc h = stops refl
 
   -- what a statement asks besides
   abbrev pub Also : FunctionHandle → Walk (Unit {0}) → Type 0
@@ -313,7 +313,7 @@ module _ {m : Module} (K : Kept m) where
   statement-goes call block fr Kill st hc hb hbase h = ends h
   statement-goes call block fr ControlBarrier st hc hb hbase h = ends h
   statement-goes call block fr MemoryBarrier st hc hb hbase h = ends h
-  statement-goes call block fr ImageAtomic st hc hb hbase h = stops
+  statement-goes call block fr ImageAtomic st hc hb hbase h = stops refl
   statement-goes call block fr (Store pointer value) st hc hb hbase h =
       ends-then (λ left r. went left (StatementReq.Store r)) (store-goes fr pointer (λ asked. went asked tt) value st (λ s hs. ends hs) h) (λ left r hl. ends hl)
   statement-goes call block fr (AtomicStatement pointer value result) st hc hb hbase h = atomic-goes fr pointer value result st h
@@ -344,7 +344,7 @@ module _ {m : Module} (K : Kept m) where
   visit-goes call block fr st hc hb hbase h =
       let s = statementAt m (fr .function) (fr .statement) in
       let from = marksBefore (functionAt m (fr .function) .statements) (fr .statement) in
-      ends-visit (fr .held) (here fr)
+      ends-visit (λ n t. t) (fr .held) (here fr)
       (λ begun. addStatement m call block fr s begun >>= λ ended req. went (withMarks (writeMarks (ended .marks) from (ownMarks req)) ended) (required req)) st
       (λ few.
       ends-then (λ ended req. went (withMarks (writeMarks (ended .marks) from (ownMarks req)) ended) (required req))
@@ -372,4 +372,4 @@ module _ {m : Module} (K : Kept m) where
   pub block-keeps : (call : FunctionWalk) (f : FunctionHandle) → ((g : FunctionHandle) → Calls g (call g)) → (b : BlockHandle) → Blocks f (addBlock m call f b)
   unfolding addBlock
   block-keeps call f hc b =
-      knot-all (λ a w. Blocks f w) (stepBlock m call f) noBlock (λ a held base r st hbase h. stops) (λ block a hb. block-step call f block a hc hb) b
+      knot-all (λ a w. Blocks f w) (stepBlock m call f) noBlock (λ a held base r st hbase h. stops refl) (λ block a hb. block-step call f block a hc hb) b
