@@ -1,0 +1,3 @@
+pub mod Pairwise
+pub mod Alike
+pub mod Table

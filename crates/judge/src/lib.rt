@@ -1,0 +1,1 @@
+// The clearance's code.
