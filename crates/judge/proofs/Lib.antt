@@ -1,3 +1,5 @@
 pub mod Pairwise
-pub mod Alike
+pub mod Equivalence
 pub mod Table
+pub mod Rows
+pub mod Steps

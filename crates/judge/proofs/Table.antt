@@ -1,21 +1,20 @@
 -- A table that has for each type the lowest alike one decides `alike`: equal entries are alike to each other, and alike types have the
 -- same lowest. It is filled upwards, since a type is made of lower ones.
-use Prim.Native.Nat.{ℕ, zero, suc, _+_, _<_, _≤_}
+use Prim.Native.Nat.{ℕ, _+_, _<_, _≤_}
 use native.Mathlib.Omega.{arith}
 use native.Mathlib.Decide.{decLt, ℕ-discrete}
-use mathlib.Core.Path.{_≡_, refl, sym, ap, subst, _∙_}
-use mathlib.Core.Bool.{Bool, true, false}
+use mathlib.Core.Path.{_≡_, sym, _∙_}
+use mathlib.Core.Bool.{true}
 use mathlib.Core.List.{List}
-use lib.Dec.{eqb}
-use lib.ListN.{length, getD, set, length-set}
+use lib.ListN.{length, getD, set}
 use lib.Seq.{getD-set-same, getD-set-other}
 use borrow.Author.Tests.{eq-eqb, eqb-true}
 use Rattle.part.proofs.Equations.{never}
-use Rattle.module.specs.Module.{TypeHandle, TypeInner, Opaque}
-use Rattle.clearance.specs.Scope.{Scope, bases, alikeInner, alike}
+use Rattle.module.specs.Module.{TypeInner, Opaque}
+use Rattle.clearance.specs.Scope.{bases, alikeInner}
 use Rattle.judge.specs.Alike.{alikeIn, byTable, Lower, Lowest, Upto, AlikeTable}
 use Rattle.judge.proofs.Pairwise.{same-test}
-use Rattle.judge.proofs.Alike.{alike-in, inner-agree, alike-is, alike-refl, alike-sym, alike-trans}
+use Rattle.judge.proofs.Equivalence.{alike-in, inner-agree, alike-is, alike-sym, alike-trans}
 
 module _ (types : List TypeInner) (L : Lower types) where
   -- the lowest of a type is no higher than that of one alike to it
@@ -59,16 +58,9 @@ module _ (types : List TypeInner) (L : Lower types) where
             | no e ↦ rw (getD-set-other table n t v 0 e) (U .each t (omega arith))
           ]
 
-  pub upto-all : (table : List ℕ) → length table ≡ length types → Upto types table (length types) → AlikeTable types table
-  upto-all table e U =
+  pub upto-all : (table : List ℕ) (n : ℕ) → length table ≡ length types → length types ≤ n → Upto types table n → AlikeTable types table
+  upto-all table n e h U =
       record {
         long = e;
-        is = λ S s a b h l. by-table table (length types) U a b h l ∙ (rw (← s) (alike-in S a b));
+        is = λ S s a b k l. by-table table n U a b (omega arith) (omega arith) ∙ (rw (← s) (alike-in S a b));
       }
-
-  -- the lowest alike type, as it is looked for
-  pub lowest-found : (n j : ℕ) → j ≤ n → ((i : ℕ) → i < j → alikeIn types i n ≡ false) → alikeIn types j n ≡ true → Lowest types n j
-  lowest-found n j h f e = record { low = h; is = e; first = f }
-
-  pub lowest-self : (n : ℕ) → ((i : ℕ) → i < n → alikeIn types i n ≡ false) → Lowest types n n
-  lowest-self n f = lowest-found n n (omega arith) f (alike-refl types L n)

@@ -1,1 +1,2 @@
 // The clearance's code.
+pub mod alike;

@@ -1,5 +1,5 @@
 -- `alike` is one step over its own answers for lower types, and so, by induction over the first type, an equivalence.
-use Prim.Native.Nat.{ℕ, zero, suc, _+_, _<_, _≤_}
+use Prim.Native.Nat.{ℕ, zero, suc, _<_}
 use native.Mathlib.Omega.{arith}
 use native.Mathlib.Decide.{decLt}
 use mathlib.Core.Path.{_≡_, refl, sym, ap, subst, _∙_}
@@ -8,9 +8,9 @@ use mathlib.Core.List.{List, [], _∷_, map}
 use lib.Dec.{eqb}
 use lib.ListN.{length, getD, List·getD-eq-default}
 use Rattle.module.specs.Module.{TypeHandle, Member, TypeInner, Scalar, Vector, Matrix, Atomic, Pointer, Array, Struct, BindingArray, Opaque, Module}
-use Rattle.module.specs.Knot.{knot, below}
+use Rattle.module.specs.Knot.{below}
 use Rattle.module.proofs.Knot.{knot-is, below-lt}
-use Rattle.valid.specs.Valid.{EachBelow, TypeFine, TypeValid, Valid}
+use Rattle.valid.specs.Valid.{EachBelow, TypeFine, Valid}
 use Rattle.clearance.specs.Scope.{Scope, inner, kind, bases, pairwise, alikeInner, alike}
 use Rattle.clearance.proofs.Small.{both-true}
 use Rattle.judge.specs.Alike.{alikeIn, Lower}
@@ -115,3 +115,8 @@ module _ (types : List TypeInner) (L : Lower types) where
 
   pub alike-trans : (t u v : ℕ) → alikeIn types t u ≡ true → alikeIn types u v ≡ true → alikeIn types t v ≡ true
   alike-trans t u v e f = trans-below (suc t) t u v (omega arith) e f
+
+-- of a scope whose module is valid
+pub alike-unrolled : (S : Scope) → Valid (S .program) → (t u : TypeHandle) → alike S t u ≡ alikeInner (alike S) (inner S t) (inner S u)
+unfolding alikeIn alike inner
+alike-unrolled S v t u = alike-is (S .program .types) (lower-types (S .program) v) t u

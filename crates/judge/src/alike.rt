@@ -1,0 +1,144 @@
+// Types fit by shape, by a table: for each type the lowest type that is alike.
+ghost use mathlib.Core.Path.{_≡_};
+ghost use Prim.Native.Nat.{_<_, _≤_};
+ghost use lib.Dec.{eqb};
+ghost use lib.ListN.{length, getD};
+ghost use Rattle.field.specs.Limits.{maxTypes};
+ghost use Rattle.module.specs.Module.{Opaque};
+ghost use Rattle.context.specs.Types.{typeWord, typeCount, typesOf};
+ghost use Rattle.clearance.specs.Scope.{kind, bases, pairwise, alikeInner};
+ghost use Rattle.judge.specs.Alike.{byTable, Lower, Lowest, Upto, AlikeTable};
+use bindings::types::first_word;
+use bindings::types::is_base;
+use bindings::types::type_kind;
+use bindings::types::word;
+use context::remove::TYPE_WORDS;
+
+// The kind of the type t: a number that is no other kind's is an opaque type's.
+fn kind_at(types: &[u32], t: u32) -> u32
+    ensures { λ r. ⌜ r ≡ getD (kind (getD (typesOf (now (types .entry))) t Opaque)) 0 0 ⌝ }
+{
+    let k = type_kind(types, t);
+    if 8 < k {
+        return 8;
+    }
+    k
+}
+
+// The second word after the kind: a matrix' rows, or an array's count.
+fn second_word(types: &[u32], t: u32) -> u32
+    ensures { λ r. ⌜ r ≡ typeWord (now (types .entry)) t 2 ⌝ }
+{
+    word(types, TYPE_WORDS * (t as usize) + 2)
+}
+
+// Whether two types are of one kind and have the same sizes.
+fn same_kind(types: &[u32], a: u32, b: u32) -> bool
+    ensures { λ r. ⌜ r ≡ pairwise eqb (kind (getD (typesOf (now (types .entry))) a Opaque)) (kind (getD (typesOf (now (types .entry))) b Opaque)) ⌝ }
+{
+    let k = kind_at(types, a);
+    let l = kind_at(types, b);
+    if k != l {
+        return false;
+    }
+    if k == 1 {
+        return first_word(types, a) == first_word(types, b);
+    }
+    if k == 2 {
+        if first_word(types, a) != first_word(types, b) {
+            return false;
+        }
+        return second_word(types, a) == second_word(types, b);
+    }
+    if k == 5 {
+        return second_word(types, a) == second_word(types, b);
+    }
+    true
+}
+
+// How many types the type t is made of.
+fn base_count(types: &[u32], t: u32) -> u32
+    ensures { λ r. ⌜ r ≡ length (bases (getD (typesOf (now (types .entry))) t Opaque)) ⌝ }
+{
+    let k = kind_at(types, t);
+    if k == 6 {
+        return first_word(types, t);
+    }
+    if is_base(k) {
+        return 1;
+    }
+    0
+}
+
+// The i-th of them.
+fn base_at(types: &[u32], t: u32, i: u32) -> u32
+    requires { ⌜ i < length (bases (getD (typesOf (now types)) t Opaque)) ⌝ }
+    ensures { λ r. ⌜ r ≡ getD (bases (getD (typesOf (now (types .entry))) t Opaque)) i 0 ⌝ }
+{
+    if kind_at(types, t) == 6 {
+        return word(types, TYPE_WORDS * (t as usize) + (2 + 2 * (i as usize)));
+    }
+    first_word(types, t)
+}
+
+// Whether two types are made of as many types, which the table says are alike.
+fn same_bases(types: &[u32], table: &[u32], a: u32, b: u32) -> bool
+    ensures { λ r. ⌜ r ≡ pairwise (byTable (now (table .entry))) (bases (getD (typesOf (now (types .entry))) a Opaque)) (bases (getD (typesOf (now (types .entry))) b Opaque)) ⌝ }
+{
+    let n = base_count(types, a);
+    if n != base_count(types, b) {
+        return false;
+    }
+    let mut i: u32 = 0;
+    while i < n {
+        let x = base_at(types, a, i);
+        let y = base_at(types, b, i);
+        if word(table, x as usize) != word(table, y as usize) {
+            return false;
+        }
+        i += 1;
+    }
+    true
+}
+
+// Whether two types are alike inside, by the table.
+fn same_inner(types: &[u32], table: &[u32], a: u32, b: u32) -> bool
+    ensures { λ r. ⌜ r ≡ alikeInner (byTable (now (table .entry))) (getD (typesOf (now (types .entry))) a Opaque) (getD (typesOf (now (types .entry))) b Opaque) ⌝ }
+{
+    if same_kind(types, a, b) {
+        return same_bases(types, table, a, b);
+    }
+    false
+}
+
+// The lowest type that is alike to the type k, where the table has the types below it.
+fn lowest(types: &[u32], table: &[u32], k: u32) -> u32
+    requires { ⌜ Lower (typesOf (now types)) ⌝ }
+    requires { ⌜ Upto (typesOf (now types)) (now table) k ⌝ }
+    ensures { λ r. ⌜ Lowest (typesOf (now (types .entry))) k r ⌝ }
+{
+    let mut j: u32 = 0;
+    while j < k {
+        if same_inner(types, table, j, k) {
+            return j;
+        }
+        j += 1;
+    }
+    k
+}
+
+// The table: lowest first, since a type is made of lower ones.
+pub fn fill_alike(types: &[u32], table: &mut [u32])
+    requires { ⌜ Lower (typesOf (now types)) ⌝ }
+    requires { ⌜ length (now table) ≡ typeCount (now types) ⌝ }
+    requires { ⌜ length (now table) ≤ maxTypes ⌝ }
+    ensures { λ _. ⌜ AlikeTable (typesOf (now (types .entry))) (now (table .exit)) ⌝ }
+{
+    let mut k: u32 = 0;
+    while (k as usize) < table.len() {
+        let r = lowest(types, table, k);
+        let at = k as usize;
+        table[at] = r;
+        k += 1;
+    }
+}
