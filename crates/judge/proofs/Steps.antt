@@ -19,12 +19,11 @@ use Rattle.judge.proofs.Table.{inner-by-table, upto-all}
 
 -- the first i of two lists of types are alike by the table
 pub record Compared (table xs ys : List ℕ) (i : ℕ) : Type 0 where
-  pub low : i ≤ length xs
   pub each : (k : ℕ) → k < i → byTable table (getD xs k 0) (getD ys k 0) ≡ true
 
 module _ (table xs ys : List ℕ) where
   pub compared-none : Compared table xs ys 0
-  compared-none = record { low = omega arith; each = λ k l. absurd (omega arith) }
+  compared-none = record { each = λ k l. absurd (omega arith) }
 
   pub lengths-differ : {n m : ℕ} → n ≡ length xs → m ≡ length ys → (n ≡ m → ⊥) → false ≡ pairwise (byTable table) xs ys
   lengths-differ e f d =
@@ -48,7 +47,6 @@ module _ (table xs ys : List ℕ) where
     unfolding byTable
     compared-next d C =
         record {
-          low = omega arith;
           each =
               below-more (λ (k : ℕ). byTable table (getD xs k 0) (getD ys k 0) ≡ true) i (C .each)
               (eq-eqb (getD table (getD xs i 0) 0) (getD table (getD ys i 0) 0) (sym entry-x ∙ (d ∙ entry-y)));
