@@ -1,0 +1,123 @@
+-- One pass over a body, last statement first: the needs as `walk` has them, and carried along what `sweep`, `broken`, `stable` and
+-- `somewhere` say, with a working bound on the needs that are kept.
+use Prim.Native.Nat.{ℕ, zero, suc, _+_}
+use mathlib.Core.Path.{_≡_}
+use mathlib.Core.Bool.{Bool, true, false, cond, _&&_, _||_}
+use mathlib.Core.List.{List, [], _∷_}
+use mathlib.Core.Option.{Option}
+use lib.Dec.{ltb}
+use lib.ListN.{length}
+use Rattle.field.specs.Limits.{maxPieces}
+use Rattle.part.specs.PartReq.{PartReq, none, add, contains, entries, over}
+use Rattle.clearance.specs.Tree.{Tree, nop, seq, act, branch, switch, loop, break, continue, return, unmarked}
+use Rattle.clearance.specs.Needs.{Exit, next, broke, continued, returned, upon, ofCase, ofBody, before, wholly, valued, turning, obeys, kept}
+use Rattle.clearance.specs.Needs.{afterContinuing, Setting, Table, joinAt, walk, broken, stable, sweep, somewhere}
+use Rattle.clearance.specs.Judged.{lower}
+use Rattle.clearance.specs.Verdict.{pieces}
+
+-- The entries of all needs that are kept at once; past it the answer is 16. Our own (docs/DIFFERENCES.md).
+abbrev pub workBound : ℕ
+workBound = 65536
+
+unfoldable pub tableEntries : Table → ℕ
+tableEntries [] = 0
+tableEntries (n ∷ t) = entries n + tableEntries t
+
+-- whether the needs at a point have too many pieces
+unfoldable pub tooMany : PartReq → Bool
+tooMany n = ltb maxPieces (pieces n)
+
+-- What a pass carries along.
+pub record Carried : Type 0 where
+  -- the new table
+  pub table : Table
+  -- the lowest statement so far that breaks its rule
+  pub fault : Option ℕ
+  -- whether each loop's needs held so far
+  pub held : Bool
+  -- whether the needs were past 15, and past 16, at some point
+  pub deep : Bool
+  pub wide : Bool
+
+-- what is carried on, with the needs before; or the bound is passed
+pub data Passed : Type 0 where
+  on : Carried → PartReq → Passed
+  full : Passed
+
+abbrev pub _>>=_ : Passed → (Carried → PartReq → Passed) → Passed
+_>>=_ (on c n) f = f c n
+_>>=_ full f = full
+
+infixl 20 _>>=_
+-- with the needs n at a point
+unfoldable pub point : PartReq → Carried → Carried
+point n c = record { table = c .table; fault = c .fault; held = c .held; deep = over n || c .deep; wide = tooMany n || c .wide }
+
+-- with the statement n, which breaks its rule
+unfoldable pub blame : ℕ → Carried → Carried
+blame n c = record { table = c .table; fault = lower n (c .fault); held = c .held; deep = c .deep; wide = c .wide }
+
+-- with m before the body of the loop n, whose needs on re-entry were taken to be `again`
+unfoldable pub enter : ℕ → PartReq → PartReq → Carried → Carried
+enter n again m c =
+    record { table = joinAt n m (c .table); fault = c .fault; held = contains again m && c .held; deep = c .deep; wide = c .wide }
+
+-- The needs n, where they have room: they, what is kept aside and the new table are within the bound.
+unfoldable pub within : ℕ → PartReq → Carried → Passed
+within aside n c = cond (ltb workBound (aside + entries n + tableEntries (c .table))) full (on c n)
+
+-- The first n cases of a switch, ascending, and the union of their needs. While a case is walked, the union so far is kept aside.
+unfoldable pub passCases : ℕ → (ℕ → ℕ → Carried → Passed) → ℕ → Carried → Passed
+passCases zero f aside c = on c none
+passCases (suc n) f aside c =
+    passCases n f aside c >>= λ d u. f n (aside + entries u) d >>= λ e m. within aside (add m u) e
+
+-- The pass, with r the re-entry needs of each loop. `aside` counts the entries of what is kept elsewhere: not those of the needs at hand,
+-- k next, nor those of the new table. Where the sum of the three is within the bound before a statement, it is after it.
+module _ (W : Setting) (r : ℕ → PartReq) where
+  unfoldable pub pass : Tree → ℕ → (Exit → PartReq) → Carried → Passed
+  pass nop aside k c = on (point (k next) c) (k next)
+  -- b's needs are at hand while a is walked: nothing more is kept
+  pass (seq a b) aside k c = pass b aside k c >>= λ d m. pass a aside (upon m k) d
+  pass (act x) aside k c =
+      let m = before (W .scope) x (k next) in
+      within aside m (point m (point (k next) c))
+  -- kept: the needs after it while reject is walked, then reject's
+  pass (branch x a b) aside k c =
+      within (aside + entries (k next)) (k next) (point (k next) c) >>= λ c′ _.
+      pass b (aside + entries (k next)) k c′ >>= λ d m.
+      pass a (aside + entries m) k d >>= λ e n. let w = wholly (W .scope) x (add n m) in within aside w (point w e)
+  -- kept: the needs after it, which stand after each case and at a break, and the union so far
+  pass (switch x vs f) aside k c =
+      passCases (length vs) (λ i aside′ d. within aside′ (k next) d >>= λ d′ _. pass (f i) aside′ (ofCase k) d′) (aside + entries (k next)) (point (k next) c)
+      >>= λ e u. let w = wholly (W .scope) x u in within aside w (point w e)
+  -- kept: the needs after it, which stand at a break; while the body is walked those before continuing too, which stand at a continue
+  pass (loop n a b x) aside k c =
+      within (aside + entries (k next)) (turning (W .scope) (r n) x (k next)) (point (k next) c) >>= λ c′ _.
+      pass b (aside + entries (k next)) (afterContinuing (W .scope) (r n) x k) c′ >>= λ d m.
+      within (aside + entries (k next) + entries m) m d >>= λ d′ _.
+      pass a (aside + entries (k next) + entries m) (ofBody m k) d′ >>= λ e w. within aside w (point w (enter n (r n) w e))
+  pass (break n) aside k c = within aside (k broke) (point (k broke) (point (k next) c))
+  pass (continue n) aside k c = within aside (k continued) (point (k continued) (point (k next) c))
+  pass (return n v) aside k c =
+      let m = valued (W .scope) (W .asked) v (k returned) in
+      within aside m (point m (point (k next) c))
+  -- One that obeys its rule is not walked. Else kept: the needs after it.
+  pass (unmarked n a) aside k c =
+      cond (obeys (W .scope) (k next) a) (on (point (k next) c) (k next))
+      (within (aside + entries (k next)) (k next) (point (k next) c) >>= λ c′ _.
+      pass a (aside + entries (k next)) k c′ >>= λ d m. let w = kept a (k next) m in within aside w (point w (blame n d)))
+
+-- the lowest of a list and of what was known
+unfoldable pub lowestWith : List ℕ → Option ℕ → Option ℕ
+lowestWith [] o = o
+lowestWith (n ∷ ns) o = lower n (lowestWith ns o)
+
+-- what a pass comes to, in the words of the definition
+pub record PassIs (W : Setting) (r : ℕ → PartReq) (a : Tree) (k : Exit → PartReq) (c d : Carried) (m : PartReq) : Type 0 where
+  pub needs : m ≡ walk W r a k
+  pub table : d .table ≡ sweep W r a k (c .table)
+  pub fault : d .fault ≡ lowestWith (broken W r a k) (c .fault)
+  pub held : d .held ≡ (stable W r a k && c .held)
+  pub deep : d .deep ≡ (somewhere W r over a k || c .deep)
+  pub wide : d .wide ≡ (somewhere W r tooMany a k || c .wide)
