@@ -1,3 +1,5 @@
 pub mod Carry
 pub mod After
 pub mod Pass
+pub mod Fits
+pub mod Checked

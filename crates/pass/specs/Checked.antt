@@ -1,8 +1,10 @@
 -- The clearance by passes: each takes the former one's table, and the last one's outcome gives the answer.
 use Prim.Native.Nat.{ℕ, zero, suc, _+_}
+use mathlib.Core.Path.{_≡_}
 use mathlib.Core.Bool.{true, false, cond}
 use mathlib.Core.List.{[]}
 use mathlib.Core.Option.{Option, some, none as nothing}
+use mathlib.Core.Logic.{_⊎_}
 use Rattle.part.specs.PartReq.{PartReq, entries}
 use Rattle.clearance.specs.Scope.{Scope}
 use Rattle.clearance.specs.Tree.{Tree}
@@ -53,3 +55,7 @@ checked S R P =
       | true ↦ judgeBy S R P (blamedExpression S) (blamedStatement S (body S P))
       | false ↦ refused 21
     ]
+
+-- two answers are the same, or the first is 16 and a pass was full
+abbrev pub SameOrFull : Scope → Request → Report → Answer → Answer → Type 0
+SameOrFull S R P a b = (a ≡ b) ⊎ ((lastPass S R P ≡ some full) × (a ≡ refused 16))
