@@ -3,3 +3,4 @@ pub mod After
 pub mod Pass
 pub mod Fits
 pub mod Checked
+pub mod Example
