@@ -17,7 +17,7 @@ use Rattle.pass.specs.Pass.{tableEntries, Carried, Passed, on, full, _>>
 unfoldable pub fresh : Table → Carried
 fresh t = record { table = t; fault = nothing; held = true; deep = false; wide = false }
 
--- A pass over a body. Kept aside: the table as it was, and the needs at a return.
+-- A pass over a body. Kept aside: the table as it was, and the needs at a return, since only a return leaves a body before its end.
 unfoldable pub passOnce : Setting → Tree → (Exit → PartReq) → Table → Passed
 passOnce W a k t =
     let aside = tableEntries t + entries (k returned) in

@@ -76,13 +76,15 @@ passCases (suc n) f aside c =
 -- k next, nor those of the new table. Where the sum of the three is within the bound before a statement, it is after it.
 module _ (W : Setting) (r : ℕ → PartReq) where
   unfoldable pub pass : Tree → ℕ → (Exit → PartReq) → Carried → Passed
+  -- nothing is made
   pass nop aside k c = on (point (k next) c) (k next)
   -- b's needs are at hand while a is walked: nothing more is kept
   pass (seq a b) aside k c = pass b aside k c >>= λ d m. pass a aside (upon m k) d
+  -- the needs before it take the place of those after it: nothing more is kept; so of break, continue and return too
   pass (act x) aside k c =
       let m = before (W .scope) x (k next) in
       within aside m (point m (point (k next) c))
-  -- kept: the needs after it while reject is walked, then reject's
+  -- kept: the needs after it while reject is walked, reject's while accept is
   pass (branch x a b) aside k c =
       within (aside + entries (k next)) (k next) (point (k next) c) >>= λ c′ _.
       pass b (aside + entries (k next)) k c′ >>= λ d m.
@@ -102,7 +104,7 @@ module _ (W : Setting) (r : ℕ → PartReq) where
   pass (return n v) aside k c =
       let m = valued (W .scope) (W .asked) v (k returned) in
       within aside m (point m (point (k next) c))
-  -- One that obeys its rule is not walked. Else kept: the needs after it.
+  -- One that obeys its rule is not walked, and nothing is made. Else kept: the needs after it.
   pass (unmarked n a) aside k c =
       cond (obeys (W .scope) (k next) a) (on (point (k next) c) (k next))
       (within (aside + entries (k next)) (k next) (point (k next) c) >>= λ c′ _.
