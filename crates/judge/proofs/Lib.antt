@@ -1,5 +1,7 @@
 pub mod Pairwise
 pub mod Equivalence
 pub mod Table
-pub mod Rows
+pub mod TypeRows
 pub mod Steps
+pub mod Marked
+pub mod Unsized

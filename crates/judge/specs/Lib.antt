@@ -1,1 +1,3 @@
 pub mod Alike
+pub mod Marked
+pub mod Unsized

@@ -1,2 +1,4 @@
 // The clearance's code.
 pub mod alike;
+pub mod rows;
+pub mod unsized_types;

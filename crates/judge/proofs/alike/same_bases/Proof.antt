@@ -12,8 +12,8 @@ use Rattle.judge.proofs.alike.same_bases.Tie as tie
 use Rattle.judge.proofs.alike.same_bases.Reads as reads
 use Rattle.judge.proofs.alike.same_bases.Lts as lts
 use Rattle.bindings.proofs.types.word.Reads as word-reads
-use Rattle.judge.proofs.alike.base_at.Reads as base-at-reads
-use Rattle.judge.proofs.alike.base_count.Reads as base-count-reads
+use Rattle.judge.proofs.rows.base_at.Reads as base-at-reads
+use Rattle.judge.proofs.rows.base_count.Reads as base-count-reads
 
 abbrev Inv-loop : tie.InvT-loop
 Inv-loop types table a b n i₀ i = Compared table (bases (getD (typesOf types) a Opaque)) (bases (getD (typesOf types) b Opaque)) i

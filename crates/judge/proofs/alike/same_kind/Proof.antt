@@ -1,13 +1,13 @@
 -- `judge::alike::same_kind` meets its contract: the kinds, and then the sizes that such a kind has.
-use Rattle.judge.proofs.Rows.{kinds-differ, kinds-plain, same-vectors, other-columns, same-matrices, same-arrays}
+use Rattle.judge.proofs.TypeRows.{kinds-differ, kinds-plain, same-vectors, other-columns, same-matrices, same-arrays}
 use borrow.Author.Needs.{needs}
 use Rattle.judge.proofs.alike.same_kind.Statement.{statement}
 use Rattle.judge.proofs.alike.same_kind.Tie as tie
 use Rattle.judge.proofs.alike.same_kind.Reads as reads
 use Rattle.judge.proofs.alike.same_kind.Lts as lts
 use Rattle.bindings.proofs.types.first_word.Reads as first-word-reads
-use Rattle.judge.proofs.alike.kind_at.Reads as kind-at-reads
-use Rattle.judge.proofs.alike.second_word.Reads as second-word-reads
+use Rattle.judge.proofs.rows.kind_at.Reads as kind-at-reads
+use Rattle.judge.proofs.rows.second_word.Reads as second-word-reads
 
 kind-at-requires : tie.Need-kind-at-requires
 kind-at-requires c κs = search needs

@@ -1,13 +1,13 @@
--- `judge::alike::base_at` meets its contract: a member's type, or the one base.
-use Rattle.judge.proofs.Rows.{base-member, base-first}
+-- `judge::rows::base_at` meets its contract: a member's type, or the one base.
+use Rattle.judge.proofs.TypeRows.{base-member, base-first}
 use borrow.Author.Needs.{needs}
-use Rattle.judge.proofs.alike.base_at.Statement.{statement}
-use Rattle.judge.proofs.alike.base_at.Tie as tie
-use Rattle.judge.proofs.alike.base_at.Reads as reads
-use Rattle.judge.proofs.alike.base_at.Lts as lts
+use Rattle.judge.proofs.rows.base_at.Statement.{statement}
+use Rattle.judge.proofs.rows.base_at.Tie as tie
+use Rattle.judge.proofs.rows.base_at.Reads as reads
+use Rattle.judge.proofs.rows.base_at.Lts as lts
 use Rattle.bindings.proofs.types.first_word.Reads as first-word-reads
 use Rattle.bindings.proofs.types.word.Reads as word-reads
-use Rattle.judge.proofs.alike.kind_at.Reads as kind-at-reads
+use Rattle.judge.proofs.rows.kind_at.Reads as kind-at-reads
 
 kind-at-requires : tie.Need-kind-at-requires
 kind-at-requires c κs = search needs

@@ -1,14 +1,14 @@
--- `judge::alike::base_count` meets its contract: a struct's members, one base, or none.
+-- `judge::rows::base_count` meets its contract: a struct's members, one base, or none.
 use mathlib.Core.Path.{sym, _∙_}
-use Rattle.judge.proofs.Rows.{count-members, count-one, count-none}
+use Rattle.judge.proofs.TypeRows.{count-members, count-one, count-none}
 use borrow.Author.Needs.{needs}
-use Rattle.judge.proofs.alike.base_count.Statement.{statement}
-use Rattle.judge.proofs.alike.base_count.Tie as tie
-use Rattle.judge.proofs.alike.base_count.Reads as reads
-use Rattle.judge.proofs.alike.base_count.Lts as lts
+use Rattle.judge.proofs.rows.base_count.Statement.{statement}
+use Rattle.judge.proofs.rows.base_count.Tie as tie
+use Rattle.judge.proofs.rows.base_count.Reads as reads
+use Rattle.judge.proofs.rows.base_count.Lts as lts
 use Rattle.bindings.proofs.types.first_word.Reads as first-word-reads
 use Rattle.bindings.proofs.types.is_base.Reads as is-base-reads
-use Rattle.judge.proofs.alike.kind_at.Reads as kind-at-reads
+use Rattle.judge.proofs.rows.kind_at.Reads as kind-at-reads
 
 kind-at-requires : tie.Need-kind-at-requires
 kind-at-requires c κs = search needs

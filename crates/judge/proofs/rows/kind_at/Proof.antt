@@ -1,10 +1,10 @@
--- `judge::alike::kind_at` meets its contract: by whether the number is a kind's.
-use Rattle.judge.proofs.Rows.{number-opaque, number-other}
+-- `judge::rows::kind_at` meets its contract: by whether the number is a kind's.
+use Rattle.judge.proofs.TypeRows.{number-opaque, number-other}
 use borrow.Author.Needs.{needs}
-use Rattle.judge.proofs.alike.kind_at.Statement.{statement}
-use Rattle.judge.proofs.alike.kind_at.Tie as tie
-use Rattle.judge.proofs.alike.kind_at.Reads as reads
-use Rattle.judge.proofs.alike.kind_at.Lts as lts
+use Rattle.judge.proofs.rows.kind_at.Statement.{statement}
+use Rattle.judge.proofs.rows.kind_at.Tie as tie
+use Rattle.judge.proofs.rows.kind_at.Reads as reads
+use Rattle.judge.proofs.rows.kind_at.Lts as lts
 use Rattle.bindings.proofs.types.type_kind.Reads as type-kind-reads
 
 type-kind-requires : tie.Need-type-kind-requires
