@@ -5,3 +5,4 @@ pub mod TypeRows
 pub mod Steps
 pub mod Marked
 pub mod Unsized
+pub mod PathSteps

@@ -3,7 +3,7 @@
 use Prim.Native.Nat.{ℕ, zero, suc, _+_, _<_, _≤_}
 use native.Mathlib.Omega.{arith}
 use mathlib.Core.Path.{_≡_, refl, sym, ap, _∙_}
-use mathlib.Core.Bool.{Bool, true, false, not, _&&_, _||_}
+use mathlib.Core.Bool.{Bool, true, false, not, _&&_, _||_, and-false, or-false}
 use mathlib.Core.List.{List, [], _∷_, map}
 use lib.Dec.{eqb}
 use lib.ListN.{length, getD}
@@ -33,15 +33,11 @@ unfolding every
 every-true p [] f = refl
 every-true p (x ∷ xs) f = rw (f 0 (omega arith)) (every-true p xs (λ i l. f (suc i) (omega arith)))
 
-second : (a b : Bool) → b ≡ false → a && b ≡ false
-second true b h = h
-second false b h = refl
-
 every-false : (p : ℕ → Bool) (xs : List ℕ) (i : ℕ) → i < length xs → p (getD xs i 0) ≡ false → every p xs ≡ false
 unfolding every
 every-false p [] i l h = absurd (omega arith)
 every-false p (x ∷ xs) zero l h = rw h
-every-false p (x ∷ xs) (suc i) l h = second (p x) (every p xs) (every-false p xs i (omega arith) h)
+every-false p (x ∷ xs) (suc i) l h = rw (every-false p xs i (omega arith) h) (and-false (p x))
 
 every-member : (ms : List Member) → every (λ m. true) ms ≡ true
 unfolding every
@@ -116,10 +112,6 @@ itself-plain (Array base count) n = absurd (n refl)
 itself-plain (Struct ms) n = rw (every-member ms)
 itself-plain (BindingArray base) n = refl
 itself-plain Opaque n = refl
-
-or-false : (a : Bool) → a || false ≡ a
-or-false true = refl
-or-false false = refl
 
 module _ (rows : List ℕ) (t : ℕ) {k : ℕ} (e : k ≡ number (getD (typesOf rows) t Opaque)) where
   pub itself-array : {r : ℕ} → k ≡ 5 → r ≡ typeWord rows t 2 → eqb r 0 ≡ itself (getD (typesOf rows) t Opaque)

@@ -1,3 +1,4 @@
 pub mod Alike
 pub mod Marked
 pub mod Unsized
+pub mod Paths
