@@ -115,8 +115,3 @@ module _ (types : List TypeInner) (L : Lower types) where
 
   pub alike-trans : (t u v : ℕ) → alikeIn types t u ≡ true → alikeIn types u v ≡ true → alikeIn types t v ≡ true
   alike-trans t u v e f = trans-below (suc t) t u v (omega arith) e f
-
--- of a scope whose module is valid
-pub alike-unrolled : (S : Scope) → Valid (S .program) → (t u : TypeHandle) → alike S t u ≡ alikeInner (alike S) (inner S t) (inner S u)
-unfolding alikeIn alike inner
-alike-unrolled S v t u = alike-is (S .program .types) (lower-types (S .program) v) t u

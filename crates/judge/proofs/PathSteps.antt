@@ -131,11 +131,6 @@ operands-lower F v e =
       | no l ↦ subst (λ (x : Typed). OperandsBelow e (x .expression)) (sym (List·getD-eq-default (F .expressions) noExpression {n = e} (omega arith))) tt
     ]
 
--- of a scope whose function is valid
-pub path-unrolled : {types globals : ℕ} {entries : List Bool} (S : Scope) → FunctionValid types globals entries (S .function) → (e : ExpressionHandle) → isPath S e ≡ pathBy (isPath S) (typed S e .expression)
-unfolding pathAmong isPath pathOf typed
-path-unrolled S v e = path-is (S .function .expressions) (operands-lower (S .function) v) e
-
 -- something of each number: of those below n one by one, and of those from n on
 abbrev past : ℕ → ℕ → ℕ
 past zero k = k
