@@ -1,7 +1,7 @@
 -- A store of pieces: a list of words, seven to a cell. A number MEANS a requirement: 0 is all, 1 exist, 2 none, and n from 3 on
 -- the cell at 7n: its index, the number of its child, that of its rest, then its sizes in three words, and a mark that only `collect` reads.
 -- The first word of the list is the next free number. A cell names only lower numbers.
-use Prim.Native.Nat.{ℕ, zero, suc, _+_, _*_, _/_, _%_, _<_, _≤_, min}
+use Prim.Native.Nat.{ℕ, zero, suc, _+_, _-_, _*_, _/_, _%_, _<_, _≤_, min}
 use mathlib.Core.Path.{_≡_}
 use mathlib.Core.Bool.{Bool, true, false, cond, _||_, _&&_}
 use mathlib.Core.List.{List}
@@ -9,7 +9,7 @@ use lib.Dec.{ltb, eqb}
 use lib.ListN.{length, getD}
 use Rattle.part.specs.PartReq.{PartReq, all, exist, none, more, add, entries, depth, width, over, spine}
 use Rattle.field.specs.Limits.{maxDepth, maxEntries}
-use Rattle.part.specs.StoreLimits.{cellWords, storeWords, entriesCap}
+use Rattle.part.specs.StoreLimits.{cellWords, storeWords, entriesCap, buckets, memoSlots, tableWords}
 
 -- the word k of the piece n
 abbrev pub word : List ℕ → ℕ → ℕ → ℕ
@@ -68,12 +68,101 @@ pub record Sound (s : List ℕ) (n : ℕ) : Type 0 where
   pub rest-low : rest s n < n
   pub sizes : Measures (part s n) (word s n 3) (word s n 4) (word s n 5 / 2) (word s n 5 % 2)
 
--- the store is well formed
-pub record Good (s : List ℕ) : Type 0 where
+-- the cells are well formed
+pub record Formed (s : List ℕ) : Type 0 where
   pub base : 3 ≤ top s
-  pub room : cellWords * top s ≤ length s
+  pub room : cellWords * top s + tableWords ≤ length s
   pub fits : length s ≤ storeWords
   pub sound : (n : ℕ) → 2 < n → n < top s → Sound s n
+
+-- the chain that the cell i, c, r is in
+unfoldable pub hash : ℕ → ℕ → ℕ → ℕ
+hash i c r = ((i * 334214459 + c * 479001599) / 65536 + r) % buckets
+
+abbrev pub hashAt : List ℕ → ℕ → ℕ
+hashAt s n = hash (index s n) (child s n) (rest s n)
+
+-- where the first number of a chain stands
+abbrev pub headAt : List ℕ → ℕ → ℕ
+headAt s h = (length s - tableWords) + h
+
+-- the first number of the chain h: a cell, or a number below 3 where the chain is empty
+abbrev pub head : List ℕ → ℕ → ℕ
+head s h = getD s (headAt s h) 0
+
+-- the number after the cell n in its chain (the word that `collect` uses for its marks)
+abbrev pub next : List ℕ → ℕ → ℕ
+next s n = word s n 6
+
+-- the chains have the cells below k: each chain, from the highest number down, those with its hash
+pub record Linked (s : List ℕ) (k : ℕ) : Type 0 where
+  pub head-low : (h : ℕ) → h < buckets → head s h < k
+  pub head-hash : (h : ℕ) → h < buckets → 2 < head s h → hashAt s (head s h) ≡ h
+  pub head-all : (n : ℕ) → 2 < n → n < k → n ≤ head s (hashAt s n)
+  pub next-low : (n : ℕ) → 2 < n → n < k → next s n < n
+  pub next-hash : (n : ℕ) → 2 < n → n < k → 2 < next s n → hashAt s (next s n) ≡ hashAt s n
+  pub next-all : (m n : ℕ) → 2 < m → m < n → n < k → hashAt s m ≡ hashAt s n → m ≤ next s n
+
+-- the cell n is i, c, r
+pub record CellIs (s : List ℕ) (n i c r : ℕ) : Type 0 where
+  pub index-is : index s n ≡ i
+  pub child-is : child s n ≡ c
+  pub rest-is : rest s n ≡ r
+
+-- no two cells below k are the same
+abbrev pub Distinct : List ℕ → ℕ → Type 0
+Distinct s k = (m n : ℕ) → 2 < m → m < n → n < k → CellIs s m (index s n) (child s n) (rest s n) → ⊥
+
+-- each cell stands once, and the look-up finds it
+pub record Unique (s : List ℕ) : Type 0 where
+  pub linked : Linked s (top s)
+  pub distinct : Distinct s (top s)
+
+-- the word j of the remembered sum k
+abbrev pub note : List ℕ → ℕ → ℕ → ℕ
+note s k j = head s (buckets + (3 * k + j))
+
+-- r is the sum of a and b
+pub record Known (s : List ℕ) (a b r : ℕ) : Type 0 where
+  pub left : a < top s
+  pub right : b < top s
+  pub piece : r < top s
+  pub is : part s r ≡ add (part s a) (part s b)
+
+-- every sum that is remembered is right
+abbrev pub Right : List ℕ → Type 0
+Right s = (k : ℕ) → k < memoSlots → 2 < note s k 0 → Known s (note s k 0) (note s k 1) (note s k 2)
+
+-- no sum is remembered
+abbrev pub Blank : List ℕ → Type 0
+Blank s = (x : ℕ) → buckets ≤ x → x < tableWords → head s x ≡ 0
+
+-- the store is well formed, each cell stands once, and what is remembered is right
+pub record Good (s : List ℕ) : Type 0 where
+  pub base : 3 ≤ top s
+  pub room : cellWords * top s + tableWords ≤ length s
+  pub fits : length s ≤ storeWords
+  pub sound : (n : ℕ) → 2 < n → n < top s → Sound s n
+  pub unique : Unique s
+  pub right : Right s
+
+-- n is the cell i, c, r; or it is below 3, and there is none
+pub record Finds (s : List ℕ) (i c r n : ℕ) : Type 0 where
+  pub found : 2 < n → (n < top s) × CellIs s n i c r
+  pub missing : n ≤ 2 → (m : ℕ) → 2 < m → m < top s → CellIs s m i c r → ⊥
+
+-- t is s with the cell n put before the others of its chain
+pub record Chained (s t : List ℕ) (n : ℕ) : Type 0 where
+  pub long : length t ≡ length s
+  pub others : (x : ℕ) → (x ≡ cellWords * n + 6 → ⊥) → (x ≡ headAt s (hashAt s n) → ⊥) → getD t x 0 ≡ getD s x 0
+  pub next-is : next t n ≡ head s (hashAt s n)
+  pub head-is : head t (hashAt s n) ≡ n
+
+-- t is s with its first k chains empty
+pub record Emptied (s t : List ℕ) (k : ℕ) : Type 0 where
+  pub long : length t ≡ length s
+  pub before : (x : ℕ) → x < length s - tableWords → getD t x 0 ≡ getD s x 0
+  pub none : (h : ℕ) → h < k → head t h ≡ 0
 
 -- every piece of s means in t what it meant
 pub record Kept (s t : List ℕ) : Type 0 where
@@ -84,7 +173,7 @@ pub record Kept (s t : List ℕ) : Type 0 where
 
 -- k cells more fit
 abbrev pub Room : List ℕ → ℕ → Type 0
-Room s k = cellWords * (top s + k) ≤ length s
+Room s k = cellWords * (top s + k) + tableWords ≤ length s
 
 -- from s, t was left: the piece r means p there, and at most k cells more are used
 pub record Made (s t : List ℕ) (p : PartReq) (k r : ℕ) : Type 0 where
@@ -92,6 +181,11 @@ pub record Made (s t : List ℕ) (p : PartReq) (k r : ℕ) : Type 0 where
   pub piece : r < top t
   pub is : part t r ≡ p
   pub cost : top t ≤ top s + k
+
+-- Made, and a cell that is new is the piece itself
+pub record Fresh (s t : List ℕ) (p : PartReq) (r : ℕ) : Type 0 where
+  pub made : Made s t p 1 r
+  pub new : (k : ℕ) → top s ≤ k → k < top t → k ≡ r
 
 -- the piece n is the cell i, c, r
 pub record Seen (s : List ℕ) (n i c r : ℕ) : Type 0 where
@@ -101,10 +195,23 @@ pub record Seen (s : List ℕ) (n i c r : ℕ) : Type 0 where
   pub is : part s n ≡ more i (part s c) (part s r)
   pub child-is : c ≡ child s n
   pub rest-is : r ≡ rest s n
+  pub index-is : i ≡ index s n
 
 -- each number of the list is that of a piece below n
 abbrev pub Below : List ℕ → ℕ → Type 0
 Below rs n = (j : ℕ) → j < length rs → getD rs j 0 < n
+
+-- b says whether the cell x, y, z is i, c, r
+pub record Compared (x y z i c r : ℕ) (b : Bool) : Type 0 where
+  pub yes : b ≡ true → (x ≡ i) × (y ≡ c) × (z ≡ r)
+  pub no : b ≡ false → x ≡ i → y ≡ c → z ≡ r → ⊥
+
+-- t is s with its chains made anew
+pub record Rebuilt (s t : List ℕ) : Type 0 where
+  pub good : Good t
+  pub long : length t ≡ length s
+  pub tops : top t ≡ top s
+  pub same : (n : ℕ) → n < top s → part t n ≡ part s n
 
 -- t is s with another cell n, but for its mark
 pub record Put (s t : List ℕ) (n i c r e d w : ℕ) : Type 0 where

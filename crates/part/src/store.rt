@@ -5,11 +5,13 @@ ghost use mathlib.Core.Path.{_≡_};
 ghost use Prim.Native.Nat.{_+_, _*_, _≤_, _<_, min, max};
 ghost use lib.ListN.{length, set};
 ghost use Rattle.part.specs.PartReq.{more, entries, depth, width, over};
-ghost use Rattle.part.specs.StoreLimits.{cellWords, storeWords, entriesCap};
-ghost use Rattle.part.specs.Store.{word, top, part, Measures, Passes, SizesOf, Good, Room, Made, Seen, Put};
+ghost use Rattle.part.specs.StoreLimits.{cellWords, storeWords, entriesCap, buckets, tableWords};
+ghost use Rattle.part.specs.Store.{word, top, part, Measures, Passes, SizesOf, Formed, Good, Room, Made, Seen, Put, hash, Linked, Distinct, Compared, Finds, Chained, Emptied, Rebuilt, Blank, Fresh};
+
 use crate::limits::CELL_WORDS;
 use crate::limits::ENTRIES_CAP;
 use crate::limits::SPINE;
+use crate::limits::TABLE_WORDS;
 use field::limits::MAX_DEPTH;
 use field::limits::MAX_ENTRIES;
 
@@ -46,17 +48,85 @@ pub(crate) fn set_word(cells: &mut [u32], n: u32, k: usize, v: u32)
     cells[at] = v;
 }
 
+// The chain that the cell index, child, rest is in. The rest is added last and unmultiplied: cells made one after another come into neighbouring chains.
+pub(crate) fn hash(index: u32, child: u32, rest: u32) -> usize
+    ensures { λ r. ⌜ (r ≡ hash index child rest) × (r < buckets) ⌝ }
+{
+    let x = (index as u64) * 334214459 + (child as u64) * 479001599;
+    ((x / 65536 + rest as u64) % 16384) as usize
+}
+
+// Takes every cell out of its chain, and forgets every sum.
+pub(crate) fn empty(cells: &mut [u32])
+    requires { ⌜ tableWords ≤ length (now cells) ⌝ }
+    ensures { λ _. ⌜ Emptied (now (cells .entry)) (now (cells .exit)) tableWords ⌝ }
+{
+    let base = cells.len() - TABLE_WORDS;
+    let mut h = 0;
+    while h < TABLE_WORDS {
+        cells[base + h] = 0;
+        h += 1;
+    }
+}
+
+// Puts the cell n before the others of its chain.
+pub(crate) fn link(cells: &mut [u32], n: u32)
+    requires { ⌜ cellWords * n + cellWords + tableWords ≤ length (now cells) ⌝ }
+    ensures { λ _. ⌜ Chained (now (cells .entry)) (now (cells .exit)) n ⌝ }
+{
+    let h = hash(word(cells, n, 0), word(cells, n, 1), word(cells, n, 2));
+    let at = cells.len() - TABLE_WORDS + h;
+    let first = cells[at];
+    set_word(cells, n, 6, first);
+    cells[at] = n;
+}
+
+// Puts every cell into its chain, where all are empty.
+fn relink(cells: &mut [u32])
+    requires { ⌜ Formed (now cells) ⌝ }
+    requires { ⌜ Distinct (now cells) (top (now cells)) ⌝ }
+    requires { ⌜ Linked (now cells) 3 × Blank (now cells) ⌝ }
+    ensures { λ _. ⌜ Rebuilt (now (cells .entry)) (now (cells .exit)) ⌝ }
+{
+    let end = cells[0];
+    let mut n = 3;
+    while n < end {
+        link(cells, n);
+        n += 1;
+    }
+}
+
+// Makes the chains anew.
+pub(crate) fn rebuild(cells: &mut [u32])
+    requires { ⌜ Formed (now cells) ⌝ }
+    requires { ⌜ Distinct (now cells) (top (now cells)) ⌝ }
+    ensures { λ _. ⌜ Rebuilt (now (cells .entry)) (now (cells .exit)) ⌝ }
+{
+    empty(cells);
+    relink(cells);
+}
+
 // A store with no cell in use.
 pub fn init(cells: &mut [u32])
-    requires { ⌜ (cellWords * 3 ≤ length (now cells)) × (length (now cells) ≤ storeWords) ⌝ }
+    requires { ⌜ (cellWords * 3 + tableWords ≤ length (now cells)) × (length (now cells) ≤ storeWords) ⌝ }
     ensures { λ _. ⌜ Good (now (cells .exit)) × (top (now (cells .exit)) ≡ 3) × (length (now (cells .exit)) ≡ length (now (cells .entry))) ⌝ }
 {
+    empty(cells);
     cells[0] = 3;
 }
 
 // What stands in the cell n.
 pub fn look(cells: &[u32], n: u32) -> Cell
     requires { ⌜ Good (now cells) ⌝ }
+    requires { ⌜ (2 < n) × (n < top (now cells)) ⌝ }
+    ensures { λ r. ⌜ Seen (now (cells .entry)) n (r .index) (r .child) (r .rest) ⌝ }
+{
+    peek(cells, n)
+}
+
+// What stands in the cell n, whatever the chains are.
+pub(crate) fn peek(cells: &[u32], n: u32) -> Cell
+    requires { ⌜ Formed (now cells) ⌝ }
     requires { ⌜ (2 < n) × (n < top (now cells)) ⌝ }
     ensures { λ r. ⌜ Seen (now (cells .entry)) n (r .index) (r .child) (r .rest) ⌝ }
 {
@@ -201,13 +271,48 @@ pub(crate) fn put(cells: &mut [u32], n: u32, x: Cell, entries: u32, depth: u32, 
     set_word(cells, n, 5, packed);
 }
 
-// Makes the requirement whose first entry is index: child and whose others are those of rest.
-pub fn make(cells: &mut [u32], index: u32, child: u32, rest: u32) -> u32
+// Whether x is the cell index, child, rest.
+fn is(x: Cell, index: u32, child: u32, rest: u32) -> bool
+    ensures { λ b. ⌜ Compared (x .index) (x .child) (x .rest) index child rest b ⌝ }
+{
+    if x.index != index {
+        return false;
+    }
+    if x.child != child {
+        return false;
+    }
+    x.rest == rest
+}
+
+// The piece that is the cell index, child, rest, or 0 where there is none.
+pub(crate) fn find(cells: &[u32], index: u32, child: u32, rest: u32) -> u32
+    requires { ⌜ Good (now cells) ⌝ }
+    ensures { λ n. ⌜ Finds (now (cells .entry)) index child rest n ⌝ }
+{
+    let h = hash(index, child, rest);
+    let at = cells.len() - TABLE_WORDS + h;
+    let mut n = cells[at];
+    while 2 < n {
+        let x = look(cells, n);
+        if is(x, index, child, rest) {
+            return n;
+        }
+        n = word(cells, n, 6);
+    }
+    0
+}
+
+// The requirement whose first entry is index: child and whose others are those of rest: the piece that is it already, or a new one.
+pub(crate) fn fresh(cells: &mut [u32], index: u32, child: u32, rest: u32) -> u32
     requires { ⌜ Good (now cells) ⌝ }
     requires { ⌜ Room (now cells) 1 ⌝ }
     requires { ⌜ (child < top (now cells)) × (rest < top (now cells)) ⌝ }
-    ensures { λ n. ⌜ Made (now (cells .entry)) (now (cells .exit)) (more index (part (now (cells .entry)) child) (part (now (cells .entry)) rest)) 1 n ⌝ }
+    ensures { λ n. ⌜ Fresh (now (cells .entry)) (now (cells .exit)) (more index (part (now (cells .entry)) child) (part (now (cells .entry)) rest)) n ⌝ }
 {
+    let old = find(cells, index, child, rest);
+    if 2 < old {
+        return old;
+    }
     let p = measure(cells, child);
     let r = measure(cells, rest);
     let m = sizes_of(index, p, r);
@@ -218,8 +323,19 @@ pub fn make(cells: &mut [u32], index: u32, child: u32, rest: u32) -> u32
         rest: rest,
     };
     put(cells, n, x, m.entries, m.depth, 2 * m.width + m.over);
+    link(cells, n);
     cells[0] = n + 1;
     n
+}
+
+// The same, for callers that need not know which cells are new.
+pub fn make(cells: &mut [u32], index: u32, child: u32, rest: u32) -> u32
+    requires { ⌜ Good (now cells) ⌝ }
+    requires { ⌜ Room (now cells) 1 ⌝ }
+    requires { ⌜ (child < top (now cells)) × (rest < top (now cells)) ⌝ }
+    ensures { λ n. ⌜ Made (now (cells .entry)) (now (cells .exit)) (more index (part (now (cells .entry)) child) (part (now (cells .entry)) rest)) 1 n ⌝ }
+{
+    fresh(cells, index, child, rest)
 }
 
 // What `make` makes; the piece old itself, where it is that.
@@ -231,14 +347,8 @@ pub fn remake(cells: &mut [u32], old: u32, index: u32, child: u32, rest: u32) ->
     ensures { λ n. ⌜ Made (now (cells .entry)) (now (cells .exit)) (more index (part (now (cells .entry)) child) (part (now (cells .entry)) rest)) 1 n ⌝ }
 {
     let x = look(cells, old);
-    if x.index != index {
-        return make(cells, index, child, rest);
+    if is(x, index, child, rest) {
+        return old;
     }
-    if x.child != child {
-        return make(cells, index, child, rest);
-    }
-    if x.rest != rest {
-        return make(cells, index, child, rest);
-    }
-    old
+    make(cells, index, child, rest)
 }
