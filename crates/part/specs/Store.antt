@@ -197,6 +197,11 @@ pub record Seen (s : List ℕ) (n i c r : ℕ) : Type 0 where
   pub rest-is : r ≡ rest s n
   pub index-is : i ≡ index s n
 
+-- the piece n means the cell i, c, r
+pub record Holds (s : List ℕ) (n i c r : ℕ) : Type 0 where
+  pub piece : n < top s
+  pub is : part s n ≡ more i (part s c) (part s r)
+
 -- each number of the list is that of a piece below n
 abbrev pub Below : List ℕ → ℕ → Type 0
 Below rs n = (j : ℕ) → j < length rs → getD rs j 0 < n

@@ -6,7 +6,7 @@ ghost use Prim.Native.Nat.{_+_, _*_, _≤_, _<_, min, max};
 ghost use lib.ListN.{length, set};
 ghost use Rattle.part.specs.PartReq.{more, entries, depth, width, over};
 ghost use Rattle.part.specs.StoreLimits.{cellWords, storeWords, entriesCap, buckets, tableWords};
-ghost use Rattle.part.specs.Store.{word, top, part, Measures, Passes, SizesOf, Formed, Good, Room, Made, Seen, Put, hash, Linked, Distinct, Compared, Finds, Chained, Emptied, Rebuilt, Blank, Fresh};
+ghost use Rattle.part.specs.Store.{word, top, part, Measures, Passes, SizesOf, Formed, Good, Room, Made, Seen, Holds, Put, hash, Linked, Distinct, Compared, Finds, Chained, Emptied, Rebuilt, Blank, Fresh};
 
 use crate::limits::CELL_WORDS;
 use crate::limits::ENTRIES_CAP;
@@ -338,17 +338,19 @@ pub fn make(cells: &mut [u32], index: u32, child: u32, rest: u32) -> u32
     fresh(cells, index, child, rest)
 }
 
-// What `make` makes; the piece old itself, where it is that.
-pub fn remake(cells: &mut [u32], old: u32, index: u32, child: u32, rest: u32) -> u32
+// What `make` makes of the index of x; the piece old itself, which is x, where nothing else is asked.
+pub fn remake(cells: &mut [u32], old: u32, x: Cell, child: u32, rest: u32) -> u32
     requires { ⌜ Good (now cells) ⌝ }
     requires { ⌜ Room (now cells) 1 ⌝ }
     requires { ⌜ (child < top (now cells)) × (rest < top (now cells)) ⌝ }
-    requires { ⌜ (2 < old) × (old < top (now cells)) ⌝ }
-    ensures { λ n. ⌜ Made (now (cells .entry)) (now (cells .exit)) (more index (part (now (cells .entry)) child) (part (now (cells .entry)) rest)) 1 n ⌝ }
+    requires { ⌜ Holds (now cells) old (x .index) (x .child) (x .rest) ⌝ }
+    ensures { λ n. ⌜ Made (now (cells .entry)) (now (cells .exit)) (more (x .index) (part (now (cells .entry)) child) (part (now (cells .entry)) rest)) 1 n ⌝ }
 {
-    let x = look(cells, old);
-    if is(x, index, child, rest) {
-        return old;
+    if x.child != child {
+        return make(cells, x.index, child, rest);
     }
-    make(cells, index, child, rest)
+    if x.rest != rest {
+        return make(cells, x.index, child, rest);
+    }
+    old
 }
