@@ -16,7 +16,7 @@ use Rattle.part.specs.PartReq.{PartReq, all, exist, none, more}
 use Rattle.part.specs.Store.{top, part, means, Good, Room, Kept, Made}
 use Rattle.part.proofs.Pieces.{part-0, part-2}
 use Rattle.part.proofs.Making.{kept-trans}
-use Rattle.context.proofs.Taking.{kept-self}
+use Rattle.part.proofs.Write.{kept-self}
 use Rattle.module.specs.Module.{TypeHandle, Binding, Member, TypeInner}
 use Rattle.module.specs.Decode.{optionOf}
 use Rattle.module.specs.Knot.{knot, below}

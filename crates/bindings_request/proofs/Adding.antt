@@ -9,7 +9,7 @@ use lib.Dec.{ltb}
 use lib.ListN.{length}
 use borrow.Author.Tests.{lt-ltb, le-ltb, ltb-true, ltb-false}
 use Rattle.field.specs.Limits.{absent, minReport, maxPieces}
-use Rattle.part.specs.StoreLimits.{cellWords}
+use Rattle.part.specs.StoreLimits.{cellWords, tableWords}
 use Rattle.part.specs.Store.{top, part, Good, Room, Made}
 use Rattle.module.specs.Module.{Module}
 use Rattle.module.specs.Operands.{bindings}
@@ -96,7 +96,7 @@ judge-accepted functions globals room (some p) e =
 
 -- the request's bytes
 pub read-asks : {bytes t types cells parts request s : List ℕ} {globals : ℕ} → Tables bytes t types → Lent cells parts request → globals ≡ length (moduleOf bytes t .globals)
-    → Good s → top s ≡ 3 → length s ≡ length cells → Good s × ((globals ≤ absent) × (cellWords * top s + 2 * length request ≤ length s + 2 * 0))
+    → Good s → top s ≡ 3 → length s ≡ length cells → Good s × ((globals ≤ absent) × (cellWords * top s + tableWords + 2 * length request ≤ length s + 2 * 0))
 read-asks T L e g h l = let big = L .room in (g, (omega (arith, globals-few T), omega arith))
 
 pub add-above : (m : Module) (room b : ℕ) (request : List ℕ) {o : List ℕ} → bindings ≤ b → Gave o o (addBytes m room b request) (Refused 12)

@@ -8,7 +8,7 @@ use mathlib.Core.Option.{Option, some, none as nothing}
 use lib.ListN.{length, drop, length-append}
 use lib.Seq.{sets, sets-eq}
 use borrow.Author.Tests.{lt-ltb, le-ltb}
-use Rattle.part.specs.StoreLimits.{cellWords}
+use Rattle.part.specs.StoreLimits.{cellWords, tableWords}
 use Rattle.part.specs.Store.{top, Good}
 use Rattle.module.specs.Module.{Function, Module}
 use Rattle.module.specs.Operands.{bindings}
@@ -138,7 +138,7 @@ module _ {bytes t types : List ℕ} (T : Tables bytes t types) (room : ℕ) {f :
       (on-cond (knownContext (length (moduleOf bytes t .globals)) (length (fn .arguments)) (length (fn .locals)) c) c list)
 
   module _ {s : List ℕ} (b : List ℕ) {g n l : ℕ} (G : g ≡ length (moduleOf bytes t .globals)) (N : n ≡ length (fn .arguments)) (L : l ≡ length (fn .locals)) where
-    pub context-asks : {cells : List ℕ} → LentContext cells b → Good s → top s ≡ 3 → length s ≡ length cells → Good s × (Limits g n l × (cellWords * top s + 2 * length b ≤ length s + 2 * 0))
+    pub context-asks : {cells : List ℕ} → LentContext cells b → Good s → top s ≡ 3 → length s ≡ length cells → Good s × (Limits g n l × (cellWords * top s + tableWords + 2 * length b ≤ length s + 2 * 0))
     context-asks X h th lh =
         let big = X .room in
         (h, (record { globals-fit = omega (arith, globals-few T); args-fit = omega (arith, arguments-few T f low); locals-fit = omega (arith, locals-few T f low) }, omega arith))

@@ -7,7 +7,7 @@ use lib.Dec.{eqb, ltb}
 use lib.ListN.{length}
 use lib.Seq.{sets}
 use Rattle.field.specs.Limits.{maxPieces, minReport}
-use Rattle.part.specs.StoreLimits.{cellWords, storeWords}
+use Rattle.part.specs.StoreLimits.{cellWords, storeWords, tableWords}
 use Rattle.module.specs.Module.{Binding, FunctionHandle, Module}
 use Rattle.module.specs.Operands.{bindings}
 use Rattle.module.specs.File.{accepted as isRead, readModule}
@@ -30,7 +30,7 @@ pub record Tables (bytes t types : List ℕ) : Type 0 where
 -- a store with room for a request, for the pieces of types and for what is asked
 pub record Lent (cells parts request : List ℕ) : Type 0 where
   pub fits : length cells ≤ storeWords
-  pub room : cellWords * (4 + (outputCells parts + maxPieces)) + 2 * length request ≤ length cells
+  pub room : cellWords * (4 + (outputCells parts + maxPieces)) + tableWords + 2 * length request ≤ length cells
 
 -- reading says 18 of a report buffer, where the slice for the answer is 20
 unfoldable pub ownNumber : ℕ → ℕ

@@ -5,7 +5,7 @@ use mathlib.Core.List.{List}
 use mathlib.Core.Option.{Option, some, none as nothing}
 use lib.Dec.{ltb}
 use lib.ListN.{length}
-use Rattle.part.specs.StoreLimits.{cellWords, storeWords}
+use Rattle.part.specs.StoreLimits.{cellWords, storeWords, tableWords}
 use Rattle.module.specs.Module.{FunctionHandle, Module}
 use Rattle.module.specs.Operands.{bindings}
 use Rattle.context.specs.RequiredContext.{RequiredContext}
@@ -15,7 +15,7 @@ use Rattle.bindings.specs.ContextBindings.{Answer, refused, ofFunction, inputLi
 -- a store with room for a context
 pub record LentContext (cells context : List ℕ) : Type 0 where
   pub fits : length cells ≤ storeWords
-  pub room : cellWords * 3 + 2 * length context ≤ length cells
+  pub room : cellWords * 3 + tableWords + 2 * length context ≤ length cells
 
 -- the list of a context of the function f, where the answer's slice has so many bytes: 20, 13
 unfoldable pub inputsOf : Module → (room : ℕ) → FunctionHandle → RequiredContext → Answer (List ℕ)

@@ -5,7 +5,7 @@ use Prim.Native.Nat.{ℕ, _+_, _*_, _-_, _≤_}
 use native.Mathlib.Omega.{arith}
 use lib.ListN.{length, take, length-take}
 use Rattle.field.specs.Limits.{maxTypes, maxMembers, maxPieces}
-use Rattle.part.specs.StoreLimits.{cellWords, storeWords}
+use Rattle.part.specs.StoreLimits.{cellWords, storeWords, tableWords}
 use Rattle.module.specs.File.{accepted, readModule}
 use Rattle.module.specs.Tables.{moduleOf}
 use Rattle.valid.proofs.Accepted.{valid}
@@ -38,6 +38,6 @@ module _ (bytes t : List ℕ) (R : readModule bytes ≡ accepted (moduleOf bytes
     ones-part parts h = simp length-take (omega (arith, types-few, N))
 
     -- room for the pieces of so many types and for a request that is not longer than `long`
-    pub lent-part : (cells parts request : List ℕ) (long : ℕ) → maxTypes ≤ length parts → length cells ≤ storeWords → cellWords * (5 + maxMembers * maxTypes + maxPieces) + 2 * long ≤ length cells → length request ≤ long → Lent cells (take (n - 0) parts) request
+    pub lent-part : (cells parts request : List ℕ) (long : ℕ) → maxTypes ≤ length parts → length cells ≤ storeWords → cellWords * (5 + maxMembers * maxTypes + maxPieces) + tableWords + 2 * long ≤ length cells → length request ≤ long → Lent cells (take (n - 0) parts) request
     lent-part cells parts request long h fits room short =
         record { fits = fits; room = omega (arith, ones-part parts h, types-few, room, short) }

@@ -3,7 +3,7 @@ ghost use mathlib.Core.Path.{_≡_};
 ghost use Prim.Native.Nat.{_+_, _*_, _≤_};
 ghost use lib.ListN.{length};
 ghost use Rattle.field.specs.Limits.{maxMembers, maxPieces, maxTypes};
-ghost use Rattle.part.specs.StoreLimits.{cellWords, storeWords};
+ghost use Rattle.part.specs.StoreLimits.{cellWords, storeWords, tableWords};
 ghost use Rattle.module.specs.File.{accepted, readModule};
 ghost use Rattle.module.specs.Scan.{values};
 ghost use Rattle.module.specs.Tables.{words, maxItems, moduleOf};
@@ -59,7 +59,7 @@ pub fn add_in(
 ) -> u64
     requires { ⌜ (words ≤ length (now t)) × ((values ≤ length (now seen)) × (maxItems ≤ length (now held))) ⌝ }
     requires { ⌜ (typeWords * maxTypes ≤ length (now table)) × (maxTypes ≤ length (now parts)) ⌝ }
-    requires { ⌜ (length (now cells) ≤ storeWords) × (cellWords * (5 + maxMembers * maxTypes + maxPieces) + 2 * (4 + 65535) ≤ length (now cells)) ⌝ }
+    requires { ⌜ (length (now cells) ≤ storeWords) × (cellWords * (5 + maxMembers * maxTypes + maxPieces) + tableWords + 2 * (4 + 65535) ≤ length (now cells)) ⌝ }
     ensures { λ r. ⌜ Answers (now (out .entry)) (now (out .exit)) (addAnswer (now (bytes .entry)) (length (now (out .entry))) b (now (request .entry))) r ⌝ }
 {
     let refusal = read(bytes, t, seen, held);

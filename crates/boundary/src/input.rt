@@ -3,7 +3,7 @@ ghost use mathlib.Core.Path.{_≡_};
 ghost use Prim.Native.Nat.{_+_, _*_, _≤_};
 ghost use lib.ListN.{length};
 ghost use Rattle.field.specs.Limits.{maxArguments, maxTypes};
-ghost use Rattle.part.specs.StoreLimits.{cellWords, storeWords};
+ghost use Rattle.part.specs.StoreLimits.{cellWords, storeWords, tableWords};
 ghost use Rattle.module.specs.File.{accepted, readModule};
 ghost use Rattle.module.specs.Scan.{values};
 ghost use Rattle.module.specs.Tables.{words, maxItems, moduleOf};
@@ -17,13 +17,14 @@ use bindings_request::input::input_to_bindings_bytes;
 use context::remove::TYPE_WORDS;
 use field::limits::MAX_PIECES;
 use part::limits::CELL_WORDS;
+use part::limits::TABLE_WORDS;
 use reading::read::read;
 use type_table::fill;
 
 // The longest record of a context that is within a walk's pieces, and the words of a store for it.
 pub const MAX_CONTEXT: usize = 14 + 6 * MAX_PIECES;
 
-pub const INPUT_WORDS: usize = CELL_WORDS * 3 + 2 * MAX_CONTEXT;
+pub const INPUT_WORDS: usize = CELL_WORDS * 3 + TABLE_WORDS + 2 * MAX_CONTEXT;
 
 // Of a module that was read, with a row and a set for each type.
 fn input_of(
@@ -64,7 +65,7 @@ pub fn input_in(
 ) -> u64
     requires { ⌜ (words ≤ length (now t)) × ((values ≤ length (now seen)) × (maxItems ≤ length (now held))) ⌝ }
     requires { ⌜ (typeWords * maxTypes ≤ length (now table)) × ((maxTypes ≤ length (now sets)) × (2 * maxArguments ≤ length (now pairs))) ⌝ }
-    requires { ⌜ (length (now cells) ≤ storeWords) × (cellWords * 3 + 2 * maxContext ≤ length (now cells)) ⌝ }
+    requires { ⌜ (length (now cells) ≤ storeWords) × (cellWords * 3 + tableWords + 2 * maxContext ≤ length (now cells)) ⌝ }
     ensures { λ r. ⌜ Answers (now (out .entry)) (now (out .exit)) (inputAnswer (now (bytes .entry)) (length (now (out .entry))) f (now (context .entry))) r ⌝ }
 {
     let refusal = read(bytes, t, seen, held);

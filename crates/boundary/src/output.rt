@@ -4,7 +4,7 @@ ghost use mathlib.Core.List.{[]};
 ghost use Prim.Native.Nat.{_+_, _*_, _≤_};
 ghost use lib.ListN.{length};
 ghost use Rattle.field.specs.Limits.{maxMembers, maxPieces, maxTypes};
-ghost use Rattle.part.specs.StoreLimits.{cellWords, storeWords};
+ghost use Rattle.part.specs.StoreLimits.{cellWords, storeWords, tableWords};
 ghost use Rattle.module.specs.File.{accepted, readModule};
 ghost use Rattle.module.specs.Scan.{values};
 ghost use Rattle.module.specs.Tables.{words, maxItems, moduleOf};
@@ -20,11 +20,12 @@ use field::limits::MAX_MEMBERS;
 use field::limits::MAX_PIECES;
 use field::limits::MAX_TYPES;
 use part::limits::CELL_WORDS;
+use part::limits::TABLE_WORDS;
 use reading::read::read;
 use type_table::fill;
 
 // The words of a store for the pieces of types and for what is asked.
-pub const OUTPUT_WORDS: usize = CELL_WORDS * (5 + MAX_MEMBERS * MAX_TYPES + MAX_PIECES);
+pub const OUTPUT_WORDS: usize = CELL_WORDS * (5 + MAX_MEMBERS * MAX_TYPES + MAX_PIECES) + TABLE_WORDS;
 
 // Of a module that was read, with a row and a piece for each type.
 fn output_of(
@@ -62,7 +63,7 @@ pub fn output_in(
 ) -> u64
     requires { ⌜ (words ≤ length (now t)) × ((values ≤ length (now seen)) × (maxItems ≤ length (now held))) ⌝ }
     requires { ⌜ (typeWords * maxTypes ≤ length (now table)) × (maxTypes ≤ length (now parts)) ⌝ }
-    requires { ⌜ (length (now cells) ≤ storeWords) × (cellWords * (5 + maxMembers * maxTypes + maxPieces) ≤ length (now cells)) ⌝ }
+    requires { ⌜ (length (now cells) ≤ storeWords) × (cellWords * (5 + maxMembers * maxTypes + maxPieces) + tableWords ≤ length (now cells)) ⌝ }
     ensures { λ r. ⌜ Answers (now (out .entry)) (now (out .exit)) (outputAnswer (now (bytes .entry)) (length (now (out .entry))) f (now (list .entry))) r ⌝ }
 {
     let refusal = read(bytes, t, seen, held);

@@ -9,6 +9,8 @@ use borrow.Author.Tests.{lt-ltb, le-ltb}
 use Rattle.part.specs.PartReq.{PartReq, all, exist, none, more, entries, width}
 use Rattle.part.specs.Store.{part, Made, Seen}
 use Rattle.part.proofs.Equations.{way, before, after, at}
+use Rattle.part.proofs.Making.{RemakeAsked}
+use Rattle.part.proofs.Write.{holds-on}
 use Rattle.module.specs.Module.{TypeHandle, TypeInner}
 use Rattle.context.specs.Remove.{Removed, left, _>>=_, remove}
 use Rattle.context.specs.RequiredContext.{alter}
@@ -18,7 +20,7 @@ use Rattle.context.specs.declared.remove.Reduced.the-variants.{Left, Pan
 use Rattle.context.proofs.Removal.{left-then}
 use Rattle.context.proofs.Removal as removal
 use Rattle.context.proofs.Taking.{made-as}
-use Rattle.context.proofs.Cycle.{took-left, took-stays, panics-on, goes-on, RemoveAsked, RemakeAsked, low-width}
+use Rattle.context.proofs.Cycle.{took-left, took-stays, panics-on, goes-on, RemoveAsked, low-width}
 
 module _ (i j : ℕ) (f : PartReq → Removed) (p r : PartReq) where
   pub alter-behind : j < i → alter i f (more j p r) ≡ (alter i f r >>= λ rest. left (more j p rest))
@@ -73,8 +75,8 @@ module _ {s : List ℕ} (types : List TypeInner) (i : ℕ) (ty : TypeHandle) {m 
       pub rest-panics : r ≡ Panic → Took s t altered room Panic
       rest-panics e = panics-on (λ z. left (more j (part s c) z)) w e further (omega arith)
 
-      pub rest-remake : {n : ℕ} → 2 < m → r ≡ Left n → RemakeAsked t c n m
-      rest-remake g e = (w .kept .good, (omega (arith, w .cost, w .kept .long), ((omega arith, took-left w e .0), (g, omega arith))))
+      pub rest-remake : {n : ℕ} → r ≡ Left n → RemakeAsked t m j c a c n
+      rest-remake e = (w .kept .good, (omega (arith, w .cost, w .kept .long), ((omega arith, took-left w e .0), holds-on x (P .1 .1 .0 .0) (w .kept))))
 
       pub rest-done : {u : List ℕ} {n l : ℕ} → r ≡ Left n → Made t u (more j (part t c) (part t n)) 1 l → Took s u altered room (Left l)
       rest-done e o = goes-on (λ z. more j (part s c) z) w e further (made-as {l = 1} o (rw (w .kept .same c (omega arith))) (omega arith)) (omega arith)
@@ -90,8 +92,8 @@ module _ {s : List ℕ} (types : List TypeInner) (i : ℕ) (ty : TypeHandle) {m 
       pub entry-panics : r ≡ Panic → Took s t altered room Panic
       entry-panics e = panics-on (λ z. left (more j z (part s a))) w e here (omega arith)
 
-      pub entry-remake : {n : ℕ} → 2 < m → r ≡ Left n → RemakeAsked t n a m
-      entry-remake g e = (w .kept .good, (omega (arith, w .cost, w .kept .long), ((took-left w e .0, omega arith), (g, omega arith))))
+      pub entry-remake : {n : ℕ} → r ≡ Left n → RemakeAsked t m j c a n a
+      entry-remake e = (w .kept .good, (omega (arith, w .cost, w .kept .long), ((took-left w e .0, omega arith), holds-on x (P .1 .1 .0 .0) (w .kept))))
 
       pub entry-done : {u : List ℕ} {n l : ℕ} → r ≡ Left n → Made t u (more j (part t n) (part t a)) 1 l → Took s u altered room (Left l)
       entry-done e o = goes-on (λ z. more j z (part s a)) w e here (made-as {l = 1} o (rw (w .kept .same a (omega arith))) (omega arith)) (omega arith)

@@ -10,7 +10,8 @@ use Rattle.part.specs.StoreLimits.{storeWords}
 use Rattle.part.specs.Store.{top, part, Good, Kept, Room, Made, Seen}
 use Rattle.part.proofs.Pieces.{part-0, part-1, part-2, not-all, not-exist}
 use Rattle.part.proofs.Equations.{never}
-use Rattle.part.proofs.Making.{kept-trans}
+use Rattle.part.proofs.Making.{kept-trans, RemakeAsked}
+use Rattle.part.proofs.Write.{kept-self, holds-on}
 use Rattle.module.specs.Module.{TypeHandle, TypeInner, Opaque, Member}
 use Rattle.context.specs.Remove.{Removed, left, panic, _>>=_, memberAt, atMember, atSubtype, typeToParts, split, subtypesOf, takeOut, takeEntry, takeEntries, remove}
 use Rattle.context.specs.Types.{AllSized, splitMost}
@@ -22,7 +23,7 @@ use Rattle.context.specs.declared.remove.Reduced.{Reduced}
 use Rattle.context.specs.declared.remove.Reduced.the-variants.{Left, Panic}
 use Rattle.context.proofs.Removal.{entry-lt, entry-gt, entry-eq, Splits}
 use Rattle.context.proofs.Types.{sized-splits}
-use Rattle.context.proofs.Taking.{kept-self, made-as}
+use Rattle.context.proofs.Taking.{made-as}
 
 -- the definition, by the two first entries
 module _ (types : List TypeInner) (ms : Option (List Member)) (i j : ℕ) (p q r s : PartReq) where
@@ -92,9 +93,6 @@ Asked s types p q = Good s × (AllSized types × (((p < top s) × (q < top s)) �
 abbrev pub RemoveAsked : List ℕ → List TypeInner → ℕ → ℕ → Type 0
 RemoveAsked s types p q = Good s × (AllSized types × (((p < top s) × (q < top s)) × Room s (removeRoom (part s p) (part s q))))
 
-abbrev pub RemakeAsked : List ℕ → ℕ → ℕ → ℕ → Type 0
-RemakeAsked s c r old = Good s × (Room s 1 × (((c < top s) × (r < top s)) × ((2 < old) × (old < top s))))
-
 -- the numbers that fall: q first, then whether p is still to be split, then p
 abbrev pub entriesMeasure : ℕ → ℕ → ℕ
 entriesMeasure p q = 2 * storeWords * q + p
@@ -138,8 +136,8 @@ module _ {s : List ℕ} (types : List TypeInner) (owner : Typed) {p q i j c d a 
     pub panic-lt : r ≡ Panic → Took s t whole room Panic
     panic-lt e = panics-on (λ z. left (more i (part s c) z)) m e whole-lt (omega arith)
 
-    pub make-lt : {n : ℕ} → 2 < p → r ≡ Left n → RemakeAsked t c n p
-    make-lt g e = (m .kept .good, (omega (arith, m .cost, m .kept .long), ((omega arith, took-left m e .0), (g, omega arith))))
+    pub make-lt : {n : ℕ} → r ≡ Left n → RemakeAsked t p i c a c n
+    make-lt e = (m .kept .good, (omega (arith, m .cost, m .kept .long), ((omega arith, took-left m e .0), holds-on x (P .1 .1 .0 .0) (m .kept))))
 
     pub done-lt : {u : List ℕ} {n l : ℕ} → r ≡ Left n → Made t u (more i (part t c) (part t n)) 1 l → Took s u whole room (Left l)
     done-lt e o = goes-on (λ z. more i (part s c) z) m e whole-lt (made-as {l = 1} o (rw (m .kept .same c (omega arith))) (omega arith)) (omega arith)
@@ -188,13 +186,13 @@ module _ {s : List ℕ} (types : List TypeInner) (owner : Typed) {p q i j c d a 
         pub panic-rest : o ≡ Panic → Took s v whole room Panic
         panic-rest z = record { kept = kept-trans (m .kept) (l .kept); piece = tt; is = sym (whole-rest ∙ rw (← took-panic l z)); cost = omega (arith, spent) }
 
-        pub make-rest : {k : ℕ} → 2 < p → o ≡ Left k → RemakeAsked v n k p
-        make-rest z f =
+        pub make-rest : {k : ℕ} → o ≡ Left k → RemakeAsked v p i c a n k
+        make-rest f =
             let kept = kept-trans (m .kept) (l .kept) in (
               l .kept .good,
               (
                 omega (arith, spent, kept .long),
-                ((omega (arith, took-left m w .0, l .kept .tops), took-left l f .0), (z, omega (arith, kept .tops))),
+                ((omega (arith, took-left m w .0, l .kept .tops), took-left l f .0), holds-on x (P .1 .1 .0 .0) kept),
               ),
             )
 

@@ -12,6 +12,7 @@ use Rattle.part.specs.Store.{top, part, Good, Kept, Room, Made, Seen}
 use Rattle.part.proofs.Pieces.{part-0, part-1, part-2, not-all}
 use Rattle.part.proofs.Equations.{never}
 use Rattle.part.proofs.Making.{kept-trans}
+use Rattle.part.proofs.Write.{kept-self}
 use Rattle.module.specs.Module.{TypeInner, Opaque}
 use Rattle.context.specs.Remove.{each, typeToParts, split, subtypesOf}
 use Rattle.context.specs.Types.{typeWord, typeKind, typesOf, AllSized, splitMost}
@@ -19,9 +20,6 @@ use Rattle.context.specs.Reduced.{typed, subtypeAt}
 use Rattle.context.specs.declared.remove.Typed.{Typed}
 use Rattle.context.specs.declared.remove.Typed.the-variants.{Unknown, Is}
 use Rattle.context.proofs.Types.{vector-parts, matrix-parts, struct-parts, other-parts, vector-size, matrix-size, struct-size, no-members, member-gone, member-there}
-
-pub kept-self : {s : List ℕ} → Good s → Kept s s
-kept-self g = record { good = g; long = refl; tops = omega arith; same = λ m l. refl }
 
 -- nothing was made: the piece was there
 pub stays : {s : List ℕ} {p : PartReq} {k n : ℕ} → Good s → n < top s → part s n ≡ p → Made s s p k n

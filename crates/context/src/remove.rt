@@ -150,7 +150,7 @@ fn take_entries(cells: &mut [u32], types: &[u32], p: u32, q: u32, t: Typed) -> R
         let Reduced::Left(r) = take_entries(cells, types, x.rest, q, t) else {
             return Reduced::Panic;
         };
-        let n = remake(cells, p, x.index, x.child, r);
+        let n = remake(cells, p, x, x.child, r);
         return Reduced::Left(n);
     }
     let Subtype::There(u) = subtype_at(types, t, x.index) else {
@@ -162,7 +162,7 @@ fn take_entries(cells: &mut [u32], types: &[u32], p: u32, q: u32, t: Typed) -> R
     let Reduced::Left(r) = take_entries(cells, types, x.rest, y.rest, t) else {
         return Reduced::Panic;
     };
-    let n = remake(cells, p, x.index, c, r);
+    let n = remake(cells, p, x, c, r);
     Reduced::Left(n)
 }
 

@@ -66,13 +66,13 @@ fn alter(cells: &mut [u32], types: &[u32], m: u32, i: u32, t: TypeHandle, q: u32
         let Reduced::Left(r) = alter(cells, types, x.rest, i, t, q) else {
             return Reduced::Panic;
         };
-        let n = remake(cells, m, x.index, x.child, r);
+        let n = remake(cells, m, x, x.child, r);
         return Reduced::Left(n);
     }
     let Reduced::Left(c) = remove(cells, types, x.child, q, Typed::Is(t.0)) else {
         return Reduced::Panic;
     };
-    let n = remake(cells, m, x.index, c, x.rest);
+    let n = remake(cells, m, x, c, x.rest);
     Reduced::Left(n)
 }
 

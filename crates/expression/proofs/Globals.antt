@@ -20,7 +20,8 @@ use Rattle.memory.specs.Layout.{globalsSlot}
 use Rattle.memory.specs.Memory.{read, contextAt, joinRoom, Totalling, Totalled, totalAfter, globalsAfter}
 use Rattle.memory.specs.Want.{asked, Still}
 use Rattle.memory.specs.declared.want.Want.{Want}
-use Rattle.memory.proofs.Slots.{read-at, read-long, asked-small, slot-low, kept-self, set-memory, set-read, wants-still, asked-still, above}
+use Rattle.memory.proofs.Slots.{read-at, read-long, asked-small, slot-low, set-memory, set-read, wants-still, asked-still, above}
+use Rattle.part.proofs.Write.{kept-self}
 use Rattle.memory.proofs.Joins.{insert-small, totalled-few}
 use Rattle.state.specs.State.{Rest, stateOf}
 use Rattle.state.specs.Ready.{Ready, Others}

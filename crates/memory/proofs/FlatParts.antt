@@ -15,7 +15,7 @@ use Rattle.part.specs.PartReq.{PartReq, all, exist, none, more, entries, depth,
 use Rattle.field.specs.Limits.{maxDepth, maxEntries}
 use Rattle.part.specs.Store.{part, Good, Made}
 use Rattle.part.proofs.Pieces.{part-0, part-1, part-2}
-use Rattle.part.proofs.Write.{stay}
+use Rattle.part.proofs.Write.{stay, kept-self}
 use Rattle.part.proofs.Making.{kept-trans}
 use Rattle.context.specs.Swizzle.{Swizzled, asks, panics, insert, isFlat, collected, swizzled}
 use Rattle.memory.specs.Layout.{allSlot, existSlot, flatSlot, flatCount, globalsSlot}
@@ -26,7 +26,6 @@ use Rattle.memory.specs.Picks.{digitOf, Letters, FourDigits, Picks, Pick
 use Rattle.memory.specs.declared.want.Want.{Want}
 use Rattle.memory.specs.declared.want.Item.{Item}
 use Rattle.memory.proofs.Asks.{tail-more}
-use Rattle.memory.proofs.Slots.{kept-self}
 
 -- `flat`
 flat-suc : (k n c : ℕ) → 0 < n → flatFrom k n c ≡ entryOf k (c % 3) (flatFrom (k + 1) (n - 1) (c / 3))

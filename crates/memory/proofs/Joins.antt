@@ -25,38 +25,12 @@ use Rattle.memory.specs.declared.want.Want.{Want}
 use Rattle.memory.proofs.Slots.{slot-low, asked-small, kept-memory, above}
 use Rattle.memory.proofs.Notes.{entries-single, noted-after}
 
--- `join_entry`
-module _ {s t : List ℕ} {q : ℕ} (n i p : ℕ) (a : Made s t (more (spine + i) (part s p) (part s 2)) 1 q) (l : n < top s) where
-  entry-is : part t q ≡ more (variable i) (part s p) none
-  entry-is = a .is ∙ rw part-2
-
-  n-is : part t n ≡ part s n
-  n-is = a .kept .same n l
-
-  pub join-add : Room s (entries (part s n) + entries (part s p) + 2) → Good t × (((n < top t) × (q < top t)) × Room t (entries (part t n) + entries (part t q)))
-  join-add r = (
-    a .kept .good,
-    (
-      (omega (arith, a .kept .tops), a .piece),
-      omega (arith, a .cost, a .kept .long, ap entries n-is, ap entries entry-is, entries-single (variable i) (part s p)),
-    ),
-  )
-
-  pub join-made : {u : List ℕ} {r : ℕ} → Made t u (add (part t n) (part t q)) (entries (part t n) + entries (part t q)) r
-      → Made s u (joined (part s n) i (part s p)) (entries (part s n) + entries (part s p) + 2) r
-  join-made b = record {
-    kept = kept-trans (a .kept) (b .kept);
-    piece = b .piece;
-    is = b .is ∙ rw (n-is, entry-is);
-    cost = omega (arith, a .cost, b .cost, ap entries n-is, ap entries entry-is, entries-single (variable i) (part s p));
-  }
-
 -- `join_asked`
 module _ {s rs : List ℕ} {n i : ℕ} {w : Want} (h : Joining s rs n i w) {t : List ℕ} {p : ℕ} (a : Made s t (asked s rs w) maxDepth p) where
   map-is : part t n ≡ part s n
   map-is = a .kept .same n (h .piece)
 
-  pub asked-join : Good t × ((((n < top t) × (p < top t)) × (i < spine)) × Room t (entries (part t n) + entries (part t p) + 2))
+  pub asked-join : Good t × ((((n < top t) × (p < top t)) × (i < spine)) × Room t (entries (part t n) + entries (part t p) + 1))
   asked-join = (
     a .kept .good,
     (
@@ -65,7 +39,7 @@ module _ {s rs : List ℕ} {n i : ℕ} {w : Want} (h : Joining s rs n i w) {t : 
     ),
   )
 
-  pub asked-joined : {u : List ℕ} {r : ℕ} → Made t u (joined (part t n) i (part t p)) (entries (part t n) + entries (part t p) + 2) r → Made s u (joined (part s n) i (asked s rs w)) joinRoom r
+  pub asked-joined : {u : List ℕ} {r : ℕ} → Made t u (joined (part t n) i (part t p)) (entries (part t n) + entries (part t p) + 1) r → Made s u (joined (part s n) i (asked s rs w)) joinRoom r
   asked-joined b = record {
     kept = kept-trans (a .kept) (b .kept);
     piece = b .piece;
@@ -223,7 +197,7 @@ module _ {s rs : List ℕ} {n g : ℕ} {w : Want} {sum : ℕ} (h : Totalling s r
 
   -- a later visit
   module _ {f : Found} {o : ℕ} (got : Got t (getSubpart (part t (getD rs globalsSlot 0)) (spine + g)) f) (is-there : f ≡ There o) where
-    pub later-join : Good t × ((((getD rs globalsSlot 0 < top t) × (p < top t)) × (g < spine)) × Room t (entries (part t (getD rs globalsSlot 0)) + entries (part t p) + 2))
+    pub later-join : Good t × ((((getD rs globalsSlot 0 < top t) × (p < top t)) × (g < spine)) × Room t (entries (part t (getD rs globalsSlot 0)) + entries (part t p) + 1))
     later-join = (
       a .kept .good,
       (
@@ -232,7 +206,7 @@ module _ {s rs : List ℕ} {n g : ℕ} {w : Want} {sum : ℕ} (h : Totalling s r
       ),
     )
 
-    module _ {v : List ℕ} {x : ℕ} (e : Made t v (joined (part t (getD rs globalsSlot 0)) g (part t p)) (entries (part t (getD rs globalsSlot 0)) + entries (part t p) + 2) x) where
+    module _ {v : List ℕ} {x : ℕ} (e : Made t v (joined (part t (getD rs globalsSlot 0)) g (part t p)) (entries (part t (getD rs globalsSlot 0)) + entries (part t p) + 1) x) where
       sv' : Kept s v
       sv' = kept-trans (a .kept) (e .kept)
 

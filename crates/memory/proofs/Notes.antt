@@ -3,21 +3,26 @@ use Prim.Native.Nat.{ℕ, zero, suc, _+_, _-_, _*_, _<_, _≤_, min}
 use native.Mathlib.Omega.{arith}
 use native.Mathlib.Numerals.{add-one}
 use native.Mathlib.Decide.{ℕ-discrete, decLt}
-use mathlib.Core.Path.{_≡_, refl, ap, _∙_}
-use mathlib.Core.List.{List}
+use mathlib.Core.Path.{_≡_, refl, sym, ap, _∙_}
+use mathlib.Core.Bool.{Bool, true, false, _&&_}
+use mathlib.Core.List.{List, [], _∷_}
+use lib.Dec.{eqb}
 use lib.ListN.{length, getD, set, length-set}
 use lib.Seq.{getD-set-same, getD-set-other}
 use Rattle.field.specs.Limits.{maxDepth}
 use Rattle.part.specs.PartReq.{PartReq, none, more, entries, over}
-use Rattle.part.specs.Store.{top, part, Good, Kept, Room, Made}
+use Rattle.part.specs.Store.{top, part, Good, Kept, Room, Made, Seen}
+use Rattle.part.specs.Count.{same}
 use Rattle.part.specs.StoreLimits.{entriesCap}
 use Rattle.part.proofs.Pieces.{part-0, part-1, part-2}
 use Rattle.part.proofs.Making.{kept-trans}
+use Rattle.part.proofs.Write.{kept-self}
+use Rattle.part.proofs.Counting.{same-is, same-pieces}
 use Rattle.memory.specs.Layout.{ask, returned, flatSlot, flatCount, globalsSlot, stackSlot, storeSize}
 use Rattle.memory.specs.Want.{asked, Wants}
-use Rattle.memory.specs.Memory.{read, sumFrom, missing, present, Memory, Filled, Flats, Empty, Putting, Noting, Noted}
+use Rattle.memory.specs.Memory.{read, sumFrom, Recorded, missing, present, Memory, Filled, Flats, Empty, Putting, Noting, Noted}
 use Rattle.memory.specs.declared.want.Want.{Want}
-use Rattle.memory.proofs.Slots.{read-at, kept-read, sum-suc, sum-split, want-low, asked-small, kept-self, kept-memory, set-memory, set-read, above}
+use Rattle.memory.proofs.Slots.{read-at, read-long, kept-read, sum-suc, sum-split, want-low, asked-small, kept-memory, set-memory, set-read, above}
 
 -- `fill`
 pub filled-none : (us : List ℕ) → Filled us 0
@@ -141,7 +146,35 @@ noted-after {s} {t} {rs} {us} {at} {sum} {m} {q} cost v l k c n = record {
   spent = c;
 }
 
+-- `is_record`
+record-first : {q : PartReq} {j : ℕ} {p r : PartReq} → Recorded q → q ≡ more j p r → (j ≡ 0) × (r ≡ none)
+record-first missing e = let z : _≡_ {A = ℕ} 0 1 = cc in absurd (omega arith)
+record-first (present p) e = (cc, cc)
+
+and-true : (b : Bool) → b && true ≡ b
+and-true true = refl
+and-true false = refl
+
+pub record-none : (s : List ℕ) (n p : ℕ) → n < 3 → false ≡ same (part s n) (more 0 (part s p) none)
+unfolding same
+record-none s zero p h = rw part-0
+record-none s (suc zero) p h = rw part-1
+record-none s (suc (suc zero)) p h = rw part-2
+record-none s (suc (suc (suc n))) p h = absurd (omega arith)
+
+pub record-cell : {s : List ℕ} {n j c r p : ℕ} → Good s → ((n < top s) × (p < top s)) × Recorded (part s n) → Seen s n j c r → eqb c p ≡ same (part s n) (more 0 (part s p) none)
+unfolding same
+record-cell {s} {n} {j} {c} {r} {p} g h x =
+    let a = record-first (h .1) (x .is) in
+    let l : c < top s = omega (arith, x .child-low) in
+    same-pieces g c p l (h .0 .1) ∙ rw (x .is, a .0, a .1) (sym (and-true (same (part s c) (part s p))))
+
 -- `note`
+set-there : (ps : List PartReq) (k : ℕ) (q : PartReq) → k < length ps → getD ps k none ≡ q → set ps k q ≡ ps
+set-there [] k q l e = absurd (omega arith)
+set-there (p ∷ ps) zero q l e = rw e
+set-there (p ∷ ps) (suc k) q l e = ap (λ (qs : List PartReq). p ∷ qs) (set-there ps k q (omega arith) e)
+
 pub entries-single : (i : ℕ) (p : PartReq) → entries (more i p none) ≡ 1 + entries p
 unfolding entries
 entries-single i p = omega arith
@@ -151,11 +184,32 @@ pub piece-asked : {s rs : List ℕ} {w : Want} (k : ℕ) → Memory s rs → Wan
 piece-asked {s} {rs} {w} k m q l r = (m .good, ((want-low m w q .1, (omega (arith, q .deep), omega (arith, q .high))), omega arith))
 
 module _ {s rs : List ℕ} {at : ℕ} {w : Want} {sum : ℕ} (h : Noting s rs at w sum) {t : List ℕ} {p : ℕ} (a : Made s t (asked s rs w) maxDepth p) where
+  pub note-inside : at < length rs
+  note-inside = omega (arith, h .high, h .memory .slots)
+
+  old-kept : part t (getD rs at 0) ≡ part s (getD rs at 0)
+  old-kept = a .kept .same _ (h .memory .below at note-inside)
+
+  pub note-is : Good t × (((getD rs at 0 < top t) × (p < top t)) × Recorded (part t (getD rs at 0)))
+  note-is = (a .kept .good, ((omega (arith, h .memory .below at note-inside, a .kept .tops), a .piece), rw old-kept (h .memory .records at (h .low) (h .high))))
+
+  -- the record is there already
+  pub note-again : same (part t (getD rs at 0)) (more 0 (part t p) none) ≡ true → Noted s rs at (more 0 (asked s rs w) none) sum (maxDepth + 1) t rs sum
+  note-again e =
+      let is : part t (getD rs at 0) ≡ more 0 (asked s rs w) none = same-is _ _ e ∙ rw (a .is) in
+      let l : at < length (read t rs) = omega (arith, note-inside, read-long t rs) in
+      let there : getD (read t rs) at none ≡ more 0 (asked s rs w) none = read-at t rs at note-inside ∙ is in
+      record {
+        memory = kept-memory (h .memory) (a .kept);
+        kept = a .kept;
+        reads = sym (set-there (read t rs) at _ l there) ∙ ap (λ (ps : List PartReq). set ps at (more 0 (asked s rs w) none)) (kept-read rs (a .kept) (h .memory .below));
+        long = refl;
+        sums = omega (arith, ap entries (sym old-kept ∙ is));
+        spent = omega (arith, a .cost);
+      }
+
   pub note-make : Good t × (Room t 1 × ((p < top t) × (2 < top t)))
   note-make = (a .kept .good, (omega (arith, h .roomy, a .cost, a .kept .long), (a .piece, omega (arith, a .kept .good .base))))
-
-  inside : at < length rs
-  inside = omega (arith, h .high, h .memory .slots)
 
   module _ {u : List ℕ} {r : ℕ} (b : Made t u (more 0 (part t p) (part t 2)) 1 r) where
     su : Kept s u
@@ -169,12 +223,12 @@ module _ {s rs : List ℕ} {at : ℕ} {w : Want} {sum : ℕ} (h : Noting s rs at
       memory = kept-memory (h .memory) su;
       piece = b .piece;
       low = omega (arith, h .low);
-      high = inside;
+      high = note-inside;
       kind = λ x y. rw record-is (present (asked s rs w));
-      old = omega (arith, h .old, ap entries (su .same _ (h .memory .below at inside)));
+      old = omega (arith, h .old, ap entries (su .same _ (h .memory .below at note-inside)));
       few = h .few;
       new = omega (arith, ap entries record-is, entries-single 0 (asked s rs w), asked-small (h .memory) w (h .wants), above);
     }
 
     pub note-noted : {us : List ℕ} {m : ℕ} → Noted u rs at (part u r) sum 0 u us m → Noted s rs at (more 0 (asked s rs w) none) sum (maxDepth + 1) u us m
-    note-noted n = noted-after (maxDepth + 1) (h .memory) inside su (omega (arith, a .cost, b .cost)) (rw record-is at n)
+    note-noted n = noted-after (maxDepth + 1) (h .memory) note-inside su (omega (arith, a .cost, b .cost)) (rw record-is at n)

@@ -15,14 +15,14 @@ use borrow.Author.Tests.{eq-eqb, ne-eqb}
 use Rattle.part.specs.PartReq.{PartReq, none, more, entries, isAll, isExist}
 use Rattle.part.specs.Store.{top, part, Good}
 use Rattle.part.proofs.Pieces.{part-0, part-1, part-2}
-use Rattle.part.proofs.Write.{seen}
+use Rattle.part.proofs.Write.{seen, kept-self}
 use Rattle.context.specs.RequiredContext.{RequiredContext, pieces}
 use Rattle.walk.specs.State.{Records}
 use Rattle.walk.specs.Function.{latest, extend}
 use Rattle.memory.specs.Layout.{globalsSlot, exprsSlot, functionsSlot}
 use Rattle.memory.specs.Memory.{read, sumFrom, Recorded, missing, present, recordOf, recordsOf, contextAt, contextOf, withContext, Memory}
 use Rattle.memory.specs.Stretches.{fourSet, copied, forgotten}
-use Rattle.memory.proofs.Slots.{read-at, read-set, sum-none, sum-suc, sum-set, kept-self, set-memory}
+use Rattle.memory.proofs.Slots.{read-at, read-set, sum-none, sum-suc, sum-set, set-memory}
 use Rattle.memory.proofs.Records.{records-long, records-at, records-none}
 
 -- a slot outside the four

@@ -212,9 +212,6 @@ same-memory {s} {rs} {t} {us} m g l e h =
       fits = omega (arith, m .fits);
     }
 
-pub kept-self : {s : List ℕ} → Good s → Kept s s
-kept-self g = record { good = g; long = refl; tops = omega arith; same = λ n l. refl }
-
 pub kept-memory : {s rs t : List ℕ} → Memory s rs → Kept s t → Memory t rs
 kept-memory m x = same-memory m (x .good) (x .long) refl (λ k b. (omega (arith, m .below k b, x .tops), x .same _ (m .below k b)))
 

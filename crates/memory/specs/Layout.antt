@@ -1,7 +1,7 @@
 -- How the slots of a walk's memory are laid out, and how large it is. No proof computes with one of these values.
 use Prim.Native.Nat.{ℕ, _+_, _*_}
 use Rattle.field.specs.Limits.{maxFunctions, maxDepth, maxPieces}
-use Rattle.part.specs.StoreLimits.{cellWords}
+use Rattle.part.specs.StoreLimits.{cellWords, tableWords}
 use Rattle.module.specs.Tables.{maxItems}
 
 -- the slots of all and of exist
@@ -71,6 +71,6 @@ live = most + 3 * (maxPieces + 4) + 4 * flatCount
 abbrev pub room : ℕ
 room = 4 * maxPieces + 4 * maxDepth + 16
 
--- the words of the store
+-- the words of the store: its cells, and the table by which they are found
 abbrev pub storeSize : ℕ
-storeSize = cellWords * (3 + live + room)
+storeSize = cellWords * (3 + live + room) + tableWords

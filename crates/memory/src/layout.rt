@@ -4,6 +4,7 @@ use field::limits::MAX_FUNCTIONS;
 use field::limits::MAX_PIECES;
 use module::tables::MAX_ITEMS;
 use part::limits::CELL_WORDS;
+use part::limits::TABLE_WORDS;
 
 pub const ALL: usize = 0;
 
@@ -48,8 +49,8 @@ pub const LIVE: usize = 7 * MAX_PIECES + 12 + 4 * FLATS;
 
 pub const ROOM: usize = 4 * MAX_PIECES + 4 * MAX_DEPTH + 16;
 
-// The words of the store.
-pub const CELLS: usize = CELL_WORDS * (3 + LIVE + ROOM);
+// The words of the store: its cells, and the table by which they are found.
+pub const CELLS: usize = CELL_WORDS * (3 + LIVE + ROOM) + TABLE_WORDS;
 
 // A part by value has this many positions and indexes.
 pub const PATH: usize = 2 * MAX_DEPTH;

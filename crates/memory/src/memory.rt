@@ -2,31 +2,32 @@
 use crate::layout::FLAT;
 use crate::layout::FLATS;
 use crate::layout::GLOBALS;
-use crate::layout::ROOM;
+use crate::layout::LIVE;
 use crate::want::Want;
 use crate::want::piece;
 use part::collect::collect;
-use part::limits::CELL_WORDS;
+use part::entry::add_entry;
 use part::limits::SPINE;
 use part::req::Found;
-use part::req::add;
 use part::req::get;
 use part::req::insert;
 use part::store::entries;
 use part::store::init;
+use part::store::look;
 use part::store::make;
 ghost use mathlib.Core.Path.{_≡_};
 ghost use Prim.Native.Nat.{_+_, _*_, _≤_, _<_};
 ghost use lib.ListN.{length};
 ghost use Rattle.field.specs.Limits.{maxPieces, maxDepth};
 ghost use Rattle.part.specs.PartReq.{none, more, entries, spine};
+ghost use Rattle.part.specs.Count.{same};
 ghost use Rattle.walk.specs.Expression.{joined};
 ghost use Rattle.part.specs.Store.{top, part, Good, Room, Made};
 ghost use Rattle.part.specs.StoreLimits.{storeWords, entriesCap};
 ghost use Rattle.memory.specs.Layout.{flatCount, stackSlot, storeSize, most};
 ghost use Rattle.memory.specs.Flat.{flatFrom};
 ghost use Rattle.memory.specs.Want.{asked};
-ghost use Rattle.memory.specs.Memory.{read, sumFrom, counted, Memory, Tidied, Filled, Flats, Empty, Putting, Noting, Noted, joinRoom, Joining, Totalling, Totalled};
+ghost use Rattle.memory.specs.Memory.{read, sumFrom, counted, Recorded, Memory, Tidied, Filled, Flats, Empty, Putting, Noting, Noted, joinRoom, Joining, Totalling, Totalled};
 
 // The flat part of n digits of the code c, from the component k on.
 fn flat(cells: &mut [u32], k: u32, n: u32, c: u32) -> u32
@@ -90,7 +91,7 @@ pub fn tidy(cells: &mut [u32], slots: &mut [u32])
     ensures { λ _. ⌜ Tidied (now (cells .entry)) (now (slots .entry)) (now (cells .exit)) (now (slots .exit)) ⌝ }
 {
     let used = cells[0] as usize;
-    if CELL_WORDS * (used + ROOM) <= cells.len() {
+    if used <= 3 + LIVE {
         return;
     }
     collect(cells, slots);
@@ -122,6 +123,19 @@ pub fn put(cells: &[u32], slots: &mut [u32], at: usize, r: u32, sum: usize) -> u
     sum - less + more
 }
 
+// Whether the record n is {0: p}.
+fn is_record(cells: &[u32], n: u32, p: u32) -> bool
+    requires { ⌜ Good (now cells) ⌝ }
+    requires { ⌜ ((n < top (now cells)) × (p < top (now cells))) × Recorded (part (now cells) n) ⌝ }
+    ensures { λ r. ⌜ r ≡ same (part (now (cells .entry)) n) (more 0 (part (now (cells .entry)) p) none) ⌝ }
+{
+    if n < 3 {
+        return false;
+    }
+    let x = look(cells, n);
+    x.child == p
+}
+
 // The record in the slot `at` is what w asks. Gives what records and totals count for.
 pub fn note(cells: &mut [u32], slots: &mut [u32], at: usize, w: Want, sum: usize) -> usize
     requires { ⌜ Noting (now cells) (now slots) at w sum ⌝ }
@@ -129,6 +143,9 @@ pub fn note(cells: &mut [u32], slots: &mut [u32], at: usize, w: Want, sum: usize
 {
     let slot = w.slot;
     let p = piece(cells, w, slots[slot]);
+    if is_record(cells, slots[at], p) {
+        return sum;
+    }
     let r = make(cells, 0, p, 2);
     put(cells, slots, at, r, sum)
 }
@@ -137,11 +154,10 @@ pub fn note(cells: &mut [u32], slots: &mut [u32], at: usize, w: Want, sum: usize
 fn join_entry(cells: &mut [u32], n: u32, i: u32, p: u32) -> u32
     requires { ⌜ Good (now cells) ⌝ }
     requires { ⌜ ((n < top (now cells)) × (p < top (now cells))) × (i < spine) ⌝ }
-    requires { ⌜ Room (now cells) (entries (part (now cells) n) + entries (part (now cells) p) + 2) ⌝ }
-    ensures { λ r. ⌜ Made (now (cells .entry)) (now (cells .exit)) (joined (part (now (cells .entry)) n) i (part (now (cells .entry)) p)) (entries (part (now (cells .entry)) n) + entries (part (now (cells .entry)) p) + 2) r ⌝ }
+    requires { ⌜ Room (now cells) (entries (part (now cells) n) + entries (part (now cells) p) + 1) ⌝ }
+    ensures { λ r. ⌜ Made (now (cells .entry)) (now (cells .exit)) (joined (part (now (cells .entry)) n) i (part (now (cells .entry)) p)) (entries (part (now (cells .entry)) n) + entries (part (now (cells .entry)) p) + 1) r ⌝ }
 {
-    let q = make(cells, SPINE + i, p, 2);
-    add(cells, n, q)
+    add_entry(cells, n, SPINE + i, p)
 }
 
 // What w asks, joined to the entry of the variable i in the map n: of arguments, or of locals.

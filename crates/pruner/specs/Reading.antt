@@ -8,7 +8,7 @@ use lib.ListN.{length, getD}
 use Rattle.field.specs.Field.{wordAt}
 use Rattle.field.specs.Limits.{maxPieces, maxFunctions}
 use Rattle.part.specs.PartReq.{PartReq, none, more}
-use Rattle.part.specs.StoreLimits.{cellWords}
+use Rattle.part.specs.StoreLimits.{cellWords, tableWords}
 use Rattle.part.specs.Store.{top, part, Kept}
 use Rattle.context.specs.RequiredContext.{RequiredContext, pieces}
 use Rattle.context.specs.Contexts.{contextOf, HasContext}
@@ -47,7 +47,7 @@ mapped k (got a fs) = got (k a) fs
 
 -- Room in the store s for what the bytes of b from `at` on can say (`RoomFor`), and for n cells beside.
 abbrev pub RoomBeside : (s b : List ℕ) → (at n : ℕ) → Type 0
-RoomBeside s b at n = cellWords * (top s + n) + 2 * length b ≤ length s + 2 * at
+RoomBeside s b at n = cellWords * (top s + n) + tableWords + 2 * length b ≤ length s + 2 * at
 
 -- between the bytes `at` and `next` of b, t has a cell more than s for every four bytes at most, and n beside
 pub record SpentBeside (s t b : List ℕ) (at next n : ℕ) : Type 0 where
@@ -237,7 +237,7 @@ pub record RecordLength (s : List ℕ) (r : ℕ) : Type 0 where
 pub record Untold (s rs : List ℕ) : Type 0 where
   pub globals : getD (read s rs) globalsSlot none ≡ none
   pub slots : (k : ℕ) → totalsSlot ≤ k → k < stackSlot → getD (read s rs) k none ≡ none
-  pub room : cellWords * (top s + (maxItems + maxFunctions)) + 2 * minPruner ≤ length s + 12
+  pub room : cellWords * (top s + (maxItems + maxFunctions)) + tableWords + 2 * minPruner ≤ length s + 12
 
 -- A lent buffer was read: memory has the pruner that it means. What else memory has is as it was.
 pub record PrunerIs (bytes t s rs b : List ℕ) (u us after : List ℕ) : Type 0 where

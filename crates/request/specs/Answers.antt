@@ -7,7 +7,7 @@ use mathlib.Core.Option.{Option, some, none as nothing}
 use lib.ListN.{length, drop}
 use Rattle.field.specs.Limits.{absent}
 use Rattle.part.specs.PartReq.{PartReq}
-use Rattle.part.specs.StoreLimits.{cellWords}
+use Rattle.part.specs.StoreLimits.{cellWords, tableWords}
 use Rattle.part.specs.Store.{top, part, Kept}
 use Rattle.context.specs.RequiredContext.{RequiredContext, variable}
 use Rattle.context.specs.Contexts.{contextOf, HasContext}
@@ -31,7 +31,7 @@ from b at = fields (drop at b)
 
 -- Room in the store s for what the bytes of b from `at` on can say: an entry has at least four bytes, and takes a cell, of fewer than eight words.
 abbrev pub RoomFor : (s b : List ℕ) → ℕ → Type 0
-RoomFor s b at = cellWords * top s + 2 * length b ≤ length s + 2 * at
+RoomFor s b at = cellWords * top s + tableWords + 2 * length b ≤ length s + 2 * at
 
 -- between the bytes `at` and `next` of b, t has a cell more than s for every four bytes at most
 pub record Spent (s t b : List ℕ) (at next : ℕ) : Type 0 where

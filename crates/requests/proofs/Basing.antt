@@ -11,7 +11,7 @@ use borrow.Author.Tests.{ne-eqb}
 use Rattle.field.specs.Limits.{absent}
 use Rattle.field.specs.Field.{fieldAt}
 use Rattle.part.specs.PartReq.{none, more}
-use Rattle.part.specs.StoreLimits.{cellWords}
+use Rattle.part.specs.StoreLimits.{cellWords, tableWords}
 use Rattle.part.specs.Store.{top, part, Good, Room, Made}
 use Rattle.part.proofs.Pieces.{part-2}
 use Rattle.context.specs.RequiredContext.{variable, pieces}
@@ -28,7 +28,8 @@ use Rattle.walk.specs.Requests.{asked}
 use Rattle.memory.specs.Layout.{globalsSlot, stackSlot}
 use Rattle.memory.specs.Stretches.{fourSet}
 use Rattle.memory.specs.Memory.{read, Empty}
-use Rattle.memory.proofs.Slots.{read-at, read-long, kept-self, kept-read, kept-memory}
+use Rattle.memory.proofs.Slots.{read-at, read-long, kept-read, kept-memory}
+use Rattle.part.proofs.Write.{kept-self}
 use Rattle.memory.proofs.Runs.{four-read, four-memory, four-outside, context-put}
 use Rattle.module.specs.declared.handles.FunctionHandle.{FunctionHandle as Handle}
 use Rattle.requests.specs.Begin.{baseIn, Basing, Based, RequestLoaded}
@@ -92,7 +93,7 @@ fresh-slot {s} {rs} E k l =
     ]
 
 module _ {s rs : List ℕ} (E : Empty s rs) (request : List ℕ) (functions globals report : ℕ) (short : length request ≤ 4 + absent) where
-  pub reading-room : cellWords * top s + 2 * length request ≤ length s + 2 * 0
+  pub reading-room : cellWords * top s + tableWords + 2 * length request ≤ length s + 2 * 0
   reading-room = omega (arith, E .few, E .memory .fits)
 
   module _ {t : List ℕ} {a : RequestAnswer} (W : RequestWasRead s t (length request) (judge functions globals report (requestOf request)) a) where

@@ -105,7 +105,7 @@ take-entries-returns-4 : (t : ℕ) → take-entries-lts.Need-returns-4 (take-ent
 take-entries-returns-4 t c = panic-lt _ (c .before .before .before .before .before .before .before .before .before .before .before .before .before .before .before .before .before .before .before .before .args .t) (c .before .before .before .before .before .before .before .before .before .before .before .before .before .before .before .before .before .before .before .before .pre .1) (c .before .before .before .before .before .before .before .before .before .before .before .before .before .before .look .ensures) (c .before .before .before .before .before .before .before .before .before .before .before .before .look2 .ensures) (c .before .before .before .before .before .before .if4 .taken) (c .before .before .before .before .take-entries2 .ensures) (c .enum-told .given .1)
 
 take-entries-remake-requires : (t : ℕ) → take-entries-lts.Need-remake-requires (take-entries-called t) (take-entries-at t) take-entries.Post
-take-entries-remake-requires t c κs = make-lt _ (c .before .before .before .before .before .before .before .before .before .before .before .before .before .before .before .before .before .before .before .before .before .before .args .t) (c .before .before .before .before .before .before .before .before .before .before .before .before .before .before .before .before .before .before .before .before .before .before .pre .1) (c .before .before .before .before .before .before .before .before .before .before .before .before .before .before .before .before .look .ensures) (c .before .before .before .before .before .before .before .before .before .before .before .before .before .before .look2 .ensures) (c .before .before .before .before .before .before .before .before .if4 .taken) (c .before .before .before .before .before .before .take-entries2 .ensures) (c .before .before .before .before .before .before .before .before .before .before .before .before .before .before .before .before .before .before .if2 .left) (c .before .before .r .given .1)
+take-entries-remake-requires t c κs = make-lt _ (c .before .before .before .before .before .before .before .before .before .before .before .before .before .before .before .before .before .before .before .before .before .before .args .t) (c .before .before .before .before .before .before .before .before .before .before .before .before .before .before .before .before .before .before .before .before .before .before .pre .1) (c .before .before .before .before .before .before .before .before .before .before .before .before .before .before .before .before .look .ensures) (c .before .before .before .before .before .before .before .before .before .before .before .before .before .before .look2 .ensures) (c .before .before .before .before .before .before .before .before .if4 .taken) (c .before .before .before .before .before .before .take-entries2 .ensures) (c .before .before .r .given .1)
 
 take-entries-same-length-3 : (t : ℕ) → take-entries-lts.Need-same-length-3 (take-entries-called t) (take-entries-at t) take-entries.Post
 take-entries-same-length-3 t c = search needs
@@ -159,7 +159,7 @@ take-entries-returns-8 : (t : ℕ) → take-entries-lts.Need-returns-8 (take-ent
 take-entries-returns-8 t c = panic-rest _ (c .before .before .before .before .before .before .before .before .before .before .before .before .before .before .before .before .before .before .before .before .before .before .before .before .before .before .before .before .before .before .before .args .t) (c .before .before .before .before .before .before .before .before .before .before .before .before .before .before .before .before .before .before .before .before .before .before .before .before .before .before .before .before .before .before .before .pre .1) (c .before .before .before .before .before .before .before .before .before .before .before .before .before .before .before .before .before .before .before .before .before .before .before .before .before .look .ensures) (c .before .before .before .before .before .before .before .before .before .before .before .before .before .before .before .before .before .before .before .before .before .before .before .look2 .ensures) (omega (arith, c .before .before .before .before .before .before .before .before .before .before .before .before .before .before .before .before .before .before .before .before .if3 .left, c .before .before .before .before .before .before .before .before .before .before .before .before .before .before .before .before .before .if4 .left)) (c .before .before .before .before .before .before .before .before .before .before .before .before .before .before .u .given .1) (c .before .before .before .before .before .before .before .before .before .before .before .before .before .before .before .before .subtype-at .ensures) (c .before .before .before .before .before .before .before .before .before .before .before .remove .ensures) (c .before .before .before .before .before .before .before .c .given .1) (c .before .before .before .before .take-entries3 .ensures) (c .enum-told4 .given .1)
 
 take-entries-remake-requires-2 : (t : ℕ) → take-entries-lts.Need-remake-requires-2 (take-entries-called t) (take-entries-at t) take-entries.Post
-take-entries-remake-requires-2 t c κs = make-rest _ (c .before .before .before .before .before .before .before .before .before .before .before .before .before .before .before .before .before .before .before .before .before .before .before .before .before .before .before .before .before .before .before .before .before .args .t) (c .before .before .before .before .before .before .before .before .before .before .before .before .before .before .before .before .before .before .before .before .before .before .before .before .before .before .before .before .before .before .before .before .before .pre .1) (c .before .before .before .before .before .before .before .before .before .before .before .before .before .before .before .before .before .before .before .before .before .before .before .before .before .before .before .look .ensures) (c .before .before .before .before .before .before .before .before .before .before .before .before .before .before .before .before .before .before .before .before .before .before .before .before .before .look2 .ensures) (omega (arith, c .before .before .before .before .before .before .before .before .before .before .before .before .before .before .before .before .before .before .before .before .before .before .if3 .left, c .before .before .before .before .before .before .before .before .before .before .before .before .before .before .before .before .before .before .before .if4 .left)) (c .before .before .before .before .before .before .before .before .before .before .before .before .before .before .before .before .u .given .1) (c .before .before .before .before .before .before .before .before .before .before .before .before .before .before .before .before .before .before .subtype-at .ensures) (c .before .before .before .before .before .before .before .before .before .before .before .before .before .remove .ensures) (c .before .before .before .before .before .before .before .before .before .c .given .1) (c .before .before .before .before .before .before .take-entries3 .ensures) (c .before .before .before .before .before .before .before .before .before .before .before .before .before .before .before .before .before .before .before .before .before .before .before .before .before .before .before .before .before .if2 .left) (c .before .before .r2 .given .1)
+take-entries-remake-requires-2 t c κs = make-rest _ (c .before .before .before .before .before .before .before .before .before .before .before .before .before .before .before .before .before .before .before .before .before .before .before .before .before .before .before .before .before .before .before .before .before .args .t) (c .before .before .before .before .before .before .before .before .before .before .before .before .before .before .before .before .before .before .before .before .before .before .before .before .before .before .before .before .before .before .before .before .before .pre .1) (c .before .before .before .before .before .before .before .before .before .before .before .before .before .before .before .before .before .before .before .before .before .before .before .before .before .before .before .look .ensures) (c .before .before .before .before .before .before .before .before .before .before .before .before .before .before .before .before .before .before .before .before .before .before .before .before .before .look2 .ensures) (omega (arith, c .before .before .before .before .before .before .before .before .before .before .before .before .before .before .before .before .before .before .before .before .before .before .if3 .left, c .before .before .before .before .before .before .before .before .before .before .before .before .before .before .before .before .before .before .before .if4 .left)) (c .before .before .before .before .before .before .before .before .before .before .before .before .before .before .before .before .u .given .1) (c .before .before .before .before .before .before .before .before .before .before .before .before .before .before .before .before .before .before .subtype-at .ensures) (c .before .before .before .before .before .before .before .before .before .before .before .before .before .remove .ensures) (c .before .before .before .before .before .before .before .before .before .c .given .1) (c .before .before .before .before .before .before .take-entries3 .ensures) (c .before .before .r2 .given .1)
 
 take-entries-same-length-7 : (t : ℕ) → take-entries-lts.Need-same-length-7 (take-entries-called t) (take-entries-at t) take-entries.Post
 take-entries-same-length-7 t c = search needs

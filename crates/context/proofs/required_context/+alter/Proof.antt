@@ -54,7 +54,7 @@ alter-returns-3 : (t : ℕ) → alter-lts.Need-returns-3 (alter-called t) (alter
 alter-returns-3 t c = rest-panics _ (c .before .before .before .before .before .before .before .before .before .before .before .before .before .before .before .args .i) (c .before .before .before .before .before .before .before .before .before .before .before .before .before .before .before .args .t .0) (c .before .before .before .before .before .before .before .before .before .before .before .before .before .before .before .pre .1) (c .before .before .before .before .before .before .before .before .before .before .look .ensures) (c .before .before .before .before .before .before .if3 .taken) (c .before .before .before .before .alter .ensures) (c .enum-told .given .1)
 
 alter-remake-requires : (t : ℕ) → alter-lts.Need-remake-requires (alter-called t) (alter-at t) alter.Post
-alter-remake-requires t c κs = rest-remake _ (c .before .before .before .before .before .before .before .before .before .before .before .before .before .before .before .before .before .args .i) (c .before .before .before .before .before .before .before .before .before .before .before .before .before .before .before .before .before .args .t .0) (c .before .before .before .before .before .before .before .before .before .before .before .before .before .before .before .before .before .pre .1) (c .before .before .before .before .before .before .before .before .before .before .before .before .look .ensures) (c .before .before .before .before .before .before .before .before .if3 .taken) (c .before .before .before .before .before .before .alter .ensures) (c .before .before .before .before .before .before .before .before .before .before .before .before .before .before .if1 .left) (c .before .before .r .given .1)
+alter-remake-requires t c κs = rest-remake _ (c .before .before .before .before .before .before .before .before .before .before .before .before .before .before .before .before .before .args .i) (c .before .before .before .before .before .before .before .before .before .before .before .before .before .before .before .before .before .args .t .0) (c .before .before .before .before .before .before .before .before .before .before .before .before .before .before .before .before .before .pre .1) (c .before .before .before .before .before .before .before .before .before .before .before .before .look .ensures) (c .before .before .before .before .before .before .before .before .if3 .taken) (c .before .before .before .before .before .before .alter .ensures) (c .before .before .r .given .1)
 
 alter-same-length-3 : (t : ℕ) → alter-lts.Need-same-length-3 (alter-called t) (alter-at t) alter.Post
 alter-same-length-3 t c = search needs
@@ -78,7 +78,7 @@ alter-returns-5 : (t : ℕ) → alter-lts.Need-returns-5 (alter-called t) (alter
 alter-returns-5 t c = entry-panics _ (c .before .before .before .before .before .before .before .before .before .before .before .before .before .before .before .args .i) (c .before .before .before .before .before .before .before .before .before .before .before .before .before .before .before .args .t .0) (c .before .before .before .before .before .before .before .before .before .before .before .before .before .before .before .pre .1) (c .before .before .before .before .before .before .before .before .before .before .look .ensures) (omega (arith, c .before .before .before .before .before .before .before .before .if2 .left, c .before .before .before .before .before .before .if3 .left)) (c .before .before .before .before .remove .ensures) (c .enum-told2 .given .1)
 
 alter-remake-requires-2 : (t : ℕ) → alter-lts.Need-remake-requires-2 (alter-called t) (alter-at t) alter.Post
-alter-remake-requires-2 t c κs = entry-remake _ (c .before .before .before .before .before .before .before .before .before .before .before .before .before .before .before .before .before .args .i) (c .before .before .before .before .before .before .before .before .before .before .before .before .before .before .before .before .before .args .t .0) (c .before .before .before .before .before .before .before .before .before .before .before .before .before .before .before .before .before .pre .1) (c .before .before .before .before .before .before .before .before .before .before .before .before .look .ensures) (omega (arith, c .before .before .before .before .before .before .before .before .before .before .if2 .left, c .before .before .before .before .before .before .before .before .if3 .left)) (c .before .before .before .before .before .before .remove .ensures) (c .before .before .before .before .before .before .before .before .before .before .before .before .before .before .if1 .left) (c .before .before .c .given .1)
+alter-remake-requires-2 t c κs = entry-remake _ (c .before .before .before .before .before .before .before .before .before .before .before .before .before .before .before .before .before .args .i) (c .before .before .before .before .before .before .before .before .before .before .before .before .before .before .before .before .before .args .t .0) (c .before .before .before .before .before .before .before .before .before .before .before .before .before .before .before .before .before .pre .1) (c .before .before .before .before .before .before .before .before .before .before .before .before .look .ensures) (omega (arith, c .before .before .before .before .before .before .before .before .before .before .if2 .left, c .before .before .before .before .before .before .before .before .if3 .left)) (c .before .before .before .before .before .before .remove .ensures) (c .before .before .c .given .1)
 
 alter-same-length-5 : (t : ℕ) → alter-lts.Need-same-length-5 (alter-called t) (alter-at t) alter.Post
 alter-same-length-5 t c = search needs

@@ -100,7 +100,7 @@ enum-told-6 : tie.Need-enum-told-6
 enum-told-6 c = search needs
 
 same-length-7 : tie.Need-same-length-7
-same-length-7 c = search needs
+same-length-7 c = c .before .before .before .before .before .before .before .before .before .before .before .before .before .before .before .read-variables3 .ensures .kept .long ∙ c .before .before .before .before .before .before .before .before .before .before .before .before .before .before .before .before .before .before .before .before .before .before .read-variables2 .ensures .kept .long ∙ c .before .before .before .before .before .before .before .before .before .before .before .before .before .before .before .before .before .before .before .before .before .before .before .before .before .before .before .before .before .read-variables .ensures .kept .long
 
 returns-7 : tie.Need-returns-7
 returns-7 c = context-unknown (kept-on (c .before .before .before .before .before .before .before .before .before .before .before .before .before .before .before .before .before .before .before .before .before .before .before .before .before .before .before .before .before .read-variables .ensures .kept) (kept-on (c .before .before .before .before .before .before .before .before .before .before .before .before .before .before .before .before .before .before .before .before .before .before .read-variables2 .ensures .kept) (c .before .before .before .before .before .before .before .before .before .before .before .before .before .before .before .read-variables3 .ensures .kept))) (unknown-local _ _ _ _ (c .before .before .before .before .before .before .before .before .before .before .before .before .before .before .before .before .before .before .before .before .before .before .before .before .before .before .before .before .before .read-variables .ensures) (c .before .before .before .before .before .before .before .before .before .before .before .before .before .before .before .before .before .before .before .before .before .before .before .before .before .g .given .1) (c .before .before .before .before .before .before .before .before .before .before .before .before .before .before .before .before .before .before .before .before .before .before .read-variables2 .ensures) (c .before .before .before .before .before .before .before .before .before .before .before .before .before .before .before .before .before .before .x .given .1) (c .before .before .before .before .before .before .before .before .before .before .before .before .before .before .before .read-variables3 .ensures) (c .before .before .before .before .before .before .before .before .before .before .before .l .given .1) (ended (c .before .before .before .before .before .before .before .before .before .before .before .before .before .before .before .before .before .before .before .before .before .before .before .before .before .before .before .before .before .before .before .before .before .args .bytes .now) (c .before .before .before .before .before .before .before .before .before .before .before .l .given .0 .1 .0) (c .before .before .before .before .before .before .before .before .before .ends .ensures) (not-false _ (c .before .before .before .before .before .before .before .before .if1 .left))) (c .before .before .before .before .before .before .g2 .given .1) (c .before .before .before .x2 .given .1) (c .enum-told6 .given .1))
