@@ -17,11 +17,8 @@ cast-used c = search needs
 add-if1 : tie.Need-add-if1
 add-if1 c = search needs
 
-mul-if1 : tie.Need-mul-if1
-mul-if1 c = search needs
-
 returns : tie.Need-returns
-returns c = tidy-still (c .before .before .before .before .pre .0) (c .if1 .taken)
+returns c = tidy-still (c .before .before .before .before .pre .0) (omega (arith, c .if1 .taken, c .before .before .before .before .pre .0 .fits))
 
 collect-requires : tie.Need-collect-requires
 collect-requires c κs = (c .before .before .before .before .before .before .pre .0 .good, c .before .before .before .before .before .before .pre .0 .below)
@@ -42,7 +39,6 @@ tidy-spec =
     slice-read-used
     cast-used
     add-if1
-    mul-if1
     returns
     collect-requires
     same-length
