@@ -239,7 +239,7 @@ cells-parts p =
     omega arith
 
 -- what is held where the requirements of a list are the maps of contexts and totals
-pub heldIn : List PartReq → Held
+unfoldable pub heldIn : List PartReq → Held
 heldIn [] = nothing
 heldIn (p ∷ l) = ofMap p and heldIn l
 
