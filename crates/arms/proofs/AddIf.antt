@@ -135,7 +135,6 @@ module _ {bytes t types places s rs open-marks totals : List ℕ} {fr : Frame} {
             base-fine = G .begun .fine;
             base-few = omega (arith, few);
             few = omega (arith, few, counted);
-            sum-few = omega (arith, few);
             first-deep = rw accept-is (omega (arith, G .deep, held-before (A .within) (operandAt bytes row 1) (lower .0)));
             second-deep = rw reject-is (omega (arith, G .deep, held-before (A .within) (operandAt bytes row 2) (lower .1)));
             roomy = G .begun .roomy;
@@ -180,15 +179,15 @@ module _ {bytes t types places s rs open-marks totals : List ℕ} {fr : Frame} {
           branched =
               let few = A .begins .begun .few in
               let both = ended .few maxPieces (omega (arith, few)) (le-refl maxPieces) in
+              let sum-few = ended .sum-few (fr .held + n) maxPieces (le-refl (fr .held + n)) (omega (arith, few, counted, A .begins .standing .ready .sums)) (le-refl maxPieces) in
               record {
                 standing = subst (λ (k : ℕ). Standing bytes t types places u us open-after totals-after f (at + 4 + 4) (fr .held + k + contextIn u us (at + 4)) (tally .sum) (tally .visits)) (counted ∙ ap pieces (sym outer-same)) (ended .standing);
                 low = A .begins .standing .ready .low;
                 outer-fine = rw outer-same (A .begins .begun .fine);
                 first-fine = ended .first-fine;
-                few = omega (arith, few, ap pieces outer-same);
+                few = omega (arith, sum-few, counted, ap pieces outer-same);
                 first-few = both .0;
                 second-few = both .1;
-                sum-few = ended .sum-few;
                 roomy = ended .roomy;
               }
 

@@ -126,7 +126,6 @@ module _ {bytes t types places s rs open-marks totals : List ℕ} {fr : Frame} {
             base-fine = S .proper .context;
             base-few = omega (arith, few);
             few = omega (arith, outer, few);
-            sum-few = omega (arith, few);
             first-deep = rw body (omega (arith, A .begins .deep, held-before (A .within) (o 0) (blocks .0)));
             second-deep = rw continuing (omega (arith, A .begins .deep, held-before (A .within) (o 1) (blocks .1)));
             roomy = A .begins .begun .roomy;
@@ -162,16 +161,16 @@ module _ {bytes t types places s rs open-marks totals : List ℕ} {fr : Frame} {
               let few = A .begins .begun .few in
               let e = ap pieces outer-same in
               let both = K .few maxPieces (omega (arith, few)) (le-refl maxPieces) in
+              let sum-few = K .sum-few (fr .held + n) maxPieces (le-refl (fr .held + n)) (omega (arith, few, outer, S .ready .sums)) (le-refl maxPieces) in
               let h : fr .held + n + contextIn u us (fr .at + 4) ≡ fr .held + contextIn u us (fr .at) + contextIn u us (fr .at + 4) = omega (arith, outer, e) in
               record {
                 standing = subst (λ (k : ℕ). Standing bytes t types places u us open-1 totals-1 f (fr .at + 4 + 4) k (tally .sum) (tally .visits)) h (K .standing);
                 low = S .ready .low;
                 outer-fine = rw outer-same (S .proper .context);
                 first-fine = K .first-fine;
-                few = omega (arith, e, few);
+                few = omega (arith, e, outer, sum-few);
                 first-few = both .0;
                 second-few = both .1;
-                sum-few = K .sum-few;
                 roomy = K .roomy;
               }
 
@@ -245,7 +244,6 @@ module _ {bytes t types places s rs open-marks totals : List ℕ} {fr : Frame} {
                       continuing-lower = rw continuing (blocks .1);
                       working-few = T .working-few;
                       few = T .few;
-                      sum-few = T .sum-few;
                       body-deep = rw body (omega (arith, A .begins .deep, held-before (A .within) (o 0) (blocks .0), pass-beside .long));
                       continuing-deep = rw continuing (omega (arith, A .begins .deep, held-before (A .within) (o 1) (blocks .1), pass-beside .long));
                       roomy = T .roomy;

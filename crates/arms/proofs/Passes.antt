@@ -110,7 +110,6 @@ module _ {bytes t s rs : List ℕ} {fr : Frame} {e sum visits : ℕ} (P : Passin
             few = omega (arith, E .few);
             first-few = omega (arith, B .first-few, ap pieces (held-first (fr .at) (fr .held) S (B .low) e all E));
             second-few = omega (arith, B .second-few, ap pieces (held-second (fr .at) (fr .held) S (B .low) e all E));
-            sum-few = omega (arith, E .few);
             roomy = E .roomy;
           };
           first = held-first (fr .at) (fr .held) S (B .low) e all E;
@@ -182,7 +181,7 @@ module _ {bytes t s rs : List ℕ} {fr : Frame} {e sum visits : ℕ} (P : Passin
               )
 
           pub pass-tidy : Memory x xs × (counted (read x xs) ≤ most)
-          pass-tidy = let L = left in let S = stands L in (S .ready .memory, omega (arith, S .ready .owned, working L, L .few, L .sum-few))
+          pass-tidy = let L = left in let S = stands L in (S .ready .memory, omega (arith, S .ready .owned, working L, L .few))
 
           ended : {types places open-marks totals : List ℕ} (B : Branched bytes t types places s rs open-marks totals fr sum visits) {v vs : List ℕ} → Tidied x xs v vs
               → PassEnded bytes t types places s rs open-marks totals fr
@@ -209,7 +208,6 @@ module _ {bytes t s rs : List ℕ} {fr : Frame} {e sum visits : ℕ} (P : Passin
                 standing = subst (λ (k : ℕ). Standing bytes t types places v vs open-marks totals (fr .function .0) (fr .at + 4) k (tally .sum) (tally .visits)) n (tidied-standing S T);
                 working-few = omega (arith, ap (λ (ps : List PartReq). pieces (contextAt ps (fr .at + 4))) (T .same), working L);
                 few = omega (arith, n, L .few);
-                sum-few = L .sum-few;
                 roomy = T .roomy;
                 beside = beside-then (fr .at) (beside-then (fr .at + 4) (K .beside) beside (omega arith)) (beside-same (T .long) (T .same)) (le-refl (fr .at));
               }

@@ -83,7 +83,7 @@ pub record CasesLeft (bytes t types places s rs open-marks totals : List ℕ) (f
   pub switched : Switched bytes t types places u us open-after totals-after fr sum visits
   pub contains : containsContext (contextAt (read u us) (fr .at + 4)) (contextAt (read u us) (fr .at)) ≡ true
   pub beside : Beside bytes t (fr .function .0) (fr .at + 4) s rs open-marks u us open-after
-  pub sum-few : sum ≤ maxPieces
+  pub allowed : fr .held + (contextIn u us (fr .at) + sum) ≤ maxPieces
   pub few : n ≤ length cases
   pub rest : addCases (blockIn bytes t (fr .function .0)) (frameOf s rs fr) (contextAt (read s rs) (fr .at)) cases n any
       (stateIn bytes t u us open-after totals-after (fr .function .0) (fr .at + 4) visits)
@@ -178,7 +178,7 @@ module _ {bytes t types places s rs open-marks totals : List ℕ} {fr : Frame} {
         };
         contains = ap (λ (c : RequiredContext). containsContext c (contextAt (read s us) at)) top ∙ ap (λ (c : RequiredContext). containsContext outer c) same ∙ contains-itself outer;
         beside = k;
-        sum-few = omega arith;
+        allowed = omega (arith, ap pieces same);
         few = omega (arith, long);
         rest = ap (λ (st : State). addCases block frame outer cases n false st) (saved-state U d ∙ ap (λ (st : State). withContext outer st) (up-state S))
             ∙ ap (λ (j : ℕ). addCases block frame outer cases j false begun) long;
@@ -194,9 +194,6 @@ module _ {bytes t types places s rs open-marks totals : List ℕ} {fr : Frame} {
 
     outer-same : contextAt (read u us) at ≡ outer
     outer-same = beside-context (C .beside) at low (omega arith)
-
-    held-few : fr .held + contextIn u us at ≤ maxPieces
-    held-few = omega (arith, A .begins .begun .few, ap pieces outer-same)
 
     back : Beside bytes t f at s rs open-marks u us open-1
     back = beside-then (at + 4) (beside-same refl refl) (C .beside) (omega arith)
@@ -235,7 +232,7 @@ module _ {bytes t types places s rs open-marks totals : List ℕ} {fr : Frame} {
       held-is = omega (arith, e₁, e₂, context-pieces (read s rs) at, context-pieces (read u us) (at + 4), ap pieces outer-same)
 
       pub held-fits : outside + more ≤ 2 * maxPieces
-      held-fits = omega (arith, held-is, held-few, C .switched .few)
+      held-fits = omega (arith, held-is, C .allowed, C .switched .few)
 
       eight : at + 4 + 4 ≡ at + 8
       eight = omega arith
@@ -250,8 +247,8 @@ module _ {bytes t types places s rs open-marks totals : List ℕ} {fr : Frame} {
         tight : Entered bytes t types places u us open-1 totals-1 f body at (at + 4 + 4) held held m′ v
         tight =
             enters (C .switched .standing) body at (omega (arith, A .begins .block, body-lower)) low (omega arith) (C .switched .outer-fine)
-            (omega (arith, held-few))
-            (omega (arith, held-few, C .switched .few, C .sum-few))
+            (omega (arith, C .allowed))
+            (omega (arith, C .allowed, C .switched .few))
             (omega (arith, A .begins .deep, held-before (A .within) body body-lower, C .beside .long))
             (C .switched .roomy)
 
@@ -308,10 +305,10 @@ module _ {bytes t types places s rs open-marks totals : List ℕ} {fr : Frame} {
             joined-same = beside-context (B .beside) (at + 4) high (omega arith)
 
             left-few : contextIn w ws (at + 4 + 4) ≤ maxPieces
-            left-few = settled-pieces maxPieces (B .settled) (omega (arith, held-few)) (le-refl maxPieces)
+            left-few = settled-pieces maxPieces (B .settled) (omega (arith, C .allowed)) (le-refl maxPieces)
 
-            left-sum : tally .sum ≤ maxPieces
-            left-sum = settled-sum maxPieces (B .settled) (C .sum-few) (le-refl maxPieces)
+            left-allowed : fr .held + contextIn u us at + tally .sum ≤ maxPieces
+            left-allowed = settled-sum (fr .held + contextIn u us at) maxPieces (B .settled) (omega arith) (omega (arith, C .allowed)) (le-refl maxPieces)
 
             pub case-ends : Casing w ws (at + 4)
             case-ends =
@@ -321,7 +318,7 @@ module _ {bytes t types places s rs open-marks totals : List ℕ} {fr : Frame} {
                   low = high;
                   high = omega (arith, B .standing .ready .high);
                   roomy = join-room w ws (at + 4) (B .roomy) (omega (arith, C .switched .few)) (omega (arith, left-few));
-                  few = omega (arith, B .standing .ready .owned, held-few, C .switched .few, left-few, left-sum);
+                  few = omega (arith, B .standing .ready .owned, C .switched .few, left-few, left-allowed);
                 }
 
             -- and is joined
@@ -355,10 +352,9 @@ module _ {bytes t types places s rs open-marks totals : List ℕ} {fr : Frame} {
                   beside-context below at low (omega arith) ∙ beside-context (B .beside) at low (omega arith) in
                   let fine = fine-merged joined (contextAt (read w ws) (at + 4 + 4)) (S .ready .was-read) (C .switched .standing .proper .context) (S .proper .context) within in
                   let few : pieces both ≤ maxPieces = case-few joined (B .settled) (omega arith) (C .contains) (C .switched .few) in
-                  let sum-few = left-sum in
                   let last : Standing bytes t types places x xs open-2 totals-2 f (at + 4) (fr .held + contextIn u us at) (tally .sum) (tally .visits) =
                   popped-standing S (K .popped) high (fr .held + contextIn u us at) (ap (λ (y : RequiredContext). fr .held + contextIn u us at + pieces y) (sym joined-same)) (rw with-case fine)
-                  (omega (arith, held-few, ap pieces with-case)) in
+                  (omega (arith, left-allowed, ap pieces with-case)) in
                   record {
                     switched = record {
                       standing = subst (λ (h : ℕ). Standing bytes t types places x xs open-2 totals-2 f (at + 4) h (tally .sum) (tally .visits)) (ap (λ (y : RequiredContext). fr .held + pieces y) (sym same)) last;
@@ -371,7 +367,7 @@ module _ {bytes t types places s rs open-marks totals : List ℕ} {fr : Frame} {
                         ∙ ap (λ (y : RequiredContext). containsContext both y) same
                         ∙ contains-more joined (contextAt (read w ws) (at + 4 + 4)) (contextAt (read u us) at) (C .contains);
                     beside = beside-then (at + 4) (beside-then (at + 4 + 4) (C .beside) (B .beside) (omega arith)) below (le-refl (at + 4));
-                    sum-few = left-sum;
+                    allowed = omega (arith, left-allowed, ap pieces same);
                     few = omega (arith, C .few);
                     rest = ap (λ (y : State). addCases block frame outer cases k (any || c) y)
                         (popped-state S (K .popped) high ∙ ap (λ (y : RequiredContext). withContext y (stateIn bytes t w ws open-2 totals-2 f (at + 4 + 4) (tally .visits))) with-case)

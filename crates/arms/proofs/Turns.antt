@@ -127,8 +127,7 @@ module _ {bytes t types places s rs open-marks totals : List ℕ} {fr : Frame} {
             base-below = le-refl (at + 4 + 4);
             base-fine = G .standing .proper .context;
             base-few = G .working-few;
-            few = turns-fit-2;
-            sum-few = G .sum-few;
+            few = omega (arith, before-held, G .few, G .working-few);
             first-deep = omega (arith, G .body-deep);
             second-deep = omega (arith, G .continuing-deep);
             roomy = G .roomy;
@@ -177,6 +176,15 @@ module _ {bytes t types places s rs open-marks totals : List ℕ} {fr : Frame} {
             high : stackSlot ≤ at + 4 + 4
             high = omega (arith, T .low)
 
+            -- 16 allows what is held and the statement's context with the sum, as before the turn
+            allowed : fr .held + (contextIn s rs at + tally .sum) ≤ maxPieces
+            allowed =
+                let G = L .turning in
+                omega (
+                  arith,
+                  walked .sum-few (fr .held + contextIn s rs at) maxPieces (omega (arith, held-is)) (omega (arith, G .standing .ready .sums, G .few, ap pieces outer-same)) (le-refl maxPieces),
+                )
+
             pub turn-walked : TurnWalked w ws at
             turn-walked =
                 let P = walked in
@@ -186,7 +194,7 @@ module _ {bytes t types places s rs open-marks totals : List ℕ} {fr : Frame} {
                   low = T .low;
                   high = omega (arith, P .standing .ready .high);
                   roomy = join-room w ws (at + 4 + 4) (P .roomy) (both .0) (both .1);
-                  few = omega (arith, P .standing .ready .owned, turns-fit-2, P .sum-few);
+                  few = omega (arith, P .standing .ready .owned, held-is, allowed, T .working-few);
                 }
 
             abbrev joint : RequiredContext
@@ -222,7 +230,7 @@ module _ {bytes t types places s rs open-marks totals : List ℕ} {fr : Frame} {
               down-standing : Standing bytes t types places x ys open-2 totals-2 f (at + 4) (fr .held + contextIn s rs at) (tally .sum) (tally .visits)
               down-standing =
                   popped-standing up-standing alone low (fr .held + contextIn s rs at) (omega (arith, held-is, ap pieces up-working)) (rw up-working (T .standing .proper .context))
-                  (omega (arith, ap pieces up-working, T .few, T .working-few, walked .sum-few))
+                  (omega (arith, ap pieces up-working, allowed, T .working-few))
 
               -- the state is that of the definition but for its context
               down-state : stateIn bytes t x ys open-2 totals-2 f (at + 4) (tally .visits) ≡ withContext working (withContext joint continued)
@@ -284,8 +292,7 @@ module _ {bytes t types places s rs open-marks totals : List ℕ} {fr : Frame} {
                     body-lower = T .body-lower;
                     continuing-lower = T .continuing-lower;
                     working-few = omega (arith, ap pieces above, T .working-few);
-                    few = omega (arith, h, T .few);
-                    sum-few = walked .sum-few;
+                    few = omega (arith, h, allowed);
                     body-deep = omega (arith, T .body-deep, beside .long);
                     continuing-deep = omega (arith, T .continuing-deep, beside .long);
                     roomy = K .tidied .roomy;

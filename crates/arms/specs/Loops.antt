@@ -73,8 +73,7 @@ pub record PassEnded (bytes t types places s rs open-marks totals : List ℕ) (f
   pub is : went (stateIn bytes t u us open-marks totals (fr .function .0) (fr .at + 4) visits) (contextAt (read u us) (fr .at)) ≡ total
   pub standing : Standing bytes t types places u us open-marks totals (fr .function .0) (fr .at + 4) (fr .held + contextIn u us (fr .at)) sum visits
   pub working-few : contextIn u us (fr .at + 4) ≤ 2 * maxPieces
-  pub few : fr .held + contextIn u us (fr .at) ≤ maxPieces
-  pub sum-few : sum ≤ maxPieces
+  pub few : fr .held + (contextIn u us (fr .at) + sum) ≤ maxPieces
   pub roomy : Room u room
   pub beside : Beside bytes t (fr .function .0) (fr .at) s rs open-marks u us open-marks
 
@@ -98,8 +97,7 @@ pub record Turning (bytes t types places s rs open-marks totals : List ℕ) (fr 
   pub body-lower : body < b
   pub continuing-lower : continuing < b
   pub working-few : contextIn s rs (fr .at + 4) ≤ 2 * maxPieces
-  pub few : fr .held + contextIn s rs (fr .at) ≤ maxPieces
-  pub sum-few : sum ≤ maxPieces
+  pub few : fr .held + (contextIn s rs (fr .at) + sum) ≤ maxPieces
   pub body-deep : Deep bytes t rs (fr .function .0) body (fr .at + 8)
   pub continuing-deep : Deep bytes t rs (fr .function .0) continuing (fr .at + 12)
   pub roomy : Room s room

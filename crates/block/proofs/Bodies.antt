@@ -191,7 +191,7 @@ module _ {bytes t types places s rs open-marks totals : List ℕ} {f : FunctionH
           left-few = settled-pieces (2 * maxPieces) (ended .settled) (F .base-few) (omega arith)
 
           left-sum : tally .sum ≤ maxPieces
-          left-sum = settled-sum maxPieces (ended .settled) (F .sum-few) (le-refl maxPieces)
+          left-sum = omega (arith, settled-sum 0 maxPieces (ended .settled) (omega arith) (omega (arith, F .sum-few)) (le-refl maxPieces))
 
           pub body-asked : TotalAsked bytes t places u us open-1 totals-1 f (base + 4) (tally .sum)
           body-asked = total-asked (ended .standing) left-few (omega (arith, left-sum)) (ended .roomy)

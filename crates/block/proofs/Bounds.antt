@@ -1,6 +1,6 @@
 -- How much contexts may count for: one that a block leaves is its base or was counted by 16 as the block's last visit ended; one that is joined with what it contains stays
 -- as it is. So every join has room, and its result can be counted.
-use Prim.Native.Nat.{ℕ, _≤_}
+use Prim.Native.Nat.{ℕ, _+_, _≤_}
 use native.Mathlib.Omega.{arith}
 use mathlib.Core.Path.{_≡_}
 use mathlib.Core.Bool.{Bool, true, _&&_}
@@ -74,9 +74,10 @@ module _ {held : ℕ} {base : RequiredContext} {before : ℕ} {context : Require
   settled-pieces n (untouched e f) a b = rw e a
   settled-pieces n (checked h) a b = omega arith
 
-  pub settled-sum : (n : ℕ) → Settled held base before context sum → before ≤ n → maxPieces ≤ n → sum ≤ n
-  settled-sum n (untouched e f) a b = rw f a
-  settled-sum n (checked h) a b = omega arith
+  -- with k of what it held
+  pub settled-sum : (k n : ℕ) → Settled held base before context sum → k ≤ held → k + before ≤ n → maxPieces ≤ n → k + sum ≤ n
+  settled-sum k n (untouched e f) l a b = rw f a
+  settled-sum k n (checked h) l a b = omega arith
 
 -- a case of a switch, from the context `outer`, joined to what contains that
 pub case-few : {held : ℕ} {outer : RequiredContext} {before : ℕ} {walked : RequiredContext} {sum : ℕ} (joined : RequiredContext)

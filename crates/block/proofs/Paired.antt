@@ -60,7 +60,7 @@ module _ {bytes t types places s rs open-marks totals : List ℕ} {f : FunctionH
     base-below = P .base-below;
     base-fine = P .base-fine;
     base-few = P .base-few;
-    few = omega (arith, P .few, P .base-few, P .sum-few);
+    few = omega (arith, P .few, P .base-few);
     deep = P .first-deep;
     roomy = P .roomy;
   }
@@ -99,11 +99,10 @@ module _ {bytes t types places s rs open-marks totals : List ℕ} {f : FunctionH
             (omega (arith, P .base-few, same))
             (omega (
               arith,
-              P .few,
               P .base-few,
               same,
               settled-pieces (2 * maxPieces) (ended .settled) (P .base-few) (omega arith),
-              settled-sum maxPieces (ended .settled) (P .sum-few) (le-refl maxPieces),
+              settled-sum held (3 * maxPieces) (ended .settled) (le-refl held) (P .few) (omega arith),
             ))
             (omega (arith, P .second-deep, ended .beside .long))
             (ended .roomy)
@@ -162,7 +161,7 @@ module _ {bytes t types places s rs open-marks totals : List ℕ} {f : FunctionH
                     rw first-same (settled-pieces n (ended .settled) l m),
                     settled-pieces n (continued .settled) (rw base-same l) m,
                   );
-                  sum-few = settled-sum maxPieces (continued .settled) (settled-sum maxPieces (ended .settled) (P .sum-few) (le-refl maxPieces)) (le-refl maxPieces);
+                  sum-few = λ k n l h m. settled-sum k n (continued .settled) (omega arith) (settled-sum k n (ended .settled) l (omega (arith, P .standing .ready .sums)) m) m;
                   roomy = continued .roomy;
                   beside = beside-then (at + 4) (ended .beside) (continued .beside) (omega arith);
                 };

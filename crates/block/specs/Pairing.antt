@@ -14,7 +14,7 @@ use Rattle.walk.specs.Statement.{BlockWalk}
 use Rattle.walk.specs.Proper.{FineContext}
 use Rattle.memory.specs.Layout.{stackSlot, room}
 use Rattle.memory.specs.Memory.{read, contextAt}
-use Rattle.state.specs.State.{placeOf}
+use Rattle.state.specs.State.{sumIn, placeOf}
 use Rattle.state.specs.declared.answer.Answered.{Answered}
 use Rattle.state.specs.declared.answer.Answered.the-variants.{Went, Halt}
 use Rattle.state.specs.declared.frame.Frame.{Frame}
@@ -38,8 +38,7 @@ pub record Paired (bytes t types places s rs open-marks totals : List ℕ) (f : 
   pub base-below : base + 4 ≤ at
   pub base-fine : FineContext (moduleOf bytes t) f (contextAt (read s rs) base)
   pub base-few : contextIn s rs base ≤ 2 * maxPieces
-  pub few : held ≤ 3 * maxPieces
-  pub sum-few : sum ≤ maxPieces
+  pub few : held + sum ≤ 3 * maxPieces
   pub first-deep : Deep bytes t rs f first at
   pub second-deep : Deep bytes t rs f second (at + 4)
   pub roomy : Room s room
@@ -49,7 +48,7 @@ pub record PairEnded (bytes t types places s rs open-marks totals : List ℕ) (f
   pub standing : Standing bytes t types places u us open-after totals-after f (at + 4) (held + contextIn u us at) sum visits
   pub first-fine : FineContext (moduleOf bytes t) f (contextAt (read u us) at)
   pub few : (n : ℕ) → contextIn s rs base ≤ n → maxPieces ≤ n → (contextIn u us at ≤ n) × (contextIn u us (at + 4) ≤ n)
-  pub sum-few : sum ≤ maxPieces
+  pub sum-few : (k n : ℕ) → k ≤ held → k + sumIn t f (read s rs) ≤ n → maxPieces ≤ n → k + sum ≤ n
   pub roomy : Room u room
   pub beside : Beside bytes t f at s rs open-marks u us open-after
 
@@ -67,8 +66,7 @@ pub record Branched (bytes t types places s rs open-marks totals : List ℕ) (fr
   pub low : stackSlot ≤ fr .at
   pub outer-fine : FineContext (moduleOf bytes t) (fr .function .0) (contextAt (read s rs) (fr .at))
   pub first-fine : FineContext (moduleOf bytes t) (fr .function .0) (contextAt (read s rs) (fr .at + 4))
-  pub few : fr .held + contextIn s rs (fr .at) ≤ maxPieces
+  pub few : fr .held + (contextIn s rs (fr .at) + sum) ≤ maxPieces
   pub first-few : contextIn s rs (fr .at + 4) ≤ maxPieces
   pub second-few : contextIn s rs (fr .at + 4 + 4) ≤ maxPieces
-  pub sum-few : sum ≤ maxPieces
   pub roomy : Room s room

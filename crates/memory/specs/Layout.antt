@@ -61,7 +61,7 @@ slotCount = stackSlot + stackSlots
 -- The most entries that the slots have when what is not needed is freed. Between two visits they may pass what 16 allows: a join is counted only as the
 -- next visit begins.
 abbrev pub most : ℕ
-most = 4 * maxPieces
+most = 3 * maxPieces
 
 -- the most cells that stay after a collection: those entries, what is asked, of the result too, what is returned, and the flat parts
 abbrev pub live : ℕ

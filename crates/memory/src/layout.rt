@@ -45,7 +45,7 @@ pub const STACK_SLOTS: usize = 6 * MAX_ITEMS + 16;
 pub const SLOTS: usize = STACK + STACK_SLOTS;
 
 // The most cells that stay after a collection, and those that a visit may make by itself.
-pub const LIVE: usize = 7 * MAX_PIECES + 12 + 4 * FLATS;
+pub const LIVE: usize = 6 * MAX_PIECES + 12 + 4 * FLATS;
 
 pub const ROOM: usize = 4 * MAX_PIECES + 4 * MAX_DEPTH + 16;
 
