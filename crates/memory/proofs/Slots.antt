@@ -12,7 +12,8 @@ use Rattle.field.specs.Limits.{maxFunctions, maxPieces, maxDepth}
 use Rattle.part.specs.PartReq.{PartReq, all, exist, none, entries, over}
 use Rattle.part.specs.Store.{top, part, Good, Below, Kept, Room}
 use Rattle.part.specs.StoreLimits.{entriesCap}
-use Rattle.part.specs.Collect.{sumOf, total, Collected}
+use Rattle.part.specs.Collect.{Collected}
+use Rattle.part.proofs.Reached.{sumOf, total, collected-total}
 use Rattle.module.specs.Tables.{maxItems}
 use Rattle.memory.specs.Layout.{allSlot, existSlot, ask, result, returned, flatSlot, flatCount, globalsSlot, exprsSlot, totalsSlot, functionsSlot, stackSlot, room, most}
 use Rattle.memory.specs.Flat.{entryOf, flatFrom}
@@ -222,7 +223,7 @@ module _ {s rs t us : List ℕ} (m : Memory s rs) (few : counted (read s rs) ≤
     memory = same-memory m (d .good) (d .long) (d .roots) (d .same);
     same = read-same s rs t us (d .roots) (λ k h. d .same k h .1);
     long = d .roots;
-    roomy = omega (arith, d .used, total-small m, m .fits, d .long);
+    roomy = omega (arith, collected-total d, total-small m, m .fits, d .long);
   }
 
 pub tidy-still : {s rs : List ℕ} → Memory s rs → Room s room → Tidied s rs s rs
