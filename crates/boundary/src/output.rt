@@ -25,7 +25,8 @@ use reading::read::read;
 use type_table::fill;
 
 // The words of a store for the pieces of types and for what is asked.
-pub const OUTPUT_WORDS: usize = CELL_WORDS * (5 + MAX_MEMBERS * MAX_TYPES + MAX_PIECES) + TABLE_WORDS;
+pub const OUTPUT_WORDS: usize = CELL_WORDS * (5 + MAX_MEMBERS * MAX_TYPES + MAX_PIECES)
+    + TABLE_WORDS;
 
 // Of a module that was read, with a row and a piece for each type.
 fn output_of(

@@ -7,7 +7,6 @@ ghost use lib.ListN.{length, set};
 ghost use Rattle.part.specs.PartReq.{more, entries, depth, width, over};
 ghost use Rattle.part.specs.StoreLimits.{cellWords, storeWords, entriesCap, buckets, tableWords};
 ghost use Rattle.part.specs.Store.{word, top, part, Measures, Passes, SizesOf, Formed, Good, Room, Made, Seen, Holds, Put, hash, Linked, Distinct, Compared, Finds, Chained, Emptied, Rebuilt, Blank, Fresh};
-
 use crate::limits::CELL_WORDS;
 use crate::limits::ENTRIES_CAP;
 use crate::limits::SPINE;
