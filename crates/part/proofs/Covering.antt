@@ -9,7 +9,7 @@ use lib.Dec.{eqb}
 use borrow.Author.Tests.{eq-eqb, ne-eqb}
 use Rattle.part.specs.PartReq.{PartReq, add, contains}
 use Rattle.part.specs.StoreLimits.{full}
-use Rattle.part.specs.Store.{top, part, Good, Known, Seen}
+use Rattle.part.specs.Store.{top, part, Good, Known, Seen, distinctIn}
 use Rattle.part.specs.Summed.{Summed, Recalled, Remembered, Covered}
 use Rattle.part.proofs.Once.{formed, same-number}
 use Rattle.part.proofs.Order.{reflexive}
@@ -29,7 +29,7 @@ contains-add a b = (add-contained a b, λ e. rw e at (sum-right a b))
 sum-is : {s : List ℕ} {a b n : ℕ} → Good s → Known s a b n → (contains (part s a) (part s b) ≡ true → n ≡ a) × (n ≡ a → contains (part s a) (part s b) ≡ true)
 sum-is {s} {a} {b} {n} g k =
     let d = contains-add (part s a) (part s b) in (
-      λ e. same-number (formed g) (g .unique .distinct) n a (k .piece) (k .left) (k .is ∙ d .0 e),
+      λ e. same-number (formed g) (distinctIn (g .unique)) n a (k .piece) (k .left) (k .is ∙ d .0 e),
       λ e. d .1 (sym (k .is) ∙ ap (part s) e),
     )
 

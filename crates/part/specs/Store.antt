@@ -113,10 +113,15 @@ pub record CellIs (s : List ℕ) (n i c r : ℕ) : Type 0 where
 abbrev pub Distinct : List ℕ → ℕ → Type 0
 Distinct s k = (m n : ℕ) → 2 < m → m < n → n < k → CellIs s m (index s n) (child s n) (rest s n) → ⊥
 
--- each cell stands once, and the look-up finds it
-pub record Unique (s : List ℕ) : Type 0 where
-  pub linked : Linked s (top s)
-  pub distinct : Distinct s (top s)
+-- Each cell stands once, and the look-up finds it. (No record: so no search through what is known of a store goes into it.)
+pub data Unique (s : List ℕ) : Type 0 where
+  unique : Linked s (top s) → Distinct s (top s) → Unique s
+
+pub linkedIn : {s : List ℕ} → Unique s → Linked s (top s)
+linkedIn (unique l d) = l
+
+pub distinctIn : {s : List ℕ} → Unique s → Distinct s (top s)
+distinctIn (unique l d) = d
 
 -- the word j of the remembered sum k
 abbrev pub note : List ℕ → ℕ → ℕ → ℕ

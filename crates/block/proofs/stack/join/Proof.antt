@@ -1,5 +1,6 @@
 -- `block::stack::join` meets its contract: the sum of both contexts is put in the place of the lower one.
 use Rattle.block.proofs.Saving.{join-asked, join-clears, joined-is}
+use native.Mathlib.Omega.{arith}
 use borrow.Author.Needs.{needs}
 use Rattle.block.proofs.stack.join.Statement.{statement}
 use Rattle.block.proofs.stack.join.Tie as tie
@@ -20,7 +21,7 @@ save-context-requires : tie.Need-save-context-requires
 save-context-requires c κs = search needs
 
 add-clear-context : tie.Need-add-clear-context
-add-clear-context c = search needs
+add-clear-context c = omega (arith, c .before .before .before .before .before .before .before .before .before .before .before .before .before .before .before .pre .1 .0 .1)
 
 clear-context-requires : tie.Need-clear-context-requires
 clear-context-requires c κs = join-clears (c .before .before .before .before .before .before .before .before .before .before .before .before .before .before .before .pre .0) (c .before .before .before .before .before .before .before .before .before .before .before .before .before .before .before .pre .1 .0 .1) (c .before .before .before .before .before .before .before .before .before .before .before .load-context .ensures) (c .before .before .before .before .before .before .before .before .before .load-context2 .ensures) (c .before .before .before .before .before .before .before .merge .result) (c .before .before .before .save-context .ensures)
