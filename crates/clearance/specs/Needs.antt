@@ -224,6 +224,10 @@ valued S asked (present v) n = needs S (ofValue v asked ∷ []) n
 unfoldable pub afterContinuing : Scope → PartReq → Option ExpressionHandle → (Exit → PartReq) → Exit → PartReq
 afterContinuing S again c k = ofContinuing (turning S again c (k next)) k
 
+-- whether a test holds of the needs after a statement, of those before it, or at a point inside it
+unfoldable pub around : (PartReq → Bool) → (after before : PartReq) → (inside : Bool) → Bool
+around test after before inside = test after || (test before || inside)
+
 -- what the walk knows throughout: the function, and the part that is asked of its value
 pub record Setting : Type 0 where
   pub scope : Scope
@@ -303,22 +307,27 @@ module _ (W : Setting) (r : ℕ → PartReq) where
   sweep (return n v) k t = t
   sweep (unmarked n a) k t = cond (obeys (W .scope) (k next) a) t (sweep a k t)
 
-  -- whether a test holds of the needs at some point: before and after each statement and each expression of an emit
+  -- whether a test holds of the needs at some point inside a statement: before and after each statement and each expression of an emit in
+  -- it. The points before and after the statement itself are left out: before one that breaks its rule only what is kept stands.
+  unfoldable pub amid : (PartReq → Bool) → Tree → (Exit → PartReq) → Bool
+  amid test nop k = false
+  amid test (seq a b) k = test (walk b k) || (amid test a (upon (walk b k) k) || amid test b k)
+  amid test (act x) k = false
+  amid test (branch c a b) k = around test (k next) (walk a k) (amid test a k) || around test (k next) (walk b k) (amid test b k)
+  amid test (switch c vs f) k =
+      not (each (length vs) (λ i. not (around test (ofCase k next) (walk (f i) (ofCase k)) (amid test (f i) (ofCase k)))))
+  amid test (loop n a b c) k =
+      let l = afterBody n b c k in
+      let m = afterContinuing (W .scope) (r n) c k in
+      around test (l next) (walk a l) (amid test a l) || around test (m next) (walk b m) (amid test b m)
+  amid test (break n) k = false
+  amid test (continue n) k = false
+  amid test (return n v) k = false
+  amid test (unmarked n a) k = cond (obeys (W .scope) (k next) a) false (amid test a k)
+
+  -- at some point: before and after each statement and each expression of an emit
   unfoldable pub somewhere : (PartReq → Bool) → Tree → (Exit → PartReq) → Bool
-  somewhere test nop k = test (k next)
-  somewhere test (seq a b) k = somewhere test a (upon (walk b k) k) || somewhere test b k
-  somewhere test (act x) k = test (k next) || test (walk (act x) k)
-  somewhere test (branch c a b) k = test (k next) || (test (walk (branch c a b) k) || (somewhere test a k || somewhere test b k))
-  somewhere test (switch c vs f) k =
-      test (k next) || (test (walk (switch c vs f) k) || not (each (length vs) (λ i. not (somewhere test (f i) (ofCase k)))))
-  somewhere test (loop n a b c) k =
-      test (k next)
-      || (test (walk (loop n a b c) k) || (somewhere test a (afterBody n b c k) || somewhere test b (afterContinuing (W .scope) (r n) c k)))
-  somewhere test (break n) k = test (k next) || test (k broke)
-  somewhere test (continue n) k = test (k next) || test (k continued)
-  somewhere test (return n v) k = test (k next) || test (walk (return n v) k)
-  somewhere test (unmarked n a) k =
-      test (k next) || (test (walk (unmarked n a) k) || cond (obeys (W .scope) (k next) a) false (somewhere test a k))
+  somewhere test a k = around test (k next) (walk a k) (amid test a k)
 
 -- Rounds
 

@@ -10,7 +10,7 @@ use Rattle.part.specs.PartReq.{PartReq, entries}
 use Rattle.part.proofs.Equations.{never}
 use Rattle.clearance.specs.Tree.{Tree, nop, seq, act, branch, switch, loop, break, continue, return, unmarked}
 use Rattle.clearance.specs.Needs.{Exit, next, upon, ofCase, ofBody, turning, obeys, afterContinuing, Setting}
-use Rattle.pass.specs.Pass.{workBound, tableEntries, Carried, Passed, on, full, _>>=_, point, within, passCases, pass}
+use Rattle.pass.specs.Pass.{workBound, tableEntries, Carried, Passed, on, full, _>>=_, point, pointed, within, passCases, passInside, pass}
 
 -- what is carried on, with the needs, is within the bound
 abbrev pub Fits : ℕ → Passed → Type 0
@@ -38,33 +38,44 @@ fits-within aside n c = go (ltb workBound (aside + entries n + tableEntries (c .
     go true h d m e = never cc
     go false h d m e = fits-on aside n c (h refl) d m e
 
+fits-pointed : (aside : ℕ) (n : PartReq) (f : Carried → Passed) (c : Carried) → Fits aside (f (point n c)) → Fits aside (pointed n f c)
+unfolding pointed point
+fits-pointed aside n f c h = fits-then aside (f (point n c)) _ (λ d m e. fits-on aside m (point m d) (h d m e))
+
 module _ (W : Setting) (r : ℕ → PartReq) where
-  pub pass-fits : (a : Tree) (aside : ℕ) (k : Exit → PartReq) (c : Carried) → aside + entries (k next) + tableEntries (c .table) ≤ workBound →
-      Fits aside (pass W r a aside k c)
-  unfolding pass point upon
-  pass-fits nop aside k c h = fits-on aside (k next) (point (k next) c) h
-  pass-fits (seq a b) aside k c h = fits-then aside _ _ (λ d m e. pass-fits a aside (upon m k) d (pass-fits b aside k c h d m e))
-  pass-fits (act x) aside k c h = fits-within aside _ _
-  pass-fits (branch x a b) aside k c h =
-      fits-then aside (within (aside + entries (k next)) (k next) (point (k next) c)) _
+  inside-fits : (a : Tree) (aside : ℕ) (k : Exit → PartReq) (c : Carried) → aside + entries (k next) + tableEntries (c .table) ≤ workBound →
+      Fits aside (passInside W r a aside k c)
+  unfolding passInside point upon
+  inside-fits nop aside k c h = fits-on aside (k next) c h
+  inside-fits (seq a b) aside k c h = fits-then aside _ _ (λ d m e. inside-fits a aside (upon m k) (point m d) (inside-fits b aside k c h d m e))
+  inside-fits (act x) aside k c h = fits-within aside _ _
+  inside-fits (branch x a b) aside k c h =
+      fits-then aside (within (aside + entries (k next)) (k next) c) _
       (λ c′ _ _.
-      fits-then aside (pass W r b (aside + entries (k next)) k c′) _
-      (λ d m _. fits-then aside (pass W r a (aside + entries m) k d) _ (λ _ _ _. fits-within aside _ _)))
-  pass-fits (switch x vs f) aside k c h =
+      fits-then aside (pointed (k next) (passInside W r b (aside + entries (k next)) k) c′) _
+      (λ d m _. fits-then aside (pointed (k next) (passInside W r a (aside + entries m) k) d) _ (λ _ _ _. fits-within aside _ _)))
+  inside-fits (switch x vs f) aside k c h =
       fits-then aside
-      (passCases (length vs) (λ i aside′ d. within aside′ (k next) d >>= λ d′ _. pass W r (f i) aside′ (ofCase k) d′) (aside + entries (k next)) (point (k next) c)) _
+      (passCases (length vs) (λ i aside′ d. within aside′ (k next) d >>= λ d′ _. pointed (ofCase k next) (passInside W r (f i) aside′ (ofCase k)) d′) (aside + entries (k next)) c) _
       (λ _ _ _. fits-within aside _ _)
-  pass-fits (loop n a b x) aside k c h =
-      fits-then aside (within (aside + entries (k next)) (turning (W .scope) (r n) x (k next)) (point (k next) c)) _
+  inside-fits (loop n a b x) aside k c h =
+      let l = afterContinuing (W .scope) (r n) x k in
+      fits-then aside (within (aside + entries (k next)) (turning (W .scope) (r n) x (k next)) c) _
       (λ c′ _ _.
-      fits-then aside (pass W r b (aside + entries (k next)) (afterContinuing (W .scope) (r n) x k) c′) _
+      fits-then aside (pointed (l next) (passInside W r b (aside + entries (k next)) l) c′) _
       (λ d m _.
       fits-then aside (within (aside + entries (k next) + entries m) m d) _
-      (λ d′ _ _. fits-then aside (pass W r a (aside + entries (k next) + entries m) (ofBody m k) d′) _ (λ _ _ _. fits-within aside _ _))))
-  pass-fits (break n) aside k c h = fits-within aside _ _
-  pass-fits (continue n) aside k c h = fits-within aside _ _
-  pass-fits (return n v) aside k c h = fits-within aside _ _
-  pass-fits (unmarked n a) aside k c h =
-      fits-cond aside (obeys (W .scope) (k next) a) _ _ (fits-on aside (k next) (point (k next) c) h)
-      (fits-then aside (within (aside + entries (k next)) (k next) (point (k next) c)) _
-      (λ c′ _ _. fits-then aside (pass W r a (aside + entries (k next)) k c′) _ (λ _ _ _. fits-within aside _ _)))
+      (λ d′ _ _.
+      fits-then aside (pointed (ofBody m k next) (passInside W r a (aside + entries (k next) + entries m) (ofBody m k)) d′) _ (λ _ _ _. fits-within aside _ _))))
+  inside-fits (break n) aside k c h = fits-within aside _ _
+  inside-fits (continue n) aside k c h = fits-within aside _ _
+  inside-fits (return n v) aside k c h = fits-within aside _ _
+  inside-fits (unmarked n a) aside k c h =
+      fits-cond aside (obeys (W .scope) (k next) a) _ _ (fits-on aside (k next) c h)
+      (fits-then aside (within (aside + entries (k next)) (k next) c) _
+      (λ c′ _ _. fits-then aside (passInside W r a (aside + entries (k next)) k c′) _ (λ _ _ _. fits-within aside _ _)))
+
+  pub pass-fits : (a : Tree) (aside : ℕ) (k : Exit → PartReq) (c : Carried) → aside + entries (k next) + tableEntries (c .table) ≤ workBound →
+      Fits aside (pass W r a aside k c)
+  unfolding pass point
+  pass-fits a aside k c h = fits-pointed aside (k next) _ c (inside-fits a aside k (point (k next) c) h)

@@ -10,9 +10,9 @@ use Rattle.part.specs.PartReq.{PartReq, add, entries}
 use Rattle.part.proofs.Equations.{never}
 use Rattle.clearance.specs.Tree.{Tree, nop, seq, act, branch, switch, loop, break, continue, return, unmarked}
 use Rattle.clearance.specs.Needs.{Exit, next, upon, ofCase, union, through, obeys, afterContinuing, Setting, walk, afterBody}
-use Rattle.pass.specs.Pass.{workBound, tableEntries, Carried, Passed, on, full, _>>=_, point, within, passCases, pass, PassIs}
+use Rattle.pass.specs.Pass.{workBound, tableEntries, Carried, Passed, on, full, _>>=_, point, pointed, within, passCases, passInside, pass, PassIs}
 use Rattle.pass.proofs.Carry.{carry}
-use Rattle.pass.proofs.After.{after, after-nop, after-seq, after-act, after-branch, after-switch, after-loop, after-break, after-continue, after-return, after-unmarked}
+use Rattle.pass.proofs.After.{inner, after, after-is, inner-nop, inner-seq, inner-act, inner-branch, inner-switch, inner-loop, inner-break, inner-continue, inner-return, inner-unmarked}
 
 -- the bound is passed, or c is carried on with the needs n
 abbrev pub Says : Passed → Carried → PartReq → Type 0
@@ -47,34 +47,47 @@ says-cases f g w h (suc n) aside c =
     (says-then _ (h n (aside + entries (union n w)) (through n g c)) (says-within aside (add (w n) (union n w)) _))
 
 module _ (W : Setting) (r : ℕ → PartReq) where
-  pub pass-says : (a : Tree) (aside : ℕ) (k : Exit → PartReq) (c : Carried) → Says (pass W r a aside k c) (after W r a k c) (walk W r a k)
-  unfolding pass walk afterBody
-  pass-says nop aside k c = says-carried (after-nop W r k c) (inr refl)
-  pass-says (seq a b) aside k c =
-      says-carried (after-seq W r a b k c)
-      (says-then _ (pass-says b aside k c) (pass-says a aside (upon (walk W r b k) k) (after W r b k c)))
-  pass-says (act x) aside k c = says-carried (after-act W r x k c) (says-within aside _ _)
-  pass-says (branch x a b) aside k c =
-      says-carried (after-branch W r x a b k c)
-      (says-then _ (says-within _ (k next) (point (k next) c))
-      (says-then _ (pass-says b _ k _) (says-then _ (pass-says a _ k _) (says-within aside _ _))))
-  pass-says (switch x vs f) aside k c =
-      says-carried (after-switch W r x vs f k c)
+  -- with the points before and after a statement
+  says-pointed : (a : Tree) (k : Exit → PartReq) (f : Carried → Passed) (c : Carried) → Says (f (point (k next) c)) (inner W r a k (point (k next) c)) (walk W r a k) →
+      Says (pointed (k next) f c) (after W r a k c) (walk W r a k)
+  unfolding pointed
+  says-pointed a k f c s = says-carried (after-is W r a k c) (says-then _ s (inr refl))
+
+  inside-says : (a : Tree) (aside : ℕ) (k : Exit → PartReq) (c : Carried) → Says (passInside W r a aside k c) (inner W r a k c) (walk W r a k)
+  unfolding passInside walk afterBody
+  inside-says nop aside k c = says-carried (inner-nop W r k c) (inr refl)
+  inside-says (seq a b) aside k c =
+      says-carried (inner-seq W r a b k c)
+      (says-then _ (inside-says b aside k c) (inside-says a aside (upon (walk W r b k) k) (point (walk W r b k) (inner W r b k c))))
+  inside-says (act x) aside k c = says-carried (inner-act W r x k c) (says-within aside _ _)
+  inside-says (branch x a b) aside k c =
+      says-carried (inner-branch W r x a b k c)
+      (says-then _ (says-within _ (k next) c)
+      (says-then _ (says-pointed b k _ _ (inside-says b _ k _)) (says-then _ (says-pointed a k _ _ (inside-says a _ k _)) (says-within aside _ _))))
+  inside-says (switch x vs f) aside k c =
+      says-carried (inner-switch W r x vs f k c)
       (says-then _
       (says-cases _ (λ i. after W r (f i) (ofCase k)) (λ i. walk W r (f i) (ofCase k))
-      (λ i aside′ d. says-then _ (says-within aside′ (k next) d) (pass-says (f i) aside′ (ofCase k) d)) (length vs) _ _) (says-within aside _ _))
-  pass-says (loop n a b x) aside k c =
-      says-carried (after-loop W r n a b x k c)
-      (says-then _ (says-within _ _ (point (k next) c))
-      (says-then _ (pass-says b _ (afterContinuing (W .scope) (r n) x k) _)
-      (says-then _ (says-within _ _ _) (says-then _ (pass-says a _ (afterBody W r n b x k) _) (says-within aside _ _)))))
-  pass-says (break n) aside k c = says-carried (after-break W r n k c) (says-within aside _ _)
-  pass-says (continue n) aside k c = says-carried (after-continue W r n k c) (says-within aside _ _)
-  pass-says (return n v) aside k c = says-carried (after-return W r n v k c) (says-within aside _ _)
-  pass-says (unmarked n a) aside k c =
-      says-carried (after-unmarked W r n a k c)
+      (λ i aside′ d. says-then _ (says-within aside′ (k next) d) (says-pointed (f i) (ofCase k) _ d (inside-says (f i) aside′ (ofCase k) _))) (length vs) _ _)
+      (says-within aside _ _))
+  inside-says (loop n a b x) aside k c =
+      let l = afterContinuing (W .scope) (r n) x k in
+      let m = afterBody W r n b x k in
+      says-carried (inner-loop W r n a b x k c)
+      (says-then _ (says-within _ _ c)
+      (says-then _ (says-pointed b l _ _ (inside-says b _ l _))
+      (says-then _ (says-within _ _ _) (says-then _ (says-pointed a m _ _ (inside-says a _ m _)) (says-within aside _ _)))))
+  inside-says (break n) aside k c = says-carried (inner-break W r n k c) (says-within aside _ _)
+  inside-says (continue n) aside k c = says-carried (inner-continue W r n k c) (says-within aside _ _)
+  inside-says (return n v) aside k c = says-carried (inner-return W r n v k c) (says-within aside _ _)
+  inside-says (unmarked n a) aside k c =
+      says-carried (inner-unmarked W r n a k c)
       (says-cond (obeys (W .scope) (k next) a) (inr refl)
-      (says-then _ (says-within _ (k next) (point (k next) c)) (says-then _ (pass-says a _ k _) (says-within aside _ _))))
+      (says-then _ (says-within _ (k next) c) (says-then _ (inside-says a _ k _) (says-within aside _ _))))
+
+  pub pass-says : (a : Tree) (aside : ℕ) (k : Exit → PartReq) (c : Carried) → Says (pass W r a aside k c) (after W r a k c) (walk W r a k)
+  unfolding pass
+  pass-says a aside k c = says-pointed a k _ c (inside-says a aside k _)
 
   -- what a pass comes to
   is-of : (p : Passed) (a : Tree) (k : Exit → PartReq) (c d : Carried) (m : PartReq) → Says p (after W r a k c) (walk W r a k) → p ≡ on d m → PassIs W r a k c d m

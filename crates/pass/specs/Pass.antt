@@ -62,6 +62,10 @@ unfoldable pub enter : ℕ → PartReq → PartReq → Carried → Carried
 enter n again m c =
     record { table = joinAt n m (c .table); fault = c .fault; held = contains again m && c .held; deep = c .deep; wide = c .wide }
 
+-- a stretch f of a pass with the needs n after it, and the points after and before it
+unfoldable pub pointed : PartReq → (Carried → Passed) → Carried → Passed
+pointed n f c = f (point n c) >>= λ d m. on (point m d) m
+
 -- The needs n, where they have room: they, what is kept aside and the new table are within the bound.
 unfoldable pub within : ℕ → PartReq → Carried → Passed
 within aside n c = cond (ltb workBound (aside + entries n + tableEntries (c .table))) full (on c n)
@@ -75,40 +79,43 @@ passCases (suc n) f aside c =
 -- The pass, with r the re-entry needs of each loop. `aside` counts the entries of what is kept elsewhere: not those of the needs at hand,
 -- k next, nor those of the new table. Where the sum of the three is within the bound before a statement, it is after it.
 module _ (W : Setting) (r : ℕ → PartReq) where
-  unfoldable pub pass : Tree → ℕ → (Exit → PartReq) → Carried → Passed
+  -- a statement, without the points before and after it
+  unfoldable pub passInside : Tree → ℕ → (Exit → PartReq) → Carried → Passed
   -- nothing is made
-  pass nop aside k c = on (point (k next) c) (k next)
+  passInside nop aside k c = on c (k next)
   -- b's needs are at hand while a is walked: nothing more is kept
-  pass (seq a b) aside k c = pass b aside k c >>= λ d m. pass a aside (upon m k) d
+  passInside (seq a b) aside k c = passInside b aside k c >>= λ d m. passInside a aside (upon m k) (point m d)
   -- the needs before it take the place of those after it: nothing more is kept; so of break, continue and return too
-  pass (act x) aside k c =
-      let m = before (W .scope) x (k next) in
-      within aside m (point m (point (k next) c))
+  passInside (act x) aside k c = within aside (before (W .scope) x (k next)) c
   -- kept: the needs after it while reject is walked, reject's while accept is
-  pass (branch x a b) aside k c =
-      within (aside + entries (k next)) (k next) (point (k next) c) >>= λ c′ _.
-      pass b (aside + entries (k next)) k c′ >>= λ d m.
-      pass a (aside + entries m) k d >>= λ e n. let w = wholly (W .scope) x (add n m) in within aside w (point w e)
+  passInside (branch x a b) aside k c =
+      within (aside + entries (k next)) (k next) c >>= λ c′ _.
+      pointed (k next) (passInside b (aside + entries (k next)) k) c′ >>= λ d m.
+      pointed (k next) (passInside a (aside + entries m) k) d >>= λ e n. within aside (wholly (W .scope) x (add n m)) e
   -- kept: the needs after it, which stand after each case and at a break, and the union so far
-  pass (switch x vs f) aside k c =
-      passCases (length vs) (λ i aside′ d. within aside′ (k next) d >>= λ d′ _. pass (f i) aside′ (ofCase k) d′) (aside + entries (k next)) (point (k next) c)
-      >>= λ e u. let w = wholly (W .scope) x u in within aside w (point w e)
+  passInside (switch x vs f) aside k c =
+      passCases (length vs)
+      (λ i aside′ d. within aside′ (k next) d >>= λ d′ _. pointed (ofCase k next) (passInside (f i) aside′ (ofCase k)) d′) (aside + entries (k next)) c
+      >>= λ e u. within aside (wholly (W .scope) x u) e
   -- kept: the needs after it, which stand at a break; while the body is walked those before continuing too, which stand at a continue
-  pass (loop n a b x) aside k c =
-      within (aside + entries (k next)) (turning (W .scope) (r n) x (k next)) (point (k next) c) >>= λ c′ _.
-      pass b (aside + entries (k next)) (afterContinuing (W .scope) (r n) x k) c′ >>= λ d m.
+  passInside (loop n a b x) aside k c =
+      let l = afterContinuing (W .scope) (r n) x k in
+      within (aside + entries (k next)) (turning (W .scope) (r n) x (k next)) c >>= λ c′ _.
+      pointed (l next) (passInside b (aside + entries (k next)) l) c′ >>= λ d m.
       within (aside + entries (k next) + entries m) m d >>= λ d′ _.
-      pass a (aside + entries (k next) + entries m) (ofBody m k) d′ >>= λ e w. within aside w (point w (enter n (r n) w e))
-  pass (break n) aside k c = within aside (k broke) (point (k broke) (point (k next) c))
-  pass (continue n) aside k c = within aside (k continued) (point (k continued) (point (k next) c))
-  pass (return n v) aside k c =
-      let m = valued (W .scope) (W .asked) v (k returned) in
-      within aside m (point m (point (k next) c))
+      pointed (ofBody m k next) (passInside a (aside + entries (k next) + entries m) (ofBody m k)) d′ >>= λ e w. within aside w (enter n (r n) w e)
+  passInside (break n) aside k c = within aside (k broke) c
+  passInside (continue n) aside k c = within aside (k continued) c
+  passInside (return n v) aside k c = within aside (valued (W .scope) (W .asked) v (k returned)) c
   -- One that obeys its rule is not walked, and nothing is made. Else kept: the needs after it.
-  pass (unmarked n a) aside k c =
-      cond (obeys (W .scope) (k next) a) (on (point (k next) c) (k next))
-      (within (aside + entries (k next)) (k next) (point (k next) c) >>= λ c′ _.
-      pass a (aside + entries (k next)) k c′ >>= λ d m. let w = kept a (k next) m in within aside w (point w (blame n d)))
+  passInside (unmarked n a) aside k c =
+      cond (obeys (W .scope) (k next) a) (on c (k next))
+      (within (aside + entries (k next)) (k next) c >>= λ c′ _.
+      passInside a (aside + entries (k next)) k c′ >>= λ d m. within aside (kept a (k next) m) (blame n d))
+
+  -- a statement, with the points before and after it
+  unfoldable pub pass : Tree → ℕ → (Exit → PartReq) → Carried → Passed
+  pass a aside k = pointed (k next) (passInside a aside k)
 
 -- the lowest of a list and of what was known
 unfoldable pub lowestWith : List ℕ → Option ℕ → Option ℕ
