@@ -21,7 +21,7 @@ use Rattle.clearance.specs.Verdict.{Request, Report, clear, ending, sett
 use Rattle.clearance.specs.Rules.{StandsIn, itself, first, second, inAccept, inReject, inCase, inBody, inContinuing, inUnmarked, Obeys, Unbroken, Cleared}
 use Rattle.clearance.specs.Rules.{Leaves, byBreak, byContinue, byReturn, fromFirst, fromSecond, fromAccept, fromReject, caseContinues, caseReturns, bodyReturns, continuingContinues, continuingReturns, fromUnmarked}
 use Rattle.clearance.specs.IsNeed.{AscendingRequest, IsNeed}
-use Rattle.clearance.proofs.Small.{cases, both-true, neither, unbroken, each-at, concat-at}
+use Rattle.clearance.proofs.Small.{cases, both-true, both-are, neither, unbroken, each-at, each-from, concat-at}
 use Rattle.clearance.proofs.Cov.{cov-all, cov-none, cov-exist, cov-after, cov-here, cov-extend}
 use Rattle.clearance.proofs.Cleared.{Passed, clear-passed, passed-clear}
 use Rattle.clearance.proofs.Rounds.{start-need}
@@ -56,14 +56,6 @@ quiet-leaves S y a m e (bodyReturns h) q = quiet-leaves S returned _ m (ofBody t
 quiet-leaves S y a m e (continuingContinues {a = b} h) q = quiet-leaves S continued _ m (ofContinuing true e) h (both-true (quiet S m b (ofBody true e)) _ q .1)
 quiet-leaves S y a m e (continuingReturns {a = b} h) q = quiet-leaves S returned _ m (ofContinuing true e) h (both-true (quiet S m b (ofBody true e)) _ q .1)
 quiet-leaves S y a m e (fromUnmarked h) q = quiet-leaves S y _ m e h q
-
-both-are : (a b : Bool) → a ≡ true → b ≡ true → a && b ≡ true
-both-are a b h g = rw h g
-
-each-from : (n : ℕ) (f : ℕ → Bool) → ((i : ℕ) → i < n → f i ≡ true) → each n f ≡ true
-unfolding each
-each-from zero f h = refl
-each-from (suc n) f h = both-are _ _ (h n (omega arith)) (each-from n f (λ i l. h i (omega arith)))
 
 module _ (S : Scope) (m : PartReq) where
   abbrev Spared : Tree → Type 0

@@ -14,6 +14,7 @@ pub mod Faults
 pub mod Operators
 pub mod Agree
 pub mod Values
+pub mod Zero
 pub mod Acts
 pub mod Slots
 pub mod Main

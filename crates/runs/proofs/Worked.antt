@@ -29,7 +29,7 @@ use Rattle.clearance.specs.Judged.{fitsReturn, fitsStatement, atTop, inCase, in
 use Rattle.clearance.specs.Judged.{blamedStatement}
 use Rattle.clearance.specs.Verdict.{ending, startNeeds, faults, needsExpression, starts, verdict, pieces, atPoint, limited, answerBy, judge}
 use Rattle.clearance.specs.Verdict.{hasShape, clearance, Request, Report, clear, atStatement, atStart}
-use Rattle.clearance.specs.Run.{look, put, element, onward, partOf, picked, valueFrom, value, numberOf, valueOperand, composed, concatenated}
+use Rattle.clearance.specs.Run.{look, put, element, onward, partOf, picked, zeroIn, numberIn, valueFrom, value, isZero, numberOf, elementBy, valueOperand, composed, concatenated}
 use Rattle.clearance.specs.Run.{follow, place, loaded, evaluate, stored, perform, giveBack, then, endBy, turns, position, orElse, pick}
 use Rattle.clearance.specs.Run.{inPicked, passing, again, exec, keeps, begin, final, run, State, Mode, everything}
 use Rattle.clearance.specs.Run.{neededOnly}
@@ -134,7 +134,7 @@ runs mode fuel s = returns (run scope report (numberwise operate) mode fuel s)
 
 -- two turns suffice, one does not; both starts give 6 in both ways of running
 runs-end : (runs everything 1 start ≡ nothing) × (runs everything 2 start ≡ present 6) × (runs neededOnly 2 start ≡ present 6) × (runs everything 2 start′ ≡ present 6) × (runs neededOnly 2 start′ ≡ present 6)
-unfolding runs returns start start′ operate numberwise program function tie knot member extent shapeAt leaf inside cov below under keep trim hit members split alter takeOut begins after sum size inner memberTypes vectorShape elements unfoldType shapeOf kind bases isKind pairwise alikeInner alike fits slot typed typeOf innerOf argumentType resultShape slots kindShape frame isPath byPart anyVector optional armOf arm sourceOf source further stepFrom pathOf front indexes target markCount marksBefore marked markAt emits caseAt statement statementsFrom blockTree bodyTree askOperand askPicked askComponents askSteps asks gives needAt needFrom need needs overlap without storing giving before idle wholly upon outBreak outContinue ofCase ofContinuing ofBody each union concat through most quiet onlyNext obeys kept turning valued afterContinuing walk afterBody broken stable sweep around amid somewhere loops reentry joinAt round settle enough smallest every presently partType elementType pointeeType pointee same samePart isValue holdsIn holdsUnsized fitsIndex hasVectorSize componentCount countComponents fitsCompose fitsExpression judgedExpression fitsReturn fitsStatement atTop inCase inBody unless strays failing lower lowest blamedExpression blamedStatement ending startNeeds faults needsExpression starts verdict pieces atPoint limited answerBy judge hasShape clearance getSubpart has within contains merge onNone add entries width depth over look put element onward partOf picked valueFrom value numberOf valueOperand composed concatenated follow place loaded evaluate stored perform giveBack then endBy turns position orElse pick inPicked passing again exec keeps begin final run
+unfolding runs returns start start′ operate numberwise program function tie knot member extent shapeAt leaf inside cov below under keep trim hit members split alter takeOut begins after sum size inner memberTypes vectorShape elements unfoldType shapeOf kind bases isKind pairwise alikeInner alike fits slot typed typeOf innerOf argumentType resultShape slots kindShape frame isPath byPart anyVector optional armOf arm sourceOf source further stepFrom pathOf front indexes target markCount marksBefore marked markAt emits caseAt statement statementsFrom blockTree bodyTree askOperand askPicked askComponents askSteps asks gives needAt needFrom need needs overlap without storing giving before idle wholly upon outBreak outContinue ofCase ofContinuing ofBody each union concat through most quiet onlyNext obeys kept turning valued afterContinuing walk afterBody broken stable sweep around amid somewhere loops reentry joinAt round settle enough smallest every presently partType elementType pointeeType pointee same samePart isValue holdsIn holdsUnsized fitsIndex hasVectorSize componentCount countComponents fitsCompose fitsExpression judgedExpression fitsReturn fitsStatement atTop inCase inBody unless strays failing lower lowest blamedExpression blamedStatement ending startNeeds faults needsExpression starts verdict pieces atPoint limited answerBy judge hasShape clearance getSubpart has within contains merge onNone add entries width depth over look put element onward partOf picked zeroIn numberIn valueFrom value isZero numberOf elementBy valueOperand composed concatenated follow place loaded evaluate stored perform giveBack then endBy turns position orElse pick inPicked passing again exec keeps begin final run
 runs-end = (refl, refl, refl, refl, refl)
 
 -- and so they do however they run, by the claim
@@ -158,7 +158,7 @@ unmarkedRuns : Mode → State → Option ℕ
 unmarkedRuns mode s = returns (run scope unmarkedReport (numberwise operate) mode 2 s)
 
 mark-matters : (unmarkedRuns everything start ≡ present 6) × (unmarkedRuns neededOnly start ≡ present 0)
-unfolding unmarkedRuns returns start operate numberwise program function tie knot member extent shapeAt leaf inside cov below under keep trim hit members split alter takeOut begins after sum size inner memberTypes vectorShape elements unfoldType shapeOf kind bases isKind pairwise alikeInner alike fits slot typed typeOf innerOf argumentType resultShape slots kindShape frame isPath byPart anyVector optional armOf arm sourceOf source further stepFrom pathOf front indexes target markCount marksBefore marked markAt emits caseAt statement statementsFrom blockTree bodyTree askOperand askPicked askComponents askSteps asks gives needAt needFrom need needs overlap without storing giving before idle wholly upon outBreak outContinue ofCase ofContinuing ofBody each union concat through most quiet onlyNext obeys kept turning valued afterContinuing walk afterBody broken stable sweep around amid somewhere loops reentry joinAt round settle enough smallest every presently partType elementType pointeeType pointee same samePart isValue holdsIn holdsUnsized fitsIndex hasVectorSize componentCount countComponents fitsCompose fitsExpression judgedExpression fitsReturn fitsStatement atTop inCase inBody unless strays failing lower lowest blamedExpression blamedStatement ending startNeeds faults needsExpression starts verdict pieces atPoint limited answerBy judge hasShape clearance getSubpart has within contains merge onNone add entries width depth over look put element onward partOf picked valueFrom value numberOf valueOperand composed concatenated follow place loaded evaluate stored perform giveBack then endBy turns position orElse pick inPicked passing again exec keeps begin final run
+unfolding unmarkedRuns returns start operate numberwise program function tie knot member extent shapeAt leaf inside cov below under keep trim hit members split alter takeOut begins after sum size inner memberTypes vectorShape elements unfoldType shapeOf kind bases isKind pairwise alikeInner alike fits slot typed typeOf innerOf argumentType resultShape slots kindShape frame isPath byPart anyVector optional armOf arm sourceOf source further stepFrom pathOf front indexes target markCount marksBefore marked markAt emits caseAt statement statementsFrom blockTree bodyTree askOperand askPicked askComponents askSteps asks gives needAt needFrom need needs overlap without storing giving before idle wholly upon outBreak outContinue ofCase ofContinuing ofBody each union concat through most quiet onlyNext obeys kept turning valued afterContinuing walk afterBody broken stable sweep around amid somewhere loops reentry joinAt round settle enough smallest every presently partType elementType pointeeType pointee same samePart isValue holdsIn holdsUnsized fitsIndex hasVectorSize componentCount countComponents fitsCompose fitsExpression judgedExpression fitsReturn fitsStatement atTop inCase inBody unless strays failing lower lowest blamedExpression blamedStatement ending startNeeds faults needsExpression starts verdict pieces atPoint limited answerBy judge hasShape clearance getSubpart has within contains merge onNone add entries width depth over look put element onward partOf picked zeroIn numberIn valueFrom value isZero numberOf elementBy valueOperand composed concatenated follow place loaded evaluate stored perform giveBack then endBy turns position orElse pick inPicked passing again exec keeps begin final run
 mark-matters = (refl, refl)
 
 -- Without the vector in the context it is not clear, at the start; and a change that this context calls unneeded changes what is returned.
@@ -180,5 +180,5 @@ shorterRuns : State → Option ℕ
 shorterRuns s = returns (run scope shorterReport (numberwise operate) everything 2 s)
 
 entry-matters : (shorterRuns start ≡ present 6) × (shorterRuns start″ ≡ present 4)
-unfolding shorterRuns returns start start″ operate numberwise program function tie knot member extent shapeAt leaf inside cov below under keep trim hit members split alter takeOut begins after sum size inner memberTypes vectorShape elements unfoldType shapeOf kind bases isKind pairwise alikeInner alike fits slot typed typeOf innerOf argumentType resultShape slots kindShape frame isPath byPart anyVector optional armOf arm sourceOf source further stepFrom pathOf front indexes target markCount marksBefore marked markAt emits caseAt statement statementsFrom blockTree bodyTree askOperand askPicked askComponents askSteps asks gives needAt needFrom need needs overlap without storing giving before idle wholly upon outBreak outContinue ofCase ofContinuing ofBody each union concat through most quiet onlyNext obeys kept turning valued afterContinuing walk afterBody broken stable sweep around amid somewhere loops reentry joinAt round settle enough smallest every presently partType elementType pointeeType pointee same samePart isValue holdsIn holdsUnsized fitsIndex hasVectorSize componentCount countComponents fitsCompose fitsExpression judgedExpression fitsReturn fitsStatement atTop inCase inBody unless strays failing lower lowest blamedExpression blamedStatement ending startNeeds faults needsExpression starts verdict pieces atPoint limited answerBy judge hasShape clearance getSubpart has within contains merge onNone add entries width depth over look put element onward partOf picked valueFrom value numberOf valueOperand composed concatenated follow place loaded evaluate stored perform giveBack then endBy turns position orElse pick inPicked passing again exec keeps begin final run
+unfolding shorterRuns returns start start″ operate numberwise program function tie knot member extent shapeAt leaf inside cov below under keep trim hit members split alter takeOut begins after sum size inner memberTypes vectorShape elements unfoldType shapeOf kind bases isKind pairwise alikeInner alike fits slot typed typeOf innerOf argumentType resultShape slots kindShape frame isPath byPart anyVector optional armOf arm sourceOf source further stepFrom pathOf front indexes target markCount marksBefore marked markAt emits caseAt statement statementsFrom blockTree bodyTree askOperand askPicked askComponents askSteps asks gives needAt needFrom need needs overlap without storing giving before idle wholly upon outBreak outContinue ofCase ofContinuing ofBody each union concat through most quiet onlyNext obeys kept turning valued afterContinuing walk afterBody broken stable sweep around amid somewhere loops reentry joinAt round settle enough smallest every presently partType elementType pointeeType pointee same samePart isValue holdsIn holdsUnsized fitsIndex hasVectorSize componentCount countComponents fitsCompose fitsExpression judgedExpression fitsReturn fitsStatement atTop inCase inBody unless strays failing lower lowest blamedExpression blamedStatement ending startNeeds faults needsExpression starts verdict pieces atPoint limited answerBy judge hasShape clearance getSubpart has within contains merge onNone add entries width depth over look put element onward partOf picked zeroIn numberIn valueFrom value isZero numberOf elementBy valueOperand composed concatenated follow place loaded evaluate stored perform giveBack then endBy turns position orElse pick inPicked passing again exec keeps begin final run
 entry-matters = (refl, refl)
