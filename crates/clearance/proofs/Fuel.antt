@@ -67,7 +67,7 @@ module _ (S : Scope) (ops : Operators) (mode : Mode) (n : ℕ) where
   stays (break l) s = same
   stays (continue l) s = same
   stays (return l v) s = same
-  stays (unmarked l a) s = stays-passing mode _ _ _ (stays a s)
+  stays (unmarked l mark a) s = stays-passing mode _ _ _ (stays a s)
 
 stays-final : (r q : Outcome) (s : State) → Stays r q → final r ≡ some s → final q ≡ some s
 unfolding final

@@ -11,6 +11,7 @@ pub mod Rounds
 pub mod Exactly
 pub mod Lowest
 pub mod Faults
+pub mod Missing
 pub mod Operators
 pub mod Agree
 pub mod Values

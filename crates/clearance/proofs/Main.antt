@@ -18,7 +18,7 @@ use Rattle.clearance.specs.Shape.{leaf, cov, begins, after}
 use Rattle.clearance.specs.Scope.{Scope, Place, slot, result, frame}
 use Rattle.clearance.specs.Tree.{Tree, nop, seq, act, branch, switch, loop, break, continue, return, unmarked}
 use Rattle.clearance.specs.Needs.{ofValue, Exit, next, broke, continued, returned, upon, outBreak, outContinue, ofCase, ofContinuing, ofBody, union}
-use Rattle.clearance.specs.Needs.{quiet, onlyNext, obeys, turning, valued, afterContinuing, Setting, walk, afterBody, broken, stable}
+use Rattle.clearance.specs.Needs.{quiet, onlyNext, obeys, turning, valued, afterContinuing, Setting, walk, afterBody, lacking, broken, stable}
 use Rattle.clearance.proofs.Small.{both-true, neither, unbroken, each-at, concat-at}
 use Rattle.clearance.proofs.Cov.{cov-add-left, cov-add-right, cov-contains}
 use Rattle.clearance.specs.Run.{Value, State, Operators, look, put, zeroes, onward, isZero, numberOf, giveBack, Outcome, unended, ended, then, endBy, turns, position, orElse, pick, inPicked}
@@ -232,12 +232,12 @@ module _ (S : Scope) (ops : Operators) where
   frames n mode (break l) m e s i o h = held h (λ q c. refl)
   frames n mode (continue l) m e s i o h = held h (λ q c. refl)
   frames n mode (return l v) m e s i o h = never (sym o ∙ h)
-  frames n mode (unmarked l a) m e s i o h = passed (Held (Agree S m) e s) mode _ _ (frames n mode a m e s i o h) (held i (λ q c. refl))
+  frames n mode (unmarked l mark a) m e s i o h = passed (Held (Agree S m) e s) mode _ _ (frames n mode a m e s i o h) (held i (λ q c. refl))
 
-  frames-obey : (fuel : ℕ) (mode : Mode) (i : ℕ) (a : Tree) (m : PartReq) (s : State) → obeys S m a ≡ true →
-      Held (Agree S m) onlyNext s (exec S ops mode fuel (unmarked i a) s)
+  frames-obey : (fuel : ℕ) (mode : Mode) (i mark : ℕ) (a : Tree) (m : PartReq) (s : State) → obeys S m a ≡ true →
+      Held (Agree S m) onlyNext s (exec S ops mode fuel (unmarked i mark a) s)
   unfolding obeys quiet onlyNext
-  frames-obey fuel mode i a m s h = frames fuel mode (unmarked i a) m onlyNext s refl refl h
+  frames-obey fuel mode i mark a m s h = frames fuel mode (unmarked i mark a) m onlyNext s refl refl h
 
 -- The main lemma
 
@@ -335,7 +335,7 @@ module _ (W : Setting) (ops : Operators) (B : ByComponent (W .scope) ops) where
 
     pub main : (a : Tree) (k : Exit → PartReq) (s t : State) →
         broken W r a k ≡ [] → stable W r a k ≡ true → Agree S (walk W r a k) s t → Alike (After k) (exec S ops one m a s) (exec S ops other n a t)
-    unfolding broken stable walk exec afterBody afterContinuing After upon ofContinuing
+    unfolding lacking stable walk exec afterBody afterContinuing After upon ofContinuing
     main nop k s t b c g = ends {x = next} g
     main (seq a d) k s t b c g =
         let q = both-true _ _ c in
@@ -380,7 +380,7 @@ module _ (W : Setting) (ops : Operators) (B : ByComponent (W .scope) ops) where
     main (break l) k s t b c g = ends {x = broke} g
     main (continue l) k s t b c g = ends {x = continued} g
     main (return l v) k s t b c g = ends {x = returned} (valued-returns s t v (k returned) g)
-    main (unmarked i a) k s t b c g =
+    main (unmarked i mark a) k s t b c g =
         let q = unbroken (obeys S (k next) a) i _ b in
         alike-held k s t _ _ (rw q at g)
-        (frames-obey S ops m one i a (k next) s q) (frames-obey S ops n other i a (k next) t q)
+        (frames-obey S ops m one i mark a (k next) s q) (frames-obey S ops n other i mark a (k next) t q)

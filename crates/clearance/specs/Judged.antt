@@ -243,7 +243,7 @@ strays (loop n a b c) e = strays a (inBody e) ++ strays b onlyNext
 strays (break n) e = unless (e broke) n
 strays (continue n) e = unless (e continued) n
 strays (return n v) e = unless (e returned) n
-strays (unmarked n a) e = strays a e
+strays (unmarked n mark a) e = strays a e
 
 -- the numbers, from n on, of what fails a test
 unfoldable pub failing : {A : Type 0} → (ℕ → A → Bool) → ℕ → List A → List ℕ

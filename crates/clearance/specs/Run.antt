@@ -220,7 +220,7 @@ module _ (S : Scope) (ops : Operators) (mode : Mode) (fuel : ℕ) where
   exec (break n) s = ended broke s
   exec (continue n) s = ended continued s
   exec (return n v) s = ended returned (giveBack S ops s v)
-  exec (unmarked n a) s = passing mode (exec a s) (ended next s)
+  exec (unmarked n mark a) s = passing mode (exec a s) (ended next s)
 
 -- Evaluated expressions are zero at first.
 unfoldable pub keeps : Place → Bool

@@ -70,7 +70,7 @@ module _ (W : Setting) (r : ℕ → PartReq) where
   inside-fits (break n) aside k c h = fits-within aside _ _
   inside-fits (continue n) aside k c h = fits-within aside _ _
   inside-fits (return n v) aside k c h = fits-within aside _ _
-  inside-fits (unmarked n a) aside k c h =
+  inside-fits (unmarked n mark a) aside k c h =
       fits-cond aside (obeys (W .scope) (k next) a) _ _ (fits-on aside (k next) c h)
       (fits-then aside (within (aside + entries (k next)) (k next) c) _
       (λ c′ _ _. fits-then aside (passInside W r a (aside + entries (k next)) k c′) _ (λ _ _ _. fits-within aside _ _)))

@@ -80,8 +80,8 @@ module _ (W : Setting) (r : ℕ → PartReq) where
   inside-says (break n) aside k c = says-carried (inner-break W r n k c) (says-within aside _ _)
   inside-says (continue n) aside k c = says-carried (inner-continue W r n k c) (says-within aside _ _)
   inside-says (return n v) aside k c = says-carried (inner-return W r n v k c) (says-within aside _ _)
-  inside-says (unmarked n a) aside k c =
-      says-carried (inner-unmarked W r n a k c)
+  inside-says (unmarked n mark a) aside k c =
+      says-carried (inner-unmarked W r n mark a k c)
       (says-cond (obeys (W .scope) (k next) a) (inr refl)
       (says-then _ (says-within _ (k next) c) (says-then _ (inside-says a _ k _) (says-within aside _ _))))
 

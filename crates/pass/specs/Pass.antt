@@ -108,7 +108,7 @@ module _ (W : Setting) (r : ℕ → PartReq) where
   passInside (continue n) aside k c = within aside (k continued) c
   passInside (return n v) aside k c = within aside (valued (W .scope) (W .asked) v (k returned)) c
   -- One that obeys its rule is not walked, and nothing is made. Else kept: the needs after it.
-  passInside (unmarked n a) aside k c =
+  passInside (unmarked n mark a) aside k c =
       cond (obeys (W .scope) (k next) a) (on c (k next))
       (within (aside + entries (k next)) (k next) c >>= λ c′ _.
       passInside a (aside + entries (k next)) k c′ >>= λ d m. within aside (kept a (k next) m) (blame n d))

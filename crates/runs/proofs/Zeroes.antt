@@ -13,7 +13,7 @@ use Rattle.clearance.specs.Shape.{member, extent, shapeAt, leaf, begins, after}
 use Rattle.clearance.specs.Scope.{inner, memberTypes, vectorShape, elements, unfoldType, shapeOf, kind, bases, isKind, pairwise, alikeInner, alike, slot, typed, typeOf, innerOf}
 use Rattle.clearance.specs.Scope.{argumentType, resultShape, slots, kindShape, frame, isPath, byPart, anyVector, optional, armOf, arm, sourceOf, source, further, stepFrom, pathOf}
 use Rattle.clearance.specs.Scope.{argument, result, local}
-use Rattle.clearance.specs.Tree.{marked, markAt, emits, caseAt, statement, statementsFrom, blockTree, bodyTree}
+use Rattle.clearance.specs.Tree.{marked, markAt, byMark, emits, caseAt, statement, statementsFrom, blockTree, bodyTree}
 use Rattle.clearance.specs.Needs.{gives, outBreak, outContinue, each}
 use Rattle.clearance.specs.Run.{look, put, element, onward, partOf, picked, zeroIn, numberIn, valueFrom, value, isZero, numberOf, elementBy, valueOperand, composed, concatenated}
 use Rattle.clearance.specs.Run.{follow, place, loaded, evaluate, stored, perform, giveBack, then, endBy, turns, position, orElse, pick}
@@ -91,5 +91,5 @@ answers =
 examples :
     answers
     ≡ present 1 ∷ present 1 ∷ present 1 ∷ present 2 ∷ present 2 ∷ present 1 ∷ present 0 ∷ present 6 ∷ present 0 ∷ present 3 ∷ present 3 ∷ present 2 ∷ []
-unfolding answers on-vector switched indexed stored-by returned returns start function program tie knot member extent shapeAt leaf begins after inner memberTypes vectorShape elements unfoldType shapeOf kind bases isKind pairwise alikeInner alike slot typed typeOf innerOf argumentType resultShape slots kindShape frame isPath byPart anyVector optional armOf arm sourceOf source further stepFrom pathOf markCount marksBefore marked markAt emits caseAt statement statementsFrom blockTree bodyTree gives outBreak outContinue each look put element onward partOf picked zeroIn numberIn valueFrom value isZero numberOf elementBy valueOperand composed concatenated follow place loaded evaluate stored perform giveBack then endBy turns position orElse pick inPicked passing again exec keeps begin final run numberwise
+unfolding answers on-vector switched indexed stored-by returned returns start function program tie knot member extent shapeAt leaf begins after inner memberTypes vectorShape elements unfoldType shapeOf kind bases isKind pairwise alikeInner alike slot typed typeOf innerOf argumentType resultShape slots kindShape frame isPath byPart anyVector optional armOf arm sourceOf source further stepFrom pathOf markCount marksBefore marked markAt byMark emits caseAt statement statementsFrom blockTree bodyTree gives outBreak outContinue each look put element onward partOf picked zeroIn numberIn valueFrom value isZero numberOf elementBy valueOperand composed concatenated follow place loaded evaluate stored perform giveBack then endBy turns position orElse pick inPicked passing again exec keeps begin final run numberwise
 examples = refl
