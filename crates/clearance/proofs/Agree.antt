@@ -1,16 +1,16 @@
 -- Two states agree on needs: what that says of the values that are asked for. Everything rests on paths that a need covers.
 use Prim.Native.Nat.{ℕ}
-use mathlib.Core.Path.{_≡_, refl, _∙_, fun-ext}
+use mathlib.Core.Path.{_≡_, refl, ap, _∙_, fun-ext}
 use mathlib.Core.Bool.{true}
 use mathlib.Core.List.{List, [], _∷_, _++_}
 use Rattle.part.specs.PartReq.{PartReq}
 use Rattle.module.specs.Module.{ExpressionHandle}
 use Rattle.clearance.specs.Shape.{leaf, cov, under}
-use Rattle.clearance.specs.Scope.{Scope, Place, frame, Source, given, from, source}
+use Rattle.clearance.specs.Scope.{Scope, Place, shapeOf, typeOf, frame, Source, given, from, source}
 use Rattle.clearance.specs.Needs.{Ask, ofValue, ofPlace, askWhole, needAt, needFrom, need, needs, wholly}
 use Rattle.clearance.proofs.Small.{cases}
 use Rattle.clearance.proofs.Cov.{cov-all, cov-under, cov-add-left, cov-add-right, cov-trim, within-leaf}
-use Rattle.clearance.specs.Run.{State, Operators, look, valueFrom, value, numberOf}
+use Rattle.clearance.specs.Run.{State, Operators, look, zeroIn, numberIn, valueFrom, value, isZero, numberOf}
 
 module _ (S : Scope) where
   -- two states have the same wherever the need covers
@@ -83,6 +83,14 @@ module _ (S : Scope) where
     unfolding wholly
     wholly-rest e n g = needs-rest (askWhole e ∷ []) n g
 
+    wholly-value : (e : ExpressionHandle) (n : PartReq) → Agree (wholly S e n) s u → value S ops s e ≡ value S ops u e
+    unfolding wholly AllMet
+    wholly-value e n g = met-whole e (needs-met (askWhole e ∷ []) n g .0)
+
+    pub wholly-zero : (e : ExpressionHandle) (n : PartReq) → Agree (wholly S e n) s u → isZero S ops s e ≡ isZero S ops u e
+    unfolding isZero
+    wholly-zero e n g = ap (zeroIn (shapeOf S (typeOf S e))) (wholly-value e n g)
+
     pub wholly-number : (e : ExpressionHandle) (n : PartReq) → Agree (wholly S e n) s u → numberOf S ops s e ≡ numberOf S ops u e
-    unfolding wholly numberOf AllMet
-    wholly-number e n g = needs-met (askWhole e ∷ []) n g .0 [] (cov-all [])
+    unfolding numberOf
+    wholly-number e n g = ap (numberIn (shapeOf S (typeOf S e))) (wholly-value e n g)

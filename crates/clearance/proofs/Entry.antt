@@ -26,7 +26,7 @@ module _ (W : Setting) (r : ℕ → PartReq) where
   entry (break n) k j m = m
   entry (continue n) k j m = m
   entry (return n v) k j m = m
-  entry (unmarked n a) k j m = cond (obeys (W .scope) (k next) a) m (entry a k j m)
+  entry (unmarked n mark a) k j m = cond (obeys (W .scope) (k next) a) m (entry a k j m)
 
 eqb-suc : (n j : ℕ) → eqb (suc n) (suc j) ≡ eqb n j
 eqb-suc n j =
@@ -72,7 +72,7 @@ module _ (W : Setting) (r : ℕ → PartReq) where
   sweep-at (break n) k j t = refl
   sweep-at (continue n) k j t = refl
   sweep-at (return n v) k j t = refl
-  sweep-at (unmarked n a) k j t = cond-at (obeys (W .scope) (k next) a) _ _ j ∙ ap (cond (obeys (W .scope) (k next) a) (reentry t j)) (sweep-at a k j t)
+  sweep-at (unmarked n mark a) k j t = cond-at (obeys (W .scope) (k next) a) _ _ j ∙ ap (cond (obeys (W .scope) (k next) a) (reentry t j)) (sweep-at a k j t)
 
 pub round-at : (W : Setting) (a : Tree) (k : Exit → PartReq) (t : Table) (j : ℕ) → reentry (round W a k t) j ≡ entry W (reentry t) a k j (reentry t j)
 unfolding round

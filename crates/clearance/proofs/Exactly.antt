@@ -16,12 +16,12 @@ use Rattle.clearance.specs.Shape.{Shape, struct, member, inside, cov, be
 use Rattle.clearance.specs.Scope.{Scope, slot, evaluated, variable, slots, kindShape, frame}
 use Rattle.clearance.specs.Tree.{Act, Tree, nop, seq, act, branch, switch, loop, break, continue, return, unmarked}
 use Rattle.clearance.specs.Needs.{overlap, idle, Exit, next, broke, continued, returned, upon, outBreak, outContinue, ofCase, ofContinuing, ofBody, each, concat, quiet, onlyNext, obeys}
-use Rattle.clearance.specs.Needs.{Setting, broken, Table, reentry}
+use Rattle.clearance.specs.Needs.{byStatement, Setting, lacking, Table, reentry}
 use Rattle.clearance.specs.Verdict.{Request, Report, clear, ending, setting, body, startNeeds, faults, needsExpression, starts, clearance}
 use Rattle.clearance.specs.Rules.{StandsIn, itself, first, second, inAccept, inReject, inCase, inBody, inContinuing, inUnmarked, Obeys, Unbroken, Cleared}
 use Rattle.clearance.specs.Rules.{Leaves, byBreak, byContinue, byReturn, fromFirst, fromSecond, fromAccept, fromReject, caseContinues, caseReturns, bodyReturns, continuingContinues, continuingReturns, fromUnmarked}
 use Rattle.clearance.specs.IsNeed.{AscendingRequest, IsNeed}
-use Rattle.clearance.proofs.Small.{cases, both-true, neither, unbroken, each-at, concat-at}
+use Rattle.clearance.proofs.Small.{cases, both-true, both-are, neither, unbroken, each-at, each-from, concat-at}
 use Rattle.clearance.proofs.Cov.{cov-all, cov-none, cov-exist, cov-after, cov-here, cov-extend}
 use Rattle.clearance.proofs.Cleared.{Passed, clear-passed, passed-clear}
 use Rattle.clearance.proofs.Rounds.{start-need}
@@ -56,14 +56,6 @@ quiet-leaves S y a m e (bodyReturns h) q = quiet-leaves S returned _ m (ofBody t
 quiet-leaves S y a m e (continuingContinues {a = b} h) q = quiet-leaves S continued _ m (ofContinuing true e) h (both-true (quiet S m b (ofBody true e)) _ q .1)
 quiet-leaves S y a m e (continuingReturns {a = b} h) q = quiet-leaves S returned _ m (ofContinuing true e) h (both-true (quiet S m b (ofBody true e)) _ q .1)
 quiet-leaves S y a m e (fromUnmarked h) q = quiet-leaves S y _ m e h q
-
-both-are : (a b : Bool) → a ≡ true → b ≡ true → a && b ≡ true
-both-are a b h g = rw h g
-
-each-from : (n : ℕ) (f : ℕ → Bool) → ((i : ℕ) → i < n → f i ≡ true) → each n f ≡ true
-unfolding each
-each-from zero f h = refl
-each-from (suc n) f h = both-are _ _ (h n (omega arith)) (each-from n f (λ i l. h i (omega arith)))
 
 module _ (S : Scope) (m : PartReq) where
   abbrev Spared : Tree → Type 0
@@ -109,7 +101,7 @@ module _ (S : Scope) (m : PartReq) where
   quiet-from (break n) e z h g = g broke byBreak
   quiet-from (continue n) e z h g = g continued byContinue
   quiet-from (return n v) e z h g = g returned byReturn
-  quiet-from (unmarked n a) e z h g = quiet-from a e z (λ x i. h x (inUnmarked i)) (λ y i. g y (fromUnmarked i))
+  quiet-from (unmarked n mark a) e z h g = quiet-from a e z (λ x i. h x (inUnmarked i)) (λ y i. g y (fromUnmarked i))
 
   -- a statement is never left at its end by a break, continue or return
   no-next : (y : Exit) (a : Tree) → Leaves y a → onlyNext y ≡ false
@@ -151,22 +143,22 @@ unfolding concat
 concat-from zero f h = refl
 concat-from (suc n) f h = nothing-of (f n) _ (h n (omega arith)) (concat-from n f (λ i l. h i (omega arith)))
 
-module _ (W : Setting) (r : ℕ → PartReq) where
-  unbroken-of : (a : Tree) (k : Exit → PartReq) → broken W r a k ≡ [] → Unbroken W r a k
-  unfolding broken
+module _ (W : Setting) (r : ℕ → PartReq) (name : ℕ → ℕ → ℕ) where
+  unbroken-of : (a : Tree) (k : Exit → PartReq) → lacking W r name a k ≡ [] → Unbroken W r a k
+  unfolding lacking
   unbroken-of nop k h = tt
   unbroken-of (seq a b) k h = let z = neither _ _ h in (unbroken-of a _ (z .0), unbroken-of b k (z .1))
   unbroken-of (act x) k h = tt
   unbroken-of (branch c a b) k h = let z = neither _ _ h in (unbroken-of a k (z .0), unbroken-of b k (z .1))
-  unbroken-of (switch c vs f) k h = λ i l. unbroken-of (f i) (ofCase k) (concat-at (length vs) (λ i. broken W r (f i) (ofCase k)) h i l)
+  unbroken-of (switch c vs f) k h = λ i l. unbroken-of (f i) (ofCase k) (concat-at (length vs) (λ i. lacking W r name (f i) (ofCase k)) h i l)
   unbroken-of (loop n a b c) k h = let z = neither _ _ h in (unbroken-of a _ (z .0), unbroken-of b _ (z .1))
   unbroken-of (break n) k h = tt
   unbroken-of (continue n) k h = tt
   unbroken-of (return n v) k h = tt
-  unbroken-of (unmarked n a) k h = obeys-exactly (W .scope) (k next) a .0 (unbroken _ n _ h)
+  unbroken-of (unmarked n mark a) k h = obeys-exactly (W .scope) (k next) a .0 (unbroken _ (name n mark) _ h)
 
-  broken-none : (a : Tree) (k : Exit → PartReq) → Unbroken W r a k → broken W r a k ≡ []
-  unfolding broken
+  broken-none : (a : Tree) (k : Exit → PartReq) → Unbroken W r a k → lacking W r name a k ≡ []
+  unfolding lacking
   broken-none nop k h = refl
   broken-none (seq a b) k h = nothing-of _ _ (broken-none a _ (h .0)) (broken-none b k (h .1))
   broken-none (act x) k h = refl
@@ -176,9 +168,9 @@ module _ (W : Setting) (r : ℕ → PartReq) where
   broken-none (break n) k h = refl
   broken-none (continue n) k h = refl
   broken-none (return n v) k h = refl
-  broken-none (unmarked n a) k h = rw (obeys-exactly (W .scope) (k next) a .1 h)
+  broken-none (unmarked n mark a) k h = rw (obeys-exactly (W .scope) (k next) a .1 h)
 
-  pub broken-exactly : (a : Tree) (k : Exit → PartReq) → (broken W r a k ≡ []) ↔ Unbroken W r a k
+  pub broken-exactly : (a : Tree) (k : Exit → PartReq) → (lacking W r name a k ≡ []) ↔ Unbroken W r a k
   broken-exactly a k = (unbroken-of a k, broken-none a k)
 
 -- The start
@@ -283,7 +275,7 @@ module _ (S : Scope) (R : Request) (P : Report) (o : AscendingRequest R) where
         settled = C .settled;
         shallow = C .shallow;
         few = C .few;
-        rules = broken-exactly (setting S R) (reentry t) (body S P) (ending S R) .0 (C .rules);
+        rules = broken-exactly (setting S R) (reentry t) byStatement (body S P) (ending S R) .0 (C .rules);
         evaluations = evaluations-none (startNeeds S R P t) (not-true _ (y .0));
         globals = z .0;
         args = z .1;
@@ -295,7 +287,7 @@ module _ (S : Scope) (R : Request) (P : Report) (o : AscendingRequest R) where
 
   faults-of : (t : Table) → Cleared S R P t → faults S R P t ≡ []
   unfolding faults
-  faults-of t C = broken-exactly (setting S R) (reentry t) (body S P) (ending S R) .1 (C .rules)
+  faults-of t C = broken-exactly (setting S R) (reentry t) byStatement (body S P) (ending S R) .1 (C .rules)
 
   passed-of : (t : Table) → Cleared S R P t → Passed S R P t
   passed-of t C = record {

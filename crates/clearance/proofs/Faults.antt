@@ -1,4 +1,4 @@
--- The faults of the walk are exactly the statements that break their rule.
+-- The faults of the walk are exactly the statements that break their rule, and the missing marks those whose lack breaks one.
 use Prim.Native.Nat.{ℕ, zero, suc, _<_}
 use native.Mathlib.Omega.{arith}
 use native.Mathlib.Decide.{decLt}
@@ -10,7 +10,7 @@ use lib.ListN.{length}
 use Rattle.part.specs.PartReq.{PartReq}
 use Rattle.part.proofs.Equations.{never}
 use Rattle.clearance.specs.Tree.{Tree, nop, seq, act, branch, switch, loop, break, continue, return, unmarked}
-use Rattle.clearance.specs.Needs.{Exit, next, upon, ofCase, concat, obeys, Setting, walk, afterBody, broken}
+use Rattle.clearance.specs.Needs.{Exit, next, upon, ofCase, concat, obeys, byStatement, byPosition, Setting, walk, afterBody, lacking, broken, missing}
 use Rattle.clearance.specs.Rules.{Obeys, Breaks, breaksFirst, breaksSecond, breaksAccept, breaksReject, breaksCase, breaksBody, breaksContinuing, breaksItself, breaksInside, Member, here, later}
 use Rattle.clearance.proofs.Small.{cases}
 use Rattle.clearance.proofs.Exactly.{obeys-exactly}
@@ -48,43 +48,50 @@ of-concat n (suc k) f h =
 
 -- The walk
 
-module _ (W : Setting) (r : ℕ → PartReq) (n : ℕ) where
-  breaks-rule : (m : ℕ) (a : Tree) (k : Exit → PartReq) (q : Bool) → obeys (W .scope) (k next) a ≡ q → (Member n (broken W r a k) → Breaks W r n a k) →
-      Member n (cond q [] (m ∷ broken W r a k)) → Breaks W r n (unmarked m a) k
-  breaks-rule m a k true e f h = no-member n [] refl h
-  breaks-rule m a k false e f h =
+module _ (W : Setting) (r : ℕ → PartReq) (name : ℕ → ℕ → ℕ) (n : ℕ) where
+  breaks-rule : (m mark : ℕ) (a : Tree) (k : Exit → PartReq) (q : Bool) → obeys (W .scope) (k next) a ≡ q → (Member n (lacking W r name a k) → Breaks W r name n a k) →
+      Member n (cond q [] (name m mark ∷ lacking W r name a k)) → Breaks W r name n (unmarked m mark a) k
+  breaks-rule m mark a k true e f h = no-member n [] refl h
+  breaks-rule m mark a k false e f h =
       let o : Obeys (W .scope) (k next) a → ⊥ = λ z. never (sym e ∙ obeys-exactly (W .scope) (k next) a .1 z) in
-      first-or-later m n (broken W r a k) h (λ z. subst (λ l. Breaks W r n (unmarked l a) k) z (breaksItself o)) (λ z. breaksInside o (f z))
+      first-or-later (name m mark) n (lacking W r name a k) h (λ z. breaksItself z o) (λ z. breaksInside o (f z))
 
-  breaks-of : (a : Tree) (k : Exit → PartReq) → Member n (broken W r a k) → Breaks W r n a k
-  unfolding broken
+  breaks-of : (a : Tree) (k : Exit → PartReq) → Member n (lacking W r name a k) → Breaks W r name n a k
+  unfolding lacking
   breaks-of nop k h = no-member n [] refl h
-  breaks-of (seq a b) k h = either-list n _ (broken W r b k) h (λ m. breaksFirst (breaks-of a _ m)) (λ m. breaksSecond (breaks-of b k m))
+  breaks-of (seq a b) k h = either-list n _ (lacking W r name b k) h (λ m. breaksFirst (breaks-of a _ m)) (λ m. breaksSecond (breaks-of b k m))
   breaks-of (act x) k h = no-member n [] refl h
-  breaks-of (branch c a b) k h = either-list n (broken W r a k) _ h (λ m. breaksAccept (breaks-of a k m)) (λ m. breaksReject (breaks-of b k m))
+  breaks-of (branch c a b) k h = either-list n (lacking W r name a k) _ h (λ m. breaksAccept (breaks-of a k m)) (λ m. breaksReject (breaks-of b k m))
   breaks-of (switch c vs f) k h =
-      let z = of-concat n (length vs) (λ i. broken W r (f i) (ofCase k)) h in
+      let z = of-concat n (length vs) (λ i. lacking W r name (f i) (ofCase k)) h in
       breaksCase (z .0) (z .1) (breaks-of (f (z .0)) (ofCase k) (z .2))
-  breaks-of (loop m a b c) k h = either-list n _ (broken W r b _) h (λ i. breaksBody (breaks-of a _ i)) (λ i. breaksContinuing (breaks-of b _ i))
+  breaks-of (loop m a b c) k h = either-list n _ (lacking W r name b _) h (λ i. breaksBody (breaks-of a _ i)) (λ i. breaksContinuing (breaks-of b _ i))
   breaks-of (break m) k h = no-member n [] refl h
   breaks-of (continue m) k h = no-member n [] refl h
   breaks-of (return m v) k h = no-member n [] refl h
-  breaks-of (unmarked m a) k h = breaks-rule m a k (obeys (W .scope) (k next) a) refl (breaks-of a k) h
+  breaks-of (unmarked m mark a) k h = breaks-rule m mark a k (obeys (W .scope) (k next) a) refl (breaks-of a k) h
 
   disobeys : (a : Tree) (k : Exit → PartReq) → (Obeys (W .scope) (k next) a → ⊥) → obeys (W .scope) (k next) a ≡ false
   disobeys a k o = cases (obeys (W .scope) (k next) a) (λ e. absurd (o (obeys-exactly (W .scope) (k next) a .0 e))) (λ e. e)
 
-  broken-of : (a : Tree) (k : Exit → PartReq) → Breaks W r n a k → Member n (broken W r a k)
-  unfolding broken
+  broken-of : (a : Tree) (k : Exit → PartReq) → Breaks W r name n a k → Member n (lacking W r name a k)
+  unfolding lacking
   broken-of a k (breaksFirst h) = in-left n _ _ (broken-of _ _ h)
-  broken-of a k (breaksSecond {a = x} {b = y} h) = in-right n (broken W r x (upon (walk W r y k) k)) _ (broken-of _ k h)
+  broken-of a k (breaksSecond {a = x} {b = y} h) = in-right n (lacking W r name x (upon (walk W r y k) k)) _ (broken-of _ k h)
   broken-of a k (breaksAccept h) = in-left n _ _ (broken-of _ k h)
-  broken-of a k (breaksReject {a = x} h) = in-right n (broken W r x k) _ (broken-of _ k h)
-  broken-of a k (breaksCase {vs = vs} {f = f} i l h) = in-concat n (length vs) (λ i. broken W r (f i) (ofCase k)) i l (broken-of _ _ h)
+  broken-of a k (breaksReject {a = x} h) = in-right n (lacking W r name x k) _ (broken-of _ k h)
+  broken-of a k (breaksCase {vs = vs} {f = f} i l h) = in-concat n (length vs) (λ i. lacking W r name (f i) (ofCase k)) i l (broken-of _ _ h)
   broken-of a k (breaksBody h) = in-left n _ _ (broken-of _ _ h)
-  broken-of a k (breaksContinuing {m = m} {a = x} {b = y} {c = c} h) = in-right n (broken W r x (afterBody W r m y c k)) _ (broken-of _ _ h)
-  broken-of a k (breaksItself {a = x} o) = rw (disobeys x k o) here
+  broken-of a k (breaksContinuing {m = m} {a = x} {b = y} {c = c} h) = in-right n (lacking W r name x (afterBody W r m y c k)) _ (broken-of _ _ h)
+  broken-of a k (breaksItself {a = x} e o) = rw (disobeys x k o) (subst (λ y. Member n (y ∷ lacking W r name x k)) e here)
   broken-of a k (breaksInside {a = x} o h) = rw (disobeys x k o) (later (broken-of _ k h))
 
-  pub faults-exactly : (a : Tree) (k : Exit → PartReq) → Member n (broken W r a k) ↔ Breaks W r n a k
-  faults-exactly a k = (breaks-of a k, broken-of a k)
+  lacking-exactly : (a : Tree) (k : Exit → PartReq) → Member n (lacking W r name a k) ↔ Breaks W r name n a k
+  lacking-exactly a k = (breaks-of a k, broken-of a k)
+
+module _ (W : Setting) (r : ℕ → PartReq) (n : ℕ) where
+  pub faults-exactly : (a : Tree) (k : Exit → PartReq) → Member n (broken W r a k) ↔ Breaks W r byStatement n a k
+  faults-exactly = lacking-exactly W r byStatement n
+
+  pub missing-exactly : (a : Tree) (k : Exit → PartReq) → Member n (missing W r a k) ↔ Breaks W r byPosition n a k
+  missing-exactly = lacking-exactly W r byPosition n

@@ -4,13 +4,12 @@ use native.Mathlib.Omega.{arith}
 use mathlib.Core.Path.{_≡_}
 use mathlib.Core.Bool.{Bool, true, false, cond}
 use mathlib.Core.Option.{Option, some, none as nothing}
-use lib.Dec.{eqb}
 use Rattle.module.specs.Module.{ExpressionHandle}
 use Rattle.clearance.specs.Scope.{Scope}
 use Rattle.clearance.specs.Tree.{Tree, nop, seq, act, branch, switch, loop, break, continue, return, unmarked}
 use Rattle.clearance.specs.Needs.{Exit, next, broke, continued, returned, outBreak, outContinue}
 use Rattle.clearance.specs.Verdict.{Report, body}
-use Rattle.clearance.specs.Run.{State, Operators, numberOf, Outcome, unended, ended, then, endBy, turns, pick, inPicked, Mode, everything, neededOnly, passing, again, exec, begin, final, run}
+use Rattle.clearance.specs.Run.{State, Operators, isZero, numberOf, Outcome, unended, ended, then, endBy, turns, pick, inPicked, Mode, everything, neededOnly, passing, again, exec, begin, final, run}
 
 data Stays : Outcome → Outcome → Type 0 where
   open′ : {q : Outcome} → Stays unended q
@@ -60,7 +59,7 @@ module _ (S : Scope) (ops : Operators) (mode : Mode) (n : ℕ) where
   stays nop s = same
   stays (seq a b) s = stays-then _ _ _ _ (stays a s) (λ t. stays b t)
   stays (act x) s = same
-  stays (branch c a b) s = stays-cond (eqb (numberOf S ops s c) 0) _ _ _ _ (stays b s) (stays a s)
+  stays (branch c a b) s = stays-cond (isZero S ops s c) _ _ _ _ (stays b s) (stays a s)
   stays (switch c vs f) s = stays-end outBreak _ _ (stays-picked (pick vs (numberOf S ops s c)) _ _ (λ i. stays (f i) s))
   stays (loop l a b c) s =
       stays-end outBreak _ _
@@ -68,7 +67,7 @@ module _ (S : Scope) (ops : Operators) (mode : Mode) (n : ℕ) where
   stays (break l) s = same
   stays (continue l) s = same
   stays (return l v) s = same
-  stays (unmarked l a) s = stays-passing mode _ _ _ (stays a s)
+  stays (unmarked l mark a) s = stays-passing mode _ _ _ (stays a s)
 
 stays-final : (r q : Outcome) (s : State) → Stays r q → final r ≡ some s → final q ≡ some s
 unfolding final

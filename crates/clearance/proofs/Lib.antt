@@ -11,9 +11,11 @@ pub mod Rounds
 pub mod Exactly
 pub mod Lowest
 pub mod Faults
+pub mod Missing
 pub mod Operators
 pub mod Agree
 pub mod Values
+pub mod Zero
 pub mod Acts
 pub mod Slots
 pub mod Main

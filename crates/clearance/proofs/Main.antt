@@ -18,13 +18,13 @@ use Rattle.clearance.specs.Shape.{leaf, cov, begins, after}
 use Rattle.clearance.specs.Scope.{Scope, Place, slot, result, frame}
 use Rattle.clearance.specs.Tree.{Tree, nop, seq, act, branch, switch, loop, break, continue, return, unmarked}
 use Rattle.clearance.specs.Needs.{ofValue, Exit, next, broke, continued, returned, upon, outBreak, outContinue, ofCase, ofContinuing, ofBody, union}
-use Rattle.clearance.specs.Needs.{quiet, onlyNext, obeys, turning, valued, afterContinuing, Setting, walk, afterBody, broken, stable}
+use Rattle.clearance.specs.Needs.{quiet, onlyNext, obeys, turning, valued, afterContinuing, Setting, walk, afterBody, lacking, broken, stable}
 use Rattle.clearance.proofs.Small.{both-true, neither, unbroken, each-at, concat-at}
 use Rattle.clearance.proofs.Cov.{cov-add-left, cov-add-right, cov-contains}
-use Rattle.clearance.specs.Run.{Value, State, Operators, look, put, zeroes, onward, numberOf, giveBack, Outcome, unended, ended, then, endBy, turns, position, orElse, pick, inPicked}
+use Rattle.clearance.specs.Run.{Value, State, Operators, look, put, zeroes, onward, isZero, numberOf, giveBack, Outcome, unended, ended, then, endBy, turns, position, orElse, pick, inPicked}
 use Rattle.clearance.specs.Run.{Mode, everything, neededOnly, passing, again, exec}
 use Rattle.clearance.specs.Claim.{ByComponent}
-use Rattle.clearance.proofs.Agree.{Agree, look-leaf, look-by, AllMet, needs-rest, needs-met, wholly-rest, wholly-number}
+use Rattle.clearance.proofs.Agree.{Agree, look-leaf, look-by, AllMet, needs-rest, needs-met, wholly-rest, wholly-zero, wholly-number}
 use Rattle.clearance.proofs.Acts.{put-off, perform-before, perform-idle}
 
 -- Small things
@@ -67,9 +67,14 @@ unfolding orElse
 else-within n nothing y h g = g
 else-within n (present i) y h g = h
 
-pick-within : (xs : List ℕ) (v : ℕ) → Within (length xs) (pick xs v)
+option-within : (xs : List ℕ) (o : Option ℕ) → Within (length xs) (onward o (λ v. position v xs))
+unfolding Within onward
+option-within xs nothing = tt
+option-within xs (present v) = position-within v xs
+
+pick-within : (xs : List ℕ) (o : Option ℕ) → Within (length xs) (pick xs o)
 unfolding pick
-pick-within xs v = else-within _ _ _ (position-within v xs) (position-within absent xs)
+pick-within xs o = else-within _ _ _ (option-within xs o) (position-within absent xs)
 
 -- Ends
 
@@ -166,7 +171,7 @@ module _ (S : Scope) (ops : Operators) where
   unfolding again ofContinuing upon ofCase outBreak
   held-again mode fuel m e i nothing s = held refl (λ q c. refl)
   held-again mode fuel m e i (present c) s =
-      either (Held (Agree S m) (ofContinuing true e) s) (eqb (numberOf S ops s c) 0) _ _ (held refl (λ q c. refl)) (held i (λ q c. refl))
+      either (Held (Agree S m) (ofContinuing true e) s) (isZero S ops s c) _ _ (held refl (λ q c. refl)) (held i (λ q c. refl))
 
   out-body : (e : Exit → Bool) (x : Exit) → ofBody true e x ≡ true → ofContinuing true e (outContinue x) ≡ true
   unfolding ofBody
@@ -209,7 +214,7 @@ module _ (S : Scope) (ops : Operators) where
   frames n mode (act x) m e s i o h = held i (perform-idle S ops x m s h)
   frames n mode (branch c a b) m e s i o h =
       let q = both-true _ _ h in
-      either (Held (Agree S m) e s) (eqb (numberOf S ops s c) 0) _ _ (frames n mode b m e s i o (q .1)) (frames n mode a m e s i o (q .0))
+      either (Held (Agree S m) e s) (isZero S ops s c) _ _ (frames n mode b m e s i o (q .1)) (frames n mode a m e s i o (q .0))
   frames n mode (switch c vs f) m e s i o h =
       held-end (Agree S m) (ofCase e) e outBreak (λ x k. unfold ofCase in k) s _
       (in-picked (Held (Agree S m) (ofCase e) s) (length vs) _ _ (pick-within vs (numberOf S ops s c)) going
@@ -227,12 +232,12 @@ module _ (S : Scope) (ops : Operators) where
   frames n mode (break l) m e s i o h = held h (λ q c. refl)
   frames n mode (continue l) m e s i o h = held h (λ q c. refl)
   frames n mode (return l v) m e s i o h = never (sym o ∙ h)
-  frames n mode (unmarked l a) m e s i o h = passed (Held (Agree S m) e s) mode _ _ (frames n mode a m e s i o h) (held i (λ q c. refl))
+  frames n mode (unmarked l mark a) m e s i o h = passed (Held (Agree S m) e s) mode _ _ (frames n mode a m e s i o h) (held i (λ q c. refl))
 
-  frames-obey : (fuel : ℕ) (mode : Mode) (i : ℕ) (a : Tree) (m : PartReq) (s : State) → obeys S m a ≡ true →
-      Held (Agree S m) onlyNext s (exec S ops mode fuel (unmarked i a) s)
+  frames-obey : (fuel : ℕ) (mode : Mode) (i mark : ℕ) (a : Tree) (m : PartReq) (s : State) → obeys S m a ≡ true →
+      Held (Agree S m) onlyNext s (exec S ops mode fuel (unmarked i mark a) s)
   unfolding obeys quiet onlyNext
-  frames-obey fuel mode i a m s h = frames fuel mode (unmarked i a) m onlyNext s refl refl h
+  frames-obey fuel mode i mark a m s h = frames fuel mode (unmarked i mark a) m onlyNext s refl refl h
 
 -- The main lemma
 
@@ -314,8 +319,8 @@ module _ (W : Setting) (ops : Operators) (B : ByComponent (W .scope) ops) where
     alike-again again′ nothing k s t g = ends g
     alike-again again′ (present c) k s t g =
         let z = wholly-rest S ops s t c _ g in
-        rw (wholly-number S ops s t c _ g)
-        (alike-cond (After (upon again′ (ofCase k))) (eqb (numberOf S ops t c) 0) _ _ _ _
+        rw (wholly-zero S ops s t c _ g)
+        (alike-cond (After (upon again′ (ofCase k))) (isZero S ops t c) _ _ _ _
         (ends (λ q e. z q (cov-add-right (k next) again′ q e))) (ends (λ q e. z q (cov-add-left (k next) again′ q e))))
 
     alike-turns : (k : Exit → PartReq) (l o : PartReq) (f g : State → Outcome) → contains l o ≡ true →
@@ -330,7 +335,7 @@ module _ (W : Setting) (ops : Operators) (B : ByComponent (W .scope) ops) where
 
     pub main : (a : Tree) (k : Exit → PartReq) (s t : State) →
         broken W r a k ≡ [] → stable W r a k ≡ true → Agree S (walk W r a k) s t → Alike (After k) (exec S ops one m a s) (exec S ops other n a t)
-    unfolding broken stable walk exec afterBody afterContinuing After upon ofContinuing
+    unfolding lacking stable walk exec afterBody afterContinuing After upon ofContinuing
     main nop k s t b c g = ends {x = next} g
     main (seq a d) k s t b c g =
         let q = both-true _ _ c in
@@ -343,8 +348,8 @@ module _ (W : Setting) (ops : Operators) (B : ByComponent (W .scope) ops) where
         let q = both-true _ _ c in
         let p = neither _ _ b in
         let j = wholly-rest S ops s t x _ g in
-        rw (wholly-number S ops s t x _ g)
-        (alike-cond (After k) (eqb (numberOf S ops t x) 0) _ _ _ _
+        rw (wholly-zero S ops s t x _ g)
+        (alike-cond (After k) (isZero S ops t x) _ _ _ _
         (main d k s t (p .1) (q .1) (λ z e. j z (cov-add-right (walk W r a k) _ z e)))
         (main a k s t (p .0) (q .0) (λ z e. j z (cov-add-left _ (walk W r d k) z e))))
     main (switch x vs f) k s t b c g =
@@ -375,7 +380,7 @@ module _ (W : Setting) (ops : Operators) (B : ByComponent (W .scope) ops) where
     main (break l) k s t b c g = ends {x = broke} g
     main (continue l) k s t b c g = ends {x = continued} g
     main (return l v) k s t b c g = ends {x = returned} (valued-returns s t v (k returned) g)
-    main (unmarked i a) k s t b c g =
+    main (unmarked i mark a) k s t b c g =
         let q = unbroken (obeys S (k next) a) i _ b in
         alike-held k s t _ _ (rw q at g)
-        (frames-obey S ops m one i a (k next) s q) (frames-obey S ops n other i a (k next) t q)
+        (frames-obey S ops m one i mark a (k next) s q) (frames-obey S ops n other i mark a (k next) t q)

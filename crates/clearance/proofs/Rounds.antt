@@ -141,7 +141,7 @@ module _ (W : Setting) (fine : Ascending (W .asked)) (bound : ℕ) (r : ℕ → 
   grown (break l) k s i h = never (sym h)
   grown (continue l) k s i h = never (sym h)
   grown (return l v) k s i h = never (sym h)
-  grown (unmarked l a) k s i h =
+  grown (unmarked l mark a) k s i h =
       cases (obeys S (k next) a) (λ e. never (sym (rw e at h)))
       (λ e. subst (λ b. Grows (λ x m. cond b m (entry W r a k x m))) (sym e) (grown a k s i (rw e at h)))
 

@@ -17,6 +17,9 @@ pub both-true : (a b : Bool) → a && b ≡ true → (a ≡ true) × (b ≡ true
 both-true true b h = (refl, h)
 both-true false b h = never h
 
+pub both-are : (a b : Bool) → a ≡ true → b ≡ true → a && b ≡ true
+both-are a b h g = rw h g
+
 pub neither : (a b : List ℕ) → a ++ b ≡ [] → (a ≡ []) × (b ≡ [])
 neither [] b h = (refl, h)
 neither (x ∷ a) b h = (cc, cc)
@@ -31,6 +34,11 @@ each-at zero f h i l = absurd (omega arith)
 each-at (suc n) f h i l =
     let z = both-true (f n) (each n f) h in
     elim (decLt i n) [ yes e ↦ each-at n f (z .1) i e | no e ↦ let y : i ≡ n = omega arith in rw y (z .0) ]
+
+pub each-from : (n : ℕ) (f : ℕ → Bool) → ((i : ℕ) → i < n → f i ≡ true) → each n f ≡ true
+unfolding each
+each-from zero f h = refl
+each-from (suc n) f h = both-are _ _ (h n (omega arith)) (each-from n f (λ i l. h i (omega arith)))
 
 pub concat-at : (n : ℕ) (f : ℕ → List ℕ) → concat n f ≡ [] → (i : ℕ) → i < n → f i ≡ []
 unfolding concat

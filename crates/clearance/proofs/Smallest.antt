@@ -108,7 +108,7 @@ module _ (S : Scope) where
   quiet-less m n (break j) e h q = q
   quiet-less m n (continue j) e h q = q
   quiet-less m n (return j v) e h q = q
-  quiet-less m n (unmarked j a) e h q = quiet-less m n a e h q
+  quiet-less m n (unmarked j mark a) e h q = quiet-less m n a e h q
 
   obeys-less : (m n : PartReq) (a : Tree) → Le T m n → obeys S n a ≡ true → obeys S m a ≡ true
   unfolding obeys
@@ -125,7 +125,7 @@ module _ (S : Scope) where
   kept-mono (break j) m n o p h g = add-mono T m o n p h g
   kept-mono (continue j) m n o p h g = add-mono T m o n p h g
   kept-mono (return j v) m n o p h g = add-mono T m o n p h g
-  kept-mono (unmarked j a) m n o p h g = add-mono T m o n p h g
+  kept-mono (unmarked j mark a) m n o p h g = add-mono T m o n p h g
 
 module _ (W : Setting) (fine : Ascending (W .asked)) where
   abbrev S : Scope
@@ -148,7 +148,7 @@ module _ (W : Setting) (fine : Ascending (W .asked)) where
   kept-more r (break j) m k q h w = add-left F m _ _ h (w .high)
   kept-more r (continue j) m k q h w = add-left F m _ _ h (w .high)
   kept-more r (return j v) m k q h w = add-left F m _ _ h (w .high)
-  kept-more r (unmarked j a) m k q h w = add-left F m _ _ h (w .high)
+  kept-more r (unmarked j mark a) m k q h w = add-left F m _ _ h (w .high)
 
   abbrev pub Self : (Exit → PartReq) → Type 0
   Self k = (x : Exit) → Le (frame (W .scope)) (k x) (k x)
@@ -166,7 +166,7 @@ module _ (W : Setting) (fine : Ascending (W .asked)) where
     walk-mono (break j) k l h = h broke
     walk-mono (continue j) k l h = h continued
     walk-mono (return j v) k l h = valued-mono S (W .asked) fine v _ _ (h returned)
-    walk-mono (unmarked j a) k l h =
+    walk-mono (unmarked j mark a) k l h =
         let w = walk-mono a k l h in
         cond-mono S _ _ _ _ _ _ (obeys-less S _ _ a (h next)) (h next) (λ q. kept-more t a (k next) l q (h next) (le-self F _ (w .high)))
         (kept-mono S a _ _ _ _ (h next) w)
@@ -202,7 +202,7 @@ module _ (W : Setting) (fine : Ascending (W .asked)) where
     entry-more (break i) k j m n s h = h
     entry-more (continue i) k j m n s h = h
     entry-more (return i v) k j m n s h = h
-    entry-more (unmarked i a) k j m n s h = into-cond S (obeys S (k next) a) m _ _ h (entry-more a k j m n s h)
+    entry-more (unmarked i mark a) k j m n s h = into-cond S (obeys S (k next) a) m _ _ h (entry-more a k j m n s h)
 
   module _ (r t : ℕ → PartReq) (under : (j : ℕ) → Le F (r j) (t j)) where
     entry-mono : (a : Tree) (k l : Exit → PartReq) (j : ℕ) (m n : PartReq) → Below S k l → Le F m n → Le F (entry W r a k j m) (entry W t a l j n)
@@ -220,7 +220,7 @@ module _ (W : Setting) (fine : Ascending (W .asked)) where
     entry-mono (break i) k l j m n h g = g
     entry-mono (continue i) k l j m n h g = g
     entry-mono (return i v) k l j m n h g = g
-    entry-mono (unmarked i a) k l j m n h g =
+    entry-mono (unmarked i mark a) k l j m n h g =
         cond-mono S _ _ _ _ _ _ (obeys-less S _ _ a (h next)) g
         (λ q. entry-more t (λ j. le-self F _ (under j .high)) a l j m n (λ x. le-self F _ (h x .high)) g) (entry-mono a k l j m n h g)
 
@@ -251,7 +251,7 @@ module _ (W : Setting) (fine : Ascending (W .asked)) where
     stable-entry (break i) k j n s h g = g
     stable-entry (continue i) k j n s h g = g
     stable-entry (return i v) k j n s h g = g
-    stable-entry (unmarked i a) k j n s h g =
+    stable-entry (unmarked i mark a) k j n s h g =
         cases (obeys S (k next) a) (λ e. rw e g) (λ e. rw e (stable-entry a k j n s (rw e at h) g))
 
 nothing-some : {A : Type 0} {t : Table} → nothing ≡ present t → A

@@ -12,7 +12,7 @@ use Rattle.clearance.specs.Scope.{Scope, shapeOf, typeOf, Operand, whole
 use Rattle.clearance.specs.Scope.{swizzle, compose, joined, load, unjudged, arm, Step, at, by, Path, pathOf, front, indexes, target}
 use Rattle.clearance.specs.Needs.{Ask, ofPlace, askOperand, askWhole, askPicked, askComponents, askSteps, asks}
 use Rattle.clearance.proofs.Cov.{cov-all, cov-here, cov-or-none, cov-extend}
-use Rattle.clearance.specs.Run.{Value, State, Operators, onward, element, value, numberOf, valueOperand, partOf, picked, composed, concatenated, follow, place, loaded, evaluate}
+use Rattle.clearance.specs.Run.{Value, State, Operators, onward, element, numberIn, value, numberOf, elementBy, valueOperand, partOf, picked, composed, concatenated, follow, place, loaded, evaluate}
 use Rattle.clearance.specs.Claim.{SameOperands, noOperands, sameWhole, samePart, ByComponent}
 use Rattle.clearance.proofs.Agree.{Met, AllMet, met-whole}
 
@@ -106,13 +106,13 @@ module _ (S : Scope) (ops : Operators) (s u : State) where
   follow-front (by e ∷ xs) w t = below-any _
 
   pub follow-same : (xs : List Step) → Same (map askWhole (indexes xs)) → (t : Shape) → follow S ops s t xs ≡ follow S ops u t xs
-  unfolding AllMet indexes follow numberOf
+  unfolding AllMet indexes follow numberOf elementBy
   follow-same [] h t = refl
   follow-same (at i ∷ xs) h t = rw (follow-same xs h (member t i))
   follow-same (by e ∷ xs) h t =
       let z : _≡_ {A = ℕ → Option (List ℕ)} (λ i. onward (follow S ops s (member t i) xs) (λ q. some (i ∷ q))) (λ i. onward (follow S ops u (member t i) xs) (λ q. some (i ∷ q)))
       = fun-ext (λ i. ap (λ o. onward o (λ q. some (i ∷ q))) (follow-same xs (h .1) (member t i))) in
-      ap₂ (λ (v : Value) f. onward (element (extent t) (v [])) f) (met-whole S ops s u e (h .0)) z
+      ap₂ (λ (v : Value) f. onward (onward (numberIn (shapeOf S (typeOf S e)) v) (element (extent t))) f) (met-whole S ops s u e (h .0)) z
 
   pub place-same : (p : Path) → Same (map askWhole (indexes (p .steps))) → place S ops s p ≡ place S ops u p
   unfolding place
@@ -147,7 +147,7 @@ module _ (S : Scope) (ops : Operators) (s u : State) where
 
   pub evaluate-same : ByComponent S ops → (e : ExpressionHandle) (x : Arm) → arm S e ≡ x → (a : PartReq) → Same (asks S x a) →
       (q : List ℕ) → cov a q ≡ true → evaluate S ops s e x q ≡ evaluate S ops u e x q
-  unfolding asks evaluate AllMet numberOf
+  unfolding asks evaluate AllMet numberOf elementBy
   evaluate-same B e fixed i a h q c = refl
   evaluate-same B e (argued n) i a h q c = refl
   evaluate-same B e pointing i a h q c = refl
@@ -155,7 +155,8 @@ module _ (S : Scope) (ops : Operators) (s u : State) where
       rw (nil-right q) at (B .parts e xs i q _ _ (operands-same q a c xs h) [])
   evaluate-same B e (accessIndex base n) i a h q c = h .0 (n ∷ q) (cov-here n n a none q (omega arith) (omega arith) ∙ c)
   evaluate-same B e (access base index) i a h q c =
-      ap₂ (λ (v w : Value). partOf v (element (extent (shapeOf S (typeOf S base))) (w [])) q) (met-whole S ops s u base (h .0)) (met-whole S ops s u index (h .1 .0))
+      ap₂ (λ (v w : Value). partOf v (onward (numberIn (shapeOf S (typeOf S index)) w) (element (extent (shapeOf S (typeOf S base))))) q)
+      (met-whole S ops s u base (h .0)) (met-whole S ops s u index (h .1 .0))
   evaluate-same B e (swizzle v pattern) i a h [] c = picked-top _ _ pattern
   evaluate-same B e (swizzle v pattern) i a h (j ∷ q) c = let z : 0 + j ≡ j = omega arith in picked-same v pattern 0 a h j q (rw z c)
   evaluate-same B e (compose cs) i a h [] c = composed-top cs

@@ -139,6 +139,10 @@ fitsCompose S (Struct ms) cs = pairwise (λ m c. alike S (m .type) (typeOf S c))
 fitsCompose S (BindingArray base) cs = false
 fitsCompose S Opaque cs = false
 
+-- a variable as declared; one whose own type is a pointer is no end of a path
+unfoldable pub fitsVariable : Scope → ExpressionHandle → TypeHandle → Bool
+fitsVariable S e t = not (isPointer (inner S t)) && same S (inner S t) (pointee S e)
+
 unfoldable pub fitsExpression : Scope → ExpressionHandle → Expression → Bool
 fitsExpression S e Literal = isValue S e
 fitsExpression S e ZeroValue = isValue S e
@@ -151,8 +155,8 @@ fitsExpression S e (Swizzle vector pattern) =
     isValue S vector && hasVectorSize (innerOf S vector) (λ n. every (λ i. ltb i n) pattern && fits S (Vector (length pattern)) (typeOf S e))
 fitsExpression S e (Compose components) = every (isValue S) components && fitsCompose S (innerOf S e) components
 fitsExpression S e (FunctionArgument index) = isValue S e && alike S (argumentType (S .function .arguments) index) (typeOf S e)
-fitsExpression S e (GlobalVariable g) = same S (inner S (getD (S .program .globals) g 0)) (pointee S e)
-fitsExpression S e (LocalVariable l) = same S (inner S (getD (S .function .locals) l 0)) (pointee S e)
+fitsExpression S e (GlobalVariable g) = fitsVariable S e (getD (S .program .globals) g 0)
+fitsExpression S e (LocalVariable l) = fitsVariable S e (getD (S .function .locals) l 0)
 fitsExpression S e (Load pointer) = isValue S e && (isPath S pointer && same S (pointee S pointer) (innerOf S e))
 fitsExpression S e (ImageSample image sampler coordinate arrayIndex level depthRef) = false
 fitsExpression S e (ImageLoad image coordinate arrayIndex sample level) = false
@@ -243,7 +247,7 @@ strays (loop n a b c) e = strays a (inBody e) ++ strays b onlyNext
 strays (break n) e = unless (e broke) n
 strays (continue n) e = unless (e continued) n
 strays (return n v) e = unless (e returned) n
-strays (unmarked n a) e = strays a e
+strays (unmarked n mark a) e = strays a e
 
 -- the numbers, from n on, of what fails a test
 unfoldable pub failing : {A : Type 0} → (ℕ → A → Bool) → ℕ → List A → List ℕ

@@ -184,7 +184,7 @@ quiet S m (loop n a b c) e = quiet S m a (ofBody true e) && quiet S m b (ofConti
 quiet S m (break n) e = e broke
 quiet S m (continue n) e = e continued
 quiet S m (return n v) e = e returned
-quiet S m (unmarked n a) e = quiet S m a e
+quiet S m (unmarked n mark a) e = quiet S m a e
 
 -- no return, break or continue may leave it
 unfoldable pub onlyNext : Exit → Bool
@@ -208,7 +208,7 @@ kept (loop l a b c) after n = add after n
 kept (break l) after n = add after n
 kept (continue l) after n = add after n
 kept (return l v) after n = add after n
-kept (unmarked l a) after n = add after n
+kept (unmarked l mark a) after n = add after n
 
 -- After continuing stand the re-entry needs, and with `break_if` also the exit needs and the condition whole.
 unfoldable pub turning : Scope → PartReq → Option ExpressionHandle → PartReq → PartReq
@@ -223,6 +223,17 @@ valued S asked (present v) n = needs S (ofValue v asked ∷ []) n
 -- what stands after a loop's continuing block, by exit, with `again` its re-entry needs
 unfoldable pub afterContinuing : Scope → PartReq → Option ExpressionHandle → (Exit → PartReq) → Exit → PartReq
 afterContinuing S again c k = ofContinuing (turning S again c (k next)) k
+
+-- whether a test holds of the needs after a statement, of those before it, or at a point inside it
+unfoldable pub around : (PartReq → Bool) → (after before : PartReq) → (inside : Bool) → Bool
+around test after before inside = test after || (test before || inside)
+
+-- what breaks a rule, named by its statement, or by its mark's position
+abbrev pub byStatement : ℕ → ℕ → ℕ
+byStatement n mark = n
+
+abbrev pub byPosition : ℕ → ℕ → ℕ
+byPosition n mark = mark
 
 -- what the walk knows throughout: the function, and the part that is asked of its value
 pub record Setting : Type 0 where
@@ -255,24 +266,32 @@ module _ (W : Setting) (r : ℕ → PartReq) where
   walk (break n) k = k broke
   walk (continue n) k = k continued
   walk (return n v) k = valued (W .scope) (W .asked) v (k returned)
-  walk (unmarked n a) k = cond (obeys (W .scope) (k next) a) (k next) (kept a (k next) (walk a k))
+  walk (unmarked n mark a) k = cond (obeys (W .scope) (k next) a) (k next) (kept a (k next) (walk a k))
 
   -- what stands after a loop's body, by exit
   unfoldable pub afterBody : ℕ → Tree → Option ExpressionHandle → (Exit → PartReq) → Exit → PartReq
   afterBody n b c k = ofBody (walk b (afterContinuing (W .scope) (r n) c k)) k
 
+  -- what breaks a rule, by a name made of the statement's number and its mark's position
+  unfoldable pub lacking : (name : ℕ → ℕ → ℕ) → Tree → (Exit → PartReq) → List ℕ
+  lacking name nop k = []
+  lacking name (seq a b) k = lacking name a (upon (walk b k) k) ++ lacking name b k
+  lacking name (act x) k = []
+  lacking name (branch c a b) k = lacking name a k ++ lacking name b k
+  lacking name (switch c vs f) k = concat (length vs) (λ i. lacking name (f i) (ofCase k))
+  lacking name (loop n a b c) k = lacking name a (afterBody n b c k) ++ lacking name b (afterContinuing (W .scope) (r n) c k)
+  lacking name (break n) k = []
+  lacking name (continue n) k = []
+  lacking name (return n v) k = []
+  lacking name (unmarked n mark a) k = cond (obeys (W .scope) (k next) a) [] (name n mark ∷ lacking name a k)
+
   -- the statements that break a rule
-  unfoldable pub broken : Tree → (Exit → PartReq) → List ℕ
-  broken nop k = []
-  broken (seq a b) k = broken a (upon (walk b k) k) ++ broken b k
-  broken (act x) k = []
-  broken (branch c a b) k = broken a k ++ broken b k
-  broken (switch c vs f) k = concat (length vs) (λ i. broken (f i) (ofCase k))
-  broken (loop n a b c) k = broken a (afterBody n b c k) ++ broken b (afterContinuing (W .scope) (r n) c k)
-  broken (break n) k = []
-  broken (continue n) k = []
-  broken (return n v) k = []
-  broken (unmarked n a) k = cond (obeys (W .scope) (k next) a) [] (n ∷ broken a k)
+  abbrev pub broken : Tree → (Exit → PartReq) → List ℕ
+  broken = lacking byStatement
+
+  -- the positions of the marks whose lack breaks a rule
+  abbrev pub missing : Tree → (Exit → PartReq) → List ℕ
+  missing = lacking byPosition
 
   -- whether the re-entry needs hold: what stands before each loop's body is in them
   unfoldable pub stable : Tree → (Exit → PartReq) → Bool
@@ -287,7 +306,7 @@ module _ (W : Setting) (r : ℕ → PartReq) where
   stable (break n) k = true
   stable (continue n) k = true
   stable (return n v) k = true
-  stable (unmarked n a) k = cond (obeys (W .scope) (k next) a) true (stable a k)
+  stable (unmarked n mark a) k = cond (obeys (W .scope) (k next) a) true (stable a k)
 
   -- what stands before each loop's body joined into a table
   unfoldable pub sweep : Tree → (Exit → PartReq) → Table → Table
@@ -301,24 +320,29 @@ module _ (W : Setting) (r : ℕ → PartReq) where
   sweep (break n) k t = t
   sweep (continue n) k t = t
   sweep (return n v) k t = t
-  sweep (unmarked n a) k t = cond (obeys (W .scope) (k next) a) t (sweep a k t)
+  sweep (unmarked n mark a) k t = cond (obeys (W .scope) (k next) a) t (sweep a k t)
 
-  -- whether a test holds of the needs at some point: before and after each statement and each expression of an emit
+  -- whether a test holds of the needs at some point inside a statement: before and after each statement and each expression of an emit in
+  -- it. The points before and after the statement itself are left out: before one that breaks its rule only what is kept stands.
+  unfoldable pub amid : (PartReq → Bool) → Tree → (Exit → PartReq) → Bool
+  amid test nop k = false
+  amid test (seq a b) k = test (walk b k) || (amid test a (upon (walk b k) k) || amid test b k)
+  amid test (act x) k = false
+  amid test (branch c a b) k = around test (k next) (walk a k) (amid test a k) || around test (k next) (walk b k) (amid test b k)
+  amid test (switch c vs f) k =
+      not (each (length vs) (λ i. not (around test (ofCase k next) (walk (f i) (ofCase k)) (amid test (f i) (ofCase k)))))
+  amid test (loop n a b c) k =
+      let l = afterBody n b c k in
+      let m = afterContinuing (W .scope) (r n) c k in
+      around test (l next) (walk a l) (amid test a l) || around test (m next) (walk b m) (amid test b m)
+  amid test (break n) k = false
+  amid test (continue n) k = false
+  amid test (return n v) k = false
+  amid test (unmarked n mark a) k = cond (obeys (W .scope) (k next) a) false (amid test a k)
+
+  -- at some point: before and after each statement and each expression of an emit
   unfoldable pub somewhere : (PartReq → Bool) → Tree → (Exit → PartReq) → Bool
-  somewhere test nop k = test (k next)
-  somewhere test (seq a b) k = somewhere test a (upon (walk b k) k) || somewhere test b k
-  somewhere test (act x) k = test (k next) || test (walk (act x) k)
-  somewhere test (branch c a b) k = test (k next) || (test (walk (branch c a b) k) || (somewhere test a k || somewhere test b k))
-  somewhere test (switch c vs f) k =
-      test (k next) || (test (walk (switch c vs f) k) || not (each (length vs) (λ i. not (somewhere test (f i) (ofCase k)))))
-  somewhere test (loop n a b c) k =
-      test (k next)
-      || (test (walk (loop n a b c) k) || (somewhere test a (afterBody n b c k) || somewhere test b (afterContinuing (W .scope) (r n) c k)))
-  somewhere test (break n) k = test (k next) || test (k broke)
-  somewhere test (continue n) k = test (k next) || test (k continued)
-  somewhere test (return n v) k = test (k next) || test (walk (return n v) k)
-  somewhere test (unmarked n a) k =
-      test (k next) || (test (walk (unmarked n a) k) || cond (obeys (W .scope) (k next) a) false (somewhere test a k))
+  somewhere test a k = around test (k next) (walk a k) (amid test a k)
 
 -- Rounds
 
@@ -333,7 +357,7 @@ loops (loop n a b c) = max (suc n) (max (loops a) (loops b))
 loops (break n) = 0
 loops (continue n) = 0
 loops (return n v) = 0
-loops (unmarked n a) = loops a
+loops (unmarked n mark a) = loops a
 
 -- a round walks the body once with them and joins in what stands before each loop's body
 unfoldable pub round : Setting → Tree → (Exit → PartReq) → Table → Table

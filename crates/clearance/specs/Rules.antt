@@ -26,7 +26,7 @@ pub data StandsIn (x : Act) : Tree → Type 0 where
   inCase : {c : ExpressionHandle} {vs : List ℕ} {f : ℕ → Tree} (i : ℕ) → i < length vs → StandsIn x (f i) → StandsIn x (switch c vs f)
   inBody : {n : ℕ} {a b : Tree} {c : Option ExpressionHandle} → StandsIn x a → StandsIn x (loop n a b c)
   inContinuing : {n : ℕ} {a b : Tree} {c : Option ExpressionHandle} → StandsIn x b → StandsIn x (loop n a b c)
-  inUnmarked : {n : ℕ} {a : Tree} → StandsIn x a → StandsIn x (unmarked n a)
+  inUnmarked : {n mark : ℕ} {a : Tree} → StandsIn x a → StandsIn x (unmarked n mark a)
 
 -- A break, continue or return in a statement leaves it. A break that stays in a switch or a loop, and a continue that stays in a
 -- loop, does not.
@@ -43,7 +43,7 @@ pub data Leaves : Exit → Tree → Type 0 where
   bodyReturns : {n : ℕ} {a b : Tree} {c : Option ExpressionHandle} → Leaves returned a → Leaves returned (loop n a b c)
   continuingContinues : {n : ℕ} {a b : Tree} {c : Option ExpressionHandle} → Leaves continued b → Leaves continued (loop n a b c)
   continuingReturns : {n : ℕ} {a b : Tree} {c : Option ExpressionHandle} → Leaves returned b → Leaves returned (loop n a b c)
-  fromUnmarked : {x : Exit} {n : ℕ} {a : Tree} → Leaves x a → Leaves x (unmarked n a)
+  fromUnmarked : {x : Exit} {n mark : ℕ} {a : Tree} → Leaves x a → Leaves x (unmarked n mark a)
 
 -- The rule of an unmarked statement: no store inside may overlap the needs after it, no emit inside may give a needed expression, and
 -- no return, break or continue may leave it. (Of an unmarked store or emit it says that it does not overlap them itself.)
@@ -62,20 +62,21 @@ Unbroken W r (loop n a b c) k = Unbroken W r a (afterBody W r n b c k) × Unbrok
 Unbroken W r (break n) k = Unit {0}
 Unbroken W r (continue n) k = Unit {0}
 Unbroken W r (return n v) k = Unit {0}
-Unbroken W r (unmarked n a) k = Obeys (W .scope) (k next) a
+Unbroken W r (unmarked n mark a) k = Obeys (W .scope) (k next) a
 
--- The statement n breaks its rule: it is unmarked, stands somewhere in the walk, and does not obey with the needs that stand after it.
+-- What is named x breaks its rule: it is unmarked, stands somewhere in the walk, and does not obey with the needs that stand after it. Its name
+-- is its statement's number (`byStatement`) or its mark's position (`byPosition`).
 -- (The inside of one that breaks its rule is walked on as if it were marked; that of one that obeys is not walked.)
-pub data Breaks (W : Setting) (r : ℕ → PartReq) (n : ℕ) : Tree → (Exit → PartReq) → Type 0 where
-  breaksFirst : {a b : Tree} {k : Exit → PartReq} → Breaks W r n a (upon (walk W r b k) k) → Breaks W r n (seq a b) k
-  breaksSecond : {a b : Tree} {k : Exit → PartReq} → Breaks W r n b k → Breaks W r n (seq a b) k
-  breaksAccept : {c : ExpressionHandle} {a b : Tree} {k : Exit → PartReq} → Breaks W r n a k → Breaks W r n (branch c a b) k
-  breaksReject : {c : ExpressionHandle} {a b : Tree} {k : Exit → PartReq} → Breaks W r n b k → Breaks W r n (branch c a b) k
-  breaksCase : {c : ExpressionHandle} {vs : List ℕ} {f : ℕ → Tree} {k : Exit → PartReq} (i : ℕ) → i < length vs → Breaks W r n (f i) (ofCase k) → Breaks W r n (switch c vs f) k
-  breaksBody : {m : ℕ} {a b : Tree} {c : Option ExpressionHandle} {k : Exit → PartReq} → Breaks W r n a (afterBody W r m b c k) → Breaks W r n (loop m a b c) k
-  breaksContinuing : {m : ℕ} {a b : Tree} {c : Option ExpressionHandle} {k : Exit → PartReq} → Breaks W r n b (afterContinuing (W .scope) (r m) c k) → Breaks W r n (loop m a b c) k
-  breaksItself : {a : Tree} {k : Exit → PartReq} → (Obeys (W .scope) (k next) a → ⊥) → Breaks W r n (unmarked n a) k
-  breaksInside : {m : ℕ} {a : Tree} {k : Exit → PartReq} → (Obeys (W .scope) (k next) a → ⊥) → Breaks W r n a k → Breaks W r n (unmarked m a) k
+pub data Breaks (W : Setting) (r : ℕ → PartReq) (name : ℕ → ℕ → ℕ) (x : ℕ) : Tree → (Exit → PartReq) → Type 0 where
+  breaksFirst : {a b : Tree} {k : Exit → PartReq} → Breaks W r name x a (upon (walk W r b k) k) → Breaks W r name x (seq a b) k
+  breaksSecond : {a b : Tree} {k : Exit → PartReq} → Breaks W r name x b k → Breaks W r name x (seq a b) k
+  breaksAccept : {c : ExpressionHandle} {a b : Tree} {k : Exit → PartReq} → Breaks W r name x a k → Breaks W r name x (branch c a b) k
+  breaksReject : {c : ExpressionHandle} {a b : Tree} {k : Exit → PartReq} → Breaks W r name x b k → Breaks W r name x (branch c a b) k
+  breaksCase : {c : ExpressionHandle} {vs : List ℕ} {f : ℕ → Tree} {k : Exit → PartReq} (i : ℕ) → i < length vs → Breaks W r name x (f i) (ofCase k) → Breaks W r name x (switch c vs f) k
+  breaksBody : {m : ℕ} {a b : Tree} {c : Option ExpressionHandle} {k : Exit → PartReq} → Breaks W r name x a (afterBody W r m b c k) → Breaks W r name x (loop m a b c) k
+  breaksContinuing : {m : ℕ} {a b : Tree} {c : Option ExpressionHandle} {k : Exit → PartReq} → Breaks W r name x b (afterContinuing (W .scope) (r m) c k) → Breaks W r name x (loop m a b c) k
+  breaksItself : {n mark : ℕ} {a : Tree} {k : Exit → PartReq} → x ≡ name n mark → (Obeys (W .scope) (k next) a → ⊥) → Breaks W r name x (unmarked n mark a) k
+  breaksInside : {n mark : ℕ} {a : Tree} {k : Exit → PartReq} → (Obeys (W .scope) (k next) a → ⊥) → Breaks W r name x a k → Breaks W r name x (unmarked n mark a) k
 
 -- 01's "Cleared", of a function that is judged and whose needs pass no limit, with t the smallest needs of its loops
 pub record Cleared (S : Scope) (R : Request) (P : Report) (t : Table) : Type 0 where

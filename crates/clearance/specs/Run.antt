@@ -1,17 +1,17 @@
 -- 01's run, sentence by sentence: a run holds values of globals, locals, arguments and evaluated expressions and does the body in order.
-use Prim.Native.Nat.{ℕ, zero, suc, _-_}
-use mathlib.Core.Bool.{Bool, false, cond}
+use Prim.Native.Nat.{ℕ, zero, suc, _+_, _-_}
+use mathlib.Core.Bool.{Bool, true, false, cond}
 use mathlib.Core.List.{List, [], _∷_, _++_, map}
 use mathlib.Core.Option.{Option, some, none as nothing}
 use lib.Dec.{ltb, eqb}
 use Rattle.field.specs.Limits.{absent}
 use Rattle.module.specs.Module.{ExpressionHandle}
-use Rattle.clearance.specs.Shape.{Shape, member, extent, shapeAt, leaf, begins, after}
+use Rattle.clearance.specs.Shape.{Shape, number, void, struct, array, member, extent, shapeAt, leaf, begins, after}
 use Rattle.clearance.specs.Scope.{Scope, isVector, innerOf, result, evaluated, variable, Place, slot, shapeOf, typeOf, frame}
 use Rattle.clearance.specs.Scope.{Operand, whole, same, Arm, fixed, argued, pointing, operator, accessIndex, access, swizzle, compose, joined, load, unjudged}
 use Rattle.clearance.specs.Scope.{arm, Source, given, from, source, Step, at, by, Path, pathOf}
 use Rattle.clearance.specs.Tree.{Act, emit, store, Tree, nop, seq, act, branch, switch, loop, break, continue, return, unmarked}
-use Rattle.clearance.specs.Needs.{gives, Exit, next, broke, continued, returned, outBreak, outContinue}
+use Rattle.clearance.specs.Needs.{gives, Exit, next, broke, continued, returned, outBreak, outContinue, each}
 use Rattle.clearance.specs.Judged.{componentCount}
 use Rattle.clearance.specs.Verdict.{Report, body}
 
@@ -46,6 +46,20 @@ unfoldable pub onward : {A B : Type 0} → Option A → (A → Option B) → Opt
 onward nothing f = nothing
 onward (some i) f = f i
 
+-- whether a value is zero: all its numbers, within its shape, are (`zero-exactly`)
+unfoldable pub zeroIn : Shape → Value → Bool
+zeroIn number v = eqb (v []) 0
+zeroIn void v = true
+zeroIn (struct b n f) v = each n (λ j. zeroIn (f (b + j)) (λ q. v ((b + j) ∷ q)))
+zeroIn (array n t) v = each n (λ j. zeroIn t (λ q. v (j ∷ q)))
+
+-- a scalar's number; a value that is no scalar has none
+unfoldable pub numberIn : Shape → Value → Option ℕ
+numberIn number v = some (v [])
+numberIn void v = nothing
+numberIn (struct b n f) v = nothing
+numberIn (array n t) v = nothing
+
 -- a part of a value; reading out of range gives zero
 unfoldable pub partOf : Value → Option ℕ → Value
 partOf v nothing q = 0
@@ -67,9 +81,17 @@ module _ (S : Scope) (ops : Operators) (s : State) where
   unfoldable pub value : ExpressionHandle → Value
   value e = valueFrom e (source S e)
 
-  -- a scalar's number
-  unfoldable pub numberOf : ExpressionHandle → ℕ
-  numberOf e = value e []
+  -- whether a condition or a `break_if` is zero
+  unfoldable pub isZero : ExpressionHandle → Bool
+  isZero e = zeroIn (shapeOf S (typeOf S e)) (value e)
+
+  -- the number of a selector or a dynamic index
+  unfoldable pub numberOf : ExpressionHandle → Option ℕ
+  numberOf e = numberIn (shapeOf S (typeOf S e)) (value e)
+
+  -- the element of n that a dynamic index names; one that is no scalar is out of range
+  unfoldable pub elementBy : ℕ → ExpressionHandle → Option ℕ
+  elementBy n e = onward (numberOf e) (element n)
 
   unfoldable pub valueOperand : Operand → Value
   valueOperand (whole x) = value x
@@ -94,7 +116,7 @@ module _ (S : Scope) (ops : Operators) (s : State) where
   unfoldable pub follow : Shape → List Step → Option (List ℕ)
   follow t [] = some []
   follow t (at i ∷ xs) = onward (follow (member t i) xs) (λ q. some (i ∷ q))
-  follow t (by e ∷ xs) = onward (element (extent t) (numberOf e)) (λ i. onward (follow (member t i) xs) (λ q. some (i ∷ q)))
+  follow t (by e ∷ xs) = onward (elementBy (extent t) e) (λ i. onward (follow (member t i) xs) (λ q. some (i ∷ q)))
 
   unfoldable pub place : Path → Option (List ℕ)
   place p = follow (shapeAt (frame S) (p .root)) (p .steps)
@@ -110,7 +132,7 @@ module _ (S : Scope) (ops : Operators) (s : State) where
   evaluate e pointing q = 0
   evaluate e (operator xs) q = ops e (map valueOperand xs) q
   evaluate e (accessIndex base i) q = value base (i ∷ q)
-  evaluate e (access base index) q = partOf (value base) (element (extent (shapeOf S (typeOf S base))) (numberOf index)) q
+  evaluate e (access base index) q = partOf (value base) (elementBy (extent (shapeOf S (typeOf S base))) index) q
   evaluate e (swizzle v pattern) q = picked (value v) pattern q
   evaluate e (compose cs) q = composed cs q
   evaluate e (joined cs) q = concatenated cs q
@@ -163,9 +185,9 @@ unfoldable pub orElse : Option ℕ → Option ℕ → Option ℕ
 orElse nothing y = y
 orElse (some i) y = some i
 
--- the equal case or else the default
-unfoldable pub pick : List ℕ → ℕ → Option ℕ
-pick values v = orElse (position v values) (position absent values)
+-- the equal case or else the default; a selector that is no scalar equals none
+unfoldable pub pick : List ℕ → Option ℕ → Option ℕ
+pick values o = orElse (onward o (λ v. position v values)) (position absent values)
 
 -- (every switch that is read has a default)
 unfoldable pub inPicked : Option ℕ → (ℕ → Outcome) → Outcome
@@ -185,20 +207,20 @@ module _ (S : Scope) (ops : Operators) (mode : Mode) (fuel : ℕ) where
   -- again unless a `break_if` is not zero
   unfoldable pub again : Option ExpressionHandle → State → Outcome
   again nothing s = ended next s
-  again (some c) s = cond (eqb (numberOf S ops s c) 0) (ended next s) (ended broke s)
+  again (some c) s = cond (isZero S ops s c) (ended next s) (ended broke s)
 
   -- at most `fuel` turns of each loop
   unfoldable pub exec : Tree → State → Outcome
   exec nop s = ended next s
   exec (seq a b) s = then (exec a s) (exec b)
   exec (act x) s = ended next (perform S ops s x)
-  exec (branch c a b) s = cond (eqb (numberOf S ops s c) 0) (exec b s) (exec a s)
+  exec (branch c a b) s = cond (isZero S ops s c) (exec b s) (exec a s)
   exec (switch c vs f) s = endBy outBreak (inPicked (pick vs (numberOf S ops s c)) (λ i. exec (f i) s))
   exec (loop n a b c) s = endBy outBreak (turns (λ t. then (endBy outContinue (exec a t)) (λ u. then (exec b u) (again c))) fuel s)
   exec (break n) s = ended broke s
   exec (continue n) s = ended continued s
   exec (return n v) s = ended returned (giveBack S ops s v)
-  exec (unmarked n a) s = passing mode (exec a s) (ended next s)
+  exec (unmarked n mark a) s = passing mode (exec a s) (ended next s)
 
 -- Evaluated expressions are zero at first.
 unfoldable pub keeps : Place → Bool

@@ -16,7 +16,8 @@ pub data Act : Type 0 where
   emit : ExpressionHandle → Act
   store : (pointer value : ExpressionHandle) → Act
 
--- The statements of the judged kinds; n is the statement's number. A marked one stands as it is, an unmarked one under `unmarked`.
+-- The statements of the judged kinds; n is the statement's number. A marked one stands as it is, an unmarked one under `unmarked`, with the
+-- position of its mark among the function's marks: an emit has one for each expression.
 pub data Tree : Type 0 where
   -- nothing, and one after the other
   nop : Tree
@@ -29,20 +30,24 @@ pub data Tree : Type 0 where
   break : (n : ℕ) → Tree
   continue : (n : ℕ) → Tree
   return : (n : ℕ) → (value : Option ExpressionHandle) → Tree
-  unmarked : (n : ℕ) → Tree → Tree
+  unmarked : (n mark : ℕ) → Tree → Tree
 
-unfoldable pub marked : ℕ → Bool → Tree → Tree
-marked n true a = a
-marked n false a = unmarked n a
+unfoldable pub marked : (n mark : ℕ) → Bool → Tree → Tree
+marked n mark true a = a
+marked n mark false a = unmarked n mark a
 
--- the mark i of the statement n
-unfoldable pub markAt : Function → List ℕ → ℕ → ℕ → Bool
-markAt f marks n i = eqb (getD marks (marksBefore (f .statements) n + i) 0) 1
+-- whether the mark at a position is set
+unfoldable pub markAt : List ℕ → ℕ → Bool
+markAt marks i = eqb (getD marks i 0) 1
+
+-- what has the mark i of the statement n
+unfoldable pub byMark : Function → List ℕ → ℕ → ℕ → Tree → Tree
+byMark f marks n i a = let mark = marksBefore (f .statements) n + i in marked n mark (markAt marks mark) a
 
 -- the expressions of an emit, from the one that is i after the first on: k more of them
 unfoldable pub emits : Function → List ℕ → ℕ → ExpressionHandle → ℕ → ℕ → Tree
 emits f marks n first i zero = nop
-emits f marks n first i (suc k) = seq (marked n (markAt f marks n i) (act (emit (first + i)))) (emits f marks n first (suc i) k)
+emits f marks n first i (suc k) = seq (byMark f marks n i (act (emit (first + i)))) (emits f marks n first (suc i) k)
 
 unfoldable pub caseAt : (BlockHandle → Tree) → List SwitchCase → ℕ → Tree
 caseAt block [] i = nop
@@ -53,9 +58,9 @@ caseAt block (c ∷ cs) (suc i) = caseAt block cs i
 unfoldable pub statement : Function → List ℕ → (BlockHandle → Tree) → ℕ → Statement → Tree
 statement f marks block n (Emit first last) = emits f marks n first 0 (suc last - first)
 statement f marks block n (Block b) = block b
-statement f marks block n (If condition accept reject) = marked n (markAt f marks n 0) (branch condition (block accept) (block reject))
-statement f marks block n (Switch selector cases) = marked n (markAt f marks n 0) (switch selector (map (λ c. c .value) cases) (caseAt block cases))
-statement f marks block n (Loop body continuing breakIf) = marked n (markAt f marks n 0) (loop n (block body) (block continuing) breakIf)
+statement f marks block n (If condition accept reject) = byMark f marks n 0 (branch condition (block accept) (block reject))
+statement f marks block n (Switch selector cases) = byMark f marks n 0 (switch selector (map (λ c. c .value) cases) (caseAt block cases))
+statement f marks block n (Loop body continuing breakIf) = byMark f marks n 0 (loop n (block body) (block continuing) breakIf)
 statement f marks block n Break = break n
 statement f marks block n Continue = continue n
 statement f marks block n (Return value) = return n value
@@ -63,7 +68,7 @@ statement f marks block n Kill = nop
 statement f marks block n ControlBarrier = nop
 statement f marks block n MemoryBarrier = nop
 statement f marks block n ImageAtomic = nop
-statement f marks block n (Store pointer value) = marked n (markAt f marks n 0) (act (store pointer value))
+statement f marks block n (Store pointer value) = byMark f marks n 0 (act (store pointer value))
 statement f marks block n (AtomicStatement pointer value result) = nop
 statement f marks block n (Call function arguments result) = nop
 statement f marks block n (ImageStore image coordinate arrayIndex value) = nop

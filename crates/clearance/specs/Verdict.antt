@@ -12,7 +12,7 @@ use Rattle.clearance.specs.Shape.{below, under, trim}
 use Rattle.clearance.specs.Scope.{Scope, frame, variable}
 use Rattle.module.specs.Marks.{marksBefore}
 use Rattle.clearance.specs.Tree.{Tree, bodyTree}
-use Rattle.clearance.specs.Needs.{Exit, Setting, walk, broken, somewhere, Table, reentry, smallest}
+use Rattle.clearance.specs.Needs.{Exit, Setting, walk, broken, missing, somewhere, Table, reentry, smallest}
 use Rattle.clearance.specs.Judged.{every, lowest, blamedExpression, blamedStatement}
 
 -- What is asked: parts of globals, each under the index `variable` of its number, and a part of the returned value.
@@ -51,6 +51,10 @@ startNeeds S R P t = walk (setting S R) (reentry t) (body S P) (ending S R)
 -- the statements that break a rule
 unfoldable pub faults : Scope → Request → Report → Table → List ℕ
 faults S R P t = broken (setting S R) (reentry t) (body S P) (ending S R)
+
+-- the positions of the marks whose lack breaks a rule
+unfoldable pub missingMarks : Scope → Request → Report → Table → List ℕ
+missingMarks S R P t = missing (setting S R) (reentry t) (body S P) (ending S R)
 
 -- whether an evaluated expression is needed
 unfoldable pub needsExpression : PartReq → Bool

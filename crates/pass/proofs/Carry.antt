@@ -6,7 +6,7 @@ use mathlib.Core.Bool.{Bool, true, false, cond, not, _&&_, _||_, and-assoc, or-a
 use mathlib.Core.List.{List, [], _∷_, _++_}
 use mathlib.Core.Option.{Option}
 use Rattle.part.specs.PartReq.{PartReq, contains, over}
-use Rattle.clearance.specs.Needs.{each, concat, through, Table, joinAt}
+use Rattle.clearance.specs.Needs.{each, concat, through, around, Table, joinAt}
 use Rattle.clearance.specs.Judged.{lower}
 use Rattle.pass.specs.Pass.{tooMany, Carried, point, blame, enter, lowestWith}
 
@@ -15,12 +15,6 @@ carried-is : {t u : Table} {f g : Option ℕ} {h i d e w v : Bool} → t ≡ u �
 carried-is p q r s o = cc
 
 -- the tests in the order in which a pass makes them, and as the definition has them
-or-swap : (x y d : Bool) → y || (x || d) ≡ x || y || d
-or-swap true true d = refl
-or-swap true false d = refl
-or-swap false true d = refl
-or-swap false false d = refl
-
 or-around : (x y s d : Bool) → y || (s || (x || d)) ≡ x || (y || s) || d
 or-around true true s d = refl
 or-around true false true d = refl
@@ -28,9 +22,11 @@ or-around true false false d = refl
 or-around false true s d = refl
 or-around false false s d = refl
 
-or-again : (x d : Bool) → x || d ≡ x || (x || false) || d
-or-again true d = refl
-or-again false d = refl
+or-between : (x s t d : Bool) → s || (x || (t || d)) ≡ x || (s || t) || d
+or-between true true t d = refl
+or-between true false t d = refl
+or-between false true t d = refl
+or-between false false t d = refl
 
 or-each : (x y d : Bool) → x || not y || d ≡ not (not x && y) || d
 or-each true y d = refl
@@ -46,30 +42,24 @@ unfoldable pub carry : (Table → Table) → List ℕ → (held deep wide : Bool
 carry g ns h d w c =
     record { table = g (c .table); fault = lowestWith ns (c .fault); held = h && c .held; deep = d || c .deep; wide = w || c .wide }
 
--- the needs at one point, and at two
-pub carry-point : (n : PartReq) (c : Carried) → point n c ≡ carry (λ t. t) [] true (over n) (tooMany n) c
-unfolding carry point lowestWith
-carry-point n c = refl
-
-pub carry-points : (n m : PartReq) (c : Carried) → point m (point n c) ≡ carry (λ t. t) [] true (over n || over m) (tooMany n || tooMany m) c
-unfolding carry point lowestWith
-carry-points n m c = carried-is refl refl refl (or-swap (over n) (over m) (c .deep)) (or-swap (tooMany n) (tooMany m) (c .wide))
+-- nothing
+pub carry-nothing : (c : Carried) → c ≡ carry (λ t. t) [] true false false c
+unfolding carry lowestWith
+carry-nothing c = refl
 
 module _ (g : Table → Table) (ns : List ℕ) (h d w : Bool) where
   -- a stretch with the needs n after it and m before it
   pub carry-around : (n m : PartReq) (c : Carried) →
-      point m (carry g ns h d w (point n c)) ≡ carry g ns h (over n || (over m || d)) (tooMany n || (tooMany m || w)) c
-  unfolding carry point
+      point m (carry g ns h d w (point n c)) ≡ carry g ns h (around over n m d) (around tooMany n m w) c
+  unfolding carry point around
   carry-around n m c = carried-is refl refl refl (or-around (over n) (over m) d (c .deep)) (or-around (tooMany n) (tooMany m) w (c .wide))
 
-  -- an unmarked statement: one point where it obeys its rule, else a stretch and the fault i
-  pub carry-unmarked : (q : Bool) (i : ℕ) (n m : PartReq) (c : Carried) →
-      cond q (point n c) (point m (blame i (carry g ns h d w (point n c))))
-      ≡ carry (λ t. cond q t (g t)) (cond q [] (i ∷ ns)) (cond q true h) (over n || (over (cond q n m) || cond q false d))
-      (tooMany n || (tooMany (cond q n m) || cond q false w)) c
-  unfolding carry point blame lowestWith
-  carry-unmarked true i n m c = carried-is refl refl refl (or-again (over n) (c .deep)) (or-again (tooMany n) (c .wide))
-  carry-unmarked false i n m c = carried-is refl refl refl (or-around (over n) (over m) d (c .deep)) (or-around (tooMany n) (tooMany m) w (c .wide))
+  -- an unmarked statement: nothing where it obeys its rule, else a stretch and the fault i
+  pub carry-unmarked : (q : Bool) (i : ℕ) (c : Carried) →
+      cond q c (blame i (carry g ns h d w c)) ≡ carry (λ t. cond q t (g t)) (cond q [] (i ∷ ns)) (cond q true h) (cond q false d) (cond q false w) c
+  unfolding carry blame lowestWith
+  carry-unmarked true i c = refl
+  carry-unmarked false i c = refl
 
   -- a stretch, and then the start of a loop's body
   pub carry-enter : (n : ℕ) (again m : PartReq) (c : Carried) →
@@ -83,6 +73,14 @@ pub carry-both : (g g′ : Table → Table) (ns ns′ : List ℕ) (h h′ d d′
 unfolding carry
 carry-both g g′ ns ns′ h h′ d d′ w w′ c =
     carried-is refl (lowest-append ns ns′ (c .fault)) (sym (and-assoc h h′ (c .held))) (sym (or-assoc d d′ (c .deep))) (sym (or-assoc w w′ (c .wide)))
+
+-- one and then another, with the needs n at the point between
+pub carry-between : (g g′ : Table → Table) (ns ns′ : List ℕ) (h h′ d d′ w w′ : Bool) (n : PartReq) (c : Carried) →
+    carry g ns h d w (point n (carry g′ ns′ h′ d′ w′ c))
+    ≡ carry (λ t. g (g′ t)) (ns ++ ns′) (h && h′) (over n || (d || d′)) (tooMany n || (w || w′)) c
+unfolding carry point
+carry-between g g′ ns ns′ h h′ d d′ w w′ n c =
+    carried-is refl (lowest-append ns ns′ (c .fault)) (sym (and-assoc h h′ (c .held))) (or-between (over n) d d′ (c .deep)) (or-between (tooMany n) w w′ (c .wide))
 
 carry-each : (g : Table → Table) (ns : List ℕ) (h d e w v : Bool) (c : Carried) →
     carry g ns h (d || not e) (w || not v) c ≡ carry g ns h (not (not d && e)) (not (not w && v)) c

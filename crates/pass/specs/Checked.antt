@@ -2,25 +2,26 @@
 use Prim.Native.Nat.{ℕ, zero, suc, _+_}
 use mathlib.Core.Path.{_≡_}
 use mathlib.Core.Bool.{true, false, cond}
-use mathlib.Core.List.{[]}
+use mathlib.Core.List.{[], _∷_}
 use mathlib.Core.Option.{Option, some, none as nothing}
 use mathlib.Core.Logic.{_⊎_}
-use Rattle.part.specs.PartReq.{PartReq, entries}
+use Rattle.part.specs.PartReq.{PartReq}
 use Rattle.clearance.specs.Scope.{Scope}
 use Rattle.clearance.specs.Tree.{Tree}
-use Rattle.clearance.specs.Needs.{Exit, next, returned, Setting, Table, reentry, enough}
+use Rattle.clearance.specs.Needs.{Exit, next, returned, Setting, Table, reentry, settle}
 use Rattle.clearance.specs.Judged.{blamedExpression, blamedStatement}
 use Rattle.clearance.specs.Verdict.{Request, Report, Answer, unjudgedExpression, unjudgedStatement, refused, ending, setting, body, starts, verdict, hasShape}
-use Rattle.pass.specs.Pass.{tableEntries, Carried, Passed, on, full, _>>=_, within, pass}
+use Rattle.pass.specs.Pass.{Carried, Passed, on, full, _>>=_, within, pass}
 
 -- as a pass begins
 unfoldable pub fresh : Table → Carried
 fresh t = record { table = t; fault = nothing; held = true; deep = false; wide = false }
 
--- A pass over a body. Kept aside: the table as it was, and the needs at a return, since only a return leaves a body before its end.
+-- A pass over a body. Kept aside: the part that is asked of the value, the needs at a return, since only a return leaves a body before its end, and the
+-- table as it was.
 unfoldable pub passOnce : Setting → Tree → (Exit → PartReq) → Table → Passed
 passOnce W a k t =
-    let aside = tableEntries t + entries (k returned) in
+    let aside = W .asked ∷ k returned ∷ t in
     within aside (k next) (fresh t) >>= λ c _. pass W (reentry t) a aside k c
 
 -- what is done with a pass's outcome: it is the last if each loop's needs held
@@ -33,14 +34,18 @@ unfoldable pub settleWithin : Setting → Tree → (Exit → PartReq) → ℕ �
 settleWithin W a k zero t = nothing
 settleWithin W a k (suc n) t = settledBy (passOnce W a k t) (settleWithin W a k n)
 
+-- The most rounds; past it the answer is 26. Our own (docs/DIFFERENCES.md).
+abbrev pub maxRounds : ℕ
+maxRounds = 65536
+
 -- the last pass's outcome
 unfoldable pub lastPass : Scope → Request → Report → Option Passed
-lastPass S R P = settleWithin (setting S R) (body S P) (ending S R) (enough (setting S R) (body S P)) []
+lastPass S R P = settleWithin (setting S R) (body S P) (ending S R) maxRounds []
 
--- 15, then 16, then the lowest fault, then the start; 16 too where the working bound is passed
+-- 15, then 16, then the lowest fault, then the start; 26 where the working bound is passed, or the loops' needs have not settled
 unfoldable pub answerOf : Report → Option Passed → Answer
-answerOf P nothing = refused 16
-answerOf P (some full) = refused 16
+answerOf P nothing = refused 26
+answerOf P (some full) = refused 26
 answerOf P (some (on c m)) = cond (c .deep) (refused 15) (cond (c .wide) (refused 16) (verdict (c .fault) (starts P m)))
 
 unfoldable pub judgeBy : Scope → Request → Report → Option ℕ → Option ℕ → Answer
@@ -56,6 +61,11 @@ checked S R P =
       | false ↦ refused 21
     ]
 
--- two answers are the same, or the first is 16 and a pass was full
-abbrev pub SameOrFull : Scope → Request → Report → Answer → Answer → Type 0
-SameOrFull S R P a b = (a ≡ b) ⊎ ((lastPass S R P ≡ some full) × (a ≡ refused 16))
+-- what 26 says: a pass was past the working bound, or the rounds by definition have not settled within so many
+pub data Beyond (S : Scope) (R : Request) (P : Report) : Type 0 where
+  memory : lastPass S R P ≡ some full → Beyond S R P
+  rounds : settle (setting S R) (body S P) (ending S R) maxRounds [] ≡ nothing → Beyond S R P
+
+-- two answers are the same, or the first is 26, and one of the two bounds was passed
+abbrev pub SameOrBeyond : Scope → Request → Report → Answer → Answer → Type 0
+SameOrBeyond S R P a b = (a ≡ b) ⊎ ((a ≡ refused 26) × Beyond S R P)

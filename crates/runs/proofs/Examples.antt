@@ -15,13 +15,13 @@ use Rattle.clearance.specs.Scope.{inner, memberTypes, vectorShape, elements, un
 use Rattle.clearance.specs.Scope.{alike, fits, slot, typed, typeOf, innerOf, argumentType, resultShape, slots, kindShape, frame, isPath, byPart}
 use Rattle.clearance.specs.Scope.{anyVector, optional, armOf, arm, sourceOf, source, further, stepFrom, pathOf, front, indexes, target}
 use Rattle.module.specs.Marks.{markCount, marksBefore}
-use Rattle.clearance.specs.Tree.{marked, markAt, emits, caseAt, statement, statementsFrom, blockTree, bodyTree}
+use Rattle.clearance.specs.Tree.{marked, markAt, byMark, emits, caseAt, statement, statementsFrom, blockTree, bodyTree}
 use Rattle.clearance.specs.Needs.{askOperand, askPicked, askComponents, askSteps, asks, gives, needAt, needFrom, need, needs, overlap, without}
 use Rattle.clearance.specs.Needs.{storing, giving, before, idle, wholly, upon, outBreak, outContinue, ofCase, ofContinuing, ofBody, each, union, concat, through, most}
-use Rattle.clearance.specs.Needs.{quiet, onlyNext, obeys, kept, turning, valued, afterContinuing, walk, afterBody, broken, stable, sweep}
-use Rattle.clearance.specs.Needs.{somewhere, loops, reentry, joinAt, round, settle, enough, smallest}
+use Rattle.clearance.specs.Needs.{quiet, onlyNext, obeys, kept, turning, valued, afterContinuing, walk, afterBody, lacking, stable, sweep}
+use Rattle.clearance.specs.Needs.{around, amid, somewhere, loops, reentry, joinAt, round, settle, enough, smallest}
 use Rattle.clearance.specs.Judged.{every, presently, partType, elementType, pointeeType, pointee, same, samePart, isValue, holdsIn, holdsUnsized}
-use Rattle.clearance.specs.Judged.{fitsIndex, hasVectorSize, componentCount, countComponents, fitsCompose, fitsExpression, judgedExpression}
+use Rattle.clearance.specs.Judged.{fitsIndex, hasVectorSize, componentCount, countComponents, fitsCompose, fitsVariable, fitsExpression, judgedExpression}
 use Rattle.clearance.specs.Judged.{fitsReturn, fitsStatement, atTop, inCase, inBody, unless, strays, failing, lower, lowest, blamedExpression}
 use Rattle.clearance.specs.Judged.{blamedStatement}
 use Rattle.clearance.specs.Verdict.{ending, startNeeds, faults, needsExpression, starts, verdict, pieces, atPoint, limited, answerBy, judge, hasShape}
@@ -139,5 +139,5 @@ answers =
 examples :
     answers
     ≡ unjudgedExpression 1 ∷ unjudgedExpression 1 ∷ unjudgedExpression 0 ∷ clear ∷ unjudgedExpression 0 ∷ unjudgedStatement 0 ∷ refused 21 ∷ unjudgedStatement 0 ∷ clear ∷ atStart ∷ atStatement 0 ∷ clear ∷ clear ∷ atStart ∷ unjudgedExpression 2 ∷ clear ∷ clear ∷ atStart ∷ unjudgedExpression 1 ∷ atStatement 0 ∷ atStart ∷ clear ∷ clear ∷ atStart ∷ unjudgedStatement 0 ∷ unjudgedStatement 0 ∷ atStatement 1 ∷ clear ∷ clear ∷ unjudgedStatement 0 ∷ clear ∷ clear ∷ []
-unfolding answers answer function program v ex bk tie knot member extent shapeAt leaf inside cov below under keep trim hit members split alter takeOut sum size inner memberTypes vectorShape elements unfoldType shapeOf kind bases isKind pairwise alikeInner alike fits slot typed typeOf innerOf argumentType resultShape slots kindShape frame isPath byPart anyVector optional armOf arm sourceOf source further stepFrom pathOf front indexes target markCount marksBefore marked markAt emits caseAt statement statementsFrom blockTree bodyTree askOperand askPicked askComponents askSteps asks gives needAt needFrom need needs overlap without storing giving before idle wholly upon outBreak outContinue ofCase ofContinuing ofBody each union concat through most quiet onlyNext obeys kept turning valued afterContinuing walk afterBody broken stable sweep somewhere loops reentry joinAt round settle enough smallest every presently partType elementType pointeeType pointee same samePart isValue holdsIn holdsUnsized fitsIndex hasVectorSize componentCount countComponents fitsCompose fitsExpression judgedExpression fitsReturn fitsStatement atTop inCase inBody unless strays failing lower lowest blamedExpression blamedStatement ending startNeeds faults needsExpression starts verdict pieces atPoint limited answerBy judge hasShape clearance getSubpart has within contains merge onNone add entries width depth over
+unfolding answers answer function program v ex bk tie knot member extent shapeAt leaf inside cov below under keep trim hit members split alter takeOut sum size inner memberTypes vectorShape elements unfoldType shapeOf kind bases isKind pairwise alikeInner alike fits slot typed typeOf innerOf argumentType resultShape slots kindShape frame isPath byPart anyVector optional armOf arm sourceOf source further stepFrom pathOf front indexes target markCount marksBefore marked markAt byMark emits caseAt statement statementsFrom blockTree bodyTree askOperand askPicked askComponents askSteps asks gives needAt needFrom need needs overlap without storing giving before idle wholly upon outBreak outContinue ofCase ofContinuing ofBody each union concat through most quiet onlyNext obeys kept turning valued afterContinuing walk afterBody lacking stable sweep around amid somewhere loops reentry joinAt round settle enough smallest every presently partType elementType pointeeType pointee same samePart isValue holdsIn holdsUnsized fitsIndex hasVectorSize componentCount countComponents fitsCompose fitsVariable fitsExpression judgedExpression fitsReturn fitsStatement atTop inCase inBody unless strays failing lower lowest blamedExpression blamedStatement ending startNeeds faults needsExpression starts verdict pieces atPoint limited answerBy judge hasShape clearance getSubpart has within contains merge onNone add entries width depth over
 examples = refl

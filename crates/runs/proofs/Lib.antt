@@ -1,2 +1,4 @@
 pub mod Worked
 pub mod Examples
+pub mod Zeroes
+pub mod Points
