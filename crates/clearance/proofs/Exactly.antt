@@ -41,7 +41,7 @@ quiet-acts S x a m e (inBody h) q = quiet-acts S x _ m _ h (both-true _ _ q .0)
 quiet-acts S x a m e (inContinuing {a = b} h) q = quiet-acts S x _ m _ h (both-true (quiet S m b (ofBody true e)) _ q .1)
 quiet-acts S x a m e (inUnmarked h) q = quiet-acts S x _ m e h q
 
-quiet-leaves : (S : Scope) (y : Exit) (a : Tree) (m : PartReq) (e : Exit → Bool) → Leaves y a → quiet S m a e ≡ true → e y ≡ true
+quiet-leaves : {n : ℕ} (S : Scope) (y : Exit) (a : Tree) (m : PartReq) (e : Exit → Bool) → Leaves n y a → quiet S m a e ≡ true → e y ≡ true
 unfolding quiet ofCase ofBody ofContinuing upon outBreak outContinue
 quiet-leaves S y a m e byBreak q = q
 quiet-leaves S y a m e byContinue q = q
@@ -62,49 +62,49 @@ module _ (S : Scope) (m : PartReq) where
   Spared a = (x : Act) → StandsIn x a → some (overlap S x m) ≡ false
 
   abbrev Stays : Tree → (Exit → Bool) → Type 0
-  Stays a e = (y : Exit) → Leaves y a → e y ≡ true
+  Stays a e = (n : ℕ) (y : Exit) → Leaves n y a → e y ≡ true
 
   case-stays : (c : ExpressionHandle) (vs : List ℕ) (f : ℕ → Tree) (e : Exit → Bool) → e next ≡ true → Stays (switch c vs f) e → (i : ℕ) → i < length vs → Stays (f i) (ofCase e)
   unfolding ofCase outBreak
-  case-stays c vs f e z h i l next g = z
-  case-stays c vs f e z h i l broke g = z
-  case-stays c vs f e z h i l continued g = h continued (caseContinues i l g)
-  case-stays c vs f e z h i l returned g = h returned (caseReturns i l g)
+  case-stays c vs f e z h i l o next g = z
+  case-stays c vs f e z h i l o broke g = z
+  case-stays c vs f e z h i l o continued g = h o continued (caseContinues i l g)
+  case-stays c vs f e z h i l o returned g = h o returned (caseReturns i l g)
 
   body-stays : (n : ℕ) (a b : Tree) (c : Option ExpressionHandle) (e : Exit → Bool) → e next ≡ true → Stays (loop n a b c) e → Stays a (ofBody true e)
   unfolding ofBody ofContinuing upon ofCase outBreak outContinue
-  body-stays n a b c e z h next g = refl
-  body-stays n a b c e z h broke g = z
-  body-stays n a b c e z h continued g = refl
-  body-stays n a b c e z h returned g = h returned (bodyReturns g)
+  body-stays n a b c e z h o next g = refl
+  body-stays n a b c e z h o broke g = z
+  body-stays n a b c e z h o continued g = refl
+  body-stays n a b c e z h o returned g = h o returned (bodyReturns g)
 
   continuing-stays : (n : ℕ) (a b : Tree) (c : Option ExpressionHandle) (e : Exit → Bool) → e next ≡ true → Stays (loop n a b c) e → Stays b (ofContinuing true e)
   unfolding ofContinuing upon ofCase outBreak
-  continuing-stays n a b c e z h next g = refl
-  continuing-stays n a b c e z h broke g = z
-  continuing-stays n a b c e z h continued g = h continued (continuingContinues g)
-  continuing-stays n a b c e z h returned g = h returned (continuingReturns g)
+  continuing-stays n a b c e z h o next g = refl
+  continuing-stays n a b c e z h o broke g = z
+  continuing-stays n a b c e z h o continued g = h o continued (continuingContinues g)
+  continuing-stays n a b c e z h o returned g = h o returned (continuingReturns g)
 
   quiet-from : (a : Tree) (e : Exit → Bool) → e next ≡ true → Spared a → Stays a e → quiet S m a e ≡ true
   unfolding quiet idle ofCase ofBody ofContinuing upon outBreak outContinue
   quiet-from nop e z h g = refl
   quiet-from (seq a b) e z h g =
-      both-are _ _ (quiet-from a e z (λ x i. h x (first i)) (λ y i. g y (fromFirst i))) (quiet-from b e z (λ x i. h x (second i)) (λ y i. g y (fromSecond i)))
+      both-are _ _ (quiet-from a e z (λ x i. h x (first i)) (λ o y i. g o y (fromFirst i))) (quiet-from b e z (λ x i. h x (second i)) (λ o y i. g o y (fromSecond i)))
   quiet-from (act x) e z h g = rw (h x itself)
   quiet-from (branch c a b) e z h g =
-      both-are _ _ (quiet-from a e z (λ x i. h x (inAccept i)) (λ y i. g y (fromAccept i))) (quiet-from b e z (λ x i. h x (inReject i)) (λ y i. g y (fromReject i)))
+      both-are _ _ (quiet-from a e z (λ x i. h x (inAccept i)) (λ o y i. g o y (fromAccept i))) (quiet-from b e z (λ x i. h x (inReject i)) (λ o y i. g o y (fromReject i)))
   quiet-from (switch c vs f) e z h g =
       each-from (length vs) _ (λ i l. quiet-from (f i) (ofCase e) z (λ x j. h x (inCase i l j)) (case-stays c vs f e z g i l))
   quiet-from (loop n a b c) e z h g =
       both-are _ _ (quiet-from a (ofBody true e) refl (λ x i. h x (inBody i)) (body-stays n a b c e z g))
       (quiet-from b (ofContinuing true e) refl (λ x i. h x (inContinuing i)) (continuing-stays n a b c e z g))
-  quiet-from (break n) e z h g = g broke byBreak
-  quiet-from (continue n) e z h g = g continued byContinue
-  quiet-from (return n v) e z h g = g returned byReturn
-  quiet-from (unmarked n mark a) e z h g = quiet-from a e z (λ x i. h x (inUnmarked i)) (λ y i. g y (fromUnmarked i))
+  quiet-from (break n) e z h g = g n broke byBreak
+  quiet-from (continue n) e z h g = g n continued byContinue
+  quiet-from (return n v) e z h g = g n returned byReturn
+  quiet-from (unmarked n mark a) e z h g = quiet-from a e z (λ x i. h x (inUnmarked i)) (λ o y i. g o y (fromUnmarked i))
 
   -- a statement is never left at its end by a break, continue or return
-  no-next : (y : Exit) (a : Tree) → Leaves y a → onlyNext y ≡ false
+  no-next : {n : ℕ} (y : Exit) (a : Tree) → Leaves n y a → onlyNext y ≡ false
   unfolding onlyNext
   no-next y a byBreak = refl
   no-next y a byContinue = refl
@@ -125,9 +125,9 @@ module _ (S : Scope) (m : PartReq) where
   obeys-exactly a = (
     (λ q. record {
       nothingNeeded = λ x h. quiet-acts S x a m onlyNext h q;
-      nothingLeaves = λ y h. never′ (sym (no-next y a h) ∙ quiet-leaves S y a m onlyNext h q);
+      nothingLeaves = λ n y h. never′ (sym (no-next y a h) ∙ quiet-leaves S y a m onlyNext h q);
     }),
-    (λ o. quiet-from a onlyNext refl (o .nothingNeeded) (λ y h. absurd (o .nothingLeaves y h))),
+    (λ o. quiet-from a onlyNext refl (o .nothingNeeded) (λ n y h. absurd (o .nothingLeaves n y h))),
   )
     where
       never′ : false ≡ true → ⊥

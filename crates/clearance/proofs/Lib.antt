@@ -10,6 +10,7 @@ pub mod Count
 pub mod Rounds
 pub mod Exactly
 pub mod Lowest
+pub mod Relations
 pub mod Faults
 pub mod Missing
 pub mod Operators
