@@ -11,6 +11,7 @@ pub mod Rounds
 pub mod Exactly
 pub mod Lowest
 pub mod Relations
+pub mod JudgedExpressions
 pub mod Faults
 pub mod Missing
 pub mod Operators

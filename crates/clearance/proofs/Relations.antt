@@ -32,6 +32,13 @@ use Rattle.clearance.proofs.Lowest.{no-member, first-or-later}
 pub impossible : false ≡ true → ⊥
 impossible h = never h
 
+pub either-left : (a b : Bool) → a ≡ true → a || b ≡ true
+either-left a b h = rw h
+
+pub either-right : (a b : Bool) → b ≡ true → a || b ≡ true
+either-right true b h = refl
+either-right false b h = h
+
 -- Lists
 
 pub every-at : (test : ℕ → Bool) (l : List ℕ) → every test l ≡ true → (x : ℕ) → Member x l → test x ≡ true
@@ -392,10 +399,6 @@ module _ (S : Scope) where
   member-holds holds (x ∷ ms) u m h =
       first-or-later (x .type) u _ m (λ e. let z : holds (x .type) ≡ true = rw e at h in rw z)
       (λ i. cases (holds (x .type)) (λ e. rw e) (λ e. rw e (member-holds holds ms u i h)))
-
-  either-right : (a b : Bool) → b ≡ true → a || b ≡ true
-  either-right true b h = refl
-  either-right false b h = h
 
   base-holds : (holds : TypeHandle → Bool) (i : TypeInner) (u : TypeHandle) → Member u (bases i) → holds u ≡ true → holdsIn holds i ≡ true
   unfolding holdsIn bases
