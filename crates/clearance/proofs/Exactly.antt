@@ -57,6 +57,23 @@ quiet-leaves S y a m e (continuingContinues {a = b} h) q = quiet-leaves S contin
 quiet-leaves S y a m e (continuingReturns {a = b} h) q = quiet-leaves S returned _ m (ofContinuing true e) h (both-true (quiet S m b (ofBody true e)) _ q .1)
 quiet-leaves S y a m e (fromUnmarked h) q = quiet-leaves S y _ m e h q
 
+-- a statement is never left at its end by a break, continue or return
+pub no-next : {n : ℕ} (y : Exit) (a : Tree) → Leaves n y a → onlyNext y ≡ false
+unfolding onlyNext
+no-next y a byBreak = refl
+no-next y a byContinue = refl
+no-next y a byReturn = refl
+no-next y a (fromFirst h) = no-next y _ h
+no-next y a (fromSecond h) = no-next y _ h
+no-next y a (fromAccept h) = no-next y _ h
+no-next y a (fromReject h) = no-next y _ h
+no-next y a (caseContinues i l h) = refl
+no-next y a (caseReturns i l h) = refl
+no-next y a (bodyReturns h) = refl
+no-next y a (continuingContinues h) = refl
+no-next y a (continuingReturns h) = refl
+no-next y a (fromUnmarked h) = no-next y _ h
+
 module _ (S : Scope) (m : PartReq) where
   abbrev Spared : Tree → Type 0
   Spared a = (x : Act) → StandsIn x a → some (overlap S x m) ≡ false
@@ -102,23 +119,6 @@ module _ (S : Scope) (m : PartReq) where
   quiet-from (continue n) e z h g = g n continued byContinue
   quiet-from (return n v) e z h g = g n returned byReturn
   quiet-from (unmarked n mark a) e z h g = quiet-from a e z (λ x i. h x (inUnmarked i)) (λ o y i. g o y (fromUnmarked i))
-
-  -- a statement is never left at its end by a break, continue or return
-  no-next : {n : ℕ} (y : Exit) (a : Tree) → Leaves n y a → onlyNext y ≡ false
-  unfolding onlyNext
-  no-next y a byBreak = refl
-  no-next y a byContinue = refl
-  no-next y a byReturn = refl
-  no-next y a (fromFirst h) = no-next y _ h
-  no-next y a (fromSecond h) = no-next y _ h
-  no-next y a (fromAccept h) = no-next y _ h
-  no-next y a (fromReject h) = no-next y _ h
-  no-next y a (caseContinues i l h) = refl
-  no-next y a (caseReturns i l h) = refl
-  no-next y a (bodyReturns h) = refl
-  no-next y a (continuingContinues h) = refl
-  no-next y a (continuingReturns h) = refl
-  no-next y a (fromUnmarked h) = no-next y _ h
 
   pub obeys-exactly : (a : Tree) → (obeys S m a ≡ true) ↔ Obeys S m a
   unfolding obeys onlyNext

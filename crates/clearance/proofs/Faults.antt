@@ -18,20 +18,20 @@ use Rattle.clearance.proofs.Lowest.{no-member, first-or-later}
 
 -- Lists
 
-either-list : {A : Type 0} (n : ℕ) (a b : List ℕ) → Member n (a ++ b) → (Member n a → A) → (Member n b → A) → A
+pub either-list : {A : Type 0} (n : ℕ) (a b : List ℕ) → Member n (a ++ b) → (Member n a → A) → (Member n b → A) → A
 either-list n [] b h f g = g h
 either-list n (x ∷ a) b h f g =
     first-or-later x n (a ++ b) h (λ e. f (subst (λ y. Member n (y ∷ a)) e here)) (λ m. either-list n a b m (λ i. f (later i)) g)
 
-in-left : (n : ℕ) (a b : List ℕ) → Member n a → Member n (a ++ b)
+pub in-left : (n : ℕ) (a b : List ℕ) → Member n a → Member n (a ++ b)
 in-left n a b here = here
 in-left n a b (later h) = later (in-left n _ b h)
 
-in-right : (n : ℕ) (a b : List ℕ) → Member n b → Member n (a ++ b)
+pub in-right : (n : ℕ) (a b : List ℕ) → Member n b → Member n (a ++ b)
 in-right n [] b h = h
 in-right n (x ∷ a) b h = later (in-right n a b h)
 
-in-concat : (n k : ℕ) (f : ℕ → List ℕ) (i : ℕ) → i < k → Member n (f i) → Member n (concat k f)
+pub in-concat : (n k : ℕ) (f : ℕ → List ℕ) (i : ℕ) → i < k → Member n (f i) → Member n (concat k f)
 unfolding concat
 in-concat n zero f i l h = absurd (omega arith)
 in-concat n (suc k) f i l h =
@@ -40,7 +40,7 @@ in-concat n (suc k) f i l h =
       | no e ↦ let y : i ≡ k = omega arith in in-left n (f k) _ (rw y at h)
     ]
 
-of-concat : (n k : ℕ) (f : ℕ → List ℕ) → Member n (concat k f) → (i : ℕ) × (i < k) × Member n (f i)
+pub of-concat : (n k : ℕ) (f : ℕ → List ℕ) → Member n (concat k f) → (i : ℕ) × (i < k) × Member n (f i)
 unfolding concat
 of-concat n zero f h = no-member n [] refl h
 of-concat n (suc k) f h =

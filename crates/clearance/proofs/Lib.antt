@@ -13,6 +13,8 @@ pub mod Lowest
 pub mod Relations
 pub mod JudgedExpressions
 pub mod Faults
+pub mod Strays
+pub mod JudgedStatements
 pub mod Missing
 pub mod Operators
 pub mod Agree
