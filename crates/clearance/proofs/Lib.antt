@@ -15,6 +15,7 @@ pub mod JudgedExpressions
 pub mod Faults
 pub mod Strays
 pub mod JudgedStatements
+pub mod JudgedExactly
 pub mod Missing
 pub mod Operators
 pub mod Agree

@@ -53,7 +53,7 @@ either-lowest n j k ns L e =
 same-some : (a b : ℕ) → _≡_ {A = Option ℕ} (some a) (some b) → a ≡ b
 same-some a b e = cc
 
-lowest-is : (l : List ℕ) (k : ℕ) → lowest l ≡ some k → Lowest k l
+pub lowest-is : (l : List ℕ) (k : ℕ) → lowest l ≡ some k → Lowest k l
 lowest-is [] k e = never (unfold lowest in cc)
 lowest-is (n ∷ ns) k e = go (lowest ns) refl (λ j. lowest-is ns j) (unfold lowest in e)
   where

@@ -370,7 +370,7 @@ module _ (S : Scope) where
 
   some-member : (holds : TypeHandle → Bool) (ms : List TypeMember) → not (every (λ m. not (holds (m .type))) ms) ≡ true →
       (u : TypeHandle) × Member u (map (λ m. m .type) ms) × (holds u ≡ true)
-  unfolding every map
+  unfolding every
   some-member holds [] h = never h
   some-member holds (m ∷ ms) h =
       cases (holds (m .type))
@@ -394,7 +394,7 @@ module _ (S : Scope) where
 
   member-holds : (holds : TypeHandle → Bool) (ms : List TypeMember) (u : TypeHandle) → Member u (map (λ m. m .type) ms) → holds u ≡ true →
       every (λ m. not (holds (m .type))) ms ≡ false
-  unfolding every map
+  unfolding every
   member-holds holds [] u m h = no-member u [] refl m
   member-holds holds (x ∷ ms) u m h =
       first-or-later (x .type) u _ m (λ e. let z : holds (x .type) ≡ true = rw e at h in rw z)

@@ -268,3 +268,15 @@ FitStatement S P n = JudgedStatement S (body S P) n (getD (S .function .statemen
 pub record IsJudged (S : Scope) (P : Report) : Type 0 where
   pub expressions : (e : ExpressionHandle) → e < length (S .function .expressions) → FitExpression S e
   pub statements : (n : ℕ) → n < length (S .function .statements) → FitStatement S P n
+
+-- n is the lowest of so many of which something does not hold
+pub record LowestNot (Holds : ℕ → Type 0) (count n : ℕ) : Type 0 where
+  pub one : n < count
+  pub fails : Holds n → ⊥
+  pub lower : (m : ℕ) → m < n → Holds m
+
+abbrev pub ExpressionBlamed : Scope → ExpressionHandle → Type 0
+ExpressionBlamed S = LowestNot (FitExpression S) (length (S .function .expressions))
+
+abbrev pub StatementBlamed : Scope → Report → ℕ → Type 0
+StatementBlamed S P = LowestNot (FitStatement S P) (length (S .function .statements))
