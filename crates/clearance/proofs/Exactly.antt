@@ -133,6 +133,9 @@ module _ (S : Scope) (m : PartReq) where
       never′ : false ≡ true → ⊥
       never′ e = never e
 
+  pub disobeys : (a : Tree) → (Obeys S m a → ⊥) → obeys S m a ≡ false
+  disobeys a o = cases (obeys S m a) (λ e. absurd (o (obeys-exactly a .0 e))) (λ e. e)
+
 -- All unmarked statements
 
 nothing-of : (a b : List ℕ) → a ≡ [] → b ≡ [] → a ++ b ≡ []
@@ -190,7 +193,7 @@ none-needed (more i p r) j q h l =
     let y = ltb-false (variable 3) i (z .0) in
     cov-after i j p r q (omega arith) ∙ none-needed r j q (z .1) l
 
-evaluations-none : (n : PartReq) → needsExpression n ≡ false → (e : ExpressionHandle) (q : List ℕ) → cov n (slot (evaluated e) ++ q) ≡ false
+pub evaluations-none : (n : PartReq) → needsExpression n ≡ false → (e : ExpressionHandle) (q : List ℕ) → cov n (slot (evaluated e) ++ q) ≡ false
 unfolding slot
 evaluations-none n h e q = none-needed n (variable (4 + e / 32)) _ h (omega arith)
 
@@ -255,7 +258,7 @@ some-evaluation S (more i p r) f h =
     (λ e. entry-evaluation S i p r f (ltb-true (variable 3) i e))
     (λ e. later-evaluation i p r (ltb-false (variable 3) i e) (some-evaluation S r (later-need (frame S) i p r f) (rw e at h)))
 
-no-evaluation : (S : Scope) (n : PartReq) → IsNeed (frame S) n → ((e : ExpressionHandle) (q : List ℕ) → cov n (slot (evaluated e) ++ q) ≡ false) → needsExpression n ≡ false
+pub no-evaluation : (S : Scope) (n : PartReq) → IsNeed (frame S) n → ((e : ExpressionHandle) (q : List ℕ) → cov n (slot (evaluated e) ++ q) ≡ false) → needsExpression n ≡ false
 unfolding Evaluation
 no-evaluation S n f h =
     cases (needsExpression n) (λ e. let z = some-evaluation S n f e in never (sym (h (z .0) (z .1)) ∙ z .2)) (λ e. e)

@@ -16,6 +16,7 @@ pub mod Faults
 pub mod Strays
 pub mod JudgedStatements
 pub mod JudgedExactly
+pub mod Points
 pub mod Missing
 pub mod Operators
 pub mod Agree

@@ -7,5 +7,6 @@ pub mod Verdict
 pub mod Rules
 pub mod IsNeed
 pub mod IsJudged
+pub mod Answered
 pub mod Run
 pub mod Claim
