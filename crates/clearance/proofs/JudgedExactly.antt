@@ -42,7 +42,7 @@ unfolding lowest
 none-listed [] h = refl
 none-listed (n ∷ l) h = absurd (h n here)
 
-listed : (l : List ℕ) (n : ℕ) → Lowest n l → lowest l ≡ some n
+pub listed : (l : List ℕ) (n : ℕ) → Lowest n l → lowest l ≡ some n
 listed l n L = go (lowest l) refl
   where
     go : (o : Option ℕ) → lowest l ≡ o → lowest l ≡ some n

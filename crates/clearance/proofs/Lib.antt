@@ -17,6 +17,7 @@ pub mod Strays
 pub mod JudgedStatements
 pub mod JudgedExactly
 pub mod Points
+pub mod Answers
 pub mod Missing
 pub mod Operators
 pub mod Agree

@@ -73,14 +73,14 @@ cond-statement : (b : Bool) (m n : ℕ) (a : Answer) → cond b (refused m) a �
 cond-statement true m n a e = never cc
 cond-statement false m n a e = e
 
--- what is answered of a judged function
-abbrev isJudged : Answer → Bool
+-- what is answered of a judged function: no refusal but 15 and 16
+abbrev pub isJudged : Answer → Bool
 isJudged clear = true
 isJudged (atStatement n) = true
 isJudged atStart = true
 isJudged (unjudgedExpression n) = false
 isJudged (unjudgedStatement n) = false
-isJudged (refused n) = true
+isJudged (refused n) = ltb n 21
 
 verdict-judged : (o : Option ℕ) (s : Bool) → isJudged (verdict o s) ≡ true
 unfolding verdict
@@ -88,15 +88,15 @@ verdict-judged (some n) s = refl
 verdict-judged nothing true = refl
 verdict-judged nothing false = refl
 
-cond-judged : (b : Bool) (m : ℕ) (a : Answer) → isJudged a ≡ true → isJudged (cond b (refused m) a) ≡ true
-cond-judged true m a h = refl
-cond-judged false m a h = h
+cond-judged : (b : Bool) (m : ℕ) (a : Answer) → ltb m 21 ≡ true → isJudged a ≡ true → isJudged (cond b (refused m) a) ≡ true
+cond-judged true m a l h = l
+cond-judged false m a l h = h
 
 module _ (S : Scope) (R : Request) (P : Report) where
-  answer-judged : (o : Option Table) → isJudged (answerBy S R P o) ≡ true
+  pub answer-judged : (o : Option Table) → isJudged (answerBy S R P o) ≡ true
   unfolding answerBy limited
   answer-judged nothing = refl
-  answer-judged (some t) = cond-judged (atPoint S R P t over) 15 _ (cond-judged (atPoint S R P t (λ n. ltb maxPieces (pieces n))) 16 _ (verdict-judged _ _))
+  answer-judged (some t) = cond-judged (atPoint S R P t over) 15 _ refl (cond-judged (atPoint S R P t (λ n. ltb maxPieces (pieces n))) 16 _ refl (verdict-judged _ _))
 
   -- what a statement's number in the answer rests on
   Faulty : ℕ → Option Table → Type 0

@@ -1,0 +1,140 @@
+-- When each answer is given, one theorem for each. The marks and what is judged come first, and need no premise; the others, of a request whose
+-- indexes ascend (reading it sees to that), come of one law: there is a reason for the answer, and a reason gives its answer (`reasons`).
+use Prim.Native.Nat.{ℕ, _<_, _≤_}
+use native.Mathlib.Omega.{arith}
+use mathlib.Core.Path.{_≡_, refl, sym, ap, subst, _∙_}
+use mathlib.Core.Bool.{Bool, true, false, cond, not, _&&_}
+use mathlib.Core.List.{List, [], _∷_}
+use mathlib.Core.Logic.{_↔_, _⊎_, inl, inr}
+use mathlib.Core.Option.{Option, some, none as nothing}
+use lib.Dec.{ltb, eqb}
+use lib.ListN.{length}
+use borrow.Author.Tests.{ltb-true, ltb-false, lt-ltb, eqb-true, eq-eqb, not-true}
+use Rattle.field.specs.Limits.{maxPieces}
+use Rattle.part.specs.PartReq.{PartReq, contains, over}
+use Rattle.part.proofs.Equations.{never}
+use Rattle.module.specs.Module.{ExpressionHandle, Function}
+use Rattle.module.specs.Marks.{marksBefore}
+use Rattle.clearance.specs.Shape.{below}
+use Rattle.clearance.specs.Scope.{Scope, variable}
+use Rattle.clearance.specs.Needs.{byStatement, Table, reentry, smallest}
+use Rattle.clearance.specs.Judged.{every, lowest, blamedExpression, blamedStatement}
+use Rattle.clearance.specs.Verdict.{Request, Report, Answer, clear, atStatement, atStart, unjudgedExpression, unjudgedStatement, refused, ending, setting, body, startNeeds, faults}
+use Rattle.clearance.specs.Verdict.{needsExpression, starts, verdict, pieces, atPoint, limited, answerBy, judge, hasShape, clearance}
+use Rattle.clearance.specs.Rules.{Member, Lowest}
+use Rattle.clearance.specs.IsNeed.{AscendingRequest}
+use Rattle.clearance.specs.IsJudged.{FitExpression, IsJudged, ExpressionBlamed, StatementBlamed}
+use Rattle.clearance.specs.Answered.{Shaped, AtPoint, Walked, WithinLimits, LowestBreak, StartMet, NoBreak, Reason, unshaped, expression, statement, deep, many, fault, unmet, cleared}
+use Rattle.clearance.proofs.Small.{cases, both-true, both-are}
+use Rattle.clearance.proofs.Cleared.{lowest-none}
+use Rattle.clearance.proofs.Rounds.{rounds-end, start-need}
+use Rattle.clearance.proofs.Exactly.{broken-exactly, evaluations-none, no-evaluation}
+use Rattle.clearance.proofs.Lowest.{lowest-is, isJudged, answer-judged}
+use Rattle.clearance.proofs.Faults.{faults-exactly}
+use Rattle.clearance.proofs.Relations.{impossible, every-at, every-from}
+use Rattle.clearance.proofs.JudgedExactly.{listed, expressions-exactly, expression-blamed, statements-exactly, statement-blamed}
+use Rattle.clearance.proofs.Points.{points-exactly, nowhere-exactly}
+
+shape-exactly : (f : Function) (marks : List ℕ) → (hasShape f marks ≡ true) ↔ Shaped f marks
+unfolding hasShape
+shape-exactly f marks = (
+  (λ h.
+  let z = both-true (eqb (length marks) (marksBefore (f .statements) (length (f .statements)))) _ h in
+  record { count = eqb-true _ _ (z .0); bits = λ b m. ltb-true b 2 (every-at (λ b. ltb b 2) marks (z .1) b m) }),
+  (λ s. both-are _ _ (eq-eqb _ _ (s .count)) (every-from (λ b. ltb b 2) marks (λ b m. lt-ltb b 2 (s .bits b m)))),
+)
+
+module _ (S : Scope) (R : Request) (P : Report) where
+  abbrev shape : Bool
+  shape = hasShape (S .function) (P .marks)
+
+  abbrev found : Option Table
+  found = smallest (setting S R) (body S P) (ending S R)
+
+  -- how far the clearance comes: to the marks, to an expression, to a statement, or to the walk
+  data Stage : Type 0 where
+    atMarks : shape ≡ false → clearance S R P ≡ refused 21 → Stage
+    atExpression : shape ≡ true → (e : ExpressionHandle) → blamedExpression S ≡ some e → clearance S R P ≡ unjudgedExpression e → Stage
+    atUnfit : shape ≡ true → blamedExpression S ≡ nothing → (n : ℕ) → blamedStatement S (body S P) ≡ some n → clearance S R P ≡ unjudgedStatement n → Stage
+    atWalk : shape ≡ true → blamedExpression S ≡ nothing → blamedStatement S (body S P) ≡ nothing → clearance S R P ≡ answerBy S R P found → Stage
+
+  marks-answer : shape ≡ false → clearance S R P ≡ refused 21
+  unfolding clearance
+  marks-answer h = rw (h, clearance)
+
+  judged-answer : shape ≡ true → (x y : Option ℕ) → blamedExpression S ≡ x → blamedStatement S (body S P) ≡ y → clearance S R P ≡ judge S R P x y
+  unfolding clearance
+  judged-answer h x y p q = rw (h, clearance, p, q)
+
+  stage : Stage
+  unfolding judge
+  stage = cases shape (λ h. go h (blamedExpression S) (blamedStatement S (body S P)) refl refl) (λ h. atMarks h (marks-answer h))
+    where
+      go : shape ≡ true → (x y : Option ℕ) → blamedExpression S ≡ x → blamedStatement S (body S P) ≡ y → Stage
+      go h (some e) y p q = atExpression h e p (judged-answer h (some e) y p q)
+      go h nothing (some n) p q = atUnfit h p n q (judged-answer h nothing (some n) p q)
+      go h nothing nothing p q = atWalk h p q (judged-answer h nothing nothing p q)
+
+  walk-judged : clearance S R P ≡ answerBy S R P found → isJudged (clearance S R P) ≡ true
+  walk-judged e = ap isJudged e ∙ answer-judged S R P found
+
+  -- 21: exactly where the marks are not of the function's shape.
+  pub marks-exactly : (clearance S R P ≡ refused 21) ↔ (Shaped (S .function) (P .marks) → ⊥)
+  marks-exactly = (
+    (λ e s. go e (shape-exactly (S .function) (P .marks) .1 s) stage),
+    (λ f. cases shape (λ h. absurd (f (shape-exactly (S .function) (P .marks) .0 h))) marks-answer),
+  )
+    where
+      go : clearance S R P ≡ refused 21 → shape ≡ true → Stage → ⊥
+      go e s (atMarks h q) = impossible (sym h ∙ s)
+      go e s (atExpression h x p q) = never cc
+      go e s (atUnfit h p n r q) = never cc
+      go e s (atWalk h p r q) = impossible (ap isJudged (sym e) ∙ walk-judged q)
+
+  -- Not judged, with an expression: exactly the lowest that breaks a clause.
+  pub unjudged-expression-exactly : (e : ExpressionHandle) → (clearance S R P ≡ unjudgedExpression e) ↔ (Shaped (S .function) (P .marks) × ExpressionBlamed S e)
+  unfolding judge
+  unjudged-expression-exactly e = (
+    (λ q. go q stage),
+    (λ z. judged-answer (shape-exactly (S .function) (P .marks) .1 (z .0)) _ _ (expression-blamed S e .1 (z .1)) refl),
+  )
+    where
+      go : clearance S R P ≡ unjudgedExpression e → Stage → Shaped (S .function) (P .marks) × ExpressionBlamed S e
+      go q (atMarks h r) = never cc
+      go q (atExpression h x p r) = (shape-exactly (S .function) (P .marks) .0 h, expression-blamed S e .0 (let z : x ≡ e = cc in p ∙ ap some z))
+      go q (atUnfit h p n y r) = never cc
+      go q (atWalk h p y r) = never (ap isJudged (sym q) ∙ walk-judged r)
+
+  -- Not judged, with a statement: exactly where every clause holds of each expression, the lowest statement that breaks one.
+  pub unjudged-statement-exactly : (n : ℕ) → (clearance S R P ≡ unjudgedStatement n) ↔
+      (Shaped (S .function) (P .marks) × ((e : ExpressionHandle) → e < length (S .function .expressions) → FitExpression S e) × StatementBlamed S P n)
+  unfolding judge
+  unjudged-statement-exactly n = (
+    (λ q. go q stage),
+    (λ z. judged-answer (shape-exactly (S .function) (P .marks) .1 (z .0)) _ _ (expressions-exactly S .1 (z .1)) (statement-blamed S P n .1 (z .2))),
+  )
+    where
+      go : clearance S R P ≡ unjudgedStatement n → Stage →
+          Shaped (S .function) (P .marks) × ((e : ExpressionHandle) → e < length (S .function .expressions) → FitExpression S e) × StatementBlamed S P n
+      go q (atMarks h r) = never cc
+      go q (atExpression h x p r) = never cc
+      go q (atUnfit h p m y r) =
+          (shape-exactly (S .function) (P .marks) .0 h, expressions-exactly S .0 p, statement-blamed S P n .0 (let z : m ≡ n = cc in y ∙ ap some z))
+      go q (atWalk h p y r) = never (ap isJudged (sym q) ∙ walk-judged r)
+
+  -- Judged: where the answer is not 21, it is not "not judged" exactly where every clause of 01's holds.
+  pub judged-exactly : (clearance S R P ≡ refused 21 → ⊥) →
+      (((e : ExpressionHandle) → clearance S R P ≡ unjudgedExpression e → ⊥) × ((n : ℕ) → clearance S R P ≡ unjudgedStatement n → ⊥)) ↔ IsJudged S P
+  judged-exactly f = (
+    (λ z. go z stage),
+    (λ j. (
+      (λ e q. let y = unjudged-expression-exactly e .0 q .1 in y .fails (j .expressions e (y .one))),
+      (λ n q. let y = unjudged-statement-exactly n .0 q .2 in y .fails (j .statements n (y .one))),
+    )),
+  )
+    where
+      go : ((e : ExpressionHandle) → clearance S R P ≡ unjudgedExpression e → ⊥) × ((n : ℕ) → clearance S R P ≡ unjudgedStatement n → ⊥) → Stage → IsJudged S P
+      go z (atMarks h q) = absurd (f q)
+      go z (atExpression h e p q) = absurd (z .0 e q)
+      go z (atUnfit h p n y q) = absurd (z .1 n q)
+      go z (atWalk h p y q) = record { expressions = expressions-exactly S .0 p; statements = statements-exactly S P .0 y }
