@@ -1,304 +1,100 @@
--- When each answer is given, one theorem for each. The marks and what is judged come first, and need no premise; the others, of a request whose
--- indexes ascend (reading it sees to that), come of one law: there is a reason for the answer, and a reason gives its answer (`reasons`).
-use Prim.Native.Nat.{ℕ, _<_, _≤_}
+-- When each answer is given: one theorem for each, read off `reasons` or proved in JudgedExactly. Marks and "judged" need no premise; the rest is of
+-- a request whose indexes ascend, as one that was read has. t are the smallest needs of the loops (`Walked`, `rounds-smallest`).
+use Prim.Native.Nat.{ℕ, _<_}
 use native.Mathlib.Omega.{arith}
-use mathlib.Core.Path.{_≡_, refl, sym, ap, subst, _∙_}
-use mathlib.Core.Bool.{Bool, true, false, cond, not, _&&_}
-use mathlib.Core.List.{List, [], _∷_}
+use mathlib.Core.Path.{_≡_, refl}
+use mathlib.Core.Bool.{true, false}
 use mathlib.Core.Logic.{_↔_, _⊎_, inl, inr}
-use mathlib.Core.Option.{Option, some, none as nothing}
-use lib.Dec.{ltb, eqb}
 use lib.ListN.{length}
-use borrow.Author.Tests.{ltb-true, ltb-false, lt-ltb, le-ltb, eqb-true, eq-eqb, not-true}
 use Rattle.field.specs.Limits.{maxPieces}
-use Rattle.part.specs.PartReq.{PartReq, contains, over}
+use Rattle.part.specs.PartReq.{PartReq, over}
 use Rattle.part.proofs.Equations.{never}
-use Rattle.module.specs.Module.{ExpressionHandle, Function}
-use Rattle.module.specs.Marks.{marksBefore}
-use Rattle.clearance.specs.Shape.{below}
-use Rattle.clearance.specs.Scope.{Scope, variable}
-use Rattle.clearance.specs.Needs.{byStatement, Table, reentry, smallest}
-use Rattle.clearance.specs.Judged.{every, lowest, blamedExpression, blamedStatement}
-use Rattle.clearance.specs.Verdict.{Request, Report, Answer, clear, atStatement, atStart, unjudgedExpression, unjudgedStatement, refused, ending, setting, body, startNeeds, faults}
-use Rattle.clearance.specs.Verdict.{needsExpression, starts, verdict, pieces, atPoint, limited, answerBy, judge, hasShape, clearance}
-use Rattle.clearance.specs.Rules.{Member, Lowest}
+use Rattle.module.specs.Module.{ExpressionHandle}
+use Rattle.clearance.specs.Scope.{Scope}
+use Rattle.clearance.specs.Needs.{Table}
+use Rattle.clearance.specs.Verdict.{Request, Report, Answer, clear, atStatement, atStart, unjudgedExpression, unjudgedStatement, refused, pieces, clearance}
 use Rattle.clearance.specs.IsNeed.{AscendingRequest}
-use Rattle.clearance.specs.IsJudged.{FitExpression, IsJudged, ExpressionBlamed, StatementBlamed}
+use Rattle.clearance.specs.IsJudged.{FitExpression, ExpressionBlamed, StatementBlamed}
 use Rattle.clearance.specs.Answered.{Shaped, AtPoint, Walked, WithinLimits, LowestBreak, StartMet, NoBreak, Reason, unshaped, expression, statement, deep, many, fault, unmet, cleared}
-use Rattle.clearance.proofs.Small.{cases, both-true, both-are}
-use Rattle.clearance.proofs.Cleared.{lowest-none}
-use Rattle.clearance.proofs.Rounds.{rounds-end, start-need}
-use Rattle.clearance.proofs.Exactly.{broken-exactly, evaluations-none, no-evaluation}
-use Rattle.clearance.proofs.Lowest.{lowest-is, isJudged, answer-judged}
-use Rattle.clearance.proofs.Faults.{faults-exactly}
-use Rattle.clearance.proofs.Relations.{impossible, every-at, every-from}
-use Rattle.clearance.proofs.JudgedExactly.{listed, expressions-exactly, expression-blamed, statements-exactly, statement-blamed}
-use Rattle.clearance.proofs.Points.{points-exactly, nowhere-exactly}
-
-shape-exactly : (f : Function) (marks : List ℕ) → (hasShape f marks ≡ true) ↔ Shaped f marks
-unfolding hasShape
-shape-exactly f marks = (
-  (λ h.
-  let z = both-true (eqb (length marks) (marksBefore (f .statements) (length (f .statements)))) _ h in
-  record { count = eqb-true _ _ (z .0); bits = λ b m. ltb-true b 2 (every-at (λ b. ltb b 2) marks (z .1) b m) }),
-  (λ s. both-are _ _ (eq-eqb _ _ (s .count)) (every-from (λ b. ltb b 2) marks (λ b m. lt-ltb b 2 (s .bits b m)))),
-)
+use Rattle.clearance.proofs.JudgedExactly.{marks-exactly, unjudged-expression-exactly, unjudged-statement-exactly}
+use Rattle.clearance.proofs.Reasons.{reasons}
 
 module _ (S : Scope) (R : Request) (P : Report) where
-  abbrev shape : Bool
-  shape = hasShape (S .function) (P .marks)
+  -- `refused 21`: the marks are not of the function's shape.
+  pub answer-21 : (clearance S R P ≡ refused 21) ↔ (Shaped (S .function) (P .marks) → ⊥)
+  answer-21 = marks-exactly S R P
 
-  abbrev found : Option Table
-  found = smallest (setting S R) (body S P) (ending S R)
+  -- `unjudged expr e`: e is the lowest expression that breaks a clause.
+  pub answer-expression : (e : ExpressionHandle) → (clearance S R P ≡ unjudgedExpression e) ↔ (Shaped (S .function) (P .marks) × ExpressionBlamed S e)
+  answer-expression = unjudged-expression-exactly S R P
 
-  -- how far the clearance comes: to the marks, to an expression, to a statement, or to the walk
-  data Stage : Type 0 where
-    atMarks : shape ≡ false → clearance S R P ≡ refused 21 → Stage
-    atExpression : shape ≡ true → (e : ExpressionHandle) → blamedExpression S ≡ some e → clearance S R P ≡ unjudgedExpression e → Stage
-    atUnfit : shape ≡ true → blamedExpression S ≡ nothing → (n : ℕ) → blamedStatement S (body S P) ≡ some n → clearance S R P ≡ unjudgedStatement n → Stage
-    atWalk : shape ≡ true → blamedExpression S ≡ nothing → blamedStatement S (body S P) ≡ nothing → clearance S R P ≡ answerBy S R P found → Stage
-
-  marks-answer : shape ≡ false → clearance S R P ≡ refused 21
-  unfolding clearance
-  marks-answer h = rw (h, clearance)
-
-  judged-answer : shape ≡ true → (x y : Option ℕ) → blamedExpression S ≡ x → blamedStatement S (body S P) ≡ y → clearance S R P ≡ judge S R P x y
-  unfolding clearance
-  judged-answer h x y p q = rw (h, clearance, p, q)
-
-  stage : Stage
-  unfolding judge
-  stage = cases shape (λ h. go h (blamedExpression S) (blamedStatement S (body S P)) refl refl) (λ h. atMarks h (marks-answer h))
-    where
-      go : shape ≡ true → (x y : Option ℕ) → blamedExpression S ≡ x → blamedStatement S (body S P) ≡ y → Stage
-      go h (some e) y p q = atExpression h e p (judged-answer h (some e) y p q)
-      go h nothing (some n) p q = atUnfit h p n q (judged-answer h nothing (some n) p q)
-      go h nothing nothing p q = atWalk h p q (judged-answer h nothing nothing p q)
-
-  walk-judged : clearance S R P ≡ answerBy S R P found → isJudged (clearance S R P) ≡ true
-  walk-judged e = ap isJudged e ∙ answer-judged S R P found
-
-  -- 21: exactly where the marks are not of the function's shape.
-  pub marks-exactly : (clearance S R P ≡ refused 21) ↔ (Shaped (S .function) (P .marks) → ⊥)
-  marks-exactly = (
-    (λ e s. go e (shape-exactly (S .function) (P .marks) .1 s) stage),
-    (λ f. cases shape (λ h. absurd (f (shape-exactly (S .function) (P .marks) .0 h))) marks-answer),
-  )
-    where
-      go : clearance S R P ≡ refused 21 → shape ≡ true → Stage → ⊥
-      go e s (atMarks h q) = impossible (sym h ∙ s)
-      go e s (atExpression h x p q) = never cc
-      go e s (atUnfit h p n r q) = never cc
-      go e s (atWalk h p r q) = impossible (ap isJudged (sym e) ∙ walk-judged q)
-
-  -- Not judged, with an expression: exactly the lowest that breaks a clause.
-  pub unjudged-expression-exactly : (e : ExpressionHandle) → (clearance S R P ≡ unjudgedExpression e) ↔ (Shaped (S .function) (P .marks) × ExpressionBlamed S e)
-  unfolding judge
-  unjudged-expression-exactly e = (
-    (λ q. go q stage),
-    (λ z. judged-answer (shape-exactly (S .function) (P .marks) .1 (z .0)) _ _ (expression-blamed S e .1 (z .1)) refl),
-  )
-    where
-      go : clearance S R P ≡ unjudgedExpression e → Stage → Shaped (S .function) (P .marks) × ExpressionBlamed S e
-      go q (atMarks h r) = never cc
-      go q (atExpression h x p r) = (shape-exactly (S .function) (P .marks) .0 h, expression-blamed S e .0 (let z : x ≡ e = cc in p ∙ ap some z))
-      go q (atUnfit h p n y r) = never cc
-      go q (atWalk h p y r) = never (ap isJudged (sym q) ∙ walk-judged r)
-
-  -- Not judged, with a statement: exactly where every clause holds of each expression, the lowest statement that breaks one.
-  pub unjudged-statement-exactly : (n : ℕ) → (clearance S R P ≡ unjudgedStatement n) ↔
+  -- `unjudged stmt n`: no expression breaks a clause, and n is the lowest statement that does.
+  pub answer-statement : (n : ℕ) → (clearance S R P ≡ unjudgedStatement n) ↔
       (Shaped (S .function) (P .marks) × ((e : ExpressionHandle) → e < length (S .function .expressions) → FitExpression S e) × StatementBlamed S P n)
-  unfolding judge
-  unjudged-statement-exactly n = (
-    (λ q. go q stage),
-    (λ z. judged-answer (shape-exactly (S .function) (P .marks) .1 (z .0)) _ _ (expressions-exactly S .1 (z .1)) (statement-blamed S P n .1 (z .2))),
-  )
-    where
-      go : clearance S R P ≡ unjudgedStatement n → Stage →
-          Shaped (S .function) (P .marks) × ((e : ExpressionHandle) → e < length (S .function .expressions) → FitExpression S e) × StatementBlamed S P n
-      go q (atMarks h r) = never cc
-      go q (atExpression h x p r) = never cc
-      go q (atUnfit h p m y r) =
-          (shape-exactly (S .function) (P .marks) .0 h, expressions-exactly S .0 p, statement-blamed S P n .0 (let z : m ≡ n = cc in y ∙ ap some z))
-      go q (atWalk h p y r) = never (ap isJudged (sym q) ∙ walk-judged r)
-
-  -- Judged: where the answer is not 21, it is not "not judged" exactly where every clause of 01's holds.
-  pub judged-exactly : (clearance S R P ≡ refused 21 → ⊥) →
-      (((e : ExpressionHandle) → clearance S R P ≡ unjudgedExpression e → ⊥) × ((n : ℕ) → clearance S R P ≡ unjudgedStatement n → ⊥)) ↔ IsJudged S P
-  judged-exactly f = (
-    (λ z. go z stage),
-    (λ j. (
-      (λ e q. let y = unjudged-expression-exactly e .0 q .1 in y .fails (j .expressions e (y .one))),
-      (λ n q. let y = unjudged-statement-exactly n .0 q .2 in y .fails (j .statements n (y .one))),
-    )),
-  )
-    where
-      go : ((e : ExpressionHandle) → clearance S R P ≡ unjudgedExpression e → ⊥) × ((n : ℕ) → clearance S R P ≡ unjudgedStatement n → ⊥) → Stage → IsJudged S P
-      go z (atMarks h q) = absurd (f q)
-      go z (atExpression h e p q) = absurd (z .0 e q)
-      go z (atUnfit h p n y q) = absurd (z .1 n q)
-      go z (atWalk h p y q) = record { expressions = expressions-exactly S .0 p; statements = statements-exactly S P .0 y }
-
-  -- The walk
-
-  verdictOf : Table → Answer
-  verdictOf t = verdict (lowest (faults S R P t)) (starts P (startNeeds S R P t))
-
-  walked-answer : (t : Table) → Walked S R P t → clearance S R P ≡ limited S R P t (verdictOf t)
-  unfolding judge answerBy verdictOf
-  walked-answer t w =
-      judged-answer (shape-exactly (S .function) (P .marks) .1 (w .shaped)) _ _ (expressions-exactly S .1 (w .judged .expressions)) (statements-exactly S P .1 (w .judged .statements))
-      ∙ (rw (w .settled))
-
-  deep-answer : (t : Table) (a : Answer) → atPoint S R P t over ≡ true → limited S R P t a ≡ refused 15
-  unfolding limited
-  deep-answer t a h = rw h
-
-  many-answer : (t : Table) (a : Answer) → atPoint S R P t over ≡ false → atPoint S R P t (λ n. ltb maxPieces (pieces n)) ≡ true → limited S R P t a ≡ refused 16
-  unfolding limited
-  many-answer t a h g = rw (h, g)
-
-  within-answer : (t : Table) (a : Answer) → atPoint S R P t over ≡ false → atPoint S R P t (λ n. ltb maxPieces (pieces n)) ≡ false → limited S R P t a ≡ a
-  unfolding limited
-  within-answer t a h g = rw (h, g)
-
-  fault-verdict : (t : Table) (n : ℕ) → lowest (faults S R P t) ≡ some n → verdictOf t ≡ atStatement n
-  unfolding verdictOf verdict
-  fault-verdict t n h = rw (h, verdict)
-
-  unmet-verdict : (t : Table) → lowest (faults S R P t) ≡ nothing → starts P (startNeeds S R P t) ≡ false → verdictOf t ≡ atStart
-  unfolding verdictOf verdict
-  unmet-verdict t h g = rw (h, g, verdict)
-
-  clear-verdict : (t : Table) → lowest (faults S R P t) ≡ nothing → starts P (startNeeds S R P t) ≡ true → verdictOf t ≡ clear
-  unfolding verdictOf verdict
-  clear-verdict t h g = rw (h, g, verdict)
-
-  -- what the tests of the walk say
-
-  deep-exactly : (t : Table) → (atPoint S R P t over ≡ true) ↔ ((m : PartReq) × AtPoint S R P t m × (over m ≡ true))
-  unfolding atPoint
-  deep-exactly t = points-exactly (setting S R) (reentry t) over (body S P) (ending S R)
-
-  shallow-exactly : (t : Table) → (atPoint S R P t over ≡ false) ↔ ((m : PartReq) → AtPoint S R P t m → over m ≡ false)
-  unfolding atPoint
-  shallow-exactly t = nowhere-exactly (setting S R) (reentry t) over (body S P) (ending S R)
-
-  many-exactly : (t : Table) → (atPoint S R P t (λ n. ltb maxPieces (pieces n)) ≡ true) ↔ ((m : PartReq) × AtPoint S R P t m × (maxPieces < pieces m))
-  unfolding atPoint
-  many-exactly t =
-      let p = points-exactly (setting S R) (reentry t) (λ n. ltb maxPieces (pieces n)) (body S P) (ending S R) in (
-        (λ h. let z = p .0 h in (z .0, z .1, ltb-true maxPieces (pieces (z .0)) (z .2))),
-        (λ z. p .1 (z .0, z .1, lt-ltb maxPieces (pieces (z .0)) (z .2))),
-      )
-
-  few-exactly : (t : Table) → (atPoint S R P t (λ n. ltb maxPieces (pieces n)) ≡ false) ↔ ((m : PartReq) → AtPoint S R P t m → pieces m ≤ maxPieces)
-  unfolding atPoint
-  few-exactly t =
-      let p = nowhere-exactly (setting S R) (reentry t) (λ n. ltb maxPieces (pieces n)) (body S P) (ending S R) in (
-        (λ h m a. ltb-false maxPieces (pieces m) (p .0 h m a)),
-        (λ f. p .1 (λ m a. le-ltb maxPieces (pieces m) (f m a))),
-      )
-
-  fault-exactly : (t : Table) (n : ℕ) → (lowest (faults S R P t) ≡ some n) ↔ LowestBreak S R P t n
-  unfolding faults
-  fault-exactly t n = (
-    (λ h.
-    let l = lowest-is _ n h in
-    record {
-      breaks = faults-exactly (setting S R) (reentry t) n (body S P) (ending S R) .0 (l .member);
-      least = λ m b. l .least m (faults-exactly (setting S R) (reentry t) m (body S P) (ending S R) .1 b);
-    }),
-    (λ b.
-    listed _ n
-    record {
-      member = faults-exactly (setting S R) (reentry t) n (body S P) (ending S R) .1 (b .breaks);
-      least = λ m h. b .least m (faults-exactly (setting S R) (reentry t) m (body S P) (ending S R) .0 h);
-    }),
-  )
-
-  unbroken-exactly : (t : Table) → (lowest (faults S R P t) ≡ nothing) ↔ NoBreak S R P t
-  unfolding faults lowest
-  unbroken-exactly t =
-      let f = broken-exactly (setting S R) (reentry t) byStatement (body S P) (ending S R) in (
-        (λ h. f .0 (lowest-none _ h)),
-        (λ u. rw (f .1 u)),
-      )
+  answer-statement = unjudged-statement-exactly S R P
 
   module _ (o : AscendingRequest R) where
-    start-exactly : (t : Table) → found ≡ some t → (starts P (startNeeds S R P t) ≡ true) ↔ StartMet S R P t
-    unfolding starts
-    start-exactly t e = (
-      (λ h.
-      let y = both-true (not (needsExpression (startNeeds S R P t))) _ h in
-      let z = both-true (contains (P .globals) (below (startNeeds S R P t) (variable 0 ∷ []))) _ (y .1) in
-      record { evaluations = evaluations-none (startNeeds S R P t) (not-true _ (y .0)); globals = z .0; args = z .1 }),
-      (λ m. rw (no-evaluation S (startNeeds S R P t) (start-need S R P o t e) (m .evaluations), m .globals, m .args)),
-    )
-
-    -- there is a reason for the answer
-
-    given : (a : Answer) → clearance S R P ≡ a → Reason S R P a → Reason S R P (clearance S R P)
-    given a e r = subst (λ b. Reason S R P b) (sym e) r
-
-    at-verdict : (t : Table) → Walked S R P t → WithinLimits S R P t → clearance S R P ≡ verdictOf t → Reason S R P (clearance S R P)
-    at-verdict t w l e = go (lowest (faults S R P t)) refl
+    -- `refused 15`: judged, and the needs at some point pass depth or entries.
+    pub answer-15 : (clearance S R P ≡ refused 15) ↔ ((t : Table) × Walked S R P t × (m : PartReq) × AtPoint S R P t m × (over m ≡ true))
+    answer-15 = ((λ e. go (refused 15) refl (reasons S R P o (refused 15) .0 e)), (λ (t, w, m, p, h). reasons S R P o _ .1 (deep t w m p h)))
       where
-        go : (x : Option ℕ) → lowest (faults S R P t) ≡ x → Reason S R P (clearance S R P)
-        go (some n) h = given (atStatement n) (e ∙ fault-verdict t n h) (fault t w l (fault-exactly t n .0 h))
-        go nothing h =
-            cases (starts P (startNeeds S R P t))
-            (λ g. given clear (e ∙ clear-verdict t h g) (cleared t w l (unbroken-exactly t .0 h) (start-exactly t (w .settled) .0 g)))
-            (λ g.
-            given atStart (e ∙ unmet-verdict t h g)
-            (unmet t w l (unbroken-exactly t .0 h) (λ m. impossible (sym g ∙ start-exactly t (w .settled) .1 m))))
+        go : (a : Answer) → a ≡ refused 15 → Reason S R P a → (t : Table) × Walked S R P t × (m : PartReq) × AtPoint S R P t m × (over m ≡ true)
+        go a e (unshaped f) = let z : _≡_ {A = ℕ} 21 15 = cc in absurd (omega arith)
+        go a e (expression s b) = never cc
+        go a e (statement s f b) = never cc
+        go a e (deep t w m p h) = (t, w, m, p, h)
+        go a e (many t w f m p h) = let z : _≡_ {A = ℕ} 16 15 = cc in absurd (omega arith)
+        go a e (fault t w l b) = never cc
+        go a e (unmet t w l u f) = never cc
+        go a e (cleared t w l u m) = never cc
 
-    at-walk : (t : Table) → Walked S R P t → Reason S R P (clearance S R P)
-    at-walk t w =
-        cases (atPoint S R P t over)
-        (λ h. let z = deep-exactly t .0 h in given (refused 15) (walked-answer t w ∙ deep-answer t _ h) (deep t w (z .0) (z .1) (z .2)))
-        (λ h.
-        cases (atPoint S R P t (λ n. ltb maxPieces (pieces n)))
-        (λ g.
-        let z = many-exactly t .0 g in
-        given (refused 16) (walked-answer t w ∙ many-answer t _ h g) (many t w (shallow-exactly t .0 h) (z .0) (z .1) (z .2)))
-        (λ g.
-        at-verdict t w record { shallow = shallow-exactly t .0 h; few = few-exactly t .0 g } (walked-answer t w ∙ within-answer t _ h g)))
-
-    reason : Reason S R P (clearance S R P)
-    reason = go stage
+    -- `refused 16`: judged, the needs at no point pass 15's limits, and at some point they have too many pieces.
+    pub answer-16 : (clearance S R P ≡ refused 16) ↔
+        ((t : Table) × Walked S R P t × ((m : PartReq) → AtPoint S R P t m → over m ≡ false) × (m : PartReq) × AtPoint S R P t m × (maxPieces < pieces m))
+    answer-16 = ((λ e. go (refused 16) refl (reasons S R P o (refused 16) .0 e)), (λ (t, w, f, m, p, h). reasons S R P o _ .1 (many t w f m p h)))
       where
-        go : Stage → Reason S R P (clearance S R P)
-        go (atMarks h q) = given (refused 21) q (unshaped (marks-exactly .0 q))
-        go (atExpression h e p q) = let z = unjudged-expression-exactly e .0 q in given _ q (expression (z .0) (z .1))
-        go (atUnfit h p n y q) = let z = unjudged-statement-exactly n .0 q in given _ q (statement (z .0) (z .1) (z .2))
-        go (atWalk h p y q) =
-            let z = rounds-end S R P o in
-            at-walk (z .0)
-            record {
-              shaped = shape-exactly (S .function) (P .marks) .0 h;
-              judged = record { expressions = expressions-exactly S .0 p; statements = statements-exactly S P .0 y };
-              settled = z .1;
-            }
+        go : (a : Answer) → a ≡ refused 16 → Reason S R P a →
+            (t : Table) × Walked S R P t × ((m : PartReq) → AtPoint S R P t m → over m ≡ false) × (m : PartReq) × AtPoint S R P t m × (maxPieces < pieces m)
+        go a e (unshaped f) = let z : _≡_ {A = ℕ} 21 16 = cc in absurd (omega arith)
+        go a e (expression s b) = never cc
+        go a e (statement s f b) = never cc
+        go a e (deep t w m p h) = let z : _≡_ {A = ℕ} 15 16 = cc in absurd (omega arith)
+        go a e (many t w f m p h) = (t, w, f, m, p, h)
+        go a e (fault t w l b) = never cc
+        go a e (unmet t w l u f) = never cc
+        go a e (cleared t w l u m) = never cc
 
-    -- and a reason gives its answer
+    -- No other refusal is given.
+    pub answer-refused : (n : ℕ) → clearance S R P ≡ refused n → (n ≡ 15) ⊎ ((n ≡ 16) ⊎ (n ≡ 21))
+    answer-refused n e = go (refused n) refl (reasons S R P o (refused n) .0 e)
+      where
+        go : (a : Answer) → a ≡ refused n → Reason S R P a → (n ≡ 15) ⊎ ((n ≡ 16) ⊎ (n ≡ 21))
+        go a e (unshaped f) = inr (inr cc)
+        go a e (expression s b) = never cc
+        go a e (statement s f b) = never cc
+        go a e (deep t w m p h) = inl cc
+        go a e (many t w f m p h) = inr (inl cc)
+        go a e (fault t w l b) = never cc
+        go a e (unmet t w l u f) = never cc
+        go a e (cleared t w l u m) = never cc
 
-    limits-answer : (t : Table) → Walked S R P t → WithinLimits S R P t → clearance S R P ≡ verdictOf t
-    limits-answer t w l = walked-answer t w ∙ within-answer t _ (shallow-exactly t .1 (l .shallow)) (few-exactly t .1 (l .few))
+    -- `stmt n`: judged and within the limits, and n is the lowest statement that breaks its rule.
+    pub answer-stmt : (n : ℕ) → (clearance S R P ≡ atStatement n) ↔ ((t : Table) × Walked S R P t × WithinLimits S R P t × LowestBreak S R P t n)
+    answer-stmt n = ((λ e. go (reasons S R P o _ .0 e)), (λ (t, w, l, b). reasons S R P o _ .1 (fault t w l b)))
+      where
+        go : Reason S R P (atStatement n) → (t : Table) × Walked S R P t × WithinLimits S R P t × LowestBreak S R P t n
+        go (fault t w l b) = (t, w, l, b)
 
-    answer : (a : Answer) → Reason S R P a → clearance S R P ≡ a
-    answer a (unshaped f) = marks-exactly .1 f
-    answer a (expression {e = e} s b) = unjudged-expression-exactly e .1 (s, b)
-    answer a (statement {n = n} s f b) = unjudged-statement-exactly n .1 (s, f, b)
-    answer a (deep t w m p h) = walked-answer t w ∙ deep-answer t _ (deep-exactly t .1 (m, p, h))
-    answer a (many t w f m p h) = walked-answer t w ∙ many-answer t _ (shallow-exactly t .1 f) (many-exactly t .1 (m, p, h))
-    answer a (fault {n = n} t w l b) = limits-answer t w l ∙ fault-verdict t n (fault-exactly t n .1 b)
-    answer a (unmet t w l u f) =
-        limits-answer t w l
-        ∙ unmet-verdict t (unbroken-exactly t .1 u)
-        (cases (starts P (startNeeds S R P t)) (λ g. absurd (f (start-exactly t (w .settled) .0 g))) (λ g. g))
-    answer a (cleared t w l u m) = limits-answer t w l ∙ clear-verdict t (unbroken-exactly t .1 u) (start-exactly t (w .settled) .1 m)
+    -- `start`: judged and within the limits, no statement breaks its rule, and the start lacks something.
+    pub answer-start : (clearance S R P ≡ atStart) ↔ ((t : Table) × Walked S R P t × WithinLimits S R P t × NoBreak S R P t × (StartMet S R P t → ⊥))
+    answer-start = ((λ e. go (reasons S R P o _ .0 e)), (λ (t, w, l, u, f). reasons S R P o _ .1 (unmet t w l u f)))
+      where
+        go : Reason S R P atStart → (t : Table) × Walked S R P t × WithinLimits S R P t × NoBreak S R P t × (StartMet S R P t → ⊥)
+        go (unmet t w l u f) = (t, w, l, u, f)
 
-    -- The answer is a if and only if there is the reason for a.
-    pub reasons : (a : Answer) → (clearance S R P ≡ a) ↔ Reason S R P a
-    reasons a = ((λ e. subst (λ b. Reason S R P b) e reason), answer a)
+    -- `clear`: judged and within the limits, no statement breaks its rule, and the start has what it must (the same as `exactly`, with "judged" in 01's words).
+    pub answer-clear : (clearance S R P ≡ clear) ↔ ((t : Table) × Walked S R P t × WithinLimits S R P t × NoBreak S R P t × StartMet S R P t)
+    answer-clear = ((λ e. go (reasons S R P o _ .0 e)), (λ (t, w, l, u, m). reasons S R P o _ .1 (cleared t w l u m)))
+      where
+        go : Reason S R P clear → (t : Table) × Walked S R P t × WithinLimits S R P t × NoBreak S R P t × StartMet S R P t
+        go (cleared t w l u m) = (t, w, l, u, m)

@@ -1,167 +1,129 @@
--- What is judged is exactly what 01 says: the answer is not "not judged" if and only if every clause holds of every expression and statement,
--- and otherwise it names the lowest expression, else the lowest statement, that breaks one. By one law on lists of those to blame.
-use Prim.Native.Nat.{ℕ, zero, suc, _+_, _<_, _≤_}
-use native.Mathlib.Omega.{arith}
-use native.Mathlib.Decide.{decLt}
-use mathlib.Core.Path.{_≡_, refl, sym, ap, subst, _∙_}
+-- What is judged is exactly what 01 says: where the marks are of the function's shape, the answer is not "not judged" if and only if every clause
+-- holds, and otherwise it names the lowest expression, else the lowest statement, that breaks one. By how far the clearance comes.
+use Prim.Native.Nat.{ℕ, _<_}
+use mathlib.Core.Path.{_≡_, refl, sym, ap, _∙_}
 use mathlib.Core.Bool.{Bool, true, false}
-use mathlib.Core.List.{List, [], _∷_, _++_}
-use mathlib.Core.Logic.{_↔_, _⊎_, inl, inr}
+use mathlib.Core.List.{List}
+use mathlib.Core.Logic.{_↔_}
 use mathlib.Core.Option.{Option, some, none as nothing}
-use lib.Dec.{eqb}
-use lib.ListN.{length, getD}
-use borrow.Author.Tests.{eqb-true, eqb-false}
+use lib.Dec.{ltb, eqb}
+use lib.ListN.{length}
+use borrow.Author.Tests.{ltb-true, lt-ltb, eqb-true, eq-eqb}
 use Rattle.part.proofs.Equations.{never}
-use Rattle.module.specs.Module.{ExpressionHandle, Kill}
-use Rattle.clearance.specs.Scope.{Scope, noExpression}
-use Rattle.clearance.specs.Judged.{failing, lowest, judgedExpression, blamedExpression, fitsStatement, strays, atTop, blamedStatement}
-use Rattle.clearance.specs.Rules.{Member, here, later, Lowest}
-use Rattle.clearance.specs.Verdict.{Report, body}
-use Rattle.clearance.specs.IsJudged.{FitExpression, FitStatement, IsJudged, LowestNot, ExpressionBlamed, StatementBlamed}
-use Rattle.clearance.proofs.Small.{cases}
-use Rattle.clearance.proofs.Cleared.{lowest-none}
-use Rattle.clearance.proofs.Lowest.{no-member, first-or-later, lowest-is, failing-fails, fails-failing}
-use Rattle.clearance.proofs.Faults.{either-list, in-left, in-right}
-use Rattle.clearance.proofs.Relations.{impossible}
-use Rattle.clearance.proofs.Strays.{stray-low}
-use Rattle.clearance.proofs.JudgedExpressions.{expression-exactly}
-use Rattle.clearance.proofs.JudgedStatements.{statement-exactly}
+use Rattle.module.specs.Module.{ExpressionHandle, Function}
+use Rattle.module.specs.Marks.{marksBefore}
+use Rattle.clearance.specs.Scope.{Scope}
+use Rattle.clearance.specs.Needs.{Table, smallest}
+use Rattle.clearance.specs.Judged.{blamedExpression, blamedStatement}
+use Rattle.clearance.specs.Verdict.{Request, Report, unjudgedExpression, unjudgedStatement, refused, ending, setting, body}
+use Rattle.clearance.specs.Verdict.{answerBy, judge, hasShape, clearance}
+use Rattle.clearance.specs.IsJudged.{FitExpression, IsJudged, ExpressionBlamed, StatementBlamed}
+use Rattle.clearance.specs.Answered.{Shaped}
+use Rattle.clearance.proofs.Small.{cases, both-true, both-are}
+use Rattle.clearance.proofs.Lowest.{isJudged, answer-judged}
+use Rattle.clearance.proofs.Relations.{impossible, every-at, every-from}
+use Rattle.clearance.proofs.Blamed.{expressions-exactly, expression-blamed, statements-exactly, statement-blamed}
 
--- The lowest of a list of those to blame
+pub shape-exactly : (f : Function) (marks : List ℕ) → (hasShape f marks ≡ true) ↔ Shaped f marks
+unfolding hasShape
+shape-exactly f marks = (
+  (λ h.
+      let z = both-true (eqb (length marks) (marksBefore (f .statements) (length (f .statements)))) _ h in
+      record { count = eqb-true _ _ (z .0); bits = λ b m. ltb-true b 2 (every-at (λ b. ltb b 2) marks (z .1) b m) }),
+  (λ s. both-are _ _ (eq-eqb _ _ (s .count)) (every-from (λ b. ltb b 2) marks (λ b m. lt-ltb b 2 (s .bits b m)))),
+)
 
-decide-member : (n : ℕ) (l : List ℕ) → Member n l ⊎ (Member n l → ⊥)
-decide-member n [] = inr (λ m. no-member n [] refl m)
-decide-member n (k ∷ l) = go (decide-member n l)
-  where
-    go : Member n l ⊎ (Member n l → ⊥) → Member n (k ∷ l) ⊎ (Member n (k ∷ l) → ⊥)
-    go (inl m) = inl (later m)
-    go (inr f) = cases (eqb n k) (λ e. inl (subst (λ x. Member n (x ∷ l)) (eqb-true n k e) here)) (λ e. inr (λ m. first-or-later k n l m (eqb-false n k e) f))
+module _ (S : Scope) (R : Request) (P : Report) where
+  abbrev shape : Bool
+  shape = hasShape (S .function) (P .marks)
 
-none-listed : (l : List ℕ) → ((n : ℕ) → Member n l → ⊥) → lowest l ≡ nothing
-unfolding lowest
-none-listed [] h = refl
-none-listed (n ∷ l) h = absurd (h n here)
+  abbrev found : Option Table
+  found = smallest (setting S R) (body S P) (ending S R)
 
-pub listed : (l : List ℕ) (n : ℕ) → Lowest n l → lowest l ≡ some n
-listed l n L = go (lowest l) refl
-  where
-    go : (o : Option ℕ) → lowest l ≡ o → lowest l ≡ some n
-    go nothing e = no-member n l (lowest-none l e) (L .member)
-    go (some m) e =
-        let M = lowest-is l m e in
-        let z : m ≡ n = omega (arith, M .least n (L .member), L .least m (M .member)) in
-        e ∙ ap some z
+  -- how far the clearance comes: to the marks, to an expression, to a statement, or to the walk
+  pub data Stage : Type 0 where
+    atMarks : shape ≡ false → clearance S R P ≡ refused 21 → Stage
+    atExpression : shape ≡ true → (e : ExpressionHandle) → blamedExpression S ≡ some e → clearance S R P ≡ unjudgedExpression e → Stage
+    atUnfit : shape ≡ true → blamedExpression S ≡ nothing → (n : ℕ) → blamedStatement S (body S P) ≡ some n → clearance S R P ≡ unjudgedStatement n → Stage
+    atWalk : shape ≡ true → blamedExpression S ≡ nothing → blamedStatement S (body S P) ≡ nothing → clearance S R P ≡ answerBy S R P found → Stage
 
--- l lists those of so many of which something does not hold
-record Lists (Holds : ℕ → Type 0) (count : ℕ) (l : List ℕ) : Type 0 where
-  inRange : (n : ℕ) → Member n l → n < count
-  failed : (n : ℕ) → Member n l → Holds n → ⊥
-  decided : (n : ℕ) → n < count → Holds n ⊎ Member n l
+  marks-answer : shape ≡ false → clearance S R P ≡ refused 21
+  unfolding clearance
+  marks-answer h = rw (h, clearance)
 
-module _ (Holds : ℕ → Type 0) (count : ℕ) (l : List ℕ) (L : Lists Holds count l) where
-  unlisted : (n : ℕ) → n < count → (Member n l → ⊥) → Holds n
-  unlisted n i f = go (L .decided n i)
+  pub judged-answer : shape ≡ true → (x y : Option ℕ) → blamedExpression S ≡ x → blamedStatement S (body S P) ≡ y → clearance S R P ≡ judge S R P x y
+  unfolding clearance
+  judged-answer h x y p q = rw (h, clearance, p, q)
+
+  pub stage : Stage
+  unfolding judge
+  stage = cases shape (λ h. go h (blamedExpression S) (blamedStatement S (body S P)) refl refl) (λ h. atMarks h (marks-answer h))
     where
-      go : Holds n ⊎ Member n l → Holds n
-      go (inl h) = h
-      go (inr m) = absurd (f m)
+      go : shape ≡ true → (x y : Option ℕ) → blamedExpression S ≡ x → blamedStatement S (body S P) ≡ y → Stage
+      go h (some e) y p q = atExpression h e p (judged-answer h (some e) y p q)
+      go h nothing (some n) p q = atUnfit h p n q (judged-answer h nothing (some n) p q)
+      go h nothing nothing p q = atWalk h p q (judged-answer h nothing nothing p q)
 
-  failed-listed : (n : ℕ) → n < count → (Holds n → ⊥) → Member n l
-  failed-listed n i f = go (L .decided n i)
-    where
-      go : Holds n ⊎ Member n l → Member n l
-      go (inl h) = absurd (f h)
-      go (inr m) = m
+  walk-judged : clearance S R P ≡ answerBy S R P found → isJudged (clearance S R P) ≡ true
+  walk-judged e = ap isJudged e ∙ answer-judged S R P found
 
-  none-exactly : (lowest l ≡ nothing) ↔ ((n : ℕ) → n < count → Holds n)
-  none-exactly = (
-    (λ e n i. unlisted n i (no-member n l (lowest-none l e))),
-    (λ h. none-listed l (λ n m. L .failed n m (h n (L .inRange n m)))),
-  )
-
-  lowest-exactly : (n : ℕ) → (lowest l ≡ some n) ↔ LowestNot Holds count n
-  lowest-exactly n = (
-    (λ e.
-    let M = lowest-is l n e in
-    let i = L .inRange n (M .member) in
-    record {
-      one = i;
-      fails = L .failed n (M .member);
-      lower = λ m j. unlisted m (omega arith) (λ g. omega (arith, M .least m g));
-    }),
-    (λ M. listed l n record { member = failed-listed n (M .one) (M .fails); least = λ m g. least M m g (decLt m n) }),
+  -- 21: exactly where the marks are not of the function's shape.
+  pub marks-exactly : (clearance S R P ≡ refused 21) ↔ (Shaped (S .function) (P .marks) → ⊥)
+  marks-exactly = (
+    (λ e s. go e (shape-exactly (S .function) (P .marks) .1 s) stage),
+    (λ f. cases shape (λ h. absurd (f (shape-exactly (S .function) (P .marks) .0 h))) marks-answer),
   )
     where
-      least : LowestNot Holds count n → (m : ℕ) → Member m l → Dec (m < n) → n ≤ m
-      least M m g (yes i) = absurd (L .failed m g (M .lower m i))
-      least M m g (no i) = omega arith
+      go : clearance S R P ≡ refused 21 → shape ≡ true → Stage → ⊥
+      go e s (atMarks h q) = impossible (sym h ∙ s)
+      go e s (atExpression h x p q) = never cc
+      go e s (atUnfit h p n r q) = never cc
+      go e s (atWalk h p r q) = impossible (ap isJudged (sym e) ∙ walk-judged q)
 
-from-first : {A : Type 0} (test : ℕ → A → Bool) (d : A) (xs : List A) (n : ℕ) → n < length xs → test n (getD xs n d) ≡ false → Member n (failing test 0 xs)
-from-first test d xs n i h = let z : 0 + n ≡ n = omega arith in subst (λ k. Member k (failing test 0 xs)) z (fails-failing test d 0 xs n i (rw z h))
-
--- Expressions
-
-module _ (S : Scope) where
-  test-fails : (n : ℕ) → judgedExpression S n ≡ false → FitExpression S n → ⊥
-  test-fails n h f = impossible (sym h ∙ expression-exactly S n .1 f)
-
-  expression-lists : Lists (FitExpression S) (length (S .function .expressions)) (failing (λ e x. judgedExpression S e) 0 (S .function .expressions))
-  expression-lists = record {
-    inRange = λ n m. let z = fails n m in omega (arith, z .1, z .2);
-    failed = λ n m. test-fails n (fails n m .3);
-    decided = λ n i.
-        cases (judgedExpression S n) (λ h. inl (expression-exactly S n .0 h))
-        (λ h. inr (from-first (λ e x. judgedExpression S e) noExpression (S .function .expressions) n i h));
-  }
+  -- Not judged, with an expression: exactly the lowest that breaks a clause.
+  pub unjudged-expression-exactly : (e : ExpressionHandle) → (clearance S R P ≡ unjudgedExpression e) ↔ (Shaped (S .function) (P .marks) × ExpressionBlamed S e)
+  unfolding judge
+  unjudged-expression-exactly e = (
+    (λ q. go q stage),
+    (λ z. judged-answer (shape-exactly (S .function) (P .marks) .1 (z .0)) _ _ (expression-blamed S e .1 (z .1)) refl),
+  )
     where
-      fails : (n : ℕ) → Member n (failing (λ e x. judgedExpression S e) 0 (S .function .expressions)) →
-          (i : ℕ) × (i < length (S .function .expressions)) × (n ≡ 0 + i) × (judgedExpression S n ≡ false)
-      fails n m = failing-fails (λ e x. judgedExpression S e) noExpression 0 (S .function .expressions) n m
+      go : clearance S R P ≡ unjudgedExpression e → Stage → Shaped (S .function) (P .marks) × ExpressionBlamed S e
+      go q (atMarks h r) = never cc
+      go q (atExpression h x p r) = (shape-exactly (S .function) (P .marks) .0 h, expression-blamed S e .0 (let z : x ≡ e = cc in p ∙ ap some z))
+      go q (atUnfit h p n y r) = never cc
+      go q (atWalk h p y r) = never (ap isJudged (sym q) ∙ walk-judged r)
 
-  pub expressions-exactly : (blamedExpression S ≡ nothing) ↔ ((e : ExpressionHandle) → e < length (S .function .expressions) → FitExpression S e)
-  unfolding blamedExpression
-  expressions-exactly = none-exactly _ _ _ expression-lists
+  -- Not judged, with a statement: exactly where every clause holds of each expression, the lowest statement that breaks one.
+  pub unjudged-statement-exactly : (n : ℕ) → (clearance S R P ≡ unjudgedStatement n) ↔
+      (Shaped (S .function) (P .marks) × ((e : ExpressionHandle) → e < length (S .function .expressions) → FitExpression S e) × StatementBlamed S P n)
+  unfolding judge
+  unjudged-statement-exactly n = (
+    (λ q. go q stage),
+    (λ z. judged-answer (shape-exactly (S .function) (P .marks) .1 (z .0)) _ _ (expressions-exactly S .1 (z .1)) (statement-blamed S P n .1 (z .2))),
+  )
+    where
+      go : clearance S R P ≡ unjudgedStatement n → Stage →
+          Shaped (S .function) (P .marks) × ((e : ExpressionHandle) → e < length (S .function .expressions) → FitExpression S e) × StatementBlamed S P n
+      go q (atMarks h r) = never cc
+      go q (atExpression h x p r) = never cc
+      go q (atUnfit h p m y r) =
+          (shape-exactly (S .function) (P .marks) .0 h, expressions-exactly S .0 p, statement-blamed S P n .0 (let z : m ≡ n = cc in y ∙ ap some z))
+      go q (atWalk h p y r) = never (ap isJudged (sym q) ∙ walk-judged r)
 
-  pub expression-blamed : (e : ExpressionHandle) → (blamedExpression S ≡ some e) ↔ ExpressionBlamed S e
-  unfolding blamedExpression
-  expression-blamed e = lowest-exactly _ _ _ expression-lists e
-
-  -- Statements
-
-  module _ (P : Report) where
-    abbrev unfit : List ℕ
-    unfit = failing (λ n x. fitsStatement S x) 0 (S .function .statements)
-
-    abbrev Unfit : ℕ → Type 0
-    Unfit n = (i : ℕ) × (i < length (S .function .statements)) × (n ≡ 0 + i) × (fitsStatement S (getD (S .function .statements) i Kill) ≡ false)
-
-    unfit-is : (n : ℕ) → Member n unfit → Unfit n
-    unfit-is n m = failing-fails (λ n x. fitsStatement S x) Kill 0 (S .function .statements) n m
-
-    unfit-fails : (n : ℕ) → Unfit n → FitStatement S P n → ⊥
-    unfit-fails n (i, l, e, h) f =
-        let z : n ≡ i = omega arith in
-        impossible (sym h ∙ statement-exactly S (body S P) i _ .1 (subst (λ k. FitStatement S P k) z f) .0)
-
-    decide : (n : ℕ) → n < length (S .function .statements) → (b : Bool) → fitsStatement S (getD (S .function .statements) n Kill) ≡ b →
-        Member n (strays (body S P) atTop) ⊎ (Member n (strays (body S P) atTop) → ⊥) → FitStatement S P n ⊎ Member n (unfit ++ strays (body S P) atTop)
-    decide n i false h d = inr (in-left n unfit _ (from-first (λ n x. fitsStatement S x) Kill (S .function .statements) n i h))
-    decide n i true h (inl m) = inr (in-right n unfit _ m)
-    decide n i true h (inr f) = inl (statement-exactly S (body S P) n _ .0 (h, f))
-
-    statement-lists : Lists (FitStatement S P) (length (S .function .statements)) (unfit ++ strays (body S P) atTop)
-    statement-lists = record {
-      inRange = λ n m.
-          either-list n unfit _ m (λ j. let z = unfit-is n j in omega (arith, z .1, z .2)) (stray-low (S .function) (P .marks) n);
-      failed = λ n m f.
-          either-list n unfit _ m (λ j. unfit-fails n (unfit-is n j) f) (statement-exactly S (body S P) n _ .1 f .1);
-      decided = λ n i. decide n i _ refl (decide-member n (strays (body S P) atTop));
-    }
-
-    pub statements-exactly : (blamedStatement S (body S P) ≡ nothing) ↔ ((n : ℕ) → n < length (S .function .statements) → FitStatement S P n)
-    unfolding blamedStatement
-    statements-exactly = none-exactly _ _ _ statement-lists
-
-    pub statement-blamed : (n : ℕ) → (blamedStatement S (body S P) ≡ some n) ↔ StatementBlamed S P n
-    unfolding blamedStatement
-    statement-blamed n = lowest-exactly _ _ _ statement-lists n
+  -- Judged: where the answer is not 21, it is not "not judged" exactly where every clause of 01's holds.
+  pub judged-exactly : (clearance S R P ≡ refused 21 → ⊥) →
+      (((e : ExpressionHandle) → clearance S R P ≡ unjudgedExpression e → ⊥) × ((n : ℕ) → clearance S R P ≡ unjudgedStatement n → ⊥)) ↔ IsJudged S P
+  judged-exactly f = (
+    (λ z. go z stage),
+    (λ j. (
+      (λ e q. let y = unjudged-expression-exactly e .0 q .1 in y .fails (j .expressions e (y .one))),
+      (λ n q. let y = unjudged-statement-exactly n .0 q .2 in y .fails (j .statements n (y .one))),
+    )),
+  )
+    where
+      go : ((e : ExpressionHandle) → clearance S R P ≡ unjudgedExpression e → ⊥) × ((n : ℕ) → clearance S R P ≡ unjudgedStatement n → ⊥) → Stage → IsJudged S P
+      go z (atMarks h q) = absurd (f q)
+      go z (atExpression h e p q) = absurd (z .0 e q)
+      go z (atUnfit h p n y q) = absurd (z .1 n q)
+      go z (atWalk h p y q) = record { expressions = expressions-exactly S .0 p; statements = statements-exactly S P .0 y }

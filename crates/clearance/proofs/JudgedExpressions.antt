@@ -1,26 +1,26 @@
 -- An expression passes the computed test exactly where every clause of 01's holds of it: each clause from the test at its kind, and the test
 -- from the clauses by cases of the kind.
-use Prim.Native.Nat.{ℕ, _≤_}
+use Prim.Native.Nat.{ℕ}
 use native.Mathlib.Omega.{arith}
-use mathlib.Core.Path.{_≡_, refl, sym, ap, subst, _∙_}
-use mathlib.Core.Bool.{Bool, true, false, cond, not, _&&_, _||_}
+use mathlib.Core.Path.{_≡_, refl, sym, subst, _∙_}
+use mathlib.Core.Bool.{Bool, true, false, not, _&&_, _||_}
 use mathlib.Core.List.{List, [], _∷_}
 use mathlib.Core.Logic.{_↔_, _⊎_, inl, inr}
 use mathlib.Core.Option.{Option, some, none as nothing}
 use lib.Dec.{ltb, eqb}
-use lib.ListN.{length, getD}
+use lib.ListN.{length}
 use borrow.Author.Tests.{ltb-true, lt-ltb, not-true}
 use Rattle.part.proofs.Equations.{never}
-use Rattle.module.specs.Module.{TypeHandle, TypeInner, Scalar, Vector, Pointer}
+use Rattle.module.specs.Module.{TypeHandle, TypeInner, Vector, Pointer}
 use Rattle.module.specs.Module.{ExpressionHandle, Expression}
 use Rattle.module.specs.Module.{Literal, ZeroValue, WorkGroupUniformLoadResult, AccessIndex, Access, Constant, Splat, Swizzle, Compose}
 use Rattle.module.specs.Module.{FunctionArgument, GlobalVariable, LocalVariable, Load, ImageSample, ImageLoad, ImageQuery, Unary, Binary, Select}
 use Rattle.module.specs.Module.{Derivative, Relational, Math, As, CallResult, AtomicResult, ArrayLength, RayQueryProceedResult}
 use Rattle.module.specs.Module.{RayQueryGetIntersection, Override, SubgroupBallotResult, SubgroupOperationResult, RayQueryVertexPositions}
-use Rattle.clearance.specs.Scope.{Scope, inner, kind, isKind, isScalar, isVector, isPointer, alike, fits, typed, typeOf, innerOf, argumentType, isPath}
-use Rattle.clearance.specs.Judged.{every, presently, partType, elementType, pointee, same, samePart, isValue, holdsUnsized, fitsIndex, hasVectorSize, fitsCompose, fitsVariable, fitsExpression, judgedExpression}
+use Rattle.clearance.specs.Scope.{Scope, inner, kind, isKind, isScalar, isPointer, alike, fits, typed, typeOf, innerOf, isPath}
+use Rattle.clearance.specs.Judged.{every, presently, partType, elementType, pointee, same, samePart, isValue, fitsIndex, hasVectorSize, fitsVariable, fitsExpression, judgedExpression}
 use Rattle.clearance.specs.Rules.{Member, here, later}
-use Rattle.clearance.specs.IsJudged.{expressionKind, To, ExpressionKinds, Declares, global, local, IndexOf, constant, dynamic, IsPath, MayPoint, aVariable, anIndex, IsValue}
+use Rattle.clearance.specs.IsJudged.{expressionKind, ExpressionKinds, Declares, global, local, IndexOf, constant, dynamic, IsPath, MayPoint, aVariable, anIndex, IsValue}
 use Rattle.clearance.specs.IsJudged.{TakesValue, asIndex, ofSplat, ofSwizzle, ofCompose, ofUnary, left, right, asCondition, asAccept, asReject, ofRelational, ofMath, ofMath1, ofMath2, ofMath3, ofAs}
 use Rattle.clearance.specs.IsJudged.{Indexes, at, by, ComposedOf, aVector, aMatrix, anArray, aStruct, HoldsUnsized, JudgedExpression, FitExpression}
 use Rattle.clearance.proofs.Small.{cases, both-true, both-are}
@@ -72,6 +72,7 @@ module _ (S : Scope) where
       go : (x : Expression) → IndexOf b x → ltb 9 (expressionKind x) ≡ false
       go x constant = unfold expressionKind in refl
       go x dynamic = unfold expressionKind in refl
+
       other : (x : Expression) (t : TypeHandle) → Declares S x t → ltb 9 (expressionKind x) ≡ true
       other x t global = unfold expressionKind in refl
       other x t local = unfold expressionKind in refl
@@ -384,7 +385,7 @@ module _ (S : Scope) where
     unfolding judgedExpression
     expression-exactly = (
       (λ h.
-      let z = both-true (fitsExpression S e (typed S e .expression)) _ h in
-      judged-of _ (z .0) (sized-exactly S (typeOf S e) .0 (z .1))),
+          let z = both-true (fitsExpression S e (typed S e .expression)) _ h in
+          judged-of _ (z .0) (sized-exactly S (typeOf S e) .0 (z .1))),
       (λ j. both-are _ _ (fits-from _ refl j) (sized-exactly S (typeOf S e) .1 (j .sized))),
     )

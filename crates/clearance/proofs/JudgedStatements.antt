@@ -1,9 +1,9 @@
 -- A statement passes the computed test, and is no stray, exactly where every clause of 01's holds of it: as for expressions.
-use Prim.Native.Nat.{ℕ, _≤_}
+use Prim.Native.Nat.{ℕ}
 use native.Mathlib.Omega.{arith}
-use mathlib.Core.Path.{_≡_, refl, _∙_}
-use mathlib.Core.Bool.{Bool, true, false, _&&_, _||_}
-use mathlib.Core.Logic.{_↔_, _⊎_, inl, inr}
+use mathlib.Core.Path.{_≡_, refl}
+use mathlib.Core.Bool.{Bool, true, _||_}
+use mathlib.Core.Logic.{_↔_, inl, inr}
 use mathlib.Core.Option.{Option, some, none as nothing}
 use lib.Dec.{ltb, eqb}
 use borrow.Author.Tests.{lt-ltb, eq-eqb}
@@ -11,11 +11,11 @@ use Rattle.part.proofs.Equations.{never}
 use Rattle.module.specs.Module.{ExpressionHandle, FunctionResult, Statement}
 use Rattle.module.specs.Module.{Emit, Block, If, Switch, Loop, Break, Continue, Return, Kill, ControlBarrier, MemoryBarrier, ImageAtomic, Store}
 use Rattle.module.specs.Module.{AtomicStatement, Call, ImageStore, RayQuery, WorkGroupUniformLoad, SubgroupBallot, SubgroupGather, SubgroupCollectiveOperation}
-use Rattle.clearance.specs.Scope.{Scope, alike, typeOf, innerOf, isPath}
+use Rattle.clearance.specs.Scope.{Scope, alike, typeOf, isPath}
 use Rattle.clearance.specs.Tree.{Tree}
-use Rattle.clearance.specs.Judged.{presently, pointee, same, isValue, fitsReturn, fitsStatement, atTop, strays}
+use Rattle.clearance.specs.Judged.{presently, isValue, fitsReturn, fitsStatement, atTop, strays}
 use Rattle.clearance.specs.Rules.{Member}
-use Rattle.clearance.specs.IsJudged.{statementKind, To, StatementKinds, IsPath, IsValue, UsesValue, ofIf, ofSwitch, ofLoop, ofReturn, ofStore, JudgedStatement}
+use Rattle.clearance.specs.IsJudged.{statementKind, StatementKinds, IsValue, UsesValue, ofIf, ofSwitch, ofLoop, ofReturn, ofStore, JudgedStatement}
 use Rattle.clearance.proofs.Small.{both-true, both-are}
 use Rattle.clearance.proofs.Relations.{either-left, either-right, path-exactly, value-exactly}
 use Rattle.clearance.proofs.Strays.{stays-exactly}

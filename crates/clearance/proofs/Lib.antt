@@ -15,8 +15,10 @@ pub mod JudgedExpressions
 pub mod Faults
 pub mod Strays
 pub mod JudgedStatements
+pub mod Blamed
 pub mod JudgedExactly
 pub mod Points
+pub mod Reasons
 pub mod Answers
 pub mod Missing
 pub mod Operators

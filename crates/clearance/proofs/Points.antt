@@ -2,20 +2,16 @@
 use Prim.Native.Nat.{ℕ, zero, suc, _<_}
 use native.Mathlib.Omega.{arith}
 use mathlib.Core.Path.{_≡_, refl, sym, _∙_}
-use mathlib.Core.Bool.{Bool, true, false, cond, not, _&&_, _||_}
-use mathlib.Core.List.{List}
+use mathlib.Core.Bool.{Bool, true, false, not, _||_}
 use mathlib.Core.Logic.{_↔_}
-use mathlib.Core.Option.{Option}
 use lib.ListN.{length}
-use borrow.Author.Tests.{not-true, not-false}
+use borrow.Author.Tests.{not-true}
 use Rattle.part.specs.PartReq.{PartReq}
 use Rattle.part.proofs.Equations.{never}
-use Rattle.module.specs.Module.{ExpressionHandle}
 use Rattle.clearance.specs.Tree.{Tree, nop, seq, act, branch, switch, loop, break, continue, return, unmarked}
 use Rattle.clearance.specs.Needs.{Exit, next, upon, ofCase, each, obeys, afterContinuing, around, Setting, walk, afterBody, amid, somewhere}
-use Rattle.clearance.specs.Rules.{Obeys}
 use Rattle.clearance.specs.Answered.{Point, after, before, inside, Inside, between, inFirst, inSecond, inAccept, inReject, inCase, inBody, inContinuing, inBroken}
-use Rattle.clearance.proofs.Small.{cases, each-at, each-from}
+use Rattle.clearance.proofs.Small.{cases, each-at}
 use Rattle.clearance.proofs.Exactly.{obeys-exactly, disobeys}
 use Rattle.clearance.proofs.Relations.{impossible, either-left, either-right}
 
@@ -85,6 +81,7 @@ module _ (W : Setting) (r : ℕ → PartReq) (test : PartReq → Bool) where
   module _ (m : PartReq) (t : test m ≡ true) where
     mutual
       unfolding around amid
+
       of-point : (a : Tree) (k : Exit → PartReq) → Point W r m a k → around test (k next) (walk W r a k) (amid W r test a k) ≡ true
       of-point a k (after e) = either-left _ _ (rw e at t)
       of-point a k (before e) = either-right (test (k next)) _ (either-left _ _ (rw e at t))

@@ -1,15 +1,15 @@
 -- The computed tests of specs/Judged.antt and the relations of specs/IsJudged.antt are the same, one by one: paths, values, parts of types,
 -- what holds an unsized array, and what a type is composed of. By cases of the kind, and by induction over lists and lower numbers.
-use Prim.Native.Nat.{ℕ, zero, suc, _+_, _<_, _≤_}
+use Prim.Native.Nat.{ℕ, zero, suc, _+_, _<_}
 use native.Mathlib.Omega.{arith}
 use mathlib.Core.Path.{_≡_, refl, sym, ap, subst, _∙_}
-use mathlib.Core.Bool.{Bool, true, false, cond, not, _&&_, _||_}
+use mathlib.Core.Bool.{Bool, true, false, cond, not, _||_}
 use mathlib.Core.List.{List, [], _∷_, map}
 use mathlib.Core.Logic.{_↔_, _⊎_, inl, inr}
 use mathlib.Core.Option.{Option, some, none as nothing}
 use lib.Dec.{ltb, eqb}
 use lib.ListN.{length, getD}
-use borrow.Author.Tests.{ltb-true, ltb-false, lt-ltb, eqb-true, eq-eqb, not-true, not-false}
+use borrow.Author.Tests.{ltb-true, lt-ltb, eqb-true, eq-eqb, not-true}
 use Rattle.part.proofs.Equations.{never}
 use Rattle.module.specs.Module.{TypeHandle, TypeInner, Scalar, Vector, Matrix, Atomic, Pointer, Array, Struct, BindingArray, Opaque, Member as TypeMember}
 use Rattle.module.specs.Module.{ExpressionHandle, Expression}
@@ -17,11 +17,11 @@ use Rattle.module.specs.Module.{Literal, ZeroValue, WorkGroupUniformLoadResult,
 use Rattle.module.specs.Module.{FunctionArgument, GlobalVariable, LocalVariable, Load, ImageSample, ImageLoad, ImageQuery, Unary, Binary, Select}
 use Rattle.module.specs.Module.{Derivative, Relational, Math, As, CallResult, AtomicResult, ArrayLength, RayQueryProceedResult}
 use Rattle.module.specs.Module.{RayQueryGetIntersection, Override, SubgroupBallotResult, SubgroupOperationResult, RayQueryVertexPositions}
-use Rattle.module.specs.Knot.{knot, below}
+use Rattle.module.specs.Knot.{below}
 use Rattle.module.proofs.Knot.{knot-is, below-lt}
-use Rattle.clearance.specs.Scope.{Scope, inner, memberTypes, kind, bases, isKind, isScalar, isVector, isPointer, pairwise, alikeInner, alike, fits, typed, typeOf, innerOf}
+use Rattle.clearance.specs.Scope.{Scope, inner, kind, bases, isKind, isScalar, isVector, isPointer, pairwise, alikeInner, alike, fits, typed, typeOf, innerOf}
 use Rattle.clearance.specs.Scope.{slot, Path, nowhere, further, stepFrom, pathOf, isPath}
-use Rattle.clearance.specs.Judged.{every, partType, elementType, pointeeType, pointee, same, samePart, isValue, holdsIn, holdsUnsized, hasVectorSize, componentCount, countComponents, fitsCompose}
+use Rattle.clearance.specs.Judged.{every, partType, elementType, pointeeType, same, samePart, isValue, holdsIn, holdsUnsized, hasVectorSize, componentCount, countComponents, fitsCompose}
 use Rattle.clearance.specs.Rules.{Member, here, later}
 use Rattle.clearance.specs.IsJudged.{Declares, global, local, IndexOf, constant, dynamic, IsPath, ends, goesOn, MayPoint, aVariable, anIndex, IsValue}
 use Rattle.clearance.specs.IsJudged.{Part, component, column, element, member, Parts, components, columns, elements, Components, scalar, vector, none, Members, one, ComposedOf, aVector, aMatrix, anArray, aStruct}
@@ -163,14 +163,14 @@ module _ (S : Scope) where
   unfolding isValue
   value-exactly e = (
     (λ h.
-    let z = both-true (not (isPath S e)) _ h in
-    record {
-      noPath = λ p. impossible (sym (not-true _ (z .0)) ∙ path-exactly e .1 p);
-      noPointer = is-no-pointer (innerOf S e) (not-true _ (z .1));
-    }),
+        let z = both-true (not (isPath S e)) _ h in
+        record {
+          noPath = λ p. impossible (sym (not-true _ (z .0)) ∙ path-exactly e .1 p);
+          noPointer = is-no-pointer (innerOf S e) (not-true _ (z .1));
+        }),
     (λ v.
-    let p : isPath S e ≡ false = cases (isPath S e) (λ h. absurd (v .noPath (path-exactly e .0 h))) (λ h. h) in
-    rw (p, no-pointer (innerOf S e) (v .noPointer))),
+        let p : isPath S e ≡ false = cases (isPath S e) (λ h. absurd (v .noPath (path-exactly e .0 h))) (λ h. h) in
+        rw (p, no-pointer (innerOf S e) (v .noPointer))),
   )
 
   -- Types

@@ -1,11 +1,11 @@
 -- The strays are exactly the breaks, continues and returns that leave where they may not: the body, or a loop's continuing block. Both by
 -- induction over the body; their numbers are numbers of the function's statements.
-use Prim.Native.Nat.{ℕ, zero, suc, _+_, _-_, _<_, _≤_}
+use Prim.Native.Nat.{ℕ, zero, suc, _<_}
 use native.Mathlib.Omega.{arith}
 use native.Mathlib.Decide.{decLt}
-use mathlib.Core.Path.{_≡_, refl, sym, ap, subst, _∙_}
+use mathlib.Core.Path.{_≡_, refl, sym}
 use mathlib.Core.Bool.{Bool, true, false}
-use mathlib.Core.List.{List, [], _∷_, _++_}
+use mathlib.Core.List.{List, [], _∷_}
 use mathlib.Core.Logic.{_↔_, _⊎_, inl, inr}
 use mathlib.Core.Option.{Option}
 use lib.ListN.{length, getD, List·getD-eq-default}
@@ -14,10 +14,10 @@ use Rattle.module.specs.Module.{ExpressionHandle, BlockHandle, Statement, Switc
 use Rattle.module.specs.Module.{Emit, Block, If, Switch, Loop, Break, Continue, Return, Kill, ControlBarrier, MemoryBarrier, ImageAtomic, Store}
 use Rattle.module.specs.Module.{AtomicStatement, Call, ImageStore, RayQuery, WorkGroupUniformLoad, SubgroupBallot, SubgroupGather, SubgroupCollectiveOperation}
 use Rattle.module.proofs.Knot.{knot-all}
-use Rattle.clearance.specs.Tree.{Act, Tree, nop, seq, act, branch, switch, loop, break, continue, return, unmarked, marked, markAt, byMark, emits, caseAt, statement, statementsFrom, blockTree, bodyTree}
-use Rattle.clearance.specs.Needs.{Exit, next, broke, continued, returned, onlyNext, concat}
+use Rattle.clearance.specs.Tree.{Act, Tree, nop, seq, act, branch, switch, loop, break, continue, return, unmarked, marked, byMark, emits, caseAt, statement, statementsFrom, blockTree, bodyTree}
+use Rattle.clearance.specs.Needs.{Exit, next, broke, continued, returned, onlyNext}
 use Rattle.clearance.specs.Judged.{atTop, inCase, inBody, unless, strays}
-use Rattle.clearance.specs.Rules.{Member, here, later}
+use Rattle.clearance.specs.Rules.{Member, here}
 use Rattle.clearance.specs.Rules.{Leaves, byBreak, byContinue, byReturn, fromFirst, fromSecond, fromAccept, fromReject, caseContinues, caseReturns, bodyReturns, continuingContinues, continuingReturns, fromUnmarked}
 use Rattle.clearance.specs.IsJudged.{ContinuingIn, ofThis, inFirst, inSecond, inAccept, inReject, inContinuing, inUnmarked, inCase as ofCase, inBody as ofBody}
 use Rattle.clearance.proofs.Exactly.{no-next}

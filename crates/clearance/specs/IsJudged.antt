@@ -7,7 +7,7 @@ use mathlib.Core.List.{List, [], _∷_}
 use mathlib.Core.Logic.{_⊎_}
 use mathlib.Core.Option.{Option, some}
 use lib.ListN.{length, getD}
-use Rattle.module.specs.Module.{TypeHandle, TypeInner, Scalar, Vector, Matrix, Atomic, Pointer, Array, Struct, BindingArray, Opaque, Member as TypeMember}
+use Rattle.module.specs.Module.{TypeHandle, TypeInner, Scalar, Vector, Matrix, Pointer, Array, Struct, BindingArray, Member as TypeMember}
 use Rattle.module.specs.Module.{ExpressionHandle, BlockHandle, Expression, FunctionResult, Statement, SwitchCase}
 use Rattle.module.specs.Module.{Literal, ZeroValue, WorkGroupUniformLoadResult, AccessIndex, Access, Constant, Splat, Swizzle, Compose}
 use Rattle.module.specs.Module.{FunctionArgument, GlobalVariable, LocalVariable, Load, ImageSample, ImageLoad, ImageQuery, Unary, Binary, Select}

@@ -1,0 +1,166 @@
+-- Those to blame are exactly those that break a clause of 01's: no expression (statement) is to blame where every clause holds of all, and the
+-- lowest to blame is the lowest that breaks one. By one law on lists.
+use Prim.Native.Nat.{ℕ, _+_, _<_, _≤_}
+use native.Mathlib.Omega.{arith}
+use native.Mathlib.Decide.{decLt}
+use mathlib.Core.Path.{_≡_, refl, sym, ap, subst, _∙_}
+use mathlib.Core.Bool.{Bool, true, false}
+use mathlib.Core.List.{List, [], _∷_, _++_}
+use mathlib.Core.Logic.{_↔_, _⊎_, inl, inr}
+use mathlib.Core.Option.{Option, some, none as nothing}
+use lib.Dec.{eqb}
+use lib.ListN.{length, getD}
+use borrow.Author.Tests.{eqb-true, eqb-false}
+use Rattle.module.specs.Module.{ExpressionHandle, Kill}
+use Rattle.clearance.specs.Scope.{Scope, noExpression}
+use Rattle.clearance.specs.Judged.{failing, lowest, judgedExpression, blamedExpression, fitsStatement, strays, atTop, blamedStatement}
+use Rattle.clearance.specs.Rules.{Member, here, later, Lowest}
+use Rattle.clearance.specs.Verdict.{Report, body}
+use Rattle.clearance.specs.IsJudged.{FitExpression, FitStatement, LowestNot, ExpressionBlamed, StatementBlamed}
+use Rattle.clearance.proofs.Small.{cases}
+use Rattle.clearance.proofs.Cleared.{lowest-none}
+use Rattle.clearance.proofs.Lowest.{no-member, first-or-later, lowest-is, failing-fails, fails-failing}
+use Rattle.clearance.proofs.Faults.{either-list, in-left, in-right}
+use Rattle.clearance.proofs.Relations.{impossible}
+use Rattle.clearance.proofs.Strays.{stray-low}
+use Rattle.clearance.proofs.JudgedExpressions.{expression-exactly}
+use Rattle.clearance.proofs.JudgedStatements.{statement-exactly}
+
+-- The lowest of a list of those to blame
+
+decide-member : (n : ℕ) (l : List ℕ) → Member n l ⊎ (Member n l → ⊥)
+decide-member n [] = inr (λ m. no-member n [] refl m)
+decide-member n (k ∷ l) = go (decide-member n l)
+  where
+    go : Member n l ⊎ (Member n l → ⊥) → Member n (k ∷ l) ⊎ (Member n (k ∷ l) → ⊥)
+    go (inl m) = inl (later m)
+    go (inr f) = cases (eqb n k) (λ e. inl (subst (λ x. Member n (x ∷ l)) (eqb-true n k e) here)) (λ e. inr (λ m. first-or-later k n l m (eqb-false n k e) f))
+
+none-listed : (l : List ℕ) → ((n : ℕ) → Member n l → ⊥) → lowest l ≡ nothing
+unfolding lowest
+none-listed [] h = refl
+none-listed (n ∷ l) h = absurd (h n here)
+
+pub listed : (l : List ℕ) (n : ℕ) → Lowest n l → lowest l ≡ some n
+listed l n L = go (lowest l) refl
+  where
+    go : (o : Option ℕ) → lowest l ≡ o → lowest l ≡ some n
+    go nothing e = no-member n l (lowest-none l e) (L .member)
+    go (some m) e =
+        let M = lowest-is l m e in
+        let z : m ≡ n = omega (arith, M .least n (L .member), L .least m (M .member)) in
+        e ∙ ap some z
+
+-- l lists those of so many of which something does not hold
+record Lists (Holds : ℕ → Type 0) (count : ℕ) (l : List ℕ) : Type 0 where
+  inRange : (n : ℕ) → Member n l → n < count
+  failed : (n : ℕ) → Member n l → Holds n → ⊥
+  decided : (n : ℕ) → n < count → Holds n ⊎ Member n l
+
+module _ (Holds : ℕ → Type 0) (count : ℕ) (l : List ℕ) (L : Lists Holds count l) where
+  unlisted : (n : ℕ) → n < count → (Member n l → ⊥) → Holds n
+  unlisted n i f = go (L .decided n i)
+    where
+      go : Holds n ⊎ Member n l → Holds n
+      go (inl h) = h
+      go (inr m) = absurd (f m)
+
+  failed-listed : (n : ℕ) → n < count → (Holds n → ⊥) → Member n l
+  failed-listed n i f = go (L .decided n i)
+    where
+      go : Holds n ⊎ Member n l → Member n l
+      go (inl h) = absurd (f h)
+      go (inr m) = m
+
+  none-exactly : (lowest l ≡ nothing) ↔ ((n : ℕ) → n < count → Holds n)
+  none-exactly = (
+    (λ e n i. unlisted n i (no-member n l (lowest-none l e))),
+    (λ h. none-listed l (λ n m. L .failed n m (h n (L .inRange n m)))),
+  )
+
+  lowest-exactly : (n : ℕ) → (lowest l ≡ some n) ↔ LowestNot Holds count n
+  lowest-exactly n = (
+    (λ e.
+        let M = lowest-is l n e in
+        let i = L .inRange n (M .member) in
+        record {
+          one = i;
+          fails = L .failed n (M .member);
+          lower = λ m j. unlisted m (omega arith) (λ g. omega (arith, M .least m g));
+        }),
+    (λ M. listed l n record { member = failed-listed n (M .one) (M .fails); least = λ m g. least M m g (decLt m n) }),
+  )
+    where
+      least : LowestNot Holds count n → (m : ℕ) → Member m l → Dec (m < n) → n ≤ m
+      least M m g (yes i) = absurd (L .failed m g (M .lower m i))
+      least M m g (no i) = omega arith
+
+from-first : {A : Type 0} (test : ℕ → A → Bool) (d : A) (xs : List A) (n : ℕ) → n < length xs → test n (getD xs n d) ≡ false → Member n (failing test 0 xs)
+from-first test d xs n i h = let z : 0 + n ≡ n = omega arith in subst (λ k. Member k (failing test 0 xs)) z (fails-failing test d 0 xs n i (rw z h))
+
+-- Expressions
+
+module _ (S : Scope) where
+  test-fails : (n : ℕ) → judgedExpression S n ≡ false → FitExpression S n → ⊥
+  test-fails n h f = impossible (sym h ∙ expression-exactly S n .1 f)
+
+  expression-lists : Lists (FitExpression S) (length (S .function .expressions)) (failing (λ e x. judgedExpression S e) 0 (S .function .expressions))
+  expression-lists = record {
+    inRange = λ n m. let z = fails n m in omega (arith, z .1, z .2);
+    failed = λ n m. test-fails n (fails n m .3);
+    decided = λ n i.
+        cases (judgedExpression S n) (λ h. inl (expression-exactly S n .0 h))
+        (λ h. inr (from-first (λ e x. judgedExpression S e) noExpression (S .function .expressions) n i h));
+  }
+    where
+      fails : (n : ℕ) → Member n (failing (λ e x. judgedExpression S e) 0 (S .function .expressions)) →
+          (i : ℕ) × (i < length (S .function .expressions)) × (n ≡ 0 + i) × (judgedExpression S n ≡ false)
+      fails n m = failing-fails (λ e x. judgedExpression S e) noExpression 0 (S .function .expressions) n m
+
+  pub expressions-exactly : (blamedExpression S ≡ nothing) ↔ ((e : ExpressionHandle) → e < length (S .function .expressions) → FitExpression S e)
+  unfolding blamedExpression
+  expressions-exactly = none-exactly _ _ _ expression-lists
+
+  pub expression-blamed : (e : ExpressionHandle) → (blamedExpression S ≡ some e) ↔ ExpressionBlamed S e
+  unfolding blamedExpression
+  expression-blamed e = lowest-exactly _ _ _ expression-lists e
+
+  -- Statements
+
+  module _ (P : Report) where
+    abbrev unfit : List ℕ
+    unfit = failing (λ n x. fitsStatement S x) 0 (S .function .statements)
+
+    abbrev Unfit : ℕ → Type 0
+    Unfit n = (i : ℕ) × (i < length (S .function .statements)) × (n ≡ 0 + i) × (fitsStatement S (getD (S .function .statements) i Kill) ≡ false)
+
+    unfit-is : (n : ℕ) → Member n unfit → Unfit n
+    unfit-is n m = failing-fails (λ n x. fitsStatement S x) Kill 0 (S .function .statements) n m
+
+    unfit-fails : (n : ℕ) → Unfit n → FitStatement S P n → ⊥
+    unfit-fails n (i, l, e, h) f =
+        let z : n ≡ i = omega arith in
+        impossible (sym h ∙ statement-exactly S (body S P) i _ .1 (subst (λ k. FitStatement S P k) z f) .0)
+
+    decide : (n : ℕ) → n < length (S .function .statements) → (b : Bool) → fitsStatement S (getD (S .function .statements) n Kill) ≡ b →
+        Member n (strays (body S P) atTop) ⊎ (Member n (strays (body S P) atTop) → ⊥) → FitStatement S P n ⊎ Member n (unfit ++ strays (body S P) atTop)
+    decide n i false h d = inr (in-left n unfit _ (from-first (λ n x. fitsStatement S x) Kill (S .function .statements) n i h))
+    decide n i true h (inl m) = inr (in-right n unfit _ m)
+    decide n i true h (inr f) = inl (statement-exactly S (body S P) n _ .0 (h, f))
+
+    statement-lists : Lists (FitStatement S P) (length (S .function .statements)) (unfit ++ strays (body S P) atTop)
+    statement-lists = record {
+      inRange = λ n m.
+          either-list n unfit _ m (λ j. let z = unfit-is n j in omega (arith, z .1, z .2)) (stray-low (S .function) (P .marks) n);
+      failed = λ n m f.
+          either-list n unfit _ m (λ j. unfit-fails n (unfit-is n j) f) (statement-exactly S (body S P) n _ .1 f .1);
+      decided = λ n i. decide n i _ refl (decide-member n (strays (body S P) atTop));
+    }
+
+    pub statements-exactly : (blamedStatement S (body S P) ≡ nothing) ↔ ((n : ℕ) → n < length (S .function .statements) → FitStatement S P n)
+    unfolding blamedStatement
+    statements-exactly = none-exactly _ _ _ statement-lists
+
+    pub statement-blamed : (n : ℕ) → (blamedStatement S (body S P) ≡ some n) ↔ StatementBlamed S P n
+    unfolding blamedStatement
+    statement-blamed n = lowest-exactly _ _ _ statement-lists n
