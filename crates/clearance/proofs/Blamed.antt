@@ -3,53 +3,26 @@
 use Prim.Native.Nat.{ℕ, _+_, _<_, _≤_}
 use native.Mathlib.Omega.{arith}
 use native.Mathlib.Decide.{decLt}
-use mathlib.Core.Path.{_≡_, refl, sym, ap, subst, _∙_}
+use mathlib.Core.Path.{_≡_, refl, sym, subst, _∙_}
 use mathlib.Core.Bool.{Bool, true, false}
-use mathlib.Core.List.{List, [], _∷_, _++_}
+use mathlib.Core.List.{List, _++_}
 use mathlib.Core.Logic.{_↔_, _⊎_, inl, inr}
-use mathlib.Core.Option.{Option, some, none as nothing}
-use lib.Dec.{eqb}
+use mathlib.Core.Option.{some, none as nothing}
 use lib.ListN.{length, getD}
-use borrow.Author.Tests.{eqb-true, eqb-false}
 use Rattle.module.specs.Module.{ExpressionHandle, Kill}
 use Rattle.clearance.specs.Scope.{Scope, noExpression}
 use Rattle.clearance.specs.Judged.{failing, lowest, judgedExpression, blamedExpression, fitsStatement, strays, atTop, blamedStatement}
-use Rattle.clearance.specs.Rules.{Member, here, later, Lowest}
+use Rattle.clearance.specs.Rules.{Member}
 use Rattle.clearance.specs.Verdict.{Report, body}
 use Rattle.clearance.specs.IsJudged.{FitExpression, FitStatement, LowestNot, ExpressionBlamed, StatementBlamed}
 use Rattle.clearance.proofs.Small.{cases}
 use Rattle.clearance.proofs.Cleared.{lowest-none}
-use Rattle.clearance.proofs.Lowest.{no-member, first-or-later, lowest-is, failing-fails, fails-failing}
+use Rattle.clearance.proofs.Lowest.{no-member, lowest-is, failing-fails, fails-failing, decide-member, none-listed, listed}
 use Rattle.clearance.proofs.Faults.{either-list, in-left, in-right}
 use Rattle.clearance.proofs.Relations.{impossible}
 use Rattle.clearance.proofs.Strays.{stray-low}
 use Rattle.clearance.proofs.JudgedExpressions.{expression-exactly}
 use Rattle.clearance.proofs.JudgedStatements.{statement-exactly}
-
--- The lowest of a list of those to blame
-
-decide-member : (n : ℕ) (l : List ℕ) → Member n l ⊎ (Member n l → ⊥)
-decide-member n [] = inr (λ m. no-member n [] refl m)
-decide-member n (k ∷ l) = go (decide-member n l)
-  where
-    go : Member n l ⊎ (Member n l → ⊥) → Member n (k ∷ l) ⊎ (Member n (k ∷ l) → ⊥)
-    go (inl m) = inl (later m)
-    go (inr f) = cases (eqb n k) (λ e. inl (subst (λ x. Member n (x ∷ l)) (eqb-true n k e) here)) (λ e. inr (λ m. first-or-later k n l m (eqb-false n k e) f))
-
-none-listed : (l : List ℕ) → ((n : ℕ) → Member n l → ⊥) → lowest l ≡ nothing
-unfolding lowest
-none-listed [] h = refl
-none-listed (n ∷ l) h = absurd (h n here)
-
-pub listed : (l : List ℕ) (n : ℕ) → Lowest n l → lowest l ≡ some n
-listed l n L = go (lowest l) refl
-  where
-    go : (o : Option ℕ) → lowest l ≡ o → lowest l ≡ some n
-    go nothing e = no-member n l (lowest-none l e) (L .member)
-    go (some m) e =
-        let M = lowest-is l m e in
-        let z : m ≡ n = omega (arith, M .least n (L .member), L .least m (M .member)) in
-        e ∙ ap some z
 
 -- l lists those of so many of which something does not hold
 record Lists (Holds : ℕ → Type 0) (count : ℕ) (l : List ℕ) : Type 0 where

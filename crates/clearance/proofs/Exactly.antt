@@ -2,7 +2,7 @@
 use Prim.Native.Nat.{ℕ, zero, suc, _+_, _-_, _*_, _/_, _%_, _<_, _≤_}
 use native.Mathlib.Omega.{arith}
 use mathlib.Core.Path.{_≡_, refl, sym, ap, _∙_}
-use mathlib.Core.Bool.{Bool, true, false, not, _&&_, _||_}
+use mathlib.Core.Bool.{Bool, true, false, not, _||_}
 use mathlib.Core.List.{List, [], _∷_, _++_}
 use mathlib.Core.Logic.{_↔_}
 use mathlib.Core.Option.{Option}
@@ -15,7 +15,7 @@ use Rattle.module.specs.Module.{ExpressionHandle}
 use Rattle.clearance.specs.Shape.{Shape, struct, member, inside, cov, below, some}
 use Rattle.clearance.specs.Scope.{Scope, slot, evaluated, variable, slots, kindShape, frame}
 use Rattle.clearance.specs.Tree.{Act, Tree, nop, seq, act, branch, switch, loop, break, continue, return, unmarked}
-use Rattle.clearance.specs.Needs.{overlap, idle, Exit, next, broke, continued, returned, upon, outBreak, outContinue, ofCase, ofContinuing, ofBody, each, concat, quiet, onlyNext, obeys}
+use Rattle.clearance.specs.Needs.{overlap, idle, Exit, next, broke, continued, returned, upon, outBreak, outContinue, ofCase, ofContinuing, ofBody, concat, quiet, onlyNext, obeys}
 use Rattle.clearance.specs.Needs.{byStatement, Setting, lacking, Table, reentry}
 use Rattle.clearance.specs.Verdict.{Request, Report, clear, ending, setting, body, startNeeds, faults, needsExpression, starts, clearance}
 use Rattle.clearance.specs.Rules.{StandsIn, itself, first, second, inAccept, inReject, inCase, inBody, inContinuing, inUnmarked, Obeys, Unbroken, Cleared}

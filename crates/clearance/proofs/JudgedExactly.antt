@@ -2,25 +2,26 @@
 -- holds, and otherwise it names the lowest expression, else the lowest statement, that breaks one. By how far the clearance comes.
 use Prim.Native.Nat.{ℕ, _<_}
 use mathlib.Core.Path.{_≡_, refl, sym, ap, _∙_}
-use mathlib.Core.Bool.{Bool, true, false}
+use mathlib.Core.Bool.{Bool, true, false, cond}
 use mathlib.Core.List.{List}
 use mathlib.Core.Logic.{_↔_}
 use mathlib.Core.Option.{Option, some, none as nothing}
 use lib.Dec.{ltb, eqb}
 use lib.ListN.{length}
 use borrow.Author.Tests.{ltb-true, lt-ltb, eqb-true, eq-eqb}
+use Rattle.field.specs.Limits.{maxPieces}
+use Rattle.part.specs.PartReq.{over}
 use Rattle.part.proofs.Equations.{never}
 use Rattle.module.specs.Module.{ExpressionHandle, Function}
 use Rattle.module.specs.Marks.{marksBefore}
 use Rattle.clearance.specs.Scope.{Scope}
 use Rattle.clearance.specs.Needs.{Table, smallest}
 use Rattle.clearance.specs.Judged.{blamedExpression, blamedStatement}
-use Rattle.clearance.specs.Verdict.{Request, Report, unjudgedExpression, unjudgedStatement, refused, ending, setting, body}
-use Rattle.clearance.specs.Verdict.{answerBy, judge, hasShape, clearance}
+use Rattle.clearance.specs.Verdict.{Request, Report, Answer, clear, atStatement, atStart, unjudgedExpression, unjudgedStatement, refused, ending, setting, body}
+use Rattle.clearance.specs.Verdict.{verdict, pieces, atPoint, limited, answerBy, judge, hasShape, clearance}
 use Rattle.clearance.specs.IsJudged.{FitExpression, IsJudged, ExpressionBlamed, StatementBlamed}
 use Rattle.clearance.specs.Answered.{Shaped}
 use Rattle.clearance.proofs.Small.{cases, both-true, both-are}
-use Rattle.clearance.proofs.Lowest.{isJudged, answer-judged}
 use Rattle.clearance.proofs.Relations.{impossible, every-at, every-from}
 use Rattle.clearance.proofs.Blamed.{expressions-exactly, expression-blamed, statements-exactly, statement-blamed}
 
@@ -33,7 +34,31 @@ shape-exactly f marks = (
   (λ s. both-are _ _ (eq-eqb _ _ (s .count)) (every-from (λ b. ltb b 2) marks (λ b m. lt-ltb b 2 (s .bits b m)))),
 )
 
+-- what is answered of a judged function: no refusal but 15 and 16
+abbrev isJudged : Answer → Bool
+isJudged clear = true
+isJudged (atStatement n) = true
+isJudged atStart = true
+isJudged (unjudgedExpression n) = false
+isJudged (unjudgedStatement n) = false
+isJudged (refused n) = ltb n 21
+
+verdict-judged : (o : Option ℕ) (s : Bool) → isJudged (verdict o s) ≡ true
+unfolding verdict
+verdict-judged (some n) s = refl
+verdict-judged nothing true = refl
+verdict-judged nothing false = refl
+
+cond-judged : (b : Bool) (m : ℕ) (a : Answer) → ltb m 21 ≡ true → isJudged a ≡ true → isJudged (cond b (refused m) a) ≡ true
+cond-judged true m a l h = l
+cond-judged false m a l h = h
+
 module _ (S : Scope) (R : Request) (P : Report) where
+  answer-judged : (o : Option Table) → isJudged (answerBy S R P o) ≡ true
+  unfolding answerBy limited
+  answer-judged nothing = refl
+  answer-judged (some t) = cond-judged (atPoint S R P t over) 15 _ refl (cond-judged (atPoint S R P t (λ n. ltb maxPieces (pieces n))) 16 _ refl (verdict-judged _ _))
+
   abbrev shape : Bool
   shape = hasShape (S .function) (P .marks)
 
@@ -65,7 +90,7 @@ module _ (S : Scope) (R : Request) (P : Report) where
       go h nothing nothing p q = atWalk h p q (judged-answer h nothing nothing p q)
 
   walk-judged : clearance S R P ≡ answerBy S R P found → isJudged (clearance S R P) ≡ true
-  walk-judged e = ap isJudged e ∙ answer-judged S R P found
+  walk-judged e = ap isJudged e ∙ answer-judged found
 
   -- 21: exactly where the marks are not of the function's shape.
   pub marks-exactly : (clearance S R P ≡ refused 21) ↔ (Shaped (S .function) (P .marks) → ⊥)

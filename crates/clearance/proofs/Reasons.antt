@@ -22,10 +22,10 @@ use Rattle.clearance.proofs.Small.{cases, both-true}
 use Rattle.clearance.proofs.Cleared.{lowest-none}
 use Rattle.clearance.proofs.Rounds.{rounds-end, start-need}
 use Rattle.clearance.proofs.Exactly.{broken-exactly, evaluations-none, no-evaluation}
-use Rattle.clearance.proofs.Lowest.{lowest-is}
+use Rattle.clearance.proofs.Lowest.{lowest-is, listed}
 use Rattle.clearance.proofs.Faults.{faults-exactly}
 use Rattle.clearance.proofs.Relations.{impossible}
-use Rattle.clearance.proofs.Blamed.{listed, expressions-exactly, statements-exactly}
+use Rattle.clearance.proofs.Blamed.{expressions-exactly, statements-exactly}
 use Rattle.clearance.proofs.Points.{points-exactly, nowhere-exactly}
 use Rattle.clearance.proofs.JudgedExactly.{shape-exactly, Stage, atMarks, atExpression, atUnfit, atWalk, judged-answer, stage, marks-exactly, unjudged-expression-exactly, unjudged-statement-exactly}
 
