@@ -30,7 +30,7 @@ module _ (S : Scope) (R : Request) (P : Report) where
 
   -- `unjudged stmt n`: no expression breaks a clause, and n is the lowest statement that does.
   pub answer-statement : (n : ℕ) → (clearance S R P ≡ unjudgedStatement n) ↔
-      (Shaped (S .function) (P .marks) × ((e : ExpressionHandle) → e < length (S .function .expressions) → FitExpression S e) × StatementBlamed S P n)
+      (Shaped (S .function) (P .marks) × ((e : ExpressionHandle) → e < length (S .function .expressions) → FitExpression S e) × StatementBlamed S n)
   answer-statement = unjudged-statement-exactly S R P
 
   module _ (o : AscendingRequest R) where

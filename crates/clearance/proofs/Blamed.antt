@@ -5,12 +5,13 @@ use native.Mathlib.Omega.{arith}
 use native.Mathlib.Decide.{decLt}
 use mathlib.Core.Path.{_≡_, refl, sym, subst, _∙_}
 use mathlib.Core.Bool.{Bool, true, false}
-use mathlib.Core.List.{List, _++_}
+use mathlib.Core.List.{List, [], _++_}
 use mathlib.Core.Logic.{_↔_, _⊎_, inl, inr}
 use mathlib.Core.Option.{some, none as nothing}
 use lib.ListN.{length, getD}
 use Rattle.module.specs.Module.{ExpressionHandle, Kill}
 use Rattle.clearance.specs.Scope.{Scope, noExpression}
+use Rattle.clearance.specs.Tree.{Tree, bodyTree}
 use Rattle.clearance.specs.Judged.{failing, lowest, judgedExpression, blamedExpression, fitsStatement, strays, atTop, blamedStatement}
 use Rattle.clearance.specs.Rules.{Member}
 use Rattle.clearance.specs.Verdict.{Report, body}
@@ -21,6 +22,7 @@ use Rattle.clearance.proofs.Lowest.{no-member, lowest-is, failing-fails
 use Rattle.clearance.proofs.Faults.{either-list, in-left, in-right}
 use Rattle.clearance.proofs.Relations.{impossible}
 use Rattle.clearance.proofs.Strays.{stray-low}
+use Rattle.clearance.proofs.Markless.{strays-same}
 use Rattle.clearance.proofs.JudgedExpressions.{expression-exactly}
 use Rattle.clearance.proofs.JudgedStatements.{statement-exactly}
 
@@ -100,40 +102,42 @@ module _ (S : Scope) where
 
   -- Statements
 
-  module _ (P : Report) where
-    abbrev unfit : List ℕ
-    unfit = failing (λ n x. fitsStatement S x) 0 (S .function .statements)
+  abbrev whole : Tree
+  whole = bodyTree (S .function) []
 
-    abbrev Unfit : ℕ → Type 0
-    Unfit n = (i : ℕ) × (i < length (S .function .statements)) × (n ≡ 0 + i) × (fitsStatement S (getD (S .function .statements) i Kill) ≡ false)
+  abbrev unfit : List ℕ
+  unfit = failing (λ n x. fitsStatement S x) 0 (S .function .statements)
 
-    unfit-is : (n : ℕ) → Member n unfit → Unfit n
-    unfit-is n m = failing-fails (λ n x. fitsStatement S x) Kill 0 (S .function .statements) n m
+  abbrev Unfit : ℕ → Type 0
+  Unfit n = (i : ℕ) × (i < length (S .function .statements)) × (n ≡ 0 + i) × (fitsStatement S (getD (S .function .statements) i Kill) ≡ false)
 
-    unfit-fails : (n : ℕ) → Unfit n → FitStatement S P n → ⊥
-    unfit-fails n (i, l, e, h) f =
-        let z : n ≡ i = omega arith in
-        impossible (sym h ∙ statement-exactly S (body S P) i _ .1 (subst (λ k. FitStatement S P k) z f) .0)
+  unfit-is : (n : ℕ) → Member n unfit → Unfit n
+  unfit-is n m = failing-fails (λ n x. fitsStatement S x) Kill 0 (S .function .statements) n m
 
-    decide : (n : ℕ) → n < length (S .function .statements) → (b : Bool) → fitsStatement S (getD (S .function .statements) n Kill) ≡ b →
-        Member n (strays (body S P) atTop) ⊎ (Member n (strays (body S P) atTop) → ⊥) → FitStatement S P n ⊎ Member n (unfit ++ strays (body S P) atTop)
-    decide n i false h d = inr (in-left n unfit _ (from-first (λ n x. fitsStatement S x) Kill (S .function .statements) n i h))
-    decide n i true h (inl m) = inr (in-right n unfit _ m)
-    decide n i true h (inr f) = inl (statement-exactly S (body S P) n _ .0 (h, f))
+  unfit-fails : (n : ℕ) → Unfit n → FitStatement S n → ⊥
+  unfit-fails n (i, l, e, h) f =
+      let z : n ≡ i = omega arith in
+      impossible (sym h ∙ statement-exactly S whole i _ .1 (subst (λ k. FitStatement S k) z f) .0)
 
-    statement-lists : Lists (FitStatement S P) (length (S .function .statements)) (unfit ++ strays (body S P) atTop)
-    statement-lists = record {
-      inRange = λ n m.
-          either-list n unfit _ m (λ j. let z = unfit-is n j in omega (arith, z .1, z .2)) (stray-low (S .function) (P .marks) n);
-      failed = λ n m f.
-          either-list n unfit _ m (λ j. unfit-fails n (unfit-is n j) f) (statement-exactly S (body S P) n _ .1 f .1);
-      decided = λ n i. decide n i _ refl (decide-member n (strays (body S P) atTop));
-    }
+  decide : (n : ℕ) → n < length (S .function .statements) → (b : Bool) → fitsStatement S (getD (S .function .statements) n Kill) ≡ b →
+      Member n (strays whole atTop) ⊎ (Member n (strays whole atTop) → ⊥) → FitStatement S n ⊎ Member n (unfit ++ strays whole atTop)
+  decide n i false h d = inr (in-left n unfit _ (from-first (λ n x. fitsStatement S x) Kill (S .function .statements) n i h))
+  decide n i true h (inl m) = inr (in-right n unfit _ m)
+  decide n i true h (inr f) = inl (statement-exactly S whole n _ .0 (h, f))
 
-    pub statements-exactly : (blamedStatement S (body S P) ≡ nothing) ↔ ((n : ℕ) → n < length (S .function .statements) → FitStatement S P n)
-    unfolding blamedStatement
-    statements-exactly = none-exactly _ _ _ statement-lists
+  statement-lists : Lists (FitStatement S) (length (S .function .statements)) (unfit ++ strays whole atTop)
+  statement-lists = record {
+    inRange = λ n m.
+        either-list n unfit _ m (λ j. let z = unfit-is n j in omega (arith, z .1, z .2)) (stray-low (S .function) [] n);
+    failed = λ n m f.
+        either-list n unfit _ m (λ j. unfit-fails n (unfit-is n j) f) (statement-exactly S whole n _ .1 f .1);
+    decided = λ n i. decide n i _ refl (decide-member n (strays whole atTop));
+  }
 
-    pub statement-blamed : (n : ℕ) → (blamedStatement S (body S P) ≡ some n) ↔ StatementBlamed S P n
-    unfolding blamedStatement
-    statement-blamed n = lowest-exactly _ _ _ statement-lists n
+  pub statements-exactly : (P : Report) → (blamedStatement S (body S P) ≡ nothing) ↔ ((n : ℕ) → n < length (S .function .statements) → FitStatement S n)
+  unfolding blamedStatement
+  statements-exactly P = rw (strays-same (S .function) (P .marks) [] atTop) (none-exactly _ _ _ statement-lists)
+
+  pub statement-blamed : (P : Report) (n : ℕ) → (blamedStatement S (body S P) ≡ some n) ↔ StatementBlamed S n
+  unfolding blamedStatement
+  statement-blamed P n = rw (strays-same (S .function) (P .marks) [] atTop) (lowest-exactly _ _ _ statement-lists n)

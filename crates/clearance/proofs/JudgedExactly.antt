@@ -121,7 +121,7 @@ module _ (S : Scope) (R : Request) (P : Report) where
 
   -- Not judged, with a statement: exactly where every clause holds of each expression, the lowest statement that breaks one.
   pub unjudged-statement-exactly : (n : ℕ) → (clearance S R P ≡ unjudgedStatement n) ↔
-      (Shaped (S .function) (P .marks) × ((e : ExpressionHandle) → e < length (S .function .expressions) → FitExpression S e) × StatementBlamed S P n)
+      (Shaped (S .function) (P .marks) × ((e : ExpressionHandle) → e < length (S .function .expressions) → FitExpression S e) × StatementBlamed S n)
   unfolding judge
   unjudged-statement-exactly n = (
     (λ q. go q stage),
@@ -129,7 +129,7 @@ module _ (S : Scope) (R : Request) (P : Report) where
   )
     where
       go : clearance S R P ≡ unjudgedStatement n → Stage →
-          Shaped (S .function) (P .marks) × ((e : ExpressionHandle) → e < length (S .function .expressions) → FitExpression S e) × StatementBlamed S P n
+          Shaped (S .function) (P .marks) × ((e : ExpressionHandle) → e < length (S .function .expressions) → FitExpression S e) × StatementBlamed S n
       go q (atMarks h r) = never cc
       go q (atExpression h x p r) = never cc
       go q (atUnfit h p m y r) =
@@ -138,7 +138,7 @@ module _ (S : Scope) (R : Request) (P : Report) where
 
   -- Judged: where the answer is not 21, it is not "not judged" exactly where every clause of 01's holds.
   pub judged-exactly : (clearance S R P ≡ refused 21 → ⊥) →
-      (((e : ExpressionHandle) → clearance S R P ≡ unjudgedExpression e → ⊥) × ((n : ℕ) → clearance S R P ≡ unjudgedStatement n → ⊥)) ↔ IsJudged S P
+      (((e : ExpressionHandle) → clearance S R P ≡ unjudgedExpression e → ⊥) × ((n : ℕ) → clearance S R P ≡ unjudgedStatement n → ⊥)) ↔ IsJudged S
   judged-exactly f = (
     (λ z. go z stage),
     (λ j. (
@@ -147,7 +147,7 @@ module _ (S : Scope) (R : Request) (P : Report) where
     )),
   )
     where
-      go : ((e : ExpressionHandle) → clearance S R P ≡ unjudgedExpression e → ⊥) × ((n : ℕ) → clearance S R P ≡ unjudgedStatement n → ⊥) → Stage → IsJudged S P
+      go : ((e : ExpressionHandle) → clearance S R P ≡ unjudgedExpression e → ⊥) × ((n : ℕ) → clearance S R P ≡ unjudgedStatement n → ⊥) → Stage → IsJudged S
       go z (atMarks h q) = absurd (f q)
       go z (atExpression h e p q) = absurd (z .0 e q)
       go z (atUnfit h p n y q) = absurd (z .1 n q)

@@ -14,6 +14,7 @@ pub mod Relations
 pub mod JudgedExpressions
 pub mod Faults
 pub mod Strays
+pub mod Markless
 pub mod JudgedStatements
 pub mod Blamed
 pub mod JudgedExactly

@@ -48,7 +48,7 @@ AtPoint S R P t m = Point (setting S R) (reentry t) m (body S P) (ending S R)
 -- the marks have the function's shape, it is judged, and t are the smallest needs of its loops (`rounds-smallest`)
 pub record Walked (S : Scope) (R : Request) (P : Report) (t : Table) : Type 0 where
   pub shaped : Shaped (S .function) (P .marks)
-  pub judged : IsJudged S P
+  pub judged : IsJudged S
   pub settled : smallest (setting S R) (body S P) (ending S R) ≡ some t
 
 -- the needs at no point pass the limits of 15 and 16
@@ -77,7 +77,7 @@ pub data Reason (S : Scope) (R : Request) (P : Report) : Answer → Type 0 where
   -- "Otherwise: not judged, with the lowest expression,
   expression : {e : ExpressionHandle} → Shaped (S .function) (P .marks) → ExpressionBlamed S e → Reason S R P (unjudgedExpression e)
   -- else statement"
-  statement : {n : ℕ} → Shaped (S .function) (P .marks) → ((e : ExpressionHandle) → e < length (S .function .expressions) → FitExpression S e) → StatementBlamed S P n →
+  statement : {n : ℕ} → Shaped (S .function) (P .marks) → ((e : ExpressionHandle) → e < length (S .function .expressions) → FitExpression S e) → StatementBlamed S n →
       Reason S R P (unjudgedStatement n)
   -- "if judged, 15,
   deep : (t : Table) → Walked S R P t → (m : PartReq) → AtPoint S R P t m → over m ≡ true → Reason S R P (refused 15)

@@ -16,10 +16,9 @@ use Rattle.module.specs.Module.{RayQueryGetIntersection, Override, SubgroupBall
 use Rattle.module.specs.Module.{Emit, Block, If, Switch, Loop, Break, Continue, Return, Kill, ControlBarrier, MemoryBarrier, ImageAtomic, Store}
 use Rattle.module.specs.Module.{AtomicStatement, Call, ImageStore, RayQuery, WorkGroupUniformLoad, SubgroupBallot, SubgroupGather, SubgroupCollectiveOperation}
 use Rattle.clearance.specs.Scope.{Scope, inner, memberTypes, bases, alike, typed, typeOf, innerOf, argumentType}
-use Rattle.clearance.specs.Tree.{Tree, seq, branch, switch, loop, unmarked}
+use Rattle.clearance.specs.Tree.{Tree, seq, branch, switch, loop, unmarked, bodyTree}
 use Rattle.clearance.specs.Needs.{Exit, broke, continued}
 use Rattle.clearance.specs.Judged.{pointee, same}
-use Rattle.clearance.specs.Verdict.{Report, body}
 use Rattle.clearance.specs.Rules.{Leaves, Member}
 
 -- Kinds, by 01's numbers
@@ -261,13 +260,14 @@ pub record JudgedStatement (S : Scope) (whole : Tree) (n : ℕ) (x : Statement) 
 abbrev pub FitExpression : Scope → ExpressionHandle → Type 0
 FitExpression S e = JudgedExpression S e (typed S e .expression)
 
-abbrev pub FitStatement : Scope → Report → ℕ → Type 0
-FitStatement S P n = JudgedStatement S (body S P) n (getD (S .function .statements) n Kill)
+-- (the marks play no part: none is set here)
+abbrev pub FitStatement : Scope → ℕ → Type 0
+FitStatement S n = JudgedStatement S (bodyTree (S .function) []) n (getD (S .function .statements) n Kill)
 
 -- Judged: every expression and every statement is.
-pub record IsJudged (S : Scope) (P : Report) : Type 0 where
+pub record IsJudged (S : Scope) : Type 0 where
   pub expressions : (e : ExpressionHandle) → e < length (S .function .expressions) → FitExpression S e
-  pub statements : (n : ℕ) → n < length (S .function .statements) → FitStatement S P n
+  pub statements : (n : ℕ) → n < length (S .function .statements) → FitStatement S n
 
 -- n is the lowest of so many of which something does not hold
 pub record LowestNot (Holds : ℕ → Type 0) (count n : ℕ) : Type 0 where
@@ -275,8 +275,9 @@ pub record LowestNot (Holds : ℕ → Type 0) (count n : ℕ) : Type 0 where
   pub fails : Holds n → ⊥
   pub lower : (m : ℕ) → m < n → Holds m
 
+-- the lowest expression, and the lowest statement, that breaks a clause
 abbrev pub ExpressionBlamed : Scope → ExpressionHandle → Type 0
 ExpressionBlamed S = LowestNot (FitExpression S) (length (S .function .expressions))
 
-abbrev pub StatementBlamed : Scope → Report → ℕ → Type 0
-StatementBlamed S P = LowestNot (FitStatement S P) (length (S .function .statements))
+abbrev pub StatementBlamed : Scope → ℕ → Type 0
+StatementBlamed S = LowestNot (FitStatement S) (length (S .function .statements))
