@@ -15,7 +15,7 @@ use Rattle.clearance.specs.Needs.{Table}
 use Rattle.clearance.specs.Verdict.{Request, Report, Answer, clear, atStatement, atStart, unjudgedExpression, unjudgedStatement, refused, pieces, clearance}
 use Rattle.clearance.specs.IsNeed.{AscendingRequest}
 use Rattle.clearance.specs.IsJudged.{FitExpression, ExpressionBlamed, StatementBlamed}
-use Rattle.clearance.specs.Answered.{Shaped, AtPoint, Walked, WithinLimits, LowestBreak, StartMet, NoBreak, Reason, unshaped, expression, statement, deep, many, fault, unmet, cleared}
+use Rattle.clearance.specs.Answered.{Shaped, AtPoint, Walked, WithinLimits, LowestBreak, StartMet, NoBreak, Cleared, Reason, unshaped, expression, statement, deep, many, fault, unmet, cleared}
 use Rattle.clearance.proofs.JudgedExactly.{marks-exactly, unjudged-expression-exactly, unjudged-statement-exactly}
 use Rattle.clearance.proofs.Reasons.{reasons}
 
@@ -46,7 +46,7 @@ module _ (S : Scope) (R : Request) (P : Report) where
         go a e (many t w f m p h) = let z : _≡_ {A = ℕ} 16 15 = cc in absurd (omega arith)
         go a e (fault t w l b) = never cc
         go a e (unmet t w l u f) = never cc
-        go a e (cleared t w l u m) = never cc
+        go a e (cleared t c) = never cc
 
     -- `refused 16`: judged, the needs at no point pass 15's limits, and at some point they have too many pieces.
     pub answer-16 : (clearance S R P ≡ refused 16) ↔
@@ -62,7 +62,7 @@ module _ (S : Scope) (R : Request) (P : Report) where
         go a e (many t w f m p h) = (t, w, f, m, p, h)
         go a e (fault t w l b) = never cc
         go a e (unmet t w l u f) = never cc
-        go a e (cleared t w l u m) = never cc
+        go a e (cleared t c) = never cc
 
     -- No other refusal is given.
     pub answer-refused : (n : ℕ) → clearance S R P ≡ refused n → (n ≡ 15) ⊎ ((n ≡ 16) ⊎ (n ≡ 21))
@@ -76,7 +76,7 @@ module _ (S : Scope) (R : Request) (P : Report) where
         go a e (many t w f m p h) = inr (inl cc)
         go a e (fault t w l b) = never cc
         go a e (unmet t w l u f) = never cc
-        go a e (cleared t w l u m) = never cc
+        go a e (cleared t c) = never cc
 
     -- `stmt n`: judged and within the limits, and n is the lowest statement that breaks its rule.
     pub answer-stmt : (n : ℕ) → (clearance S R P ≡ atStatement n) ↔ ((t : Table) × Walked S R P t × WithinLimits S R P t × LowestBreak S R P t n)
@@ -92,9 +92,9 @@ module _ (S : Scope) (R : Request) (P : Report) where
         go : Reason S R P atStart → (t : Table) × Walked S R P t × WithinLimits S R P t × NoBreak S R P t × (StartMet S R P t → ⊥)
         go (unmet t w l u f) = (t, w, l, u, f)
 
-    -- `clear`: judged and within the limits, no statement breaks its rule, and the start has what it must (the same as `exactly`, with "judged" in 01's words).
-    pub answer-clear : (clearance S R P ≡ clear) ↔ ((t : Table) × Walked S R P t × WithinLimits S R P t × NoBreak S R P t × StartMet S R P t)
-    answer-clear = ((λ e. go (reasons S R P o _ .0 e)), (λ (t, w, l, u, m). reasons S R P o _ .1 (cleared t w l u m)))
+    -- `clear`: cleared, exactly as 01 says: judged and within the limits, no statement breaks its rule, and the start has what it must.
+    pub exactly : (clearance S R P ≡ clear) ↔ ((t : Table) × Cleared S R P t)
+    exactly = ((λ e. go (reasons S R P o _ .0 e)), (λ (t, c). reasons S R P o _ .1 (cleared t c)))
       where
-        go : Reason S R P clear → (t : Table) × Walked S R P t × WithinLimits S R P t × NoBreak S R P t × StartMet S R P t
-        go (cleared t w l u m) = (t, w, l, u, m)
+        go : Reason S R P clear → (t : Table) × Cleared S R P t
+        go (cleared t c) = (t, c)

@@ -1,30 +1,29 @@
--- "Exactly": the answer is `clear` if and only if the rules hold of the needs, each as 01 words it.
+-- The rules in 01's words are what the walk tests: an unmarked statement obeys, no rule is broken, and no evaluated expression is needed at the
+-- start, each exactly where its test says so. By induction over the statement and over the needs.
 use Prim.Native.Nat.{ℕ, zero, suc, _+_, _-_, _*_, _/_, _%_, _<_, _≤_}
 use native.Mathlib.Omega.{arith}
 use mathlib.Core.Path.{_≡_, refl, sym, ap, _∙_}
-use mathlib.Core.Bool.{Bool, true, false, not, _||_}
+use mathlib.Core.Bool.{Bool, true, false, _||_}
 use mathlib.Core.List.{List, [], _∷_, _++_}
 use mathlib.Core.Logic.{_↔_}
 use mathlib.Core.Option.{Option}
 use lib.Dec.{ltb}
 use lib.ListN.{length}
 use borrow.Author.Tests.{ltb-true, ltb-false, not-true}
-use Rattle.part.specs.PartReq.{PartReq, all, exist, none, more, contains, spine}
+use Rattle.part.specs.PartReq.{PartReq, all, exist, none, more, spine}
 use Rattle.part.proofs.Equations.{never}
 use Rattle.module.specs.Module.{ExpressionHandle}
-use Rattle.clearance.specs.Shape.{Shape, struct, member, inside, cov, below, some}
+use Rattle.clearance.specs.Shape.{Shape, struct, member, inside, cov, some}
 use Rattle.clearance.specs.Scope.{Scope, slot, evaluated, variable, slots, kindShape, frame}
 use Rattle.clearance.specs.Tree.{Act, Tree, nop, seq, act, branch, switch, loop, break, continue, return, unmarked}
 use Rattle.clearance.specs.Needs.{overlap, idle, Exit, next, broke, continued, returned, upon, outBreak, outContinue, ofCase, ofContinuing, ofBody, concat, quiet, onlyNext, obeys}
-use Rattle.clearance.specs.Needs.{byStatement, Setting, lacking, Table, reentry}
-use Rattle.clearance.specs.Verdict.{Request, Report, clear, ending, setting, body, startNeeds, faults, needsExpression, starts, clearance}
-use Rattle.clearance.specs.Rules.{StandsIn, itself, first, second, inAccept, inReject, inCase, inBody, inContinuing, inUnmarked, Obeys, Unbroken, Cleared}
+use Rattle.clearance.specs.Needs.{Setting, lacking}
+use Rattle.clearance.specs.Verdict.{needsExpression}
+use Rattle.clearance.specs.Rules.{StandsIn, itself, first, second, inAccept, inReject, inCase, inBody, inContinuing, inUnmarked, Obeys, Unbroken}
 use Rattle.clearance.specs.Rules.{Leaves, byBreak, byContinue, byReturn, fromFirst, fromSecond, fromAccept, fromReject, caseContinues, caseReturns, bodyReturns, continuingContinues, continuingReturns, fromUnmarked}
-use Rattle.clearance.specs.IsNeed.{AscendingRequest, IsNeed}
+use Rattle.clearance.specs.IsNeed.{IsNeed}
 use Rattle.clearance.proofs.Small.{cases, both-true, both-are, neither, unbroken, each-at, each-from, concat-at}
 use Rattle.clearance.proofs.Cov.{cov-all, cov-none, cov-exist, cov-after, cov-here, cov-extend}
-use Rattle.clearance.proofs.Cleared.{Passed, clear-passed, passed-clear}
-use Rattle.clearance.proofs.Rounds.{start-need}
 use Rattle.clearance.proofs.Count.{tidy-seen, struct-index, struct-at, later-need}
 
 -- An unmarked statement
@@ -262,51 +261,3 @@ pub no-evaluation : (S : Scope) (n : PartReq) → IsNeed (frame S) n → ((e : E
 unfolding Evaluation
 no-evaluation S n f h =
     cases (needsExpression n) (λ e. let z = some-evaluation S n f e in never (sym (h (z .0) (z .1)) ∙ z .2)) (λ e. e)
-
--- The whole answer
-
-module _ (S : Scope) (R : Request) (P : Report) (o : AscendingRequest R) where
-  cleared-of : (t : Table) → Passed S R P t → Cleared S R P t
-  unfolding starts faults
-  cleared-of t C =
-      let y = both-true (not (needsExpression (startNeeds S R P t))) _ (C .start) in
-      let z = both-true (contains (P .globals) (below (startNeeds S R P t) (variable 0 ∷ []))) _ (y .1) in
-      record {
-        marks = C .marks;
-        expressions = C .expressions;
-        statements = C .statements;
-        settled = C .settled;
-        shallow = C .shallow;
-        few = C .few;
-        rules = broken-exactly (setting S R) (reentry t) byStatement (body S P) (ending S R) .0 (C .rules);
-        evaluations = evaluations-none (startNeeds S R P t) (not-true _ (y .0));
-        globals = z .0;
-        args = z .1;
-      }
-
-  starts-of : (t : Table) → Cleared S R P t → starts P (startNeeds S R P t) ≡ true
-  unfolding starts
-  starts-of t C = rw (no-evaluation S (startNeeds S R P t) (start-need S R P o t (C .settled)) (C .evaluations), C .globals, C .args)
-
-  faults-of : (t : Table) → Cleared S R P t → faults S R P t ≡ []
-  unfolding faults
-  faults-of t C = broken-exactly (setting S R) (reentry t) byStatement (body S P) (ending S R) .1 (C .rules)
-
-  passed-of : (t : Table) → Cleared S R P t → Passed S R P t
-  passed-of t C = record {
-    marks = C .marks;
-    expressions = C .expressions;
-    statements = C .statements;
-    settled = C .settled;
-    shallow = C .shallow;
-    few = C .few;
-    rules = faults-of t C;
-    start = starts-of t C;
-  }
-
-  -- Cleared is exactly what the rules say.
-  pub exactly : (clearance S R P ≡ clear) ↔ ((t : Table) × Cleared S R P t)
-  exactly = (
-    (λ h. let z = clear-passed S R P h in (z .0, cleared-of (z .0) (z .1))),
-    (λ z. passed-clear S R P (z .0) (passed-of (z .0) (z .1))),
-  )

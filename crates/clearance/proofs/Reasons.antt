@@ -137,7 +137,7 @@ module _ (S : Scope) (R : Request) (P : Report) where
         go (some n) h = given (atStatement n) (e ∙ fault-verdict t n h) (fault t w l (fault-exactly t n .0 h))
         go nothing h =
             cases (starts P (startNeeds S R P t))
-            (λ g. given clear (e ∙ clear-verdict t h g) (cleared t w l (unbroken-exactly t .0 h) (start-exactly t (w .settled) .0 g)))
+            (λ g. given clear (e ∙ clear-verdict t h g) (cleared t record { walked = w; within = l; rules = unbroken-exactly t .0 h; start = start-exactly t (w .settled) .0 g }))
             (λ g.
             given atStart (e ∙ unmet-verdict t h g)
             (unmet t w l (unbroken-exactly t .0 h) (λ m. impossible (sym g ∙ start-exactly t (w .settled) .1 m))))
@@ -186,7 +186,8 @@ module _ (S : Scope) (R : Request) (P : Report) where
         limits-answer t w l
         ∙ unmet-verdict t (unbroken-exactly t .1 u)
         (cases (starts P (startNeeds S R P t)) (λ g. absurd (f (start-exactly t (w .settled) .0 g))) (λ g. g))
-    answer a (cleared t w l u m) = limits-answer t w l ∙ clear-verdict t (unbroken-exactly t .1 u) (start-exactly t (w .settled) .1 m)
+    answer a (cleared t c) =
+        limits-answer t (c .walked) (c .within) ∙ clear-verdict t (unbroken-exactly t .1 (c .rules)) (start-exactly t (c .walked .settled) .1 (c .start))
 
     -- The answer is a if and only if there is the reason for a.
     pub reasons : (a : Answer) → (clearance S R P ≡ a) ↔ Reason S R P a

@@ -70,6 +70,14 @@ pub record StartMet (S : Scope) (R : Request) (P : Report) (t : Table) : Type 0 
 abbrev pub NoBreak : Scope → Request → Report → Table → Type 0
 NoBreak S R P t = Unbroken (setting S R) (reentry t) (body S P) (ending S R)
 
+-- "Cleared: no rule broken, no evaluated expression still needed at the start, argument and global needs contained in the context", of a
+-- function that is judged and whose needs pass no limit
+pub record Cleared (S : Scope) (R : Request) (P : Report) (t : Table) : Type 0 where
+  pub walked : Walked S R P t
+  pub within : WithinLimits S R P t
+  pub rules : NoBreak S R P t
+  pub start : StartMet S R P t
+
 -- the reason for an answer
 pub data Reason (S : Scope) (R : Request) (P : Report) : Answer → Type 0 where
   -- 21: "marks not of the function's shape"
@@ -87,5 +95,5 @@ pub data Reason (S : Scope) (R : Request) (P : Report) : Answer → Type 0 where
   fault : {n : ℕ} (t : Table) → Walked S R P t → WithinLimits S R P t → LowestBreak S R P t n → Reason S R P (atStatement n)
   -- or the start"
   unmet : (t : Table) → Walked S R P t → WithinLimits S R P t → NoBreak S R P t → (StartMet S R P t → ⊥) → Reason S R P atStart
-  -- "Cleared: no rule broken, no evaluated expression still needed at the start, argument and global needs contained in the context"
-  cleared : (t : Table) → Walked S R P t → WithinLimits S R P t → NoBreak S R P t → StartMet S R P t → Reason S R P clear
+  -- "Cleared: no rule broken, .."
+  cleared : (t : Table) → Cleared S R P t → Reason S R P clear

@@ -2,19 +2,16 @@
 use Prim.Native.Nat.{ℕ, _<_, _≤_}
 use mathlib.Core.Path.{_≡_}
 use mathlib.Core.Bool.{true, false}
-use mathlib.Core.List.{List, [], _∷_, _++_}
-use mathlib.Core.Option.{Option, some as present, none as nothing}
-use lib.Dec.{ltb}
+use mathlib.Core.List.{List, _∷_}
+use mathlib.Core.Option.{Option}
 use lib.ListN.{length}
-use Rattle.field.specs.Limits.{maxPieces}
-use Rattle.part.specs.PartReq.{PartReq, contains, over}
+use Rattle.part.specs.PartReq.{PartReq, contains}
 use Rattle.module.specs.Module.{ExpressionHandle}
-use Rattle.clearance.specs.Shape.{cov, below, some}
-use Rattle.clearance.specs.Scope.{Scope, slot, evaluated, variable}
+use Rattle.clearance.specs.Shape.{some}
+use Rattle.clearance.specs.Scope.{Scope}
 use Rattle.clearance.specs.Tree.{Act, Tree, nop, seq, act, branch, switch, loop, break, continue, return, unmarked}
-use Rattle.clearance.specs.Needs.{overlap, Exit, next, broke, continued, returned, upon, ofCase, afterContinuing, Setting, walk, afterBody, Table, reentry, smallest}
-use Rattle.clearance.specs.Judged.{blamedExpression, blamedStatement}
-use Rattle.clearance.specs.Verdict.{Request, Report, ending, setting, body, startNeeds, pieces, atPoint, hasShape}
+use Rattle.clearance.specs.Needs.{overlap, Exit, next, broke, continued, returned, upon, ofCase, afterContinuing, Setting, walk, afterBody, Table, reentry}
+use Rattle.clearance.specs.Verdict.{Request, Report, ending, setting, body, startNeeds}
 
 -- the store or emit x stands in a statement, at any depth
 pub data StandsIn (x : Act) : Tree → Type 0 where
@@ -77,22 +74,6 @@ pub data Breaks (W : Setting) (r : ℕ → PartReq) (name : ℕ → ℕ → ℕ)
   breaksContinuing : {m : ℕ} {a b : Tree} {c : Option ExpressionHandle} {k : Exit → PartReq} → Breaks W r name x b (afterContinuing (W .scope) (r m) c k) → Breaks W r name x (loop m a b c) k
   breaksItself : {n mark : ℕ} {a : Tree} {k : Exit → PartReq} → x ≡ name n mark → (Obeys (W .scope) (k next) a → ⊥) → Breaks W r name x (unmarked n mark a) k
   breaksInside : {n mark : ℕ} {a : Tree} {k : Exit → PartReq} → (Obeys (W .scope) (k next) a → ⊥) → Breaks W r name x a k → Breaks W r name x (unmarked n mark a) k
-
--- 01's "Cleared", of a function that is judged and whose needs pass no limit, with t the smallest needs of its loops
-pub record Cleared (S : Scope) (R : Request) (P : Report) (t : Table) : Type 0 where
-  pub marks : hasShape (S .function) (P .marks) ≡ true
-  pub expressions : blamedExpression S ≡ nothing
-  pub statements : blamedStatement S (body S P) ≡ nothing
-  pub settled : smallest (setting S R) (body S P) (ending S R) ≡ present t
-  pub shallow : atPoint S R P t over ≡ false
-  pub few : atPoint S R P t (λ n. ltb maxPieces (pieces n)) ≡ false
-  -- no rule broken
-  pub rules : Unbroken (setting S R) (reentry t) (body S P) (ending S R)
-  -- no evaluated expression still needed at the start
-  pub evaluations : (e : ExpressionHandle) (q : List ℕ) → cov (startNeeds S R P t) (slot (evaluated e) ++ q) ≡ false
-  -- argument and global needs contained in the context
-  pub globals : contains (P .globals) (below (startNeeds S R P t) (variable 0 ∷ [])) ≡ true
-  pub args : contains (P .args) (below (startNeeds S R P t) (variable 2 ∷ [])) ≡ true
 
 -- What "smallest" says: a choice r of re-entry needs contains those of every loop, and the needs at the start that come of it contain
 -- those at the start.
