@@ -106,11 +106,6 @@ module _ (n : ℕ) where
   continuing-stray b y h a e (inContinuing {x = x} c) = in-right n (strays x (inBody e)) _ (continuing-stray b y h _ onlyNext c)
   continuing-stray b y h a e (inUnmarked c) = continuing-stray b y h _ e c
 
-  of-stray : (a : Tree) (e : Exit → Bool) → Stray a e → Member n (strays a e)
-  unfolding Stray
-  of-stray a e (inl (y, h, z)) = leaves-stray a e y h z
-  of-stray a e (inr (b, y, h, z)) = continuing-stray b y z a e h
-
   -- at the top: no break and no continue leaves the body, and nothing leaves a continuing block
   abbrev pub Stays : Tree → Type 0
   Stays a = (Leaves n broke a → ⊥) × (Leaves n continued a → ⊥) × ((b : Tree) → ContinuingIn b a → (y : Exit) → Leaves n y b → ⊥)
