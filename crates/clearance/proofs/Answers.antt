@@ -1,5 +1,5 @@
 -- When each answer is given: one theorem for each, read off `reasons` or proved in JudgedExactly. Marks and "judged" need no premise; the rest is of
--- a request whose indexes ascend, as one that was read has. t are the smallest needs of the loops (`Walked`, `rounds-smallest`).
+-- a request whose indexes ascend, as one that was read has. r are the smallest needs of the loops (`Walked`).
 use Prim.Native.Nat.{ℕ, _<_}
 use native.Mathlib.Omega.{arith}
 use mathlib.Core.Path.{_≡_, refl}
@@ -11,7 +11,6 @@ use Rattle.part.specs.PartReq.{PartReq, over}
 use Rattle.part.proofs.Equations.{never}
 use Rattle.module.specs.Module.{ExpressionHandle}
 use Rattle.clearance.specs.Scope.{Scope}
-use Rattle.clearance.specs.Needs.{Table}
 use Rattle.clearance.specs.Verdict.{Request, Report, Answer, clear, atStatement, atStart, unjudgedExpression, unjudgedStatement, refused, pieces, clearance}
 use Rattle.clearance.specs.IsNeed.{AscendingRequest}
 use Rattle.clearance.specs.IsJudged.{FitExpression, ExpressionBlamed, StatementBlamed}
@@ -35,34 +34,34 @@ module _ (S : Scope) (R : Request) (P : Report) where
 
   module _ (o : AscendingRequest R) where
     -- `refused 15`: judged, and the needs at some point pass depth or entries.
-    pub answer-15 : (clearance S R P ≡ refused 15) ↔ ((t : Table) × Walked S R P t × (m : PartReq) × AtPoint S R P t m × (over m ≡ true))
-    answer-15 = ((λ e. go (refused 15) refl (reasons S R P o (refused 15) .0 e)), (λ (t, w, m, p, h). reasons S R P o _ .1 (deep t w m p h)))
+    pub answer-15 : (clearance S R P ≡ refused 15) ↔ ((r : ℕ → PartReq) × Walked S R P r × (m : PartReq) × AtPoint S R P r m × (over m ≡ true))
+    answer-15 = ((λ e. go (refused 15) refl (reasons S R P o (refused 15) .0 e)), (λ (r, w, m, p, h). reasons S R P o _ .1 (deep r w m p h)))
       where
-        go : (a : Answer) → a ≡ refused 15 → Reason S R P a → (t : Table) × Walked S R P t × (m : PartReq) × AtPoint S R P t m × (over m ≡ true)
+        go : (a : Answer) → a ≡ refused 15 → Reason S R P a → (r : ℕ → PartReq) × Walked S R P r × (m : PartReq) × AtPoint S R P r m × (over m ≡ true)
         go a e (unshaped f) = let z : _≡_ {A = ℕ} 21 15 = cc in absurd (omega arith)
         go a e (expression s b) = never cc
         go a e (statement s f b) = never cc
-        go a e (deep t w m p h) = (t, w, m, p, h)
-        go a e (many t w f m p h) = let z : _≡_ {A = ℕ} 16 15 = cc in absurd (omega arith)
-        go a e (fault t w l b) = never cc
-        go a e (unmet t w l u f) = never cc
-        go a e (cleared t c) = never cc
+        go a e (deep r w m p h) = (r, w, m, p, h)
+        go a e (many r w f m p h) = let z : _≡_ {A = ℕ} 16 15 = cc in absurd (omega arith)
+        go a e (fault r w l b) = never cc
+        go a e (unmet r w l u f) = never cc
+        go a e (cleared r c) = never cc
 
     -- `refused 16`: judged, the needs at no point pass 15's limits, and at some point they have too many pieces.
     pub answer-16 : (clearance S R P ≡ refused 16) ↔
-        ((t : Table) × Walked S R P t × ((m : PartReq) → AtPoint S R P t m → over m ≡ false) × (m : PartReq) × AtPoint S R P t m × (maxPieces < pieces m))
-    answer-16 = ((λ e. go (refused 16) refl (reasons S R P o (refused 16) .0 e)), (λ (t, w, f, m, p, h). reasons S R P o _ .1 (many t w f m p h)))
+        ((r : ℕ → PartReq) × Walked S R P r × ((m : PartReq) → AtPoint S R P r m → over m ≡ false) × (m : PartReq) × AtPoint S R P r m × (maxPieces < pieces m))
+    answer-16 = ((λ e. go (refused 16) refl (reasons S R P o (refused 16) .0 e)), (λ (r, w, f, m, p, h). reasons S R P o _ .1 (many r w f m p h)))
       where
         go : (a : Answer) → a ≡ refused 16 → Reason S R P a →
-            (t : Table) × Walked S R P t × ((m : PartReq) → AtPoint S R P t m → over m ≡ false) × (m : PartReq) × AtPoint S R P t m × (maxPieces < pieces m)
+            (r : ℕ → PartReq) × Walked S R P r × ((m : PartReq) → AtPoint S R P r m → over m ≡ false) × (m : PartReq) × AtPoint S R P r m × (maxPieces < pieces m)
         go a e (unshaped f) = let z : _≡_ {A = ℕ} 21 16 = cc in absurd (omega arith)
         go a e (expression s b) = never cc
         go a e (statement s f b) = never cc
-        go a e (deep t w m p h) = let z : _≡_ {A = ℕ} 15 16 = cc in absurd (omega arith)
-        go a e (many t w f m p h) = (t, w, f, m, p, h)
-        go a e (fault t w l b) = never cc
-        go a e (unmet t w l u f) = never cc
-        go a e (cleared t c) = never cc
+        go a e (deep r w m p h) = let z : _≡_ {A = ℕ} 15 16 = cc in absurd (omega arith)
+        go a e (many r w f m p h) = (r, w, f, m, p, h)
+        go a e (fault r w l b) = never cc
+        go a e (unmet r w l u f) = never cc
+        go a e (cleared r c) = never cc
 
     -- No other refusal is given.
     pub answer-refused : (n : ℕ) → clearance S R P ≡ refused n → (n ≡ 15) ⊎ ((n ≡ 16) ⊎ (n ≡ 21))
@@ -72,29 +71,29 @@ module _ (S : Scope) (R : Request) (P : Report) where
         go a e (unshaped f) = inr (inr cc)
         go a e (expression s b) = never cc
         go a e (statement s f b) = never cc
-        go a e (deep t w m p h) = inl cc
-        go a e (many t w f m p h) = inr (inl cc)
-        go a e (fault t w l b) = never cc
-        go a e (unmet t w l u f) = never cc
-        go a e (cleared t c) = never cc
+        go a e (deep r w m p h) = inl cc
+        go a e (many r w f m p h) = inr (inl cc)
+        go a e (fault r w l b) = never cc
+        go a e (unmet r w l u f) = never cc
+        go a e (cleared r c) = never cc
 
     -- `stmt n`: judged and within the limits, and n is the lowest statement that breaks its rule.
-    pub answer-stmt : (n : ℕ) → (clearance S R P ≡ atStatement n) ↔ ((t : Table) × Walked S R P t × WithinLimits S R P t × LowestBreak S R P t n)
-    answer-stmt n = ((λ e. go (reasons S R P o _ .0 e)), (λ (t, w, l, b). reasons S R P o _ .1 (fault t w l b)))
+    pub answer-stmt : (n : ℕ) → (clearance S R P ≡ atStatement n) ↔ ((r : ℕ → PartReq) × Walked S R P r × WithinLimits S R P r × LowestBreak S R P r n)
+    answer-stmt n = ((λ e. go (reasons S R P o _ .0 e)), (λ (r, w, l, b). reasons S R P o _ .1 (fault r w l b)))
       where
-        go : Reason S R P (atStatement n) → (t : Table) × Walked S R P t × WithinLimits S R P t × LowestBreak S R P t n
-        go (fault t w l b) = (t, w, l, b)
+        go : Reason S R P (atStatement n) → (r : ℕ → PartReq) × Walked S R P r × WithinLimits S R P r × LowestBreak S R P r n
+        go (fault r w l b) = (r, w, l, b)
 
     -- `start`: judged and within the limits, no statement breaks its rule, and the start lacks something.
-    pub answer-start : (clearance S R P ≡ atStart) ↔ ((t : Table) × Walked S R P t × WithinLimits S R P t × NoBreak S R P t × (StartMet S R P t → ⊥))
-    answer-start = ((λ e. go (reasons S R P o _ .0 e)), (λ (t, w, l, u, f). reasons S R P o _ .1 (unmet t w l u f)))
+    pub answer-start : (clearance S R P ≡ atStart) ↔ ((r : ℕ → PartReq) × Walked S R P r × WithinLimits S R P r × NoBreak S R P r × (StartMet S R P r → ⊥))
+    answer-start = ((λ e. go (reasons S R P o _ .0 e)), (λ (r, w, l, u, f). reasons S R P o _ .1 (unmet r w l u f)))
       where
-        go : Reason S R P atStart → (t : Table) × Walked S R P t × WithinLimits S R P t × NoBreak S R P t × (StartMet S R P t → ⊥)
-        go (unmet t w l u f) = (t, w, l, u, f)
+        go : Reason S R P atStart → (r : ℕ → PartReq) × Walked S R P r × WithinLimits S R P r × NoBreak S R P r × (StartMet S R P r → ⊥)
+        go (unmet r w l u f) = (r, w, l, u, f)
 
     -- `clear`: cleared, exactly as 01 says: judged and within the limits, no statement breaks its rule, and the start has what it must.
-    pub exactly : (clearance S R P ≡ clear) ↔ ((t : Table) × Cleared S R P t)
-    exactly = ((λ e. go (reasons S R P o _ .0 e)), (λ (t, c). reasons S R P o _ .1 (cleared t c)))
+    pub exactly : (clearance S R P ≡ clear) ↔ ((r : ℕ → PartReq) × Cleared S R P r)
+    exactly = ((λ e. go (reasons S R P o _ .0 e)), (λ (r, c). reasons S R P o _ .1 (cleared r c)))
       where
-        go : Reason S R P clear → (t : Table) × Cleared S R P t
-        go (cleared t c) = (t, c)
+        go : Reason S R P clear → (r : ℕ → PartReq) × Cleared S R P r
+        go (cleared r c) = (r, c)
