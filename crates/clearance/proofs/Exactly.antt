@@ -1,30 +1,29 @@
--- "Exactly": the answer is `clear` if and only if the rules hold of the needs, each as 01 words it.
+-- The rules in 01's words are what the walk tests: an unmarked statement obeys, no rule is broken, and no evaluated expression is needed at the
+-- start, each exactly where its test says so. By induction over the statement and over the needs.
 use Prim.Native.Nat.{ℕ, zero, suc, _+_, _-_, _*_, _/_, _%_, _<_, _≤_}
 use native.Mathlib.Omega.{arith}
 use mathlib.Core.Path.{_≡_, refl, sym, ap, _∙_}
-use mathlib.Core.Bool.{Bool, true, false, not, _&&_, _||_}
+use mathlib.Core.Bool.{Bool, true, false, _||_}
 use mathlib.Core.List.{List, [], _∷_, _++_}
 use mathlib.Core.Logic.{_↔_}
 use mathlib.Core.Option.{Option}
 use lib.Dec.{ltb}
 use lib.ListN.{length}
 use borrow.Author.Tests.{ltb-true, ltb-false, not-true}
-use Rattle.part.specs.PartReq.{PartReq, all, exist, none, more, contains, spine}
+use Rattle.part.specs.PartReq.{PartReq, all, exist, none, more, spine}
 use Rattle.part.proofs.Equations.{never}
 use Rattle.module.specs.Module.{ExpressionHandle}
-use Rattle.clearance.specs.Shape.{Shape, struct, member, inside, cov, below, some}
+use Rattle.clearance.specs.Shape.{Shape, struct, member, inside, cov, some}
 use Rattle.clearance.specs.Scope.{Scope, slot, evaluated, variable, slots, kindShape, frame}
 use Rattle.clearance.specs.Tree.{Act, Tree, nop, seq, act, branch, switch, loop, break, continue, return, unmarked}
-use Rattle.clearance.specs.Needs.{overlap, idle, Exit, next, broke, continued, returned, upon, outBreak, outContinue, ofCase, ofContinuing, ofBody, each, concat, quiet, onlyNext, obeys}
-use Rattle.clearance.specs.Needs.{byStatement, Setting, lacking, Table, reentry}
-use Rattle.clearance.specs.Verdict.{Request, Report, clear, ending, setting, body, startNeeds, faults, needsExpression, starts, clearance}
-use Rattle.clearance.specs.Rules.{StandsIn, itself, first, second, inAccept, inReject, inCase, inBody, inContinuing, inUnmarked, Obeys, Unbroken, Cleared}
+use Rattle.clearance.specs.Needs.{overlap, idle, Exit, next, broke, continued, returned, upon, outBreak, outContinue, ofCase, ofContinuing, ofBody, concat, quiet, onlyNext, obeys}
+use Rattle.clearance.specs.Needs.{Setting, lacking}
+use Rattle.clearance.specs.Verdict.{needsExpression}
+use Rattle.clearance.specs.Rules.{StandsIn, itself, first, second, inAccept, inReject, inCase, inBody, inContinuing, inUnmarked, Obeys, Unbroken}
 use Rattle.clearance.specs.Rules.{Leaves, byBreak, byContinue, byReturn, fromFirst, fromSecond, fromAccept, fromReject, caseContinues, caseReturns, bodyReturns, continuingContinues, continuingReturns, fromUnmarked}
-use Rattle.clearance.specs.IsNeed.{AscendingRequest, IsNeed}
+use Rattle.clearance.specs.IsNeed.{IsNeed}
 use Rattle.clearance.proofs.Small.{cases, both-true, both-are, neither, unbroken, each-at, each-from, concat-at}
 use Rattle.clearance.proofs.Cov.{cov-all, cov-none, cov-exist, cov-after, cov-here, cov-extend}
-use Rattle.clearance.proofs.Cleared.{Passed, clear-passed, passed-clear}
-use Rattle.clearance.proofs.Rounds.{start-need}
 use Rattle.clearance.proofs.Count.{tidy-seen, struct-index, struct-at, later-need}
 
 -- An unmarked statement
@@ -41,7 +40,7 @@ quiet-acts S x a m e (inBody h) q = quiet-acts S x _ m _ h (both-true _ _ q .0)
 quiet-acts S x a m e (inContinuing {a = b} h) q = quiet-acts S x _ m _ h (both-true (quiet S m b (ofBody true e)) _ q .1)
 quiet-acts S x a m e (inUnmarked h) q = quiet-acts S x _ m e h q
 
-quiet-leaves : (S : Scope) (y : Exit) (a : Tree) (m : PartReq) (e : Exit → Bool) → Leaves y a → quiet S m a e ≡ true → e y ≡ true
+quiet-leaves : {n : ℕ} (S : Scope) (y : Exit) (a : Tree) (m : PartReq) (e : Exit → Bool) → Leaves n y a → quiet S m a e ≡ true → e y ≡ true
 unfolding quiet ofCase ofBody ofContinuing upon outBreak outContinue
 quiet-leaves S y a m e byBreak q = q
 quiet-leaves S y a m e byContinue q = q
@@ -57,81 +56,84 @@ quiet-leaves S y a m e (continuingContinues {a = b} h) q = quiet-leaves S contin
 quiet-leaves S y a m e (continuingReturns {a = b} h) q = quiet-leaves S returned _ m (ofContinuing true e) h (both-true (quiet S m b (ofBody true e)) _ q .1)
 quiet-leaves S y a m e (fromUnmarked h) q = quiet-leaves S y _ m e h q
 
+-- a statement is never left at its end by a break, continue or return
+pub no-next : {n : ℕ} (y : Exit) (a : Tree) → Leaves n y a → onlyNext y ≡ false
+unfolding onlyNext
+no-next y a byBreak = refl
+no-next y a byContinue = refl
+no-next y a byReturn = refl
+no-next y a (fromFirst h) = no-next y _ h
+no-next y a (fromSecond h) = no-next y _ h
+no-next y a (fromAccept h) = no-next y _ h
+no-next y a (fromReject h) = no-next y _ h
+no-next y a (caseContinues i l h) = refl
+no-next y a (caseReturns i l h) = refl
+no-next y a (bodyReturns h) = refl
+no-next y a (continuingContinues h) = refl
+no-next y a (continuingReturns h) = refl
+no-next y a (fromUnmarked h) = no-next y _ h
+
 module _ (S : Scope) (m : PartReq) where
   abbrev Spared : Tree → Type 0
   Spared a = (x : Act) → StandsIn x a → some (overlap S x m) ≡ false
 
   abbrev Stays : Tree → (Exit → Bool) → Type 0
-  Stays a e = (y : Exit) → Leaves y a → e y ≡ true
+  Stays a e = (n : ℕ) (y : Exit) → Leaves n y a → e y ≡ true
 
   case-stays : (c : ExpressionHandle) (vs : List ℕ) (f : ℕ → Tree) (e : Exit → Bool) → e next ≡ true → Stays (switch c vs f) e → (i : ℕ) → i < length vs → Stays (f i) (ofCase e)
   unfolding ofCase outBreak
-  case-stays c vs f e z h i l next g = z
-  case-stays c vs f e z h i l broke g = z
-  case-stays c vs f e z h i l continued g = h continued (caseContinues i l g)
-  case-stays c vs f e z h i l returned g = h returned (caseReturns i l g)
+  case-stays c vs f e z h i l o next g = z
+  case-stays c vs f e z h i l o broke g = z
+  case-stays c vs f e z h i l o continued g = h o continued (caseContinues i l g)
+  case-stays c vs f e z h i l o returned g = h o returned (caseReturns i l g)
 
   body-stays : (n : ℕ) (a b : Tree) (c : Option ExpressionHandle) (e : Exit → Bool) → e next ≡ true → Stays (loop n a b c) e → Stays a (ofBody true e)
   unfolding ofBody ofContinuing upon ofCase outBreak outContinue
-  body-stays n a b c e z h next g = refl
-  body-stays n a b c e z h broke g = z
-  body-stays n a b c e z h continued g = refl
-  body-stays n a b c e z h returned g = h returned (bodyReturns g)
+  body-stays n a b c e z h o next g = refl
+  body-stays n a b c e z h o broke g = z
+  body-stays n a b c e z h o continued g = refl
+  body-stays n a b c e z h o returned g = h o returned (bodyReturns g)
 
   continuing-stays : (n : ℕ) (a b : Tree) (c : Option ExpressionHandle) (e : Exit → Bool) → e next ≡ true → Stays (loop n a b c) e → Stays b (ofContinuing true e)
   unfolding ofContinuing upon ofCase outBreak
-  continuing-stays n a b c e z h next g = refl
-  continuing-stays n a b c e z h broke g = z
-  continuing-stays n a b c e z h continued g = h continued (continuingContinues g)
-  continuing-stays n a b c e z h returned g = h returned (continuingReturns g)
+  continuing-stays n a b c e z h o next g = refl
+  continuing-stays n a b c e z h o broke g = z
+  continuing-stays n a b c e z h o continued g = h o continued (continuingContinues g)
+  continuing-stays n a b c e z h o returned g = h o returned (continuingReturns g)
 
   quiet-from : (a : Tree) (e : Exit → Bool) → e next ≡ true → Spared a → Stays a e → quiet S m a e ≡ true
   unfolding quiet idle ofCase ofBody ofContinuing upon outBreak outContinue
   quiet-from nop e z h g = refl
   quiet-from (seq a b) e z h g =
-      both-are _ _ (quiet-from a e z (λ x i. h x (first i)) (λ y i. g y (fromFirst i))) (quiet-from b e z (λ x i. h x (second i)) (λ y i. g y (fromSecond i)))
+      both-are _ _ (quiet-from a e z (λ x i. h x (first i)) (λ o y i. g o y (fromFirst i))) (quiet-from b e z (λ x i. h x (second i)) (λ o y i. g o y (fromSecond i)))
   quiet-from (act x) e z h g = rw (h x itself)
   quiet-from (branch c a b) e z h g =
-      both-are _ _ (quiet-from a e z (λ x i. h x (inAccept i)) (λ y i. g y (fromAccept i))) (quiet-from b e z (λ x i. h x (inReject i)) (λ y i. g y (fromReject i)))
+      both-are _ _ (quiet-from a e z (λ x i. h x (inAccept i)) (λ o y i. g o y (fromAccept i))) (quiet-from b e z (λ x i. h x (inReject i)) (λ o y i. g o y (fromReject i)))
   quiet-from (switch c vs f) e z h g =
       each-from (length vs) _ (λ i l. quiet-from (f i) (ofCase e) z (λ x j. h x (inCase i l j)) (case-stays c vs f e z g i l))
   quiet-from (loop n a b c) e z h g =
       both-are _ _ (quiet-from a (ofBody true e) refl (λ x i. h x (inBody i)) (body-stays n a b c e z g))
       (quiet-from b (ofContinuing true e) refl (λ x i. h x (inContinuing i)) (continuing-stays n a b c e z g))
-  quiet-from (break n) e z h g = g broke byBreak
-  quiet-from (continue n) e z h g = g continued byContinue
-  quiet-from (return n v) e z h g = g returned byReturn
-  quiet-from (unmarked n mark a) e z h g = quiet-from a e z (λ x i. h x (inUnmarked i)) (λ y i. g y (fromUnmarked i))
-
-  -- a statement is never left at its end by a break, continue or return
-  no-next : (y : Exit) (a : Tree) → Leaves y a → onlyNext y ≡ false
-  unfolding onlyNext
-  no-next y a byBreak = refl
-  no-next y a byContinue = refl
-  no-next y a byReturn = refl
-  no-next y a (fromFirst h) = no-next y _ h
-  no-next y a (fromSecond h) = no-next y _ h
-  no-next y a (fromAccept h) = no-next y _ h
-  no-next y a (fromReject h) = no-next y _ h
-  no-next y a (caseContinues i l h) = refl
-  no-next y a (caseReturns i l h) = refl
-  no-next y a (bodyReturns h) = refl
-  no-next y a (continuingContinues h) = refl
-  no-next y a (continuingReturns h) = refl
-  no-next y a (fromUnmarked h) = no-next y _ h
+  quiet-from (break n) e z h g = g n broke byBreak
+  quiet-from (continue n) e z h g = g n continued byContinue
+  quiet-from (return n v) e z h g = g n returned byReturn
+  quiet-from (unmarked n mark a) e z h g = quiet-from a e z (λ x i. h x (inUnmarked i)) (λ o y i. g o y (fromUnmarked i))
 
   pub obeys-exactly : (a : Tree) → (obeys S m a ≡ true) ↔ Obeys S m a
   unfolding obeys onlyNext
   obeys-exactly a = (
     (λ q. record {
       nothingNeeded = λ x h. quiet-acts S x a m onlyNext h q;
-      nothingLeaves = λ y h. never′ (sym (no-next y a h) ∙ quiet-leaves S y a m onlyNext h q);
+      nothingLeaves = λ n y h. never′ (sym (no-next y a h) ∙ quiet-leaves S y a m onlyNext h q);
     }),
-    (λ o. quiet-from a onlyNext refl (o .nothingNeeded) (λ y h. absurd (o .nothingLeaves y h))),
+    (λ o. quiet-from a onlyNext refl (o .nothingNeeded) (λ n y h. absurd (o .nothingLeaves n y h))),
   )
     where
       never′ : false ≡ true → ⊥
       never′ e = never e
+
+  pub disobeys : (a : Tree) → (Obeys S m a → ⊥) → obeys S m a ≡ false
+  disobeys a o = cases (obeys S m a) (λ e. absurd (o (obeys-exactly a .0 e))) (λ e. e)
 
 -- All unmarked statements
 
@@ -190,7 +192,7 @@ none-needed (more i p r) j q h l =
     let y = ltb-false (variable 3) i (z .0) in
     cov-after i j p r q (omega arith) ∙ none-needed r j q (z .1) l
 
-evaluations-none : (n : PartReq) → needsExpression n ≡ false → (e : ExpressionHandle) (q : List ℕ) → cov n (slot (evaluated e) ++ q) ≡ false
+pub evaluations-none : (n : PartReq) → needsExpression n ≡ false → (e : ExpressionHandle) (q : List ℕ) → cov n (slot (evaluated e) ++ q) ≡ false
 unfolding slot
 evaluations-none n h e q = none-needed n (variable (4 + e / 32)) _ h (omega arith)
 
@@ -255,55 +257,7 @@ some-evaluation S (more i p r) f h =
     (λ e. entry-evaluation S i p r f (ltb-true (variable 3) i e))
     (λ e. later-evaluation i p r (ltb-false (variable 3) i e) (some-evaluation S r (later-need (frame S) i p r f) (rw e at h)))
 
-no-evaluation : (S : Scope) (n : PartReq) → IsNeed (frame S) n → ((e : ExpressionHandle) (q : List ℕ) → cov n (slot (evaluated e) ++ q) ≡ false) → needsExpression n ≡ false
+pub no-evaluation : (S : Scope) (n : PartReq) → IsNeed (frame S) n → ((e : ExpressionHandle) (q : List ℕ) → cov n (slot (evaluated e) ++ q) ≡ false) → needsExpression n ≡ false
 unfolding Evaluation
 no-evaluation S n f h =
     cases (needsExpression n) (λ e. let z = some-evaluation S n f e in never (sym (h (z .0) (z .1)) ∙ z .2)) (λ e. e)
-
--- The whole answer
-
-module _ (S : Scope) (R : Request) (P : Report) (o : AscendingRequest R) where
-  cleared-of : (t : Table) → Passed S R P t → Cleared S R P t
-  unfolding starts faults
-  cleared-of t C =
-      let y = both-true (not (needsExpression (startNeeds S R P t))) _ (C .start) in
-      let z = both-true (contains (P .globals) (below (startNeeds S R P t) (variable 0 ∷ []))) _ (y .1) in
-      record {
-        marks = C .marks;
-        expressions = C .expressions;
-        statements = C .statements;
-        settled = C .settled;
-        shallow = C .shallow;
-        few = C .few;
-        rules = broken-exactly (setting S R) (reentry t) byStatement (body S P) (ending S R) .0 (C .rules);
-        evaluations = evaluations-none (startNeeds S R P t) (not-true _ (y .0));
-        globals = z .0;
-        args = z .1;
-      }
-
-  starts-of : (t : Table) → Cleared S R P t → starts P (startNeeds S R P t) ≡ true
-  unfolding starts
-  starts-of t C = rw (no-evaluation S (startNeeds S R P t) (start-need S R P o t (C .settled)) (C .evaluations), C .globals, C .args)
-
-  faults-of : (t : Table) → Cleared S R P t → faults S R P t ≡ []
-  unfolding faults
-  faults-of t C = broken-exactly (setting S R) (reentry t) byStatement (body S P) (ending S R) .1 (C .rules)
-
-  passed-of : (t : Table) → Cleared S R P t → Passed S R P t
-  passed-of t C = record {
-    marks = C .marks;
-    expressions = C .expressions;
-    statements = C .statements;
-    settled = C .settled;
-    shallow = C .shallow;
-    few = C .few;
-    rules = faults-of t C;
-    start = starts-of t C;
-  }
-
-  -- Cleared is exactly what the rules say.
-  pub exactly : (clearance S R P ≡ clear) ↔ ((t : Table) × Cleared S R P t)
-  exactly = (
-    (λ h. let z = clear-passed S R P h in (z .0, cleared-of (z .0) (z .1))),
-    (λ z. passed-clear S R P (z .0) (passed-of (z .0) (z .1))),
-  )

@@ -12,26 +12,25 @@ use Rattle.part.proofs.Equations.{never}
 use Rattle.clearance.specs.Tree.{Tree, nop, seq, act, branch, switch, loop, break, continue, return, unmarked}
 use Rattle.clearance.specs.Needs.{Exit, next, upon, ofCase, concat, obeys, byStatement, byPosition, Setting, walk, afterBody, lacking, broken, missing}
 use Rattle.clearance.specs.Rules.{Obeys, Breaks, breaksFirst, breaksSecond, breaksAccept, breaksReject, breaksCase, breaksBody, breaksContinuing, breaksItself, breaksInside, Member, here, later}
-use Rattle.clearance.proofs.Small.{cases}
-use Rattle.clearance.proofs.Exactly.{obeys-exactly}
+use Rattle.clearance.proofs.Exactly.{obeys-exactly, disobeys}
 use Rattle.clearance.proofs.Lowest.{no-member, first-or-later}
 
 -- Lists
 
-either-list : {A : Type 0} (n : ℕ) (a b : List ℕ) → Member n (a ++ b) → (Member n a → A) → (Member n b → A) → A
+pub either-list : {A : Type 0} (n : ℕ) (a b : List ℕ) → Member n (a ++ b) → (Member n a → A) → (Member n b → A) → A
 either-list n [] b h f g = g h
 either-list n (x ∷ a) b h f g =
     first-or-later x n (a ++ b) h (λ e. f (subst (λ y. Member n (y ∷ a)) e here)) (λ m. either-list n a b m (λ i. f (later i)) g)
 
-in-left : (n : ℕ) (a b : List ℕ) → Member n a → Member n (a ++ b)
+pub in-left : (n : ℕ) (a b : List ℕ) → Member n a → Member n (a ++ b)
 in-left n a b here = here
 in-left n a b (later h) = later (in-left n _ b h)
 
-in-right : (n : ℕ) (a b : List ℕ) → Member n b → Member n (a ++ b)
+pub in-right : (n : ℕ) (a b : List ℕ) → Member n b → Member n (a ++ b)
 in-right n [] b h = h
 in-right n (x ∷ a) b h = later (in-right n a b h)
 
-in-concat : (n k : ℕ) (f : ℕ → List ℕ) (i : ℕ) → i < k → Member n (f i) → Member n (concat k f)
+pub in-concat : (n k : ℕ) (f : ℕ → List ℕ) (i : ℕ) → i < k → Member n (f i) → Member n (concat k f)
 unfolding concat
 in-concat n zero f i l h = absurd (omega arith)
 in-concat n (suc k) f i l h =
@@ -40,7 +39,7 @@ in-concat n (suc k) f i l h =
       | no e ↦ let y : i ≡ k = omega arith in in-left n (f k) _ (rw y at h)
     ]
 
-of-concat : (n k : ℕ) (f : ℕ → List ℕ) → Member n (concat k f) → (i : ℕ) × (i < k) × Member n (f i)
+pub of-concat : (n k : ℕ) (f : ℕ → List ℕ) → Member n (concat k f) → (i : ℕ) × (i < k) × Member n (f i)
 unfolding concat
 of-concat n zero f h = no-member n [] refl h
 of-concat n (suc k) f h =
@@ -71,9 +70,6 @@ module _ (W : Setting) (r : ℕ → PartReq) (name : ℕ → ℕ → ℕ) (n : �
   breaks-of (return m v) k h = no-member n [] refl h
   breaks-of (unmarked m mark a) k h = breaks-rule m mark a k (obeys (W .scope) (k next) a) refl (breaks-of a k) h
 
-  disobeys : (a : Tree) (k : Exit → PartReq) → (Obeys (W .scope) (k next) a → ⊥) → obeys (W .scope) (k next) a ≡ false
-  disobeys a k o = cases (obeys (W .scope) (k next) a) (λ e. absurd (o (obeys-exactly (W .scope) (k next) a .0 e))) (λ e. e)
-
   broken-of : (a : Tree) (k : Exit → PartReq) → Breaks W r name n a k → Member n (lacking W r name a k)
   unfolding lacking
   broken-of a k (breaksFirst h) = in-left n _ _ (broken-of _ _ h)
@@ -83,8 +79,8 @@ module _ (W : Setting) (r : ℕ → PartReq) (name : ℕ → ℕ → ℕ) (n : �
   broken-of a k (breaksCase {vs = vs} {f = f} i l h) = in-concat n (length vs) (λ i. lacking W r name (f i) (ofCase k)) i l (broken-of _ _ h)
   broken-of a k (breaksBody h) = in-left n _ _ (broken-of _ _ h)
   broken-of a k (breaksContinuing {m = m} {a = x} {b = y} {c = c} h) = in-right n (lacking W r name x (afterBody W r m y c k)) _ (broken-of _ _ h)
-  broken-of a k (breaksItself {a = x} e o) = rw (disobeys x k o) (subst (λ y. Member n (y ∷ lacking W r name x k)) e here)
-  broken-of a k (breaksInside {a = x} o h) = rw (disobeys x k o) (later (broken-of _ k h))
+  broken-of a k (breaksItself {a = x} e o) = rw (disobeys (W .scope) (k next) x o) (subst (λ y. Member n (y ∷ lacking W r name x k)) e here)
+  broken-of a k (breaksInside {a = x} o h) = rw (disobeys (W .scope) (k next) x o) (later (broken-of _ k h))
 
   lacking-exactly : (a : Tree) (k : Exit → PartReq) → Member n (lacking W r name a k) ↔ Breaks W r name n a k
   lacking-exactly a k = (breaks-of a k, broken-of a k)

@@ -10,7 +10,17 @@ pub mod Count
 pub mod Rounds
 pub mod Exactly
 pub mod Lowest
+pub mod Relations
+pub mod JudgedExpressions
 pub mod Faults
+pub mod Strays
+pub mod Markless
+pub mod JudgedStatements
+pub mod Blamed
+pub mod JudgedExactly
+pub mod Points
+pub mod Reasons
+pub mod Answers
 pub mod Missing
 pub mod Operators
 pub mod Agree

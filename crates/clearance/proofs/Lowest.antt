@@ -1,21 +1,17 @@
--- The number that the answer names is the lowest of those to blame: by cases of how the answer came about.
+-- Lists of numbers: which is the lowest, and which are the numbers of those that fail a test.
 use Prim.Native.Nat.{ℕ, zero, suc, _+_, _<_, _≤_}
 use native.Mathlib.Omega.{arith}
 use mathlib.Core.Path.{_≡_, refl, sym, ap, subst, _∙_}
 use mathlib.Core.Bool.{Bool, true, false, cond}
 use mathlib.Core.List.{List, [], _∷_, _++_}
+use mathlib.Core.Logic.{_⊎_, inl, inr}
 use mathlib.Core.Option.{Option, some, none as nothing}
-use lib.Dec.{ltb}
+use lib.Dec.{ltb, eqb}
 use lib.ListN.{length, getD}
-use borrow.Author.Tests.{ltb-true, ltb-false}
-use Rattle.field.specs.Limits.{maxPieces}
-use Rattle.part.specs.PartReq.{over}
+use borrow.Author.Tests.{ltb-true, ltb-false, eqb-true, eqb-false}
 use Rattle.part.proofs.Equations.{never}
-use Rattle.clearance.specs.Scope.{Scope}
-use Rattle.clearance.specs.Needs.{Table, smallest}
-use Rattle.clearance.specs.Judged.{unless, failing, lower, lowest, judgedExpression, blamedExpression, fitsStatement, strays, atTop, blamedStatement}
+use Rattle.clearance.specs.Judged.{unless, failing, lower, lowest}
 use Rattle.clearance.specs.Rules.{Member, here, later, Lowest}
-use Rattle.clearance.specs.Verdict.{Request, Report, Answer, atStatement, atStart, clear, unjudgedExpression, unjudgedStatement, refused, ending, setting, body, faults, verdict, pieces, atPoint, limited, answerBy, judge, hasShape, clearance}
 use Rattle.clearance.proofs.Small.{cases}
 use Rattle.clearance.proofs.Cleared.{lowest-none}
 
@@ -53,105 +49,13 @@ either-lowest n j k ns L e =
 same-some : (a b : ℕ) → _≡_ {A = Option ℕ} (some a) (some b) → a ≡ b
 same-some a b e = cc
 
-lowest-is : (l : List ℕ) (k : ℕ) → lowest l ≡ some k → Lowest k l
+pub lowest-is : (l : List ℕ) (k : ℕ) → lowest l ≡ some k → Lowest k l
 lowest-is [] k e = never (unfold lowest in cc)
 lowest-is (n ∷ ns) k e = go (lowest ns) refl (λ j. lowest-is ns j) (unfold lowest in e)
   where
     go : (o : Option ℕ) → lowest ns ≡ o → ((j : ℕ) → lowest ns ≡ some j → Lowest j ns) → lower n o ≡ some k → Lowest k (n ∷ ns)
     go nothing h f g = subst (λ x. Lowest x (n ∷ ns)) (same-some n k (unfold lower in g)) (only-first n ns (lowest-none ns h))
     go (some j) h f g = either-lowest n j k ns (f j h) (same-some _ k (unfold lower in g))
-
--- How the answers come about
-
-verdict-statement : (o : Option ℕ) (s : Bool) (n : ℕ) → verdict o s ≡ atStatement n → o ≡ some n
-unfolding verdict
-verdict-statement (some m) s n e = cc
-verdict-statement nothing true n e = never cc
-verdict-statement nothing false n e = never cc
-
-cond-statement : (b : Bool) (m n : ℕ) (a : Answer) → cond b (refused m) a ≡ atStatement n → a ≡ atStatement n
-cond-statement true m n a e = never cc
-cond-statement false m n a e = e
-
--- what is answered of a judged function
-abbrev isJudged : Answer → Bool
-isJudged clear = true
-isJudged (atStatement n) = true
-isJudged atStart = true
-isJudged (unjudgedExpression n) = false
-isJudged (unjudgedStatement n) = false
-isJudged (refused n) = true
-
-verdict-judged : (o : Option ℕ) (s : Bool) → isJudged (verdict o s) ≡ true
-unfolding verdict
-verdict-judged (some n) s = refl
-verdict-judged nothing true = refl
-verdict-judged nothing false = refl
-
-cond-judged : (b : Bool) (m : ℕ) (a : Answer) → isJudged a ≡ true → isJudged (cond b (refused m) a) ≡ true
-cond-judged true m a h = refl
-cond-judged false m a h = h
-
-module _ (S : Scope) (R : Request) (P : Report) where
-  answer-judged : (o : Option Table) → isJudged (answerBy S R P o) ≡ true
-  unfolding answerBy limited
-  answer-judged nothing = refl
-  answer-judged (some t) = cond-judged (atPoint S R P t over) 15 _ (cond-judged (atPoint S R P t (λ n. ltb maxPieces (pieces n))) 16 _ (verdict-judged _ _))
-
-  -- what a statement's number in the answer rests on
-  Faulty : ℕ → Option Table → Type 0
-  Faulty n o = (t : Table) × (o ≡ some t) × (lowest (faults S R P t) ≡ some n)
-
-  answer-statement : (o : Option Table) (n : ℕ) → answerBy S R P o ≡ atStatement n → Faulty n o
-  unfolding answerBy limited Faulty
-  answer-statement nothing n e = never cc
-  answer-statement (some t) n e =
-      (t, refl, verdict-statement _ _ n (cond-statement (atPoint S R P t (λ n. ltb maxPieces (pieces n))) 16 n _ (cond-statement (atPoint S R P t over) 15 n _ e)))
-
-  judge-statement : (x y : Option ℕ) (n : ℕ) → judge S R P x y ≡ atStatement n → Faulty n (smallest (setting S R) (body S P) (ending S R))
-  unfolding judge
-  judge-statement (some d) y n e = never cc
-  judge-statement nothing (some d) n e = never cc
-  judge-statement nothing nothing n e = answer-statement _ n e
-
-  judge-expression : (x y : Option ℕ) (n : ℕ) → judge S R P x y ≡ unjudgedExpression n → x ≡ some n
-  unfolding judge
-  judge-expression (some d) y n e = cc
-  judge-expression nothing (some d) n e = never cc
-  judge-expression nothing nothing n e = never (sym (ap isJudged e) ∙ answer-judged (smallest (setting S R) (body S P) (ending S R)))
-
-  judge-unfit : (x y : Option ℕ) (n : ℕ) → judge S R P x y ≡ unjudgedStatement n → (x ≡ nothing) × (y ≡ some n)
-  unfolding judge
-  judge-unfit (some d) y n e = never cc
-  judge-unfit nothing (some d) n e = (refl, cc)
-  judge-unfit nothing nothing n e = never (sym (ap isJudged e) ∙ answer-judged (smallest (setting S R) (body S P) (ending S R)))
-
-  -- an answer that is no refusal is what `judge` says
-  judged-by : (a : Answer) → (refused 21 ≡ a → ⊥) → clearance S R P ≡ a → judge S R P (blamedExpression S) (blamedStatement S (body S P)) ≡ a
-  unfolding clearance
-  judged-by a h e =
-      cases (hasShape (S .function) (P .marks)) (λ t. rw (t, clearance) at e) (λ t. absurd (h (rw (t, clearance) at e)))
-
-  -- The answer names the lowest statement that breaks a rule.
-  pub named : (n : ℕ) → clearance S R P ≡ atStatement n →
-      (t : Table) × (smallest (setting S R) (body S P) (ending S R) ≡ some t) × Lowest n (faults S R P t)
-  unfolding Faulty
-  named n e =
-      let z = judge-statement (blamedExpression S) (blamedStatement S (body S P)) n (judged-by (atStatement n) (λ h. never cc) e) in
-      (z .0, z .1, lowest-is _ n (z .2))
-
-  -- Where it is not judged, the lowest expression to blame;
-  pub unjudged-expression : (n : ℕ) → clearance S R P ≡ unjudgedExpression n → Lowest n (failing (λ e x. judgedExpression S e) 0 (S .function .expressions))
-  unfolding blamedExpression
-  unjudged-expression n e = lowest-is _ n (judge-expression (blamedExpression S) _ n (judged-by (unjudgedExpression n) (λ h. never cc) e))
-
-  -- else, where no expression is, the lowest statement.
-  pub unjudged-statement : (n : ℕ) → clearance S R P ≡ unjudgedStatement n →
-      (blamedExpression S ≡ nothing) × Lowest n (failing (λ n x. fitsStatement S x) 0 (S .function .statements) ++ strays (body S P) atTop)
-  unfolding blamedStatement
-  unjudged-statement n e =
-      let z = judge-unfit (blamedExpression S) (blamedStatement S (body S P)) n (judged-by (unjudgedStatement n) (λ h. never cc) e) in
-      (z .0, lowest-is _ n (z .1))
 
 -- What the numbers of those that fail a test are
 
@@ -194,3 +98,30 @@ module _ {A : Type 0} (test : ℕ → A → Bool) (d : A) where
   fails-failing k (x ∷ xs) (suc i) l h =
       let z : k + suc i ≡ suc k + i = omega arith in
       rw z (unless-later (test k x) k (suc k + i) (failing test (suc k) xs) (fails-failing (suc k) xs i (omega arith) (rw z at h)))
+
+-- Whether a number is in a list
+
+pub decide-member : (n : ℕ) (l : List ℕ) → Member n l ⊎ (Member n l → ⊥)
+decide-member n [] = inr (λ m. no-member n [] refl m)
+decide-member n (k ∷ l) = go (decide-member n l)
+  where
+    go : Member n l ⊎ (Member n l → ⊥) → Member n (k ∷ l) ⊎ (Member n (k ∷ l) → ⊥)
+    go (inl m) = inl (later m)
+    go (inr f) = cases (eqb n k) (λ e. inl (subst (λ x. Member n (x ∷ l)) (eqb-true n k e) here)) (λ e. inr (λ m. first-or-later k n l m (eqb-false n k e) f))
+
+-- The lowest, from what it is
+
+pub none-listed : (l : List ℕ) → ((n : ℕ) → Member n l → ⊥) → lowest l ≡ nothing
+unfolding lowest
+none-listed [] h = refl
+none-listed (n ∷ l) h = absurd (h n here)
+
+pub listed : (l : List ℕ) (n : ℕ) → Lowest n l → lowest l ≡ some n
+listed l n L = go (lowest l) refl
+  where
+    go : (o : Option ℕ) → lowest l ≡ o → lowest l ≡ some n
+    go nothing e = no-member n l (lowest-none l e) (L .member)
+    go (some m) e =
+        let M = lowest-is l m e in
+        let z : m ≡ n = omega (arith, M .least n (L .member), L .least m (M .member)) in
+        e ∙ ap some z

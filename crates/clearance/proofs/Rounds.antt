@@ -201,10 +201,13 @@ module _ (S : Scope) (R : Request) (P : Report) (o : AscendingRequest R) where
   rounds-end = settles-at-last (setting S R) (o .value) (body S P) (ending S R) ends
 
   -- what they come to are needs, and so are those at the start
+  pub settled-needs : (t : Table) → smallest (setting S R) (body S P) (ending S R) ≡ present t → (j : ℕ) → IsNeed (frame S) (reentry t j)
+  settled-needs t e j = settled-need (setting S R) (o .value) (body S P) (ending S R) ends t e j
+
   pub start-need : (t : Table) → smallest (setting S R) (body S P) (ending S R) ≡ present t → IsNeed (frame S) (startNeeds S R P t)
   unfolding startNeeds
   start-need t e =
-      walk-self (setting S R) (o .value) (reentry t) (λ j. le-self (frame S) _ (settled-need (setting S R) (o .value) (body S P) (ending S R) ends t e j)) (body S P) (ending S R) ends .high
+      walk-self (setting S R) (o .value) (reentry t) (λ j. le-self (frame S) _ (settled-needs t e j)) (body S P) (ending S R) ends .high
 
   -- And they come to the smallest needs.
   pub rounds-smallest : (t : Table) → smallest (setting S R) (body S P) (ending S R) ≡ present t →

@@ -6,5 +6,7 @@ pub mod Judged
 pub mod Verdict
 pub mod Rules
 pub mod IsNeed
+pub mod IsJudged
+pub mod Answered
 pub mod Run
 pub mod Claim

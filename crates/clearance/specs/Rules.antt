@@ -2,19 +2,16 @@
 use Prim.Native.Nat.{ℕ, _<_, _≤_}
 use mathlib.Core.Path.{_≡_}
 use mathlib.Core.Bool.{true, false}
-use mathlib.Core.List.{List, [], _∷_, _++_}
-use mathlib.Core.Option.{Option, some as present, none as nothing}
-use lib.Dec.{ltb}
+use mathlib.Core.List.{List, _∷_}
+use mathlib.Core.Option.{Option}
 use lib.ListN.{length}
-use Rattle.field.specs.Limits.{maxPieces}
-use Rattle.part.specs.PartReq.{PartReq, contains, over}
+use Rattle.part.specs.PartReq.{PartReq, contains}
 use Rattle.module.specs.Module.{ExpressionHandle}
-use Rattle.clearance.specs.Shape.{cov, below, some}
-use Rattle.clearance.specs.Scope.{Scope, slot, evaluated, variable}
+use Rattle.clearance.specs.Shape.{some}
+use Rattle.clearance.specs.Scope.{Scope}
 use Rattle.clearance.specs.Tree.{Act, Tree, nop, seq, act, branch, switch, loop, break, continue, return, unmarked}
-use Rattle.clearance.specs.Needs.{overlap, Exit, next, broke, continued, returned, upon, ofCase, afterContinuing, Setting, walk, afterBody, Table, reentry, smallest}
-use Rattle.clearance.specs.Judged.{blamedExpression, blamedStatement}
-use Rattle.clearance.specs.Verdict.{Request, Report, ending, setting, body, startNeeds, pieces, atPoint, hasShape}
+use Rattle.clearance.specs.Needs.{overlap, Exit, next, broke, continued, returned, upon, ofCase, afterContinuing, Setting, walk, afterBody, Table, reentry}
+use Rattle.clearance.specs.Verdict.{Request, Report, ending, setting, body, startNeeds}
 
 -- the store or emit x stands in a statement, at any depth
 pub data StandsIn (x : Act) : Tree → Type 0 where
@@ -28,28 +25,28 @@ pub data StandsIn (x : Act) : Tree → Type 0 where
   inContinuing : {n : ℕ} {a b : Tree} {c : Option ExpressionHandle} → StandsIn x b → StandsIn x (loop n a b c)
   inUnmarked : {n mark : ℕ} {a : Tree} → StandsIn x a → StandsIn x (unmarked n mark a)
 
--- A break, continue or return in a statement leaves it. A break that stays in a switch or a loop, and a continue that stays in a
+-- The break, continue or return with the number n leaves a statement. A break that stays in a switch or a loop, and a continue that stays in a
 -- loop, does not.
-pub data Leaves : Exit → Tree → Type 0 where
-  byBreak : {n : ℕ} → Leaves broke (break n)
-  byContinue : {n : ℕ} → Leaves continued (continue n)
-  byReturn : {n : ℕ} {v : Option ExpressionHandle} → Leaves returned (return n v)
-  fromFirst : {x : Exit} {a b : Tree} → Leaves x a → Leaves x (seq a b)
-  fromSecond : {x : Exit} {a b : Tree} → Leaves x b → Leaves x (seq a b)
-  fromAccept : {x : Exit} {c : ExpressionHandle} {a b : Tree} → Leaves x a → Leaves x (branch c a b)
-  fromReject : {x : Exit} {c : ExpressionHandle} {a b : Tree} → Leaves x b → Leaves x (branch c a b)
-  caseContinues : {c : ExpressionHandle} {vs : List ℕ} {f : ℕ → Tree} (i : ℕ) → i < length vs → Leaves continued (f i) → Leaves continued (switch c vs f)
-  caseReturns : {c : ExpressionHandle} {vs : List ℕ} {f : ℕ → Tree} (i : ℕ) → i < length vs → Leaves returned (f i) → Leaves returned (switch c vs f)
-  bodyReturns : {n : ℕ} {a b : Tree} {c : Option ExpressionHandle} → Leaves returned a → Leaves returned (loop n a b c)
-  continuingContinues : {n : ℕ} {a b : Tree} {c : Option ExpressionHandle} → Leaves continued b → Leaves continued (loop n a b c)
-  continuingReturns : {n : ℕ} {a b : Tree} {c : Option ExpressionHandle} → Leaves returned b → Leaves returned (loop n a b c)
-  fromUnmarked : {x : Exit} {n mark : ℕ} {a : Tree} → Leaves x a → Leaves x (unmarked n mark a)
+pub data Leaves (n : ℕ) : Exit → Tree → Type 0 where
+  byBreak : Leaves n broke (break n)
+  byContinue : Leaves n continued (continue n)
+  byReturn : {v : Option ExpressionHandle} → Leaves n returned (return n v)
+  fromFirst : {x : Exit} {a b : Tree} → Leaves n x a → Leaves n x (seq a b)
+  fromSecond : {x : Exit} {a b : Tree} → Leaves n x b → Leaves n x (seq a b)
+  fromAccept : {x : Exit} {c : ExpressionHandle} {a b : Tree} → Leaves n x a → Leaves n x (branch c a b)
+  fromReject : {x : Exit} {c : ExpressionHandle} {a b : Tree} → Leaves n x b → Leaves n x (branch c a b)
+  caseContinues : {c : ExpressionHandle} {vs : List ℕ} {f : ℕ → Tree} (i : ℕ) → i < length vs → Leaves n continued (f i) → Leaves n continued (switch c vs f)
+  caseReturns : {c : ExpressionHandle} {vs : List ℕ} {f : ℕ → Tree} (i : ℕ) → i < length vs → Leaves n returned (f i) → Leaves n returned (switch c vs f)
+  bodyReturns : {m : ℕ} {a b : Tree} {c : Option ExpressionHandle} → Leaves n returned a → Leaves n returned (loop m a b c)
+  continuingContinues : {m : ℕ} {a b : Tree} {c : Option ExpressionHandle} → Leaves n continued b → Leaves n continued (loop m a b c)
+  continuingReturns : {m : ℕ} {a b : Tree} {c : Option ExpressionHandle} → Leaves n returned b → Leaves n returned (loop m a b c)
+  fromUnmarked : {x : Exit} {m mark : ℕ} {a : Tree} → Leaves n x a → Leaves n x (unmarked m mark a)
 
 -- The rule of an unmarked statement: no store inside may overlap the needs after it, no emit inside may give a needed expression, and
 -- no return, break or continue may leave it. (Of an unmarked store or emit it says that it does not overlap them itself.)
 pub record Obeys (S : Scope) (after : PartReq) (a : Tree) : Type 0 where
   pub nothingNeeded : (x : Act) → StandsIn x a → some (overlap S x after) ≡ false
-  pub nothingLeaves : (x : Exit) → Leaves x a → ⊥
+  pub nothingLeaves : (n : ℕ) (x : Exit) → Leaves n x a → ⊥
 
 -- no rule broken: of every unmarked statement that is walked, with the needs that stand after it
 abbrev pub Unbroken : (W : Setting) (r : ℕ → PartReq) → Tree → (Exit → PartReq) → Type 0
@@ -77,22 +74,6 @@ pub data Breaks (W : Setting) (r : ℕ → PartReq) (name : ℕ → ℕ → ℕ)
   breaksContinuing : {m : ℕ} {a b : Tree} {c : Option ExpressionHandle} {k : Exit → PartReq} → Breaks W r name x b (afterContinuing (W .scope) (r m) c k) → Breaks W r name x (loop m a b c) k
   breaksItself : {n mark : ℕ} {a : Tree} {k : Exit → PartReq} → x ≡ name n mark → (Obeys (W .scope) (k next) a → ⊥) → Breaks W r name x (unmarked n mark a) k
   breaksInside : {n mark : ℕ} {a : Tree} {k : Exit → PartReq} → (Obeys (W .scope) (k next) a → ⊥) → Breaks W r name x a k → Breaks W r name x (unmarked n mark a) k
-
--- 01's "Cleared", of a function that is judged and whose needs pass no limit, with t the smallest needs of its loops
-pub record Cleared (S : Scope) (R : Request) (P : Report) (t : Table) : Type 0 where
-  pub marks : hasShape (S .function) (P .marks) ≡ true
-  pub expressions : blamedExpression S ≡ nothing
-  pub statements : blamedStatement S (body S P) ≡ nothing
-  pub settled : smallest (setting S R) (body S P) (ending S R) ≡ present t
-  pub shallow : atPoint S R P t over ≡ false
-  pub few : atPoint S R P t (λ n. ltb maxPieces (pieces n)) ≡ false
-  -- no rule broken
-  pub rules : Unbroken (setting S R) (reentry t) (body S P) (ending S R)
-  -- no evaluated expression still needed at the start
-  pub evaluations : (e : ExpressionHandle) (q : List ℕ) → cov (startNeeds S R P t) (slot (evaluated e) ++ q) ≡ false
-  -- argument and global needs contained in the context
-  pub globals : contains (P .globals) (below (startNeeds S R P t) (variable 0 ∷ [])) ≡ true
-  pub args : contains (P .args) (below (startNeeds S R P t) (variable 2 ∷ [])) ≡ true
 
 -- What "smallest" says: a choice r of re-entry needs contains those of every loop, and the needs at the start that come of it contain
 -- those at the start.
