@@ -1,4 +1,5 @@
 //! The commands: each reads its files, does one thing and says what went wrong.
+use crate::clearance::show;
 use crate::measured::{self, File};
 use crate::stored::{Reading, Requests, Source};
 use crate::{assemble, bench, bindings, check, compare, count, form, list, model, requests, store};
@@ -15,6 +16,7 @@ host stored count READING REQUESTS          a table of what the two lists reach
 host compare reading ORACLE SEED COUNT SOURCE...    the library against the oracle: the sources' modules and damaged copies of them
 host compare bindings ORACLE SEED COUNT SOURCE...   the same for the operations on bindings, asked anew of the sources' modules
 host compare requests ORACLE SEED COUNT SOURCE...   the same for requests: the sources, varied, damaged and generated modules, asked anew
+host clearance FILE          the verdict on the file's first request with the library's own report, by this program's own clearance
 host bench BENCH FILE...    the library's requests timed against the original's (BENCH: its program for timing, or the folder that has it); without FILE, on our own
 ";
 
@@ -32,6 +34,7 @@ pub fn run(words: &[&str]) -> Result<(), String> {
         ["compare", "reading", oracle, seed, count, ref sources @ ..] => compare_reading(oracle, seed, count, sources),
         ["compare", "bindings", oracle, seed, count, ref sources @ ..] => compare_bindings(oracle, seed, count, sources),
         ["compare", "requests", oracle, seed, count, ref sources @ ..] => compare_requests(oracle, seed, count, sources),
+        ["clearance", file] => print(&show::show(&read(file)?).map_err(|reason| format!("{file}: {reason}"))?),
         ["bench", bench, ref files @ ..] => measure(bench, files),
         _ => Err(USAGE.into()),
     }

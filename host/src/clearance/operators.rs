@@ -7,15 +7,16 @@ use super::path::{Path, Step};
 use super::run::Run;
 use super::shape::Shape;
 use super::value::{mixed, Value};
+use std::borrow::Cow;
 
 impl Run<'_> {
     /// An operand's value: what its emit gave, or its own where it needs no emit.
-    pub(super) fn operand(&self, e: Handle) -> Value {
+    pub(super) fn operand(&self, e: Handle) -> Cow<'_, Value> {
         match self.function.expressions[e] {
-            Expression::Literal | Expression::Constant => self.whole(e, &[]),
-            Expression::ZeroValue => self.zero(e),
-            Expression::FunctionArgument(a) => self.inputs.arguments[a as usize].clone(),
-            _ => self.values[e].clone(),
+            Expression::Literal | Expression::Constant => Cow::Owned(self.whole(e, &[])),
+            Expression::ZeroValue => Cow::Owned(self.zero(e)),
+            Expression::FunctionArgument(a) => Cow::Borrowed(&self.inputs.arguments[a as usize]),
+            _ => Cow::Borrowed(&self.values[e]),
         }
     }
 
@@ -49,7 +50,7 @@ impl Run<'_> {
 
     /// The components one after the other; those of vectors in a vector side by side.
     fn compose(&self, e: Handle, components: &[Handle]) -> Value {
-        let values = components.iter().map(|c| self.operand(*c));
+        let values = components.iter().map(|c| self.operand(*c).into_owned());
         if !is_of_vectors(self.module, self.function, e, components) {
             return Value::Parts(values.collect());
         }
@@ -73,8 +74,8 @@ impl Run<'_> {
 
     /// Every number from those at its own place in the operands, which have the result's shape, and from one number more.
     fn by_part(&self, e: Handle, operands: &[Handle], more: u64) -> Value {
-        let operands: Vec<Value> = operands.iter().map(|o| self.operand(*o)).collect();
-        self.parts(e, 0, &operands.iter().collect::<Vec<_>>(), more)
+        let operands: Vec<Cow<Value>> = operands.iter().map(|o| self.operand(*o)).collect();
+        self.parts(e, 0, &operands.iter().map(Cow::as_ref).collect::<Vec<_>>(), more)
     }
 
     fn parts(&self, e: Handle, place: u64, operands: &[&Value], more: u64) -> Value {
@@ -96,7 +97,7 @@ impl Run<'_> {
 
     /// The number of a scalar.
     pub(super) fn scalar(&self, e: Handle) -> Option<u64> {
-        match self.operand(e) {
+        match *self.operand(e) {
             Value::Number(n) if *self.module.shapes.get(self.function.types[e]) == Shape::Scalar => Some(n),
             _ => None,
         }

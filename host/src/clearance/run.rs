@@ -54,7 +54,7 @@ enum Flow {
 }
 
 /// More statements than this, and a run is given up.
-const STATEMENTS: usize = 20_000;
+const STATEMENTS: usize = 3_000;
 
 /// What operators are in a run.
 #[derive(Clone, Copy)]
@@ -115,7 +115,7 @@ impl<'a> Run<'a> {
             Statement::Block(block) => return self.block(block),
             Statement::Break => return Flow::Break,
             Statement::Continue => return Flow::Continue,
-            Statement::Return(value) => return Flow::Return(value.map(|v| self.operand(v))),
+            Statement::Return(value) => return Flow::Return(value.map(|v| self.operand(v).into_owned())),
             _ if self.passes(s, 0) => {}
             Statement::Store { pointer, value } => self.store(pointer, value),
             Statement::If { condition, accept, reject } => {
@@ -141,7 +141,7 @@ impl<'a> Run<'a> {
     fn store(&mut self, pointer: Handle, value: Handle) {
         let path = Path::of(self.function, pointer);
         let Some(indexes) = self.indexes(&path) else { return };
-        let stored = self.operand(value);
+        let stored = self.operand(value).into_owned();
         let variable = match path.variable {
             Key::Global(g) => &mut self.inputs.globals[g as usize],
             Key::Local(l) => &mut self.inputs.locals[l as usize],

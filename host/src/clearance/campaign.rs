@@ -1,0 +1,86 @@
+//! Many models, each with reports by every author: what the verdicts are, and pairs of runs on each report that is cleared.
+use super::authors::{damaged, Asked, Report};
+use super::pair::{self, Pairs};
+use super::verdict::Verdict;
+use crate::list::list;
+use crate::random::Random;
+use std::collections::BTreeMap;
+use std::fmt::Write;
+
+#[derive(Default)]
+pub struct Campaign {
+    pub models: usize,
+    /// How often an author's reports got each kind of verdict.
+    pub verdicts: BTreeMap<(&'static str, String), usize>,
+    pub pairs: Pairs,
+}
+
+/// Copies of each author's report that are damaged.
+const DAMAGED: usize = 4;
+
+impl Campaign {
+    /// One model with its first request; the message of a difference has its listing.
+    pub fn model(&mut self, file: &[u8], inputs: usize, random: &mut Random) -> Result<(), String> {
+        let asked = Asked::of(file).ok_or_else(|| format!("no request that fits:\n{}", list(file)))?;
+        self.models += 1;
+        let walked = asked.of_walk()?;
+        if walked.is_none() {
+            self.count("walk", "request refused");
+        }
+        let judged = asked.is_judged();
+        let mut reports: Vec<(&'static str, Report)> = walked.into_iter().map(|r| ("walk", r)).collect();
+        if judged {
+            reports.extend([("all marked", asked.all_marked()), ("grown", asked.grown())]);
+        }
+        for (author, report) in &reports {
+            self.report(&asked, author, report, inputs, random)?;
+            for _ in 0..DAMAGED {
+                self.report(&asked, "damaged", &damaged(report, random), inputs, random)?;
+            }
+        }
+        Ok(())
+    }
+
+    fn count(&mut self, author: &'static str, word: &str) {
+        *self.verdicts.entry((author, word.into())).or_default() += 1;
+    }
+
+    fn report(&mut self, asked: &Asked, author: &'static str, report: &Report, inputs: usize, random: &mut Random) -> Result<(), String> {
+        let judgement = asked.judge(report);
+        self.count(author, &sort(&judgement.verdict));
+        if judgement.verdict != Verdict::Clear || !pair::is_small(asked) {
+            return Ok(());
+        }
+        for _ in 0..inputs {
+            let pairs = pair::compare(asked, report, random).map_err(|reason| difference(asked, author, report, &reason))?;
+            self.pairs.same += pairs.same;
+            self.pairs.skipped += pairs.skipped;
+            self.pairs.apart += pairs.apart;
+        }
+        Ok(())
+    }
+
+    pub fn lines(&self) -> String {
+        let mut text = format!("models: {}\n", self.models);
+        for ((author, word), count) in &self.verdicts {
+            writeln!(text, "{author}, {word}: {count}").expect("text");
+        }
+        let Pairs { same, skipped, apart } = self.pairs;
+        text + &format!("pairs of runs: {same}, of these apart in other outputs: {apart}, a run does not end: {skipped}\n")
+    }
+}
+
+/// A verdict without its number, refusals with theirs.
+fn sort(verdict: &Verdict) -> String {
+    match verdict {
+        Verdict::Statement(_) => "stmt".into(),
+        Verdict::Unjudged(_) => "unjudged".into(),
+        other => other.to_string(),
+    }
+}
+
+fn difference(asked: &Asked, author: &str, report: &Report, reason: &str) -> String {
+    let marks = &asked.outline.functions[asked.request.function as usize];
+    let lines = marks.lines(&report.marks[asked.outline.stretch(asked.request.function as usize)]);
+    format!("{author}: {reason}\n{}request {}\n{}{lines}", list(&asked.bytes), asked.request.show(), report.context.lines())
+}
