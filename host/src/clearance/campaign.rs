@@ -2,8 +2,10 @@
 use super::authors::{damaged, Asked, Report};
 use super::pair::{self, Pairs};
 use super::verdict::Verdict;
+use super::wild;
 use crate::list::list;
 use crate::random::Random;
+use crate::{limits, model};
 use std::collections::BTreeMap;
 use std::fmt::Write;
 
@@ -17,6 +19,21 @@ pub struct Campaign {
 
 /// Copies of each author's report that are damaged.
 const DAMAGED: usize = 4;
+/// Pairs of inputs for each cleared report.
+const INPUTS: usize = 3;
+
+/// So many models of each generator: casting models, most often small ones, and wild functions.
+pub fn run(seed: u64, count: usize) -> Result<String, String> {
+    let mut random = Random::new(seed);
+    let (mut models, mut functions) = (Campaign::default(), Campaign::default());
+    for _ in 0..count {
+        let size = if random.chance(95) { random.between(model::LEAST, 120) } else { random.between(120, limits::STATEMENTS) };
+        models.model(&model::generate(size, random.bits())?, INPUTS, &mut random)?;
+        let size = random.between(1, 20);
+        functions.model(&wild::generate(size, random.bits()), INPUTS, &mut random)?;
+    }
+    Ok(format!("casting models\n{}wild functions\n{}", models.lines(), functions.lines()))
+}
 
 impl Campaign {
     /// One model with its first request; the message of a difference has its listing.
