@@ -679,3 +679,42 @@ fn great_models() {
     });
     assert!(start.elapsed().as_secs() < 60);
 }
+
+/// Structs of two of the former, each local chosen from the halves of the next: the need doubles with each statement.
+#[test]
+fn needs_share_their_parts() {
+    let count = 60;
+    let types: String = (0..count).map(|n| format!("type {0}: Struct [{1}:- {1}:-]\n", 14 + n, if n == 0 { 0 } else { 13 + n })).collect();
+    let pointers: String = (0..count).map(|n| format!("type {}: Pointer {}\n", 14 + count + n, 14 + n)).collect();
+    let locals: String = (0..count).map(|n| format!("local {}\n", 14 + n)).collect();
+    let (mut expressions, mut statements) = (String::from("expr 0 FunctionArgument 0\n"), Vec::new());
+    // of each local but the last: its pointer, the next one's halves, their loads, the choice
+    for n in 0..count - 1 {
+        let (at, own, pointer) = (1 + 7 * n, 14 + n, 14 + count + n);
+        expressions += &format!("expr {pointer} LocalVariable {n}\nexpr {} LocalVariable {}\n", pointer + 1, n + 1);
+        expressions += &format!("expr {pointer} AccessIndex {0} 0\nexpr {pointer} AccessIndex {0} 1\n", at + 1);
+        expressions += &format!("expr {own} Load {}\nexpr {own} Load {}\nexpr {own} Select 0 {} {}\n", at + 2, at + 3, at + 4, at + 5);
+        statements.push(format!("stmt Emit {} {}\nstmt Store {at} {}\n", at + 4, at + 6, at + 6));
+    }
+    let last = 1 + 7 * (count - 1);
+    let body: String = statements.iter().rev().cloned().collect();
+    let text = format!(
+        "\n{types}{pointers}fn function 14 -\narg 0 -\n{locals}{expressions}expr 14 Load 1\nblock\n{body}stmt Emit {last} {last}\n\
+         stmt Return {last}\nrequest 0 all\n"
+    );
+    check(&text, &[("all", "arg 0 all", "refused 15")]);
+}
+
+/// Loops in each other as deep as 300, the innermost changing what the next turn needs.
+#[test]
+fn deep_loops_end() {
+    let depth = 300;
+    let mut blocks = String::from("block\nstmt 0: Emit 7 7\nstmt 1: Store 2 7\nstmt 2: Emit 6 6\nstmt 3: Store 4 6\n");
+    for n in 0..depth {
+        blocks += &format!("block\nblock\nstmt {}: Loop {} {} 1\n", 4 + n, 2 * n, 2 * n + 1);
+    }
+    let text = flow(&blocks);
+    library::with_stack(|| {
+        check(&text, &[("all", "arg 1 all; global 1 all", "clear"), ("all", "arg 1 all", "start")]);
+    });
+}

@@ -99,7 +99,7 @@ impl Wild {
             }
             40..=44 => self.add(kind, "Literal".into()),
             45..=47 => self.add(kind, "ZeroValue".into()),
-            48..=57 if kind < 3 => self.member(kind, depth),
+            48..=69 if kind < 3 => self.member(kind, depth),
             _ => self.node(kind, depth.saturating_sub(1)),
         };
         self.values.push((kind, made));
@@ -108,7 +108,7 @@ impl Wild {
 
     /// A part of a greater value.
     fn member(&mut self, kind: usize, depth: usize) -> usize {
-        let mut own = *self.random.pick(&[1, 3, 4, 5, 6]);
+        let mut own = *self.random.pick(&[1, 2, 2, 3, 4, 5, 6]);
         let mut at = self.value(own, depth.saturating_sub(1));
         while own != kind && !MEMBERS[own].is_empty() {
             (at, own) = self.step(0, at, own);
@@ -151,7 +151,7 @@ impl Wild {
 
     fn compose(&mut self, kind: usize, depth: usize) -> String {
         let mut types = MEMBERS[kind].to_vec();
-        if kind == 2 && self.random.chance(40) {
+        if kind == 2 && self.random.chance(60) {
             types = self.random.pick(&[vec![1, 0], vec![0, 1], vec![2]]).clone();
         }
         let components: Vec<String> = types.iter().map(|t| self.value(*t, depth).to_string()).collect();
