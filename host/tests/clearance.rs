@@ -308,6 +308,21 @@ fn switches() {
     );
 }
 
+/// A continue leaves an unmarked switch, or an if, inside its loop; it does not leave an unmarked loop of its own there.
+#[test]
+fn continues() {
+    let around = |inner: &str, number: usize| {
+        flow(&format!("block\nstmt 0: Continue\nblock\nblock\n{inner}block\nblock\nstmt {}: Loop {} {} 1\n", number, number, number + 1))
+    };
+    let switch = around("stmt 1: Switch 0 [7:0 default:1]\n", 2);
+    check(&switch, &[("0 0 1", "arg 1 all; global 0 all", "stmt 1"), ("0 1 1", "arg 0 all; arg 1 all; global 0 all", "clear")]);
+    check(&switch, &[("0 0 0", "global 0 all", "clear")]);
+    let branch = around("stmt 1: If 0 0 1\n", 2);
+    check(&branch, &[("0 0 1", "arg 1 all; global 0 all", "stmt 1"), ("0 1 1", "arg 0 all; arg 1 all; global 0 all", "clear")]);
+    let own = around("stmt 1: Loop 0 1 0\n", 2);
+    check(&own, &[("0 0 1", "arg 1 all; global 0 all", "clear"), ("0 1 1", "arg 1 all; global 0 all", "start")]);
+}
+
 /// Break takes what stands after the loop, Continue what stands before continuing (reading 33).
 #[test]
 fn loops() {
@@ -658,6 +673,7 @@ fn cleared_reports_hold() {
         }
         (models, small)
     });
+    println!("casting models\n{}wild functions\n{}", models.lines(), small.lines());
     assert!(models.pairs.same > 1000 && small.pairs.same > 4000, "{}{}", models.lines(), small.lines());
     for campaign in [models, small] {
         for (author, word) in [("walk", "clear"), ("walk", "start"), ("all marked", "clear"), ("grown", "clear"), ("damaged", "stmt")] {

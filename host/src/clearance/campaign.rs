@@ -14,6 +14,8 @@ pub struct Campaign {
     pub models: usize,
     /// How often an author's reports got each kind of verdict.
     pub verdicts: BTreeMap<(&'static str, String), usize>,
+    /// Of reports that are not cleared, how many a pair of runs refutes.
+    pub refuted: BTreeMap<&'static str, usize>,
     pub pairs: Pairs,
 }
 
@@ -65,8 +67,17 @@ impl Campaign {
     fn report(&mut self, asked: &Asked, author: &'static str, report: &Report, inputs: usize, random: &mut Random) -> Result<(), String> {
         let judgement = asked.judge(report);
         self.count(author, &sort(&judgement.verdict));
-        if judgement.verdict != Verdict::Clear || !pair::is_small(asked) {
+        if !pair::is_small(asked) {
             return Ok(());
+        }
+        match judgement.verdict {
+            Verdict::Clear => {}
+            Verdict::Statement(_) | Verdict::Start => {
+                let differs = (0..inputs).any(|_| pair::compare(asked, report, random).is_err());
+                *self.refuted.entry(author).or_default() += usize::from(differs);
+                return Ok(());
+            }
+            Verdict::Unjudged(_) | Verdict::Refused(_) => return Ok(()),
         }
         for _ in 0..inputs {
             let pairs = pair::compare(asked, report, random).map_err(|reason| difference(asked, author, report, &reason))?;
@@ -81,6 +92,9 @@ impl Campaign {
         let mut text = format!("models: {}\n", self.models);
         for ((author, word), count) in &self.verdicts {
             writeln!(text, "{author}, {word}: {count}").expect("text");
+        }
+        for (author, count) in &self.refuted {
+            writeln!(text, "{author}, not cleared and refuted by a pair of runs: {count}").expect("text");
         }
         let Pairs { same, skipped, apart } = self.pairs;
         text + &format!("pairs of runs: {same}, of these apart in other outputs: {apart}, a run does not end: {skipped}\n")
