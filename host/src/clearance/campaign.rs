@@ -4,7 +4,10 @@ use super::pair::{self, Pairs};
 use super::verdict::Verdict;
 use super::wild;
 use crate::list::list;
+use crate::outline::Outline;
 use crate::random::Random;
+use crate::record::split;
+use crate::vary::varied;
 use crate::{limits, model};
 use std::collections::BTreeMap;
 use std::fmt::Write;
@@ -27,14 +30,22 @@ const INPUTS: usize = 3;
 /// So many models of each generator: casting models, most often small ones, and wild functions.
 pub fn run(seed: u64, count: usize) -> Result<String, String> {
     let mut random = Random::new(seed);
-    let (mut models, mut functions) = (Campaign::default(), Campaign::default());
+    let (mut models, mut functions, mut others) = (Campaign::default(), Campaign::default(), Campaign::default());
     for _ in 0..count {
         let size = if random.chance(95) { random.between(model::LEAST, 120) } else { random.between(120, limits::STATEMENTS) };
         models.model(&model::generate(size, random.bits())?, INPUTS, &mut random)?;
         let size = random.between(1, 20);
-        functions.model(&wild::generate(size, random.bits()), INPUTS, &mut random)?;
+        let function = wild::generate(size, random.bits());
+        functions.model(&function, INPUTS, &mut random)?;
+        others.model(&varied_file(&function, &mut random), INPUTS, &mut random)?;
     }
-    Ok(format!("casting models\n{}wild functions\n{}", models.lines(), functions.lines()))
+    Ok(format!("casting models\n{}wild functions\n{}varied ones\n{}", models.lines(), functions.lines(), others.lines()))
+}
+
+/// The file with some of its expressions and statements varied, judged or not.
+fn varied_file(file: &[u8], random: &mut Random) -> Vec<u8> {
+    let (module, requests) = file.split_at(split(file));
+    [&varied(module, &Outline::of(module), random), requests].concat()
 }
 
 impl Campaign {

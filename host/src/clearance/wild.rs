@@ -191,18 +191,22 @@ impl Wild {
         match self.random.below(100) {
             0..=11 if depth > 0 => self.branch(out, inside, depth - 1),
             12..=17 if depth > 0 => self.switch(out, inside, depth - 1),
-            18..=29 if depth > 0 => self.looped(out, inside, depth - 1),
-            30..=31 if depth > 0 => {
+            18..=31 if depth > 0 => self.looped(out, inside, depth - 1),
+            32..=33 if depth > 0 => {
                 let block = self.block(inside, 2, depth - 1, false);
                 out.push(format!("Block {block}"));
             }
-            32..=38 if inside.breaks => out.push("Break".into()),
+            34..=38 if inside.breaks => out.push("Break".into()),
             39..=43 if inside.continues => out.push("Continue".into()),
             44..=46 if !inside.continuing => self.returned(out),
             _ => {
                 let kind = self.random.below(COUNT);
-                let value = self.value(kind, 2);
+                let mut value = self.value(kind, 2);
                 let pointer = self.pointer(kind);
+                if self.random.chance(25) {
+                    let before = self.add(kind, format!("Load {pointer}"));
+                    value = self.add(kind, format!("Binary {before} {value}"));
+                }
                 self.emit(out);
                 out.push(format!("Store {pointer} {value}"));
             }
@@ -225,28 +229,50 @@ impl Wild {
         out.push(format!("If {condition} {accept} {reject}"));
     }
 
+    /// A block that often ends with a break or a continue.
+    fn block_to_end(&mut self, inside: Inside, most: usize, depth: usize) -> usize {
+        let block = self.block(inside, most, depth, false);
+        match self.random.below(10) {
+            0..=2 => self.blocks[block].push("Break".into()),
+            3..=4 if inside.continues => self.blocks[block].push("Continue".into()),
+            _ => {}
+        }
+        block
+    }
+
     fn switch(&mut self, out: &mut Vec<String>, inside: Inside, depth: usize) {
         let selector = self.any(1);
         self.emit(out);
         let inside = Inside { breaks: true, ..inside };
-        let blocks: Vec<usize> = (0..3).map(|_| self.block(inside, 2, depth, false)).collect();
+        let blocks: Vec<usize> = (0..3).map(|_| self.block_to_end(inside, 2, depth)).collect();
         out.push(format!("Switch {selector} [0:{} default:{} 1:{}]", blocks[0], blocks[1], blocks[2]));
     }
 
     fn looped(&mut self, out: &mut Vec<String>, inside: Inside, depth: usize) {
-        let body = self.block(Inside { breaks: true, continues: true, ..inside }, 4, depth, false);
+        let inner = Inside { breaks: true, continues: true, ..inside };
+        let body = self.block_to_end(inner, 4, depth);
         let continuing = self.block(Inside { continuing: true, ..Inside::default() }, 2, depth, false);
-        let condition = if self.random.chance(75) { self.condition_in(continuing) } else { "-".into() };
+        let condition = if self.random.chance(75) { self.condition_in(continuing).to_string() } else { "-".into() };
         out.push(format!("Loop {body} {continuing} {condition}"));
     }
 
-    /// A condition, most often made at the end of a block.
-    fn condition_in(&mut self, block: usize) -> String {
-        let condition = self.value(0, 2);
+    /// A condition, most often made at the end of a block; often from the scalar local, which changes there.
+    fn condition_in(&mut self, block: usize) -> usize {
+        let changes = self.random.chance(50);
+        let condition = if changes {
+            let now = self.add(0, format!("Load {COUNT}"));
+            let other = self.value(0, 1);
+            self.add(0, format!("Binary {now} {other}"))
+        } else {
+            self.value(0, 2)
+        };
         let mut out = std::mem::take(&mut self.blocks[block]);
         self.emit(&mut out);
+        if changes {
+            out.push(format!("Store {COUNT} {condition}"));
+        }
         self.blocks[block] = out;
-        condition.to_string()
+        condition
     }
 
     /// What is asked of a type.
