@@ -9,6 +9,7 @@ use host::context::Context;
 use host::part::{Part, Parts};
 use host::random::Random;
 use host::record::write_long;
+use host::stored::{Requests, Source};
 use host::{library, model};
 
 /// Types 0 to 6: a scalar, vectors, a struct of a vector and a scalar, an array, a struct of it and a scalar, a matrix; 7 to 13: pointers.
@@ -733,4 +734,56 @@ fn deep_loops_end() {
     library::with_stack(|| {
         check(&text, &[("all", "arg 1 all; global 1 all", "clear"), ("all", "arg 1 all", "start")]);
     });
+}
+
+/// The stored requests, the deepest and longest modules among them: each of the first requests has a verdict on all marks, soon.
+#[test]
+fn stored_requests_have_a_verdict() {
+    let path = std::path::PathBuf::from(env!("CARGO_MANIFEST_DIR")).join("../tests/requests.list");
+    let cases = Source(&std::fs::read(path).expect("requests.list")).all(Requests::read).expect("a whole list");
+    let mut counts = std::collections::BTreeMap::<String, usize>::new();
+    library::with_stack(|| {
+        for case in &cases {
+            let Some(asked) = Asked::of(&[&case.module[..], &case.requests[0].0].concat()) else { continue };
+            let marks = vec![1; asked.outline.marks()];
+            let verdict = asked.judge(&Report { marks, context: context("") }).verdict.to_string();
+            let sort = verdict.split(|c: char| c.is_ascii_digit()).next().unwrap().trim().to_string();
+            *counts.entry(sort).or_default() += 1;
+        }
+    });
+    println!("{counts:?}");
+    assert!(["clear", "start", "unjudged expr", "unjudged stmt"].iter().all(|v| counts.contains_key(*v)), "{counts:?}");
+}
+
+/// The verdict on the walk's own report.
+fn own(text: &str) -> String {
+    let asked = asked(&format!("{TYPES}{text}"));
+    let report = library::with_stack(|| asked.of_walk()).unwrap().expect("accepted");
+    asked.judge(&report).verdict.to_string()
+}
+
+/// Where the walk's own report, which is the original's, is not cleared.
+#[test]
+fn slips_of_the_original() {
+    // a selector's need, and that of break_if, is overwritten
+    let selector = flow("block\nstmt 0: Store 2 1\nblock\nblock\nstmt 1: Switch 0 [0:0 default:1]\n");
+    assert_eq!(own(&selector), "start");
+    assert_eq!(own(&selector.replace("Switch 0 [0:0 default:1]", "If 0 0 1")), "clear");
+    let turns = "block\nstmt 0: Emit 5 5\nstmt 1: Store 2 5\nblock\nblock\nstmt 2: Loop 0 1 1\n";
+    assert_eq!(own(&flow(turns)), "start");
+    // a matrix times a vector is taken for one by component
+    assert_eq!(own(&returned(1, "Binary 3 0", "{0:all}")), "start");
+    assert_eq!(own(&returned(1, "Binary 1 0", "{0:all}")), "clear");
+    // a swizzle's last entry wins
+    assert_eq!(own(&returned(1, "Swizzle 0 .xx", "{0:all,1:exist}")), "start");
+    assert_eq!(own(&returned(1, "Swizzle 0 .xx", "{0:all}")), "clear");
+    // the first visit of a global takes the place of what is asked of it
+    let load = |request: &str| {
+        format!("\nglobal 1\nfn function 0 -\nexpr 8 GlobalVariable 0\nexpr 7 AccessIndex 0 0\nexpr 0 Load 1\nblock\nstmt Emit 2 2\nstmt Return 2\nrequest 0 {request}\n")
+    };
+    assert_eq!((own(&load("all 0={1:all}")).as_str(), own(&load("all")).as_str()), ("start", "clear"));
+    assert_eq!(own(&stored(1, 0, &[(0, 0)], "all")), "start");
+    assert_eq!(own(&stored(1, 1, &[], "all")), "clear");
+    // a return does not reset what is needed
+    assert_eq!(own(CASE_J), "stmt 1");
 }
