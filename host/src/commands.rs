@@ -1,7 +1,8 @@
 //! The commands: each reads its files, does one thing and says what went wrong.
+use crate::clearance::{campaign, show};
 use crate::measured::{self, File};
 use crate::stored::{Reading, Requests, Source};
-use crate::{assemble, bench, bindings, check, compare, count, form, list, model, requests, store};
+use crate::{assemble, bench, bindings, check, compare, count, form, library, list, model, requests, store};
 
 const USAGE: &str = "\
 host assemble [--any] LISTING OUT   a listing to a file; --any: also one that reading would refuse
@@ -15,6 +16,8 @@ host stored count READING REQUESTS          a table of what the two lists reach
 host compare reading ORACLE SEED COUNT SOURCE...    the library against the oracle: the sources' modules and damaged copies of them
 host compare bindings ORACLE SEED COUNT SOURCE...   the same for the operations on bindings, asked anew of the sources' modules
 host compare requests ORACLE SEED COUNT SOURCE...   the same for requests: the sources, varied, damaged and generated modules, asked anew
+host clearance FILE          the verdict on the file's first request with the library's own report, by this program's own clearance
+host runs SEED COUNT         COUNT models of each generator with reports by several authors: the verdicts, and pairs of runs on what is cleared
 host bench BENCH FILE...    the library's requests timed against the original's (BENCH: its program for timing, or the folder that has it); without FILE, on our own
 ";
 
@@ -32,6 +35,8 @@ pub fn run(words: &[&str]) -> Result<(), String> {
         ["compare", "reading", oracle, seed, count, ref sources @ ..] => compare_reading(oracle, seed, count, sources),
         ["compare", "bindings", oracle, seed, count, ref sources @ ..] => compare_bindings(oracle, seed, count, sources),
         ["compare", "requests", oracle, seed, count, ref sources @ ..] => compare_requests(oracle, seed, count, sources),
+        ["clearance", file] => print(&show::show(&read(file)?).map_err(|reason| format!("{file}: {reason}"))?),
+        ["runs", seed, count] => compare_runs(seed, count),
         ["bench", bench, ref files @ ..] => measure(bench, files),
         _ => Err(USAGE.into()),
     }
@@ -110,6 +115,11 @@ fn compare_requests(oracle: &str, seed: &str, count: &str, sources: &[&str]) -> 
     let start = std::time::Instant::now();
     let reached = requests::compare(&program(oracle, "oracle"), number(seed)?, number(count)?, &store::sources(sources)?)?;
     print(&format!("seed: {seed}\nseconds: {}\n{}", start.elapsed().as_secs(), reached.lines()))
+}
+
+fn compare_runs(seed: &str, count: &str) -> Result<(), String> {
+    let (seed, count) = (number(seed)?, number(count)?);
+    print(&library::with_stack(|| campaign::run(seed, count))?)
 }
 
 fn measure(bench: &str, paths: &[&str]) -> Result<(), String> {

@@ -1,0 +1,114 @@
+//! What the clearance answers.
+use super::function::Module;
+use super::judged::{unjudged, Item};
+use super::walk::{Lack, Walk};
+use crate::check;
+use crate::context::Context;
+use crate::outline::Outline;
+use crate::record::{self, records, Cursor};
+use crate::request::Request;
+use std::fmt;
+
+#[derive(Clone, PartialEq, Eq, Debug)]
+pub enum Verdict {
+    Clear,
+    Statement(usize),
+    Start,
+    Unjudged(Item),
+    Refused(u32),
+}
+
+impl fmt::Display for Verdict {
+    fn fmt(&self, f: &mut fmt::Formatter) -> fmt::Result {
+        match self {
+            Verdict::Clear => f.write_str("clear"),
+            Verdict::Statement(s) => write!(f, "stmt {s}"),
+            Verdict::Start => f.write_str("start"),
+            Verdict::Unjudged(Item::Expression(e)) => write!(f, "unjudged expr {e}"),
+            Verdict::Unjudged(Item::Statement(s)) => write!(f, "unjudged stmt {s}"),
+            Verdict::Refused(number) => write!(f, "refused {number}"),
+        }
+    }
+}
+
+/// A verdict with the reason for it: the lowest broken rule, or what is wrong at the start.
+#[derive(Clone, PartialEq, Eq, Debug)]
+pub struct Judgement {
+    pub verdict: Verdict,
+    pub reason: Option<String>,
+}
+
+impl Judgement {
+    fn plain(verdict: Verdict) -> Judgement {
+        Judgement { verdict, reason: None }
+    }
+
+    fn because(verdict: Verdict, reason: &str) -> Judgement {
+        Judgement { verdict, reason: Some(reason.into()) }
+    }
+}
+
+/// Of bytes, as the library takes them: a module, a request's record, the whole report buffer, a context's record.
+pub fn answer(module: &[u8], request: &[u8], report: &[u8], context: &[u8]) -> Verdict {
+    let refused = |number: u16| Verdict::Refused(u32::from(number));
+    let known = match check::module(module) {
+        Ok(known) => known,
+        Err(refusal) => return refused(refusal.number),
+    };
+    let asked = one_record(request).ok_or(12).and_then(|r| check::request(&r, &known).map_err(|refusal| refusal.number));
+    let outline = Outline::of(module);
+    let context = read_context(context);
+    match (asked, &context) {
+        (Err(12), _) | (_, None) => return refused(12),
+        (Err(number), _) => return refused(number),
+        (Ok(()), Some(_)) => {}
+    }
+    let request = one_record(request).and_then(|r| Request::read(&record::fields(r.body)));
+    let (Some(request), Some(context)) = (request, context) else { return refused(12) };
+    if !context.fits(&outline, &outline.functions[request.function as usize]) {
+        return refused(11);
+    }
+    verdict(&outline, &Module::of(module), &request, report, &context).verdict
+}
+
+/// The record that these bytes are, and nothing else.
+fn one_record(bytes: &[u8]) -> Option<record::Record<'_>> {
+    let (found, rest) = records(bytes);
+    let mut found = found.into_iter();
+    let first = found.next()?;
+    (rest.is_empty() && found.next().is_none()).then_some(first)
+}
+
+/// A context whose parts are within the limits and whose variables ascend.
+fn read_context(bytes: &[u8]) -> Option<Context> {
+    let fields = record::read_long(*b"CX", bytes)?;
+    let mut cursor = Cursor::new(&fields);
+    let context = Context::read(&mut cursor)?;
+    let lists = [&context.globals, &context.arguments, &context.locals];
+    let within = |parts: &&crate::part::Parts| crate::part::fits(parts, usize::MAX);
+    let whole = bytes.len() == 6 + 2 * fields.len() && cursor.left() == 0;
+    (whole && context.retval.fault(0, true).is_none() && lists.iter().all(within)).then_some(context)
+}
+
+/// Of a module that is read, a request and a context that fit it, and a report buffer: the marks of all functions.
+pub fn verdict(outline: &Outline, module: &Module, request: &Request, report: &[u8], context: &Context) -> Judgement {
+    let number = request.function as usize;
+    let stretch = report.get(outline.stretch(number)).filter(|marks| marks.iter().all(|m| *m <= 1));
+    let Some(marks) = stretch else { return Judgement::plain(Verdict::Refused(21)) };
+    if let Some(item) = unjudged(module, &module.functions[number]) {
+        return Judgement::plain(Verdict::Unjudged(item));
+    }
+    let mut walk = Walk::new(module, request, outline.functions[number].own(marks));
+    walk.rounds();
+    let refusals = [(walk.found.given_up, 26), (walk.found.deep, 15), (walk.found.many, 16)];
+    if let Some((_, number)) = refusals.into_iter().find(|r| r.0) {
+        return Judgement::plain(Verdict::Refused(number));
+    }
+    if let Some(Lack { statement, reason, .. }) = walk.found.lacks.first() {
+        return Judgement::because(Verdict::Statement(*statement), reason);
+    }
+    match walk.start_faults(&context.globals, &context.arguments).first() {
+        Some(reason) => Judgement::because(Verdict::Start, reason),
+        None => Judgement::plain(Verdict::Clear),
+    }
+}
