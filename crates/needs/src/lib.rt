@@ -1,1 +1,2 @@
-// Needs as the clearance's code keeps them: definitions and laws so far.
+// Needs as the clearance's code keeps them: as pieces of a store, trimmed once.
+pub mod path;
