@@ -6,3 +6,4 @@ pub mod Steps
 pub mod Marked
 pub mod Unsized
 pub mod PathSteps
+pub mod ShapeRows

@@ -2,3 +2,4 @@ pub mod Alike
 pub mod Marked
 pub mod Unsized
 pub mod Paths
+pub mod Shapes

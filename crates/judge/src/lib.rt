@@ -2,4 +2,5 @@
 pub mod alike;
 pub mod paths;
 pub mod rows;
+pub mod shapes;
 pub mod unsized_types;
