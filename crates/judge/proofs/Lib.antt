@@ -7,3 +7,4 @@ pub mod Marked
 pub mod Unsized
 pub mod PathSteps
 pub mod ShapeRows
+pub mod ValueRows

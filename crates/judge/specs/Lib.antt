@@ -3,3 +3,4 @@ pub mod Marked
 pub mod Unsized
 pub mod Paths
 pub mod Shapes
+pub mod Given

@@ -4,3 +4,4 @@ pub mod paths;
 pub mod rows;
 pub mod shapes;
 pub mod unsized_types;
+pub mod values;
