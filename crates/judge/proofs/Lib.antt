@@ -8,3 +8,6 @@ pub mod Unsized
 pub mod PathSteps
 pub mod ShapeRows
 pub mod ValueRows
+pub mod Operands
+pub mod IndexRows
+pub mod Components

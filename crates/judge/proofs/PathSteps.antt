@@ -196,7 +196,7 @@ module _ (bytes t : List ℕ) (f : ℕ) (read : readModule bytes ≡ accepted (m
   abbrev F : Function
   F = functionOf bytes t f
 
-  function-valid : FunctionValid (length (moduleOf bytes t .types)) (length (moduleOf bytes t .globals)) (entriesBelow f (moduleOf bytes t .functions)) F
+  pub function-valid : FunctionValid (length (moduleOf bytes t .types)) (length (moduleOf bytes t .globals)) (entriesBelow f (moduleOf bytes t .functions)) F
   function-valid = rw (function-is bytes t f F there) at (valid bytes (moduleOf bytes t) read .functions f F there)
 
   pub few : length (F .expressions) ≤ maxExpressions

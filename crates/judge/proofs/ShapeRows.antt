@@ -181,7 +181,7 @@ module _ (types : List ℕ) (S : Scope) (p : S .program .types ≡ typesOf types
   unfolding inner
   inner-is a = rw p
 
-  lower-in : Lower (typesOf types) → Lower (S .program .types)
+  pub lower-in : Lower (typesOf types) → Lower (S .program .types)
   lower-in L = subst Lower (sym p) L
 
   -- two types by the table

@@ -47,7 +47,7 @@ every-append p (x ∷ xs) ys = rw (every-append p xs ys) (and-assoc (p x) (every
     and-assoc true b c = refl
     and-assoc false b c = refl
 
-every-last : (p : ℕ → Bool) (n : ℕ) (g : ℕ → ℕ) → every p (tab (suc n) g) ≡ every p (tab n g) && (p (g n) && true)
+pub every-last : (p : ℕ → Bool) (n : ℕ) (g : ℕ → ℕ) → every p (tab (suc n) g) ≡ every p (tab n g) && (p (g n) && true)
 unfolding every tab
 every-last p n g = every-append p (tab n g) (g n ∷ [])
 

@@ -7,12 +7,12 @@ use lib.ListN.{length}
 use Rattle.module.specs.File.{accepted, readModule}
 use Rattle.module.specs.Tables.{functionOf, moduleOf}
 use Rattle.access.specs.declared.kinded.Kinded.{Kinded}
-use Rattle.access.specs.Access.{typedAt, expressionRow}
+use Rattle.access.specs.Access.{typedAt, operandAt, expressionRow}
 use Rattle.context.specs.Types.{typesOf}
 use Rattle.clearance.specs.Scope.{Scope}
-use Rattle.clearance.specs.Judged.{fitsExpression}
+use Rattle.clearance.specs.Judged.{fitsIndex, fitsExpression}
 use Rattle.judge.specs.Paths.{PathTable}
-use Rattle.judge.specs.Shapes.{Shapes}
+use Rattle.judge.specs.Shapes.{Shapes, indexed}
 
 -- the function f within its module
 abbrev pub scopeAt : List ℕ → List ℕ → ℕ → Scope
@@ -38,3 +38,7 @@ pub record Row (bytes t : List ℕ) (f : ℕ) (types alike paths : List ℕ) (e 
 -- r says whether the expression e fits
 abbrev pub Fits : List ℕ → List ℕ → ℕ → ℕ → Bool → Type 0
 Fits bytes t f e r = r ≡ fitsExpression (scopeAt bytes t f) e (typedAt bytes t f e .expression)
+
+-- whether an index fits its base, by its row
+abbrev pub fitsBase : Scope → List ℕ → Kinded → ℕ → Bool
+fitsBase S bytes row e = fitsIndex S (indexed S (row .kind) (operandAt bytes row 1)) (operandAt bytes row 0) e

@@ -1,13 +1,15 @@
 -- Shapes of types, by the table of types and that of the alike ones.
 use Prim.Native.Nat.{ℕ, _≤_}
 use mathlib.Core.Path.{_≡_}
-use mathlib.Core.Bool.{Bool}
+use mathlib.Core.Bool.{Bool, cond}
 use mathlib.Core.List.{List}
+use mathlib.Core.Option.{Option}
+use lib.Dec.{eqb}
 use lib.ListN.{length}
 use Rattle.module.specs.Module.{TypeHandle, TypeInner, Scalar, Vector, Matrix, Atomic, Pointer, Array, Struct, BindingArray, Opaque}
 use Rattle.context.specs.Types.{typesOf}
 use Rattle.clearance.specs.Scope.{Scope, inner}
-use Rattle.clearance.specs.Judged.{pointeeType}
+use Rattle.clearance.specs.Judged.{partType, elementType, pointeeType}
 use Rattle.judge.specs.Alike.{Lower, AlikeTable}
 
 -- r is what `said` says in every scope with these types
@@ -35,3 +37,7 @@ partCount Opaque = 0
 pub record Pointee (types : List ℕ) (t r : TypeHandle) : Type 0 where
   pub low : r ≤ t
   pub is : (S : Scope) → S .program .types ≡ typesOf types → inner S r ≡ pointeeType S (inner S t)
+
+-- what an index gives, by the kind of its expression: a dynamic one (4), or a constant i
+unfoldable pub indexed : Scope → ℕ → ℕ → TypeInner → Option TypeInner
+indexed S kind i x = cond (eqb kind 4) (elementType S x) (partType S x i)

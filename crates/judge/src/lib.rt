@@ -1,5 +1,9 @@
 // The clearance's code.
 pub mod alike;
+pub mod indexes;
+pub mod made;
+pub mod named;
+pub mod operators;
 pub mod paths;
 pub mod rows;
 pub mod shapes;
