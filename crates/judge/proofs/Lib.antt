@@ -11,3 +11,4 @@ pub mod ValueRows
 pub mod Operands
 pub mod IndexRows
 pub mod Components
+pub mod Blame

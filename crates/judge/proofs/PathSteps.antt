@@ -132,7 +132,7 @@ operands-lower F v e =
     ]
 
 -- something of each number: of those below n one by one, and of those from n on
-abbrev past : ℕ → ℕ → ℕ
+abbrev pub past : ℕ → ℕ → ℕ
 past zero k = k
 past (suc n) k = suc (past n k)
 

@@ -4,3 +4,4 @@ pub mod Unsized
 pub mod Paths
 pub mod Shapes
 pub mod Given
+pub mod Blamed

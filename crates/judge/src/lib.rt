@@ -1,5 +1,6 @@
 // The clearance's code.
 pub mod alike;
+pub mod expressions;
 pub mod indexes;
 pub mod made;
 pub mod named;
