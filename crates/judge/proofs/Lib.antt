@@ -12,3 +12,4 @@ pub mod Operands
 pub mod IndexRows
 pub mod Components
 pub mod Blame
+pub mod StatementRows

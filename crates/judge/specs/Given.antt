@@ -7,10 +7,10 @@ use lib.ListN.{length}
 use Rattle.module.specs.File.{accepted, readModule}
 use Rattle.module.specs.Tables.{functionOf, moduleOf}
 use Rattle.access.specs.declared.kinded.Kinded.{Kinded}
-use Rattle.access.specs.Access.{typedAt, operandAt, expressionRow}
+use Rattle.access.specs.Access.{typedAt, operandAt, expressionRow, statementAt}
 use Rattle.context.specs.Types.{typesOf}
 use Rattle.clearance.specs.Scope.{Scope}
-use Rattle.clearance.specs.Judged.{fitsIndex, fitsExpression}
+use Rattle.clearance.specs.Judged.{fitsIndex, fitsExpression, fitsStatement}
 use Rattle.judge.specs.Paths.{PathTable}
 use Rattle.judge.specs.Shapes.{Shapes, indexed}
 
@@ -42,3 +42,7 @@ Fits bytes t f e r = r ≡ fitsExpression (scopeAt bytes t f) e (typedAt bytes t
 -- whether an index fits its base, by its row
 abbrev pub fitsBase : Scope → List ℕ → Kinded → ℕ → Bool
 fitsBase S bytes row e = fitsIndex S (indexed S (row .kind) (operandAt bytes row 1)) (operandAt bytes row 0) e
+
+-- r says whether the statement s fits
+abbrev pub FitsStatement : List ℕ → List ℕ → ℕ → ℕ → Bool → Type 0
+FitsStatement bytes t f s r = r ≡ fitsStatement (scopeAt bytes t f) (statementAt bytes t f s)

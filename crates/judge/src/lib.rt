@@ -8,5 +8,6 @@ pub mod operators;
 pub mod paths;
 pub mod rows;
 pub mod shapes;
+pub mod statements;
 pub mod unsized_types;
 pub mod values;
