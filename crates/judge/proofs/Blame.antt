@@ -1,4 +1,4 @@
--- Each expression by its kind's group, and the lowest that fails.
+-- Each expression by its kind's group, and the lowest expression and statement that fail.
 use Prim.Native.Nat.{ℕ, zero, suc, _+_, _-_, _<_, _≤_}
 use native.Mathlib.Omega.{arith}
 use native.Mathlib.Decide.{ℕ-discrete}
@@ -9,15 +9,15 @@ use mathlib.Core.Option.{Option, some, none as nothing}
 use lib.Dec.{ltb, eqb}
 use lib.ListN.{length, getD}
 use borrow.Author.Tests.{le-ltb, eq-eqb, ne-eqb}
-use Rattle.module.specs.Module.{Typed}
+use Rattle.module.specs.Module.{Typed, Kill}
 use Rattle.module.specs.Decode.{expressionOf}
 use Rattle.module.specs.Tables.{functionOf}
 use Rattle.access.specs.declared.kinded.Kinded.{Kinded}
-use Rattle.access.specs.Access.{typedAt}
-use Rattle.access.proofs.Access.{typed-is}
+use Rattle.access.specs.Access.{typedAt, statementAt}
+use Rattle.access.proofs.Access.{typed-is, statement-is}
 use Rattle.context.specs.Types.{typesOf}
 use Rattle.clearance.specs.Scope.{Scope, noExpression, typed, typeOf}
-use Rattle.clearance.specs.Judged.{isValue, holdsUnsized, fitsExpression, judgedExpression, unless, failing, lower, lowest, blamedExpression}
+use Rattle.clearance.specs.Judged.{isValue, holdsUnsized, fitsExpression, fitsStatement, judgedExpression, unless, failing, lower, lowest, blamedExpression}
 use Rattle.clearance.proofs.Small.{cases}
 use Rattle.judge.specs.Marked.{marked}
 use Rattle.judge.specs.Unsized.{UnsizedTable}
@@ -130,3 +130,31 @@ module _ (S : Scope) {n : ℕ} (long : n ≡ length (S .function .expressions)) 
   pub blamed-none : {e : ℕ} → n ≤ e → Each (judgedExpression S) e → nothing ≡ blamedExpression S
   unfolding blamedExpression
   blamed-none l E = sym (lowest-none (judgedExpression S) (S .function .expressions) 0 (λ k m. E .each k (omega arith)))
+
+-- a test of each element is one of its number
+failing-by : {A : Type 0} (test : A → Bool) (p : ℕ → Bool) (d : A) (xs : List A) (n : ℕ) → ((k : ℕ) → k < length xs → test (getD xs k d) ≡ p (n + k)) → failing (λ m x. test x) n xs ≡ failing (λ m x. p m) n xs
+unfolding failing
+failing-by test p d [] n f = refl
+failing-by test p d (x ∷ xs) n f =
+    let here : n + 0 ≡ n = omega arith in
+    rw (f 0 (omega arith) ∙ ap p here,
+    failing-by test p d xs (suc n) (λ k l. f (suc k) (omega arith) ∙ ap p (let next : n + suc k ≡ suc n + k = omega arith in next)))
+
+module _ (bytes t : List ℕ) (f : ℕ) {n : ℕ} (long : n ≡ length (functionOf bytes t f .statements)) where
+  abbrev fitting : ℕ → Bool
+  fitting s = fitsStatement (scopeAt bytes t f) (statementAt bytes t f s)
+
+  abbrev unfit : Option ℕ
+  unfit = lowest (failing (λ n x. fitsStatement (scopeAt bytes t f) x) 0 (functionOf bytes t f .statements))
+
+  unfit-is : unfit ≡ lowest (failing (λ m x. fitting m) 0 (functionOf bytes t f .statements))
+  unfit-is =
+      ap lowest (failing-by (fitsStatement (scopeAt bytes t f)) fitting Kill (functionOf bytes t f .statements) 0
+      (λ k l. ap (fitsStatement (scopeAt bytes t f)) (statement-is bytes t f k Kill l) ∙ ap fitting (let same : k ≡ 0 + k = omega arith in same)))
+
+  pub unfit-at : {s : ℕ} {r : Bool} → s < n → Each fitting s → r ≡ fitting s → r ≡ false → some s ≡ unfit
+  unfit-at {s} l E q h =
+      sym (unfit-is ∙ lowest-first fitting (functionOf bytes t f .statements) 0 s (omega arith) (omega arith) (λ k a b. E .each k b) (sym q ∙ h))
+
+  pub unfit-none : {s : ℕ} → n ≤ s → Each fitting s → nothing ≡ unfit
+  unfit-none l E = sym (unfit-is ∙ lowest-none fitting (functionOf bytes t f .statements) 0 (λ k m. E .each k (omega arith)))

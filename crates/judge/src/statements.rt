@@ -6,8 +6,10 @@ ghost use lib.ListN.{length};
 ghost use Rattle.module.specs.Decode.{optionOf};
 ghost use Rattle.module.specs.Tables.{functionOf};
 ghost use Rattle.valid.specs.Valid.{MaybeBelow};
-ghost use Rattle.clearance.specs.Judged.{presently, isValue, fitsReturn};
+ghost use Rattle.clearance.specs.Judged.{presently, isValue, fitsReturn, fitsStatement, failing, lowest};
 ghost use Rattle.judge.specs.Given.{scopeAt, Given, FitsStatement};
+ghost use Rattle.judge.specs.Blamed.{blamed};
+use crate::expressions::Blamed;
 use crate::named::leads_to;
 use crate::shapes::is_alike;
 use crate::values::both;
@@ -15,6 +17,7 @@ use crate::values::is_value;
 use crate::values::maybe_value;
 use crate::values::type_of;
 use access::function::result;
+use access::function::statements;
 use access::kinded::operand;
 use access::kinded::statement;
 use module::handles::ExpressionHandle;
@@ -79,4 +82,20 @@ pub fn fits_statement(bytes: &[u8], t: &[u32], f: FunctionHandle, types: &[u32],
         return is_value(bytes, t, f, types, paths, first);
     }
     true
+}
+
+// The lowest statement that does not fit.
+pub fn unfit_statement(bytes: &[u8], t: &[u32], f: FunctionHandle, types: &[u32], alike: &[u32], paths: &[u32]) -> Blamed
+    requires { ⌜ Given (now bytes) (now t) (f .0) (now types) (now alike) (now paths) ⌝ }
+    ensures { λ r. ⌜ blamed r ≡ lowest (failing (λ n x. fitsStatement (scopeAt (now (bytes .entry)) (now (t .entry)) (f .0)) x) 0 (functionOf (now (bytes .entry)) (now (t .entry)) (f .0) .statements)) ⌝ }
+{
+    let n = statements(t, f);
+    let mut s: u32 = 0;
+    while s < n {
+        if !fits_statement(bytes, t, f, types, alike, paths, s) {
+            return Blamed::At(s);
+        }
+        s += 1;
+    }
+    Blamed::Nothing
 }
