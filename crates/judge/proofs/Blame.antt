@@ -3,13 +3,13 @@ use Prim.Native.Nat.{ℕ, zero, suc, _+_, _-_, _<_, _≤_}
 use native.Mathlib.Omega.{arith}
 use native.Mathlib.Decide.{ℕ-discrete}
 use mathlib.Core.Path.{_≡_, refl, sym, ap, _∙_}
-use mathlib.Core.Bool.{Bool, true, false, not, _&&_, and-true, and-false}
-use mathlib.Core.List.{List, [], _∷_, _++_}
+use mathlib.Core.Bool.{Bool, true, false, and-true, and-false}
+use mathlib.Core.List.{List, [], _∷_}
 use mathlib.Core.Option.{Option, some, none as nothing}
-use lib.Dec.{ltb, eqb}
+use lib.Dec.{eqb}
 use lib.ListN.{length, getD}
 use borrow.Author.Tests.{le-ltb, eq-eqb, ne-eqb}
-use Rattle.module.specs.Module.{Typed, Kill}
+use Rattle.module.specs.Module.{Kill}
 use Rattle.module.specs.Decode.{expressionOf}
 use Rattle.module.specs.Tables.{functionOf}
 use Rattle.access.specs.declared.kinded.Kinded.{Kinded}

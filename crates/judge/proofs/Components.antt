@@ -3,8 +3,8 @@ use Prim.Native.Nat.{ℕ, zero, suc, _+_, _*_, _<_, _≤_}
 use native.Mathlib.Omega.{arith}
 use native.Mathlib.Numerals.{add-one}
 use mathlib.Core.Path.{_≡_, refl, sym, ap, _∙_}
-use mathlib.Core.Bool.{Bool, true, false, _&&_, _||_, and-true, and-false}
-use mathlib.Core.List.{List, [], _∷_, _++_, append-assoc}
+use mathlib.Core.Bool.{Bool, true, false, _&&_, _||_, and-false}
+use mathlib.Core.List.{List, [], _∷_, _++_}
 use lib.Dec.{ltb, eqb}
 use lib.ListN.{length, getD}
 use borrow.Author.Tests.{lt-ltb, le-ltb, eq-eqb, ne-eqb}
@@ -18,7 +18,7 @@ use Rattle.clearance.specs.Scope.{Scope, inner, memberTypes, kind, isKind, isSc
 use Rattle.clearance.specs.Judged.{every, partType, same, samePart, isValue, hasVectorSize, componentCount, countComponents, fitsCompose, fitsExpression}
 use Rattle.judge.specs.Alike.{Lower}
 use Rattle.judge.specs.Shapes.{partCount}
-use Rattle.judge.specs.Given.{scopeAt, Row, Fits}
+use Rattle.judge.specs.Given.{Row, Fits}
 use Rattle.judge.proofs.TypeRows.{number, row-is}
 use Rattle.judge.proofs.ShapeRows.{alike-same, inner-is, lower-in, number-is, vector-is, other}
 use Rattle.judge.proofs.ValueRows.{Each, each-next, each-fails, each-all, every-last}

@@ -2,17 +2,16 @@
 use Prim.Native.Nat.{ℕ, zero, suc, _+_, _<_, _≤_}
 use native.Mathlib.Omega.{arith}
 use mathlib.Core.Path.{_≡_, refl, sym, ap, subst, _∙_}
-use mathlib.Core.Bool.{Bool, true, false, not, _&&_, and-true}
+use mathlib.Core.Bool.{Bool, false, not, _&&_, and-true}
 use mathlib.Core.List.{List, [], _∷_}
-use lib.Dec.{eqb}
 use lib.ListN.{length, getD}
-use borrow.Author.Tests.{eq-eqb, ne-eqb}
+use borrow.Author.Tests.{ne-eqb}
 use Rattle.module.specs.Module.{Typed, FunctionArg, Function, Opaque}
 use Rattle.module.specs.Decode.{optionOf, expressionOf}
 use Rattle.module.specs.Tables.{functionOf, moduleOf}
 use Rattle.access.specs.declared.kinded.Kinded.{Kinded}
 use Rattle.access.specs.declared.whole.Bound.{Bound}
-use Rattle.access.specs.Access.{typedAt, operandAt, globalAt, localAt, argumentAt, argFrom}
+use Rattle.access.specs.Access.{operandAt, globalAt, localAt, argumentAt, argFrom}
 use Rattle.access.proofs.Access.{typed-is, global-is, local-is, argument-is, expression-of}
 use Rattle.valid.specs.Valid.{OperandsBelow, NamesBelow, ExpressionValid}
 use Rattle.valid.proofs.Accepted.{valid}

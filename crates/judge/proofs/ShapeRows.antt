@@ -2,20 +2,20 @@
 use Prim.Native.Nat.{ℕ, zero, suc, _+_, _<_, _≤_}
 use native.Mathlib.Omega.{arith}
 use mathlib.Core.Path.{_≡_, refl, sym, ap, subst, _∙_}
-use mathlib.Core.Bool.{Bool, true, false, cond, and-true}
+use mathlib.Core.Bool.{Bool, true, false, and-true}
 use mathlib.Core.List.{List, [], _∷_, map}
-use mathlib.Core.Option.{Option, some, none as nothing}
-use lib.Dec.{ltb, eqb}
+use mathlib.Core.Option.{some, none as nothing}
+use lib.Dec.{eqb}
 use lib.ListN.{length, getD}
 use borrow.Author.Tests.{lt-ltb, le-ltb}
 use Rattle.module.specs.Module.{Member, TypeInner, Scalar, Vector, Matrix, Atomic, Pointer, Array, Struct, BindingArray, Opaque}
-use Rattle.module.specs.Decode.{tab, memberOf, typeInnerOf}
+use Rattle.module.specs.Decode.{memberOf, typeInnerOf}
 use Rattle.module.proofs.Tab.{length-tab}
 use Rattle.context.specs.Types.{typeWord, typesOf}
 use Rattle.bindings.specs.Rows.{isBase}
 use Rattle.clearance.specs.Scope.{Scope, inner, memberTypes, kind, bases, isKind, isScalar, pairwise, alikeInner, alike}
 use Rattle.clearance.specs.Judged.{partType, elementType, pointeeType, same, samePart}
-use Rattle.judge.specs.Alike.{alikeIn, byTable, Lower, AlikeTable}
+use Rattle.judge.specs.Alike.{alikeIn, byTable, Lower}
 use Rattle.judge.specs.Shapes.{Shapes, Pointee, partCount}
 use Rattle.judge.proofs.Equivalence.{alike-is}
 use Rattle.judge.proofs.TypeRows.{number, row-is, count-one, base-first}

@@ -2,26 +2,25 @@
 use Prim.Native.Nat.{ℕ, zero, suc, _-_, _<_, _≤_}
 use native.Mathlib.Omega.{arith}
 use mathlib.Core.Path.{_≡_, refl, sym, ap, subst, _∙_}
-use mathlib.Core.Bool.{Bool, true, false, cond, _&&_, and-false}
+use mathlib.Core.Bool.{Bool, true, false, _&&_, and-false}
 use mathlib.Core.List.{List}
 use mathlib.Core.Option.{Option, some, none as nothing}
-use lib.Dec.{eqb}
-use lib.ListN.{length, getD}
+use lib.ListN.{length}
 use borrow.Author.Tests.{eq-eqb, ne-eqb}
 use Rattle.field.specs.Limits.{absent}
-use Rattle.module.specs.Module.{Statement, Kill, FunctionResult}
+use Rattle.module.specs.Module.{Kill, FunctionResult}
 use Rattle.module.specs.Decode.{optionOf, statementOf}
 use Rattle.module.specs.Tables.{functionOf, moduleOf}
 use Rattle.access.specs.declared.kinded.Kinded.{Kinded}
 use Rattle.access.specs.declared.whole.Bound.{Bound}
-use Rattle.access.specs.Access.{operandAt, statementRow, statementAt, resultFrom}
+use Rattle.access.specs.Access.{operandAt, statementRow, resultFrom}
 use Rattle.access.proofs.Access.{statement-is, statement-of}
 use Rattle.valid.specs.Valid.{MaybeBelow, UsesBelow, ResultBelow, entriesBelow}
 use Rattle.context.specs.Types.{typesOf}
 use Rattle.clearance.specs.Scope.{Scope, alike as alikeIn, typeOf, innerOf, isPath}
 use Rattle.clearance.specs.Judged.{presently, same, pointee, isValue, fitsReturn, fitsStatement}
 use Rattle.judge.specs.Alike.{byTable}
-use Rattle.judge.specs.Given.{scopeAt, Given, FitsStatement}
+use Rattle.judge.specs.Given.{Given, FitsStatement}
 use Rattle.judge.proofs.PathSteps.{past, function-valid}
 use Rattle.judge.proofs.Operands.{S, F, n, type-low}
 

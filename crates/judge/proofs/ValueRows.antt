@@ -3,7 +3,7 @@ use Prim.Native.Nat.{ℕ, zero, suc, _+_, _<_, _≤_}
 use native.Mathlib.Omega.{arith}
 use native.Mathlib.Decide.{decLt}
 use mathlib.Core.Path.{_≡_, refl, sym, ap, _∙_}
-use mathlib.Core.Bool.{Bool, true, false, not, _&&_, and-true, and-false}
+use mathlib.Core.Bool.{Bool, true, false, not, _&&_, and-false}
 use mathlib.Core.List.{List, [], _∷_, _++_}
 use lib.Dec.{eqb}
 use lib.ListN.{length, getD, List·getD-eq-default}
@@ -11,7 +11,6 @@ use borrow.Author.Count.{below-more}
 use borrow.Author.Tests.{eq-eqb, ne-eqb}
 use Rattle.field.specs.Limits.{absent}
 use Rattle.module.specs.Module.{Typed, Opaque}
-use Rattle.module.specs.Knot.{knot}
 use Rattle.module.specs.Decode.{tab, optionOf}
 use Rattle.module.specs.Tables.{functionOf}
 use Rattle.module.proofs.Knot.{knot-is}
@@ -21,7 +20,6 @@ use Rattle.context.specs.Types.{typesOf}
 use Rattle.clearance.specs.Scope.{Scope, nowhere, stepFrom, noExpression, typed, typeOf, innerOf, isKind, pathOf, isPath}
 use Rattle.clearance.specs.Judged.{every, presently, isValue}
 use Rattle.judge.specs.Marked.{marked}
-use Rattle.judge.specs.Paths.{PathTable}
 use Rattle.judge.specs.Given.{scopeAt, Values}
 use Rattle.judge.proofs.TypeRows.{number}
 use Rattle.judge.proofs.ShapeRows.{number-is}
