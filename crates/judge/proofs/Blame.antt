@@ -137,8 +137,10 @@ unfolding failing
 failing-by test p d [] n f = refl
 failing-by test p d (x ∷ xs) n f =
     let here : n + 0 ≡ n = omega arith in
-    rw (f 0 (omega arith) ∙ ap p here,
-    failing-by test p d xs (suc n) (λ k l. f (suc k) (omega arith) ∙ ap p (let next : n + suc k ≡ suc n + k = omega arith in next)))
+    rw (
+      f 0 (omega arith) ∙ ap p here,
+      failing-by test p d xs (suc n) (λ k l. f (suc k) (omega arith) ∙ ap p (let next : n + suc k ≡ suc n + k = omega arith in next)),
+    )
 
 module _ (bytes t : List ℕ) (f : ℕ) {n : ℕ} (long : n ≡ length (functionOf bytes t f .statements)) where
   abbrev fitting : ℕ → Bool

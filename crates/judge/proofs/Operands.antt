@@ -68,8 +68,13 @@ module _ {bytes t : List ℕ} {f : ℕ} {types alike paths : List ℕ} (G : Give
   pub leads : (p v : ℕ) {a b c : ℕ} {w s r : Bool} → p < n → v < n → a ≡ typeOf S p → Pointee types a c → w ≡ isPath S p → b ≡ typeOf S v → s ≡ byTable alike c b → r ≡ w && s → r ≡ isPath S p && same S (pointee S p) (innerOf S v)
   unfolding pointee innerOf
   leads p v {a} {b} {c} l m h P w k s q =
-      q ∙ rw (w, ← h, ← k, ← P .is S (G .values .same),
-      same-table types S (G .values .same) c b (G .shapes) (omega (arith, P .low, h, type-low p l)) (omega (arith, k, type-low v m)) s)
+      q ∙ rw (
+        w,
+        ← h,
+        ← k,
+        ← P .is S (G .values .same),
+        same-table types S (G .values .same) c b (G .shapes) (omega (arith, P .low, h, type-low p l)) (omega (arith, k, type-low v m)) s,
+      )
 
 module _ {bytes t : List ℕ} {f : ℕ} {types alike paths : List ℕ} {e : ℕ} {row : Kinded} (R : Row bytes t f types alike paths e row) where
   abbrev pub G : Given bytes t f types alike paths

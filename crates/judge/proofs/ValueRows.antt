@@ -72,8 +72,10 @@ module _ (p : ℕ → Bool) (n : ℕ) (g : ℕ → ℕ) where
 no-path : (S : Scope) (e : ℕ) → length (S .function .expressions) ≤ e → isPath S e ≡ false
 unfolding isPath pathOf typed
 no-path S e l =
-    rw (knot-is (λ path h. stepFrom path (getD (S .function .expressions) h noExpression .expression)) nowhere e,
-    List·getD-eq-default (S .function .expressions) noExpression {n = e} l)
+    rw (
+      knot-is (λ path h. stepFrom path (getD (S .function .expressions) h noExpression .expression)) nowhere e,
+      List·getD-eq-default (S .function .expressions) noExpression {n = e} l,
+    )
     (unfold stepFrom in refl)
 
 not-marked : (table : List ℕ) (e : ℕ) → length table ≤ e → marked table e ≡ false

@@ -27,7 +27,15 @@ pub enum Blamed {
 }
 
 // Whether the expression e fits, by the group of its kind. A kind past the last is a literal's.
-pub fn fits_expression(bytes: &[u8], t: &[u32], f: FunctionHandle, types: &[u32], alike: &[u32], paths: &[u32], e: ExpressionHandle) -> bool
+pub fn fits_expression(
+    bytes: &[u8],
+    t: &[u32],
+    f: FunctionHandle,
+    types: &[u32],
+    alike: &[u32],
+    paths: &[u32],
+    e: ExpressionHandle,
+) -> bool
     requires { ⌜ Given (now bytes) (now t) (f .0) (now types) (now alike) (now paths) ⌝ }
     requires { ⌜ e .0 < length (functionOf (now bytes) (now t) (f .0) .expressions) ⌝ }
     ensures { λ r. ⌜ Fits (now (bytes .entry)) (now (t .entry)) (f .0) (e .0) r ⌝ }
@@ -65,7 +73,16 @@ pub fn fits_expression(bytes: &[u8], t: &[u32], f: FunctionHandle, types: &[u32]
 }
 
 // Whether the expression e fits and its type holds no unsized array.
-pub fn judged_expression(bytes: &[u8], t: &[u32], f: FunctionHandle, types: &[u32], alike: &[u32], held: &[u32], paths: &[u32], e: ExpressionHandle) -> bool
+pub fn judged_expression(
+    bytes: &[u8],
+    t: &[u32],
+    f: FunctionHandle,
+    types: &[u32],
+    alike: &[u32],
+    held: &[u32],
+    paths: &[u32],
+    e: ExpressionHandle,
+) -> bool
     requires { ⌜ Given (now bytes) (now t) (f .0) (now types) (now alike) (now paths) ⌝ }
     requires { ⌜ UnsizedTable (typesOf (now types)) (now held) ⌝ }
     requires { ⌜ e .0 < length (functionOf (now bytes) (now t) (f .0) .expressions) ⌝ }
@@ -79,7 +96,15 @@ pub fn judged_expression(bytes: &[u8], t: &[u32], f: FunctionHandle, types: &[u3
 }
 
 // The lowest expression that is not judged.
-pub fn blamed_expression(bytes: &[u8], t: &[u32], f: FunctionHandle, types: &[u32], alike: &[u32], held: &[u32], paths: &[u32]) -> Blamed
+pub fn blamed_expression(
+    bytes: &[u8],
+    t: &[u32],
+    f: FunctionHandle,
+    types: &[u32],
+    alike: &[u32],
+    held: &[u32],
+    paths: &[u32],
+) -> Blamed
     requires { ⌜ Given (now bytes) (now t) (f .0) (now types) (now alike) (now paths) ⌝ }
     requires { ⌜ UnsizedTable (typesOf (now types)) (now held) ⌝ }
     ensures { λ r. ⌜ blamed r ≡ blamedExpression (scopeAt (now (bytes .entry)) (now (t .entry)) (f .0)) ⌝ }

@@ -36,7 +36,16 @@ fn same_index(types: &[u32], alike: &[u32], kind: u16, a: TypeHandle, i: u32, b:
 }
 
 // Whether the index e of its base fits, by the kind of its row.
-fn fits_base(bytes: &[u8], t: &[u32], f: FunctionHandle, types: &[u32], alike: &[u32], paths: &[u32], row: Kinded, e: ExpressionHandle) -> bool
+fn fits_base(
+    bytes: &[u8],
+    t: &[u32],
+    f: FunctionHandle,
+    types: &[u32],
+    alike: &[u32],
+    paths: &[u32],
+    row: Kinded,
+    e: ExpressionHandle,
+) -> bool
     requires { ⌜ Row (now bytes) (now t) (f .0) (now types) (now alike) (now paths) (e .0) row ⌝ }
     requires { ⌜ 3 ≤ row .kind ⌝ }
     requires { ⌜ row .kind ≤ 4 ⌝ }
@@ -47,14 +56,33 @@ fn fits_base(bytes: &[u8], t: &[u32], f: FunctionHandle, types: &[u32], alike: &
     let a = type_of(bytes, t, f, base);
     let b = type_of(bytes, t, f, e);
     if is_path(bytes, t, f, types, paths, base) {
-        return same_index(types, alike, row.kind, pointee(types, a), i, pointee(types, b));
+        return same_index(
+            types,
+            alike,
+            row.kind,
+            pointee(types, a),
+            i,
+            pointee(types, b),
+        );
     }
-    let values = both(is_value(bytes, t, f, types, paths, base), is_value(bytes, t, f, types, paths, e));
+    let values = both(
+        is_value(bytes, t, f, types, paths, base),
+        is_value(bytes, t, f, types, paths, e),
+    );
     both(values, same_index(types, alike, row.kind, a, i, b))
 }
 
 // A constant index, or one by an expression, which is a value.
-pub fn fits_index(bytes: &[u8], t: &[u32], f: FunctionHandle, types: &[u32], alike: &[u32], paths: &[u32], row: Kinded, e: ExpressionHandle) -> bool
+pub fn fits_index(
+    bytes: &[u8],
+    t: &[u32],
+    f: FunctionHandle,
+    types: &[u32],
+    alike: &[u32],
+    paths: &[u32],
+    row: Kinded,
+    e: ExpressionHandle,
+) -> bool
     requires { ⌜ Row (now bytes) (now t) (f .0) (now types) (now alike) (now paths) (e .0) row ⌝ }
     requires { ⌜ 3 ≤ row .kind ⌝ }
     requires { ⌜ row .kind ≤ 4 ⌝ }

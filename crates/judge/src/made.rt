@@ -49,7 +49,16 @@ fn letters_below(bytes: &[u8], row: Kinded, n: u32) -> bool
 }
 
 // Letters of a vector that is a value, and a vector of as many.
-fn fits_swizzle(bytes: &[u8], t: &[u32], f: FunctionHandle, types: &[u32], alike: &[u32], paths: &[u32], row: Kinded, e: ExpressionHandle) -> bool
+fn fits_swizzle(
+    bytes: &[u8],
+    t: &[u32],
+    f: FunctionHandle,
+    types: &[u32],
+    alike: &[u32],
+    paths: &[u32],
+    row: Kinded,
+    e: ExpressionHandle,
+) -> bool
     requires { ⌜ Row (now bytes) (now t) (f .0) (now types) (now alike) (now paths) (e .0) row ⌝ }
     requires { ⌜ row .kind ≡ 7 ⌝ }
     ensures { λ r. ⌜ Fits (now (bytes .entry)) (now (t .entry)) (f .0) (e .0) r ⌝ }
@@ -60,8 +69,15 @@ fn fits_swizzle(bytes: &[u8], t: &[u32], f: FunctionHandle, types: &[u32], alike
         return false;
     }
     let within = letters_below(bytes, row, first_word(types, a.0));
-    let sized = is_vector_of(types, operand(bytes, row, 1) as u32, type_of(bytes, t, f, e));
-    both(is_value(bytes, t, f, types, paths, vector), both(within, sized))
+    let sized = is_vector_of(
+        types,
+        operand(bytes, row, 1) as u32,
+        type_of(bytes, t, f, e),
+    );
+    both(
+        is_value(bytes, t, f, types, paths, vector),
+        both(within, sized),
+    )
 }
 
 // How many components the type a gives: a scalar or a vector.
@@ -99,7 +115,17 @@ fn joins(bytes: &[u8], t: &[u32], f: FunctionHandle, types: &[u32], row: Kinded,
 }
 
 // Whether each component is of the shape of the type a's part of its number.
-fn parts_fit(bytes: &[u8], t: &[u32], f: FunctionHandle, types: &[u32], alike: &[u32], paths: &[u32], row: Kinded, e: ExpressionHandle, a: TypeHandle) -> bool
+fn parts_fit(
+    bytes: &[u8],
+    t: &[u32],
+    f: FunctionHandle,
+    types: &[u32],
+    alike: &[u32],
+    paths: &[u32],
+    row: Kinded,
+    e: ExpressionHandle,
+    a: TypeHandle,
+) -> bool
     requires { ⌜ Row (now bytes) (now t) (f .0) (now types) (now alike) (now paths) (e .0) row ⌝ }
     requires { ⌜ row .kind ≡ 8 ⌝ }
     requires { ⌜ a .0 < length (typesOf (now types)) ⌝ }
@@ -119,7 +145,16 @@ fn parts_fit(bytes: &[u8], t: &[u32], f: FunctionHandle, types: &[u32], alike: &
 }
 
 // A value of its components: a vector of scalars and vectors, or a matrix, an array or a struct of its parts.
-fn fits_compose(bytes: &[u8], t: &[u32], f: FunctionHandle, types: &[u32], alike: &[u32], paths: &[u32], row: Kinded, e: ExpressionHandle) -> bool
+fn fits_compose(
+    bytes: &[u8],
+    t: &[u32],
+    f: FunctionHandle,
+    types: &[u32],
+    alike: &[u32],
+    paths: &[u32],
+    row: Kinded,
+    e: ExpressionHandle,
+) -> bool
     requires { ⌜ Row (now bytes) (now t) (f .0) (now types) (now alike) (now paths) (e .0) row ⌝ }
     requires { ⌜ row .kind ≡ 8 ⌝ }
     ensures { λ r. ⌜ Fits (now (bytes .entry)) (now (t .entry)) (f .0) (e .0) r ⌝ }
@@ -128,12 +163,18 @@ fn fits_compose(bytes: &[u8], t: &[u32], f: FunctionHandle, types: &[u32], alike
     let a = type_of(bytes, t, f, e);
     let k = kind_at(types, a.0);
     if k == 1 {
-        return both(values, joins(bytes, t, f, types, row, first_word(types, a.0)));
+        return both(
+            values,
+            joins(bytes, t, f, types, row, first_word(types, a.0)),
+        );
     }
     if part_count(types, a) != operand(bytes, row, 0) as u32 {
         return false;
     }
-    let fit = both(values, parts_fit(bytes, t, f, types, alike, paths, row, e, a));
+    let fit = both(
+        values,
+        parts_fit(bytes, t, f, types, alike, paths, row, e, a),
+    );
     if k == 2 {
         return fit;
     }
@@ -147,7 +188,16 @@ fn fits_compose(bytes: &[u8], t: &[u32], f: FunctionHandle, types: &[u32], alike
 }
 
 // A vector of one scalar, letters of a vector, or components.
-pub fn fits_made(bytes: &[u8], t: &[u32], f: FunctionHandle, types: &[u32], alike: &[u32], paths: &[u32], row: Kinded, e: ExpressionHandle) -> bool
+pub fn fits_made(
+    bytes: &[u8],
+    t: &[u32],
+    f: FunctionHandle,
+    types: &[u32],
+    alike: &[u32],
+    paths: &[u32],
+    row: Kinded,
+    e: ExpressionHandle,
+) -> bool
     requires { ⌜ Row (now bytes) (now t) (f .0) (now types) (now alike) (now paths) (e .0) row ⌝ }
     requires { ⌜ 6 ≤ row .kind ⌝ }
     requires { ⌜ row .kind ≤ 8 ⌝ }

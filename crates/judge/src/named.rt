@@ -47,18 +47,39 @@ fn fits_variable(types: &[u32], alike: &[u32], a: TypeHandle, b: TypeHandle) -> 
 }
 
 // Whether p is a path that leads to what has v's shape.
-pub fn leads_to(bytes: &[u8], t: &[u32], f: FunctionHandle, types: &[u32], alike: &[u32], paths: &[u32], p: ExpressionHandle, v: ExpressionHandle) -> bool
+pub fn leads_to(
+    bytes: &[u8],
+    t: &[u32],
+    f: FunctionHandle,
+    types: &[u32],
+    alike: &[u32],
+    paths: &[u32],
+    p: ExpressionHandle,
+    v: ExpressionHandle,
+) -> bool
     requires { ⌜ Given (now bytes) (now t) (f .0) (now types) (now alike) (now paths) ⌝ }
     requires { ⌜ p .0 < length (functionOf (now bytes) (now t) (f .0) .expressions) ⌝ }
     requires { ⌜ v .0 < length (functionOf (now bytes) (now t) (f .0) .expressions) ⌝ }
     ensures { λ r. ⌜ r ≡ (isPath (scopeAt (now (bytes .entry)) (now (t .entry)) (f .0)) (p .0) && same (scopeAt (now (bytes .entry)) (now (t .entry)) (f .0)) (pointee (scopeAt (now (bytes .entry)) (now (t .entry)) (f .0)) (p .0)) (innerOf (scopeAt (now (bytes .entry)) (now (t .entry)) (f .0)) (v .0))) ⌝ }
 {
     let led = pointee(types, type_of(bytes, t, f, p));
-    both(is_path(bytes, t, f, types, paths, p), is_alike(alike, led, type_of(bytes, t, f, v)))
+    both(
+        is_path(bytes, t, f, types, paths, p),
+        is_alike(alike, led, type_of(bytes, t, f, v)),
+    )
 }
 
 // An argument, a global, a local or a load.
-pub fn fits_named(bytes: &[u8], t: &[u32], f: FunctionHandle, types: &[u32], alike: &[u32], paths: &[u32], row: Kinded, e: ExpressionHandle) -> bool
+pub fn fits_named(
+    bytes: &[u8],
+    t: &[u32],
+    f: FunctionHandle,
+    types: &[u32],
+    alike: &[u32],
+    paths: &[u32],
+    row: Kinded,
+    e: ExpressionHandle,
+) -> bool
     requires { ⌜ Row (now bytes) (now t) (f .0) (now types) (now alike) (now paths) (e .0) row ⌝ }
     requires { ⌜ 9 ≤ row .kind ⌝ }
     requires { ⌜ row .kind ≤ 12 ⌝ }
@@ -77,5 +98,8 @@ pub fn fits_named(bytes: &[u8], t: &[u32], f: FunctionHandle, types: &[u32], ali
         let a = argument(bytes, t, f, n);
         return both(value, is_alike(alike, TypeHandle(a.ty as u32), own));
     }
-    both(value, leads_to(bytes, t, f, types, alike, paths, ExpressionHandle(n), e))
+    both(
+        value,
+        leads_to(bytes, t, f, types, alike, paths, ExpressionHandle(n), e),
+    )
 }

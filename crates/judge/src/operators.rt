@@ -25,7 +25,16 @@ const MATH: u16 = 21;
 const AS: u16 = 22;
 
 // A value of two, by a condition: both have the result's shape.
-fn fits_select(bytes: &[u8], t: &[u32], f: FunctionHandle, types: &[u32], alike: &[u32], paths: &[u32], row: Kinded, e: ExpressionHandle) -> bool
+fn fits_select(
+    bytes: &[u8],
+    t: &[u32],
+    f: FunctionHandle,
+    types: &[u32],
+    alike: &[u32],
+    paths: &[u32],
+    row: Kinded,
+    e: ExpressionHandle,
+) -> bool
     requires { ⌜ Row (now bytes) (now t) (f .0) (now types) (now alike) (now paths) (e .0) row ⌝ }
     requires { ⌜ row .kind ≡ 18 ⌝ }
     ensures { λ r. ⌜ Fits (now (bytes .entry)) (now (t .entry)) (f .0) (e .0) r ⌝ }
@@ -37,12 +46,27 @@ fn fits_select(bytes: &[u8], t: &[u32], f: FunctionHandle, types: &[u32], alike:
     let first = is_alike(alike, type_of(bytes, t, f, accept), own);
     let second = is_alike(alike, type_of(bytes, t, f, reject), own);
     let tested = is_value(bytes, t, f, types, paths, condition);
-    let chosen = both(is_value(bytes, t, f, types, paths, accept), is_value(bytes, t, f, types, paths, reject));
-    both(is_value(bytes, t, f, types, paths, e), both(both(tested, chosen), both(first, second)))
+    let chosen = both(
+        is_value(bytes, t, f, types, paths, accept),
+        is_value(bytes, t, f, types, paths, reject),
+    );
+    both(
+        is_value(bytes, t, f, types, paths, e),
+        both(both(tested, chosen), both(first, second)),
+    )
 }
 
 // One value to four.
-fn fits_math(bytes: &[u8], t: &[u32], f: FunctionHandle, types: &[u32], alike: &[u32], paths: &[u32], row: Kinded, e: ExpressionHandle) -> bool
+fn fits_math(
+    bytes: &[u8],
+    t: &[u32],
+    f: FunctionHandle,
+    types: &[u32],
+    alike: &[u32],
+    paths: &[u32],
+    row: Kinded,
+    e: ExpressionHandle,
+) -> bool
     requires { ⌜ Row (now bytes) (now t) (f .0) (now types) (now alike) (now paths) (e .0) row ⌝ }
     requires { ⌜ row .kind ≡ 21 ⌝ }
     ensures { λ r. ⌜ Fits (now (bytes .entry)) (now (t .entry)) (f .0) (e .0) r ⌝ }
@@ -52,11 +76,23 @@ fn fits_math(bytes: &[u8], t: &[u32], f: FunctionHandle, types: &[u32], alike: &
     let third = maybe_value(bytes, t, f, types, paths, operand(bytes, row, 2));
     let fourth = maybe_value(bytes, t, f, types, paths, operand(bytes, row, 3));
     let first = is_value(bytes, t, f, types, paths, x);
-    both(is_value(bytes, t, f, types, paths, e), both(first, both(second, both(third, fourth))))
+    both(
+        is_value(bytes, t, f, types, paths, e),
+        both(first, both(second, both(third, fourth))),
+    )
 }
 
 // An operator; a derivative is never judged.
-pub fn fits_operator(bytes: &[u8], t: &[u32], f: FunctionHandle, types: &[u32], alike: &[u32], paths: &[u32], row: Kinded, e: ExpressionHandle) -> bool
+pub fn fits_operator(
+    bytes: &[u8],
+    t: &[u32],
+    f: FunctionHandle,
+    types: &[u32],
+    alike: &[u32],
+    paths: &[u32],
+    row: Kinded,
+    e: ExpressionHandle,
+) -> bool
     requires { ⌜ Row (now bytes) (now t) (f .0) (now types) (now alike) (now paths) (e .0) row ⌝ }
     requires { ⌜ 16 ≤ row .kind ⌝ }
     requires { ⌜ row .kind ≤ 22 ⌝ }

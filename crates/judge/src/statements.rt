@@ -33,7 +33,15 @@ const RETURN: u16 = 7;
 const STORE: u16 = 12;
 
 // A returned value is of the result's shape; there may be none.
-fn fits_return(bytes: &[u8], t: &[u32], f: FunctionHandle, types: &[u32], alike: &[u32], paths: &[u32], v: u16) -> bool
+fn fits_return(
+    bytes: &[u8],
+    t: &[u32],
+    f: FunctionHandle,
+    types: &[u32],
+    alike: &[u32],
+    paths: &[u32],
+    v: u16,
+) -> bool
     requires { ⌜ Given (now bytes) (now t) (f .0) (now types) (now alike) (now paths) ⌝ }
     requires { ⌜ MaybeBelow (length (functionOf (now bytes) (now t) (f .0) .expressions)) (optionOf v) ⌝ }
     ensures { λ r. ⌜ r ≡ presently (λ v. isValue (scopeAt (now (bytes .entry)) (now (t .entry)) (f .0)) v && fitsReturn (scopeAt (now (bytes .entry)) (now (t .entry)) (f .0)) (functionOf (now (bytes .entry)) (now (t .entry)) (f .0) .result) v) (optionOf v) ⌝ }
@@ -46,12 +54,24 @@ fn fits_return(bytes: &[u8], t: &[u32], f: FunctionHandle, types: &[u32], alike:
         return false;
     }
     let value = ExpressionHandle(v as u32);
-    let same = is_alike(alike, TypeHandle(declared.ty as u32), type_of(bytes, t, f, value));
+    let same = is_alike(
+        alike,
+        TypeHandle(declared.ty as u32),
+        type_of(bytes, t, f, value),
+    );
     both(is_value(bytes, t, f, types, paths, value), same)
 }
 
 // Whether the statement s fits, by its kind. A kind past the last is a break's.
-pub fn fits_statement(bytes: &[u8], t: &[u32], f: FunctionHandle, types: &[u32], alike: &[u32], paths: &[u32], s: u32) -> bool
+pub fn fits_statement(
+    bytes: &[u8],
+    t: &[u32],
+    f: FunctionHandle,
+    types: &[u32],
+    alike: &[u32],
+    paths: &[u32],
+    s: u32,
+) -> bool
     requires { ⌜ Given (now bytes) (now t) (f .0) (now types) (now alike) (now paths) ⌝ }
     requires { ⌜ s < length (functionOf (now bytes) (now t) (f .0) .statements) ⌝ }
     ensures { λ r. ⌜ FitsStatement (now (bytes .entry)) (now (t .entry)) (f .0) s r ⌝ }
@@ -85,7 +105,14 @@ pub fn fits_statement(bytes: &[u8], t: &[u32], f: FunctionHandle, types: &[u32],
 }
 
 // The lowest statement that does not fit.
-pub fn unfit_statement(bytes: &[u8], t: &[u32], f: FunctionHandle, types: &[u32], alike: &[u32], paths: &[u32]) -> Blamed
+pub fn unfit_statement(
+    bytes: &[u8],
+    t: &[u32],
+    f: FunctionHandle,
+    types: &[u32],
+    alike: &[u32],
+    paths: &[u32],
+) -> Blamed
     requires { ⌜ Given (now bytes) (now t) (f .0) (now types) (now alike) (now paths) ⌝ }
     ensures { λ r. ⌜ blamed r ≡ lowest (failing (λ n x. fitsStatement (scopeAt (now (bytes .entry)) (now (t .entry)) (f .0)) x) 0 (functionOf (now (bytes .entry)) (now (t .entry)) (f .0) .statements)) ⌝ }
 {

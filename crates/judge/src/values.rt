@@ -40,7 +40,14 @@ pub fn type_of(bytes: &[u8], t: &[u32], f: FunctionHandle, e: ExpressionHandle) 
 }
 
 // Whether the expression e is a path.
-pub fn is_path(bytes: &[u8], t: &[u32], f: FunctionHandle, types: &[u32], paths: &[u32], e: ExpressionHandle) -> bool
+pub fn is_path(
+    bytes: &[u8],
+    t: &[u32],
+    f: FunctionHandle,
+    types: &[u32],
+    paths: &[u32],
+    e: ExpressionHandle,
+) -> bool
     requires { ⌜ Values (now bytes) (now t) (f .0) (now types) (now paths) ⌝ }
     ensures { λ r. ⌜ r ≡ isPath (scopeAt (now (bytes .entry)) (now (t .entry)) (f .0)) (e .0) ⌝ }
 {
@@ -48,7 +55,14 @@ pub fn is_path(bytes: &[u8], t: &[u32], f: FunctionHandle, types: &[u32], paths:
 }
 
 // Whether the expression e is a value.
-pub fn is_value(bytes: &[u8], t: &[u32], f: FunctionHandle, types: &[u32], paths: &[u32], e: ExpressionHandle) -> bool
+pub fn is_value(
+    bytes: &[u8],
+    t: &[u32],
+    f: FunctionHandle,
+    types: &[u32],
+    paths: &[u32],
+    e: ExpressionHandle,
+) -> bool
     requires { ⌜ Values (now bytes) (now t) (f .0) (now types) (now paths) ⌝ }
     ensures { λ r. ⌜ r ≡ isValue (scopeAt (now (bytes .entry)) (now (t .entry)) (f .0)) (e .0) ⌝ }
 {
@@ -60,7 +74,14 @@ pub fn is_value(bytes: &[u8], t: &[u32], f: FunctionHandle, types: &[u32], paths
 }
 
 // Whether the operand v is absent or a value.
-pub fn maybe_value(bytes: &[u8], t: &[u32], f: FunctionHandle, types: &[u32], paths: &[u32], v: u16) -> bool
+pub fn maybe_value(
+    bytes: &[u8],
+    t: &[u32],
+    f: FunctionHandle,
+    types: &[u32],
+    paths: &[u32],
+    v: u16,
+) -> bool
     requires { ⌜ Values (now bytes) (now t) (f .0) (now types) (now paths) ⌝ }
     ensures { λ r. ⌜ r ≡ presently (isValue (scopeAt (now (bytes .entry)) (now (t .entry)) (f .0))) (optionOf v) ⌝ }
 {
@@ -71,7 +92,14 @@ pub fn maybe_value(bytes: &[u8], t: &[u32], f: FunctionHandle, types: &[u32], pa
 }
 
 // Whether the operands after the first, which is their count, are values.
-pub fn all_values(bytes: &[u8], t: &[u32], f: FunctionHandle, types: &[u32], paths: &[u32], row: Kinded) -> bool
+pub fn all_values(
+    bytes: &[u8],
+    t: &[u32],
+    f: FunctionHandle,
+    types: &[u32],
+    paths: &[u32],
+    row: Kinded,
+) -> bool
     requires { ⌜ Values (now bytes) (now t) (f .0) (now types) (now paths) ⌝ }
     ensures { λ r. ⌜ r ≡ every (isValue (scopeAt (now (bytes .entry)) (now (t .entry)) (f .0))) (tab (operandAt (now (bytes .entry)) row 0) (λ i. operandAt (now (bytes .entry)) row (1 + i))) ⌝ }
 {
