@@ -6,3 +6,10 @@ pub mod Steps
 pub mod Marked
 pub mod Unsized
 pub mod PathSteps
+pub mod ShapeRows
+pub mod ValueRows
+pub mod Operands
+pub mod IndexRows
+pub mod Components
+pub mod Blame
+pub mod StatementRows

@@ -132,7 +132,7 @@ operands-lower F v e =
     ]
 
 -- something of each number: of those below n one by one, and of those from n on
-abbrev past : ℕ → ℕ → ℕ
+abbrev pub past : ℕ → ℕ → ℕ
 past zero k = k
 past (suc n) k = suc (past n k)
 
@@ -196,7 +196,7 @@ module _ (bytes t : List ℕ) (f : ℕ) (read : readModule bytes ≡ accepted (m
   abbrev F : Function
   F = functionOf bytes t f
 
-  function-valid : FunctionValid (length (moduleOf bytes t .types)) (length (moduleOf bytes t .globals)) (entriesBelow f (moduleOf bytes t .functions)) F
+  pub function-valid : FunctionValid (length (moduleOf bytes t .types)) (length (moduleOf bytes t .globals)) (entriesBelow f (moduleOf bytes t .functions)) F
   function-valid = rw (function-is bytes t f F there) at (valid bytes (moduleOf bytes t) read .functions f F there)
 
   pub few : length (F .expressions) ≤ maxExpressions

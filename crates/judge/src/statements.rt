@@ -1,0 +1,128 @@
+// A function's statements: whether each fits.
+ghost use mathlib.Core.Path.{_≡_};
+ghost use mathlib.Core.Bool.{_&&_};
+ghost use Prim.Native.Nat.{_<_};
+ghost use lib.ListN.{length};
+ghost use Rattle.module.specs.Decode.{optionOf};
+ghost use Rattle.module.specs.Tables.{functionOf};
+ghost use Rattle.valid.specs.Valid.{MaybeBelow};
+ghost use Rattle.clearance.specs.Judged.{presently, isValue, fitsReturn, fitsStatement, failing, lowest};
+ghost use Rattle.judge.specs.Given.{scopeAt, Given, FitsStatement};
+ghost use Rattle.judge.specs.Blamed.{blamed};
+use crate::expressions::Blamed;
+use crate::named::leads_to;
+use crate::shapes::is_alike;
+use crate::values::both;
+use crate::values::is_value;
+use crate::values::maybe_value;
+use crate::values::type_of;
+use access::function::result;
+use access::function::statements;
+use access::kinded::operand;
+use access::kinded::statement;
+use module::handles::ExpressionHandle;
+use module::handles::FunctionHandle;
+use module::handles::TypeHandle;
+
+const ABSENT: u16 = 65535;
+
+const LOOP: u16 = 4;
+
+const RETURN: u16 = 7;
+
+const STORE: u16 = 12;
+
+// A returned value is of the result's shape; there may be none.
+fn fits_return(
+    bytes: &[u8],
+    t: &[u32],
+    f: FunctionHandle,
+    types: &[u32],
+    alike: &[u32],
+    paths: &[u32],
+    v: u16,
+) -> bool
+    requires { ⌜ Given (now bytes) (now t) (f .0) (now types) (now alike) (now paths) ⌝ }
+    requires { ⌜ MaybeBelow (length (functionOf (now bytes) (now t) (f .0) .expressions)) (optionOf v) ⌝ }
+    ensures { λ r. ⌜ r ≡ presently (λ v. isValue (scopeAt (now (bytes .entry)) (now (t .entry)) (f .0)) v && fitsReturn (scopeAt (now (bytes .entry)) (now (t .entry)) (f .0)) (functionOf (now (bytes .entry)) (now (t .entry)) (f .0) .result) v) (optionOf v) ⌝ }
+{
+    if v == ABSENT {
+        return true;
+    }
+    let declared = result(bytes, t, f);
+    if declared.ty == ABSENT {
+        return false;
+    }
+    let value = ExpressionHandle(v as u32);
+    let same = is_alike(
+        alike,
+        TypeHandle(declared.ty as u32),
+        type_of(bytes, t, f, value),
+    );
+    both(is_value(bytes, t, f, types, paths, value), same)
+}
+
+// Whether the statement s fits, by its kind. A kind past the last is a break's.
+pub fn fits_statement(
+    bytes: &[u8],
+    t: &[u32],
+    f: FunctionHandle,
+    types: &[u32],
+    alike: &[u32],
+    paths: &[u32],
+    s: u32,
+) -> bool
+    requires { ⌜ Given (now bytes) (now t) (f .0) (now types) (now alike) (now paths) ⌝ }
+    requires { ⌜ s < length (functionOf (now bytes) (now t) (f .0) .statements) ⌝ }
+    ensures { λ r. ⌜ FitsStatement (now (bytes .entry)) (now (t .entry)) (f .0) s r ⌝ }
+{
+    let row = statement(bytes, t, f, s);
+    if 20 < row.kind {
+        return true;
+    }
+    let first = ExpressionHandle(operand(bytes, row, 0) as u32);
+    if row.kind == STORE {
+        let value = ExpressionHandle(operand(bytes, row, 1) as u32);
+        let led = leads_to(bytes, t, f, types, alike, paths, first, value);
+        return both(is_value(bytes, t, f, types, paths, value), led);
+    }
+    if row.kind == RETURN {
+        return fits_return(bytes, t, f, types, alike, paths, operand(bytes, row, 0));
+    }
+    if 7 < row.kind {
+        return false;
+    }
+    if row.kind == LOOP {
+        return maybe_value(bytes, t, f, types, paths, operand(bytes, row, 2));
+    }
+    if 4 < row.kind {
+        return true;
+    }
+    if 1 < row.kind {
+        return is_value(bytes, t, f, types, paths, first);
+    }
+    true
+}
+
+// The lowest statement that does not fit.
+pub fn unfit_statement(
+    bytes: &[u8],
+    t: &[u32],
+    f: FunctionHandle,
+    types: &[u32],
+    alike: &[u32],
+    paths: &[u32],
+) -> Blamed
+    requires { ⌜ Given (now bytes) (now t) (f .0) (now types) (now alike) (now paths) ⌝ }
+    ensures { λ r. ⌜ blamed r ≡ lowest (failing (λ n x. fitsStatement (scopeAt (now (bytes .entry)) (now (t .entry)) (f .0)) x) 0 (functionOf (now (bytes .entry)) (now (t .entry)) (f .0) .statements)) ⌝ }
+{
+    let n = statements(t, f);
+    let mut s: u32 = 0;
+    while s < n {
+        if !fits_statement(bytes, t, f, types, alike, paths, s) {
+            return Blamed::At(s);
+        }
+        s += 1;
+    }
+    Blamed::Nothing
+}
