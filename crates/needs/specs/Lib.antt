@@ -1,2 +1,3 @@
 pub mod Lean
 pub mod Path
+pub mod Framed

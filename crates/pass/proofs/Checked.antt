@@ -19,7 +19,7 @@ use Rattle.clearance.specs.IsNeed.{AscendingRequest}
 use Rattle.clearance.proofs.Small.{cases}
 use Rattle.clearance.proofs.Rounds.{rounds-end}
 use Rattle.pass.specs.Pass.{tooMany, Passed, on, full, lowestWith}
-use Rattle.pass.specs.Checked.{fresh, passOnce, settledBy, settleWithin, maxRounds, lastPass, answerOf, judgeBy, checked, Beyond, memory, rounds, SameOrBeyond}
+use Rattle.pass.specs.Checked.{fresh, askedOf, passOnce, settledBy, settleWithin, maxRounds, lastPass, answerOf, judgeBy, checked, Beyond, memory, rounds, SameOrBeyond}
 use Rattle.pass.proofs.Carry.{carry}
 use Rattle.pass.proofs.After.{after}
 use Rattle.pass.proofs.Pass.{Says, says-then, says-within, pass-says}
@@ -34,7 +34,7 @@ module _ (W : Setting) (a : Tree) (k : Exit → PartReq) where
 
   once-says : (t : Table) → Says (passOnce W a k t) (after W (reentry t) a k (fresh t)) (walk W (reentry t) a k)
   unfolding passOnce
-  once-says t = says-then _ (says-within (W .asked ∷ k returned ∷ t) (k next) (fresh t)) (pass-says W (reentry t) a _ k (fresh t))
+  once-says t = says-then _ (says-within (askedOf W ∷ k returned ∷ t) (k next) (fresh t)) (pass-says W (reentry t) a _ k (fresh t))
 
   -- a pass was full, or the outcome is that of the rounds by definition
   Agree : Option Passed → Option Table → Type 0

@@ -6,7 +6,8 @@ use mathlib.Core.List.{[], _∷_}
 use mathlib.Core.Option.{Option, some, none as nothing}
 use mathlib.Core.Logic.{_⊎_}
 use Rattle.part.specs.PartReq.{PartReq}
-use Rattle.clearance.specs.Scope.{Scope}
+use Rattle.clearance.specs.Shape.{trim}
+use Rattle.clearance.specs.Scope.{Scope, resultShape}
 use Rattle.clearance.specs.Tree.{Tree}
 use Rattle.clearance.specs.Needs.{Exit, next, returned, Setting, Table, reentry, settle}
 use Rattle.clearance.specs.Judged.{blamedExpression, blamedStatement}
@@ -17,11 +18,15 @@ use Rattle.pass.specs.Pass.{Carried, Passed, on, full, _>>=_, within, pa
 unfoldable pub fresh : Table → Carried
 fresh t = record { table = t; fault = nothing; held = true; deep = false; wide = false }
 
+-- the part that is asked of the value, within its type
+unfoldable pub askedOf : Setting → PartReq
+askedOf W = trim (W .asked) (resultShape (W .scope) (W .scope .function .result))
+
 -- A pass over a body. Kept aside: the part that is asked of the value, the needs at a return, since only a return leaves a body before its end, and the
 -- table as it was.
 unfoldable pub passOnce : Setting → Tree → (Exit → PartReq) → Table → Passed
 passOnce W a k t =
-    let aside = W .asked ∷ k returned ∷ t in
+    let aside = askedOf W ∷ k returned ∷ t in
     within aside (k next) (fresh t) >>= λ c _. pass W (reentry t) a aside k c
 
 -- what is done with a pass's outcome: it is the last if each loop's needs held
