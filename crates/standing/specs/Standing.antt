@@ -1,0 +1,79 @@
+-- What a pass finds in memory, and what it leaves there, by the definition's `passInside`: for whatever is kept aside, as long as it reaches the cells that the
+-- slots reach.
+use Prim.Native.Nat.{ℕ, _+_, _-_, _<_, _≤_}
+use mathlib.Core.Path.{_≡_}
+use mathlib.Core.Bool.{Bool, true, false}
+use mathlib.Core.List.{List, _∷_, _++_}
+use lib.ListN.{length}
+use Rattle.part.specs.PartReq.{PartReq}
+use Rattle.module.specs.Decode.{optionOf}
+use Rattle.clearance.specs.Scope.{Scope}
+use Rattle.clearance.specs.Tree.{Tree}
+use Rattle.clearance.specs.Needs.{Exit, next, broke, continued, returned, Setting, reentry}
+use Rattle.pass.specs.Pass.{Carried, Passed, on, full, passInside}
+use Rattle.pass.specs.Checked.{askedOf}
+use Rattle.hold.specs.Hold.{heldBy, inSlot, Live, Reach}
+use Rattle.standing.specs.Slots.{tableSize, askedSlot, endSlot, asideOf, Beside, Ready}
+use Rattle.standing.specs.declared.passing.Passing.{Passing}
+use Rattle.standing.specs.declared.passing.Exits.{Exits}
+
+-- the setting of a function of which v is asked
+abbrev pub settingOf : Scope → PartReq → Setting
+settingOf S v = record { scope = S; asked = v }
+
+-- what is carried along, as the code has it
+pub record Carries (p : Passing) (c : Carried) : Type 0 where
+  pub fault : optionOf (p .fault) ≡ c .fault
+  pub held : p .held ≡ c .held
+  pub deep : p .deep ≡ c .deep
+  pub wide : p .wide ≡ c .wide
+
+-- the new table is the carried one
+pub record TableIn (s rs : List ℕ) (c : Carried) : Type 0 where
+  pub is : (j : ℕ) → j < tableSize → inSlot s rs (tableSize + j) ≡ reentry (c .table) j
+  pub short : length (c .table) ≤ tableSize
+
+-- the slots of the exits lie below the last one, and have no table's needs
+pub record Targets (n : ℕ) (x : Exits) : Type 0 where
+  pub broke : (endSlot ≤ x .broke) × (x .broke + 1 < n)
+  pub continued : (endSlot ≤ x .continued) × (x .continued + 1 < n)
+  pub returned : (endSlot ≤ x .returned) × (x .returned + 1 < n)
+
+-- What stands in memory: v is asked of the value, r are the loops' re-entry needs, `aside` is kept elsewhere, k stands after the statement by exit, and c is carried.
+pub record Stands (S : Scope) (v : PartReq) (r : ℕ → PartReq) (aside : List PartReq) (k : Exit → PartReq) (c : Carried) (s rs : List ℕ) (n : ℕ) (x : Exits) (p : Passing) :
+    Type 0 where
+  pub value : inSlot s rs askedSlot ≡ askedOf (settingOf S v)
+  pub old : (j : ℕ) → j < tableSize → inSlot s rs j ≡ r j
+  pub new : TableIn s rs c
+  pub hand : inSlot s rs (n - 1) ≡ k next
+  pub broke : inSlot s rs (x .broke) ≡ k broke
+  pub continued : inSlot s rs (x .continued) ≡ k continued
+  pub returned : inSlot s rs (x .returned) ≡ k returned
+  pub apart : Reach (asideOf s rs (n - 1)) aside
+  pub carries : Carries p c
+
+-- what a pass came to where it went on: the needs at hand, and what is carried
+pub record Went (o : Passed) (t us : List ℕ) (n : ℕ) (q : Passing) : Type 0 where
+  pub carried : Carried
+  pub is : o ≡ on carried (inSlot t us (n - 1))
+  pub carries : Carries q carried
+  pub new : TableIn t us carried
+
+-- what a pass came to
+pub record Came (o : Passed) (t us : List ℕ) (n : ℕ) (q : Passing) : Type 0 where
+  pub full : q .full ≡ true → o ≡ full
+  pub on : q .full ≡ false → Went o t us n q
+
+-- The memory s, rs became t, us: the slots below the last that are no new table's mean what they meant, and the last one has the needs at hand. What the pass comes to by
+-- definition is `o`.
+pub record Walked (S : Scope) (o : (v : PartReq) (r : ℕ → PartReq) (aside : List PartReq) (k : Exit → PartReq) (c : Carried) → Passed) (s rs : List ℕ) (n : ℕ) (x : Exits)
+    (p : Passing) (t us : List ℕ) (q : Passing) : Type 0 where
+  pub cells : length t ≡ length s
+  pub slots : length us ≡ length rs
+  pub ready : q .full ≡ false → Ready S t us n
+  pub kept : q .full ≡ false → (j : ℕ) → j + 1 < n → Beside j → inSlot t us j ≡ inSlot s rs j
+  pub is : (v : PartReq) (r : ℕ → PartReq) (aside : List PartReq) (k : Exit → PartReq) (c : Carried) → Stands S v r aside k c s rs n x p → Came (o v r aside k c) t us n q
+
+-- a statement's or a block's, without the points before and after it
+abbrev pub inside : Scope → Tree → (v : PartReq) (r : ℕ → PartReq) (aside : List PartReq) (k : Exit → PartReq) (c : Carried) → Passed
+inside S a v r aside k c = passInside (settingOf S v) r a aside k c
