@@ -2,15 +2,15 @@
 -- slots reach.
 use Prim.Native.Nat.{ℕ, _+_, _-_, _<_, _≤_}
 use mathlib.Core.Path.{_≡_}
-use mathlib.Core.Bool.{Bool, true, false}
+use mathlib.Core.Bool.{Bool, true, false, _||_}
 use mathlib.Core.List.{List, _∷_, _++_}
 use lib.ListN.{length}
-use Rattle.part.specs.PartReq.{PartReq}
+use Rattle.part.specs.PartReq.{PartReq, over}
 use Rattle.module.specs.Decode.{optionOf}
 use Rattle.clearance.specs.Scope.{Scope}
 use Rattle.clearance.specs.Tree.{Tree}
 use Rattle.clearance.specs.Needs.{Exit, next, broke, continued, returned, Setting, reentry}
-use Rattle.pass.specs.Pass.{Carried, Passed, on, full, passInside}
+use Rattle.pass.specs.Pass.{Carried, Passed, on, full, tooMany, passInside}
 use Rattle.pass.specs.Checked.{askedOf}
 use Rattle.hold.specs.Hold.{heldBy, inSlot, Live, Reach}
 use Rattle.standing.specs.Slots.{tableSize, askedSlot, endSlot, asideOf, Beside, Ready}
@@ -64,6 +64,10 @@ pub record Came (o : Passed) (t us : List ℕ) (n : ℕ) (q : Passing) : Type 0 
   pub full : q .full ≡ true → o ≡ full
   pub on : q .full ≡ false → Went o t us n q
 
+-- the slots below the last of n that are no new table's mean what they meant
+pub record Keeps (s rs t us : List ℕ) (n : ℕ) : Type 0 where
+  pub is : (j : ℕ) → j + 1 < n → Beside j → inSlot t us j ≡ inSlot s rs j
+
 -- The memory s, rs became t, us: the slots below the last that are no new table's mean what they meant, and the last one has the needs at hand. What the pass comes to by
 -- definition is `o`.
 pub record Walked (S : Scope) (o : (v : PartReq) (r : ℕ → PartReq) (aside : List PartReq) (k : Exit → PartReq) (c : Carried) → Passed) (s rs : List ℕ) (n : ℕ) (x : Exits)
@@ -71,8 +75,30 @@ pub record Walked (S : Scope) (o : (v : PartReq) (r : ℕ → PartReq) (aside : 
   pub cells : length t ≡ length s
   pub slots : length us ≡ length rs
   pub ready : q .full ≡ false → Ready S t us n
-  pub kept : q .full ≡ false → (j : ℕ) → j + 1 < n → Beside j → inSlot t us j ≡ inSlot s rs j
+  pub kept : q .full ≡ false → Keeps s rs t us n
   pub is : (v : PartReq) (r : ℕ → PartReq) (aside : List PartReq) (k : Exit → PartReq) (c : Carried) → Stands S v r aside k c s rs n x p → Came (o v r aside k c) t us n q
+
+-- what is carried on with the needs m, or the bound is passed
+abbrev pub passedBy : Bool → Carried → PartReq → Passed
+passedBy true c m = on c m
+passedBy false c m = full
+
+-- A step from the needs at hand, which changes no table: `step aside n c` by definition.
+pub record Stepped (S : Scope) (step : List PartReq → PartReq → Carried → Passed) (s rs : List ℕ) (n : ℕ) (t us : List ℕ) (r : Bool) : Type 0 where
+  pub cells : length t ≡ length s
+  pub slots : length us ≡ length rs
+  pub ready : r ≡ true → Ready S t us n
+  pub kept : r ≡ true → (j : ℕ) → j + 1 < n → inSlot t us j ≡ inSlot s rs j
+  pub is : (aside : List PartReq) (c : Carried) → Reach (heldBy s rs n) (inSlot s rs (n - 1) ∷ (aside ++ c .table)) →
+      step aside (inSlot s rs (n - 1)) c ≡ passedBy r c (inSlot t us (n - 1))
+
+-- q is p at a point with the needs m
+pub record Noted (m : PartReq) (p q : Passing) : Type 0 where
+  pub full : q .full ≡ p .full
+  pub fault : q .fault ≡ p .fault
+  pub held : q .held ≡ p .held
+  pub deep : q .deep ≡ over m || p .deep
+  pub wide : q .wide ≡ tooMany m || p .wide
 
 -- a statement's or a block's, without the points before and after it
 abbrev pub inside : Scope → Tree → (v : PartReq) (r : ℕ → PartReq) (aside : List PartReq) (k : Exit → PartReq) (c : Carried) → Passed
