@@ -1,2 +1,3 @@
 pub mod Aside
 pub mod Stands
+pub mod Walks

@@ -10,7 +10,7 @@ use Rattle.module.specs.Decode.{optionOf}
 use Rattle.clearance.specs.Scope.{Scope}
 use Rattle.clearance.specs.Tree.{Tree}
 use Rattle.clearance.specs.Needs.{Exit, next, broke, continued, returned, Setting, reentry}
-use Rattle.pass.specs.Pass.{Carried, Passed, on, full, tooMany, passInside}
+use Rattle.pass.specs.Pass.{Carried, Passed, on, full, tooMany, pointed, passInside}
 use Rattle.pass.specs.Checked.{askedOf}
 use Rattle.hold.specs.Hold.{heldBy, inSlot, Live, Reach}
 use Rattle.standing.specs.Slots.{tableSize, askedSlot, endSlot, asideOf, Beside, Ready}
@@ -68,15 +68,26 @@ pub record Came (o : Passed) (t us : List ℕ) (n : ℕ) (q : Passing) : Type 0 
 pub record Keeps (s rs t us : List ℕ) (n : ℕ) : Type 0 where
   pub is : (j : ℕ) → j + 1 < n → Beside j → inSlot t us j ≡ inSlot s rs j
 
--- The memory s, rs became t, us: the slots below the last that are no new table's mean what they meant, and the last one has the needs at hand. What the pass comes to by
--- definition is `o`.
-pub record Walked (S : Scope) (o : (v : PartReq) (r : ℕ → PartReq) (aside : List PartReq) (k : Exit → PartReq) (c : Carried) → Passed) (s rs : List ℕ) (n : ℕ) (x : Exits)
+-- what is walked: a statement or a block, without the points before and after it or with them; or a step from the needs at hand, which changes no table
+pub data Stretch : Type 0 where
+  inside : Tree → Stretch
+  around : Tree → Stretch
+  step : (List PartReq → PartReq → Carried → Passed) → Stretch
+
+-- what that comes to by definition
+abbrev pub outcome : Scope → Stretch → (v : PartReq) → (r : ℕ → PartReq) → (aside : List PartReq) → (Exit → PartReq) → Carried → Passed
+outcome S (inside a) v r aside k c = passInside (settingOf S v) r a aside k c
+outcome S (around a) v r aside k c = pointed (k next) (passInside (settingOf S v) r a aside k) c
+outcome S (step f) v r aside k c = f aside (k next) c
+
+-- The memory s, rs became t, us: the slots below the last that are no new table's mean what they meant, and the last one has the needs at hand.
+pub record Walked (S : Scope) (o : Stretch) (s rs : List ℕ) (n : ℕ) (x : Exits)
     (p : Passing) (t us : List ℕ) (q : Passing) : Type 0 where
   pub cells : length t ≡ length s
   pub slots : length us ≡ length rs
   pub ready : q .full ≡ false → Ready S t us n
   pub kept : q .full ≡ false → Keeps s rs t us n
-  pub is : (v : PartReq) (r : ℕ → PartReq) (aside : List PartReq) (k : Exit → PartReq) (c : Carried) → Stands S v r aside k c s rs n x p → Came (o v r aside k c) t us n q
+  pub is : (v : PartReq) (r : ℕ → PartReq) (aside : List PartReq) (k : Exit → PartReq) (c : Carried) → Stands S v r aside k c s rs n x p → Came (outcome S o v r aside k c) t us n q
 
 -- what is carried on with the needs m, or the bound is passed
 abbrev pub passedBy : Bool → Carried → PartReq → Passed
@@ -99,7 +110,3 @@ pub record Noted (m : PartReq) (p q : Passing) : Type 0 where
   pub held : q .held ≡ p .held
   pub deep : q .deep ≡ over m || p .deep
   pub wide : q .wide ≡ tooMany m || p .wide
-
--- a statement's or a block's, without the points before and after it
-abbrev pub inside : Scope → Tree → (v : PartReq) (r : ℕ → PartReq) (aside : List PartReq) (k : Exit → PartReq) (c : Carried) → Passed
-inside S a v r aside k c = passInside (settingOf S v) r a aside k c
