@@ -1,3 +1,4 @@
 pub mod Aside
 pub mod Stands
 pub mod Walks
+pub mod Readies
