@@ -2,3 +2,4 @@ pub mod Aside
 pub mod Stands
 pub mod Walks
 pub mod Readies
+pub mod Arms

@@ -10,6 +10,7 @@ use Rattle.module.specs.Decode.{optionOf}
 use Rattle.clearance.specs.Scope.{Scope}
 use Rattle.clearance.specs.Tree.{Tree}
 use Rattle.clearance.specs.Needs.{Exit, next, broke, continued, returned, Setting, reentry}
+use Rattle.clearance.specs.Judged.{lower}
 use Rattle.pass.specs.Pass.{Carried, Passed, on, full, tooMany, pointed, passInside}
 use Rattle.pass.specs.Checked.{askedOf}
 use Rattle.hold.specs.Hold.{heldBy, inSlot, Live, Reach}
@@ -110,3 +111,20 @@ pub record Noted (m : PartReq) (p q : Passing) : Type 0 where
   pub held : q .held ≡ p .held
   pub deep : q .deep ≡ over m || p .deep
   pub wide : q .wide ≡ tooMany m || p .wide
+
+-- The last two of n + 1 slots become one: `f aside m a c` by definition, with m in the former of them and a, the needs at hand, in the latter.
+pub record Closed (S : Scope) (f : List PartReq → PartReq → PartReq → Carried → Passed) (s rs : List ℕ) (n : ℕ) (t us : List ℕ) (r : Bool) : Type 0 where
+  pub cells : length t ≡ length s
+  pub slots : length us ≡ length rs
+  pub ready : r ≡ true → Ready S t us n
+  pub kept : r ≡ true → (j : ℕ) → j + 1 < n → inSlot t us j ≡ inSlot s rs j
+  pub is : (aside : List PartReq) (c : Carried) → Reach (heldBy s rs (n + 1)) (inSlot s rs n ∷ ((inSlot s rs (n - 1) ∷ aside) ++ c .table)) →
+      f aside (inSlot s rs (n - 1)) (inSlot s rs n) c ≡ passedBy r c (inSlot t us (n - 1))
+
+-- q is p with the statement l, which breaks its rule
+pub record Blames (l : ℕ) (p q : Passing) : Type 0 where
+  pub full : q .full ≡ p .full
+  pub fault : optionOf (q .fault) ≡ lower l (optionOf (p .fault))
+  pub held : q .held ≡ p .held
+  pub deep : q .deep ≡ p .deep
+  pub wide : q .wide ≡ p .wide
