@@ -28,6 +28,9 @@ came-on e w = record { full = λ g. never (sym e ∙ g); on = λ _. w }
 pub came-is : {o o′ : Passed} {t us : List ℕ} {n : ℕ} {q : Passing} → o ≡ o′ → Came o t us n q → Came o′ t us n q
 came-is e w = rw e at w
 
+pub went-is : {o o′ : Passed} {t us : List ℕ} {n : ℕ} {q : Passing} → o ≡ o′ → Went o t us n q → Went o′ t us n q
+went-is e w = record { carried = w .carried; is = sym e ∙ w .is; carries = w .carries; new = w .new }
+
 module _ {S : Scope} {s rs : List ℕ} {n : ℕ} {x : Exits} where
   -- the bound was passed
   pub walked-full : {o : Stretch} {p : Passing} {t us : List ℕ} {q : Passing} → length t ≡ length s → length us ≡ length rs → q .full ≡ true →
