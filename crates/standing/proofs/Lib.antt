@@ -3,3 +3,4 @@ pub mod Stands
 pub mod Walks
 pub mod Readies
 pub mod Arms
+pub mod Taken

@@ -7,11 +7,12 @@ use mathlib.Core.List.{List, _∷_, _++_}
 use lib.ListN.{length}
 use Rattle.part.specs.PartReq.{PartReq, over}
 use Rattle.module.specs.Decode.{optionOf}
+use Rattle.module.specs.Module.{ExpressionHandle}
 use Rattle.clearance.specs.Scope.{Scope}
 use Rattle.clearance.specs.Tree.{Tree}
-use Rattle.clearance.specs.Needs.{Exit, next, broke, continued, returned, Setting, reentry}
+use Rattle.clearance.specs.Needs.{ofValue, Exit, next, broke, continued, returned, Setting, reentry}
 use Rattle.clearance.specs.Judged.{lower}
-use Rattle.pass.specs.Pass.{Carried, Passed, on, full, tooMany, pointed, passInside}
+use Rattle.pass.specs.Pass.{Carried, Passed, on, full, tooMany, pointed, asking, passInside}
 use Rattle.pass.specs.Checked.{askedOf}
 use Rattle.hold.specs.Hold.{heldBy, inSlot, Live, Reach}
 use Rattle.standing.specs.Slots.{tableSize, askedSlot, endSlot, asideOf, Beside, Ready}
@@ -128,3 +129,13 @@ pub record Blames (l : ℕ) (p q : Passing) : Type 0 where
   pub held : q .held ≡ p .held
   pub deep : q .deep ≡ p .deep
   pub wide : q .wide ≡ p .wide
+
+-- a step that needs what is asked of the value e, for whatever was asked
+pub record Valued (S : Scope) (e : ExpressionHandle) (s rs : List ℕ) (n : ℕ) (t us : List ℕ) (r : Bool) : Type 0 where
+  pub cells : length t ≡ length s
+  pub slots : length us ≡ length rs
+  pub ready : r ≡ true → Ready S t us n
+  pub kept : r ≡ true → (j : ℕ) → j + 1 < n → inSlot t us j ≡ inSlot s rs j
+  pub is : (v : PartReq) → inSlot s rs askedSlot ≡ askedOf (settingOf S v) →
+      (aside : List PartReq) (c : Carried) → Reach (heldBy s rs n) (inSlot s rs (n - 1) ∷ (aside ++ c .table)) →
+      asking S aside (ofValue e v) (inSlot s rs (n - 1)) c ≡ passedBy r c (inSlot t us (n - 1))
