@@ -4,3 +4,4 @@ pub mod Walks
 pub mod Readies
 pub mod Arms
 pub mod Taken
+pub mod Cases

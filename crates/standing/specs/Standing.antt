@@ -2,17 +2,18 @@
 -- slots reach.
 use Prim.Native.Nat.{ℕ, _+_, _-_, _<_, _≤_}
 use mathlib.Core.Path.{_≡_}
-use mathlib.Core.Bool.{Bool, true, false, _||_}
+use mathlib.Core.Bool.{Bool, true, false, not, _&&_, _||_}
 use mathlib.Core.List.{List, _∷_, _++_}
+use mathlib.Core.Option.{Option}
 use lib.ListN.{length}
-use Rattle.part.specs.PartReq.{PartReq, over}
+use Rattle.part.specs.PartReq.{PartReq, add, contains, over}
 use Rattle.module.specs.Decode.{optionOf}
 use Rattle.module.specs.Module.{ExpressionHandle}
 use Rattle.clearance.specs.Scope.{Scope}
 use Rattle.clearance.specs.Tree.{Tree}
-use Rattle.clearance.specs.Needs.{ofValue, Exit, next, broke, continued, returned, Setting, reentry}
+use Rattle.clearance.specs.Needs.{ofValue, Exit, next, broke, continued, returned, upon, Setting, reentry}
 use Rattle.clearance.specs.Judged.{lower}
-use Rattle.pass.specs.Pass.{Carried, Passed, on, full, tooMany, pointed, asking, passInside}
+use Rattle.pass.specs.Pass.{Carried, Passed, on, full, tooMany, pointed, asking, turningOn, passCases, within, passInside}
 use Rattle.pass.specs.Checked.{askedOf}
 use Rattle.hold.specs.Hold.{heldBy, inSlot, Live, Reach}
 use Rattle.standing.specs.Slots.{tableSize, askedSlot, endSlot, asideOf, Beside, Ready}
@@ -70,16 +71,19 @@ pub record Came (o : Passed) (t us : List ℕ) (n : ℕ) (q : Passing) : Type 0 
 pub record Keeps (s rs t us : List ℕ) (n : ℕ) : Type 0 where
   pub is : (j : ℕ) → j + 1 < n → Beside j → inSlot t us j ≡ inSlot s rs j
 
--- what is walked: a statement or a block, without the points before and after it or with them; or a step from the needs at hand, which changes no table
+-- what is walked: a statement or a block, without the points before and after it or with them; so many cases of a switch, with the needs after it where a break
+-- leads; or a step from the needs at hand, which changes no table
 pub data Stretch : Type 0 where
   inside : Tree → Stretch
   around : Tree → Stretch
+  cases : ℕ → (ℕ → Tree) → Stretch
   step : (List PartReq → PartReq → Carried → Passed) → Stretch
 
 -- what that comes to by definition
 abbrev pub outcome : Scope → Stretch → (v : PartReq) → (r : ℕ → PartReq) → (aside : List PartReq) → (Exit → PartReq) → Carried → Passed
 outcome S (inside a) v r aside k c = passInside (settingOf S v) r a aside k c
 outcome S (around a) v r aside k c = pointed (k next) (passInside (settingOf S v) r a aside k) c
+outcome S (cases i f) v r aside k c = passCases i (λ j aside′. pointed (k broke) (passInside (settingOf S v) r (f j) aside′ (upon (k broke) k))) aside c
 outcome S (step f) v r aside k c = f aside (k next) c
 
 -- The memory s, rs became t, us: the slots below the last that are no new table's mean what they meant, and the last one has the needs at hand.
@@ -139,3 +143,28 @@ pub record Valued (S : Scope) (e : ExpressionHandle) (s rs : List ℕ) (n : ℕ)
   pub is : (v : PartReq) → inSlot s rs askedSlot ≡ askedOf (settingOf S v) →
       (aside : List PartReq) (c : Carried) → Reach (heldBy s rs n) (inSlot s rs (n - 1) ∷ (aside ++ c .table)) →
       asking S aside (ofValue e v) (inSlot s rs (n - 1)) c ≡ passedBy r c (inSlot t us (n - 1))
+
+-- The loop l begins: the slot n has what stands after its continuing block.
+pub record Begun (S : Scope) (l : ℕ) (breakIf : Option ExpressionHandle) (s rs : List ℕ) (n : ℕ) (t us : List ℕ) (r : Bool) : Type 0 where
+  pub cells : length t ≡ length s
+  pub slots : length us ≡ length rs
+  pub ready : r ≡ true → Ready S t us (n + 1)
+  pub kept : r ≡ true → (j : ℕ) → j < n → inSlot t us j ≡ inSlot s rs j
+  pub is : (aside : List PartReq) (c : Carried) → Reach (heldBy s rs n) (inSlot s rs (n - 1) ∷ (aside ++ c .table)) →
+      turningOn S (inSlot s rs (n - 1) ∷ aside) (inSlot s rs l) breakIf (inSlot s rs (n - 1)) c ≡ passedBy r c (inSlot t us n)
+
+-- The loop l ends: what stands before its body, in the slot n + 1, is at hand, and is joined to the new table.
+pub record Entered (S : Scope) (l : ℕ) (s rs : List ℕ) (n : ℕ) (p : Passing) (t us : List ℕ) (q : Passing) : Type 0 where
+  pub cells : length t ≡ length s
+  pub slots : length us ≡ length rs
+  pub ready : q .full ≡ false → Ready S t us n
+  pub kept : q .full ≡ false → Keeps s rs t us n
+  pub hand : q .full ≡ false → inSlot t us (n - 1) ≡ inSlot s rs (n + 1)
+  pub joined : q .full ≡ false → inSlot t us (tableSize + l) ≡ add (inSlot s rs (n + 1)) (inSlot s rs (tableSize + l))
+  pub others : q .full ≡ false → (j : ℕ) → j < tableSize → (j ≡ l → ⊥) → inSlot t us (tableSize + j) ≡ inSlot s rs (tableSize + j)
+  pub fault : q .full ≡ false → q .fault ≡ p .fault
+  pub held : q .full ≡ false → q .held ≡ contains (inSlot s rs l) (inSlot s rs (n + 1)) && p .held
+  pub deep : q .full ≡ false → q .deep ≡ p .deep
+  pub wide : q .full ≡ false → q .wide ≡ p .wide
+  pub is : (aside : List PartReq) (c : Carried) → Reach (asideOf s rs (n - 1)) aside → TableIn s rs c →
+      within (add (inSlot s rs (n + 1)) (inSlot s rs (tableSize + l)) ∷ aside) (inSlot s rs (n + 1)) c ≡ passedBy (not (q .full)) c (inSlot s rs (n + 1))
