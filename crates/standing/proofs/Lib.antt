@@ -5,3 +5,4 @@ pub mod Readies
 pub mod Arms
 pub mod Taken
 pub mod Cases
+pub mod Loops
