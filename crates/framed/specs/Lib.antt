@@ -1,0 +1,3 @@
+pub mod Given
+pub mod Same
+pub mod Places
