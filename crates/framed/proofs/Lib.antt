@@ -1,2 +1,5 @@
 pub mod Solid
 pub mod Given
+pub mod Same
+pub mod Slots
+pub mod Paths

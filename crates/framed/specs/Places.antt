@@ -4,10 +4,9 @@ use mathlib.Core.Path.{_≡_}
 use mathlib.Core.Bool.{false}
 use mathlib.Core.List.{List, [], _++_}
 use lib.ListN.{length, getD}
-use Rattle.module.specs.Module.{TypeHandle, ExpressionHandle}
+use Rattle.module.specs.Module.{TypeHandle, TypeInner}
 use Rattle.clearance.specs.Shape.{isVoid, shapeAt}
-use Rattle.clearance.specs.Scope.{Scope, shapeOf, unfoldType, Slot, global, local, argument, result, evaluated, slot, typeOf, argumentType, frame, Place, pathOf, indexes, target}
-use Rattle.clearance.specs.Judged.{pointee}
+use Rattle.clearance.specs.Scope.{Scope, shapeOf, unfoldType, Slot, global, local, argument, result, evaluated, slot, typeOf, argumentType, frame, Place, Path, indexes, target}
 use Rattle.framed.specs.Same.{SameShape}
 
 abbrev pub There : Scope → Slot → Type 0
@@ -32,7 +31,7 @@ pub record Placed (S : Scope) (q : Place) : Type 0 where
   pub is : q ≡ slot home ++ path
   pub within : isVoid (shapeAt (frame S) q) ≡ false
 
--- Where a path leads: to a place within a variable; and with no dynamic index, to what has the shape of its pointee.
-pub record Landed (S : Scope) (e : ExpressionHandle) : Type 0 where
-  pub place : Placed S (target (pathOf S e))
-  pub exact : indexes (pathOf S e .steps) ≡ [] → SameShape (shapeAt (frame S) (target (pathOf S e))) (unfoldType (shapeOf S) (pointee S e))
+-- Where a path leads that stands for something of the type x: to a place within a slot; and with no dynamic index, to what has that type's shape.
+pub record Landed (S : Scope) (p : Path) (x : TypeInner) : Type 0 where
+  pub place : Placed S (target p)
+  pub exact : indexes (p .steps) ≡ [] → SameShape (shapeAt (frame S) (target p)) (unfoldType (shapeOf S) x)
