@@ -3,3 +3,4 @@ pub mod Given
 pub mod Same
 pub mod Slots
 pub mod Paths
+pub mod Takes

@@ -29,10 +29,10 @@ slots-member n f k l =
 
 module _ (S : Scope) where
   -- a kind's map
-  abbrev top : ℕ
+  abbrev pub top : ℕ
   top = 5 + length (S .function .expressions) / 32
 
-  frame-member : (k : ℕ) → k < top → member (frame S) (variable k) ≡ kindShape S k
+  pub frame-member : (k : ℕ) → k < top → member (frame S) (variable k) ≡ kindShape S k
   unfolding frame
   frame-member k l = slots-member top (kindShape S) k l
 
@@ -40,7 +40,7 @@ module _ (S : Scope) where
   unfolding shapeAt
   in-slot k j l n f e m = ap (λ (s : Shape). member s (variable j)) (frame-member k l ∙ e) ∙ slots-member n f j m
 
-  kind-evaluated : (b : ℕ) → kindShape S (4 + b) ≡ slots 32 (λ e. shapeOf S (typeOf S (32 * b + e)))
+  pub kind-evaluated : (b : ℕ) → kindShape S (4 + b) ≡ slots 32 (λ e. shapeOf S (typeOf S (32 * b + e)))
   kind-evaluated b = let z : 4 + b ≡ suc (suc (suc (suc b))) = omega arith in ap (kindShape S) z ∙ unfold kindShape in refl
 
   pub slot-shape : (x : Slot) → There S x → shapeAt (frame S) (slot x) ≡ shapeOf S (slotType S x)
