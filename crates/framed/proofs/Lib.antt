@@ -4,3 +4,5 @@ pub mod Same
 pub mod Slots
 pub mod Paths
 pub mod Takes
+pub mod Framed
+pub mod Kept

@@ -49,14 +49,14 @@ module _ (S : Scope) where
   home-solid result l = absurd l
   home-solid (evaluated e) l = rw (frame-member S (4 + e / 32) (omega arith), kind-evaluated S (e / 32)) (slots-solid _ _ (λ j. solid S _))
 
-  frame-split : (n : PartReq) → Framed n → split (frame S) n ≡ n
+  pub frame-split : (n : PartReq) → Framed n → split (frame S) n ≡ n
   unfolding frame slots split
   frame-split all f = absurd f
   frame-split exist f = refl
   frame-split none f = refl
   frame-split (more i p r) f = refl
 
-  frame-opens : isWhole (frame S) ≡ false
+  pub frame-opens : isWhole (frame S) ≡ false
   unfolding frame slots
   frame-opens = refl
 

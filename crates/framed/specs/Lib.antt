@@ -1,3 +1,4 @@
 pub mod Given
 pub mod Same
 pub mod Places
+pub mod Kept
