@@ -1,13 +1,13 @@
 -- The operations on needs never make a need of all of the frame or of one of its maps: by recursion along the need, as each is defined.
-use Prim.Native.Nat.{ℕ, zero, suc, _+_, _<_, _≤_}
+use Prim.Native.Nat.{ℕ, suc, _<_}
 use native.Mathlib.Omega.{arith}
-use mathlib.Core.Path.{_≡_, refl, sym, ap, _∙_}
+use mathlib.Core.Path.{_≡_, refl, sym, ap}
 use mathlib.Core.Bool.{Bool, true, false, cond}
 use mathlib.Core.List.{List, [], _∷_}
 use lib.Dec.{ltb}
 use borrow.Author.Tests.{lt-ltb}
 use Rattle.part.specs.PartReq.{PartReq, all, exist, none, more, isAll, merge, onNone, add, spine}
-use Rattle.part.specs.Ascending.{Ascending, From}
+use Rattle.part.specs.Ascending.{Ascending}
 use Rattle.part.proofs.Equations.{before as less, after as greater, at as level, way, add-lt, add-gt, add-eq, never}
 use Rattle.part.proofs.Ascending.{from-ascending}
 use Rattle.clearance.specs.Shape.{Shape, number, void, struct, array, member, isWhole, under, keep, trim, split, alter, takeOut}

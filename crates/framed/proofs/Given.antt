@@ -1,17 +1,14 @@
 -- What reading and the clearance's judgement give: the premises of the laws here.
-use Prim.Native.Nat.{ℕ, _+_, _<_}
-use native.Mathlib.Omega.{arith}
-use mathlib.Core.Path.{_≡_, subst}
-use mathlib.Core.Bool.{true}
+use Prim.Native.Nat.{ℕ, _<_}
+use mathlib.Core.Path.{_≡_}
 use mathlib.Core.List.{List}
 use mathlib.Core.Option.{none as nothing}
 use lib.ListN.{length}
-use Rattle.module.specs.Module.{ExpressionHandle}
 use Rattle.module.specs.File.{accepted, readModule}
 use Rattle.module.specs.Tables.{moduleOf}
 use Rattle.valid.proofs.Accepted.{valid}
 use Rattle.clearance.specs.Scope.{Scope}
-use Rattle.clearance.specs.Judged.{judgedExpression, blamedExpression}
+use Rattle.clearance.specs.Judged.{blamedExpression}
 use Rattle.clearance.proofs.Blamed.{expressions-exactly}
 use Rattle.clearance.proofs.JudgedExpressions.{expression-exactly}
 use Rattle.judge.specs.Given.{scopeAt}

@@ -1,14 +1,14 @@
 -- Asks and acts keep needs what they are: what is asked of a value stands in a slot, what is asked of a place below a variable, and so does a whole walk. By cases of the
 -- expression, then along the tree.
-use Prim.Native.Nat.{ℕ, zero, suc, _+_, _<_}
+use Prim.Native.Nat.{ℕ, zero, suc}
 use native.Mathlib.Omega.{arith}
-use mathlib.Core.Path.{_≡_, refl, sym, ap, subst, _∙_}
+use mathlib.Core.Path.{_≡_, subst}
 use mathlib.Core.Bool.{Bool, true, false, cond}
 use mathlib.Core.List.{List, [], _∷_, _++_, map}
 use mathlib.Core.Option.{Option, some as present, none as nothing}
-use mathlib.Core.Logic.{_⊎_, inl, inr}
+use mathlib.Core.Logic.{inl, inr}
 use lib.ListN.{length}
-use Rattle.part.specs.PartReq.{PartReq, all, none, more, isAll, getSubpart, add}
+use Rattle.part.specs.PartReq.{PartReq, none, more, isAll, add}
 use Rattle.part.specs.Ascending.{Ascending}
 use Rattle.part.proofs.Equations.{never}
 use Rattle.module.specs.Module.{ExpressionHandle, Expression}
@@ -17,17 +17,17 @@ use Rattle.module.specs.Module.{FunctionArgument, GlobalVariable, LocalVariable
 use Rattle.module.specs.Module.{Derivative, Relational, Math, As, CallResult, AtomicResult, ArrayLength, RayQueryProceedResult}
 use Rattle.module.specs.Module.{RayQueryGetIntersection, Override, SubgroupBallotResult, SubgroupOperationResult, RayQueryVertexPositions}
 use Rattle.module.proofs.Knot.{knot-all}
-use Rattle.clearance.specs.Shape.{orNone, under, some, trim, hit}
+use Rattle.clearance.specs.Shape.{under, some, trim, hit}
 use Rattle.clearance.specs.Scope.{Scope, variable, slot, typed, Path, nowhere, further, stepFrom, pathOf, front, indexes, target, frame, evaluated, Operand, whole, same}
 use Rattle.clearance.specs.Scope.{Arm, fixed, argued, pointing, operator, accessIndex, access, swizzle, compose, joined, load, unjudged, arm, Source, given, from, sourceOf, source}
 use Rattle.clearance.specs.Tree.{Act, emit, store, Tree, nop, seq, act, branch, switch, loop, break, continue, return, unmarked}
 use Rattle.clearance.specs.Needs.{Ask, ofValue, ofPlace, askOperand, askWhole, askPicked, askComponents, askSteps, asks, gives, needAt, needFrom, need, needs, overlap, without, storing, giving, before, wholly}
 use Rattle.clearance.specs.Needs.{Exit, next, broke, continued, returned, upon, outBreak, outContinue, ofCase, ofContinuing, ofBody, union, obeys, kept, turning, valued, through, afterContinuing, Setting, Table, reentry, joinAt, walk, afterBody, sweep}
 use Rattle.clearance.specs.Verdict.{Request, ending}
-use Rattle.clearance.specs.IsNeed.{IsNeed, AscendingRequest}
+use Rattle.clearance.specs.IsNeed.{AscendingRequest}
 use Rattle.clearance.proofs.Small.{cases}
 use Rattle.clearance.proofs.Ascending.{under-ok, sub-ok, below-ok, trim-ok, out-ok, add-need, trim-need, none-need}
-use Rattle.pass.specs.Pass.{Carried, on, full, acting}
+use Rattle.pass.specs.Pass.{Carried, on, acting}
 use Rattle.pass.proofs.Pass.{Says, says-acting}
 use Rattle.framed.specs.Kept.{Kept, Deep, AskFine, AsksFine}
 use Rattle.framed.proofs.Framed.{add-framed, trim-framed, under-framed, without-framed}

@@ -6,3 +6,4 @@ pub mod Paths
 pub mod Takes
 pub mod Framed
 pub mod Kept
+pub mod Width

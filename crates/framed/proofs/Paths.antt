@@ -1,22 +1,21 @@
 -- Where the paths of a judged function lead: by induction along a path's indexes, each within what its base leads to.
-use Prim.Native.Nat.{ℕ, zero, suc, _<_}
+use Prim.Native.Nat.{ℕ, _<_}
 use native.Mathlib.Omega.{arith}
 use mathlib.Core.Path.{_≡_, refl, sym, ap, subst, _∙_}
-use mathlib.Core.Bool.{Bool, true, false, cond, not, _&&_}
+use mathlib.Core.Bool.{true, false, not}
 use mathlib.Core.List.{List, [], _∷_, _++_}
-use mathlib.Core.Option.{Option, some, none as nothing}
-use lib.Dec.{eqb}
-use lib.ListN.{length, getD}
+use mathlib.Core.Option.{some}
+use lib.ListN.{length}
 use borrow.Author.Tests.{ne-eqb, lt-ltb}
 use Rattle.part.proofs.Equations.{never}
-use Rattle.module.specs.Module.{TypeHandle, TypeInner, Scalar, Vector, Matrix, Array, Struct, ExpressionHandle, Expression, AccessIndex, Access, GlobalVariable, LocalVariable}
+use Rattle.module.specs.Module.{TypeHandle, TypeInner, ExpressionHandle, Expression, AccessIndex, Access}
 use Rattle.module.specs.Knot.{below}
 use Rattle.module.proofs.Knot.{knot-is, below-lt}
 use Rattle.valid.specs.Valid.{NamesBelow}
 use Rattle.clearance.specs.Shape.{Shape, array, member, isVoid, shapeAt}
 use Rattle.clearance.specs.Scope.{Scope, inner, vectorShape, elements, unfoldType, shapeOf, typed, noExpression, Slot, global, local, slot, frame, Step, at, by, Path, nowhere, further}
 use Rattle.clearance.specs.Scope.{stepFrom, pathOf, front, indexes, target, isPath, isPointer, typeOf}
-use Rattle.clearance.specs.Judged.{partType, pointee, same, samePart, fitsIndex, fitsVariable, fitsExpression, holdsUnsized, judgedExpression}
+use Rattle.clearance.specs.Judged.{partType, pointee, same, fitsIndex, fitsVariable, fitsExpression, holdsUnsized, judgedExpression}
 use Rattle.clearance.specs.IsJudged.{Declares, global as aGlobal, local as aLocal, IndexOf, constant, dynamic, IsPath, ends, goesOn, Part, component, column, element, member as aMember}
 use Rattle.clearance.proofs.Small.{both-true}
 use Rattle.clearance.proofs.Values.{nil-right, regroup}
@@ -28,7 +27,7 @@ use Rattle.framed.specs.Given.{Lowered, Judged}
 use Rattle.framed.specs.Same.{SameShape}
 use Rattle.framed.specs.Places.{There, slotType, Placed, Landed}
 use Rattle.framed.proofs.Solid.{solid, unfold-solid}
-use Rattle.framed.proofs.Same.{same-refl, same-sym, same-trans, same-member, same-void, member-in, shape-same, fits-shape}
+use Rattle.framed.proofs.Same.{same-refl, same-trans, same-member, same-void, member-in, shape-same, fits-shape}
 use Rattle.framed.proofs.Slots.{shape-on, slot-shape, slot-placed}
 
 -- One step more

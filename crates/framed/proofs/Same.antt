@@ -6,20 +6,17 @@ use native.Mathlib.Decide.{decLt}
 use mathlib.Core.Path.{_≡_, refl, sym, ap, _∙_, fun-ext}
 use mathlib.Core.Bool.{Bool, true, false, cond}
 use mathlib.Core.List.{List, [], _∷_, map}
-use lib.Dec.{ltb, eqb}
+use lib.Dec.{ltb}
 use lib.ListN.{length, getD}
 use borrow.Author.Tests.{lt-ltb, le-ltb}
 use Rattle.part.specs.PartReq.{PartReq, all, exist, none, more, spine}
-use Rattle.part.proofs.Equations.{never}
 use Rattle.module.specs.Module.{TypeHandle, TypeInner, Scalar, Vector, Matrix, Atomic, Pointer, Array, Struct, BindingArray, Opaque, Member}
 use Rattle.module.specs.Knot.{below}
 use Rattle.module.proofs.Knot.{knot-is, below-lt}
-use Rattle.valid.specs.Valid.{EachBelow}
 use Rattle.clearance.specs.Shape.{Shape, number, void, struct, array, member, isVoid, shapeAt}
-use Rattle.clearance.specs.Scope.{Scope, inner, memberTypes, vectorShape, elements, unfoldType, shapeOf, kind, bases, pairwise, alikeInner, alike}
+use Rattle.clearance.specs.Scope.{Scope, inner, memberTypes, vectorShape, elements, unfoldType, shapeOf, kind, bases, alike}
 use Rattle.clearance.specs.Judged.{same}
 use Rattle.clearance.specs.IsNeed.{Tidy}
-use Rattle.clearance.proofs.Small.{both-true}
 use Rattle.judge.specs.Alike.{Lower}
 use Rattle.judge.proofs.Pairwise.{pairwise-long, pairwise-at, equal-lists}
 use Rattle.judge.proofs.Equivalence.{inner-parts}

@@ -1,19 +1,17 @@
 -- What stands in a slot has the shape of the slot's type, and so has a place within it: by the frame's definition, two steps down.
-use Prim.Native.Nat.{ℕ, zero, suc, _+_, _-_, _*_, _/_, _%_, _<_, _≤_}
+use Prim.Native.Nat.{ℕ, suc, _+_, _-_, _*_, _/_, _%_, _<_}
 use native.Mathlib.Omega.{arith}
-use mathlib.Core.Path.{_≡_, refl, sym, ap, subst, _∙_}
+use mathlib.Core.Path.{_≡_, refl, sym, ap, _∙_}
 use mathlib.Core.Bool.{false}
 use mathlib.Core.List.{List, [], _∷_, _++_}
-use lib.ListN.{length, getD}
+use lib.ListN.{length}
 use Rattle.part.specs.PartReq.{spine}
-use Rattle.module.specs.Module.{ExpressionHandle}
 use Rattle.clearance.specs.Shape.{Shape, member, isVoid, shapeAt}
-use Rattle.clearance.specs.Scope.{Scope, shapeOf, typeOf, argumentType, Slot, global, local, argument, result, evaluated, variable, slot, slots, kindShape, frame}
-use Rattle.needs.specs.Lean.{Solid}
+use Rattle.clearance.specs.Scope.{Scope, shapeOf, typeOf, Slot, global, local, argument, result, evaluated, variable, slot, slots, kindShape, frame}
 use Rattle.framed.specs.Places.{There, slotType, Placed}
 use Rattle.clearance.proofs.Values.{nil-right}
 use Rattle.framed.proofs.Same.{member-in}
-use Rattle.framed.proofs.Solid.{solid, type-fills, slots-solid}
+use Rattle.framed.proofs.Solid.{type-fills}
 
 -- a path, and then another
 pub shape-on : (p q : List ℕ) (t : Shape) → shapeAt t (p ++ q) ≡ shapeAt (shapeAt t p) q

@@ -1,18 +1,18 @@
 -- What an act takes from needs that are trimmed it takes as it stands, and what it leaves is what `leaves` has: at a place within a slot the clearance's trims change nothing.
 -- All of the frame is never needed (Framed), so its own void, where a function has no result, is never split; below it every slot's shape is solid.
-use Prim.Native.Nat.{ℕ, zero, suc, _+_, _*_, _/_, _%_, _<_}
+use Prim.Native.Nat.{ℕ, _+_, _/_, _<_}
 use native.Mathlib.Omega.{arith}
 use mathlib.Core.Path.{_≡_, refl, sym, ap, subst, _∙_}
-use mathlib.Core.Bool.{Bool, true, false, cond}
-use mathlib.Core.List.{List, [], _∷_, _++_}
-use lib.ListN.{length, getD}
+use mathlib.Core.Bool.{true, false, cond}
+use mathlib.Core.List.{List, _∷_, _++_}
+use lib.ListN.{length}
 use Rattle.part.specs.PartReq.{PartReq, all, exist, none, more}
 use Rattle.module.specs.Module.{ExpressionHandle}
-use Rattle.clearance.specs.Shape.{Shape, struct, member, isVoid, isWhole, shapeAt, below, trim, hit, split, takeOut}
-use Rattle.clearance.specs.Scope.{Scope, shapeOf, typeOf, argumentType, Slot, global, local, argument, result, evaluated, variable, slot, slots, kindShape, frame, Place, pathOf, target, isPath, arm}
+use Rattle.clearance.specs.Shape.{member, isVoid, isWhole, shapeAt, below, split, takeOut}
+use Rattle.clearance.specs.Scope.{Scope, Slot, global, local, argument, result, evaluated, variable, slot, slots, kindShape, frame, Place, pathOf, target, isPath, arm}
 use Rattle.clearance.specs.Tree.{emit, store}
 use Rattle.clearance.specs.Needs.{gives, overlap, without}
-use Rattle.clearance.specs.IsNeed.{Tidy, IsNeed}
+use Rattle.clearance.specs.IsNeed.{Tidy}
 use Rattle.needs.specs.Lean.{leaves, Solid}
 use Rattle.needs.specs.Framed.{Framed}
 use Rattle.needs.proofs.Lean.{hit-below, change-is, leaves-is}

@@ -1,5 +1,5 @@
 -- What every need of a pass is: trimmed to the frame, with ascending indexes, and never all of the frame or of one of its maps. And which asks keep it so.
-use Prim.Native.Nat.{ℕ, _<_}
+use Prim.Native.Nat.{_<_}
 use mathlib.Core.List.{List, [], _∷_}
 use Rattle.part.specs.PartReq.{PartReq, spine}
 use Rattle.part.specs.Ascending.{Ascending}

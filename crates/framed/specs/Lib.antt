@@ -2,3 +2,4 @@ pub mod Given
 pub mod Same
 pub mod Places
 pub mod Kept
+pub mod Narrow
