@@ -29,7 +29,10 @@ use Rattle.clearance.proofs.Small.{cases}
 use Rattle.clearance.proofs.Ascending.{under-ok, sub-ok, below-ok, trim-ok, out-ok, add-need, trim-need, none-need}
 use Rattle.pass.specs.Pass.{Carried, on, acting}
 use Rattle.pass.proofs.Pass.{Says, says-acting}
+use Rattle.needs.specs.Lean.{leaves}
+use Rattle.framed.specs.Places.{Placed}
 use Rattle.framed.specs.Kept.{Kept, Deep, AskFine, AsksFine}
+use Rattle.framed.proofs.Takes.{without-leaves}
 use Rattle.framed.proofs.Framed.{add-framed, trim-framed, under-framed, without-framed}
 
 -- Places
@@ -159,6 +162,10 @@ module _ (S : Scope) where
     need = unfold without in trim-need (frame S) _ (out-ok q (frame S) n (f .need .ascends));
     framed = without-framed S q n (f .need .ascends) (f .framed);
   }
+
+  -- the same as the code leaves it
+  pub kept-leaves : (q : List ℕ) (n : PartReq) → Placed S q → Kept S n → Kept S (leaves (frame S) n q)
+  kept-leaves q n d f = subst (Kept S) (without-leaves S q n d (f .need .tidy) (f .framed)) (kept-without q n f)
 
   kept-at : (q : List ℕ) (a n : PartReq) → Deep q → Ascending a → Kept S n → Kept S (needAt S q a n)
   unfolding needAt

@@ -7,3 +7,4 @@ pub mod Takes
 pub mod Framed
 pub mod Kept
 pub mod Width
+pub mod Stands

@@ -89,7 +89,7 @@ module _ (S : Scope) (L : Lower (S .program .types)) where
   inner-fills x = solid-void (unfoldType (shapeOf S) x) (unfold-solid (shapeOf S) x (solid S))
 
   -- the part that an index names
-  part-shape : (x : TypeInner) (i : ℕ) (t : TypeInner) → Part S x i t → SameShape (member (unfoldType (shapeOf S) x) i) (unfoldType (shapeOf S) t)
+  pub part-shape : (x : TypeInner) (i : ℕ) (t : TypeInner) → Part S x i t → SameShape (member (unfoldType (shapeOf S) x) i) (unfoldType (shapeOf S) t)
   unfolding unfoldType vectorShape
   part-shape x i t (component {n = n} l) = rw (member-in 0 n _ i (omega arith) (omega arith)) (same-refl _)
   part-shape x i t (column {columns = c} l) = rw (member-in 0 c _ i (omega arith) (omega arith)) (same-refl _)
@@ -147,7 +147,7 @@ module _ (S : Scope) (R : Lowered S) (J : Judged S) where
   unfolding pathOf
   path-step e x h = knot-is (λ path k. stepFrom path (typed S k .expression)) nowhere e ∙ ap (stepFrom (below (pathOf S) nowhere e)) h
 
-  path-at : (e b i : ℕ) → typed S e .expression ≡ AccessIndex b i → b < e → pathOf S e ≡ further (pathOf S b) (at i)
+  pub path-at : (e b i : ℕ) → typed S e .expression ≡ AccessIndex b i → b < e → pathOf S e ≡ further (pathOf S b) (at i)
   path-at e b i h l = path-step e _ h ∙ unfold stepFrom in ap (λ (p : Path). further p (at i)) (below-lt (pathOf S) nowhere e b l)
 
   path-by : (e b i : ℕ) → typed S e .expression ≡ Access b i → b < e → pathOf S e ≡ further (pathOf S b) (by i)

@@ -4,7 +4,7 @@ use mathlib.Core.Path.{_≡_}
 use mathlib.Core.Bool.{false}
 use mathlib.Core.List.{List, [], _++_}
 use lib.ListN.{length, getD}
-use Rattle.module.specs.Module.{TypeHandle, TypeInner}
+use Rattle.module.specs.Module.{TypeHandle, TypeInner, ExpressionHandle}
 use Rattle.clearance.specs.Shape.{isVoid, shapeAt}
 use Rattle.clearance.specs.Scope.{Scope, shapeOf, unfoldType, Slot, global, local, argument, result, evaluated, slot, typeOf, argumentType, frame, Place, Path, indexes, target}
 use Rattle.framed.specs.Same.{SameShape}
@@ -35,3 +35,8 @@ pub record Placed (S : Scope) (q : Place) : Type 0 where
 pub record Landed (S : Scope) (p : Path) (x : TypeInner) : Type 0 where
   pub place : Placed S (target p)
   pub exact : indexes (p .steps) ≡ [] → SameShape (shapeAt (frame S) (target p)) (unfoldType (shapeOf S) x)
+
+-- where the value of an expression stands, and of what shape that is
+pub record Stood (S : Scope) (e : ExpressionHandle) (q : Place) : Type 0 where
+  pub place : Placed S q
+  pub shape : SameShape (shapeAt (frame S) q) (shapeOf S (typeOf S e))
