@@ -16,7 +16,7 @@ use Rattle.clearance.specs.Needs.{Exit, next, broke, continued, returned, upon,
 use Rattle.pass.specs.Pass.{workBound, Carried, Passed, on, full, _>>=_, blame, pointed, within, tooLarge, joining, asking, valuing, passInside}
 use Rattle.hold.specs.Hold.{heldBy, inSlot, Live, Reach}
 use Rattle.hold.proofs.Reach.{reach-cells}
-use Rattle.standing.specs.Slots.{tableSize, askedSlot, endSlot, stackSlot, NeedIn, Ready}
+use Rattle.standing.specs.Slots.{tableSize, askedSlot, endSlot, stackSlot, Ready}
 use Rattle.standing.specs.Standing.{settingOf, Carries, TableIn, Targets, Stands, Went, Came, Walked, Stepped, Closed, Blames, Keeps, Stretch, inside, around, step, outcome}
 use Rattle.standing.specs.declared.passing.Passing.{Passing}
 use Rattle.standing.specs.declared.passing.Exits.{Exits}

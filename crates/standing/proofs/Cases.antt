@@ -12,8 +12,9 @@ use Rattle.clearance.specs.Scope.{Scope}
 use Rattle.clearance.specs.Tree.{Tree, switch}
 use Rattle.clearance.specs.Needs.{Exit, next, broke, continued, returned, upon, outBreak, ofCase, askWhole}
 use Rattle.pass.specs.Pass.{Carried, Passed, on, full, _>>=_, pointed, joining, asking, passCases, passInside}
+use Rattle.framed.specs.Kept.{Kept}
 use Rattle.hold.specs.Hold.{inSlot}
-use Rattle.standing.specs.Slots.{endSlot, stackSlot, NeedIn, Ready}
+use Rattle.standing.specs.Slots.{endSlot, stackSlot, Ready}
 use Rattle.standing.specs.Standing.{settingOf, TableIn, Targets, Stands, Went, Walked, Closed, Keeps, inside, around, cases}
 use Rattle.standing.specs.declared.passing.Passing.{Passing}
 use Rattle.standing.specs.declared.passing.Exits.{Exits}
@@ -140,7 +141,7 @@ case-exits k = exits-same (ofCase k) (upon (k next) (casing k)) refl refl refl r
 abbrev pub caseExits : ℕ → Exits → Exits
 caseExits n x = record { broke = n - 1; continued = x .continued; returned = x .returned }
 
-module _ {S : Scope} {s rs : List ℕ} {n : ℕ} {x : Exits} (d : Ready S s rs n) (y : Targets n x) (room : n < length rs) (none-in : NeedIn S none) where
+module _ {S : Scope} {s rs : List ℕ} {n : ℕ} {x : Exits} (d : Ready S s rs n) (y : Targets n x) (room : n < length rs) (none-in : Kept S none) where
   pub case-targets : Targets (n + 1) (caseExits n x)
   case-targets =
       let h = d .high in

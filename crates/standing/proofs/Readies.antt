@@ -10,8 +10,9 @@ use lib.Seq.{getD-set-same, getD-set-other}
 use Rattle.part.specs.PartReq.{PartReq, none}
 use Rattle.part.specs.Store.{top, part}
 use Rattle.clearance.specs.Scope.{Scope}
+use Rattle.framed.specs.Kept.{Kept}
 use Rattle.hold.specs.Hold.{inSlot, Loose, Live, Pushed}
-use Rattle.standing.specs.Slots.{askedSlot, stackSlot, NeedIn, Ready}
+use Rattle.standing.specs.Slots.{askedSlot, stackSlot, Ready}
 
 -- a slot after a store to another, and to itself
 pub slot-other : (s rs : List ℕ) (i j a : ℕ) → (j ≡ i → ⊥) → inSlot s (set rs i a) j ≡ inSlot s rs j
@@ -37,7 +38,7 @@ ready-less h l d = record {
 }
 
 -- slot j has a piece a that is a need
-module _ {S : Scope} {s rs : List ℕ} {n : ℕ} (d : Ready S s rs n) (a : ℕ) (low : a < top s) (need : NeedIn S (part s a)) where
+module _ {S : Scope} {s rs : List ℕ} {n : ℕ} (d : Ready S s rs n) (a : ℕ) (low : a < top s) (need : Kept S (part s a)) where
   set-live : (m j : ℕ) → m ≤ n + 1 → m ≤ length rs → j < length rs → ((i : ℕ) → i < m → (i ≡ j → ⊥) → i < n) → Live s (set rs j a) m
   set-live m j l few h g = record {
     loose = record {
@@ -53,7 +54,7 @@ module _ {S : Scope} {s rs : List ℕ} {n : ℕ} (d : Ready S s rs n) (a : ℕ) 
     slim = d .live .slim;
   }
 
-  set-needs : (m j : ℕ) → j < length rs → ((i : ℕ) → i < m → (i ≡ j → ⊥) → i < n) → (i : ℕ) → i < m → (i ≡ askedSlot → ⊥) → NeedIn S (inSlot s (set rs j a) i)
+  set-needs : (m j : ℕ) → j < length rs → ((i : ℕ) → i < m → (i ≡ j → ⊥) → i < n) → (i : ℕ) → i < m → (i ≡ askedSlot → ⊥) → Kept S (inSlot s (set rs j a) i)
   set-needs m j h g i b o =
       elim (ℕ-discrete i j) [
         | yes e ↦ rw (e, slot-same s rs j a h) need
@@ -82,7 +83,7 @@ module _ {S : Scope} {s rs : List ℕ} {n : ℕ} (d : Ready S s rs n) (a : ℕ) 
       }
 
 -- a slot that was pushed
-pub ready-pushed : {S : Scope} {s rs t us : List ℕ} {n : ℕ} {p : PartReq} {b : Bool} → Ready S s rs n → NeedIn S p → Pushed s rs n p t us b → b ≡ true → Ready S t us (n + 1)
+pub ready-pushed : {S : Scope} {s rs t us : List ℕ} {n : ℕ} {p : PartReq} {b : Bool} → Ready S s rs n → Kept S p → Pushed s rs n p t us b → b ≡ true → Ready S t us (n + 1)
 ready-pushed {S} {s} {rs} {t} {us} {n} {p} d need w e = record {
   live = w .live e;
   high = omega (arith, d .high);

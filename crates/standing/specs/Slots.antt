@@ -8,9 +8,9 @@ use lib.Dec.{ltb}
 use Rattle.field.specs.Limits.{maxStatements}
 use Rattle.part.specs.PartReq.{PartReq, none}
 use Rattle.module.specs.Decode.{tab}
-use Rattle.clearance.specs.Scope.{Scope, frame, resultShape}
+use Rattle.clearance.specs.Scope.{Scope, resultShape}
 use Rattle.clearance.specs.IsNeed.{IsNeed}
-use Rattle.needs.specs.Framed.{Framed}
+use Rattle.framed.specs.Kept.{Kept}
 use Rattle.hold.specs.Hold.{inSlot, Live}
 
 -- a table has a slot for each statement; only those of loops are used
@@ -42,14 +42,9 @@ asideOf s rs n = tab n (besides (λ j. inSlot s rs j))
 pub record Beside (j : ℕ) : Type 0 where
   pub is : tableSize ≤ j → askedSlot ≤ j
 
--- a need of the function, as every pass has it
-pub record NeedIn (S : Scope) (p : PartReq) : Type 0 where
-  pub need : IsNeed (frame S) p
-  pub framed : Framed p
-
 -- the first n slots have needs, but for the part that is asked of the value; the last of them, above all that has a fixed place, has those at hand
 pub record Ready (S : Scope) (s rs : List ℕ) (n : ℕ) : Type 0 where
   pub live : Live s rs n
   pub high : stackSlot < n
-  pub needs : (j : ℕ) → j < n → (j ≡ askedSlot → ⊥) → NeedIn S (inSlot s rs j)
+  pub needs : (j : ℕ) → j < n → (j ≡ askedSlot → ⊥) → Kept S (inSlot s rs j)
   pub asked : IsNeed (resultShape S (S .function .result)) (inSlot s rs askedSlot)
