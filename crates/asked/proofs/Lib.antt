@@ -1,0 +1,4 @@
+pub mod Same
+pub mod Alike
+pub mod Parts
+pub mod Places
