@@ -104,7 +104,7 @@ unfold-alike f same i j h s =
               same-is _ _ (ap f (List·getD-eq-default (bases i) 0 {n = k} a ∙ sym (List·getD-eq-default (bases j) 0 {n = k} b)))
         ]
 
-unfold-there : (f : TypeHandle → Shape) (i : TypeInner) → isVoid (unfoldType f i) ≡ false
+pub unfold-there : (f : TypeHandle → Shape) (i : TypeInner) → isVoid (unfoldType f i) ≡ false
 unfolding unfoldType vectorShape
 unfold-there f Scalar = refl
 unfold-there f (Vector n) = refl

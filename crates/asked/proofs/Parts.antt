@@ -18,7 +18,7 @@ use Rattle.asked.specs.Same.{SameShape}
 use Rattle.asked.proofs.Same.{same-is, same-then, struct-member, array-member}
 use Rattle.asked.proofs.Alike.{shape-is}
 
-vector-member : (n j : ℕ) → j < n → member (vectorShape n) j ≡ number
+pub vector-member : (n j : ℕ) → j < n → member (vectorShape n) j ≡ number
 unfolding vectorShape
 vector-member n j l = struct-member n (λ j. number) j l
 
@@ -27,11 +27,11 @@ counted : (n j : ℕ) → j < n → elements n ≡ n
 unfolding elements
 counted n j l = rw (ne-eqb n 0 (omega arith))
 
-element-member : (n : ℕ) (t : Shape) (j : ℕ) → j < n → member (array (elements n) t) j ≡ t
+pub element-member : (n : ℕ) (t : Shape) (j : ℕ) → j < n → member (array (elements n) t) j ≡ t
 element-member n t j l = rw (counted n j l) (array-member n t j l)
 
 module _ (S : Scope) (L : Lower (S .program .types)) where
-  by-part : (i : TypeInner) (j : ℕ) (p : TypeInner) → Part S i j p → SameShape (member (unfoldType (shapeOf S) i) j) (unfoldType (shapeOf S) p)
+  pub by-part : (i : TypeInner) (j : ℕ) (p : TypeInner) → Part S i j p → SameShape (member (unfoldType (shapeOf S) i) j) (unfoldType (shapeOf S) p)
   unfolding unfoldType
   by-part i j p (component {n = n} l) = same-is _ _ (vector-member n j l)
   by-part i j p (column {columns = c} l) = same-is _ _ (struct-member c _ j l)

@@ -30,6 +30,18 @@ unfolding kindShape
 expressions-shape S b = let e : 4 + b ≡ suc (suc (suc (suc b))) = omega arith in ap (kindShape S) e
 
 module _ (S : Scope) where
+  pub global-shape : (g : ℕ) → g < length (S .program .globals) → shapeAt (frame S) (slot (global g)) ≡ shapeOf S (getD (S .program .globals) g 0)
+  unfolding slot kindShape
+  global-shape g l =
+      two-steps (frame S) (variable 0) (variable g)
+      ∙ (ap (λ (t : Shape). member t (variable g)) (frame-member S 0 (omega arith)) ∙ slot-member _ _ g l)
+
+  pub local-shape : (v : ℕ) → v < length (S .function .locals) → shapeAt (frame S) (slot (local v)) ≡ shapeOf S (getD (S .function .locals) v 0)
+  unfolding slot kindShape
+  local-shape v l =
+      two-steps (frame S) (variable 1) (variable v)
+      ∙ (ap (λ (t : Shape). member t (variable v)) (frame-member S 1 (omega arith)) ∙ slot-member _ _ v l)
+
   pub argument-shape : (a : ℕ) → a < length (S .function .arguments) → shapeAt (frame S) (slot (argument a)) ≡ shapeOf S (argumentType (S .function .arguments) a)
   unfolding slot kindShape
   argument-shape a l =
