@@ -2,7 +2,7 @@
 use Prim.Native.Nat.{ℕ, zero, suc, _<_, _≤_}
 use native.Mathlib.Omega.{arith}
 use native.Mathlib.Decide.{decLt}
-use mathlib.Core.Path.{_≡_, refl, sym, ap, subst, _∙_}
+use mathlib.Core.Path.{_≡_, refl, sym, ap, _∙_}
 use mathlib.Core.Bool.{Bool, true, false, cond}
 use mathlib.Core.List.{List, [], _∷_, map}
 use lib.Dec.{eqb}
@@ -12,7 +12,7 @@ use Rattle.module.specs.Module.{TypeHandle, TypeInner, Scalar, Vector, Matrix, 
 use Rattle.module.specs.Knot.{below}
 use Rattle.module.proofs.Knot.{knot-is, below-lt}
 use Rattle.clearance.specs.Shape.{Shape, number, void, struct, array, isVoid}
-use Rattle.clearance.specs.Scope.{Scope, inner, memberTypes, vectorShape, elements, unfoldType, shapeOf, kind, bases, pairwise, alikeInner, alike}
+use Rattle.clearance.specs.Scope.{Scope, inner, memberTypes, vectorShape, elements, unfoldType, shapeOf, kind, bases, alikeInner, alike}
 use Rattle.judge.specs.Alike.{alikeIn, Lower}
 use Rattle.judge.proofs.Pairwise.{pairwise-long, pairwise-at, equal-lists}
 use Rattle.judge.proofs.Equivalence.{alike-is, inner-parts}

@@ -4,35 +4,33 @@ use native.Mathlib.Omega.{arith}
 use mathlib.Core.Path.{_≡_, refl, sym, ap, subst, _∙_}
 use mathlib.Core.Bool.{Bool, true, false, cond, _&&_, _||_}
 use mathlib.Core.List.{List, [], _∷_, _++_, map}
-use mathlib.Core.Logic.{_⊎_, inl, inr}
 use mathlib.Core.Option.{Option, some as present, none as absent}
-use lib.Dec.{ltb, eqb}
 use lib.ListN.{length, getD}
 use Rattle.part.specs.PartReq.{PartReq, all, none, more, getSubpart}
 use Rattle.part.proofs.Equations.{never}
-use Rattle.module.specs.Module.{TypeHandle, TypeInner, Scalar, Vector, Matrix, Array, Struct, Member as TypeMember}
+use Rattle.module.specs.Module.{TypeInner, Scalar, Vector, Member as TypeMember}
 use Rattle.module.specs.Module.{ExpressionHandle, Expression}
 use Rattle.module.specs.Module.{Literal, ZeroValue, WorkGroupUniformLoadResult, AccessIndex, Access, Constant, Splat, Swizzle, Compose}
 use Rattle.module.specs.Module.{FunctionArgument, GlobalVariable, LocalVariable, Load, ImageSample, ImageLoad, ImageQuery, Unary, Binary, Select}
 use Rattle.module.specs.Module.{Derivative, Relational, Math, As, CallResult, AtomicResult, ArrayLength, RayQueryProceedResult}
 use Rattle.module.specs.Module.{RayQueryGetIntersection, Override, SubgroupBallotResult, SubgroupOperationResult, RayQueryVertexPositions}
 use Rattle.valid.specs.Valid.{EachBelow, MaybeBelow, OperandsBelow}
-use Rattle.clearance.specs.Shape.{Shape, number, struct, array, member, isVoid, shapeAt, orNone, below, some}
-use Rattle.clearance.specs.Scope.{Scope, inner, memberTypes, vectorShape, elements, unfoldType, shapeOf, isKind, kind, isScalar, isVector, alikeInner, alike, expressionsOf, typed, typeOf, innerOf, frame, Path, pathOf, indexes, target, isPath}
-use Rattle.clearance.specs.Scope.{Operand, whole, same, Arm, pointing, accessIndex, access, compose, joined, load, byPart, anyVector, optional, armOf, arm}
-use Rattle.clearance.specs.Needs.{Ask, ofValue, ofPlace, askOperand, askWhole, askPicked, askComponents, askSteps, asks}
-use Rattle.clearance.specs.Judged.{pointee, same as sameInner, partType, isValue, samePart, fitsIndex, fitsExpression, judgedExpression}
+use Rattle.clearance.specs.Shape.{Shape, number, member, isVoid, shapeAt, orNone, below, some}
+use Rattle.clearance.specs.Scope.{Scope, memberTypes, vectorShape, unfoldType, shapeOf, isKind, kind, isScalar, isVector, alike, expressionsOf, typed, typeOf, innerOf, frame, Path, indexes, target, isPath}
+use Rattle.clearance.specs.Scope.{Operand, whole, same, pointing, accessIndex, access, compose, joined, load, byPart, anyVector, optional, armOf, arm}
+use Rattle.clearance.specs.Needs.{Ask, ofValue, askOperand, askWhole, askPicked, askComponents, askSteps, asks}
+use Rattle.clearance.specs.Judged.{same as sameInner, partType, isValue, fitsIndex, fitsExpression, judgedExpression}
 use Rattle.clearance.specs.IsNeed.{Tidy}
 use Rattle.clearance.specs.Rules.{Member, here, later}
-use Rattle.clearance.specs.IsJudged.{IndexOf, constant, IsPath, goesOn, Components, none as empty, scalar, vector, Members, one, ComposedOf, aVector, aMatrix, anArray, aStruct, JudgedExpression}
+use Rattle.clearance.specs.IsJudged.{IndexOf, constant, goesOn, Components, none as empty, scalar, vector, Members, one, ComposedOf, aVector, aMatrix, anArray, aStruct, JudgedExpression}
 use Rattle.clearance.proofs.Small.{cases, both-true}
 use Rattle.clearance.proofs.Lowest.{no-member, first-or-later}
 use Rattle.clearance.proofs.Relations.{path-exactly, same-part}
 use Rattle.clearance.proofs.JudgedExpressions.{expression-exactly}
 use Rattle.needs.proofs.Lean.{below-tidy}
 use Rattle.asked.specs.Same.{SameShape}
-use Rattle.asked.specs.Within.{Read, Judged, Asked, something, nothing, emptied, Within, EachWithin, PathShape}
-use Rattle.asked.proofs.Same.{same-refl, same-is, same-flip, same-then, same-member, same-void, same-tidy, struct-member}
+use Rattle.asked.specs.Within.{Read, Asked, something, nothing, emptied, Within, EachWithin}
+use Rattle.asked.proofs.Same.{same-is, same-flip, same-then, same-member, same-void, same-tidy, struct-member}
 use Rattle.asked.proofs.Alike.{shape-is, shape-there, alike-same, inner-same}
 use Rattle.asked.proofs.Parts.{vector-member, element-member, part-same}
 
@@ -56,7 +54,7 @@ unfolding below shapeAt
 sub-tidy a t k h v = below-tidy (k ∷ []) a t h v
 
 -- of a part, and of the part i
-part-asked : (p : PartReq) (t : Shape) → Tidy p t → Asked t p
+pub part-asked : (p : PartReq) (t : Shape) → Tidy p t → Asked t p
 part-asked p t h = cases (some p) (λ s. something s h) nothing
 
 one-asked : (i : ℕ) (p : PartReq) (t : Shape) → Tidy p (member t i) → Asked t (more i p none)
@@ -213,7 +211,7 @@ module _ (S : Scope) (R : Read S) where
         (λ j m. let y : suc k + j ≡ k + suc j = omega arith in rw y (f (suc j) (omega arith))))
 
     -- a load: of the place that its path names for sure, and of the dynamic indexes
-    steps-within : (q : Path) (is : List ExpressionHandle) → (is ≡ [] → Asked (shapeAt (frame S) (target q)) a) → isVoid (shapeAt (frame S) (target q)) ≡ false → EachBelow count is →
+    pub steps-within : (q : Path) (is : List ExpressionHandle) → (is ≡ [] → Asked (shapeAt (frame S) (target q)) a) → isVoid (shapeAt (frame S) (target q)) ≡ false → EachBelow count is →
         EachWithin S (askSteps q is a)
     unfolding askSteps
     steps-within q [] f v b = each-more (f refl) each-none

@@ -4,3 +4,6 @@ pub mod Parts
 pub mod Places
 pub mod Asks
 pub mod Paths
+pub mod Acts
+pub mod Plain
+pub mod Asking

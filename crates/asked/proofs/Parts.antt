@@ -1,15 +1,13 @@
 -- The shape of a part of a type, where the type says what the part is: a component, a column, an element, a member. By cases of the part.
 use Prim.Native.Nat.{ℕ, _<_}
 use native.Mathlib.Omega.{arith}
-use mathlib.Core.Path.{_≡_, refl, sym, ap, _∙_}
-use mathlib.Core.Bool.{true, false, cond}
+use mathlib.Core.Path.{_≡_}
 use mathlib.Core.Option.{some}
-use lib.Dec.{eqb}
 use lib.ListN.{length}
 use borrow.Author.Tests.{ne-eqb}
-use Rattle.module.specs.Module.{TypeHandle, TypeInner, Scalar, Vector, Array}
-use Rattle.clearance.specs.Shape.{Shape, number, struct, array, member, extent}
-use Rattle.clearance.specs.Scope.{Scope, inner, vectorShape, elements, unfoldType, shapeOf, memberTypes}
+use Rattle.module.specs.Module.{TypeInner}
+use Rattle.clearance.specs.Shape.{Shape, number, array, member, extent}
+use Rattle.clearance.specs.Scope.{Scope, vectorShape, elements, unfoldType, shapeOf, memberTypes}
 use Rattle.clearance.specs.Judged.{partType, elementType}
 use Rattle.clearance.specs.IsJudged.{Part, component, column, element, member as inStruct, Parts, components, columns, elements as ofArray}
 use Rattle.clearance.proofs.Relations.{part-of, parts-of}

@@ -1,27 +1,27 @@
 -- Where the paths of a judged function lead: at a variable its type's shape stands, at a constant index the part's, and at a dynamic one what stands before it. The dynamic
 -- indexes are lower than the path. By induction over the path's number.
-use Prim.Native.Nat.{ℕ, zero, suc, _+_, _<_, _≤_}
+use Prim.Native.Nat.{ℕ, zero, suc, _<_, _≤_}
 use native.Mathlib.Omega.{arith}
 use mathlib.Core.Path.{_≡_, refl, sym, ap, subst, _∙_}
-use mathlib.Core.Bool.{Bool, true, false, not}
+use mathlib.Core.Bool.{true, false}
 use mathlib.Core.List.{List, [], _∷_, _++_, append-assoc, append-nil}
 use mathlib.Core.Logic.{_⊎_, inl, inr}
-use lib.ListN.{length, getD}
+use lib.ListN.{length}
 use Rattle.part.proofs.Equations.{never}
-use Rattle.module.specs.Module.{TypeHandle, TypeInner, ExpressionHandle, Expression, AccessIndex, Access, GlobalVariable, LocalVariable}
+use Rattle.module.specs.Module.{TypeHandle, TypeInner, ExpressionHandle, Expression, AccessIndex, Access}
 use Rattle.module.specs.Knot.{below}
 use Rattle.module.proofs.Knot.{knot-is, below-lt}
 use Rattle.valid.specs.Valid.{EachBelow, OperandsBelow, NamesBelow}
 use Rattle.clearance.specs.Shape.{Shape, member, isVoid, shapeAt}
-use Rattle.clearance.specs.Scope.{Scope, inner, unfoldType, shapeOf, isPointer, expressionsOf, typed, typeOf, frame, variable, slot, global, local, kindShape}
+use Rattle.clearance.specs.Scope.{Scope, inner, unfoldType, shapeOf, expressionsOf, typed, frame, variable, slot}
 use Rattle.clearance.specs.Scope.{Step, at, by, Path, nowhere, further, stepFrom, pathOf, front, indexes, target, isPath}
-use Rattle.clearance.specs.Judged.{pointee, same, judgedExpression}
+use Rattle.clearance.specs.Judged.{pointee, same}
 use Rattle.clearance.specs.IsJudged.{Declares, global as isGlobal, local as isLocal, IndexOf, constant, dynamic, IsPath, ends, goesOn, Indexes, at as atPart, JudgedExpression}
 use Rattle.clearance.proofs.Relations.{path-exactly}
 use Rattle.clearance.proofs.JudgedExpressions.{expression-exactly}
 use Rattle.asked.specs.Same.{SameShape}
 use Rattle.asked.specs.Within.{Read, Judged, PathShape}
-use Rattle.asked.proofs.Same.{same-is, same-flip, same-then, same-member, same-void}
+use Rattle.asked.proofs.Same.{same-is, same-then, same-member, same-void}
 use Rattle.asked.proofs.Alike.{shape-is, shape-there, inner-same, unfold-there}
 use Rattle.asked.proofs.Parts.{by-part}
 use Rattle.asked.proofs.Places.{global-shape, local-shape}

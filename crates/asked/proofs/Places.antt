@@ -2,14 +2,12 @@
 use Prim.Native.Nat.{ℕ, suc, _+_, _-_, _*_, _/_, _%_, _<_}
 use native.Mathlib.Omega.{arith}
 use mathlib.Core.Path.{_≡_, refl, ap, _∙_}
-use mathlib.Core.Bool.{true, false, cond}
-use mathlib.Core.List.{List, [], _∷_}
-use lib.Dec.{ltb}
+use mathlib.Core.List.{[], _∷_}
 use lib.ListN.{length, getD}
 use borrow.Author.Tests.{lt-ltb, le-ltb}
 use Rattle.part.specs.PartReq.{spine}
-use Rattle.clearance.specs.Shape.{Shape, struct, member, shapeAt}
-use Rattle.clearance.specs.Scope.{Scope, shapeOf, variable, Slot, global, local, argument, evaluated, slot, expressionsOf, typeOf, argumentType, slots, kindShape, frame}
+use Rattle.clearance.specs.Shape.{Shape, member, shapeAt}
+use Rattle.clearance.specs.Scope.{Scope, shapeOf, variable, global, local, argument, evaluated, slot, expressionsOf, typeOf, argumentType, slots, kindShape, frame}
 
 slot-member : (n : ℕ) (shape : ℕ → Shape) (j : ℕ) → j < n → member (slots n shape) (variable j) ≡ shape j
 unfolding member slots

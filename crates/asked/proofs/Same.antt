@@ -3,13 +3,12 @@ use Prim.Native.Nat.{ℕ, _+_, _<_, _≤_}
 use native.Mathlib.Omega.{arith}
 use native.Mathlib.Decide.{decLt}
 use mathlib.Core.Path.{_≡_, refl, sym, ap, _∙_}
-use mathlib.Core.Bool.{Bool, true, false, cond}
 use mathlib.Core.List.{List, [], _∷_}
-use lib.Dec.{ltb, eqb}
+use lib.Dec.{eqb}
 use lib.ListN.{getD}
 use borrow.Author.Tests.{lt-ltb, le-ltb}
 use Rattle.part.specs.PartReq.{PartReq, all, exist, none, more}
-use Rattle.clearance.specs.Shape.{Shape, number, void, struct, array, member, isVoid, shapeAt, keep, trim}
+use Rattle.clearance.specs.Shape.{Shape, number, void, struct, array, member, isVoid, shapeAt, trim}
 use Rattle.clearance.specs.IsNeed.{Tidy}
 use Rattle.asked.specs.Same.{outline, SameShape}
 
