@@ -1,4 +1,5 @@
--- Shapes that are the same at every path. (Types that are alike have such shapes. Equal they need not be: a struct's shape is a function, and says something outside its count too.)
+-- Shapes that are the same at every path. Types that are alike have such shapes. (Equal they need not be: a struct's shape is a function, which says something outside its count too, and that differs
+-- where the type 0 is a struct with no members.)
 use Prim.Native.Nat.{ℕ}
 use mathlib.Core.Path.{_≡_}
 use mathlib.Core.List.{List, [], _∷_}
