@@ -2,12 +2,12 @@
 use Prim.Native.Nat.{ℕ, suc, _<_}
 use native.Mathlib.Omega.{arith}
 use mathlib.Core.Path.{_≡_, refl, ap, subst, _∙_}
-use mathlib.Core.Bool.{Bool, true, false, cond}
+use mathlib.Core.Bool.{true, false, cond}
 use mathlib.Core.List.{List, [], _∷_}
 use lib.ListN.{length}
 use Rattle.part.specs.PartReq.{PartReq, none}
 use Rattle.module.specs.Module.{ExpressionHandle, Load, Store}
-use Rattle.valid.specs.Valid.{EachBelow, OperandsBelow, FunctionValid, Valid}
+use Rattle.valid.specs.Valid.{EachBelow, OperandsBelow}
 use Rattle.clearance.specs.Shape.{isVoid, shapeAt, below}
 use Rattle.clearance.specs.Scope.{Scope, shapeOf, expressionsOf, typed, typeOf, innerOf, frame, slot, evaluated, pathOf, indexes, target, isPath, arm, load}
 use Rattle.clearance.specs.Tree.{emit, store}
@@ -18,7 +18,6 @@ use Rattle.clearance.specs.IsJudged.{JudgedExpression}
 use Rattle.clearance.proofs.Small.{both-true}
 use Rattle.clearance.proofs.Relations.{path-exactly}
 use Rattle.clearance.proofs.JudgedExpressions.{expression-exactly}
-use Rattle.judge.proofs.Equivalence.{lower-types}
 use Rattle.needs.proofs.Lean.{below-tidy, hit-below}
 use Rattle.pass.specs.Pass.{storeAsks}
 use Rattle.asked.specs.Same.{SameShape}
@@ -28,16 +27,6 @@ use Rattle.asked.proofs.Alike.{shape-there, inner-same}
 use Rattle.asked.proofs.Places.{evaluated-shape}
 use Rattle.asked.proofs.Asks.{each-none, each-more, part-asked, value-shape, whole-within, wholes-within, steps-within, kinds-within}
 use Rattle.asked.proofs.Paths.{path-shape, path-indexes}
-
--- reading guarantees what is taken for granted here
-pub read-function : (S : Scope) (entries : List Bool) → Valid (S .program) → FunctionValid (length (S .program .types)) (length (S .program .globals)) entries (S .function) → Read S
-unfolding typed
-read-function S entries v f =
-    record {
-      lower = lower-types (S .program) v;
-      operands = λ e l. f .parts .each-expression e _ l .operands;
-      names = λ e l. f .parts .each-expression e _ l .names;
-    }
 
 module _ (S : Scope) (R : Read S) (J : Judged S) where
   abbrev count : ℕ

@@ -7,3 +7,4 @@ pub mod Paths
 pub mod Acts
 pub mod Plain
 pub mod Asking
+pub mod Function
