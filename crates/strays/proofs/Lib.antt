@@ -1,0 +1,5 @@
+pub mod Lowers
+pub mod Allowed
+pub mod Trees
+pub mod Found
+pub mod Steps
