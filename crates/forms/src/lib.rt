@@ -1,0 +1,2 @@
+// Types as shapes, taking a part out of a need, and trimming what a request asks.
+pub mod form;
