@@ -1,0 +1,2 @@
+pub mod ShapeBy
+pub mod Narrow
