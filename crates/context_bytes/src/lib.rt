@@ -1,0 +1,3 @@
+// A context's record checked where it stands: nothing is read into a store, so there is no bound on its bytes.
+pub mod check;
+pub mod codes;
