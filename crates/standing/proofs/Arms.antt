@@ -198,10 +198,11 @@ module _ {S : Scope} {s rs : List ℕ} {n : ℕ} {x : Exits} (d : Ready S s rs n
             let o : (n + 1) - 1 ≡ n = omega arith in
             let w = first .is v r (k next ∷ aside) k c (copied-stands d y room h) .on g₁ in
             let l = rejected-stands h w in
-            let u = second .is v r (inSlot t₁ us₁ n ∷ aside) k (w .carried) l .on g₂ in
-            (u .carried,
-            after-reject h ∙ ap (λ o. o >>= λ f i. ending S e aside (inSlot t₁ us₁ n) i f) (rw o at (u .is)),
-            rw o at (went-stands (omega arith) (targets-more y (omega arith)) l (second .kept g₂) u))
+            let u = second .is v r (inSlot t₁ us₁ n ∷ aside) k (w .carried) l .on g₂ in (
+              u .carried,
+              after-reject h ∙ ap (λ o. o >>= λ f i. ending S e aside (inSlot t₁ us₁ n) i f) (rw o at (u .is)),
+              rw o at (went-stands (omega arith) (targets-more y (omega arith)) l (second .kept g₂) u),
+            )
 
         pub walked-if : z ≡ true → Walked S (inside (branch e a b)) s rs n x p t₃ us₃ q₂
         unfolding upon

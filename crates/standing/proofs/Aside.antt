@@ -104,10 +104,10 @@ module _ (s rs : List ℕ) (n : ℕ) (low : askedSlot ≤ n) (few : n ≤ length
   held-apart = record {
     into = λ q z. tab-each n (λ j. inSlot s rs j) (asideOf s rs n ++ newOf s rs) slot-apart q (rw (held-tab s rs n few) at z);
     back =
-      both-in (asideOf s rs n) (newOf s rs) (heldBy s rs n)
-      (tab-each n (besides (λ j. inSlot s rs j)) (heldBy s rs n) apart-slot)
-      (tab-each tableSize (λ j. inSlot s rs (tableSize + j)) (heldBy s rs n)
-      (λ j l q z. rw (held-tab s rs n few) (tab-in n (λ j. inSlot s rs j) (tableSize + j) (omega arith) q z)));
+        both-in (asideOf s rs n) (newOf s rs) (heldBy s rs n)
+        (tab-each n (besides (λ j. inSlot s rs j)) (heldBy s rs n) apart-slot)
+        (tab-each tableSize (λ j. inSlot s rs (tableSize + j)) (heldBy s rs n)
+        (λ j l q z. rw (held-tab s rs n few) (tab-in n (λ j. inSlot s rs j) (tableSize + j) (omega arith) q z)));
   }
 
 -- a slot more kept aside

@@ -102,10 +102,11 @@ module _ {S : Scope} {s rs : List ℕ} {n : ℕ} {x : Exits} (d : Ready S s rs n
             let o : (n + 1) - 1 ≡ n = omega arith in
             let w = first .is v r aside k c h .on g in
             let l = case-stands h w in
-            let u = second .is v r (inSlot t us (n - 1) ∷ aside) (upon (k broke) k) (w .carried) l .on g₁ in
-            (u .carried,
-            after-cases h ∙ ap (λ o. o >>= λ e m. joining aside m (inSlot t us (n - 1)) e) (rw o at (u .is)),
-            rw o at (went-stands (omega arith) (targets-more y (omega arith)) l (second .kept g₁) u))
+            let u = second .is v r (inSlot t us (n - 1) ∷ aside) (upon (k broke) k) (w .carried) l .on g₁ in (
+              u .carried,
+              after-cases h ∙ ap (λ o. o >>= λ e m. joining aside m (inSlot t us (n - 1)) e) (rw o at (u .is)),
+              rw o at (went-stands (omega arith) (targets-more y (omega arith)) l (second .kept g₁) u),
+            )
 
         pub cases-more : b ≡ true → Walked S (cases (suc i) f) s rs n x p t₂ us₂ q₁
         unfolding upon
@@ -194,10 +195,11 @@ module _ {S : Scope} {s rs : List ℕ} {n : ℕ} {x : Exits} (d : Ready S s rs n
           let high = d .high in
           let o : (n + 1) - 1 ≡ n = omega arith in
           let l = switched-stands h in
-          let w = first .is v r (k next ∷ aside) (casing k) c l .on g in
-          (w .carried,
-          switched-is v r aside k c ∙ ap (λ o. o >>= λ g u. asking S aside (askWhole e) u g) (rw o at (w .is)),
-          rw o at (went-stands (omega arith) case-targets l (first .kept g) w))
+          let w = first .is v r (k next ∷ aside) (casing k) c l .on g in (
+            w .carried,
+            switched-is v r aside k c ∙ ap (λ o. o >>= λ g u. asking S aside (askWhole e) u g) (rw o at (w .is)),
+            rw o at (went-stands (omega arith) case-targets l (first .kept g) w),
+          )
 
       pub walked-switch : b ≡ true → Walked S (inside (switch e vs f)) s rs n x p t₁ us₁ q
       unfolding upon

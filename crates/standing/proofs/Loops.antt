@@ -194,10 +194,11 @@ module _ {S : Scope} {s rs : List ℕ} {n : ℕ} {x : Exits} (d : Ready S s rs n
             after-body {v} {r} {aside} {k} {c} h =
                 let w = first .is v r (k next ∷ aside) (afterContinuing S (r l) breakIf k) c (continuing-stands h) .on g₁ in
                 let u = second .is v r (inSlot t₁ us₁ n ∷ k next ∷ aside) (ofBody (inSlot t₁ us₁ n) k) (w .carried) (body-stands h w) .on g₂ in
-                let z : (n + 1 + 1) - 1 ≡ n + 1 = omega arith in
-                (u .carried,
-                after-continuing h ∙ ap (λ z. z >>= λ e w. entering aside l (r l) w e) (rw z at (u .is)),
-                ((u .carries, u .new), reach-trans (reach-is (aside-same s rs t₂ us₂ (n - 1) (λ j m e. walked-keeps .is j (omega arith) e))) (h .apart)))
+                let z : (n + 1 + 1) - 1 ≡ n + 1 = omega arith in (
+                  u .carried,
+                  after-continuing h ∙ ap (λ z. z >>= λ e w. entering aside l (r l) w e) (rw z at (u .is)),
+                  ((u .carries, u .new), reach-trans (reach-is (aside-same s rs t₂ us₂ (n - 1) (λ j m e. walked-keeps .is j (omega arith) e))) (h .apart)),
+                )
 
             -- the loop's end by definition
             entering-is : {v : PartReq} {r : ℕ → PartReq} {aside : List PartReq} {k : Exit → PartReq} {c : Carried} (h : Stands S v r aside k c s rs n x p) (z : Bool) → q₃ .full ≡ z →
@@ -223,12 +224,12 @@ module _ {S : Scope} {s rs : List ℕ} {n : ℕ} {x : Exits} (d : Ready S s rs n
               unfolding enter
               joined-table f again h = record {
                 is = λ j m.
-                  elim (ℕ-discrete j l) [
-                    | yes e ↦
-                        rw e (last .joined g ∙ ap (add (inSlot t₂ us₂ (n + 1))) (h .is l low) ∙ sym (join-at l (inSlot t₂ us₂ (n + 1)) (f .table) l ∙ rw (eq-eqb l l refl)))
-                    | no e ↦
-                        last .others g j m e ∙ h .is j m ∙ sym (join-at l (inSlot t₂ us₂ (n + 1)) (f .table) j ∙ rw (ne-eqb l j (λ z. e (sym z))))
-                  ];
+                    elim (ℕ-discrete j l) [
+                      | yes e ↦
+                          rw e (last .joined g ∙ ap (add (inSlot t₂ us₂ (n + 1))) (h .is l low) ∙ sym (join-at l (inSlot t₂ us₂ (n + 1)) (f .table) l ∙ rw (eq-eqb l l refl)))
+                      | no e ↦
+                          last .others g j m e ∙ h .is j m ∙ sym (join-at l (inSlot t₂ us₂ (n + 1)) (f .table) j ∙ rw (ne-eqb l j (λ z. e (sym z))))
+                    ];
                 short = join-long l (inSlot t₂ us₂ (n + 1)) (f .table) tableSize low (h .short);
               }
 

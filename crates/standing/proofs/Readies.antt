@@ -45,10 +45,10 @@ module _ {S : Scope} {s rs : List ℕ} {n : ℕ} (d : Ready S s rs n) (a : ℕ) 
       good = d .live .loose .good;
       few = rw (length-set rs j a) few;
       pieces = λ i b.
-        elim (ℕ-discrete i j) [
-          | yes e ↦ rw (e, getD-set-same rs j a 0 h) low
-          | no e ↦ rw (getD-set-other rs j i a 0 e) (d .live .loose .pieces i (g i b e))
-        ];
+          elim (ℕ-discrete i j) [
+            | yes e ↦ rw (e, getD-set-same rs j a 0 h) low
+            | no e ↦ rw (getD-set-other rs j i a 0 e) (d .live .loose .pieces i (g i b e))
+          ];
       long = d .live .loose .long;
     };
     slim = d .live .slim;
@@ -88,9 +88,9 @@ ready-pushed {S} {s} {rs} {t} {us} {n} {p} d need w e = record {
   live = w .live e;
   high = omega (arith, d .high);
   needs = λ j l o.
-    elim (ℕ-discrete j n) [
-      | yes i ↦ rw (i, w .here e) need
-      | no i ↦ rw (w .kept e j (omega arith)) (d .needs j (omega arith) o)
-    ];
+      elim (ℕ-discrete j n) [
+        | yes i ↦ rw (i, w .here e) need
+        | no i ↦ rw (w .kept e j (omega arith)) (d .needs j (omega arith) o)
+      ];
   asked = rw (w .kept e askedSlot (omega (arith, d .high))) (d .asked);
 }

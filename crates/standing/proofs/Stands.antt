@@ -129,8 +129,8 @@ module _ {S : Scope} {v : PartReq} {r : ℕ → PartReq} {aside : List PartReq} 
           continued = l .continued;
           returned = l .returned;
           apart =
-            rw o
-            (reach-trans (aside-more t us n (omega arith))
-            (rw g (reach-cons y′ (reach-trans (rw i at (aside-more t us (n - 1) (omega arith))) (rw e (reach-cons y apart-on))))));
+              rw o
+              (reach-trans (aside-more t us n (omega arith))
+              (rw g (reach-cons y′ (reach-trans (rw i at (aside-more t us (n - 1) (omega arith))) (rw e (reach-cons y apart-on))))));
           carries = z;
         }

@@ -181,10 +181,11 @@ module _ (fits : Fitting) {S : Scope} {s rs : List ℕ} {n : ℕ} {x : Exits} (d
           let i : (n + 1) - 1 ≡ n = omega arith in
           let f = copied-stands d y room h in
           let w = first .is v r (k next ∷ aside) k c f .on g in
-          let u = went-stands (omega arith) (targets-more y (omega arith)) f (first .kept g) w in
-          (blame l (w .carried),
-          broken-is h ∙ ap (λ o. o >>= λ d m. within (k next ∷ m ∷ aside) (kept a (k next) m) (blame l d)) (rw i at (w .is)),
-          blamed-stands (rw i at u))
+          let u = went-stands (omega arith) (targets-more y (omega arith)) f (first .kept g) w in (
+            blame l (w .carried),
+            broken-is h ∙ ap (λ o. o >>= λ d m. within (k next ∷ m ∷ aside) (kept a (k next) m) (blame l d)) (rw i at (w .is)),
+            blamed-stands (rw i at u),
+          )
 
       pub walked-broken : b ≡ true → Walked S (inside (unmarked l mark a)) s rs n x p t₁ us₁ q′
       unfolding upon

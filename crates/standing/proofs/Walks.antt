@@ -79,10 +79,10 @@ module _ {S : Scope} {s rs : List ℕ} {n : ℕ} {x : Exits} where
       ready = second .ready;
       kept = λ g. keeps-trans (omega arith) (first .kept e) (second .kept g);
       is = λ v r aside k c h.
-        let w = first .is v r aside k c h .on e in
-        let m : PartReq = inSlot t us (n - 1) in
-        came-is (sym (ap (λ o. o >>= λ d m. passInside (settingOf S v) r a aside (upon m k) (point m d)) (w .is)))
-        (second .is v r aside (upon m k) (point m (w .carried)) (stands-point (went-stands h (first .kept e) w) d));
+          let w = first .is v r aside k c h .on e in
+          let m : PartReq = inSlot t us (n - 1) in
+          came-is (sym (ap (λ o. o >>= λ d m. passInside (settingOf S v) r a aside (upon m k) (point m d)) (w .is)))
+          (second .is v r aside (upon m k) (point m (w .carried)) (stands-point (went-stands h (first .kept e) w) d));
     }
 
     -- with the points before and after it
