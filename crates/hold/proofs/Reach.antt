@@ -1,24 +1,23 @@
 -- Lists of needs that reach the same cells (`Reach`): the cells of each need of the one are reached by the other, need by need (`each-in`).
-use Prim.Native.Nat.{ℕ, zero, suc, _<_}
-use native.Mathlib.Omega.{arith}
-use mathlib.Core.Path.{_≡_, refl, sym, _∙_}
-use mathlib.Core.Bool.{true, cond, _||_}
+use Prim.Native.Nat.{ℕ, zero, suc}
+use mathlib.Core.Path.{_≡_}
+use mathlib.Core.Bool.{true, cond}
 use mathlib.Core.List.{List, [], _∷_, _++_, flatMap}
 use lib.Dec.{ltb}
-use lib.ListN.{length, getD}
+use lib.ListN.{getD}
 use Rattle.part.specs.PartReq.{PartReq, all, exist, none, more, gone, there, getSubpart}
 use Rattle.part.specs.Count.{same, among}
 use Rattle.part.specs.Collect.{cellsIn, reached, cellsOf}
 use Rattle.part.specs.Summed.{sub}
-use Rattle.part.proofs.Counting.{same-refl, same-is, by-bool}
-use Rattle.part.proofs.Distinct.{or-left, or-right-true, or-cases, untrue, among-left, among-right, among-cases, Among, once-set}
+use Rattle.part.proofs.Counting.{same-is, by-bool}
+use Rattle.part.proofs.Distinct.{or-right-true, or-cases, untrue, among-left, among-right, among-cases, Among, once-set}
 use Rattle.part.proofs.Reached.{sub-cells}
 use Rattle.part.proofs.Summing.{sub-self}
 use Rattle.clearance.specs.Shape.{orNone, below}
 use Rattle.hold.specs.Hold.{Reach}
 
 -- the cells of a need of a list
-pub one-in : (p : PartReq) (l : List PartReq) → among p l ≡ true → Among (cellsIn p) (reached l)
+one-in : (p : PartReq) (l : List PartReq) → among p l ≡ true → Among (cellsIn p) (reached l)
 unfolding flatMap
 one-in p [] e q z = untrue (unfold among in e)
 one-in p (o ∷ l) e q z =
@@ -26,23 +25,23 @@ one-in p (o ∷ l) e q z =
     (λ y. among-left q (cellsIn o) (reached l) (rw (same-is p o y) at z))
     (λ y. among-right q (cellsIn o) (reached l) (one-in p l y q z))
 
-pub none-in : (l : List PartReq) → Among (cellsIn none) l
+none-in : (l : List PartReq) → Among (cellsIn none) l
 none-in l q z = untrue (unfold cellsIn among in z)
 
-pub at-in : (l : List PartReq) (j : ℕ) → Among (cellsIn (getD l j none)) (reached l)
+at-in : (l : List PartReq) (j : ℕ) → Among (cellsIn (getD l j none)) (reached l)
 unfolding flatMap
 at-in [] j q z = untrue (unfold cellsIn among in z)
 at-in (p ∷ l) zero q z = among-left q (cellsIn p) (reached l) z
 at-in (p ∷ l) (suc j) q z = among-right q (cellsIn p) (reached l) (at-in l j q z)
 
-pub each-in : (l m : List PartReq) → ((j : ℕ) → Among (cellsIn (getD l j none)) (reached m)) → Among (reached l) (reached m)
+each-in : (l m : List PartReq) → ((j : ℕ) → Among (cellsIn (getD l j none)) (reached m)) → Among (reached l) (reached m)
 unfolding flatMap
 each-in [] m h q z = untrue (unfold among in z)
 each-in (p ∷ l) m h q z =
     among-cases (among q (reached m) ≡ true) q (cellsIn p) (reached l) z (λ y. h 0 q y) (λ y. each-in l m (λ j. h (suc j)) q y)
 
 -- two lists together
-pub left-in : (l m : List PartReq) → Among (reached l) (reached (l ++ m))
+left-in : (l m : List PartReq) → Among (reached l) (reached (l ++ m))
 unfolding flatMap
 left-in [] m q z = untrue (unfold among in z)
 left-in (p ∷ l) m q z =
@@ -50,12 +49,12 @@ left-in (p ∷ l) m q z =
     (λ y. among-left q (cellsIn p) (reached (l ++ m)) y)
     (λ y. among-right q (cellsIn p) (reached (l ++ m)) (left-in l m q y))
 
-pub right-in : (l m : List PartReq) → Among (reached m) (reached (l ++ m))
+right-in : (l m : List PartReq) → Among (reached m) (reached (l ++ m))
 unfolding flatMap
 right-in [] m q z = z
 right-in (p ∷ l) m q z = among-right q (cellsIn p) (reached (l ++ m)) (right-in l m q z)
 
-pub both-in : (l m k : List PartReq) → Among (reached l) (reached k) → Among (reached m) (reached k) → Among (reached (l ++ m)) (reached k)
+both-in : (l m k : List PartReq) → Among (reached l) (reached k) → Among (reached m) (reached k) → Among (reached (l ++ m)) (reached k)
 unfolding flatMap
 both-in [] m k f g q z = g q z
 both-in (p ∷ l) m k f g q z =
@@ -63,13 +62,9 @@ both-in (p ∷ l) m k f g q z =
     (λ y. f q (among-left q (cellsIn p) (reached l) y))
     (λ y. both-in l m k (λ o x. f o (among-right o (cellsIn p) (reached l) x)) g q y)
 
-pub cons-in : (p : PartReq) (m k : List PartReq) → Among (cellsIn p) (reached k) → Among (reached m) (reached k) → Among (reached (p ∷ m)) (reached k)
+cons-in : (p : PartReq) (m k : List PartReq) → Among (cellsIn p) (reached k) → Among (reached m) (reached k) → Among (reached (p ∷ m)) (reached k)
 unfolding flatMap
 cons-in p m k f g q z = among-cases (among q (reached k) ≡ true) q (cellsIn p) (reached m) z (f q) (g q)
-
-pub head-in : (p : PartReq) (l : List PartReq) → Among (cellsIn p) (reached (p ∷ l))
-unfolding flatMap
-head-in p l q z = among-left q (cellsIn p) (reached l) z
 
 tail-in : (p : PartReq) (l : List PartReq) → Among (reached l) (reached (p ∷ l))
 unfolding flatMap
@@ -120,7 +115,7 @@ reach-behind p [] l = reach-refl (p ∷ l)
 reach-behind p (q ∷ k) l = reach-trans (reach-exchange p q (k ++ l)) (reach-cons q (reach-behind p k l))
 
 -- a need whose cells are reached already adds nothing
-pub reach-again : (p : PartReq) (l : List PartReq) → Among (cellsIn p) (reached l) → Reach (p ∷ l) l
+reach-again : (p : PartReq) (l : List PartReq) → Among (cellsIn p) (reached l) → Reach (p ∷ l) l
 reach-again p l h = record { into = cons-in p l l h (λ q z. z); back = tail-in p l }
 
 pub reach-none : (l : List PartReq) → Reach (none ∷ l) l
@@ -131,10 +126,6 @@ reach-sub p q l h e = reach-again p l (λ o z. one-in q l e o (sub-cells p q h o
 
 pub reach-among : (p : PartReq) (l : List PartReq) → among p l ≡ true → Reach (p ∷ l) l
 reach-among p l e = reach-sub p p l (sub-self p) e
-
--- all needs of a list that is reached already
-pub reach-absorb : (k l : List PartReq) → Among (reached k) (reached l) → Reach (k ++ l) l
-reach-absorb k l h = record { into = both-in k l l h (λ q z. z); back = right-in k l }
 
 -- a part at a path adds nothing to its need
 cell-in : (i : ℕ) (p r : PartReq) → Among (cellsIn p ++ cellsIn r) (cellsIn (more i p r))
