@@ -64,7 +64,7 @@ fault-lower l m h g =
           rw (ne-eqb l absent (λ e. omega arith)) (by-eqb (eqb m absent))
     ]
   where
-    by-eqb : (b : Bool) → some l ≡ elim (cond b nothing (some m)) [ | nothing ↦ some l | some k ↦ some (cond (ltb k l) k l) ]
+    by-eqb : (b : Bool) → some l ≡ elim (cond b nothing (some m)) [ nothing ↦ some l | some k ↦ some (cond (ltb k l) k l) ]
     by-eqb true = refl
     by-eqb false = ap some (sym (rw (le-ltb m l (omega arith))))
 

@@ -5,9 +5,9 @@ ghost use Prim.Native.Nat.{_<_, _-_};
 ghost use Rattle.field.specs.Limits.{absent};
 ghost use Rattle.hold.specs.Hold.{inSlot, Live};
 ghost use Rattle.standing.specs.Standing.{Noted, Blames};
-use standing::passing::Passing;
 use field::limits::MAX_PIECES;
 use part::store::measure;
+use standing::passing::Passing;
 
 // At a point, with the needs at hand: whether they pass 15, and 16.
 pub fn note(cells: &[u32], roots: &[u32], n: usize, p: Passing) -> Passing

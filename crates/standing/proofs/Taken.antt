@@ -18,6 +18,7 @@ use Rattle.pass.specs.Pass.{workBound, Carried, Passed, on, full, _>>=_, blame,
 use Rattle.pass.specs.Checked.{askedOf}
 use Rattle.hold.specs.Hold.{heldBy, inSlot, Live, Reach}
 use Rattle.hold.proofs.Reach.{reach-cells}
+use Rattle.hold.proofs.Slots.{live-within}
 use Rattle.standing.specs.Slots.{tableSize, askedSlot, endSlot, stackSlot, Ready}
 use Rattle.standing.specs.Standing.{settingOf, Carries, TableIn, Targets, Stands, Went, Walked, passedBy, Stepped, Closed, Blames, Valued, Keeps, Stretch, inside, around, step, outcome}
 use Rattle.standing.specs.declared.passing.Passing.{Passing}
@@ -29,14 +30,11 @@ use Rattle.standing.proofs.Walks.{went-is, went-stands, walked-full, wa
 use Rattle.standing.proofs.Arms.{keeps-set, targets-more, table-kept, closed-went, closed-full, copied-ready, copied-stands}
 
 -- what the slots reach is within the bound
-abbrev pub Fitting : Type 0
-Fitting = (s rs : List ℕ) (n : ℕ) → Live s rs n → ltb workBound (cellsOf (heldBy s rs n)) ≡ false
-
-pub within-fits : Fitting → {s rs : List ℕ} {n : ℕ} {m : PartReq} (l : List PartReq) {c : Carried} → Live s rs n → Reach (heldBy s rs n) (m ∷ (l ++ c .table)) → within l m c ≡ on c m
+pub within-fits : {s rs : List ℕ} {n : ℕ} {m : PartReq} (l : List PartReq) {c : Carried} → Live s rs n → Reach (heldBy s rs n) (m ∷ (l ++ c .table)) → within l m c ≡ on c m
 unfolding within tooLarge
-within-fits fits {s} {rs} {n} {m} l {c} d h = rw (← reach-cells h, fits s rs n d)
+within-fits {s} {rs} {n} {m} l {c} d h = rw (← reach-cells h, live-within d)
 
-module _ (fits : Fitting) {S : Scope} {s rs : List ℕ} {n : ℕ} {x : Exits} (d : Ready S s rs n) (y : Targets n x) where
+module _ {S : Scope} {s rs : List ℕ} {n : ℕ} {x : Exits} (d : Ready S s rs n) (y : Targets n x) where
   -- the needs at hand become those of a slot that is kept aside
   module _ (e : ℕ) (low : endSlot ≤ e) (below : e + 1 < n) where
     taken : List ℕ
@@ -67,7 +65,7 @@ module _ (fits : Fitting) {S : Scope} {s rs : List ℕ} {n : ℕ} {x : Exits} (d
         let z = taken-stands h in
         record {
           carried = c;
-          is = f v r aside k c h ∙ ap (λ m. within aside m c) (sym taken-last) ∙ within-fits fits aside (taken-ready .live) (stands-reach z taken-ready);
+          is = f v r aside k c h ∙ ap (λ m. within aside m c) (sym taken-last) ∙ within-fits aside (taken-ready .live) (stands-reach z taken-ready);
           carries = h .carries;
           new = z .new;
         })
