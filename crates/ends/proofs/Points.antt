@@ -55,23 +55,29 @@ point-wide {p} {e} {d} {w} h l =
     ]
 
 -- the lower of two statements, where 65535 is none
-pub fault-lower : (l m : ℕ) → l < absent → l < m → optionOf l ≡ lower l (optionOf m)
-unfolding optionOf lower
-fault-lower l m h g =
-    elim (decLt m absent) [
-      | yes z ↦ rw (ne-eqb l absent (λ e. omega arith), ne-eqb m absent (λ e. omega arith), le-ltb m l (omega arith))
-      | no z ↦
-          rw (ne-eqb l absent (λ e. omega arith)) (by-eqb (eqb m absent))
+lower-some : (l m : ℕ) → l ≤ m → lower l (some m) ≡ some l
+unfolding lower
+lower-some l m h = rw (le-ltb m l h)
+
+lower-other : (l m : ℕ) → m ≤ l → lower l (some m) ≡ some m
+unfolding lower
+lower-other l m h =
+    elim (decLt m l) [
+      | yes z ↦ rw (lt-ltb m l z)
+      | no z ↦ let e : l ≡ m = omega arith in rw (le-ltb m l (omega arith)) (ap some e)
     ]
+
+present-is : (l : ℕ) → l < absent → optionOf l ≡ some l
+unfolding optionOf
+present-is l h = rw (ne-eqb l absent (λ e. omega arith))
+
+pub fault-lower : (l m : ℕ) → l < absent → l < m → optionOf l ≡ lower l (optionOf m)
+unfolding optionOf
+fault-lower l m h g = present-is l h ∙ sym (either (eqb m absent))
   where
-    by-eqb : (b : Bool) → some l ≡ elim (cond b nothing (some m)) [ nothing ↦ some l | some k ↦ some (cond (ltb k l) k l) ]
-    by-eqb true = refl
-    by-eqb false = ap some (sym (rw (le-ltb m l (omega arith))))
+    either : (b : Bool) → lower l (cond b nothing (some m)) ≡ some l
+    either true = unfold lower in refl
+    either false = lower-some l m (omega arith)
 
 pub fault-same : (l m : ℕ) → m ≤ l → l < absent → optionOf m ≡ lower l (optionOf m)
-unfolding optionOf lower
-fault-same l m h g = rw (ne-eqb m absent (λ e. omega arith)) (ap some (sym (least (decLt m l))))
-  where
-    least : Dec (m < l) → cond (ltb m l) m l ≡ m
-    least (yes z) = rw (lt-ltb m l z)
-    least (no z) = rw (le-ltb m l (omega arith)) (omega arith)
+fault-same l m h g = let e = present-is m (omega arith) in rw e (sym (lower-other l m h))
