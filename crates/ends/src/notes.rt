@@ -1,6 +1,6 @@
 // What is carried along at a point, and of a statement that breaks its rule.
 ghost use mathlib.Core.Path.{_≡_};
-ghost use mathlib.Core.Bool.{_||_};
+ghost use mathlib.Core.Bool.{_&&_, _||_};
 ghost use Prim.Native.Nat.{_<_, _-_};
 ghost use Rattle.field.specs.Limits.{absent};
 ghost use Rattle.hold.specs.Hold.{inSlot, Live};
@@ -53,4 +53,14 @@ pub fn blame(l: u16, p: Passing) -> Passing
         };
     }
     p
+}
+
+// Both of two tests.
+pub fn both(a: bool, b: bool) -> bool
+    ensures { λ r. ⌜ r ≡ (a && b) ⌝ }
+{
+    if a {
+        return b;
+    }
+    false
 }
