@@ -4,3 +4,4 @@ pub mod Lists
 pub mod Asking
 pub mod Covered
 pub mod Starting
+pub mod Status
