@@ -10,7 +10,7 @@ use lib.Dec.{ltb}
 use lib.ListN.{length}
 use borrow.Author.Tests.{lt-ltb, le-ltb}
 use Rattle.part.specs.PartReq.{PartReq, more}
-use Rattle.request.specs.Fields.{Read, malformed, got, _>>=_, whole}
+use Rattle.request.specs.Fields.{Read, malformed, got, _>>=_}
 use Rattle.request.specs.Part.{readPart, readEntries}
 use Rattle.request.specs.Request.{allBelow}
 use Rattle.request.specs.Answers.{from}

@@ -63,7 +63,7 @@ sooner : (b : List ℕ) (at : ℕ) (a : Checked) → CheckPlaced b (at + 2) a �
 sooner b at checks.Malformed h = tt
 sooner b at (checks.Next known next) h = (omega (arith, h .0), h .1)
 
-variables-are : {b : List ℕ} {at n : ℕ} → Field b at n → readVariables (from b at) ≡ readEntries (readPart maxDepth) spine 0 n (from b (at + 2))
+pub variables-are : {b : List ℕ} {at n : ℕ} → Field b at n → readVariables (from b at) ≡ readEntries (readPart maxDepth) spine 0 n (from b (at + 2))
 unfolding readVariables
 variables-are {b} {at} f = rw (from-cons b at (f .inside), ← f .is)
 
