@@ -1,3 +1,4 @@
 pub mod Shapes
 pub mod Leaves
 pub mod Taking
+pub mod Places
