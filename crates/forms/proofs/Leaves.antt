@@ -9,20 +9,20 @@ use mathlib.Core.List.{List, [], _∷_}
 use lib.Dec.{eqb}
 use lib.ListN.{getD}
 use borrow.Author.Tests.{lt-ltb, le-ltb, eq-eqb, ne-eqb}
-use Rattle.part.specs.PartReq.{PartReq, all, exist, none, more, Subpart, gone, there, getSubpart, isAll, width}
-use Rattle.part.specs.Ascending.{Ascending, From}
+use Rattle.part.specs.PartReq.{PartReq, all, exist, none, more, gone, there, getSubpart, isAll, width}
+use Rattle.part.specs.Ascending.{From}
 use Rattle.part.proofs.Ascending.{from-ascending}
 use Rattle.part.proofs.Equations.{never, Way, before, after, at, way, getSubpart-none, getSubpart-before, getSubpart-at, getSubpart-after}
 use Rattle.module.specs.Module.{TypeInner, Scalar, Vector, Matrix, Atomic, Pointer, Array, Struct, BindingArray, Opaque}
 use Rattle.module.proofs.Knot.{knot-all}
 use Rattle.context.specs.Types.{typesOf, Sized, AllSized}
-use Rattle.clearance.specs.Shape.{Shape, number, void, struct, array, member, isVoid, isWhole, some, keep, members, split}
+use Rattle.clearance.specs.Shape.{Shape, number, void, struct, array, member, isWhole, some, keep, members, split}
 use Rattle.clearance.specs.Scope.{memberTypes, vectorShape, unfoldType}
 use Rattle.clearance.specs.IsNeed.{Tidy, IsNeed}
 use Rattle.needs.specs.Lean.{change, leaves}
 use Rattle.forms.specs.ShapeBy.{shapeIn, Members}
 use Rattle.forms.specs.Narrow.{levelCells, Narrow, orAll}
-use Rattle.forms.proofs.Shapes.{struct-in, struct-out}
+use Rattle.forms.proofs.Shapes.{struct-out}
 
 -- one entry
 module _ (i j : ℕ) (f : PartReq → PartReq) (c r : PartReq) where

@@ -2,3 +2,4 @@ pub mod Shapes
 pub mod Leaves
 pub mod Taking
 pub mod Places
+pub mod Trimming

@@ -2,31 +2,26 @@
 -- before it anew on both levels.
 use Prim.Native.Nat.{ℕ, zero, suc, _+_, _-_, _*_, _/_, _<_, _≤_}
 use native.Mathlib.Omega.{arith}
-use native.Mathlib.Numerals.{add-one}
-use native.Mathlib.Nat.{div-lt-iff-lt-mul}
 use mathlib.Core.Path.{_≡_, refl, sym, ap, _∙_}
-use mathlib.Core.Bool.{Bool, true, false}
-use mathlib.Core.List.{List, [], _∷_}
+use mathlib.Core.Bool.{true, false}
+use mathlib.Core.List.{List, _∷_}
 use lib.ListN.{length, getD, drop, length-drop}
 use lib.Seq.{drop-cons}
-use Rattle.part.specs.PartReq.{PartReq, all, exist, none, more, gone, there, getSubpart, isAll, width, spine}
-use Rattle.part.specs.Store.{top, part, Good, Kept, Room, Made}
+use Rattle.part.specs.PartReq.{PartReq, all, exist, none, more, there, getSubpart, isAll, width, spine}
+use Rattle.part.specs.Store.{top, part, Good, Room, Made}
 use Rattle.part.specs.Found.{Got}
 use Rattle.part.specs.declared.req.Found.{Found}
 use Rattle.part.specs.declared.req.Found.the-variants.{Gone, There}
-use Rattle.part.proofs.Equations.{never, Way, before, after, at, way, getSubpart-exist, getSubpart-none, getSubpart-before, getSubpart-at, getSubpart-after}
+use Rattle.part.proofs.Equations.{before, after, at, way, getSubpart-exist, getSubpart-none, getSubpart-before, getSubpart-at, getSubpart-after}
 use Rattle.part.proofs.Write.{stay}
 use Rattle.part.proofs.Making.{kept-trans}
-use Rattle.module.specs.File.{accepted, readModule}
 use Rattle.module.specs.Tables.{functionOf, moduleOf}
 use Rattle.access.specs.Access.{globalAt, localAt}
 use Rattle.access.proofs.Access.{global-is, local-is}
 use Rattle.valid.proofs.Accepted.{valid}
-use Rattle.context.specs.Types.{typesOf}
-use Rattle.clearance.specs.Shape.{Shape, struct, member, extent, isWhole, some, keep}
+use Rattle.clearance.specs.Shape.{Shape, member, extent, isWhole, some}
 use Rattle.clearance.specs.Scope.{Scope, variable, typeOf, slots, kindShape, frame, shapeOf, expressionsOf}
 use Rattle.clearance.specs.IsNeed.{Tidy, IsNeed}
-use Rattle.judge.specs.Alike.{Lower}
 use Rattle.judge.specs.Given.{scopeAt}
 use Rattle.judge.proofs.PathSteps.{function-valid}
 use Rattle.needs.specs.Lean.{change, leaves}
@@ -34,10 +29,9 @@ use Rattle.needs.specs.Framed.{Framed}
 use Rattle.forms.specs.ShapeBy.{shapeBy}
 use Rattle.forms.specs.Narrow.{levelCells, Narrow}
 use Rattle.forms.specs.Frames.{Framing, Rooted, placeCells}
-use Rattle.forms.specs.declared.form.Form.{Form}
 use Rattle.forms.specs.declared.form.Form.the-variants.{Of}
 use Rattle.forms.proofs.Shapes.{shape-is, struct-in}
-use Rattle.forms.proofs.Leaves.{change-before, change-at, change-after, leaves-gone, leaves-there, change-same, need-entry, gone-there, inside, struct-width, narrow-type}
+use Rattle.forms.proofs.Leaves.{leaves-gone, leaves-there, change-same, need-entry, gone-there, inside, struct-width, narrow-type}
 use Rattle.forms.proofs.Taking.{Left, EntryAsked, Changed, OutAsked, got-gone, got-there}
 
 -- a kind of variables: so many, each with its shape
@@ -48,7 +42,7 @@ pub record Slots (v : Shape) : Type 0 where
   pub few : count ≤ 64
   pub narrow : (j : ℕ) → Narrow (shape j)
 
-slot-at : (n v : ℕ) (shape : ℕ → Shape) → v < n → member (slots n shape) (variable v) ≡ shape v
+pub slot-at : (n v : ℕ) (shape : ℕ → Shape) → v < n → member (slots n shape) (variable v) ≡ shape v
 unfolding slots
 slot-at n v shape h =
     let z : variable v - spine ≡ v = omega arith in
@@ -151,10 +145,10 @@ module _ {bytes t types : List ℕ} {f : ℕ} (F : Framing bytes t f types) wher
 two-first : (path : List ℕ) → 2 ≤ length path → path ≡ getD path 0 0 ∷ (getD path 1 0 ∷ drop 2 path)
 two-first path h = drop-cons path 0 0 (omega arith) ∙ ap (λ q. getD path 0 0 ∷ q) (drop-cons path 1 0 (omega arith))
 
-frame-count : Scope → ℕ
+unfoldable pub frame-count : Scope → ℕ
 frame-count S = 5 + length (expressionsOf S) / 32
 
-frame-is : (S : Scope) → frame S ≡ slots (frame-count S) (kindShape S)
+pub frame-is : (S : Scope) → frame S ≡ slots (frame-count S) (kindShape S)
 unfolding frame frame-count
 frame-is S = refl
 

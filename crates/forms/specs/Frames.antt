@@ -3,11 +3,14 @@ use Prim.Native.Nat.{ℕ, _+_, _*_, _<_, _≤_}
 use mathlib.Core.Path.{_≡_}
 use mathlib.Core.List.{List}
 use lib.ListN.{length, getD}
+use Rattle.part.specs.PartReq.{PartReq, none}
 use Rattle.module.specs.File.{accepted, readModule}
 use Rattle.module.specs.Tables.{moduleOf}
 use Rattle.context.specs.Types.{typesOf, AllSized}
-use Rattle.clearance.specs.Scope.{variable}
+use Rattle.clearance.specs.Shape.{Shape, keep, trim}
+use Rattle.clearance.specs.Scope.{variable, slots}
 use Rattle.judge.specs.Alike.{Lower}
+use Rattle.forms.specs.ShapeBy.{shapeIn}
 use Rattle.forms.specs.Narrow.{levelCells}
 
 -- a function of a module that was read, and the table of its types
@@ -29,3 +32,10 @@ pub record Rooted (path : List ℕ) : Type 0 where
 -- the cells that taking a place out makes: the frame's maps and one map's variables anew, and those along the path
 abbrev pub placeCells : List ℕ → ℕ
 placeCells path = 128 + levelCells * length path
+
+-- the shape of a module's globals, and what a request asks of them within it: the frame's and the clearance's (proofs/Trimming)
+unfoldable pub globalsShape : List ℕ → List ℕ → List ℕ → Shape
+globalsShape bytes t types = slots (length (moduleOf bytes t .globals)) (λ g. shapeIn (typesOf types) (getD (moduleOf bytes t .globals) g 0))
+
+unfoldable pub trimGlobals : List ℕ → List ℕ → List ℕ → PartReq → PartReq
+trimGlobals bytes t types p = keep (variable 0) (trim p (globalsShape bytes t types)) none

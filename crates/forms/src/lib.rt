@@ -2,3 +2,4 @@
 pub mod form;
 pub mod place;
 pub mod take;
+pub mod trim;

@@ -1,7 +1,6 @@
 // Needs without the value of a place of the frame.
 ghost use mathlib.Core.Path.{_≡_};
 ghost use Prim.Native.Nat.{_+_, _*_, _≤_, _<_};
-ghost use lib.ListN.{length};
 ghost use Rattle.part.specs.Store.{top, part, Good, Room, Made};
 ghost use Rattle.clearance.specs.Shape.{member, extent};
 ghost use Rattle.clearance.specs.Scope.{variable, kindShape, frame};
