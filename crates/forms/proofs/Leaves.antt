@@ -9,20 +9,20 @@ use mathlib.Core.List.{List, [], _∷_}
 use lib.Dec.{eqb}
 use lib.ListN.{getD}
 use borrow.Author.Tests.{lt-ltb, le-ltb, eq-eqb, ne-eqb}
-use Rattle.part.specs.PartReq.{PartReq, all, exist, none, more, Subpart, gone, there, getSubpart, isAll, width}
-use Rattle.part.specs.Ascending.{Ascending, From}
+use Rattle.part.specs.PartReq.{PartReq, all, exist, none, more, gone, there, getSubpart, isAll, width}
+use Rattle.part.specs.Ascending.{From}
 use Rattle.part.proofs.Ascending.{from-ascending}
 use Rattle.part.proofs.Equations.{never, Way, before, after, at, way, getSubpart-none, getSubpart-before, getSubpart-at, getSubpart-after}
 use Rattle.module.specs.Module.{TypeInner, Scalar, Vector, Matrix, Atomic, Pointer, Array, Struct, BindingArray, Opaque}
 use Rattle.module.proofs.Knot.{knot-all}
 use Rattle.context.specs.Types.{typesOf, Sized, AllSized}
-use Rattle.clearance.specs.Shape.{Shape, number, void, struct, array, member, isVoid, isWhole, some, keep, members, split}
+use Rattle.clearance.specs.Shape.{Shape, number, void, struct, array, member, isWhole, some, keep, members, split}
 use Rattle.clearance.specs.Scope.{memberTypes, vectorShape, unfoldType}
 use Rattle.clearance.specs.IsNeed.{Tidy, IsNeed}
 use Rattle.needs.specs.Lean.{change, leaves}
 use Rattle.forms.specs.ShapeBy.{shapeIn, Members}
 use Rattle.forms.specs.Narrow.{levelCells, Narrow, orAll}
-use Rattle.forms.proofs.Shapes.{struct-in, struct-out}
+use Rattle.forms.proofs.Shapes.{struct-out}
 
 -- one entry
 module _ (i j : ℕ) (f : PartReq → PartReq) (c r : PartReq) where
@@ -191,7 +191,7 @@ tidy-void none s h = never s
 tidy-void (more i p r) s h = tidy-void p (h .0) (h .1 .0)
 
 -- an entry of a struct lies in it
-inside : (b n : ℕ) (f : ℕ → Shape) (i : ℕ) (p : PartReq) → some p ≡ true → Tidy p (member (struct b n f) i) → (b ≤ i) × (i < b + n)
+pub inside : (b n : ℕ) (f : ℕ → Shape) (i : ℕ) (p : PartReq) → some p ≡ true → Tidy p (member (struct b n f) i) → (b ≤ i) × (i < b + n)
 unfolding member
 inside b n f i p s h =
     elim (decLt i b) [
@@ -245,21 +245,44 @@ no-all k exist h = absurd h
 no-all k none h = refl
 no-all k (more j c r) h = refl
 
-gone-there : {A : Type 0} {d : PartReq} → gone ≡ there d → A
+pub gone-there : {A : Type 0} {d : PartReq} → gone ≡ there d → A
 gone-there e = let z : _≡_ {A = ℕ} 0 1 = cc in absurd (omega arith)
 
-pub need-child : (t : Shape) (p : PartReq) (i : ℕ) (d : PartReq) → IsNeed t p → isAll p ≡ false → getSubpart p i ≡ there d → IsNeed (member t i) d
-need-child t all i d N a e = never (sym a)
-need-child t exist i d N a e = absurd (N .tidy)
-need-child t none i d N a e = gone-there (sym (getSubpart-none i) ∙ e)
-need-child t (more j c r) i d N a e =
+pub need-entry : (t : Shape) (p : PartReq) (i : ℕ) (d : PartReq) → IsNeed t p → isAll p ≡ false → getSubpart p i ≡ there d → (some d ≡ true) × IsNeed (member t i) d
+need-entry t all i d N a e = never (sym a)
+need-entry t exist i d N a e = absurd (N .tidy)
+need-entry t none i d N a e = gone-there (sym (getSubpart-none i) ∙ e)
+need-entry t (more j c r) i d N a e =
     elim (way i j) [
       | before h ↦ gone-there (sym (getSubpart-before j i c r h) ∙ e)
       | after h ↦
-          need-child t r i d (record { ascends = from-ascending (suc j) r (N .ascends .1); tidy = N .tidy .1 .1 })
+          need-entry t r i d (record { ascends = from-ascending (suc j) r (N .ascends .1); tidy = N .tidy .1 .1 })
           (no-all (suc j) r (N .ascends .1)) (sym (getSubpart-after j i c r h) ∙ e)
       | at h ↦
           let z : there c ≡ there d = sym (getSubpart-at j i c r (sym h)) ∙ e in
           let y : c ≡ d = cc in
-          rw (← y, h) (record { ascends = N .ascends .0; tidy = N .tidy .1 .0 })
+          rw (← y, h) (N .tidy .0, record { ascends = N .ascends .0; tidy = N .tidy .1 .0 })
+    ]
+
+-- an entry that stays as it is
+keep-some : (i : ℕ) (p r : PartReq) → some p ≡ true → keep i p r ≡ more i p r
+unfolding keep
+keep-some i all r e = refl
+keep-some i exist r e = never e
+keep-some i none r e = never e
+keep-some i (more j p s) r e = refl
+
+pub change-same : (i : ℕ) (p d : PartReq) → getSubpart p i ≡ there d → some d ≡ true → change i (λ c. d) p ≡ p
+unfolding change
+change-same i all d e s = refl
+change-same i exist d e s = refl
+change-same i none d e s = refl
+change-same i (more j c r) d e s =
+    elim (way i j) [
+      | before h ↦ change-before i j (λ x. d) c r h
+      | after h ↦ change-after i j (λ x. d) c r h ∙ ap (more j c) (change-same i r d (sym (getSubpart-after j i c r h) ∙ e) s)
+      | at h ↦
+          let z : there c ≡ there d = sym (getSubpart-at j i c r (sym h)) ∙ e in
+          let y : c ≡ d = cc in
+          change-at i j (λ x. d) c r h ∙ (keep-some j d r s ∙ ap (λ x. more j x r) (sym y))
     ]

@@ -1,11 +1,10 @@
 -- What a type's row says of its shape: how many parts it has, the shape of each, and how all of it is split. Each by the kind, since the types that a type is made of are lower.
 use Prim.Native.Nat.{ℕ, zero, suc, _+_, _<_, _≤_}
 use native.Mathlib.Omega.{arith}
-use native.Mathlib.Decide.{decLt}
 use mathlib.Core.Path.{_≡_, refl, sym, ap, _∙_}
-use mathlib.Core.Bool.{Bool, true, false, cond}
+use mathlib.Core.Bool.{Bool, true, false}
 use mathlib.Core.List.{List, [], _∷_, map}
-use lib.Dec.{ltb, eqb}
+use lib.Dec.{eqb}
 use lib.ListN.{length, getD}
 use borrow.Author.Tests.{lt-ltb, le-ltb, eq-eqb, ne-eqb}
 use Rattle.part.specs.PartReq.{all, spine}
@@ -20,7 +19,7 @@ use Rattle.clearance.specs.Scope.{Scope, inner, memberTypes, vectorShape, eleme
 use Rattle.judge.specs.Alike.{Lower}
 use Rattle.judge.specs.Shapes.{partCount}
 use Rattle.judge.proofs.TypeRows.{number as kindOf, row-is}
-use Rattle.forms.specs.ShapeBy.{shapeIn, shapeBy, Members, Parted}
+use Rattle.forms.specs.ShapeBy.{shapeIn, shapeBy, Parted}
 use Rattle.forms.specs.declared.form.Form.{Form}
 use Rattle.forms.specs.declared.form.Form.the-variants.{Void, Number, Vector as VectorForm, Of}
 use Rattle.forms.specs.declared.form.Split.{Split}
@@ -49,6 +48,10 @@ struct-in b n i f h l = rw (le-ltb i b h, lt-ltb i (b + n) l)
 pub struct-out : (b n i : ℕ) (f : ℕ → Shape) → b + n ≤ i → member (struct b n f) i ≡ void
 unfolding member
 struct-out b n i f h = let l : b ≤ i = omega arith in rw (le-ltb i b l, le-ltb i (b + n) h)
+
+pub struct-before : (b n i : ℕ) (f : ℕ → Shape) → i < b → member (struct b n f) i ≡ void
+unfolding member
+struct-before b n i f h = rw (lt-ltb i b h)
 
 struct-part : (n i : ℕ) (f : ℕ → Shape) → i < n → member (struct 0 n f) i ≡ f i
 struct-part n i f h = struct-in 0 n i f (omega arith) (omega arith)

@@ -3,15 +3,14 @@
 use Prim.Native.Nat.{ℕ, zero, suc, _+_, _-_, _*_, _<_, _≤_}
 use native.Mathlib.Omega.{arith}
 use native.Mathlib.Numerals.{add-one}
-use mathlib.Core.Path.{_≡_, refl, sym, ap, subst, _∙_}
+use mathlib.Core.Path.{_≡_, refl, sym, ap, _∙_}
 use mathlib.Core.Bool.{Bool, true, false}
-use mathlib.Core.List.{List, [], _∷_}
-use lib.Dec.{ltb, eqb}
+use mathlib.Core.List.{List, _∷_}
 use lib.ListN.{length, getD, drop}
 use lib.Seq.{drop-cons, drop-length}
 use borrow.Author.Tests.{lt-ltb, eq-eqb, ne-eqb}
-use Rattle.part.specs.PartReq.{PartReq, all, exist, none, more, gone, there, getSubpart, isAll, width}
-use Rattle.part.specs.Store.{means, top, part, Good, Kept, Room, Made, Seen}
+use Rattle.part.specs.PartReq.{PartReq, all, more, gone, there, getSubpart, width}
+use Rattle.part.specs.Store.{means, top, part, Good, Room, Made, Seen}
 use Rattle.part.specs.Found.{Got}
 use Rattle.part.specs.declared.req.Found.{Found}
 use Rattle.part.specs.declared.req.Found.the-variants.{Gone, There}
@@ -28,7 +27,7 @@ use Rattle.forms.specs.declared.form.Split.{Split}
 use Rattle.forms.specs.declared.form.Split.the-variants.{Whole, Into}
 use Rattle.forms.specs.Narrow.{levelCells, Narrow, orAll}
 use Rattle.forms.proofs.Leaves.{change-before, change-at, change-after, members-put, leaves-none, leaves-whole, leaves-one, leaves-gone, leaves-there, leaves-members}
-use Rattle.forms.proofs.Leaves.{narrow-member, narrow-members, need-width, need-child}
+use Rattle.forms.proofs.Leaves.{narrow-member, narrow-members, need-width, need-entry}
 
 -- `keep`
 keep-piece : (s : List ℕ) (c i : ℕ) (r : PartReq) → (c ≡ 1 → ⊥) → (c ≡ 2 → ⊥) → keep i (part s c) r ≡ more i (part s c) r
@@ -51,10 +50,10 @@ module _ {s : List ℕ} {c r : ℕ} (P : MakeAsked s c r) (i : ℕ) where
   kept-more a b m = as-made m (sym (keep-piece s c i (part s r) a b)) (omega arith)
 
 -- `change_entry`
-abbrev EntryAsked : List ℕ → ℕ → ℕ → Type 0
+abbrev pub EntryAsked : List ℕ → ℕ → ℕ → Type 0
 EntryAsked s p d = Good s × (((p < top s) × (d < top s)) × Room s (width (part s p)))
 
-abbrev Changed : List ℕ → List ℕ → ℕ → ℕ → ℕ → ℕ → Type 0
+abbrev pub Changed : List ℕ → List ℕ → ℕ → ℕ → ℕ → ℕ → Type 0
 Changed s t p i d n = Made s t (change i (λ c. part s d) (part s p)) (width (part s p)) n
 
 change-low : (s : List ℕ) (p i : ℕ) (f : PartReq → PartReq) → p < 3 → change i f (part s p) ≡ part s p
@@ -187,7 +186,7 @@ module _ (types : List ℕ) {s : List ℕ} (v : Shape) (path : List ℕ) {k : �
               cost = omega (arith, all-long, a .cost, b .cost);
             }
 
-abbrev OutAsked : List ℕ → List ℕ → Shape → ℕ → List ℕ → ℕ → Type 0
+abbrev pub OutAsked : List ℕ → List ℕ → Shape → ℕ → List ℕ → ℕ → Type 0
 OutAsked types s v p path k =
     Good s × ((Lower (typesOf types) × Narrow v) × (((p < top s) × IsNeed v (part s p)) × ((k ≤ length path) × Room s (levelCells * length (drop k path)))))
 
@@ -237,7 +236,7 @@ module _ (types : List ℕ) {s : List ℕ} (v : Shape) {p : ℕ} (path : List �
                 (
                   (P .1 .0 .0, rw o (narrow-member v i (P .1 .0 .1))),
                   (
-                    (x .0, rw o (need-child v (part s p) i (part s c) (P .1 .1 .0 .1) (not-all s p z) (x .1))),
+                    (x .0, rw o (need-entry v (part s p) i (part s c) (P .1 .1 .0 .1) (not-all s p z) (x .1) .1)),
                     (omega arith, omega (arith, out-long, P .1 .1 .1 .1)),
                   ),
                 ),

@@ -1,2 +1,3 @@
 pub mod ShapeBy
 pub mod Narrow
+pub mod Frames

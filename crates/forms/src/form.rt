@@ -13,6 +13,7 @@ use judge::rows::kind_at;
 use judge::rows::second_word;
 use judge::shapes::part_count;
 use module::handles::TypeHandle;
+use part::limits::SPINE;
 
 // Nothing, a number, a vector of so many components, or what a type has.
 pub enum Form {
@@ -28,10 +29,7 @@ pub enum Split {
     Into(u32),
 }
 
-// The indexes of an array without a count: a file's are below.
-const SPINE: u32 = 65536;
-
-// How many parts the type t has, one level down.
+// How many parts the type t has, one level down: of an array without a count as many as a file has indexes.
 fn type_extent(types: &[u32], t: u32) -> u32
     ensures { λ r. ⌜ r ≡ extent (shapeIn (typesOf (now (types .entry))) t) ⌝ }
 {
