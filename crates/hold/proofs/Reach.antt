@@ -1,17 +1,16 @@
 -- Lists of needs that reach the same cells (`Reach`): the cells of each need of the one are reached by the other, need by need (`each-in`).
-use Prim.Native.Nat.{ℕ, zero, suc, _<_}
-use native.Mathlib.Omega.{arith}
-use mathlib.Core.Path.{_≡_, refl, sym, _∙_}
-use mathlib.Core.Bool.{true, cond, _||_}
+use Prim.Native.Nat.{ℕ, zero, suc}
+use mathlib.Core.Path.{_≡_}
+use mathlib.Core.Bool.{true, cond}
 use mathlib.Core.List.{List, [], _∷_, _++_, flatMap}
 use lib.Dec.{ltb}
-use lib.ListN.{length, getD}
+use lib.ListN.{getD}
 use Rattle.part.specs.PartReq.{PartReq, all, exist, none, more, gone, there, getSubpart}
 use Rattle.part.specs.Count.{same, among}
 use Rattle.part.specs.Collect.{cellsIn, reached, cellsOf}
 use Rattle.part.specs.Summed.{sub}
-use Rattle.part.proofs.Counting.{same-refl, same-is, by-bool}
-use Rattle.part.proofs.Distinct.{or-left, or-right-true, or-cases, untrue, among-left, among-right, among-cases, Among, once-set}
+use Rattle.part.proofs.Counting.{same-is, by-bool}
+use Rattle.part.proofs.Distinct.{or-right-true, or-cases, untrue, among-left, among-right, among-cases, Among, once-set}
 use Rattle.part.proofs.Reached.{sub-cells}
 use Rattle.part.proofs.Summing.{sub-self}
 use Rattle.clearance.specs.Shape.{orNone, below}
@@ -67,11 +66,7 @@ pub cons-in : (p : PartReq) (m k : List PartReq) → Among (cellsIn p) (reached 
 unfolding flatMap
 cons-in p m k f g q z = among-cases (among q (reached k) ≡ true) q (cellsIn p) (reached m) z (f q) (g q)
 
-pub head-in : (p : PartReq) (l : List PartReq) → Among (cellsIn p) (reached (p ∷ l))
-unfolding flatMap
-head-in p l q z = among-left q (cellsIn p) (reached l) z
-
-tail-in : (p : PartReq) (l : List PartReq) → Among (reached l) (reached (p ∷ l))
+pub tail-in : (p : PartReq) (l : List PartReq) → Among (reached l) (reached (p ∷ l))
 unfolding flatMap
 tail-in p l q z = among-right q (cellsIn p) (reached l) z
 
@@ -132,16 +127,12 @@ reach-sub p q l h e = reach-again p l (λ o z. one-in q l e o (sub-cells p q h o
 pub reach-among : (p : PartReq) (l : List PartReq) → among p l ≡ true → Reach (p ∷ l) l
 reach-among p l e = reach-sub p p l (sub-self p) e
 
--- all needs of a list that is reached already
-pub reach-absorb : (k l : List PartReq) → Among (reached k) (reached l) → Reach (k ++ l) l
-reach-absorb k l h = record { into = both-in k l l h (λ q z. z); back = right-in k l }
-
 -- a part at a path adds nothing to its need
-cell-in : (i : ℕ) (p r : PartReq) → Among (cellsIn p ++ cellsIn r) (cellsIn (more i p r))
+pub cell-in : (i : ℕ) (p r : PartReq) → Among (cellsIn p ++ cellsIn r) (cellsIn (more i p r))
 unfolding cellsIn among
 cell-in i p r q z = or-right-true (same q (more i p r)) _ z
 
-sub-in : (p : PartReq) (j : ℕ) → Among (cellsIn (orNone (getSubpart p j))) (cellsIn p)
+pub sub-in : (p : PartReq) (j : ℕ) → Among (cellsIn (orNone (getSubpart p j))) (cellsIn p)
 unfolding getSubpart
 sub-in all j q z = z
 sub-in exist j q z = none-in (cellsIn exist) q z
@@ -156,7 +147,7 @@ sub-in (more i p r) j q z =
     y)
     z
 
-below-in : (p : PartReq) (path : List ℕ) → Among (cellsIn (below p path)) (cellsIn p)
+pub below-in : (p : PartReq) (path : List ℕ) → Among (cellsIn (below p path)) (cellsIn p)
 unfolding below
 below-in p [] q z = z
 below-in p (j ∷ path) q z = sub-in p j q (below-in (orNone (getSubpart p j)) path q z)

@@ -37,6 +37,14 @@ pub record Live (s rs : List ℕ) (n : ℕ) : Type 0 where
   pub loose : Loose s rs n
   pub slim : top s ≤ 3 + workBound
 
+-- from s and rs, t and us were left: the first n slots mean what they meant, and just the cells that they reach are in use
+pub record Cleaned (s rs : List ℕ) (n : ℕ) (t us : List ℕ) : Type 0 where
+  pub cells : length t ≡ length s
+  pub slots : length us ≡ length rs
+  pub loose : Loose t us n
+  pub same : (j : ℕ) → j < n → inSlot t us j ≡ inSlot s rs j
+  pub used : top t ≡ 3 + cellsOf (heldBy s rs n)
+
 -- from s and rs, t and us were left: the slot n means p and those before it what they meant; or r is false, and the bound was passed
 pub record Pushed (s rs : List ℕ) (n : ℕ) (p : PartReq) (t us : List ℕ) (r : Bool) : Type 0 where
   pub cells : length t ≡ length s
