@@ -6,13 +6,13 @@ use native.Mathlib.Decide.{ℕ-discrete}
 use mathlib.Core.Path.{_≡_, refl, sym, ap, _∙_}
 use mathlib.Core.Bool.{Bool, true, false, cond, _||_}
 use mathlib.Core.List.{List, [], _∷_, _++_}
-use lib.Dec.{ltb, eqb}
-use lib.ListN.{length, getD, set, length-set, length-append}
+use lib.Dec.{eqb}
+use lib.ListN.{length, set, length-set, length-append}
 use lib.Seq.{drop-cons, getD-set-same, drop-set-lt}
 use Rattle.access.specs.declared.kinded.Kinded.{Kinded}
 use Rattle.clearance.specs.Scope.{Scope, Step, at, by, Path, further, slot, variable, pathOf, front, indexes, target, isPath}
 use Rattle.place.specs.Target.{At, any, part, TargetFound, frontThen, Passed}
-use Rattle.place.proofs.Paths.{S, o, indexes-constant, indexes-dynamic, constant-lower, dynamic-lower, path-constant, path-dynamic, path-global, path-local, no-other}
+use Rattle.place.proofs.Paths.{S, o, indexes-constant, indexes-dynamic, constant-lower, dynamic-lower, path-constant, path-dynamic, path-global, path-local, no-other, base-constant, base-dynamic, is-constant}
 
 -- one step more
 then-constant : (xs : List Step) (i : ℕ) (ys : List ℕ) → frontThen (xs ++ (at i ∷ [])) ys ≡ frontThen xs (i ∷ ys)
@@ -59,10 +59,6 @@ part-put path n to v l m =
     rw (z, drop-cons (set path n v) n 0 there, getD-set-same path n v 0 (omega arith), drop-set-lt (suc n) path n v (omega arith))
 
 module _ (U : Scope) where
-  same-pointer : (h b : ℕ) (x : Step) → pathOf U h ≡ further (pathOf U b) x → isPath U h ≡ isPath U b
-  unfolding isPath further
-  same-pointer h b x q = ap (λ (p : Path). ltb 0 (getD (p .root) 0 0)) q
-
   -- before the first step
   pub none-passed : (e : ℕ) (path : List ℕ) → e < length (U .function .expressions) → length (U .function .expressions) + 2 ≤ length path → isPath U e ≡ true → Passed U e path e (length path) (length path) false
   unfolding target
@@ -77,14 +73,14 @@ module _ (U : Scope) where
         found = refl;
       }
 
-  module _ {e h from to : ℕ} {path : List ℕ} {d : Bool} (P : Passed U e path h from to d) (w : ℕ) {b next : ℕ} (lower : b < h) (down : next ≡ from - 1) where
+  module _ {e h from to : ℕ} {path : List ℕ} {d : Bool} (P : Passed U e path h from to d) (w : ℕ) {b next : ℕ} (lower : b < h) (pointer : isPath U b ≡ isPath U h) (down : next ≡ from - 1) where
     constant-passed : pathOf U h ≡ further (pathOf U b) (at w) → Passed U e (set path next w) b next to d
     unfolding further
     constant-passed q =
         let before : from ≡ suc next = omega (arith, P .room) in
         record {
           there = omega (arith, P .there);
-          pointer = sym (same-pointer h b _ q) ∙ P .pointer;
+          pointer = pointer ∙ P .pointer;
           room = omega (arith, P .room);
           low = omega (arith, P .low);
           high = simp length-set (P .high);
@@ -97,7 +93,7 @@ module _ (U : Scope) where
     dynamic-passed i q =
         record {
           there = omega (arith, P .there);
-          pointer = sym (same-pointer h b _ q) ∙ P .pointer;
+          pointer = pointer ∙ P .pointer;
           room = omega (arith, P .room);
           low = omega arith;
           high = simp length-set (omega (arith, P .low, P .high));
@@ -109,37 +105,19 @@ module _ {bytes t : List ℕ} {f h : ℕ} {row : Kinded} (R : At bytes t f h row
   module _ (index : row .kind ≤ 4) {b : ℕ} (base : b ≡ o R 0) where
     pub passed-lower : b < h
     passed-lower =
-        elim (ℕ-discrete (row .kind) 3) [
-          | yes k ↦ omega (arith, constant-lower R k)
-          | no k ↦
-              elim (ℕ-discrete (row .kind) 4) [
-                | yes m ↦ omega (arith, dynamic-lower R m .0)
-                | no m ↦ absurd (no-other R (P .pointer) k m (omega arith) (omega arith))
-              ]
+        elim (ℕ-discrete (row .kind) 4) [
+          | yes k ↦ omega (arith, dynamic-lower R k .0)
+          | no k ↦ omega (arith, constant-lower R (is-constant R (P .pointer) index k))
         ]
 
     pub passed-next : {w next last : ℕ} {dyn : Bool} → w ≡ o R 1 → next ≡ from - 1 → last ≡ cond (eqb (row .kind) 4) next to → dyn ≡ eqb (row .kind) 4 || d → Passed (S R) e (set path next w) b next last dyn
     passed-next {w} i n l s =
-        elim (ℕ-discrete (row .kind) 3) [
-          | yes k ↦ rw (l, s, k) (constant-passed (S R) P w passed-lower n (rw (base, i) (path-constant R k)))
+        elim (ℕ-discrete (row .kind) 4) [
+          | yes k ↦ rw (l, s, k) (dynamic-passed (S R) P w passed-lower (rw base (base-dynamic R k)) n (o R 1) (rw base (path-dynamic R k)))
           | no k ↦
-              elim (ℕ-discrete (row .kind) 4) [
-                | yes m ↦ rw (l, s, m) (dynamic-passed (S R) P w passed-lower n (o R 1) (rw base (path-dynamic R m)))
-                | no m ↦ absurd (no-other R (P .pointer) k m (omega arith) (omega arith))
-              ]
+              let m : row .kind ≡ 3 = is-constant R (P .pointer) index k in
+              rw (l, s, m) (constant-passed (S R) P w passed-lower (rw base (base-constant R m)) n (rw (base, i) (path-constant R m)))
         ]
-
-  -- the variable, after all indexes
-  pub no-steps : 4 < row .kind → pathOf (S R) h .steps ≡ []
-  no-steps l =
-      elim (ℕ-discrete (row .kind) 10) [
-        | yes k ↦ ap (λ (p : Path). p .steps) (path-global R k)
-        | no k ↦
-            elim (ℕ-discrete (row .kind) 11) [
-              | yes m ↦ ap (λ (p : Path). p .steps) (path-local R m)
-              | no m ↦ absurd (no-other R (P .pointer) (omega arith) (omega arith) k m)
-            ]
-      ]
 
   -- the variable's two words in front of the constant indexes
   module _ (last : pathOf (S R) h .steps ≡ []) {n m k v : ℕ} (two : n ≡ from - 2) (one : m ≡ n + 1) (number : v ≡ variable (o R 0)) (kind : k ≡ cond (eqb (row .kind) 11) (variable 1) (variable 0)) where

@@ -1,6 +1,7 @@
 -- A pointer's path by its row: a variable has no steps, and an index is one step further than its base. From the recursion's equation, since a base is lower.
-use Prim.Native.Nat.{ℕ, _<_}
+use Prim.Native.Nat.{ℕ, _<_, _≤_}
 use native.Mathlib.Omega.{arith}
+use native.Mathlib.Decide.{ℕ-discrete}
 use mathlib.Core.Path.{_≡_, refl, sym, ap, subst, _∙_}
 use mathlib.Core.Bool.{Bool, true, false}
 use mathlib.Core.List.{List, [], _∷_, _++_}
@@ -112,3 +113,47 @@ module _ {bytes t : List ℕ} {f e : ℕ} {row : Kinded} (R : At bytes t f e row
     where
       never : false ≡ true → ⊥
       never q = let z : _≡_ {A = ℕ} 0 1 = cc in omega arith
+
+  -- what stands below an index is a path too
+  pub base-constant : row .kind ≡ 3 → isPath S (o 0) ≡ isPath S e
+  unfolding isPath further
+  base-constant h = ap rooted (sym (path-constant h))
+
+  pub base-dynamic : row .kind ≡ 4 → isPath S (o 0) ≡ isPath S e
+  unfolding isPath further
+  base-dynamic h = ap rooted (sym (path-dynamic h))
+
+  -- the dynamic indexes, from last to first
+  pub indexes-of-constant : row .kind ≡ 3 → indexes (pathOf S e .steps) ≡ indexes (pathOf S (o 0) .steps)
+  unfolding further
+  indexes-of-constant h =
+      ap (λ (p : Path). indexes (p .steps)) (path-constant h) ∙ indexes-constant (pathOf S (o 0) .steps) (o 1)
+
+  pub indexes-of-dynamic : row .kind ≡ 4 → indexes (pathOf S e .steps) ≡ indexes (pathOf S (o 0) .steps) ++ (o 1 ∷ [])
+  unfolding further
+  indexes-of-dynamic h =
+      ap (λ (p : Path). indexes (p .steps)) (path-dynamic h) ∙ indexes-dynamic (pathOf S (o 0) .steps) (o 1)
+
+  -- the variable, after all indexes
+  pub no-steps : isPath S e ≡ true → 4 < row .kind → pathOf S e .steps ≡ []
+  no-steps p l =
+      elim (ℕ-discrete (row .kind) 10) [
+        | yes k ↦ ap (λ (q : Path). q .steps) (path-global k)
+        | no k ↦
+            elim (ℕ-discrete (row .kind) 11) [
+              | yes m ↦ ap (λ (q : Path). q .steps) (path-local m)
+              | no m ↦ absurd (no-other p (omega arith) (omega arith) k m)
+            ]
+      ]
+
+  pub indexes-of-variable : isPath S e ≡ true → 4 < row .kind → indexes (pathOf S e .steps) ≡ []
+  unfolding indexes
+  indexes-of-variable p l = rw (no-steps p l)
+
+  -- the index that a kind up to 4 is
+  pub is-constant : isPath S e ≡ true → row .kind ≤ 4 → (row .kind ≡ 4 → ⊥) → row .kind ≡ 3
+  is-constant p l n =
+      elim (ℕ-discrete (row .kind) 3) [
+        | yes k ↦ k
+        | no k ↦ absurd (no-other p k n (omega arith) (omega arith))
+      ]

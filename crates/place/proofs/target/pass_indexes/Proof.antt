@@ -4,7 +4,8 @@ use lib.ListN.{length, length-set}
 use Rattle.access.specs.Access.{expressionRow}
 use Rattle.judge.specs.Given.{scopeAt}
 use Rattle.place.specs.Target.{Passed}
-use Rattle.place.proofs.Passing.{none-passed, passed-lower, passed-next, no-steps}
+use Rattle.place.proofs.Passing.{none-passed, passed-lower, passed-next}
+use Rattle.place.proofs.Paths.{no-steps}
 use native.Mathlib.Omega.{arith}
 use borrow.Author.Needs.{needs}
 use Rattle.place.proofs.target.pass_indexes.Statement.{statement}
@@ -68,7 +69,7 @@ same-length : tie.Need-same-length Inv-loop μ-loop
 same-length c = search needs
 
 returns : tie.Need-returns Inv-loop μ-loop
-returns c = record { passed = c .before .before .loop .inv .0; variable = no-steps (record { read = c .before .before .before .before .before .before .before .pre .0 .read; function = c .before .before .before .before .before .before .before .pre .0 .function; there = c .before .before .loop .inv .0 .there; is = c .before .before .loop .inv .1 }) (c .before .before .loop .inv .0) (c .if1 .left); long = c .before .before .loop .inv .2 }
+returns c = record { passed = c .before .before .loop .inv .0; variable = no-steps (record { read = c .before .before .before .before .before .before .before .pre .0 .read; function = c .before .before .before .before .before .before .before .pre .0 .function; there = c .before .before .loop .inv .0 .there; is = c .before .before .loop .inv .1 }) (c .before .before .loop .inv .0 .pointer) (c .if1 .left); long = c .before .before .loop .inv .2 }
 
 pub pass-indexes-spec : {M : Type 1} → statement M
 pass-indexes-spec =
