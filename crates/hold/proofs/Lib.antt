@@ -1,0 +1,4 @@
+pub mod Reach
+pub mod Count
+pub mod Slots
+pub mod Pushes
