@@ -39,7 +39,7 @@ unfolding shapeAt
 void-at [] = refl
 void-at (j ∷ q) = rw (void-member j) (void-at q)
 
-not-void : (t : Shape) (q : List ℕ) → isVoid (shapeAt t q) ≡ false → isVoid t ≡ false
+pub not-void : (t : Shape) (q : List ℕ) → isVoid (shapeAt t q) ≡ false → isVoid t ≡ false
 not-void number q h = refl
 not-void void q h = never (sym (rw (void-at q) at h))
 not-void (struct b n f) q h = refl
@@ -83,7 +83,7 @@ under-tidy [] a t s h = h
 under-tidy (j ∷ q) a t s h = (some-under q a s, (under-tidy q a (member t j) s h, tt))
 
 -- a part that is taken out
-solid-void : (t : Shape) → Solid t → isVoid t ≡ false
+pub solid-void : (t : Shape) → Solid t → isVoid t ≡ false
 solid-void number h = refl
 solid-void void h = absurd h
 solid-void (struct b n f) h = refl
@@ -127,7 +127,7 @@ split-tidy (struct b n f) (more i p r) s h = h
 split-tidy (array n t) p s h = h
 
 -- an entry that a function leaves as another does, once that is trimmed
-change-is : (i : ℕ) (f g : PartReq → PartReq) (t : Shape) → ((c : PartReq) → Tidy c (member t i) → trim (f c) (member t i) ≡ g c) → (p : PartReq) → Tidy p t →
+pub change-is : (i : ℕ) (f g : PartReq → PartReq) (t : Shape) → ((c : PartReq) → Tidy c (member t i) → trim (f c) (member t i) ≡ g c) → (p : PartReq) → Tidy p t →
     trim (alter i f p) t ≡ change i g p
 unfolding alter change trim
 change-is i f g t k all h = trim-same all t h

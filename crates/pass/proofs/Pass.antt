@@ -79,7 +79,7 @@ giving-is S (store p v) a n = storing-is S (pathOf S p) (indexes (pathOf S p .st
 says-needs : {p : Passed} {c : Carried} {m n : PartReq} → m ≡ n → Says p c m → Says p c n
 says-needs e s = rw e at s
 
-says-acting : (S : Scope) (aside : List PartReq) (x : Act) (n : PartReq) (c : Carried) → Says (acting S aside x n c) c (before S x n)
+pub says-acting : (S : Scope) (aside : List PartReq) (x : Act) (n : PartReq) (c : Carried) → Says (acting S aside x n c) c (before S x n)
 unfolding acting before
 says-acting S aside x n c = go (some (overlap S x n))
   where

@@ -1,0 +1,355 @@
+-- Asks and acts keep needs what they are: what is asked of a value stands in a slot, what is asked of a place below a variable, and so does a whole walk. By cases of the
+-- expression, then along the tree.
+use Prim.Native.Nat.{ℕ, zero, suc}
+use native.Mathlib.Omega.{arith}
+use mathlib.Core.Path.{_≡_, subst}
+use mathlib.Core.Bool.{Bool, true, false, cond}
+use mathlib.Core.List.{List, [], _∷_, _++_, map}
+use mathlib.Core.Option.{Option, some as present, none as nothing}
+use mathlib.Core.Logic.{inl, inr}
+use lib.ListN.{length}
+use Rattle.part.specs.PartReq.{PartReq, none, more, isAll, add}
+use Rattle.part.specs.Ascending.{Ascending}
+use Rattle.part.proofs.Equations.{never}
+use Rattle.module.specs.Module.{ExpressionHandle, Expression}
+use Rattle.module.specs.Module.{Literal, ZeroValue, WorkGroupUniformLoadResult, AccessIndex, Access, Constant, Splat, Swizzle, Compose}
+use Rattle.module.specs.Module.{FunctionArgument, GlobalVariable, LocalVariable, Load, ImageSample, ImageLoad, ImageQuery, Unary, Binary, Select}
+use Rattle.module.specs.Module.{Derivative, Relational, Math, As, CallResult, AtomicResult, ArrayLength, RayQueryProceedResult}
+use Rattle.module.specs.Module.{RayQueryGetIntersection, Override, SubgroupBallotResult, SubgroupOperationResult, RayQueryVertexPositions}
+use Rattle.module.proofs.Knot.{knot-all}
+use Rattle.clearance.specs.Shape.{under, some, trim, hit}
+use Rattle.clearance.specs.Scope.{Scope, variable, slot, typed, Path, nowhere, further, stepFrom, pathOf, front, indexes, target, frame, evaluated, Operand, whole, same}
+use Rattle.clearance.specs.Scope.{Arm, fixed, argued, pointing, operator, accessIndex, access, swizzle, compose, joined, load, unjudged, arm, Source, given, from, sourceOf, source}
+use Rattle.clearance.specs.Tree.{Act, emit, store, Tree, nop, seq, act, branch, switch, loop, break, continue, return, unmarked}
+use Rattle.clearance.specs.Needs.{Ask, ofValue, ofPlace, askOperand, askWhole, askPicked, askComponents, askSteps, asks, gives, needAt, needFrom, need, needs, overlap, without, storing, giving, before, wholly}
+use Rattle.clearance.specs.Needs.{Exit, next, broke, continued, returned, upon, outBreak, outContinue, ofCase, ofContinuing, ofBody, union, obeys, kept, turning, valued, through, afterContinuing, Setting, Table, reentry, joinAt, walk, afterBody, sweep}
+use Rattle.clearance.specs.Verdict.{Request, ending}
+use Rattle.clearance.specs.IsNeed.{AscendingRequest}
+use Rattle.clearance.proofs.Small.{cases}
+use Rattle.clearance.proofs.Ascending.{under-ok, sub-ok, below-ok, trim-ok, out-ok, add-need, trim-need, none-need}
+use Rattle.pass.specs.Pass.{Carried, on, acting}
+use Rattle.pass.proofs.Pass.{Says, says-acting}
+use Rattle.needs.specs.Lean.{leaves}
+use Rattle.framed.specs.Places.{Placed}
+use Rattle.framed.specs.Kept.{Kept, Deep, AskFine, AsksFine}
+use Rattle.framed.proofs.Takes.{without-leaves}
+use Rattle.framed.proofs.Framed.{add-framed, trim-framed, under-framed, without-framed}
+
+-- Places
+
+abbrev DeepRoot : Path → Type 0
+DeepRoot p = (xs : List ℕ) → Deep (p .root ++ xs)
+
+nowhere-deep : DeepRoot nowhere
+nowhere-deep [] = omega arith
+nowhere-deep (x ∷ xs) = tt
+
+step-deep : (path : ExpressionHandle → Path) (x : Expression) → ((e : ExpressionHandle) → DeepRoot (path e)) → DeepRoot (stepFrom path x)
+unfolding stepFrom further slot
+step-deep path Literal h = nowhere-deep
+step-deep path ZeroValue h = nowhere-deep
+step-deep path WorkGroupUniformLoadResult h = nowhere-deep
+step-deep path (AccessIndex base index) h = h base
+step-deep path (Access base index) h = h base
+step-deep path Constant h = nowhere-deep
+step-deep path (Splat value) h = nowhere-deep
+step-deep path (Swizzle vector pattern) h = nowhere-deep
+step-deep path (Compose components) h = nowhere-deep
+step-deep path (FunctionArgument index) h = nowhere-deep
+step-deep path (GlobalVariable g) h = λ xs. tt
+step-deep path (LocalVariable l) h = λ xs. tt
+step-deep path (Load pointer) h = nowhere-deep
+step-deep path (ImageSample image sampler coordinate arrayIndex level depthRef) h = nowhere-deep
+step-deep path (ImageLoad image coordinate arrayIndex sample level) h = nowhere-deep
+step-deep path (ImageQuery image level) h = nowhere-deep
+step-deep path (Unary x) h = nowhere-deep
+step-deep path (Binary left right) h = nowhere-deep
+step-deep path (Select condition accept reject) h = nowhere-deep
+step-deep path (Derivative x) h = nowhere-deep
+step-deep path (Relational x) h = nowhere-deep
+step-deep path (Math x x1 x2 x3) h = nowhere-deep
+step-deep path (As x) h = nowhere-deep
+step-deep path CallResult h = nowhere-deep
+step-deep path AtomicResult h = nowhere-deep
+step-deep path (ArrayLength x) h = nowhere-deep
+step-deep path RayQueryProceedResult h = nowhere-deep
+step-deep path (RayQueryGetIntersection query) h = nowhere-deep
+step-deep path Override h = nowhere-deep
+step-deep path SubgroupBallotResult h = nowhere-deep
+step-deep path SubgroupOperationResult h = nowhere-deep
+step-deep path RayQueryVertexPositions h = nowhere-deep
+
+pub target-deep : (S : Scope) (e : ExpressionHandle) → Deep (target (pathOf S e))
+unfolding pathOf target
+target-deep S e =
+    knot-all (λ e p. DeepRoot p) (λ path h. stepFrom path (typed S h .expression)) nowhere (λ e. nowhere-deep) (λ path e h. step-deep path (typed S e .expression) h) e
+    (front (pathOf S e .steps))
+
+abbrev DeepSource : Source → Type 0
+DeepSource given = Unit {0}
+DeepSource (from p) = Deep p
+
+source-deep : (e : ExpressionHandle) (x : Arm) → DeepSource (sourceOf e x)
+unfolding sourceOf slot
+source-deep e fixed = tt
+source-deep e (argued a) = tt
+source-deep e pointing = tt
+source-deep e (operator xs) = tt
+source-deep e (accessIndex base i) = tt
+source-deep e (access base i) = tt
+source-deep e (swizzle v pattern) = tt
+source-deep e (compose cs) = tt
+source-deep e (joined cs) = tt
+source-deep e (load p) = tt
+source-deep e unjudged = tt
+
+-- Asks
+
+whole-fine : (xs : List ExpressionHandle) → AsksFine (map askWhole xs)
+whole-fine [] = tt
+whole-fine (x ∷ xs) = (tt, whole-fine xs)
+
+operand-fine : (a : PartReq) (x : Operand) → Ascending a → AskFine (askOperand a x)
+unfolding askOperand
+operand-fine a (whole x) f = tt
+operand-fine a (same x) f = f
+
+operands-fine : (a : PartReq) (xs : List Operand) → Ascending a → AsksFine (map (askOperand a) xs)
+operands-fine a [] f = tt
+operands-fine a (x ∷ xs) f = (operand-fine a x f, operands-fine a xs f)
+
+picked-fine : (v : ExpressionHandle) (is : List ℕ) (k : ℕ) (a : PartReq) → Ascending a → AsksFine (askPicked v is k a)
+unfolding askPicked
+picked-fine v [] k a f = tt
+picked-fine v (i ∷ is) k a f = ((sub-ok a k f, tt), picked-fine v is (suc k) a f)
+
+components-fine : (cs : List ExpressionHandle) (k : ℕ) (a : PartReq) → Ascending a → AsksFine (askComponents cs k a)
+unfolding askComponents
+components-fine [] k a f = tt
+components-fine (c ∷ cs) k a f = (sub-ok a k f, components-fine cs (suc k) a f)
+
+steps-fine : (p : Path) (is : List ExpressionHandle) (a : PartReq) → Deep (target p) → Ascending a → AsksFine (askSteps p is a)
+unfolding askSteps
+steps-fine p [] a d f = ((d, f), tt)
+steps-fine p (i ∷ is) a d f = ((d, tt), (tt, whole-fine is))
+
+pub asks-fine : (S : Scope) (x : Arm) (a : PartReq) → Ascending a → AsksFine (asks S x a)
+unfolding asks
+asks-fine S fixed a f = tt
+asks-fine S (argued i) a f = tt
+asks-fine S pointing a f = tt
+asks-fine S (operator xs) a f = operands-fine a xs f
+asks-fine S (accessIndex base i) a f = ((f, tt), tt)
+asks-fine S (access base i) a f = (tt, (tt, tt))
+asks-fine S (swizzle v pattern) a f = picked-fine v pattern 0 a f
+asks-fine S (compose cs) a f = components-fine cs 0 a f
+asks-fine S (joined cs) a f = whole-fine cs
+asks-fine S (load p) a f = steps-fine (pathOf S p) (indexes (pathOf S p .steps)) a (target-deep S p) f
+asks-fine S unjudged a f = tt
+
+module _ (S : Scope) where
+  pub kept-none : Kept S none
+  kept-none = record { need = none-need (frame S); framed = tt }
+
+  pub kept-add : (m n : PartReq) → Kept S m → Kept S n → Kept S (add m n)
+  kept-add m n f g = record { need = add-need (frame S) m n (f .need) (g .need); framed = add-framed m n (f .framed) (g .framed) }
+
+  pub kept-under : (q : List ℕ) (a : PartReq) → Deep q → Ascending a → Kept S (trim (under q a) (frame S))
+  kept-under q a d f = record { need = trim-need (frame S) (under q a) (under-ok q a f); framed = under-framed S q a d }
+
+  pub kept-without : (q : List ℕ) (n : PartReq) → Kept S n → Kept S (without S q n)
+  kept-without q n f = record {
+    need = unfold without in trim-need (frame S) _ (out-ok q (frame S) n (f .need .ascends));
+    framed = without-framed S q n (f .need .ascends) (f .framed);
+  }
+
+  -- the same as the code leaves it
+  pub kept-leaves : (q : List ℕ) (n : PartReq) → Placed S q → Kept S n → Kept S (leaves (frame S) n q)
+  kept-leaves q n d f = subst (Kept S) (without-leaves S q n d (f .need .tidy) (f .framed)) (kept-without q n f)
+
+  kept-at : (q : List ℕ) (a n : PartReq) → Deep q → Ascending a → Kept S n → Kept S (needAt S q a n)
+  unfolding needAt
+  kept-at q a n d f g = kept-add _ n (kept-under q a d f) g
+
+  kept-from : (x : Source) (a n : PartReq) → DeepSource x → Ascending a → Kept S n → Kept S (needFrom S x a n)
+  unfolding needFrom
+  kept-from given a n d f g = g
+  kept-from (from p) a n d f g = kept-at p a n d f g
+
+  pub kept-need : (x : Ask) (n : PartReq) → AskFine x → Kept S n → Kept S (need S x n)
+  unfolding need source
+  kept-need (ofValue e a) n f g = kept-from (sourceOf e (arm S e)) a n (source-deep e (arm S e)) f g
+  kept-need (ofPlace p a) n f g = kept-at p a n (f .0) (f .1) g
+
+  pub kept-needs : (xs : List Ask) (n : PartReq) → AsksFine xs → Kept S n → Kept S (needs S xs n)
+  unfolding needs
+  kept-needs [] n f g = g
+  kept-needs (x ∷ xs) n f g = kept-need x (needs S xs n) (f .0) (kept-needs xs n (f .1) g)
+
+  pub kept-wholly : (e : ExpressionHandle) (n : PartReq) → Kept S n → Kept S (wholly S e n)
+  unfolding wholly
+  kept-wholly e n g = kept-needs (askWhole e ∷ []) n (tt, tt) g
+
+  -- Acts
+
+  hit-ascends : (n : PartReq) (q : List ℕ) → Ascending n → Ascending (hit (frame S) n q)
+  unfolding hit
+  hit-ascends n q f = trim-ok _ _ (below-ok n q f)
+
+  pub overlap-ascends : (x : Act) (n : PartReq) → Ascending n → Ascending (overlap S x n)
+  unfolding overlap
+  overlap-ascends (emit e) n f = go (gives (arm S e))
+    where
+      go : (b : Bool) → Ascending (cond b (hit (frame S) n (slot (evaluated e))) none)
+      go true = hit-ascends n _ f
+      go false = tt
+  overlap-ascends (store p v) n f = hit-ascends n _ f
+
+  kept-storing : (p : Path) (is : List ExpressionHandle) (v : ExpressionHandle) (a n : PartReq) → Ascending a → Kept S n → Kept S (storing S p is v a n)
+  unfolding storing
+  kept-storing p [] v a n f g = kept-needs _ _ (f, tt) (kept-without (target p) n g)
+  kept-storing p (i ∷ is) v a n f g = kept-needs _ n (tt, (tt, whole-fine is)) g
+
+  kept-giving : (x : Act) (a n : PartReq) → Ascending a → Kept S n → Kept S (giving S x a n)
+  unfolding giving
+  kept-giving (emit e) a n f g = kept-needs _ _ (asks-fine S (arm S e) a f) (kept-without (slot (evaluated e)) n g)
+  kept-giving (store p v) a n f g = kept-storing (pathOf S p) (indexes (pathOf S p .steps)) v a n f g
+
+  either-kept : (b : Bool) (m n : PartReq) → Kept S m → Kept S n → Kept S (cond b m n)
+  either-kept true m n f g = f
+  either-kept false m n f g = g
+
+  pub kept-before : (x : Act) (n : PartReq) → Kept S n → Kept S (before S x n)
+  unfolding before
+  kept-before x n g = either-kept (some (overlap S x n)) _ n (kept-giving x _ n (overlap-ascends x n (g .need .ascends)) g) g
+
+  -- what a pass has before an act
+  pub kept-acting : (aside : List PartReq) (x : Act) (n : PartReq) (c d : Carried) (m : PartReq) → acting S aside x n c ≡ on d m → Kept S n → Kept S m
+  kept-acting aside x n c d m h g = go (says-acting S aside x n c)
+    where
+      go : Says (acting S aside x n c) c (before S x n) → Kept S m
+      go (inl e) = never cc
+      go (inr e) = let z : before S x n ≡ m = cc in subst (Kept S) z (kept-before x n g)
+
+  -- Statements
+
+  pub kept-union : (n : ℕ) (f : ℕ → PartReq) → ((i : ℕ) → Kept S (f i)) → Kept S (union n f)
+  unfolding union
+  kept-union zero f h = kept-none
+  kept-union (suc n) f h = kept-add (f n) (union n f) (h n) (kept-union n f h)
+
+  pub kept-turning : (again : PartReq) (c : Option ExpressionHandle) (exit : PartReq) → Kept S again → Kept S exit → Kept S (turning S again c exit)
+  unfolding turning
+  kept-turning again nothing exit f g = f
+  kept-turning again (present c) exit f g = kept-wholly c (add exit again) (kept-add exit again g f)
+
+  pub kept-valued : (asked : PartReq) (v : Option ExpressionHandle) (n : PartReq) → Ascending asked → Kept S n → Kept S (valued S asked v n)
+  unfolding valued
+  kept-valued asked nothing n f g = g
+  kept-valued asked (present v) n f g = kept-needs _ n (f, tt) g
+
+  abbrev pub AllKept : (Exit → PartReq) → Type 0
+  AllKept k = (x : Exit) → Kept S (k x)
+
+  pub kept-upon : (m : PartReq) (k : Exit → PartReq) → Kept S m → AllKept k → AllKept (upon m k)
+  unfolding upon
+  kept-upon m k f g next = f
+  kept-upon m k f g broke = g broke
+  kept-upon m k f g continued = g continued
+  kept-upon m k f g returned = g returned
+
+  pub kept-case : (k : Exit → PartReq) → AllKept k → AllKept (ofCase k)
+  unfolding ofCase
+  kept-case k g x = g (outBreak x)
+
+  pub kept-continuing : (again : PartReq) (c : Option ExpressionHandle) (k : Exit → PartReq) → Kept S again → AllKept k → AllKept (afterContinuing S again c k)
+  unfolding afterContinuing ofContinuing
+  kept-continuing again c k f g = kept-upon _ (ofCase k) (kept-turning again c (k next) f (g next)) (kept-case k g)
+
+  pub kept-body : (m : PartReq) (k : Exit → PartReq) → Kept S m → AllKept k → AllKept (ofBody m k)
+  unfolding ofBody ofContinuing
+  kept-body m k f g x = kept-upon m (ofCase k) f (kept-case k g) (outContinue x)
+
+  pub kept-kept : (a : Tree) (m n : PartReq) → Kept S m → Kept S n → Kept S (kept a m n)
+  unfolding kept
+  kept-kept nop m n f g = kept-add m n f g
+  kept-kept (seq a b) m n f g = kept-add m n f g
+  kept-kept (act x) m n f g = g
+  kept-kept (branch c a b) m n f g = kept-add m n f g
+  kept-kept (switch c vs h) m n f g = kept-add m n f g
+  kept-kept (loop l a b c) m n f g = kept-add m n f g
+  kept-kept (break l) m n f g = kept-add m n f g
+  kept-kept (continue l) m n f g = kept-add m n f g
+  kept-kept (return l v) m n f g = kept-add m n f g
+  kept-kept (unmarked l mark a) m n f g = kept-add m n f g
+
+  -- at the end, and where a pass begins: of a request whose globals are a map
+  pub kept-ending : (R : Request) (x : Exit) → isAll (R .globals) ≡ false → AscendingRequest R → Kept S (ending S R x)
+  unfolding ending under
+  kept-ending R x h o = record {
+    need = trim-need (frame S) _ (under-ok (variable 0 ∷ []) (R .globals) (o .globals));
+    framed = trim-framed (more (variable 0) (R .globals) none) (frame S) (o .globals, tt) (h, tt);
+  }
+
+  -- Tables
+
+  abbrev pub TableKept : Table → Type 0
+  TableKept t = (j : ℕ) → Kept S (reentry t j)
+
+  pub kept-empty : TableKept []
+  unfolding reentry
+  kept-empty j = kept-none
+
+  pub kept-join : (n : ℕ) (m : PartReq) (t : Table) → Kept S m → TableKept t → TableKept (joinAt n m t)
+  unfolding reentry joinAt
+  kept-join zero m [] f h zero = kept-add m none f kept-none
+  kept-join zero m [] f h (suc j) = kept-none
+  kept-join (suc n) m [] f h zero = kept-none
+  kept-join (suc n) m [] f h (suc j) = kept-join n m [] f h j
+  kept-join zero m (x ∷ t) f h zero = kept-add m x f (h 0)
+  kept-join zero m (x ∷ t) f h (suc j) = h (suc j)
+  kept-join (suc n) m (x ∷ t) f h zero = h 0
+  kept-join (suc n) m (x ∷ t) f h (suc j) = kept-join n m t f (λ i. h (suc i)) j
+
+  kept-through : (n : ℕ) (f : ℕ → Table → Table) (t : Table) → ((i : ℕ) (u : Table) → TableKept u → TableKept (f i u)) → TableKept t → TableKept (through n f t)
+  unfolding through
+  kept-through zero f t h g = g
+  kept-through (suc n) f t h g = h n (through n f t) (kept-through n f t h g)
+
+  either-table : (b : Bool) (t u : Table) → TableKept t → TableKept u → TableKept (cond b t u)
+  either-table true t u f g = f
+  either-table false t u f g = g
+
+module _ (W : Setting) (fine : Ascending (W .asked)) (r : ℕ → PartReq) (again : (j : ℕ) → Kept (W .scope) (r j)) where
+  pub kept-walk : (a : Tree) (k : Exit → PartReq) → AllKept (W .scope) k → Kept (W .scope) (walk W r a k)
+  unfolding walk
+  kept-walk nop k h = h next
+  kept-walk (seq a b) k h = kept-walk a _ (kept-upon (W .scope) _ k (kept-walk b k h) h)
+  kept-walk (act x) k h = kept-before (W .scope) x (k next) (h next)
+  kept-walk (branch c a b) k h = kept-wholly (W .scope) c _ (kept-add (W .scope) _ _ (kept-walk a k h) (kept-walk b k h))
+  kept-walk (switch c vs f) k h =
+      kept-wholly (W .scope) c _ (kept-union (W .scope) (length vs) _ (λ i. kept-walk (f i) (ofCase k) (kept-case (W .scope) k h)))
+  kept-walk (loop n a b c) k h =
+      kept-walk a _ (kept-body (W .scope) _ k (kept-walk b _ (kept-continuing (W .scope) (r n) c k (again n) h)) h)
+  kept-walk (break n) k h = h broke
+  kept-walk (continue n) k h = h continued
+  kept-walk (return n v) k h = kept-valued (W .scope) (W .asked) v (k returned) fine (h returned)
+  kept-walk (unmarked n mark a) k h =
+      either-kept (W .scope) (obeys (W .scope) (k next) a) (k next) _ (h next) (kept-kept (W .scope) a (k next) _ (h next) (kept-walk a k h))
+
+  pub kept-sweep : (a : Tree) (k : Exit → PartReq) (t : Table) → AllKept (W .scope) k → TableKept (W .scope) t → TableKept (W .scope) (sweep W r a k t)
+  unfolding sweep afterBody
+  kept-sweep nop k t h g = g
+  kept-sweep (seq a b) k t h g = kept-sweep a _ _ (kept-upon (W .scope) _ k (kept-walk b k h) h) (kept-sweep b k t h g)
+  kept-sweep (act x) k t h g = g
+  kept-sweep (branch c a b) k t h g = kept-sweep a k _ h (kept-sweep b k t h g)
+  kept-sweep (switch c vs f) k t h g =
+      kept-through (W .scope) (length vs) (λ i. sweep W r (f i) (ofCase k)) t (λ i u e. kept-sweep (f i) (ofCase k) u (kept-case (W .scope) k h) e) g
+  kept-sweep (loop n a b c) k t h g =
+      let m = kept-continuing (W .scope) (r n) c k (again n) h in
+      let l = kept-body (W .scope) _ k (kept-walk b _ m) h in
+      kept-join (W .scope) n _ _ (kept-walk a _ l) (kept-sweep a _ _ l (kept-sweep b _ t m g))
+  kept-sweep (break n) k t h g = g
+  kept-sweep (continue n) k t h g = g
+  kept-sweep (return n v) k t h g = g
+  kept-sweep (unmarked n mark a) k t h g = either-table (W .scope) (obeys (W .scope) (k next) a) t _ g (kept-sweep a k t h g)

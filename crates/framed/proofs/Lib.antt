@@ -1,0 +1,10 @@
+pub mod Solid
+pub mod Given
+pub mod Same
+pub mod Slots
+pub mod Paths
+pub mod Takes
+pub mod Framed
+pub mod Kept
+pub mod Width
+pub mod Stands

@@ -1,0 +1,5 @@
+pub mod Given
+pub mod Same
+pub mod Places
+pub mod Kept
+pub mod Narrow
