@@ -1,0 +1,6 @@
+pub mod EachKind
+pub mod Paths
+pub mod Passing
+pub mod Stepping
+pub mod TwoWords
+pub mod SourceKinds

@@ -1,0 +1,4 @@
+pub mod Target
+pub mod Steps
+pub mod Slots
+pub mod Sources
