@@ -1,0 +1,5 @@
+pub mod Shapes
+pub mod Leaves
+pub mod Taking
+pub mod Places
+pub mod Trimming

@@ -1,0 +1,3 @@
+pub mod ShapeBy
+pub mod Narrow
+pub mod Frames
