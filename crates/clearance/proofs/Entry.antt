@@ -37,7 +37,7 @@ eqb-suc n j =
 apart : (n j : ℕ) (x y : PartReq) → (n ≡ j → ⊥) → y ≡ cond (eqb n j) x y
 apart n j x y h = rw (ne-eqb n j h)
 
-join-at : (n : ℕ) (m : PartReq) (t : Table) (j : ℕ) → reentry (joinAt n m t) j ≡ cond (eqb n j) (add m (reentry t j)) (reentry t j)
+pub join-at : (n : ℕ) (m : PartReq) (t : Table) (j : ℕ) → reentry (joinAt n m t) j ≡ cond (eqb n j) (add m (reentry t j)) (reentry t j)
 unfolding joinAt reentry
 join-at zero m [] zero = refl
 join-at zero m [] (suc j) = apart 0 (suc j) (add m none) none (omega arith)

@@ -25,23 +25,23 @@ one-in p (o ∷ l) e q z =
     (λ y. among-left q (cellsIn o) (reached l) (rw (same-is p o y) at z))
     (λ y. among-right q (cellsIn o) (reached l) (one-in p l y q z))
 
-none-in : (l : List PartReq) → Among (cellsIn none) l
+pub none-in : (l : List PartReq) → Among (cellsIn none) l
 none-in l q z = untrue (unfold cellsIn among in z)
 
-at-in : (l : List PartReq) (j : ℕ) → Among (cellsIn (getD l j none)) (reached l)
+pub at-in : (l : List PartReq) (j : ℕ) → Among (cellsIn (getD l j none)) (reached l)
 unfolding flatMap
 at-in [] j q z = untrue (unfold cellsIn among in z)
 at-in (p ∷ l) zero q z = among-left q (cellsIn p) (reached l) z
 at-in (p ∷ l) (suc j) q z = among-right q (cellsIn p) (reached l) (at-in l j q z)
 
-each-in : (l m : List PartReq) → ((j : ℕ) → Among (cellsIn (getD l j none)) (reached m)) → Among (reached l) (reached m)
+pub each-in : (l m : List PartReq) → ((j : ℕ) → Among (cellsIn (getD l j none)) (reached m)) → Among (reached l) (reached m)
 unfolding flatMap
 each-in [] m h q z = untrue (unfold among in z)
 each-in (p ∷ l) m h q z =
     among-cases (among q (reached m) ≡ true) q (cellsIn p) (reached l) z (λ y. h 0 q y) (λ y. each-in l m (λ j. h (suc j)) q y)
 
 -- two lists together
-left-in : (l m : List PartReq) → Among (reached l) (reached (l ++ m))
+pub left-in : (l m : List PartReq) → Among (reached l) (reached (l ++ m))
 unfolding flatMap
 left-in [] m q z = untrue (unfold among in z)
 left-in (p ∷ l) m q z =
@@ -49,12 +49,12 @@ left-in (p ∷ l) m q z =
     (λ y. among-left q (cellsIn p) (reached (l ++ m)) y)
     (λ y. among-right q (cellsIn p) (reached (l ++ m)) (left-in l m q y))
 
-right-in : (l m : List PartReq) → Among (reached m) (reached (l ++ m))
+pub right-in : (l m : List PartReq) → Among (reached m) (reached (l ++ m))
 unfolding flatMap
 right-in [] m q z = z
 right-in (p ∷ l) m q z = among-right q (cellsIn p) (reached (l ++ m)) (right-in l m q z)
 
-both-in : (l m k : List PartReq) → Among (reached l) (reached k) → Among (reached m) (reached k) → Among (reached (l ++ m)) (reached k)
+pub both-in : (l m k : List PartReq) → Among (reached l) (reached k) → Among (reached m) (reached k) → Among (reached (l ++ m)) (reached k)
 unfolding flatMap
 both-in [] m k f g q z = g q z
 both-in (p ∷ l) m k f g q z =

@@ -55,7 +55,7 @@ module _ (S : Scope) (aside : List PartReq) where
   says-asks [] n c = inr refl
   says-asks (x ∷ xs) n c = says-then _ (says-asks xs n c) (says-asking x (needs S xs n) c)
 
-  says-turning : (again : PartReq) (x : Option ExpressionHandle) (exit : PartReq) (c : Carried) → Says (turningOn S aside again x exit c) c (turning S again x exit)
+  pub says-turning : (again : PartReq) (x : Option ExpressionHandle) (exit : PartReq) (c : Carried) → Says (turningOn S aside again x exit c) c (turning S again x exit)
   unfolding turningOn turning wholly needs
   says-turning again absent exit c = says-within aside again c
   says-turning again (present x) exit c = says-then _ (says-joining aside exit again c) (says-asking _ (add exit again) c)

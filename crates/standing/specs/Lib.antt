@@ -1,0 +1,3 @@
+pub mod Slots
+pub mod Standing
+pub mod World
