@@ -17,7 +17,7 @@ use Rattle.clearance.specs.Shape.{orNone, below}
 use Rattle.hold.specs.Hold.{Reach}
 
 -- the cells of a need of a list
-one-in : (p : PartReq) (l : List PartReq) → among p l ≡ true → Among (cellsIn p) (reached l)
+pub one-in : (p : PartReq) (l : List PartReq) → among p l ≡ true → Among (cellsIn p) (reached l)
 unfolding flatMap
 one-in p [] e q z = untrue (unfold among in e)
 one-in p (o ∷ l) e q z =
@@ -62,11 +62,11 @@ both-in (p ∷ l) m k f g q z =
     (λ y. f q (among-left q (cellsIn p) (reached l) y))
     (λ y. both-in l m k (λ o x. f o (among-right o (cellsIn p) (reached l) x)) g q y)
 
-cons-in : (p : PartReq) (m k : List PartReq) → Among (cellsIn p) (reached k) → Among (reached m) (reached k) → Among (reached (p ∷ m)) (reached k)
+pub cons-in : (p : PartReq) (m k : List PartReq) → Among (cellsIn p) (reached k) → Among (reached m) (reached k) → Among (reached (p ∷ m)) (reached k)
 unfolding flatMap
 cons-in p m k f g q z = among-cases (among q (reached k) ≡ true) q (cellsIn p) (reached m) z (f q) (g q)
 
-tail-in : (p : PartReq) (l : List PartReq) → Among (reached l) (reached (p ∷ l))
+pub tail-in : (p : PartReq) (l : List PartReq) → Among (reached l) (reached (p ∷ l))
 unfolding flatMap
 tail-in p l q z = among-right q (cellsIn p) (reached l) z
 
@@ -115,7 +115,7 @@ reach-behind p [] l = reach-refl (p ∷ l)
 reach-behind p (q ∷ k) l = reach-trans (reach-exchange p q (k ++ l)) (reach-cons q (reach-behind p k l))
 
 -- a need whose cells are reached already adds nothing
-reach-again : (p : PartReq) (l : List PartReq) → Among (cellsIn p) (reached l) → Reach (p ∷ l) l
+pub reach-again : (p : PartReq) (l : List PartReq) → Among (cellsIn p) (reached l) → Reach (p ∷ l) l
 reach-again p l h = record { into = cons-in p l l h (λ q z. z); back = tail-in p l }
 
 pub reach-none : (l : List PartReq) → Reach (none ∷ l) l
@@ -128,11 +128,11 @@ pub reach-among : (p : PartReq) (l : List PartReq) → among p l ≡ true → Re
 reach-among p l e = reach-sub p p l (sub-self p) e
 
 -- a part at a path adds nothing to its need
-cell-in : (i : ℕ) (p r : PartReq) → Among (cellsIn p ++ cellsIn r) (cellsIn (more i p r))
+pub cell-in : (i : ℕ) (p r : PartReq) → Among (cellsIn p ++ cellsIn r) (cellsIn (more i p r))
 unfolding cellsIn among
 cell-in i p r q z = or-right-true (same q (more i p r)) _ z
 
-sub-in : (p : PartReq) (j : ℕ) → Among (cellsIn (orNone (getSubpart p j))) (cellsIn p)
+pub sub-in : (p : PartReq) (j : ℕ) → Among (cellsIn (orNone (getSubpart p j))) (cellsIn p)
 unfolding getSubpart
 sub-in all j q z = z
 sub-in exist j q z = none-in (cellsIn exist) q z
@@ -147,7 +147,7 @@ sub-in (more i p r) j q z =
     y)
     z
 
-below-in : (p : PartReq) (path : List ℕ) → Among (cellsIn (below p path)) (cellsIn p)
+pub below-in : (p : PartReq) (path : List ℕ) → Among (cellsIn (below p path)) (cellsIn p)
 unfolding below
 below-in p [] q z = z
 below-in p (j ∷ path) q z = sub-in p j q (below-in (orNone (getSubpart p j)) path q z)
