@@ -60,12 +60,19 @@ pub is-last : {whole q : List ℕ → Bool} {before now after : List ℕ} {r : B
 is-last l s = record { is = λ marks. s .is marks ∙ sym (l .is marks); long = s .long ∙ l .long }
 
 -- A turn over the cases, the last first
-module _ (S : Scope) (n : PartReq) (o : ℕ → ℕ) (e : Exit → Bool) where
-  pub case-first : {i x : ℕ} → 0 < i → x ≡ o (3 + 2 * (i - 1)) → Parts (quietCases S n o i e) (quietBlock S n x e) (quietCases S n o (i - 1) e)
-  unfolding each
-  case-first {i} l h = let z : i ≡ suc (i - 1) = omega arith in record { is = λ marks. ap (λ (k : ℕ). quietCases S n o k e marks) z ∙ rw h }
+module _ {bytes t : List ℕ} {f b : ℕ} {row : Kinded} (p : CasesIn bytes t f b row) (n : PartReq) (e : Exit → Bool) where
+  -- the first i
+  abbrev those : ℕ → List ℕ → Bool
+  those i = quietCases (scopeAt bytes t f) n (operandAt bytes row) i e
 
-  pub no-case : {i : ℕ} → i ≡ 0 → (marks : List ℕ) → quietCases S n o i e marks ≡ true
+  pub all-cases : {i : ℕ} → i ≡ operandAt bytes row 1 → (path : List ℕ) → Left (those (operandAt bytes row 1)) (those i) path path
+  all-cases h path = record { is = λ marks. rw h; long = refl }
+
+  pub case-first : {i x : ℕ} → 0 < i → x ≡ operandAt bytes row (3 + 2 * (i - 1)) → Parts (those i) (quietBlock (scopeAt bytes t f) n x e) (those (i - 1))
+  unfolding each
+  case-first {i} l h = let z : i ≡ suc (i - 1) = omega arith in record { is = λ marks. ap (λ (k : ℕ). those k marks) z ∙ rw h }
+
+  pub no-case : {i : ℕ} → i ≡ 0 → (marks : List ℕ) → those i marks ≡ true
   unfolding each
   no-case h marks = rw h
 
