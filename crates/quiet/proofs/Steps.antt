@@ -142,8 +142,8 @@ module _ {bytes t : List ℕ} {f b s : ℕ} (p : StatementIn bytes t f b s) {row
   quiet-if h x y =
       record {
         is =
-          λ marks. rw (decoded p is 2 h)
-          (if-of S n (S .function) marks (w marks) s e o ∙ rw (held-is 1 x (accept-low p is h) e marks, held-is 2 y (reject-low p is h) e marks));
+            λ marks. rw (decoded p is 2 h)
+            (if-of S n (S .function) marks (w marks) s e o ∙ rw (held-is 1 x (accept-low p is h) e marks, held-is 2 y (reject-low p is h) e marks));
       }
 
   pub quiet-loop : {x y : ℕ} {a c : Exit → Bool} → row .kind ≡ 4 → x ≡ o 0 → a ≡ inBody e → y ≡ o 1 → c ≡ inCase e →
@@ -151,9 +151,9 @@ module _ {bytes t : List ℕ} {f b s : ℕ} (p : StatementIn bytes t f b s) {row
   quiet-loop h x a y c =
       record {
         is =
-          λ marks. rw (decoded p is 4 h, a, c)
-          (loop-of S n (S .function) marks (w marks) s e o end-allowed
-          ∙ rw (held-is 0 x (body-low p is h) (inBody e) marks, held-is 1 y (continuing-low p is h) (inCase e) marks));
+            λ marks. rw (decoded p is 4 h, a, c)
+            (loop-of S n (S .function) marks (w marks) s e o end-allowed
+            ∙ rw (held-is 0 x (body-low p is h) (inBody e) marks, held-is 1 y (continuing-low p is h) (inCase e) marks));
       }
 
   pub quiet-switch : {a : Exit → Bool} → row .kind ≡ 3 → a ≡ inCase e → (path : List ℕ) → Left (quietStatement S n b s e) (quietCases S n o (o 1) a) path path

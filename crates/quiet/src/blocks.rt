@@ -97,20 +97,71 @@ fn quiet_statement(
     }
     if kind == SWITCH {
         let inside = in_case(e);
-        return quiet_cases(bytes, t, f, types, alike, paths, cells, path, m, b, row, inside);
+        return quiet_cases(
+            bytes,
+            t,
+            f,
+            types,
+            alike,
+            paths,
+            cells,
+            path,
+            m,
+            b,
+            row,
+            inside,
+        );
     }
     if kind == LOOP {
         let body = held(bytes, row, 0);
         let inside = in_body(e);
-        if !quiet_block(bytes, t, f, types, alike, paths, cells, path, m, body, inside) {
+        if !quiet_block(
+            bytes,
+            t,
+            f,
+            types,
+            alike,
+            paths,
+            cells,
+            path,
+            m,
+            body,
+            inside,
+        ) {
             return false;
         }
         // a continue that leaves a continuing block is one of the loop around
         let continuing = held(bytes, row, 1);
         let beside = in_case(e);
-        return quiet_block(bytes, t, f, types, alike, paths, cells, path, m, continuing, beside);
+        return quiet_block(
+            bytes,
+            t,
+            f,
+            types,
+            alike,
+            paths,
+            cells,
+            path,
+            m,
+            continuing,
+            beside,
+        );
     }
-    quiet_plain(bytes, t, f, types, alike, paths, cells, path, m, b, s, row, e)
+    quiet_plain(
+        bytes,
+        t,
+        f,
+        types,
+        alike,
+        paths,
+        cells,
+        path,
+        m,
+        b,
+        s,
+        row,
+        e,
+    )
 }
 
 pub fn quiet_block(
@@ -136,7 +187,20 @@ pub fn quiet_block(
     let count = range.count;
     let mut k = 0;
     while k < count {
-        if !quiet_statement(bytes, t, f, types, alike, paths, cells, path, m, b, first + k, e) {
+        if !quiet_statement(
+            bytes,
+            t,
+            f,
+            types,
+            alike,
+            paths,
+            cells,
+            path,
+            m,
+            b,
+            first + k,
+            e,
+        ) {
             return false;
         }
         k += 1;
@@ -163,5 +227,18 @@ pub fn obeys(
     requires { ⌜ StatementIn (now bytes) (now t) (f .0) (b .0) s ⌝ }
     ensures { λ r. ⌜ Obeys (scopeAt (now (bytes .entry)) (now (t .entry)) (f .0)) (part (now (cells .entry)) m) (b .0) s (now (path .entry)) (now (path .exit)) r ⌝ }
 {
-    quiet_statement(bytes, t, f, types, alike, paths, cells, path, m, b, s, none())
+    quiet_statement(
+        bytes,
+        t,
+        f,
+        types,
+        alike,
+        paths,
+        cells,
+        path,
+        m,
+        b,
+        s,
+        none(),
+    )
 }

@@ -57,7 +57,18 @@ fn quiet_emits(
 {
     let mut e = first;
     while e <= last {
-        if !emit_idle(bytes, t, f, types, alike, paths, cells, path, m, ExpressionHandle(e)) {
+        if !emit_idle(
+            bytes,
+            t,
+            f,
+            types,
+            alike,
+            paths,
+            cells,
+            path,
+            m,
+            ExpressionHandle(e),
+        ) {
             return false;
         }
         e += 1;
@@ -113,7 +124,19 @@ pub fn quiet_plain(
     let first = operand(bytes, row, 0) as u32;
     if kind == EMIT {
         let last = operand(bytes, row, 1) as u32;
-        return quiet_emits(bytes, t, f, types, alike, paths, cells, path, m, first, last);
+        return quiet_emits(
+            bytes,
+            t,
+            f,
+            types,
+            alike,
+            paths,
+            cells,
+            path,
+            m,
+            first,
+            last,
+        );
     }
     if kind == STORE {
         let p = ExpressionHandle(first);
