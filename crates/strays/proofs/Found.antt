@@ -39,7 +39,7 @@ module _ {bytes t : List ℕ} {f b s : ℕ} (p : StatementIn bytes t f b s) wher
   range : getD (F .blocks) b (rangeAt t f b) ≡ rangeAt t f b
   range = range-is bytes t f b (rangeAt t f b) (p .of-block .block)
 
-  in-function : s < length (F .statements)
+  pub in-function : s < length (F .statements)
   in-function =
       let a = function-valid bytes t f (p .of-block .read) (p .of-block .function) .ranges b (rangeAt t f b) (p .of-block .block) in
       let x = ap (λ (r : BlockRange). r .first) range in

@@ -1,0 +1,2 @@
+pub mod Acts
+pub mod Places
