@@ -1,0 +1,5 @@
+pub mod Word
+pub mod Broken
+pub mod Meaning
+pub mod Claims
+pub mod Numbers

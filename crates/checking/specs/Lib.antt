@@ -1,0 +1,4 @@
+pub mod Check
+pub mod Word
+pub mod Line
+pub mod Claims
