@@ -1,13 +1,13 @@
 -- What a check that answers clear claims, and when it answers so: from demand 3 and `exactly`, since what is checked is the clearance or 26, of a request that was read.
 use Prim.Native.Nat.{ℕ}
-use mathlib.Core.Path.{_≡_, refl, sym, _∙_}
-use mathlib.Core.Bool.{true, false}
+use mathlib.Core.Path.{_≡_, refl, _∙_}
+use mathlib.Core.Bool.{true}
 use mathlib.Core.List.{List}
 use mathlib.Core.Logic.{_↔_, ⊎-elim}
 use Rattle.part.specs.PartReq.{PartReq}
 use Rattle.part.proofs.Equations.{never}
 use Rattle.clearance.specs.Scope.{Scope}
-use Rattle.clearance.specs.Verdict.{Request, Report, Answer, clear, refused, hasShape, clearance}
+use Rattle.clearance.specs.Verdict.{Request, Report, clear, refused, hasShape, clearance}
 use Rattle.clearance.specs.Answered.{Cleared}
 use Rattle.clearance.proofs.Small.{cases}
 use Rattle.clearance.proofs.Answers.{exactly}

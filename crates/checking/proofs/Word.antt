@@ -1,9 +1,7 @@
 -- The number of an answer determines it, where its numbers have room; and it has 64 bits. By cases of the answer, each by what range its number lies in.
-use Prim.Native.Nat.{ℕ, _+_, _-_, _*_, _/_, _<_, _≤_}
+use Prim.Native.Nat.{_+_, _-_, _*_, _/_, _<_}
 use native.Mathlib.Omega.{arith}
-use mathlib.Core.Path.{_≡_, refl, ap}
-use mathlib.Core.Bool.{true, false}
-use lib.Dec.{ltb}
+use mathlib.Core.Path.{_≡_, refl}
 use borrow.Author.Tests.{lt-ltb, le-ltb}
 use Rattle.clearance.specs.Verdict.{Answer, clear, atStatement, atStart, unjudgedExpression, unjudgedStatement, refused}
 use Rattle.checking.specs.Word.{checkWord, Roomy, wordAnswer}
