@@ -35,7 +35,7 @@ module _ {bytes t : List ℕ} {f : ℕ} (h : There bytes t f) where
   abbrev ss : List Statement
   ss = functionOf bytes t f .statements
 
-  at-function : functionAt (moduleOf bytes t) f ≡ functionOf bytes t f
+  pub at-function : functionAt (moduleOf bytes t) f ≡ functionOf bytes t f
   unfolding functionAt
   at-function = function-is bytes t f _ (h .there)
 

@@ -37,7 +37,7 @@ abbrev pub askedBy : asks.Request → Request
 askedBy q = record { globals = q .globals; value = valueOf (q .retval) }
 
 -- The marks are the function's stretch of the buffer that has those of all functions. Of a buffer that ends before the stretch does they are fewer, so that they have not the
--- function's shape: 21.
+-- function's shape: 21. (A function that has no marks lacks none.)
 abbrev pub reportBy : Module → FunctionHandle → (report : List ℕ) → RequiredContext → Report
 reportBy m f report c = record { marks = slice report (startOf m f) (stretch m f); globals = c .globals; args = c .args }
 
