@@ -1,10 +1,10 @@
 -- An ask as a step of a pass: all of a value, and of a returned value the part that is asked, which stands in its slot trimmed to the result's type. What was ready is ready then.
-use Prim.Native.Nat.{ℕ, _-_, _<_}
+use Prim.Native.Nat.{ℕ, _+_, _-_, _<_}
 use native.Mathlib.Omega.{arith}
 use native.Mathlib.Decide.{ℕ-discrete}
 use mathlib.Core.Path.{_≡_, _∙_}
 use mathlib.Core.Bool.{Bool, true}
-use mathlib.Core.List.{List}
+use mathlib.Core.List.{List, _∷_}
 use mathlib.Core.Option.{some as present}
 use lib.ListN.{getD}
 use Rattle.part.specs.PartReq.{PartReq}
@@ -22,7 +22,9 @@ use Rattle.asked.specs.Within.{Within}
 use Rattle.asked.proofs.Asks.{whole-within}
 use Rattle.asked.proofs.Asking.{return-within, return-asking}
 use Rattle.framed.specs.Kept.{Kept}
-use Rattle.hold.specs.Hold.{inSlot}
+use Rattle.hold.specs.Hold.{heldBy, inSlot, Reach}
+use Rattle.hold.proofs.Reach.{reach-trans, reach-cons}
+use Rattle.hold.proofs.Slots.{held-reach}
 use Rattle.standing.specs.Slots.{askedSlot, Ready}
 use Rattle.standing.specs.Standing.{settingOf, Stepped, Valued}
 use Rattle.asking.specs.Asks.{Asks, stepOf, ValueGiven, StepGiven}
@@ -31,6 +33,12 @@ use Rattle.asking.proofs.Steps.{kept-there}
 module _ {S : Scope} {s rs : List ℕ} {n v : ℕ} (g : StepGiven S s rs n v) where
   hand-kept : Kept S (inSlot s rs (n - 1))
   hand-kept = g .ready .needs (n - 1) (omega (arith, g .ready .high)) (λ e. omega (arith, g .ready .high))
+
+  -- the slots with the needs at hand
+  last-above : {l : List PartReq} → Reach (heldBy s rs (n - 1)) l → Reach (heldBy s rs n) (inSlot s rs (n - 1) ∷ l)
+  last-above h =
+      let e : (n - 1) + 1 ≡ n = omega (arith, g .ready .high) in
+      reach-trans (rw e at (held-reach s rs (n - 1) (omega (arith, g .ready .high, g .ready .live .loose .few)))) (reach-cons (inSlot s rs (n - 1)) h)
 
   asks-given : (a : ℕ) → a < top s → Ascending (part s a) → Within S (ofValue v (part s a)) → ValueGiven S s rs n v a
   asks-given a l f w = record {
@@ -69,7 +77,7 @@ module _ {S : Scope} {s rs : List ℕ} {n v : ℕ} (g : StepGiven S s rs n v) wh
     slots = d .slots;
     ready = asks-ready d;
     kept = d .kept;
-    is = (rw (part-0 s) at d) .is;
+    is = λ aside c z. (rw (part-0 s) at d) .is aside c (last-above z);
   }
 
   -- the part that is asked of a returned value
@@ -94,5 +102,5 @@ module _ {S : Scope} {s rs : List ℕ} {n v : ℕ} (g : StepGiven S s rs n v) wh
       kept = d .kept;
       is = λ p e aside c z.
           return-asking (settingOf S p) (g .read) (g .judged) v (g .there) h aside (inSlot s rs (n - 1)) c (kept-there hand-kept)
-          ∙ (rw e at d) .is aside c z;
+          ∙ (rw e at d) .is aside c (last-above z);
     }

@@ -67,7 +67,7 @@ fn stray_leaving(kind: u16, s: u32, e: Exits, low: Blamed) -> Blamed
 }
 
 // The block that a statement holds in its operand j. A switch has two for each of fewer than 65536 cases.
-fn held(bytes: &[u8], row: Kinded, j: u32) -> BlockHandle
+pub fn held(bytes: &[u8], row: Kinded, j: u32) -> BlockHandle
     requires { ⌜ j < 200000 ⌝ }
     ensures { λ r. ⌜ r .0 ≡ operandAt (now (bytes .entry)) row j ⌝ }
 {
