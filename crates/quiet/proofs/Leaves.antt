@@ -1,7 +1,7 @@
 -- Statements that hold no blocks: an emit's expressions one by one, a store, and what leaves.
 use Prim.Native.Nat.{ℕ, suc, _+_, _-_, _<_, _≤_}
 use native.Mathlib.Omega.{arith}
-use mathlib.Core.Path.{_≡_, refl, sym, ap, subst, _∙_}
+use mathlib.Core.Path.{_≡_, refl, sym, subst, _∙_}
 use mathlib.Core.Bool.{Bool, true, false, _&&_}
 use mathlib.Core.List.{List}
 use lib.ListN.{length, getD}
@@ -10,12 +10,12 @@ use Rattle.module.specs.Module.{BlockHandle, Statement, Function, Kill}
 use Rattle.module.specs.Decode.{statementOf}
 use Rattle.module.specs.Tables.{functionOf, moduleOf}
 use Rattle.access.specs.declared.kinded.Kinded.{Kinded}
-use Rattle.access.specs.Access.{operandAt, statementAt, statementRow}
+use Rattle.access.specs.Access.{operandAt, statementRow}
 use Rattle.access.proofs.Access.{statement-is, statement-of}
 use Rattle.valid.specs.Valid.{UsesBelow, entriesBelow}
 use Rattle.clearance.specs.Scope.{Scope, isPath}
 use Rattle.clearance.specs.Tree.{Tree, emit, store, statement}
-use Rattle.clearance.specs.Needs.{Exit, idle, quiet}
+use Rattle.clearance.specs.Needs.{idle, quiet}
 use Rattle.clearance.specs.Judged.{isValue, fitsStatement}
 use Rattle.clearance.proofs.Small.{both-true}
 use Rattle.judge.specs.Given.{scopeAt}
@@ -24,9 +24,7 @@ use Rattle.standing.specs.World.{World}
 use Rattle.place.specs.Target.{Pointer}
 use Rattle.strays.specs.declared.exits.Exits.{Exits}
 use Rattle.strays.specs.Exits.{exitsOf}
-use Rattle.strays.specs.Places.{StatementIn}
-use Rattle.strays.proofs.Found.{in-function, decoded}
-use Rattle.quiet.specs.Acts.{Needing, Idle, idleFrom, IdleFrom}
+use Rattle.quiet.specs.Acts.{Idle, idleFrom, IdleFrom}
 use Rattle.quiet.specs.Places.{quietStatement, Says}
 use Rattle.quiet.proofs.Trees.{emit-of, store-of, break-of, continue-of, return-of, other-of, past-of}
 
@@ -95,54 +93,54 @@ module _ (k : ℕ) (e : Exits) where
       let z : k ≡ past 8 (k - 8) = omega arith in
       rw z (sym (other-of S n f marks block s (exitsOf e) o (k - 8) (omega arith) (λ q. d (omega arith))))
 
--- A statement of a block, by its row
-module _ {bytes t : List ℕ} {f b s : ℕ} (p : StatementIn bytes t f b s) {row : Kinded} (is : row ≡ statementRow bytes t f s) where
+-- A statement, by its row
+module _ {bytes t : List ℕ} {f : ℕ} {types alike paths : List ℕ} (w : World bytes t f types alike paths) {s : ℕ} (l : s < length (functionOf bytes t f .statements)) {row : Kinded} (is : row ≡ statementRow bytes t f s) where
   abbrev S : Scope
   S = scopeAt bytes t f
 
   abbrev o : ℕ → ℕ
   o = operandAt bytes row
 
+  decoded : (k : ℕ) → row .kind ≡ k → getD (S .function .statements) s Kill ≡ statementOf k o
+  decoded k h = statement-is bytes t f s Kill l ∙ statement-of bytes t f s k row is h
+
   uses : (k : ℕ) → row .kind ≡ k → UsesBelow (length (functionOf bytes t f .expressions)) (entriesBelow f (moduleOf bytes t .functions)) (statementOf k o)
   uses k h =
-      subst (λ (x : Statement). UsesBelow (length (functionOf bytes t f .expressions)) (entriesBelow f (moduleOf bytes t .functions)) x) (decoded p is k h)
-      (function-valid bytes t f (p .of-block .read) (p .of-block .function) .parts .each-statement s Kill (in-function p) .uses)
+      subst (λ (x : Statement). UsesBelow (length (functionOf bytes t f .expressions)) (entriesBelow f (moduleOf bytes t .functions)) x) (decoded k h)
+      (function-valid bytes t f (w .given .read) (w .given .there) .parts .each-statement s Kill l .uses)
 
   pub last-there : {last : ℕ} → row .kind ≡ 0 → last ≡ o 1 → last < length (functionOf bytes t f .expressions)
   unfolding statementOf
   last-there h q = rw q (uses 0 h .1)
 
   -- a store that fits has a path for its pointer
-  pub stored-pointer : {types alike paths : List ℕ} → World bytes t f types alike paths → row .kind ≡ 12 → {x : ℕ} → x ≡ o 0 → Pointer bytes t f x
+  pub stored-pointer : row .kind ≡ 12 → {x : ℕ} → x ≡ o 0 → Pointer bytes t f x
   unfolding statementOf fitsStatement
-  stored-pointer w h q =
-      let fits : fitsStatement S (statementOf 12 o) ≡ true = subst (λ (x : Statement). fitsStatement S x ≡ true) (statement-of bytes t f s 12 row is h) (w .fit s (in-function p)) in
+  stored-pointer h q =
+      let fits : fitsStatement S (statementOf 12 o) ≡ true = subst (λ (x : Statement). fitsStatement S x ≡ true) (statement-of bytes t f s 12 row is h) (w .fit s l) in
       rw q
       record {
-        read = p .of-block .read;
-        function = p .of-block .function;
+        read = w .given .read;
+        function = w .given .there;
         there = uses 12 h .0;
         path = both-true (isPath S (o 0)) _ (both-true (isValue S (o 1)) _ fits .1) .0;
       }
 
   module _ (n : PartReq) (e : Exits) {before after : List ℕ} {r : Bool} where
-    pub quiet-emit : {first last : ℕ} → row .kind ≡ 0 → first ≡ o 0 → last ≡ o 1 → IdleFrom S n first ((last + 1) - first) before after r → Says (quietStatement S n b s (exitsOf e)) before after r
-    quiet-emit h x y i =
+    pub quiet-emit : {first last : ℕ} → row .kind ≡ 0 → first ≡ o 0 → last ≡ o 1 → IdleFrom S n first ((last + 1) - first) before after r → (b : ℕ) →
+        Says (quietStatement S n b s (exitsOf e)) before after r
+    quiet-emit h x y i b =
         record {
-          is = λ marks. i .is ∙ rw (x, y, decoded p is 0 h) (sym (emit-of S n (functionOf bytes t f) marks _ s (exitsOf e) o));
+          is = λ marks. i .is ∙ rw (x, y, decoded 0 h) (sym (emit-of S n (functionOf bytes t f) marks _ s (exitsOf e) o));
           long = i .long;
         }
 
-    pub quiet-store : {q : ℕ} → row .kind ≡ 12 → q ≡ o 0 → ((v : ℕ) → Idle S (store q v) n before after r) → Says (quietStatement S n b s (exitsOf e)) before after r
-    quiet-store h x i =
+    pub quiet-store : {q : ℕ} → row .kind ≡ 12 → q ≡ o 0 → ((v : ℕ) → Idle S (store q v) n before after r) → (b : ℕ) → Says (quietStatement S n b s (exitsOf e)) before after r
+    quiet-store h x i b =
         record {
-          is = λ marks. i (o 1) .is ∙ rw (x, decoded p is 12 h) (sym (store-of S n (functionOf bytes t f) marks _ s (exitsOf e) o));
+          is = λ marks. i (o 1) .is ∙ rw (x, decoded 12 h) (sym (store-of S n (functionOf bytes t f) marks _ s (exitsOf e) o));
           long = i 0 .long;
         }
 
-  pub quiet-leaving : (n : PartReq) (e : Exits) (path : List ℕ) {r : Bool} → Leaving (row .kind) e r → Says (quietStatement S n b s (exitsOf e)) path path r
-  quiet-leaving n e path h =
-      record {
-        is = λ marks. rw (decoded p is (row .kind) refl) (h S n (functionOf bytes t f) marks _ s o);
-        long = refl;
-      }
+  pub quiet-leaving : (n : PartReq) (e : Exits) (path : List ℕ) {r : Bool} → Leaving (row .kind) e r → (b : ℕ) → Says (quietStatement S n b s (exitsOf e)) path path r
+  quiet-leaving n e path h b = record { is = λ marks. rw (decoded (row .kind) refl) (h S n (functionOf bytes t f) marks _ s o); long = refl }

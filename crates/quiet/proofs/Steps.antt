@@ -1,6 +1,5 @@
 -- Whether a block is quiet, from its statements, and a statement from the blocks that it holds, each as the code asks it: one law for each way on, at a stop and where it goes on.
-use Prim.Native.Nat.{ℕ, zero, suc, _+_, _-_, _*_, _<_, _≤_}
-use native.Mathlib.Numerals.{add-one}
+use Prim.Native.Nat.{ℕ, suc, _+_, _-_, _*_, _<_, _≤_}
 use native.Mathlib.Omega.{arith}
 use mathlib.Core.Path.{_≡_, refl, sym, ap, _∙_}
 use mathlib.Core.Bool.{Bool, true, false, _&&_}
@@ -16,7 +15,7 @@ use Rattle.access.specs.declared.kinded.Kinded.{Kinded}
 use Rattle.access.specs.Access.{operandAt, statementRow, rangeAt}
 use Rattle.access.proofs.Access.{range-is}
 use Rattle.clearance.specs.Scope.{Scope}
-use Rattle.clearance.specs.Tree.{Tree, nop, byMark, statement, statementsFrom, noBlock, blockTree}
+use Rattle.clearance.specs.Tree.{Tree, nop, statement, statementsFrom, noBlock, blockTree}
 use Rattle.clearance.specs.Needs.{Exit, next, onlyNext, each, quiet, obeys}
 use Rattle.clearance.specs.Judged.{inCase, inBody}
 use Rattle.judge.specs.Given.{scopeAt}
@@ -24,7 +23,7 @@ use Rattle.strays.specs.declared.exits.Exits.{Exits}
 use Rattle.strays.specs.Exits.{exitsOf}
 use Rattle.strays.specs.Places.{BlockOf, StatementIn, CasesIn}
 use Rattle.strays.proofs.Found.{decoded, block-low, accept-low, reject-low, body-low, continuing-low, cases-in}
-use Rattle.quiet.specs.Places.{treeOf, statementTree, quietBlock, quietStatement, quietCases, Says, Obeys}
+use Rattle.quiet.specs.Places.{treeOf, quietBlock, quietStatement, quietCases, Says, Obeys}
 use Rattle.quiet.proofs.Trees.{each-same, by-quiet, block-of, if-of, switch-of, loop-of}
 
 -- One after the other

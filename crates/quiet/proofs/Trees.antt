@@ -7,7 +7,7 @@ use mathlib.Core.Bool.{Bool, true, false, _&&_}
 use mathlib.Core.List.{List, [], _∷_, map}
 use lib.ListN.{length, getD}
 use Rattle.part.specs.PartReq.{PartReq}
-use Rattle.module.specs.Module.{ExpressionHandle, BlockHandle, SwitchCase, Function}
+use Rattle.module.specs.Module.{BlockHandle, SwitchCase, Function}
 use Rattle.module.specs.Decode.{tab, caseOf, statementOf}
 use Rattle.module.proofs.Tab.{length-tab, getD-tab, map-tab}
 use Rattle.clearance.specs.Scope.{Scope}

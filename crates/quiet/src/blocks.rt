@@ -1,5 +1,4 @@
 // The rule over blocks, at any depth: it stops at the first that gives what is needed, or leaves where it may not.
-ghost use mathlib.Core.Path.{_≡_};
 ghost use Prim.Native.Nat.{_+_, _≤_};
 ghost use lib.ListN.{length};
 ghost use Rattle.part.specs.Store.{part};
@@ -96,72 +95,21 @@ fn quiet_statement(
         return quiet_block(bytes, t, f, types, alike, paths, cells, path, m, reject, e);
     }
     if kind == SWITCH {
-        let inside = in_case(e);
-        return quiet_cases(
-            bytes,
-            t,
-            f,
-            types,
-            alike,
-            paths,
-            cells,
-            path,
-            m,
-            b,
-            row,
-            inside,
-        );
+        let x = in_case(e);
+        return quiet_cases(bytes, t, f, types, alike, paths, cells, path, m, b, row, x);
     }
     if kind == LOOP {
         let body = held(bytes, row, 0);
-        let inside = in_body(e);
-        if !quiet_block(
-            bytes,
-            t,
-            f,
-            types,
-            alike,
-            paths,
-            cells,
-            path,
-            m,
-            body,
-            inside,
-        ) {
+        let x = in_body(e);
+        if !quiet_block(bytes, t, f, types, alike, paths, cells, path, m, body, x) {
             return false;
         }
         // a continue that leaves a continuing block is one of the loop around
-        let continuing = held(bytes, row, 1);
-        let beside = in_case(e);
-        return quiet_block(
-            bytes,
-            t,
-            f,
-            types,
-            alike,
-            paths,
-            cells,
-            path,
-            m,
-            continuing,
-            beside,
-        );
+        let last = held(bytes, row, 1);
+        let y = in_case(e);
+        return quiet_block(bytes, t, f, types, alike, paths, cells, path, m, last, y);
     }
-    quiet_plain(
-        bytes,
-        t,
-        f,
-        types,
-        alike,
-        paths,
-        cells,
-        path,
-        m,
-        b,
-        s,
-        row,
-        e,
-    )
+    quiet_plain(bytes, t, f, types, alike, paths, cells, path, m, s, row, e)
 }
 
 pub fn quiet_block(

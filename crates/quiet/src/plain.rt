@@ -14,14 +14,12 @@ ghost use Rattle.clearance.specs.Tree.{Tree, statement as treeOfOne};
 ghost use Rattle.clearance.specs.Needs.{quiet};
 ghost use Rattle.judge.specs.Given.{scopeAt};
 ghost use Rattle.strays.specs.Exits.{exitsOf};
-ghost use Rattle.strays.specs.Places.{StatementIn};
 ghost use Rattle.quiet.specs.Acts.{Needing, IdleFrom};
 ghost use Rattle.quiet.specs.Places.{quietStatement, Says};
 use crate::acts::emit_idle;
 use crate::acts::store_idle;
 use access::kinded::Kinded;
 use access::kinded::operand;
-use module::handles::BlockHandle;
 use module::handles::ExpressionHandle;
 use module::handles::FunctionHandle;
 use strays::exits::Exits;
@@ -97,7 +95,7 @@ fn quiet_leaving(kind: u16, e: Exits) -> bool
     e.broke
 }
 
-// The statement s of the block b, by its row.
+// The statement s, by its row, whatever block it is in.
 pub fn quiet_plain(
     bytes: &[u8],
     t: &[u32],
@@ -108,17 +106,16 @@ pub fn quiet_plain(
     cells: &[u32],
     path: &mut [u32],
     m: u32,
-    b: BlockHandle,
     s: u32,
     row: Kinded,
     e: Exits,
 ) -> bool
     requires { ⌜ Needing (now bytes) (now t) (f .0) (now types) (now alike) (now paths) (now cells) m ⌝ }
     requires { ⌜ length (functionOf (now bytes) (now t) (f .0) .expressions) + 2 ≤ length (now path) ⌝ }
-    requires { ⌜ StatementIn (now bytes) (now t) (f .0) (b .0) s ⌝ }
+    requires { ⌜ s < length (functionOf (now bytes) (now t) (f .0) .statements) ⌝ }
     requires { ⌜ row ≡ statementRow (now bytes) (now t) (f .0) s ⌝ }
     requires { ⌜ ((row .kind ≡ 0 → ⊥) → 4 < row .kind) ⌝ }
-    ensures { λ r. ⌜ Says (quietStatement (scopeAt (now (bytes .entry)) (now (t .entry)) (f .0)) (part (now (cells .entry)) m) (b .0) s (exitsOf e)) (now (path .entry)) (now (path .exit)) r ⌝ }
+    ensures { λ r. ⌜ ((b : ℕ) → Says (quietStatement (scopeAt (now (bytes .entry)) (now (t .entry)) (f .0)) (part (now (cells .entry)) m) b s (exitsOf e)) (now (path .entry)) (now (path .exit)) r) ⌝ }
 {
     let kind = row.kind;
     let first = operand(bytes, row, 0) as u32;

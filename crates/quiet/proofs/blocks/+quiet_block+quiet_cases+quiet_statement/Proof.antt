@@ -7,7 +7,7 @@ use Rattle.part.specs.Store.{part}
 use Rattle.access.specs.Access.{operandAt}
 use Rattle.judge.specs.Given.{scopeAt}
 use Rattle.strays.specs.Exits.{exitsOf}
-use Rattle.strays.proofs.Found.{statement-in, statement-small, there, block-low, accept-low, reject-low, body-low, continuing-low, cases-in, case-there}
+use Rattle.strays.proofs.Found.{in-function, statement-in, statement-small, there, block-low, accept-low, reject-low, body-low, continuing-low, cases-in, case-there}
 use Rattle.quiet.specs.Places.{quietBlock, quietCases}
 use Rattle.quiet.proofs.Steps.{Left, at-first, stops, goes-on, ends, is-last, later, statement-first, no-statement, all-statements, case-first, no-case, all-cases, quiet-inner, quiet-if, quiet-loop, quiet-switch, plain-kind}
 use native.Mathlib.Omega.{arith}
@@ -252,13 +252,13 @@ quiet-statement-returns-6 : (t : ℕ) → quiet-statement-lts.Need-returns-6 (qu
 quiet-statement-returns-6 t c = is-last (goes-on (at-first _ _) (quiet-loop (c .before .before .before .before .before .before .before .before .before .before .before .before .before .before .before .before .before .before .before .before .before .before .before .before .before .pre .1 .1 .1) (c .before .before .before .before .before .before .before .before .before .before .before .before .before .before .before .before .before .statement .ensures) _ _ (c .before .before .before .before .before .before .before .before .before .before .before .before .before .if5 .taken) (c .before .before .before .before .before .before .before .before .before .before .before .before .held4 .ensures) (c .before .before .before .before .before .before .before .before .before .before .before .in-body .ensures) (c .before .before .before .before .before .held5 .ensures) (c .before .before .before .before .in-case2 .ensures)) (c .before .before .before .before .before .before .before .before .before .quiet-block4 .ensures) (not-false _ (c .before .before .before .before .before .before .if6 .left))) (c .before .before .quiet-block5 .ensures)
 
 quiet-statement-quiet-plain-requires : (t : ℕ) → quiet-statement-lts.Need-quiet-plain-requires (quiet-statement-called t) (quiet-statement-at t) quiet-statement.Post
-quiet-statement-quiet-plain-requires t c κs = (c .before .before .before .before .before .before .before .before .before .before .before .before .before .pre .1 .0, (c .before .before .before .before .before .before .before .before .before .before .before .before .before .pre .1 .1 .0, ((c .before .before .before .before .before .before .before .before .before .before .before .before .before .pre .1 .1 .1), (c .before .before .before .before .before .statement .ensures, plain-kind (c .before .before .before .before .if1 .left) (c .before .before .before .if2 .left) (c .before .before .if4 .left) (c .before .if5 .left)))))
+quiet-statement-quiet-plain-requires t c κs = (c .before .before .before .before .before .before .before .before .before .before .before .before .before .pre .1 .0, (c .before .before .before .before .before .before .before .before .before .before .before .before .before .pre .1 .1 .0, (in-function (c .before .before .before .before .before .before .before .before .before .before .before .before .before .pre .1 .1 .1), (c .before .before .before .before .before .statement .ensures, plain-kind (c .before .before .before .before .if1 .left) (c .before .before .before .if2 .left) (c .before .before .if4 .left) (c .before .if5 .left)))))
 
 quiet-statement-same-length-7 : (t : ℕ) → quiet-statement-lts.Need-same-length-7 (quiet-statement-called t) (quiet-statement-at t) quiet-statement.Post
-quiet-statement-same-length-7 t c = c .before .before .quiet-plain .ensures .long
+quiet-statement-same-length-7 t c = c .before .before .quiet-plain .ensures (c .before .before .before .before .before .before .before .before .before .before .before .before .before .before .before .before .args .b .0) .long
 
 quiet-statement-returns-7 : (t : ℕ) → quiet-statement-lts.Need-returns-7 (quiet-statement-called t) (quiet-statement-at t) quiet-statement.Post
-quiet-statement-returns-7 t c = c .before .before .quiet-plain .ensures
+quiet-statement-returns-7 t c = c .before .before .quiet-plain .ensures (c .before .before .before .before .before .before .before .before .before .before .before .before .before .before .before .before .args .b .0)
 
 pub +quiet-block+quiet-cases+quiet-statement-spec : {M : Type 1} → statement M
 +quiet-block+quiet-cases+quiet-statement-spec =

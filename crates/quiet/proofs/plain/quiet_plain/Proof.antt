@@ -24,28 +24,28 @@ cast-last : tie.Need-cast-last
 cast-last c = search needs
 
 quiet-emits-requires : tie.Need-quiet-emits-requires
-quiet-emits-requires c κs = (c .before .before .before .before .before .before .before .before .before .before .before .pre .0, (last-there (c .before .before .before .before .before .before .before .before .before .before .before .pre .1 .1 .0) (c .before .before .before .before .before .before .before .before .before .before .before .pre .1 .1 .1 .0) (c .before .before .if1 .taken) (c .before .operand2 .ensures), omega (arith, c .before .before .before .before .before .before .before .before .before .before .before .pre .1 .0)))
+quiet-emits-requires c κs = (c .before .before .before .before .before .before .before .before .before .before .before .pre .0, (last-there (c .before .before .before .before .before .before .before .before .before .before .before .pre .0 .world) (c .before .before .before .before .before .before .before .before .before .before .before .pre .1 .1 .0) (c .before .before .before .before .before .before .before .before .before .before .before .pre .1 .1 .1 .0) (c .before .before .if1 .taken) (c .before .operand2 .ensures), omega (arith, c .before .before .before .before .before .before .before .before .before .before .before .pre .1 .0)))
 
 same-length : tie.Need-same-length
 same-length c = search needs
 
 returns : tie.Need-returns
-returns c = quiet-emit (c .before .before .before .before .before .before .before .before .before .before .before .before .before .before .pre .1 .1 .0) (c .before .before .before .before .before .before .before .before .before .before .before .before .before .before .pre .1 .1 .1 .0) _ _ (c .before .before .before .before .before .if1 .taken) (c .before .before .before .before .before .before .operand .ensures) (c .before .before .before .before .operand2 .ensures) (c .before .before .quiet-emits .ensures)
+returns c = quiet-emit (c .before .before .before .before .before .before .before .before .before .before .before .before .before .before .pre .0 .world) (c .before .before .before .before .before .before .before .before .before .before .before .before .before .before .pre .1 .1 .0) (c .before .before .before .before .before .before .before .before .before .before .before .before .before .before .pre .1 .1 .1 .0) _ _ (c .before .before .before .before .before .if1 .taken) (c .before .before .before .before .before .before .operand .ensures) (c .before .before .before .before .operand2 .ensures) (c .before .before .quiet-emits .ensures)
 
 store-idle-requires : tie.Need-store-idle-requires
-store-idle-requires c κs = (c .before .before .before .before .before .before .before .before .before .before .before .pre .0, (stored-pointer (c .before .before .before .before .before .before .before .before .before .before .before .pre .1 .1 .0) (c .before .before .before .before .before .before .before .before .before .before .before .pre .1 .1 .1 .0) (c .before .before .before .before .before .before .before .before .before .before .before .pre .0 .world) (c .before .if2 .taken) (c .before .before .before .operand .ensures), c .before .before .before .before .before .before .before .before .before .before .before .pre .1 .0))
+store-idle-requires c κs = (c .before .before .before .before .before .before .before .before .before .before .before .pre .0, (stored-pointer (c .before .before .before .before .before .before .before .before .before .before .before .pre .0 .world) (c .before .before .before .before .before .before .before .before .before .before .before .pre .1 .1 .0) (c .before .before .before .before .before .before .before .before .before .before .before .pre .1 .1 .1 .0) (c .before .if2 .taken) (c .before .before .before .operand .ensures), c .before .before .before .before .before .before .before .before .before .before .before .pre .1 .0))
 
 same-length-2 : tie.Need-same-length-2
 same-length-2 c = search needs
 
 returns-2 : tie.Need-returns-2
-returns-2 c = quiet-store (c .before .before .before .before .before .before .before .before .before .before .before .before .before .before .pre .1 .1 .0) (c .before .before .before .before .before .before .before .before .before .before .before .before .before .before .pre .1 .1 .1 .0) _ _ (c .before .before .before .before .if2 .taken) (c .before .before .before .before .before .before .operand .ensures) (c .before .before .store-idle .ensures)
+returns-2 c = quiet-store (c .before .before .before .before .before .before .before .before .before .before .before .before .before .before .pre .0 .world) (c .before .before .before .before .before .before .before .before .before .before .before .before .before .before .pre .1 .1 .0) (c .before .before .before .before .before .before .before .before .before .before .before .before .before .before .pre .1 .1 .1 .0) _ _ (c .before .before .before .before .if2 .taken) (c .before .before .before .before .before .before .operand .ensures) (c .before .before .store-idle .ensures)
 
 quiet-leaving-requires : tie.Need-quiet-leaving-requires
 quiet-leaving-requires c κs = (c .before .before .before .before .before .before .before .before .before .before .pre .1 .1 .1 .1 (c .before .if1 .left), c .if2 .left)
 
 returns-3 : tie.Need-returns-3
-returns-3 c = quiet-leaving (c .before .before .before .before .before .before .before .before .before .before .before .pre .1 .1 .0) (c .before .before .before .before .before .before .before .before .before .before .before .pre .1 .1 .1 .0) _ _ _ (c .quiet-leaving .ensures)
+returns-3 c = quiet-leaving (c .before .before .before .before .before .before .before .before .before .before .before .pre .0 .world) (c .before .before .before .before .before .before .before .before .before .before .before .pre .1 .1 .0) (c .before .before .before .before .before .before .before .before .before .before .before .pre .1 .1 .1 .0) _ _ _ (c .quiet-leaving .ensures)
 
 pub quiet-plain-spec : {M : Type 1} → statement M
 quiet-plain-spec =
