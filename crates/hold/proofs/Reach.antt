@@ -66,7 +66,7 @@ cons-in : (p : PartReq) (m k : List PartReq) → Among (cellsIn p) (reached k) �
 unfolding flatMap
 cons-in p m k f g q z = among-cases (among q (reached k) ≡ true) q (cellsIn p) (reached m) z (f q) (g q)
 
-tail-in : (p : PartReq) (l : List PartReq) → Among (reached l) (reached (p ∷ l))
+pub tail-in : (p : PartReq) (l : List PartReq) → Among (reached l) (reached (p ∷ l))
 unfolding flatMap
 tail-in p l q z = among-right q (cellsIn p) (reached l) z
 

@@ -1,0 +1,93 @@
+-- `asking::ask::ask_value` meets its contract.
+use mathlib.Core.Path.{refl}
+use Rattle.asking.proofs.Values.{source-is, given-asks, path-asks, value-asks}
+use borrow.Author.Needs.{needs}
+use Rattle.asking.proofs.ask.ask_value.Statement.{statement}
+use Rattle.asking.proofs.ask.ask_value.Tie as tie
+use Rattle.asking.proofs.ask.ask_value.Reads as reads
+use Rattle.asking.proofs.ask.ask_value.Lts as lts
+use Rattle.asking.proofs.ask.ask_place.Reads as ask-place-reads
+use Rattle.place.proofs.slots.argument_path.Reads as argument-path-reads
+use Rattle.place.proofs.slots.evaluated_path.Reads as evaluated-path-reads
+use Rattle.place.proofs.sources.source_of.Reads as source-of-reads
+
+source-of-requires : tie.Need-source-of-requires
+source-of-requires c κs = search needs
+
+enum-told : tie.Need-enum-told
+enum-told c = search needs
+
+returns : tie.Need-returns
+returns c = given-asks (c .before .before .before .before .before .before .before .pre) (source-is (c .before .before .before .before .before .before .before .pre) (c .before .before .source-of .ensures) (c .enum-told .given .1))
+
+enum-known-source : tie.Need-enum-known-source
+enum-known-source c = search needs
+
+slice-aggregate-argument-path : tie.Need-slice-aggregate-argument-path
+slice-aggregate-argument-path c = search needs
+
+argument-path-requires : tie.Need-argument-path-requires
+argument-path-requires c κs = search needs
+
+slice-aggregate-ask-place : tie.Need-slice-aggregate-ask-place
+slice-aggregate-ask-place c = search needs
+
+ask-place-requires : tie.Need-ask-place-requires
+ask-place-requires c κs = path-asks (c .before .before .before .before .before .before .before .before .before .before .before .before .before .before .pre) (source-is (c .before .before .before .before .before .before .before .before .before .before .before .before .before .before .pre) (c .before .before .before .before .before .before .before .before .before .source-of .ensures) (c .before .before .before .before .before .before .before .source .given .1)) (c .before .before .before .before .argument-path .ensures) refl
+
+same-length : tie.Need-same-length
+same-length c = search needs
+
+same-length-2 : tie.Need-same-length-2
+same-length-2 c = search needs
+
+returns-2 : tie.Need-returns-2
+returns-2 c = value-asks (c .before .before .before .before .before .before .before .before .before .before .before .before .before .before .before .before .before .before .before .pre) (source-is (c .before .before .before .before .before .before .before .before .before .before .before .before .before .before .before .before .before .before .before .pre) (c .before .before .before .before .before .before .before .before .before .before .before .before .before .before .source-of .ensures) (c .before .before .before .before .before .before .before .before .before .before .before .before .source .given .1)) (c .before .before .before .before .before .before .before .before .before .argument-path .ensures) refl (c .before .before .before .before .ask-place .ensures)
+
+enum-told-2 : tie.Need-enum-told-2
+enum-told-2 c = search needs
+
+slice-aggregate-evaluated-path : tie.Need-slice-aggregate-evaluated-path
+slice-aggregate-evaluated-path c = search needs
+
+evaluated-path-requires : tie.Need-evaluated-path-requires
+evaluated-path-requires c κs = search needs
+
+slice-aggregate-ask-place-2 : tie.Need-slice-aggregate-ask-place-2
+slice-aggregate-ask-place-2 c = search needs
+
+ask-place-requires-2 : tie.Need-ask-place-requires-2
+ask-place-requires-2 c κs = path-asks (c .before .before .before .before .before .before .before .before .before .before .before .before .before .pre) (source-is (c .before .before .before .before .before .before .before .before .before .before .before .before .before .pre) (c .before .before .before .before .before .before .before .before .source-of .ensures) (c .before .before .before .before .before .before .enum-told2 .given .1)) (c .before .before .before .before .evaluated-path .ensures) refl
+
+same-length-3 : tie.Need-same-length-3
+same-length-3 c = search needs
+
+same-length-4 : tie.Need-same-length-4
+same-length-4 c = search needs
+
+returns-3 : tie.Need-returns-3
+returns-3 c = value-asks (c .before .before .before .before .before .before .before .before .before .before .before .before .before .before .before .before .before .before .pre) (source-is (c .before .before .before .before .before .before .before .before .before .before .before .before .before .before .before .before .before .before .pre) (c .before .before .before .before .before .before .before .before .before .before .before .before .before .source-of .ensures) (c .before .before .before .before .before .before .before .before .before .before .before .enum-told2 .given .1)) (c .before .before .before .before .before .before .before .before .before .evaluated-path .ensures) refl (c .before .before .before .before .ask-place2 .ensures)
+
+pub ask-value-spec : {M : Type 1} → statement M
+ask-value-spec =
+    tie.close
+    (tie.spec
+    source-of-requires
+    enum-told
+    returns
+    enum-known-source
+    slice-aggregate-argument-path
+    argument-path-requires
+    slice-aggregate-ask-place
+    ask-place-requires
+    same-length
+    same-length-2
+    returns-2
+    enum-told-2
+    slice-aggregate-evaluated-path
+    evaluated-path-requires
+    slice-aggregate-ask-place-2
+    ask-place-requires-2
+    same-length-3
+    same-length-4
+    returns-3)
