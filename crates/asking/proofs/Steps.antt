@@ -5,7 +5,7 @@ use native.Mathlib.Omega.{arith}
 use native.Mathlib.Decide.{ℕ-discrete}
 use mathlib.Core.Path.{_≡_, refl, sym, ap, subst, _∙_}
 use mathlib.Core.Bool.{Bool, true, false, cond, not}
-use mathlib.Core.List.{List, _∷_, _++_}
+use mathlib.Core.List.{List, _∷_}
 use lib.Dec.{eqb, ltb}
 use lib.ListN.{length, getD, set, length-set}
 use borrow.Author.Tests.{ltb-true, lt-ltb, ne-eqb, not-false}
@@ -23,8 +23,8 @@ use Rattle.asked.specs.Within.{wanted}
 use Rattle.asked.proofs.Asking.{need-is, asks-nothing}
 use Rattle.framed.specs.Kept.{Kept}
 use Rattle.framed.proofs.Kept.{kept-need}
-use Rattle.hold.specs.Hold.{heldBy, inSlot, Loose, Live, Pushed, Reach}
-use Rattle.hold.proofs.Reach.{tail-in, reach-cells, reach-cons, reach-trans}
+use Rattle.hold.specs.Hold.{heldBy, inSlot, Loose, Live, Pushed}
+use Rattle.hold.proofs.Reach.{tail-in, reach-cells, reach-cons}
 use Rattle.hold.proofs.Slots.{slot-set, slot-other, loose-kept, live-within, live-room, live-less, live-set, pushed-reach}
 use Rattle.hold.proofs.Pushes.{pushed-made}
 use Rattle.standing.specs.Standing.{passedBy}
@@ -38,7 +38,7 @@ tidy-there exist t h = absurd h
 tidy-there none t h = refl
 tidy-there (more i p r) t h = refl
 
-kept-there : {S : Scope} {m : PartReq} → Kept S m → isExist m ≡ false
+pub kept-there : {S : Scope} {m : PartReq} → Kept S m → isExist m ≡ false
 kept-there {S} {m} k = tidy-there m (frame S) (k .need .tidy)
 
 within-passed : (aside : List PartReq) (m : PartReq) (c : Carried) (r : Bool) → r ≡ not (tooLarge aside m c) → within aside m c ≡ passedBy r c m

@@ -8,12 +8,13 @@ use Rattle.part.specs.PartReq.{PartReq, none}
 use Rattle.part.specs.Store.{top, part}
 use Rattle.part.specs.Ascending.{Ascending}
 use Rattle.clearance.specs.Shape.{under}
-use Rattle.clearance.specs.Scope.{Scope}
+use Rattle.clearance.specs.Scope.{Scope, expressionsOf}
 use Rattle.clearance.specs.Needs.{Ask, ofValue}
 use Rattle.pass.specs.Pass.{Carried, Passed, partOf, asking}
 use Rattle.asked.specs.Within.{Read, Judged, wanted, Within}
 use Rattle.framed.specs.Kept.{Kept, AskFine}
 use Rattle.hold.specs.Hold.{heldBy, inSlot, Live, Reach}
+use Rattle.standing.specs.Slots.{Ready}
 use Rattle.standing.specs.Standing.{passedBy}
 
 -- From s and rs, t and us were left: the last of n slots has the needs by f, or r is false, and the bound was passed. The others mean what they meant.
@@ -58,3 +59,11 @@ pub record ValueGiven (S : Scope) (s rs : List ℕ) (n v a : ℕ) : Type 0 where
   pub piece : a < top s
   pub ascends : Ascending (part s a)
   pub within : Within S (ofValue v (part s a))
+
+-- what a step is given that asks of the value v
+pub record StepGiven (S : Scope) (s rs : List ℕ) (n v : ℕ) : Type 0 where
+  pub read : Read S
+  pub judged : Judged S
+  pub ready : Ready S s rs n
+  pub spare : n + 2 ≤ length rs
+  pub there : v < length (expressionsOf S)

@@ -1,12 +1,17 @@
 // What is asked of a value or of a place goes into the slot after the needs at hand, its sum with them into the next, and from there to their slot. So all
 // three count, as the definition says.
 ghost use mathlib.Core.Path.{_≡_};
+ghost use mathlib.Core.Bool.{true};
+ghost use mathlib.Core.Option.{some};
 ghost use Prim.Native.Nat.{_<_};
+ghost use Rattle.module.specs.Module.{Return};
 ghost use Rattle.part.specs.Store.{top, part, Good};
 ghost use Rattle.asked.specs.Within.{wanted};
-ghost use Rattle.clearance.specs.Needs.{ofValue};
+ghost use Rattle.clearance.specs.Needs.{ofValue, askWhole};
+ghost use Rattle.clearance.specs.Judged.{fitsStatement};
 ghost use Rattle.judge.specs.Given.{scopeAt};
-ghost use Rattle.asking.specs.Asks.{Asks, AskGiven, stepOf, AsksAt, ValueGiven};
+ghost use Rattle.standing.specs.Standing.{Stepped, Valued};
+ghost use Rattle.asking.specs.Asks.{Asks, AskGiven, stepOf, AsksAt, ValueGiven, StepGiven};
 use hold::hold::copy;
 use hold::hold::push;
 use hold::hold::push_sum;
@@ -18,6 +23,7 @@ use place::slots::argument_path;
 use place::slots::evaluated_path;
 use place::sources::Source;
 use place::sources::source_of;
+use standing::passing::ASKED;
 
 // Whether anything is asked.
 fn is_wanted(cells: &[u32], a: u32) -> bool
@@ -83,4 +89,38 @@ pub fn ask_value(
             return ask_place(cells, roots, n, &path, a);
         }
     }
+}
+
+// All of the value v is asked.
+pub fn ask_whole(
+    bytes: &[u8],
+    t: &[u32],
+    f: FunctionHandle,
+    cells: &mut [u32],
+    roots: &mut [u32],
+    n: usize,
+    v: ExpressionHandle,
+) -> bool
+    requires { ⌜ StepGiven (scopeAt (now bytes) (now t) (f .0)) (now cells) (now roots) n (v .0) ⌝ }
+    ensures { λ r. ⌜ Stepped (scopeAt (now (bytes .entry)) (now (t .entry)) (f .0)) (stepOf (scopeAt (now (bytes .entry)) (now (t .entry)) (f .0)) (askWhole (v .0))) (now (cells .entry)) (now (roots .entry)) n (now (cells .exit)) (now (roots .exit)) r ⌝ }
+{
+    ask_value(bytes, t, f, cells, roots, n, v, 0)
+}
+
+// Of the value v, which is returned, the part is asked that is asked of the function's value.
+pub fn ask_returned(
+    bytes: &[u8],
+    t: &[u32],
+    f: FunctionHandle,
+    cells: &mut [u32],
+    roots: &mut [u32],
+    n: usize,
+    v: ExpressionHandle,
+) -> bool
+    requires { ⌜ StepGiven (scopeAt (now bytes) (now t) (f .0)) (now cells) (now roots) n (v .0) ⌝ }
+    requires { ⌜ fitsStatement (scopeAt (now bytes) (now t) (f .0)) (Return (some (v .0))) ≡ true ⌝ }
+    ensures { λ r. ⌜ Valued (scopeAt (now (bytes .entry)) (now (t .entry)) (f .0)) (v .0) (now (cells .entry)) (now (roots .entry)) n (now (cells .exit)) (now (roots .exit)) r ⌝ }
+{
+    let a = roots[ASKED];
+    ask_value(bytes, t, f, cells, roots, n, v, a)
 }

@@ -1,3 +1,4 @@
 pub mod Points
 pub mod Merges
 pub mod LoopEnd
+pub mod Holds

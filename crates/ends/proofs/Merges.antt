@@ -17,14 +17,14 @@ use Rattle.part.proofs.Equations.{never}
 use Rattle.clearance.specs.Scope.{Scope}
 use Rattle.clearance.specs.Tree.{Act, Tree, act}
 use Rattle.clearance.specs.Needs.{kept}
-use Rattle.pass.specs.Pass.{workBound, Carried, Passed, on, full, within, tooLarge, joining}
+use Rattle.pass.specs.Pass.{workBound, Carried, Passed, on, full, _>>=_, within, tooLarge, joining}
 use Rattle.framed.specs.Kept.{Kept}
 use Rattle.framed.proofs.Kept.{kept-add}
 use Rattle.hold.specs.Hold.{heldBy, inSlot, Live, Pushed, Reach}
-use Rattle.hold.proofs.Reach.{reach-sym, reach-cons, reach-trans, reach-exchange, reach-cells, reach-among}
-use Rattle.hold.proofs.Slots.{live-less, live-set, slot-set, slot-other}
+use Rattle.hold.proofs.Reach.{reach-is, reach-sym, reach-cons, reach-trans, reach-exchange, reach-cells, reach-among}
+use Rattle.hold.proofs.Slots.{held-reach, held-same, live-less, live-set, slot-set, slot-other}
 use Rattle.standing.specs.Slots.{askedSlot, stackSlot, Ready}
-use Rattle.standing.specs.Standing.{passedBy, Closed}
+use Rattle.standing.specs.Standing.{passedBy, Stepped, Closed}
 use Rattle.standing.proofs.Cases.{caseEnds}
 use Rattle.standing.proofs.Taken.{within-fits}
 use Rattle.ends.specs.Merged.{Merged}
@@ -60,6 +60,12 @@ by-test l x c {b} e = go (ltb workBound (cellsOf (x ∷ (l ++ c .table)))) e
     go : (q : Bool) → b ≡ not q → cond q full (on c x) ≡ passedBy b c x
     go true e = rw e
     go false e = rw e
+
+-- two slots above those that reach what is kept
+pub two-above : (s rs : List ℕ) (n : ℕ) {l : List PartReq} → 0 < n → n + 1 ≤ length rs → Reach (heldBy s rs (n - 1)) l → Reach (heldBy s rs (n + 1)) (inSlot s rs n ∷ inSlot s rs (n - 1) ∷ l)
+two-above s rs n {l} pos few h =
+    let e : (n - 1) + 1 ≡ n = omega arith in
+    reach-trans (held-reach s rs n (omega arith)) (reach-cons (inSlot s rs n) (reach-trans (rw e at (held-reach s rs (n - 1) (omega arith))) (reach-cons (inSlot s rs (n - 1)) h)))
 
 -- slots below that are kept, and a need at hand
 pub ready-kept : {S : Scope} {s rs t us : List ℕ} {n m : ℕ} → Ready S s rs m → n ≤ m → stackSlot < n → Live t us n → ((l : ℕ) → l + 1 < n → inSlot t us l ≡ inSlot s rs l) →
@@ -101,7 +107,7 @@ module _ {S : Scope} {s rs t us : List ℕ} {n : ℕ} {r : Bool} (d : Ready S s 
     slots = w .slots;
     ready = merged-ready n (n - 1) (omega arith) (omega arith) (last-two n n high (omega arith)) (last-two n (n - 1) high (omega arith)) w;
     kept = w .kept;
-    is = λ aside c h. merged-is n (n - 1) (omega arith) (omega arith) (last-two n n high (omega arith)) (last-two n (n - 1) high (omega arith)) w (inSlot s rs n ∷ inSlot s rs (n - 1) ∷ aside) c h;
+    is = λ aside c h. merged-is n (n - 1) (omega arith) (omega arith) (last-two n n high (omega arith)) (last-two n (n - 1) high (omega arith)) w (inSlot s rs n ∷ inSlot s rs (n - 1) ∷ aside) c (two-above s rs n (omega arith) (d .live .loose .few) h);
   }
 
   -- a statement that breaks its rule ends: it keeps the needs after it as well
@@ -114,10 +120,10 @@ module _ {S : Scope} {s rs t us : List ℕ} {n : ℕ} {r : Bool} (d : Ready S s 
     is = λ aside c h.
         rw (k (inSlot s rs (n - 1)) (inSlot s rs n))
         (merged-is (n - 1) n (omega arith) (omega arith) (last-two n (n - 1) high (omega arith)) (last-two n n high (omega arith)) w (inSlot s rs (n - 1) ∷ inSlot s rs n ∷ aside) c
-        (reach-trans h (reach-exchange (inSlot s rs n) (inSlot s rs (n - 1)) (aside ++ c .table))));
+        (reach-trans (two-above s rs n (omega arith) (d .live .loose .few) h) (reach-exchange (inSlot s rs n) (inSlot s rs (n - 1)) (aside ++ c .table))));
   }
 
-reach-double : (p : PartReq) (l : List PartReq) → Reach (p ∷ p ∷ l) (p ∷ l)
+pub reach-double : (p : PartReq) (l : List PartReq) → Reach (p ∷ p ∷ l) (p ∷ l)
 unfolding among
 reach-double p l = reach-among p (p ∷ l) (or-left (same p p) _ (same-refl p))
 
@@ -137,6 +143,29 @@ act-closed {S} {s} {rs} {n} x d high =
       kept = λ _. k;
       is = λ aside c h.
           within-fits (inSlot s rs (n - 1) ∷ inSlot s rs n ∷ aside) (d .live)
-          (reach-trans h (reach-trans (reach-sym (reach-double (inSlot s rs n) (inSlot s rs (n - 1) ∷ (aside ++ c .table)))) (reach-cons (inSlot s rs n) (reach-exchange (inSlot s rs n) (inSlot s rs (n - 1)) (aside ++ c .table)))))
+          (reach-trans (two-above s rs n (omega arith) f h) (reach-trans (reach-sym (reach-double (inSlot s rs n) (inSlot s rs (n - 1) ∷ (aside ++ c .table)))) (reach-cons (inSlot s rs n) (reach-exchange (inSlot s rs n) (inSlot s rs (n - 1)) (aside ++ c .table)))))
           ∙ ap (on c) (sym e);
     }
+
+-- what is done with the needs at hand after two slots have become one
+pub closed-then : {S : Scope} {f : List PartReq → PartReq → PartReq → Carried → Passed} {g : List PartReq → PartReq → Carried → Passed} {s rs t us u ws : List ℕ} {n : ℕ} {a b : Bool} → 0 < n → n ≤ length rs →
+    Closed S f s rs n t us a → a ≡ true → Stepped S g t us n u ws b → Closed S (λ aside m x c. f aside m x c >>= λ d y. g aside y d) s rs n u ws b
+closed-then {S} {f} {g} {s} {rs} {t} {us} {u} {ws} {n} {a} {b} pos few w e v = record {
+  cells = v .cells ∙ w .cells;
+  slots = v .slots ∙ w .slots;
+  ready = v .ready;
+  kept = λ i j l. v .kept i j l ∙ w .kept e j l;
+  is = λ aside c h.
+      ap (λ o. o >>= λ d y. g aside y d) (w .is aside c h ∙ ap (λ z. passedBy z c (inSlot t us (n - 1))) e)
+      ∙ v .is aside c (reach-trans (reach-is (held-same s rs t us (n - 1) (omega arith) (omega (arith, w .slots)) (λ j l. w .kept e j (omega arith)))) h);
+}
+
+pub closed-short : {S : Scope} {f : List PartReq → PartReq → PartReq → Carried → Passed} (g : List PartReq → PartReq → Carried → Passed) {s rs t us : List ℕ} {n : ℕ} {a : Bool} →
+    Closed S f s rs n t us a → a ≡ false → Closed S (λ aside m x c. f aside m x c >>= λ d y. g aside y d) s rs n t us false
+closed-short {S} {f} g {s} {rs} {t} {us} {n} w e = record {
+  cells = w .cells;
+  slots = w .slots;
+  ready = λ i. never i;
+  kept = λ i. never i;
+  is = λ aside c h. ap (λ o. o >>= λ d y. g aside y d) (w .is aside c h ∙ ap (λ z. passedBy z c (inSlot t us (n - 1))) e);
+}

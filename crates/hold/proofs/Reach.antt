@@ -128,11 +128,11 @@ pub reach-among : (p : PartReq) (l : List PartReq) → among p l ≡ true → Re
 reach-among p l e = reach-sub p p l (sub-self p) e
 
 -- a part at a path adds nothing to its need
-pub cell-in : (i : ℕ) (p r : PartReq) → Among (cellsIn p ++ cellsIn r) (cellsIn (more i p r))
+cell-in : (i : ℕ) (p r : PartReq) → Among (cellsIn p ++ cellsIn r) (cellsIn (more i p r))
 unfolding cellsIn among
 cell-in i p r q z = or-right-true (same q (more i p r)) _ z
 
-pub sub-in : (p : PartReq) (j : ℕ) → Among (cellsIn (orNone (getSubpart p j))) (cellsIn p)
+sub-in : (p : PartReq) (j : ℕ) → Among (cellsIn (orNone (getSubpart p j))) (cellsIn p)
 unfolding getSubpart
 sub-in all j q z = z
 sub-in exist j q z = none-in (cellsIn exist) q z
@@ -147,7 +147,7 @@ sub-in (more i p r) j q z =
     y)
     z
 
-pub below-in : (p : PartReq) (path : List ℕ) → Among (cellsIn (below p path)) (cellsIn p)
+below-in : (p : PartReq) (path : List ℕ) → Among (cellsIn (below p path)) (cellsIn p)
 unfolding below
 below-in p [] q z = z
 below-in p (j ∷ path) q z = sub-in p j q (below-in (orNone (getSubpart p j)) path q z)

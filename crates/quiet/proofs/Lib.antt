@@ -1,1 +1,4 @@
 pub mod Overlaps
+pub mod Trees
+pub mod Leaves
+pub mod Steps

@@ -1,5 +1,5 @@
 -- What an act gives that is needed, as a piece: the part of a trimmed need at the act's place stands as it is. A piece is something by its number.
-use Prim.Native.Nat.{ℕ, zero, suc, _<_, _≤_}
+use Prim.Native.Nat.{ℕ, zero, suc, _<_}
 use native.Mathlib.Omega.{arith}
 use mathlib.Core.Path.{_≡_, refl, sym, ap, _∙_}
 use mathlib.Core.Bool.{Bool, true, false, cond, not}
@@ -8,11 +8,11 @@ use lib.Dec.{ltb}
 use lib.ListN.{length}
 use borrow.Author.Tests.{lt-ltb}
 use Rattle.part.specs.PartReq.{PartReq, none}
-use Rattle.part.specs.Store.{top, part, means}
-use Rattle.part.proofs.Pieces.{part-0, part-1, part-2}
+use Rattle.part.specs.Store.{part, means}
+use Rattle.part.proofs.Pieces.{part-0, part-2}
 use Rattle.module.specs.Tables.{functionOf}
 use Rattle.clearance.specs.Shape.{some, below}
-use Rattle.clearance.specs.Scope.{Scope, Place, slot, evaluated, pathOf, target, frame, isPath, arm}
+use Rattle.clearance.specs.Scope.{Scope, Place, slot, evaluated, pathOf, target, frame, arm}
 use Rattle.clearance.specs.Tree.{Act, emit, store}
 use Rattle.clearance.specs.Needs.{gives, overlap, idle}
 use Rattle.clearance.specs.IsNeed.{Tidy}

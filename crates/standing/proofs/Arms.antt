@@ -16,12 +16,12 @@ use Rattle.clearance.specs.Needs.{Exit, next, broke, continued, returned, upon,
 use Rattle.pass.specs.Pass.{workBound, Carried, Passed, on, full, _>>=_, blame, pointed, within, tooLarge, joining, asking, valuing, passInside}
 use Rattle.hold.specs.Hold.{heldBy, inSlot, Live, Reach}
 use Rattle.hold.proofs.Reach.{reach-cells}
-use Rattle.standing.specs.Slots.{tableSize, askedSlot, endSlot, stackSlot, Ready}
+use Rattle.standing.specs.Slots.{tableSize, askedSlot, endSlot, stackSlot, asideOf, Ready}
 use Rattle.standing.specs.Standing.{settingOf, Carries, TableIn, Targets, Stands, Went, Came, Walked, Stepped, Closed, Blames, Keeps, Stretch, inside, around, step, outcome}
 use Rattle.standing.specs.declared.passing.Passing.{Passing}
 use Rattle.standing.specs.declared.passing.Exits.{Exits}
 use Rattle.standing.proofs.Aside.{beside-high}
-use Rattle.standing.proofs.Stands.{keeps-refl, keeps-trans, Leads, leads-on, stands-reach, stands-on, stands-one}
+use Rattle.standing.proofs.Stands.{keeps-refl, keeps-trans, Leads, leads-on, held-aside, apart-kept, stands-on, stands-one}
 use Rattle.standing.proofs.Readies.{slot-other, slot-same, ready-less, ready-set, ready-open}
 use Rattle.standing.proofs.Walks.{went-is, went-stands, walked-full, walked-on}
 
@@ -43,25 +43,25 @@ table-kept high g h = record { is = λ j l. g (tableSize + j) (omega arith) ∙ 
 
 -- the last two slots become one
 pub closed-went : {S : Scope} {f : List PartReq → PartReq → PartReq → Carried → Passed} {s rs t us : List ℕ} {n : ℕ} {b : Bool} → Closed S f s rs n t us b → b ≡ true → Ready S s rs (n + 1) → stackSlot < n →
-    {v : PartReq} {r : ℕ → PartReq} {aside : List PartReq} {k : Exit → PartReq} {c : Carried} {x : Exits} {q : Passing} (y : PartReq) → inSlot s rs (n - 1) ≡ y →
+    {v : PartReq} {r : ℕ → PartReq} {aside : List PartReq} {k : Exit → PartReq} {c : Carried} {x : Exits} {q : Passing} (y : PartReq) → inSlot s rs (n - 1) ≡ y → Reach (asideOf s rs (n - 1)) aside →
     Stands S v r (y ∷ aside) k c s rs (n + 1) x q → Went (f aside y (k next) c) t us n q
-closed-went {S} {f} {s} {rs} {t} {us} {n} {b} w g d high {v} {r} {aside} {k} {c} y e h =
+closed-went {S} {f} {s} {rs} {t} {us} {n} {b} w g d high {v} {r} {aside} {k} {c} y e l h =
     let o : (n + 1) - 1 ≡ n = omega arith in
     let z : inSlot s rs n ≡ k next = rw o at (h .hand) in
     record {
       carried = c;
-      is = rw (e, z, g) at (w .is aside c (rw (e, z) (stands-reach h d)));
+      is = rw (e, z, g) at (w .is aside c (held-aside (n - 1) (omega arith) (omega (arith, d .live .loose .few)) l (h .new)));
       carries = h .carries;
       new = table-kept high (w .kept g) (h .new);
     }
 
 pub closed-full : {S : Scope} {f : List PartReq → PartReq → PartReq → Carried → Passed} {s rs t us : List ℕ} {n : ℕ} {b : Bool} → Closed S f s rs n t us b → b ≡ false → Ready S s rs (n + 1) → stackSlot < n →
-    {v : PartReq} {r : ℕ → PartReq} {aside : List PartReq} {k : Exit → PartReq} {c : Carried} {x : Exits} {q : Passing} (y : PartReq) → inSlot s rs (n - 1) ≡ y →
+    {v : PartReq} {r : ℕ → PartReq} {aside : List PartReq} {k : Exit → PartReq} {c : Carried} {x : Exits} {q : Passing} (y : PartReq) → inSlot s rs (n - 1) ≡ y → Reach (asideOf s rs (n - 1)) aside →
     Stands S v r (y ∷ aside) k c s rs (n + 1) x q → f aside y (k next) c ≡ full
-closed-full {S} {f} {s} {rs} {t} {us} {n} {b} w g d high {v} {r} {aside} {k} {c} y e h =
+closed-full {S} {f} {s} {rs} {t} {us} {n} {b} w g d high {v} {r} {aside} {k} {c} y e l h =
     let o : (n + 1) - 1 ≡ n = omega arith in
     let z : inSlot s rs n ≡ k next = rw o at (h .hand) in
-    rw (e, z, g) at (w .is aside c (rw (e, z) (stands-reach h d)))
+    rw (e, z, g) at (w .is aside c (held-aside (n - 1) (omega arith) (omega (arith, d .live .loose .few)) l (h .new)))
 
 -- If
 
@@ -184,6 +184,9 @@ module _ {S : Scope} {s rs : List ℕ} {n : ℕ} {x : Exits} (d : Ready S s rs n
             let h = d .high in
             second .kept g₂ .is (n - 1) (omega arith) (beside-high (n - 1) (omega arith)) ∙ exchanged-before (first .ready g₁) (d .high)
 
+        walked-keeps : Keeps s rs t₂ us₂ n
+        walked-keeps = record { is = λ j l o. second .kept g₂ .is j (omega arith) o ∙ rejected-keeps .is j l o }
+
         accepted-keeps : z ≡ true → Keeps s rs t₃ us₃ n
         accepted-keeps i = record {
           is = λ j l o. last .kept i j l ∙ second .kept g₂ .is j (omega arith) o ∙ rejected-keeps .is j l o;
@@ -210,10 +213,10 @@ module _ {S : Scope} {s rs : List ℕ} {n : ℕ} {x : Exits} (d : Ready S s rs n
             walked-on (last .cells ∙ second .cells ∙ first .cells) (last .slots ∙ second .slots ∙ exchanged-length us₁ n ∙ first .slots ∙ length-set rs n _) g₂ (last .ready i) (accepted-keeps i)
             (λ v r aside k c h.
             let l = after-accept h in
-            went-is (sym (l .1)) (closed-went last i (second .ready g₂) (d .high) (inSlot t₁ us₁ n) accepted-before (l .2)))
+            went-is (sym (l .1)) (closed-went last i (second .ready g₂) (d .high) (inSlot t₁ us₁ n) accepted-before (apart-kept h walked-keeps) (l .2)))
 
         pub if-full : z ≡ false → {q : Passing} → q .full ≡ true → Walked S (inside (branch e a b)) s rs n x p t₃ us₃ q
         unfolding upon
         if-full i g =
             walked-full (last .cells ∙ second .cells ∙ first .cells) (last .slots ∙ second .slots ∙ exchanged-length us₁ n ∙ first .slots ∙ length-set rs n _) g
-            (λ v r aside k c h. let l = after-accept h in l .1 ∙ closed-full last i (second .ready g₂) (d .high) (inSlot t₁ us₁ n) accepted-before (l .2))
+            (λ v r aside k c h. let l = after-accept h in l .1 ∙ closed-full last i (second .ready g₂) (d .high) (inSlot t₁ us₁ n) accepted-before (apart-kept h walked-keeps) (l .2))

@@ -99,7 +99,7 @@ module _ (s rs : List ℕ) (n : ℕ) (low : askedSlot ≤ n) (few : n ≤ length
       ]
 
   -- all slots reach what those kept aside and the new table do
-  held-apart : Reach (heldBy s rs n) (asideOf s rs n ++ newOf s rs)
+  pub held-apart : Reach (heldBy s rs n) (asideOf s rs n ++ newOf s rs)
   unfolding asideOf newOf
   held-apart = record {
     into = λ q z. tab-each n (λ j. inSlot s rs j) (asideOf s rs n ++ newOf s rs) slot-apart q (rw (held-tab s rs n few) at z);

@@ -19,7 +19,7 @@ use Rattle.standing.specs.Standing.{settingOf, TableIn, Targets, Stands,
 use Rattle.standing.specs.declared.passing.Passing.{Passing}
 use Rattle.standing.specs.declared.passing.Exits.{Exits}
 use Rattle.standing.proofs.Aside.{beside-high}
-use Rattle.standing.proofs.Stands.{keeps-refl, keeps-trans, Leads, leads-on, stands-one}
+use Rattle.standing.proofs.Stands.{keeps-refl, keeps-trans, Leads, leads-on, apart-kept, stands-one}
 use Rattle.standing.proofs.Readies.{slot-other, slot-same, ready-open}
 use Rattle.standing.proofs.Walks.{went-is, went-stands, walked-full, walked-on}
 use Rattle.standing.proofs.Arms.{keeps-set, targets-more, table-kept, closed-went, closed-full}
@@ -87,6 +87,9 @@ module _ {S : Scope} {s rs : List ℕ} {n : ℕ} {x : Exits} (d : Ready S s rs n
           ∙ ap (λ o. o >>= λ e m. joining aside m (inSlot t us (n - 1)) e) (second .is v r (inSlot t us (n - 1) ∷ aside) (upon (k broke) k) (w .carried) (case-stands h w) .full e))
 
       module _ (g₁ : q₁ .full ≡ false) {t₂ us₂ : List ℕ} {b : Bool} (last : Closed S caseEnds t₁ us₁ n t₂ us₂ b) where
+        case-keeps : Keeps s rs t₁ us₁ n
+        case-keeps = record { is = λ j l o. second .kept g₁ .is j (omega arith) o ∙ slot-other t us n j _ (λ i. omega arith) ∙ first .kept g .is j l o }
+
         union-kept : inSlot t₁ us₁ (n - 1) ≡ inSlot t us (n - 1)
         union-kept =
             let h = d .high in
@@ -115,13 +118,13 @@ module _ {S : Scope} {s rs : List ℕ} {n : ℕ} {x : Exits} (d : Ready S s rs n
             (record { is = λ j l o. last .kept e j l ∙ second .kept g₁ .is j (omega arith) o ∙ slot-other t us n j _ (λ i. omega arith) ∙ first .kept g .is j l o })
             (λ v r aside k c h.
             let l = after-case h in
-            went-is (sym (l .1)) (closed-went last e (second .ready g₁) (d .high) (inSlot t us (n - 1)) union-kept (l .2)))
+            went-is (sym (l .1)) (closed-went last e (second .ready g₁) (d .high) (inSlot t us (n - 1)) union-kept (apart-kept h case-keeps) (l .2)))
 
         pub cases-end-full : b ≡ false → {q′ : Passing} → q′ .full ≡ true → Walked S (cases (suc i) f) s rs n x p t₂ us₂ q′
         unfolding upon
         cases-end-full e g′ =
             walked-full (last .cells ∙ second .cells ∙ first .cells) (last .slots ∙ second .slots ∙ length-set us n _ ∙ first .slots) g′
-            (λ v r aside k c h. let l = after-case h in l .1 ∙ closed-full last e (second .ready g₁) (d .high) (inSlot t us (n - 1)) union-kept (l .2))
+            (λ v r aside k c h. let l = after-case h in l .1 ∙ closed-full last e (second .ready g₁) (d .high) (inSlot t us (n - 1)) union-kept (apart-kept h case-keeps) (l .2))
 
 -- The switch: the needs after it are kept aside, above them the union.
 abbrev pub switchEnds : Scope → ExpressionHandle → List PartReq → PartReq → PartReq → Carried → Passed
@@ -183,6 +186,9 @@ module _ {S : Scope} {s rs : List ℕ} {n : ℕ} {x : Exits} (d : Ready S s rs n
         (λ v r aside k c h. switched-is v r aside k c ∙ ap (λ o. o >>= λ g u. asking S aside (askWhole e) u g) (first .is v r (k next ∷ aside) (casing k) c (switched-stands h) .full g))
 
     module _ (g : q .full ≡ false) {t₁ us₁ : List ℕ} {b : Bool} (last : Closed S (switchEnds S e) t us n t₁ us₁ b) where
+      cases-keep : Keeps s rs t us n
+      cases-keep = record { is = λ j l o. first .kept g .is j (omega arith) o ∙ slot-other s rs n j _ (λ e. omega arith) }
+
       after-kept : inSlot t us (n - 1) ≡ inSlot s rs (n - 1)
       after-kept =
           let h = d .high in
@@ -208,10 +214,10 @@ module _ {S : Scope} {s rs : List ℕ} {n : ℕ} {x : Exits} (d : Ready S s rs n
           (record { is = λ j l o. last .kept i j l ∙ first .kept g .is j (omega arith) o ∙ slot-other s rs n j _ (λ e. omega arith) })
           (λ v r aside k c h.
           let l = after-switch h in
-          went-is (sym (l .1)) (closed-went last i (first .ready g) (d .high) (k next) (after-kept ∙ h .hand) (l .2)))
+          went-is (sym (l .1)) (closed-went last i (first .ready g) (d .high) (k next) (after-kept ∙ h .hand) (apart-kept h cases-keep) (l .2)))
 
       pub switch-end-full : b ≡ false → {q′ : Passing} → q′ .full ≡ true → Walked S (inside (switch e vs f)) s rs n x p t₁ us₁ q′
       unfolding upon
       switch-end-full i g′ =
           walked-full (last .cells ∙ first .cells) (last .slots ∙ first .slots ∙ length-set rs n _) g′
-          (λ v r aside k c h. let l = after-switch h in l .1 ∙ closed-full last i (first .ready g) (d .high) (k next) (after-kept ∙ h .hand) (l .2))
+          (λ v r aside k c h. let l = after-switch h in l .1 ∙ closed-full last i (first .ready g) (d .high) (k next) (after-kept ∙ h .hand) (apart-kept h cases-keep) (l .2))

@@ -27,7 +27,7 @@ use Rattle.standing.specs.Standing.{settingOf, Carries, TableIn, Targets
 use Rattle.standing.specs.declared.passing.Passing.{Passing}
 use Rattle.standing.specs.declared.passing.Exits.{Exits}
 use Rattle.standing.proofs.Aside.{beside-high, beside-low, aside-same}
-use Rattle.standing.proofs.Stands.{keeps-trans, Leads, leads-on, stands-reach, stands-one, stands-two}
+use Rattle.standing.proofs.Stands.{keeps-trans, Leads, leads-on, stands-below, apart-kept, stands-one, stands-two}
 use Rattle.standing.proofs.Readies.{slot-other, slot-same, ready-open}
 use Rattle.standing.proofs.Walks.{went-is, went-stands, walked-full, walked-on}
 use Rattle.standing.proofs.Arms.{keeps-set, targets-more, table-kept}
@@ -65,7 +65,7 @@ module _ {S : Scope} {s rs : List ℕ} {n : ℕ} {x : Exits} (d : Ready S s rs n
 
   begun-is : {v : PartReq} {r : ℕ → PartReq} {aside : List PartReq} {k : Exit → PartReq} {c : Carried} → Stands S v r aside k c s rs n x p →
       turningOn S (k next ∷ aside) (r l) breakIf (k next) c ≡ passedBy o c (inSlot t us n)
-  begun-is {aside = aside} {c = c} h = rw (h .hand, h .old l low) at (begun .is aside c (rw (h .hand) (stands-reach h d)))
+  begun-is {aside = aside} {c = c} h = rw (h .hand, h .old l low) at (begun .is aside c (stands-below h d))
 
   pub begun-full : o ≡ false → {q : Passing} → q .full ≡ true → Walked S (inside (loop l a b breakIf)) s rs n x p t us q
   begun-full i g =

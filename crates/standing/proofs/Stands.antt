@@ -15,7 +15,7 @@ use Rattle.standing.specs.Slots.{tableSize, askedSlot, endSlot, stackSlo
 use Rattle.standing.specs.Standing.{Carries, TableIn, Targets, Stands, Noted, Keeps}
 use Rattle.standing.specs.declared.passing.Passing.{Passing}
 use Rattle.standing.specs.declared.passing.Exits.{Exits}
-use Rattle.standing.proofs.Aside.{beside-high, beside-low, held-last, aside-more, aside-same, new-table}
+use Rattle.standing.proofs.Aside.{beside-high, beside-low, held-apart, held-last, aside-more, aside-same, new-table}
 
 pub keeps-refl : (s rs : List ℕ) (n : ℕ) → Keeps s rs s rs n
 keeps-refl s rs n = record { is = λ j l b. refl }
@@ -38,6 +38,10 @@ carries-point m h a = record {
   wide = h .wide ∙ ap (λ b. tooMany m || b) (a .wide);
 }
 
+-- the first n slots reach what is kept aside in them and the table do
+pub held-aside : {s rs : List ℕ} {aside : List PartReq} {c : Carried} (n : ℕ) → askedSlot ≤ n → n ≤ length rs → Reach (asideOf s rs n) aside → TableIn s rs c → Reach (heldBy s rs n) (aside ++ c .table)
+held-aside {s} {rs} {aside} {c} n low few h g = reach-trans (held-apart s rs n low few) (reach-append h (new-table s rs c g))
+
 module _ {S : Scope} {v : PartReq} {r : ℕ → PartReq} {aside : List PartReq} {k : Exit → PartReq} {c : Carried} {s rs : List ℕ} {n : ℕ} {x : Exits} {p : Passing} where
   -- all slots reach what the needs at hand, those kept aside and the table do
   pub stands-reach : Stands S v r aside k c s rs n x p → Ready S s rs n → Reach (heldBy s rs n) (k next ∷ (aside ++ c .table))
@@ -45,6 +49,10 @@ module _ {S : Scope} {v : PartReq} {r : ℕ → PartReq} {aside : List PartReq} 
       let e : (n - 1) + 1 ≡ n = omega (arith, d .high) in
       reach-trans (rw e at (held-last s rs (n - 1) (omega (arith, d .high)) (omega (arith, d .live .loose .few, d .high))))
       (rw (h .hand) (reach-cons (k next) (reach-append (h .apart) (new-table s rs c (h .new)))))
+
+  -- and those below the last what is kept aside and the table do
+  pub stands-below : Stands S v r aside k c s rs n x p → Ready S s rs n → Reach (heldBy s rs (n - 1)) (aside ++ c .table)
+  stands-below h d = held-aside (n - 1) (omega (arith, d .high)) (omega (arith, d .live .loose .few)) (h .apart) (h .new)
 
   -- at a point
   pub stands-point : {q : Passing} → Stands S v r aside k c s rs n x p → Noted (inSlot s rs (n - 1)) p q → Stands S v r aside k (point (k next) c) s rs n x q
@@ -69,9 +77,13 @@ module _ {S : Scope} {v : PartReq} {r : ℕ → PartReq} {aside : List PartReq} 
     returned = w .is (x .returned) (y .returned .1) (beside-high _ (omega (arith, y .returned .0))) ∙ h .returned;
   }
 
+  -- what is kept aside stays
+  pub apart-kept : {t us : List ℕ} → Stands S v r aside k c s rs n x p → Keeps s rs t us n → Reach (asideOf t us (n - 1)) aside
+  apart-kept {t} {us} h w = reach-trans (reach-is (aside-same s rs t us (n - 1) (λ j l e. w .is j (omega arith) e))) (h .apart)
+
   module _ {t us : List ℕ} {d : Carried} {q : Passing} (h : Stands S v r aside k c s rs n x p) (high : stackSlot < n) (w : Keeps s rs t us n) (b : TableIn t us d) (z : Carries q d) where
     apart-on : Reach (asideOf t us (n - 1)) aside
-    apart-on = reach-trans (reach-is (aside-same s rs t us (n - 1) (λ j l e. w .is j (omega arith) e))) (h .apart)
+    apart-on = apart-kept h w
 
     value-on : inSlot t us askedSlot ≡ inSlot s rs askedSlot
     value-on = w .is askedSlot (omega arith) (beside-high askedSlot (omega arith))

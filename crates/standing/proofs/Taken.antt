@@ -24,7 +24,7 @@ use Rattle.standing.specs.Standing.{settingOf, Carries, TableIn, Targets
 use Rattle.standing.specs.declared.passing.Passing.{Passing}
 use Rattle.standing.specs.declared.passing.Exits.{Exits}
 use Rattle.standing.proofs.Aside.{beside-high}
-use Rattle.standing.proofs.Stands.{keeps-refl, keeps-trans, leads-on, stands-reach, stands-on}
+use Rattle.standing.proofs.Stands.{keeps-refl, keeps-trans, leads-on, stands-reach, stands-below, apart-kept, stands-on}
 use Rattle.standing.proofs.Readies.{slot-other, slot-same, ready-set}
 use Rattle.standing.proofs.Walks.{went-is, went-stands, walked-full, walked-on}
 use Rattle.standing.proofs.Arms.{keeps-set, targets-more, table-kept, closed-went, closed-full, copied-ready, copied-stands}
@@ -101,7 +101,7 @@ module _ {S : Scope} {s rs : List ℕ} {n : ℕ} {x : Exits} (d : Ready S s rs n
     unfolding upon
     returned-step {v} {r} {aside} {k} {c} h =
         let z = returned-stands h in
-        returned-is h ∙ w .is v (z .value) aside c (stands-reach z (taken-ready (x .returned) (y .returned .0) (y .returned .1)))
+        returned-is h ∙ w .is v (z .value) aside c (stands-below z (taken-ready (x .returned) (y .returned .0) (y .returned .1)))
 
     pub walked-value : p .full ≡ false → b ≡ true → Walked S (inside (return l (present e))) s rs n x p t us p
     walked-value g i =
@@ -152,6 +152,9 @@ module _ {S : Scope} {s rs : List ℕ} {n : ℕ} {x : Exits} (d : Ready S s rs n
       unfolding blame
       blames-carried h = record { fault = z .fault ∙ ap (lower l) (h .fault); held = z .held ∙ h .held; deep = z .deep ∙ h .deep; wide = z .wide ∙ h .wide }
 
+      walked-keeps : Keeps s rs t us n
+      walked-keeps = record { is = λ j m e. first .kept g .is j (omega arith) e ∙ slot-other s rs n j _ (λ o. omega arith) }
+
       before-last : inSlot t us (n - 1) ≡ inSlot s rs (n - 1)
       before-last =
           let h = d .high in
@@ -192,10 +195,10 @@ module _ {S : Scope} {s rs : List ℕ} {n : ℕ} {x : Exits} (d : Ready S s rs n
           (record { is = λ j m e. last .kept i j m ∙ first .kept g .is j (omega arith) e ∙ slot-other s rs n j _ (λ o. omega arith) })
           (λ v r aside k c h.
           let f = after-broken h in
-          went-is (sym (f .1)) (closed-went last i (first .ready g) (d .high) (k next) (before-last ∙ h .hand) (f .2)))
+          went-is (sym (f .1)) (closed-went last i (first .ready g) (d .high) (k next) (before-last ∙ h .hand) (apart-kept h walked-keeps) (f .2)))
 
       pub broken-end-full : b ≡ false → {q″ : Passing} → q″ .full ≡ true → Walked S (inside (unmarked l mark a)) s rs n x p t₁ us₁ q″
       unfolding upon
       broken-end-full i e =
           walked-full (last .cells ∙ first .cells) (last .slots ∙ first .slots ∙ length-set rs n _) e
-          (λ v r aside k c h. let f = after-broken h in f .1 ∙ closed-full last i (first .ready g) (d .high) (k next) (before-last ∙ h .hand) (f .2))
+          (λ v r aside k c h. let f = after-broken h in f .1 ∙ closed-full last i (first .ready g) (d .high) (k next) (before-last ∙ h .hand) (apart-kept h walked-keeps) (f .2))

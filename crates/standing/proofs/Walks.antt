@@ -16,7 +16,7 @@ use Rattle.standing.specs.Slots.{tableSize, stackSlot, Ready}
 use Rattle.standing.specs.Standing.{settingOf, Targets, Stands, Went, Came, Walked, passedBy, Stepped, Noted, Keeps, Stretch, inside, around, step, outcome}
 use Rattle.standing.specs.declared.passing.Passing.{Passing}
 use Rattle.standing.specs.declared.passing.Exits.{Exits}
-use Rattle.standing.proofs.Stands.{keeps-refl, keeps-trans, carries-point, stands-reach, stands-point, stands-on}
+use Rattle.standing.proofs.Stands.{keeps-refl, keeps-trans, carries-point, stands-below, stands-point, stands-on}
 
 pub came-full : {o : Passed} {t us : List ℕ} {n : ℕ} {q : Passing} → q .full ≡ true → o ≡ full → Came o t us n q
 came-full e f = record { full = λ _. f; on = λ g. never (sym g ∙ e) }
@@ -114,11 +114,11 @@ module _ {S : Scope} {s rs : List ℕ} {n : ℕ} {x : Exits} where
       walked-on (w .cells) (w .slots) e (w .ready g) (record { is = λ j l _. w .kept g j l })
       (λ v r aside k c h. record {
         carried = c;
-        is = rw (h .hand, g) at (w .is aside c (rw (h .hand) (stands-reach h d)));
+        is = rw (h .hand, g) at (w .is aside c (stands-below h d));
         carries = h .carries;
         new = record { is = λ j l. w .kept g (tableSize + j) (omega (arith, d .high)) ∙ h .new .is j l; short = h .new .short };
       })
 
   pub step-full : {f : List PartReq → PartReq → Carried → Passed} {p q : Passing} {t us : List ℕ} {b : Bool} → Ready S s rs n → Stepped S f s rs n t us b → b ≡ false → q .full ≡ true →
       Walked S (step f) s rs n x p t us q
-  step-full {f} d w g e = walked-full (w .cells) (w .slots) e (λ v r aside k c h. rw (h .hand, g) at (w .is aside c (rw (h .hand) (stands-reach h d))))
+  step-full {f} d w g e = walked-full (w .cells) (w .slots) e (λ v r aside k c h. rw (h .hand, g) at (w .is aside c (stands-below h d)))

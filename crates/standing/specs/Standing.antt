@@ -100,13 +100,13 @@ abbrev pub passedBy : Bool → Carried → PartReq → Passed
 passedBy true c m = on c m
 passedBy false c m = full
 
--- A step from the needs at hand, which changes no table: `step aside n c` by definition.
+-- A step from the needs at hand, which changes no table: `step aside n c` by definition, where the slots below reach just what is kept aside and the table.
 pub record Stepped (S : Scope) (step : List PartReq → PartReq → Carried → Passed) (s rs : List ℕ) (n : ℕ) (t us : List ℕ) (r : Bool) : Type 0 where
   pub cells : length t ≡ length s
   pub slots : length us ≡ length rs
   pub ready : r ≡ true → Ready S t us n
   pub kept : r ≡ true → (j : ℕ) → j + 1 < n → inSlot t us j ≡ inSlot s rs j
-  pub is : (aside : List PartReq) (c : Carried) → Reach (heldBy s rs n) (inSlot s rs (n - 1) ∷ (aside ++ c .table)) →
+  pub is : (aside : List PartReq) (c : Carried) → Reach (heldBy s rs (n - 1)) (aside ++ c .table) →
       step aside (inSlot s rs (n - 1)) c ≡ passedBy r c (inSlot t us (n - 1))
 
 -- q is p at a point with the needs m
@@ -123,7 +123,7 @@ pub record Closed (S : Scope) (f : List PartReq → PartReq → PartReq → Carr
   pub slots : length us ≡ length rs
   pub ready : r ≡ true → Ready S t us n
   pub kept : r ≡ true → (j : ℕ) → j + 1 < n → inSlot t us j ≡ inSlot s rs j
-  pub is : (aside : List PartReq) (c : Carried) → Reach (heldBy s rs (n + 1)) (inSlot s rs n ∷ ((inSlot s rs (n - 1) ∷ aside) ++ c .table)) →
+  pub is : (aside : List PartReq) (c : Carried) → Reach (heldBy s rs (n - 1)) (aside ++ c .table) →
       f aside (inSlot s rs (n - 1)) (inSlot s rs n) c ≡ passedBy r c (inSlot t us (n - 1))
 
 -- q is p with the statement l, which breaks its rule
@@ -141,7 +141,7 @@ pub record Valued (S : Scope) (e : ExpressionHandle) (s rs : List ℕ) (n : ℕ)
   pub ready : r ≡ true → Ready S t us n
   pub kept : r ≡ true → (j : ℕ) → j + 1 < n → inSlot t us j ≡ inSlot s rs j
   pub is : (v : PartReq) → inSlot s rs askedSlot ≡ askedOf (settingOf S v) →
-      (aside : List PartReq) (c : Carried) → Reach (heldBy s rs n) (inSlot s rs (n - 1) ∷ (aside ++ c .table)) →
+      (aside : List PartReq) (c : Carried) → Reach (heldBy s rs (n - 1)) (aside ++ c .table) →
       asking S aside (ofValue e v) (inSlot s rs (n - 1)) c ≡ passedBy r c (inSlot t us (n - 1))
 
 -- The loop l begins: the slot n has what stands after its continuing block.
@@ -150,7 +150,7 @@ pub record Begun (S : Scope) (l : ℕ) (breakIf : Option ExpressionHandle) (s rs
   pub slots : length us ≡ length rs
   pub ready : r ≡ true → Ready S t us (n + 1)
   pub kept : r ≡ true → (j : ℕ) → j < n → inSlot t us j ≡ inSlot s rs j
-  pub is : (aside : List PartReq) (c : Carried) → Reach (heldBy s rs n) (inSlot s rs (n - 1) ∷ (aside ++ c .table)) →
+  pub is : (aside : List PartReq) (c : Carried) → Reach (heldBy s rs (n - 1)) (aside ++ c .table) →
       turningOn S (inSlot s rs (n - 1) ∷ aside) (inSlot s rs l) breakIf (inSlot s rs (n - 1)) c ≡ passedBy r c (inSlot t us n)
 
 -- The loop l ends: what stands before its body, in the slot n + 1, is at hand, and is joined to the new table.

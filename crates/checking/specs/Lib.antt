@@ -1,0 +1,5 @@
+pub mod Check
+pub mod Word
+pub mod Line
+pub mod Claims
+pub mod Stretch

@@ -1,0 +1,3 @@
+// The check of a report from bytes: what it answers stands in specs/. Of the code: where the marks of the asked function stand.
+pub mod firsts;
+pub mod shape;

@@ -1,0 +1,2 @@
+pub mod AsksAll
+pub mod Lists

@@ -1,0 +1,2 @@
+// What the need of an emitted expression asks of its operands, over memory.
+pub mod operators;
