@@ -34,7 +34,8 @@ use Rattle.standing.specs.Standing.{passedBy, Stepped}
 use Rattle.standing.proofs.Taken.{within-fits}
 use Rattle.ends.proofs.Merges.{by-test, ready-kept}
 use Rattle.quiet.specs.Acts.{Overlap}
-use Rattle.acts.specs.Acts.{actOf, leaving, Acted, TakeGiven, TakenOut, AsksAll}
+use Rattle.acts.specs.Acts.{actOf, leaving, Acted, TakeGiven, TakenOut}
+use Rattle.operands.specs.AsksAll.{AsksAll}
 
 pub hand-kept : {S : Scope} {s rs : List ℕ} {n : ℕ} → Ready S s rs n → Kept S (inSlot s rs (n - 1))
 hand-kept {n = n} d = let h = d .high in d .needs (n - 1) (omega arith) (λ e. omega arith)
@@ -110,6 +111,12 @@ module _ {S : Scope} {s rs : List ℕ} {n : ℕ} (d : Ready S s rs n) where
   abbrev after : PartReq
   after = inSlot s rs (n - 1)
 
+  -- with the needs at hand, the slots reach what is kept and them
+  with-hand : {l : List PartReq} → Reach (heldBy s rs (n - 1)) l → Reach (heldBy s rs n) (inSlot s rs (n - 1) ∷ l)
+  with-hand h =
+      let e : (n - 1) + 1 ≡ n = omega (arith, d .high) in
+      reach-trans (rw e at (held-reach s rs (n - 1) (omega (arith, d .high, d .live .loose .few)))) (reach-cons (inSlot s rs (n - 1)) h)
+
   -- by what was taken out
   module _ {q : Place} {t us : List ℕ} {r : Bool} (w : TakenOut S q s rs n t us r) where
     taken-reach : r ≡ true → Reach (heldBy t us (n + 1)) (heldBy s rs n)
@@ -159,15 +166,15 @@ module _ {S : Scope} {s rs : List ℕ} {n : ℕ} (d : Ready S s rs n) where
       slots = o .slots;
       ready = λ z. untrue z;
       kept = λ z. untrue z;
-      is = λ aside c h. ap (λ (y : Passed). y >>= λ i p. askingAll S (after ∷ aside) xs p i) (o .is aside c h ∙ ap (λ (b : Bool). passedBy b c (inSlot t us (m - 1))) e);
+      is = λ aside c h. ap (λ (y : Passed). y >>= λ i p. askingAll S (after ∷ aside) xs p i) (o .is aside c (with-hand h) ∙ ap (λ (b : Bool). passedBy b c (inSlot t us (m - 1))) e);
     }
 
     module _ (e : r ≡ true) (more : n < m) {v ws : List ℕ} {b : Bool} (a : AsksAll S xs t us m v ws b) where
-      left-is : (aside : List PartReq) (c : Carried) → Reach (heldBy s rs n) (after ∷ (aside ++ c .table)) → leaving S l xs aside after c ≡ passedBy b c (inSlot v ws (m - 1))
+      left-is : (aside : List PartReq) (c : Carried) → Reach (heldBy s rs (n - 1)) (aside ++ c .table) → leaving S l xs aside after c ≡ passedBy b c (inSlot v ws (m - 1))
       unfolding leaving
       left-is aside c h =
-          ap (λ (y : Passed). y >>= λ i p. askingAll S (after ∷ aside) xs p i) (o .is aside c h ∙ ap (λ (k : Bool). passedBy k c (inSlot t us (m - 1))) e)
-          ∙ a .is (after ∷ aside) c (reach-trans (o .reach e) h)
+          ap (λ (y : Passed). y >>= λ i p. askingAll S (after ∷ aside) xs p i) (o .is aside c (with-hand h) ∙ ap (λ (k : Bool). passedBy k c (inSlot t us (m - 1))) e)
+          ∙ a .is (after ∷ aside) c (reach-trans (o .reach e) (with-hand h))
 
       -- past it with an ask
       pub asked-full : b ≡ false → Stepped S (leaving S l xs) s rs n v ws false

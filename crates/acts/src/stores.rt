@@ -10,7 +10,8 @@ ghost use Rattle.hold.specs.Hold.{inSlot};
 ghost use Rattle.place.specs.Target.{Pointer, part};
 ghost use Rattle.place.specs.Steps.{indexesOf};
 ghost use Rattle.standing.specs.Standing.{Stepped};
-ghost use Rattle.acts.specs.Acts.{ActGiven, StoreOf, leaving, Acted, AsksAll, PlaceGiven, WholeGiven, SomewhereGiven};
+ghost use Rattle.acts.specs.Acts.{ActGiven, StoreOf, leaving, Acted, PlaceGiven, SomewhereGiven};
+ghost use Rattle.operands.specs.AsksAll.{ListGiven, AsksAll};
 use crate::take::take_out;
 use asking::ask::ask_value;
 use hold::hold::copy;
@@ -32,7 +33,7 @@ fn ask_indexes(
     n: usize,
     p: ExpressionHandle,
 ) -> bool
-    requires { ⌜ WholeGiven (scopeAt (now bytes) (now t) (f .0)) (now cells) (now roots) n ⌝ }
+    requires { ⌜ ListGiven (scopeAt (now bytes) (now t) (f .0)) (map askWhole (indexesOf (now bytes) (now t) (f .0) (p .0))) (now cells) (now roots) n ⌝ }
     requires { ⌜ Pointer (now bytes) (now t) (f .0) (p .0) ⌝ }
     ensures { λ r. ⌜ AsksAll (scopeAt (now (bytes .entry)) (now (t .entry)) (f .0)) (map askWhole (indexesOf (now (bytes .entry)) (now (t .entry)) (f .0) (p .0))) (now (cells .entry)) (now (roots .entry)) n (now (cells .exit)) (now (roots .exit)) r ⌝ }
 {
