@@ -2,3 +2,4 @@ pub mod Places
 pub mod Whole
 pub mod Steps
 pub mod Storing
+pub mod Marked

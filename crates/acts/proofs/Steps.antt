@@ -31,6 +31,7 @@ use Rattle.hold.proofs.Pushes.{pushed-made}
 use Rattle.forms.specs.Frames.{Framing, Rooted, placeCells}
 use Rattle.standing.specs.Slots.{askedSlot, Ready}
 use Rattle.standing.specs.Standing.{passedBy, Stepped}
+use Rattle.standing.proofs.Readies.{ready-open}
 use Rattle.standing.proofs.Taken.{within-fits}
 use Rattle.ends.proofs.Merges.{by-test, ready-kept}
 use Rattle.quiet.specs.Acts.{Overlap}
@@ -39,6 +40,10 @@ use Rattle.operands.specs.AsksAll.{AsksAll}
 
 pub hand-kept : {S : Scope} {s rs : List ℕ} {n : ℕ} → Ready S s rs n → Kept S (inSlot s rs (n - 1))
 hand-kept {n = n} d = let h = d .high in d .needs (n - 1) (omega arith) (λ e. omega arith)
+
+-- a copy of the needs at hand above them
+pub above-ready : {S : Scope} {s rs : List ℕ} {n : ℕ} → Ready S s rs n → n < length rs → Ready S s (set rs n (getD rs (n - 1) 0)) (n + 1)
+above-ready {rs = rs} {n = n} d h = ready-open d (getD rs (n - 1) 0) (d .live .loose .pieces (n - 1) (omega (arith, d .high))) (hand-kept d) h
 
 -- A place is taken out
 module _ {bytes tab : List ℕ} {f : ℕ} {types s rs : List ℕ} {n : ℕ} {q : Place} {a : ℕ} (g : TakeGiven bytes tab f types s rs n q a) where

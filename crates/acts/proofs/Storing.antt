@@ -30,7 +30,6 @@ use Rattle.hold.proofs.Slots.{slot-set, slot-other}
 use Rattle.standing.specs.Slots.{Ready}
 use Rattle.standing.specs.Standing.{Stepped}
 use Rattle.standing.specs.World.{World}
-use Rattle.standing.proofs.Readies.{ready-open}
 use Rattle.place.specs.Target.{any, Pointer}
 use Rattle.place.specs.Steps.{indexesOf}
 use Rattle.asking.specs.Asks.{Asks, stepOf, ValueGiven}
@@ -39,7 +38,7 @@ use Rattle.acts.specs.Acts.{ActGiven, StoreOf, actOf, leaving, Acted, Ta
 use Rattle.operands.specs.AsksAll.{ListGiven, AsksAll}
 use Rattle.operands.proofs.Lists.{given-right, all-full, list-next, list-then, value-given, value-all, all-piece}
 use Rattle.acts.proofs.Places.{world-framing, world-few, target-rooted, target-short, target-placed}
-use Rattle.acts.proofs.Steps.{hand-kept, taken-opened, copied-opened, opened-full, asked-full, copy-asks, left, acted-idle, acted}
+use Rattle.acts.proofs.Steps.{hand-kept, above-ready, taken-opened, copied-opened, opened-full, asked-full, copy-asks, left, acted-idle, acted}
 
 -- What is needed of the place is asked of the value
 module _ {bytes tab : List ℕ} {f : ℕ} {types s rs : List ℕ} {n : ℕ} {q : Place} {a v : ℕ} (g : PlaceGiven bytes tab f types s rs n q a v) where
@@ -96,7 +95,7 @@ module _ {bytes tab : List ℕ} {f : ℕ} {s rs : List ℕ} {n p v : ℕ} (g : S
   same-asks = (omega (arith, g .spare), omega (arith, g .spare))
 
   same-ready : Ready (scopeAt bytes tab f) s (set rs n (getD rs (n - 1) 0)) (n + 1)
-  same-ready = ready-open (g .ready) (getD rs (n - 1) 0) (g .ready .live .loose .pieces (n - 1) (omega (arith, g .ready .high))) (hand-kept (g .ready)) (same-asks .1)
+  same-ready = above-ready (g .ready) (same-asks .1)
 
   -- what is asked lies within its types
   whole-list : ListGiven (scopeAt bytes tab f) (askWhole v ∷ map askWhole (indexesOf bytes tab f p)) s (set rs n (getD rs (n - 1) 0)) (n + 1)

@@ -11,9 +11,11 @@ ghost use Rattle.place.specs.Target.{Pointer, part};
 ghost use Rattle.place.specs.Steps.{indexesOf};
 ghost use Rattle.standing.specs.Standing.{Stepped};
 ghost use Rattle.acts.specs.Acts.{ActGiven, StoreOf, leaving, Acted, PlaceGiven, SomewhereGiven};
+ghost use Rattle.acts.specs.Marks.{PassGiven, ByMark};
 ghost use Rattle.operands.specs.AsksAll.{ListGiven, AsksAll};
 use crate::take::take_out;
 use asking::ask::ask_value;
+use ends::notes::blame;
 use hold::hold::copy;
 use module::handles::ExpressionHandle;
 use module::handles::FunctionHandle;
@@ -21,7 +23,10 @@ use place::steps::Step;
 use place::steps::step_down;
 use place::target::find_target;
 use quiet::acts::is_some;
+use quiet::acts::store_idle;
 use quiet::acts::store_overlap;
+use standing::passing::Passing;
+use standing::passing::filled;
 
 // The dynamic indexes of the pointer p are asked whole, the last first.
 fn ask_indexes(
@@ -157,4 +162,72 @@ pub fn act_store(
         a,
         v,
     )
+}
+
+// The statement l, a store of the value v to the pointer a, in a pass.
+pub fn pass_store(
+    bytes: &[u8],
+    t: &[u32],
+    f: FunctionHandle,
+    types: &[u32],
+    alike: &[u32],
+    paths: &[u32],
+    cells: &mut [u32],
+    roots: &mut [u32],
+    path: &mut [u32],
+    n: usize,
+    p: Passing,
+    l: u16,
+    marked: bool,
+    a: ExpressionHandle,
+    v: ExpressionHandle,
+) -> Passing
+    requires { ⌜ PassGiven (now bytes) (now t) (f .0) (now types) (now alike) (now paths) (now cells) (now roots) (now path) n p l ⌝ }
+    requires { ⌜ StoreOf (scopeAt (now bytes) (now t) (f .0)) (a .0) (v .0) ⌝ }
+    ensures { λ r. ⌜ ByMark (scopeAt (now (bytes .entry)) (now (t .entry)) (f .0)) l marked (store (a .0) (v .0)) (now (cells .entry)) (now (roots .entry)) n p (now (cells .exit)) (now (roots .exit)) (now (path .entry)) (now (path .exit)) r ⌝ }
+{
+    let last = n - 1;
+    let above = n + 1;
+    if marked {
+        if act_store(
+            bytes,
+            t,
+            f,
+            types,
+            alike,
+            paths,
+            cells,
+            roots,
+            path,
+            n,
+            a,
+            v,
+        ) {
+            return p;
+        }
+        return filled();
+    }
+    let hand = roots[last];
+    if store_idle(bytes, t, f, types, alike, paths, cells, path, hand, a) {
+        return p;
+    }
+    copy(roots, last, n);
+    if !act_store(
+        bytes,
+        t,
+        f,
+        types,
+        alike,
+        paths,
+        cells,
+        roots,
+        path,
+        above,
+        a,
+        v,
+    ) {
+        return filled();
+    }
+    copy(roots, n, last);
+    blame(l, p)
 }
