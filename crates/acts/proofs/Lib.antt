@@ -1,0 +1,4 @@
+pub mod Places
+pub mod Whole
+pub mod Steps
+pub mod Storing

@@ -1,0 +1,3 @@
+// One act of a pass, over memory: what it gives is taken out of the needs, and what it reads is asked.
+pub mod stores;
+pub mod take;
