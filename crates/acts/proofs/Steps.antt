@@ -110,6 +110,12 @@ module _ {S : Scope} {s rs : List ℕ} {n : ℕ} (d : Ready S s rs n) where
   abbrev after : PartReq
   after = inSlot s rs (n - 1)
 
+  -- the slots with the needs after the act
+  above : {k : List PartReq} → Reach (heldBy s rs (n - 1)) k → Reach (heldBy s rs n) (after ∷ k)
+  above h =
+      let e : (n - 1) + 1 ≡ n = omega (arith, d .high) in
+      reach-trans (rw e at (held-reach s rs (n - 1) (omega (arith, d .high, d .live .loose .few)))) (reach-cons after h)
+
   -- by what was taken out
   module _ {q : Place} {t us : List ℕ} {r : Bool} (w : TakenOut S q s rs n t us r) where
     taken-reach : r ≡ true → Reach (heldBy t us (n + 1)) (heldBy s rs n)
@@ -159,7 +165,7 @@ module _ {S : Scope} {s rs : List ℕ} {n : ℕ} (d : Ready S s rs n) where
       slots = o .slots;
       ready = λ z. untrue z;
       kept = λ z. untrue z;
-      is = λ aside c h. ap (λ (y : Passed). y >>= λ i p. askingAll S (after ∷ aside) xs p i) (o .is aside c h ∙ ap (λ (b : Bool). passedBy b c (inSlot t us (m - 1))) e);
+      is = λ aside c h. ap (λ (y : Passed). y >>= λ i p. askingAll S (after ∷ aside) xs p i) (o .is aside c (above h) ∙ ap (λ (b : Bool). passedBy b c (inSlot t us (m - 1))) e);
     }
 
     module _ (e : r ≡ true) (more : n < m) {v ws : List ℕ} {b : Bool} (a : AsksAll S xs t us m v ws b) where
@@ -176,7 +182,7 @@ module _ {S : Scope} {s rs : List ℕ} {n : ℕ} (d : Ready S s rs n) where
         slots = a .slots ∙ o .slots;
         ready = λ y. untrue y;
         kept = λ y. untrue y;
-        is = λ aside c h. left-is aside c h ∙ ap (λ (k : Bool). passedBy k c (inSlot v ws (m - 1))) z;
+        is = λ aside c h. left-is aside c (above h) ∙ ap (λ (k : Bool). passedBy k c (inSlot v ws (m - 1))) z;
       }
 
       -- within it: what is left goes to the slot of the needs at hand
@@ -199,7 +205,7 @@ module _ {S : Scope} {s rs : List ℕ} {n : ℕ} (d : Ready S s rs n) where
               slots = length-set ws (n - 1) from ∙ (a .slots ∙ o .slots);
               ready = λ _. ready-kept d (omega arith) high (live-set (live-less lv (omega arith)) (n - 1) (lv .loose .pieces i (omega arith))) same (rw here (rw k at (a .need z)));
               kept = λ _. same;
-              is = λ aside c h. (rw k at (left-is aside c h)) ∙ (ap (λ (g : Bool). passedBy g c (inSlot v ws i)) z ∙ ap (on c) (sym here));
+              is = λ aside c h. (rw k at (left-is aside c (above h))) ∙ (ap (λ (g : Bool). passedBy g c (inSlot v ws i)) z ∙ ap (on c) (sym here));
             }
 
   -- An act that gives nothing that is needed
