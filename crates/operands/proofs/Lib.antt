@@ -1,2 +1,5 @@
 pub mod Lists
 pub mod Absent
+pub mod Members
+pub mod Loops
+pub mod Parts
