@@ -8,18 +8,16 @@ use mathlib.Core.Bool.{Bool, true, false, cond, _&&_}
 use mathlib.Core.List.{List, [], _∷_, _++_, map, map-append}
 use mathlib.Core.Option.{some, none as nothing}
 use lib.Dec.{eqb, ltb}
-use lib.ListN.{length, getD}
 use borrow.Author.Tests.{lt-ltb, le-ltb, ltb-true, eq-eqb, ne-eqb}
 use Rattle.field.specs.Limits.{absent}
 use Rattle.part.specs.PartReq.{PartReq}
 use Rattle.part.proofs.Distinct.{untrue}
-use Rattle.module.specs.Module.{Typed, Load}
+use Rattle.module.specs.Module.{Typed}
 use Rattle.module.specs.Decode.{optionOf, expressionOf}
-use Rattle.module.specs.Tables.{functionOf}
 use Rattle.access.specs.declared.kinded.Kinded.{Kinded}
 use Rattle.access.specs.Access.{operandAt, expressionRow}
 use Rattle.access.proofs.Access.{typed-is, expression-of}
-use Rattle.clearance.specs.Scope.{Scope, noExpression, typed, innerOf, isVector, anyVector, isPath, Operand, optional, byPart, Arm, pointing, operator, accessIndex, access, compose, joined, armOf, arm}
+use Rattle.clearance.specs.Scope.{Scope, noExpression, typed, innerOf, isVector, anyVector, isPath, optional, byPart, Arm, pointing, accessIndex, access, armOf, arm}
 use Rattle.clearance.specs.Needs.{Ask, askOperand, askWhole, askPicked, askComponents, asks, gives}
 use Rattle.clearance.specs.IsJudged.{JudgedExpression}
 use Rattle.clearance.proofs.Relations.{path-exactly}
@@ -33,7 +31,7 @@ use Rattle.place.specs.Sources.{givesKind}
 use Rattle.place.specs.Target.{Pointer}
 use Rattle.place.proofs.SourceKinds.{gives-other}
 use Rattle.operands.specs.AsksAll.{wantedIn, ListGiven, AsksAll}
-use Rattle.operands.specs.Lists.{sameOf, wholeOf, presentOf, bothSame, bothWhole, selectOf, mathOf, memberOf, letters, components, loadOf}
+use Rattle.operands.specs.Lists.{sameOf, wholeOf, bothSame, bothWhole, selectOf, mathOf, memberOf, letters, components, loadOf}
 use Rattle.operands.specs.Arms.{asksOf, OperandsGiven, ArmGiven, AsksOperands}
 
 -- what the code is given, as a row and a list of asks

@@ -117,9 +117,6 @@ module _ {S : Scope} (p : ℕ) {s rs : List ℕ} {n : ℕ} (g : ListGiven S (loa
       given-here : ListGiven S (here (wantedIn t us n)) t us n
       given-here = given-next a e here [] given-all
 
-      pub load-piece : (n - 2 < length us) × (2 ≤ n)
-      load-piece = (omega (arith, given-here .two, given-here .spare), g .two)
-
       module _ {before after : List ℕ} {found : Target} (d : TargetFound S p before after found) {k : ℕ} (m : k ≡ cond (found .dynamic) 0 (getD us (n - 2) 0)) where
         by-dynamic : (P : Bool → ℕ → Type 0) → P true 0 → P false (getD us (n - 2) 0) → P (found .dynamic) k
         by-dynamic P x y = rw m (go (found .dynamic))

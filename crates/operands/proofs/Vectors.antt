@@ -2,7 +2,7 @@
 use Prim.Native.Nat.{ℕ, zero, suc, _+_, _<_, _≤_}
 use native.Mathlib.Omega.{arith}
 use native.Mathlib.Decide.{decLt}
-use mathlib.Core.Path.{_≡_, refl, sym, ap, _∙_}
+use mathlib.Core.Path.{_≡_, refl, sym, _∙_}
 use mathlib.Core.Bool.{Bool, true, false, _&&_, _||_}
 use mathlib.Core.List.{List, [], _∷_}
 use lib.Dec.{eqb}
@@ -29,7 +29,7 @@ module _ (S : Scope) (types : List ℕ) (same : S .program .types ≡ typesOf ty
   unfolding innerOf
   kind-is = rw (← ta) (number-is types S same a ka)
 
-  pub vector-by : isVector (innerOf S e) ≡ eqb k 1
+  vector-by : isVector (innerOf S e) ≡ eqb k 1
   unfolding isKind
   vector-by = rw (← kind-is)
 

@@ -18,7 +18,7 @@ use place::steps::step_down;
 use place::target::find_target;
 
 // The dynamic indexes of the pointer p, each whole.
-fn ask_indexes(
+pub fn ask_indexes(
     bytes: &[u8],
     t: &[u32],
     f: FunctionHandle,
