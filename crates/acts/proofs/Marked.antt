@@ -1,20 +1,19 @@
 -- An act with its mark: marked it is a step; unmarked and idle nothing changes; else it is walked with the needs after it kept aside, which it does not keep as well, and is blamed.
-use Prim.Native.Nat.{ℕ, _+_, _-_, _<_, _≤_}
+use Prim.Native.Nat.{ℕ, _+_, _-_, _<_}
 use native.Mathlib.Omega.{arith}
-use mathlib.Core.Path.{_≡_, refl, sym, ap, subst, _∙_}
+use mathlib.Core.Path.{_≡_, refl, sym, _∙_}
 use mathlib.Core.Bool.{Bool, true, false}
 use mathlib.Core.List.{List}
 use lib.ListN.{length, getD, set, length-set}
-use Rattle.part.specs.PartReq.{PartReq}
+use Rattle.part.proofs.Equations.{never}
 use Rattle.clearance.specs.Scope.{Scope}
-use Rattle.clearance.specs.Tree.{Act, Tree, act, marked}
+use Rattle.clearance.specs.Tree.{Act, act, marked}
 use Rattle.clearance.specs.Needs.{idle, quiet, obeys}
 use Rattle.pass.specs.Pass.{passInside}
-use Rattle.judge.specs.Given.{scopeAt}
 use Rattle.hold.specs.Hold.{inSlot}
 use Rattle.quiet.specs.Acts.{Needing, Idle}
 use Rattle.standing.specs.Slots.{Ready}
-use Rattle.standing.specs.Standing.{Targets, Walked, Stepped, Blames, inside, step}
+use Rattle.standing.specs.Standing.{Walked, Stepped, Blames, inside, step}
 use Rattle.standing.specs.declared.passing.Passing.{Passing}
 use Rattle.standing.specs.declared.passing.Exits.{Exits}
 use Rattle.standing.proofs.Walks.{walked-step, step-full}
@@ -57,11 +56,11 @@ module _ {S : Scope} {s rs : List ℕ} {n : ℕ} (d : Ready S s rs n) (l : ℕ) 
   module _ {x : Act} {t us before after : List ℕ} {r : Bool} (w : Acted S x s rs n t us before after r) {m : Bool} (h : m ≡ true) where
     pub marked-on : {p : Passing} → p .full ≡ false → r ≡ true → ByMark S l m x s rs n p t us before after p
     unfolding marked
-    marked-on g e = rw h record { each = λ z mark y. act-inside (walked-step d (w .step) e g); long = w .long }
+    marked-on g e = rw h record { cells = w .step .cells; slots = w .step .slots; ready = λ z. w .step .ready e; each = λ z mark y. act-inside (walked-step d (w .step) e g); long = w .long }
 
     pub marked-full : {p q : Passing} → r ≡ false → q .full ≡ true → ByMark S l m x s rs n p t us before after q
     unfolding marked
-    marked-full e f = rw h record { each = λ z mark y. act-inside (step-full d (w .step) e f); long = w .long }
+    marked-full e f = rw h record { cells = w .step .cells; slots = w .step .slots; ready = λ z. never (sym z ∙ f); each = λ z mark y. act-inside (step-full d (w .step) e f); long = w .long }
 
   -- not marked
   module _ {x : Act} {before between : List ℕ} {r : Bool} (i : Idle S x (inSlot s rs (n - 1)) before between r) where
@@ -71,7 +70,7 @@ module _ {S : Scope} {s rs : List ℕ} {n : ℕ} (d : Ready S s rs n) (l : ℕ) 
 
     pub obeys-on : {m : Bool} → m ≡ false → {p : Passing} → p .full ≡ false → r ≡ true → ByMark S l m x s rs n p s rs before between p
     unfolding marked
-    obeys-on h g e = rw h record { each = λ z mark y. walked-obeys d y l mark (act x) g (obeys-is ∙ e); long = i .long }
+    obeys-on h g e = rw h record { cells = refl; slots = refl; ready = λ z. d; each = λ z mark y. walked-obeys d y l mark (act x) g (obeys-is ∙ e); long = i .long }
 
     module _ (b : r ≡ false) (room : n < length rs) {ys : List ℕ} (c : ys ≡ set rs n (getD rs (n - 1) 0)) {t us after : List ℕ} {o : Bool} (w : Acted S x s ys (n + 1) t us between after o) where
       above : Stepped S (actOf S x) s (set rs n (getD rs (n - 1) 0)) (n + 1) t us o
@@ -82,6 +81,9 @@ module _ {S : Scope} {s rs : List ℕ} {n : ℕ} (d : Ready S s rs n) (l : ℕ) 
       breaks-full h e f =
           rw h
           record {
+            cells = above .cells;
+            slots = above .slots ∙ length-set rs n _;
+            ready = λ z. never (sym z ∙ f);
             each = λ z mark y. broken-full d y room l mark (act x) (obeys-is ∙ b) (act-inside (step-full (above-ready d room) above e f)) f;
             long = w .long ∙ i .long;
           }
@@ -92,10 +94,14 @@ module _ {S : Scope} {s rs : List ℕ} {n : ℕ} (d : Ready S s rs n) (l : ℕ) 
       pub breaks-on : {m : Bool} → m ≡ false → {p : Passing} → p .full ≡ false → o ≡ true → {q : Passing} → Blames l p q → {vs : List ℕ} → vs ≡ set us (n - 1) (getD us n 0) → ByMark S l m x s rs n p t vs before after q
       unfolding marked
       breaks-on h g e z k =
+          let c = act-closed x (above .ready e) (d .high) in
           rw (h, k)
           record {
+            cells = above .cells;
+            slots = c .slots ∙ (above .slots ∙ length-set rs n _);
+            ready = λ u. c .ready refl;
             each = λ u mark y.
                 walked-broken d y room l mark (act x) (obeys-is ∙ b) (act-inside (walked-step (above-ready d room) above e g)) g z
-                (act-closed x (above .ready e) (d .high)) refl;
+                c refl;
             long = w .long ∙ i .long;
           }

@@ -1,19 +1,18 @@
 -- An act, from what its parts left. What is needed of its place stands in the slot n, which adds no cells: it is a part of the needs at hand (`taken-reach`). Or nothing is taken out, and the
 -- needs are copied there. Then come its asks, with the needs after the act kept, and what they leave goes to the slot of the needs at hand.
-use Prim.Native.Nat.{ℕ, _+_, _-_, _<_, _≤_}
+use Prim.Native.Nat.{ℕ, _+_, _-_, _<_}
 use native.Mathlib.Omega.{arith}
-use mathlib.Core.Path.{_≡_, refl, sym, ap, subst, _∙_}
-use mathlib.Core.Bool.{Bool, true, false, cond, not}
-use mathlib.Core.List.{List, [], _∷_, _++_}
+use mathlib.Core.Path.{_≡_, refl, sym, ap, _∙_}
+use mathlib.Core.Bool.{Bool, true, false, not}
+use mathlib.Core.List.{List, _∷_, _++_}
 use lib.Dec.{ltb}
 use lib.ListN.{length, getD, set, length-set}
 use Rattle.part.specs.PartReq.{PartReq}
 use Rattle.part.specs.Store.{top, part, Good, Room, Made}
-use Rattle.part.specs.Collect.{cellsOf}
 use Rattle.part.specs.Count.{same, among}
 use Rattle.part.proofs.Distinct.{untrue, or-left}
 use Rattle.part.proofs.Counting.{same-refl}
-use Rattle.clearance.specs.Shape.{some, below}
+use Rattle.clearance.specs.Shape.{some}
 use Rattle.clearance.specs.Scope.{Scope, Place, frame}
 use Rattle.clearance.specs.Tree.{Act}
 use Rattle.clearance.specs.Needs.{Ask, overlap, without}
@@ -21,15 +20,15 @@ use Rattle.clearance.specs.IsNeed.{IsNeed}
 use Rattle.judge.specs.Given.{scopeAt}
 use Rattle.needs.specs.Lean.{leaves}
 use Rattle.needs.specs.Framed.{Framed}
-use Rattle.pass.specs.Pass.{workBound, Carried, Passed, on, full, _>>=_, within, askingAll, actAsks, actLeaves, acting}
+use Rattle.pass.specs.Pass.{workBound, Carried, Passed, on, _>>=_, within, askingAll, actAsks, actLeaves, acting}
 use Rattle.framed.specs.Kept.{Kept}
 use Rattle.framed.proofs.Takes.{without-leaves}
-use Rattle.hold.specs.Hold.{heldBy, inSlot, Loose, Live, Pushed, Reach}
+use Rattle.hold.specs.Hold.{heldBy, inSlot, Loose, Pushed, Reach}
 use Rattle.hold.proofs.Reach.{reach-is, reach-sym, reach-trans, reach-cons, reach-cells, reach-among}
 use Rattle.hold.proofs.Slots.{held-reach, held-same, slot-below, loose-push, loose-kept, live-room, live-less, live-set, slot-set, slot-other, held-push}
 use Rattle.hold.proofs.Pushes.{pushed-made}
 use Rattle.forms.specs.Frames.{Framing, Rooted, placeCells}
-use Rattle.standing.specs.Slots.{askedSlot, Ready}
+use Rattle.standing.specs.Slots.{Ready}
 use Rattle.standing.specs.Standing.{passedBy, Stepped}
 use Rattle.standing.proofs.Readies.{ready-open}
 use Rattle.standing.proofs.Taken.{within-fits}

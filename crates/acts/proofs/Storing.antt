@@ -1,44 +1,40 @@
 -- A store, from what its parts left: without a dynamic index by its place (`known-left`), with one by its indexes and its value (`somewhere-left`), and what it is by definition (`store-acted`).
-use Prim.Native.Nat.{ℕ, _+_, _-_, _<_, _≤_}
+use Prim.Native.Nat.{ℕ, _+_, _-_, _<_}
 use native.Mathlib.Omega.{arith}
-use mathlib.Core.Path.{_≡_, refl, sym, ap, subst, _∙_}
+use mathlib.Core.Path.{_≡_, refl, _∙_}
 use mathlib.Core.Bool.{Bool, true, false}
-use mathlib.Core.List.{List, [], _∷_, _++_, map}
+use mathlib.Core.List.{List, [], _∷_, map}
 use lib.ListN.{length, getD, set, length-set}
 use Rattle.part.specs.PartReq.{PartReq}
-use Rattle.part.specs.Store.{top, part}
+use Rattle.part.specs.Store.{part}
 use Rattle.part.proofs.Pieces.{part-0}
-use Rattle.module.specs.Module.{ExpressionHandle, Store}
-use Rattle.module.specs.Tables.{functionOf}
+use Rattle.module.specs.Module.{ExpressionHandle}
 use Rattle.clearance.specs.Shape.{some, below}
 use Rattle.clearance.specs.Scope.{Scope, Place, Path, pathOf, indexes, target, isPath}
-use Rattle.clearance.specs.Tree.{Act, store}
-use Rattle.clearance.specs.Needs.{Ask, ofValue, askWhole, overlap, without}
+use Rattle.clearance.specs.Tree.{store}
+use Rattle.clearance.specs.Needs.{ofValue, askWhole, overlap, without}
 use Rattle.clearance.specs.Judged.{isValue, fitsStatement}
 use Rattle.clearance.proofs.Small.{both-true}
 use Rattle.judge.specs.Given.{scopeAt}
-use Rattle.needs.specs.Path.{Piece}
 use Rattle.pass.specs.Pass.{storeAsks, storeLeaves, actAsks, actLeaves}
-use Rattle.asked.specs.Within.{Within, EachWithin}
+use Rattle.asked.specs.Within.{Within}
 use Rattle.asked.proofs.Asks.{each-more, each-none, whole-within, wholes-within}
 use Rattle.asked.proofs.Paths.{path-indexes}
 use Rattle.asked.proofs.Acts.{store-within, store-tidy, store-overlap}
-use Rattle.framed.specs.Kept.{Kept, AsksFine}
+use Rattle.framed.specs.Kept.{AsksFine}
 use Rattle.framed.proofs.Kept.{kept-without, overlap-ascends}
-use Rattle.hold.specs.Hold.{heldBy, inSlot, Live}
-use Rattle.hold.proofs.Slots.{slot-set, slot-other}
+use Rattle.hold.specs.Hold.{inSlot}
 use Rattle.standing.specs.Slots.{Ready}
 use Rattle.standing.specs.Standing.{Stepped}
-use Rattle.standing.specs.World.{World}
 use Rattle.place.specs.Target.{any, Pointer}
 use Rattle.place.specs.Steps.{indexesOf}
 use Rattle.asking.specs.Asks.{Asks, stepOf, ValueGiven}
 use Rattle.quiet.specs.Acts.{Needing, Overlap}
-use Rattle.acts.specs.Acts.{ActGiven, StoreOf, actOf, leaving, Acted, TakeGiven, TakenOut, PlaceGiven, SomewhereGiven}
+use Rattle.acts.specs.Acts.{ActGiven, StoreOf, actOf, leaving, TakenOut, PlaceGiven, SomewhereGiven}
 use Rattle.operands.specs.AsksAll.{ListGiven, AsksAll}
 use Rattle.operands.proofs.Lists.{given-right, all-full, list-next, list-then, value-given, value-all, all-piece}
 use Rattle.acts.proofs.Places.{world-framing, world-few, target-rooted, target-short, target-placed}
-use Rattle.acts.proofs.Steps.{hand-kept, above-ready, taken-opened, copied-opened, opened-full, asked-full, copy-asks, left, acted-idle, acted}
+use Rattle.acts.proofs.Steps.{hand-kept, above-ready, taken-opened, copied-opened, opened-full, asked-full, copy-asks, left, acted}
 
 -- What is needed of the place is asked of the value
 module _ {bytes tab : List ℕ} {f : ℕ} {types s rs : List ℕ} {n : ℕ} {q : Place} {a v : ℕ} (g : PlaceGiven bytes tab f types s rs n q a v) where

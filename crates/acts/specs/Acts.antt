@@ -2,7 +2,7 @@
 use Prim.Native.Nat.{ℕ, _+_, _-_, _<_, _≤_}
 use mathlib.Core.Path.{_≡_}
 use mathlib.Core.Bool.{Bool, true, not}
-use mathlib.Core.List.{List, _∷_, _++_}
+use mathlib.Core.List.{List, _∷_}
 use lib.Dec.{ltb}
 use lib.ListN.{length}
 use Rattle.part.specs.PartReq.{PartReq}
@@ -20,12 +20,11 @@ use Rattle.judge.specs.Given.{scopeAt}
 use Rattle.needs.specs.Path.{Piece}
 use Rattle.asked.specs.Within.{Read, Judged, Within}
 use Rattle.framed.specs.Places.{Placed}
-use Rattle.framed.specs.Kept.{Kept}
-use Rattle.hold.specs.Hold.{heldBy, inSlot, Live, Reach}
+use Rattle.hold.specs.Hold.{heldBy, inSlot, Live}
 use Rattle.forms.specs.Frames.{Framing, Rooted}
 use Rattle.place.specs.Target.{Pointer}
 use Rattle.standing.specs.Slots.{Ready}
-use Rattle.standing.specs.Standing.{passedBy, Stepped}
+use Rattle.standing.specs.Standing.{Stepped}
 use Rattle.standing.specs.World.{World}
 
 -- what an act is given: slots for what it asks, and a path that its place fits

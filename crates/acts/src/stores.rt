@@ -7,60 +7,24 @@ ghost use Rattle.clearance.specs.Tree.{store};
 ghost use Rattle.clearance.specs.Needs.{ofValue, askWhole, without};
 ghost use Rattle.judge.specs.Given.{scopeAt};
 ghost use Rattle.hold.specs.Hold.{inSlot};
-ghost use Rattle.place.specs.Target.{Pointer, part};
+ghost use Rattle.place.specs.Target.{part};
 ghost use Rattle.place.specs.Steps.{indexesOf};
 ghost use Rattle.standing.specs.Standing.{Stepped};
 ghost use Rattle.acts.specs.Acts.{ActGiven, StoreOf, leaving, Acted, PlaceGiven, SomewhereGiven};
 ghost use Rattle.acts.specs.Marks.{PassGiven, ByMark};
-ghost use Rattle.operands.specs.AsksAll.{ListGiven, AsksAll};
 use crate::take::take_out;
 use asking::ask::ask_value;
 use ends::notes::blame;
 use hold::hold::copy;
 use module::handles::ExpressionHandle;
 use module::handles::FunctionHandle;
-use place::steps::Step;
-use place::steps::step_down;
+use operands::load::ask_indexes;
 use place::target::find_target;
 use quiet::acts::is_some;
 use quiet::acts::store_idle;
 use quiet::acts::store_overlap;
 use standing::passing::Passing;
 use standing::passing::filled;
-
-// The dynamic indexes of the pointer p are asked whole, the last first.
-fn ask_indexes(
-    bytes: &[u8],
-    t: &[u32],
-    f: FunctionHandle,
-    cells: &mut [u32],
-    roots: &mut [u32],
-    n: usize,
-    p: ExpressionHandle,
-) -> bool
-    requires { ⌜ ListGiven (scopeAt (now bytes) (now t) (f .0)) (map askWhole (indexesOf (now bytes) (now t) (f .0) (p .0))) (now cells) (now roots) n ⌝ }
-    requires { ⌜ Pointer (now bytes) (now t) (f .0) (p .0) ⌝ }
-    ensures { λ r. ⌜ AsksAll (scopeAt (now (bytes .entry)) (now (t .entry)) (f .0)) (map askWhole (indexesOf (now (bytes .entry)) (now (t .entry)) (f .0) (p .0))) (now (cells .entry)) (now (roots .entry)) n (now (cells .exit)) (now (roots .exit)) r ⌝ }
-{
-    let mut h = p.0;
-    loop {
-        let step = step_down(bytes, t, f, ExpressionHandle(h));
-        match step {
-            Step::Variable => {
-                return true;
-            }
-            Step::Constant(base) => {
-                h = base;
-            }
-            Step::Dynamic(base, index) => {
-                if !ask_value(bytes, t, f, cells, roots, n, ExpressionHandle(index), 0) {
-                    return false;
-                }
-                h = base;
-            }
-        }
-    }
-}
 
 // A store to the place path[from..to], of which the piece a is needed.
 fn store_at(
