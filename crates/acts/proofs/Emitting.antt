@@ -22,6 +22,7 @@ use Rattle.standing.specs.declared.passing.Exits.{Exits}
 use Rattle.standing.proofs.Walks.{walked-full, walked-nop, walked-seq}
 use Rattle.judge.specs.Given.{scopeAt}
 use Rattle.acts.specs.Marks.{PassGiven, ByMark, EmitsPassed}
+use Rattle.acts.proofs.Marked.{walked-mark}
 
 seq-full : {S : Scope} (a : Tree) {b : Tree} {s rs : List ℕ} {n : ℕ} {x : Exits} {p : Passing} {t us : List ℕ} {q : Passing} → q .full ≡ true → Walked S (inside b) s rs n x p t us q → Walked S (inside (seq a b)) s rs n x p t us q
 unfolding passInside
@@ -67,10 +68,10 @@ module _ (S : Scope) (marks : List ℕ) (l first count : ℕ) {s rs : List ℕ} 
       {m : Bool} (h : m ≡ markAt marks (marksBefore (S .function .statements) l + i)) {u ws before after : List ℕ} {z : Passing}
       (w : ByMark S l m (emit (first + i)) t us n q′ u ws before after z) where
     next-walked : (e : Exits) → Targets n e → Walked S (inside (emits (S .function) marks l first i (count - i))) s rs n e p u ws z
-    unfolding emits byMark
+    unfolding emits
     next-walked e y =
         let k : count - i ≡ suc (count - suc i) = omega (arith, d .low) in
-        rw k (walked-seq (d .ready .high) y (d .walked e y) (d .going) o (rw h at (w .each e (marksBefore (S .function .statements) l + i) y)))
+        rw k (walked-seq (d .ready .high) y (d .walked e y) (d .going) o (walked-mark (S .function) marks l i h w e y))
 
     pub emitted-on : z .full ≡ false → Emitted S marks l first count i s rs n p u ws z
     emitted-on f = record {

@@ -6,14 +6,16 @@ use mathlib.Core.Bool.{Bool, true, false}
 use mathlib.Core.List.{List}
 use lib.ListN.{length, getD, set, length-set}
 use Rattle.part.proofs.Equations.{never}
+use Rattle.module.specs.Module.{Function}
+use Rattle.module.specs.Marks.{marksBefore}
 use Rattle.clearance.specs.Scope.{Scope}
-use Rattle.clearance.specs.Tree.{Act, act, marked}
+use Rattle.clearance.specs.Tree.{Act, act, marked, markAt, byMark}
 use Rattle.clearance.specs.Needs.{idle, quiet, obeys}
 use Rattle.pass.specs.Pass.{passInside}
 use Rattle.hold.specs.Hold.{inSlot}
 use Rattle.quiet.specs.Acts.{Needing, Idle}
 use Rattle.standing.specs.Slots.{Ready}
-use Rattle.standing.specs.Standing.{Walked, Stepped, Blames, inside, step}
+use Rattle.standing.specs.Standing.{Targets, Walked, Stepped, Blames, inside, step}
 use Rattle.standing.specs.declared.passing.Passing.{Passing}
 use Rattle.standing.specs.declared.passing.Exits.{Exits}
 use Rattle.standing.proofs.Walks.{walked-step, step-full}
@@ -105,3 +107,9 @@ module _ {S : Scope} {s rs : List ℕ} {n : ℕ} (d : Ready S s rs n) (l : ℕ) 
                 c refl;
             long = w .long ∙ i .long;
           }
+
+-- what has the mark i of the statement l
+pub walked-mark : {S : Scope} (F : Function) (marks : List ℕ) (l i : ℕ) {m : Bool} {x : Act} {s rs : List ℕ} {n : ℕ} {p : Passing} {t us before after : List ℕ} {q : Passing} → m ≡ markAt marks (marksBefore (F .statements) l + i) →
+    ByMark S l m x s rs n p t us before after q → (e : Exits) → Targets n e → Walked S (inside (byMark F marks l i (act x))) s rs n e p t us q
+unfolding byMark
+walked-mark F marks l i h w e y = rw h at (w .each e (marksBefore (F .statements) l + i) y)

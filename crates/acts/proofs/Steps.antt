@@ -9,9 +9,8 @@ use lib.Dec.{ltb}
 use lib.ListN.{length, getD, set, length-set}
 use Rattle.part.specs.PartReq.{PartReq}
 use Rattle.part.specs.Store.{top, part, Good, Room, Made}
-use Rattle.part.specs.Count.{same, among}
-use Rattle.part.proofs.Distinct.{untrue, or-left}
-use Rattle.part.proofs.Counting.{same-refl}
+use Rattle.part.specs.Count.{same}
+use Rattle.part.proofs.Distinct.{untrue}
 use Rattle.clearance.specs.Shape.{some}
 use Rattle.clearance.specs.Scope.{Scope, Place, frame}
 use Rattle.clearance.specs.Tree.{Act}
@@ -24,7 +23,7 @@ use Rattle.pass.specs.Pass.{workBound, Carried, Passed, on, _>>=_, within, aski
 use Rattle.framed.specs.Kept.{Kept}
 use Rattle.framed.proofs.Takes.{without-leaves}
 use Rattle.hold.specs.Hold.{heldBy, inSlot, Loose, Pushed, Reach}
-use Rattle.hold.proofs.Reach.{reach-is, reach-sym, reach-trans, reach-cons, reach-cells, reach-among}
+use Rattle.hold.proofs.Reach.{reach-is, reach-sym, reach-trans, reach-cons, reach-cells}
 use Rattle.hold.proofs.Slots.{held-reach, held-same, slot-below, loose-push, loose-kept, live-room, live-less, live-set, slot-set, slot-other, held-push}
 use Rattle.hold.proofs.Pushes.{pushed-made}
 use Rattle.forms.specs.Frames.{Framing, Rooted, placeCells}
@@ -32,7 +31,7 @@ use Rattle.standing.specs.Slots.{Ready}
 use Rattle.standing.specs.Standing.{passedBy, Stepped}
 use Rattle.standing.proofs.Readies.{ready-open}
 use Rattle.standing.proofs.Taken.{within-fits}
-use Rattle.ends.proofs.Merges.{by-test, ready-kept}
+use Rattle.ends.proofs.Merges.{by-test, ready-kept, reach-double}
 use Rattle.quiet.specs.Acts.{Overlap}
 use Rattle.acts.specs.Acts.{actOf, leaving, Acted, TakeGiven, TakenOut}
 use Rattle.operands.specs.AsksAll.{AsksAll}
@@ -51,9 +50,6 @@ module _ {bytes tab : List ℕ} {f : ℕ} {types s rs : List ℕ} {n : ℕ} {q :
 
   abbrev hand : PartReq
   hand = inSlot s rs (n - 1)
-
-  abbrev marked : List ℕ
-  marked = set rs n a
 
   out-is : leaves (frame S) hand q ≡ without S q hand
   out-is = let k = hand-kept (g .ready) in sym (without-leaves S q hand (g .placed) (k .need .tidy) (k .framed))
@@ -102,10 +98,6 @@ pub record Opened (l : PartReq) (s rs : List ℕ) (n : ℕ) (t us : List ℕ) (m
   pub reach : r ≡ true → Reach (heldBy t us (m - 1)) (heldBy s rs n)
   pub is : (aside : List PartReq) (c : Carried) → Reach (heldBy s rs n) (inSlot s rs (n - 1) ∷ (aside ++ c .table)) →
       within (inSlot s rs (n - 1) ∷ aside) l c ≡ passedBy r c (inSlot t us (m - 1))
-
-reach-twice : (p : PartReq) (l : List PartReq) → Reach (p ∷ l) (p ∷ p ∷ l)
-unfolding among
-reach-twice p l = reach-sym (reach-among p (p ∷ l) (or-left (same p p) _ (same-refl p)))
 
 hand-on : (c : Carried) (b : Bool) (p m : PartReq) → (b ≡ true → m ≡ p) → passedBy b c p ≡ passedBy b c m
 hand-on c true p m f = ap (on c) (sym (f refl))
@@ -157,7 +149,7 @@ module _ {S : Scope} {s rs : List ℕ} {n : ℕ} (d : Ready S s rs n) where
         reach = λ z. rw i (reach-is (held-same s rs s (set rs n a) n (omega arith) (omega (arith, length-set rs n a)) k));
         is = λ aside c h.
             rw i
-            (within-fits (after ∷ aside) (d .live) (reach-trans h (reach-twice after (aside ++ c .table))) ∙ ap (on c) (sym (slot-set s rs n a l)));
+            (within-fits (after ∷ aside) (d .live) (reach-trans h (reach-sym (reach-double after (aside ++ c .table)))) ∙ ap (on c) (sym (slot-set s rs n a l)));
       }
 
   -- what was opened, and asked
@@ -214,7 +206,7 @@ module _ {S : Scope} {s rs : List ℕ} {n : ℕ} (d : Ready S s rs n) where
             }
 
   -- An act that gives nothing that is needed
-  pub acted-idle : (x : Act) → some (overlap S x after) ≡ false → Stepped S (actOf S x) s rs n s rs true
+  acted-idle : (x : Act) → some (overlap S x after) ≡ false → Stepped S (actOf S x) s rs n s rs true
   unfolding acting
   acted-idle x e = record { cells = refl; slots = refl; ready = λ z. d; kept = λ z j h. refl; is = λ aside c h. rw e }
 

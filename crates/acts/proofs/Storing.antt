@@ -165,9 +165,6 @@ module _ {bytes tab : List ℕ} {f : ℕ} {types alike paths s rs path : List �
   }
 
   module _ {p v : ExpressionHandle} (h : StoreOf (scopeAt bytes tab f) p v) where
-    abbrev A : Scope
-    A = scopeAt bytes tab f
-
     pub store-pointer : Pointer bytes tab f p
     unfolding fitsStatement
     store-pointer = record {
