@@ -3,3 +3,6 @@ pub mod Absent
 pub mod Members
 pub mod Loops
 pub mod Parts
+pub mod Loads
+pub mod ByKind
+pub mod Vectors

@@ -2,19 +2,19 @@
 -- bound makes every longer one so (`all-full`).
 use Prim.Native.Nat.{ℕ, zero, suc, _+_, _-_, _<_, _≤_}
 use native.Mathlib.Omega.{arith}
-use mathlib.Core.Path.{_≡_, refl, sym, ap, subst, _∙_}
+use mathlib.Core.Path.{_≡_, refl, ap, _∙_}
 use mathlib.Core.Bool.{Bool, true, false}
 use mathlib.Core.List.{List, [], _∷_, _++_}
 use lib.ListN.{length, getD}
-use Rattle.part.specs.PartReq.{PartReq, all}
-use Rattle.part.specs.Store.{top, part, means}
+use Rattle.part.specs.PartReq.{PartReq}
+use Rattle.part.specs.Store.{top, part}
 use Rattle.part.proofs.Distinct.{untrue}
 use Rattle.clearance.specs.Scope.{Scope}
 use Rattle.clearance.specs.Needs.{Ask, ofValue}
 use Rattle.pass.specs.Pass.{Carried, Passed, on, full, _>>=_, asking, askingAll}
 use Rattle.asked.specs.Within.{Within, EachWithin}
-use Rattle.framed.specs.Kept.{Kept, AskFine, AsksFine}
-use Rattle.hold.specs.Hold.{heldBy, inSlot, Live, Reach}
+use Rattle.framed.specs.Kept.{AsksFine}
+use Rattle.hold.specs.Hold.{heldBy, inSlot}
 use Rattle.hold.proofs.Reach.{reach-trans, reach-cons, reach-is}
 use Rattle.hold.proofs.Slots.{held-reach, held-same}
 use Rattle.standing.specs.Standing.{passedBy}

@@ -1,16 +1,15 @@
 -- What a result that is made of parts asks, by number (`letters-each`, `components-each`, `joined-each`), and a part of a need as a piece.
-use Prim.Native.Nat.{ℕ, zero, suc, _+_, _<_, _≤_}
+use Prim.Native.Nat.{ℕ, zero, suc, _+_, _<_}
 use native.Mathlib.Omega.{arith}
 use mathlib.Core.Path.{_≡_, refl, sym, ap, _∙_}
 use mathlib.Core.List.{List, [], _∷_, map}
 use lib.ListN.{length, getD, length-map}
-use Rattle.part.specs.PartReq.{PartReq, none, more, Subpart, getSubpart}
-use Rattle.part.specs.Store.{top, part, Good}
+use Rattle.part.specs.PartReq.{PartReq, none, more, getSubpart}
+use Rattle.part.specs.Store.{part, Good}
 use Rattle.part.specs.declared.req.Found.{Found}
 use Rattle.part.specs.declared.req.Found.the-variants.{Gone, There}
 use Rattle.part.specs.Found.{Got}
 use Rattle.part.proofs.Pieces.{part-2}
-use Rattle.module.specs.Decode.{tab}
 use Rattle.module.proofs.Tab.{length-tab, getD-tab}
 use Rattle.clearance.specs.Shape.{orNone}
 use Rattle.clearance.specs.Needs.{Ask, ofValue, askWhole, askPicked, askComponents}

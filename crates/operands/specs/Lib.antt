@@ -1,2 +1,3 @@
 pub mod AsksAll
 pub mod Lists
+pub mod Arms

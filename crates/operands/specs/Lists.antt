@@ -9,7 +9,8 @@ use Rattle.part.specs.PartReq.{PartReq, none, more, getSubpart}
 use Rattle.part.specs.Store.{top, part}
 use Rattle.module.specs.Decode.{tab}
 use Rattle.clearance.specs.Shape.{orNone}
-use Rattle.clearance.specs.Needs.{Ask, ofValue, askWhole}
+use Rattle.clearance.specs.Scope.{Scope, pathOf, indexes}
+use Rattle.clearance.specs.Needs.{Ask, ofValue, askWhole, askSteps}
 
 -- one operand, for the same part or for all of it
 abbrev pub sameOf : (ℕ → ℕ) → ℕ → PartReq → List Ask
@@ -55,3 +56,7 @@ components o = tab (o 0) (λ i. o (1 + i))
 pub record SubpartOf (s : List ℕ) (a k r : ℕ) : Type 0 where
   pub piece : r < top s
   pub is : part s r ≡ orNone (getSubpart (part s a) k)
+
+-- a load by the pointer p
+abbrev pub loadOf : Scope → ℕ → PartReq → List Ask
+loadOf S p a = askSteps (pathOf S p) (indexes (pathOf S p .steps)) a

@@ -1,6 +1,5 @@
 // What is made of parts: a vector of letters, or of components. Each part of the result is asked of what it was made of, the last first.
 ghost use Prim.Native.Nat.{_+_, _<_, _≤_};
-ghost use mathlib.Core.Path.{_≡_};
 ghost use mathlib.Core.List.{map};
 ghost use Rattle.part.specs.Store.{top, Good};
 ghost use Rattle.access.specs.Access.{operandAt};
