@@ -1,4 +1,6 @@
 pub mod Places
-pub mod Whole
 pub mod Steps
 pub mod Storing
+pub mod Marked
+pub mod Emit
+pub mod Emitting

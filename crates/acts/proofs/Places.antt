@@ -1,20 +1,19 @@
 -- The places that acts give: an emit's is a slot, a store's starts at a global or a local and has no more steps than its pointer's number, since each goes to a lower one.
 use Prim.Native.Nat.{ℕ, _+_, _/_, _%_, _<_, _≤_}
 use native.Mathlib.Omega.{arith}
-use mathlib.Core.Path.{_≡_, refl, sym, ap, subst, _∙_}
+use mathlib.Core.Path.{_≡_, refl, ap, subst, _∙_}
 use mathlib.Core.Bool.{true}
 use mathlib.Core.List.{List, [], _∷_, _++_}
-use lib.ListN.{length, getD, length-append}
-use Rattle.module.specs.Module.{TypeHandle, ExpressionHandle, Expression, AccessIndex, Access}
+use lib.ListN.{length, length-append}
+use Rattle.module.specs.Module.{TypeHandle, ExpressionHandle, Expression}
 use Rattle.module.specs.Knot.{below}
 use Rattle.module.specs.Tables.{functionOf, moduleOf}
 use Rattle.module.proofs.Knot.{knot-is, below-lt}
-use Rattle.context.specs.Types.{typesOf, AllSized}
+use Rattle.context.specs.Types.{AllSized}
 use Rattle.type_table.proofs.AllSized.{all-sized}
-use Rattle.clearance.specs.Scope.{Scope, Step, at, by, Path, Place, nowhere, further, stepFrom, variable, slot, evaluated, typed, pathOf, front, target, isPath}
+use Rattle.clearance.specs.Scope.{Scope, Step, at, by, Path, nowhere, further, stepFrom, variable, slot, evaluated, typed, pathOf, front, target, isPath}
 use Rattle.clearance.specs.IsJudged.{Declares, global as aGlobal, local as aLocal, IndexOf, constant, dynamic, IsPath, ends, goesOn}
 use Rattle.clearance.proofs.Relations.{path-exactly}
-use Rattle.judge.specs.Alike.{Lower}
 use Rattle.judge.specs.Given.{scopeAt}
 use Rattle.judge.proofs.PathSteps.{few}
 use Rattle.framed.specs.Given.{Judged}

@@ -1,19 +1,18 @@
 -- An act, from what its parts left. What is needed of its place stands in the slot n, which adds no cells: it is a part of the needs at hand (`taken-reach`). Or nothing is taken out, and the
 -- needs are copied there. Then come its asks, with the needs after the act kept, and what they leave goes to the slot of the needs at hand.
-use Prim.Native.Nat.{ℕ, _+_, _-_, _<_, _≤_}
+use Prim.Native.Nat.{ℕ, _+_, _-_, _<_}
 use native.Mathlib.Omega.{arith}
-use mathlib.Core.Path.{_≡_, refl, sym, ap, subst, _∙_}
-use mathlib.Core.Bool.{Bool, true, false, cond, not}
-use mathlib.Core.List.{List, [], _∷_, _++_}
+use mathlib.Core.Path.{_≡_, refl, sym, ap, _∙_}
+use mathlib.Core.Bool.{Bool, true, false, not}
+use mathlib.Core.List.{List, _∷_, _++_}
 use lib.Dec.{ltb}
 use lib.ListN.{length, getD, set, length-set}
 use Rattle.part.specs.PartReq.{PartReq}
 use Rattle.part.specs.Store.{top, part, Good, Room, Made}
-use Rattle.part.specs.Collect.{cellsOf}
 use Rattle.part.specs.Count.{same, among}
 use Rattle.part.proofs.Distinct.{untrue, or-left}
 use Rattle.part.proofs.Counting.{same-refl}
-use Rattle.clearance.specs.Shape.{some, below}
+use Rattle.clearance.specs.Shape.{some}
 use Rattle.clearance.specs.Scope.{Scope, Place, frame}
 use Rattle.clearance.specs.Tree.{Act}
 use Rattle.clearance.specs.Needs.{Ask, overlap, without}
@@ -21,23 +20,29 @@ use Rattle.clearance.specs.IsNeed.{IsNeed}
 use Rattle.judge.specs.Given.{scopeAt}
 use Rattle.needs.specs.Lean.{leaves}
 use Rattle.needs.specs.Framed.{Framed}
-use Rattle.pass.specs.Pass.{workBound, Carried, Passed, on, full, _>>=_, within, askingAll, actAsks, actLeaves, acting}
+use Rattle.pass.specs.Pass.{workBound, Carried, Passed, on, _>>=_, within, askingAll, actAsks, actLeaves, acting}
 use Rattle.framed.specs.Kept.{Kept}
 use Rattle.framed.proofs.Takes.{without-leaves}
-use Rattle.hold.specs.Hold.{heldBy, inSlot, Loose, Live, Pushed, Reach}
+use Rattle.hold.specs.Hold.{heldBy, inSlot, Loose, Pushed, Reach}
 use Rattle.hold.proofs.Reach.{reach-is, reach-sym, reach-trans, reach-cons, reach-cells, reach-among}
 use Rattle.hold.proofs.Slots.{held-reach, held-same, slot-below, loose-push, loose-kept, live-room, live-less, live-set, slot-set, slot-other, held-push}
 use Rattle.hold.proofs.Pushes.{pushed-made}
 use Rattle.forms.specs.Frames.{Framing, Rooted, placeCells}
-use Rattle.standing.specs.Slots.{askedSlot, Ready}
+use Rattle.standing.specs.Slots.{Ready}
 use Rattle.standing.specs.Standing.{passedBy, Stepped}
+use Rattle.standing.proofs.Readies.{ready-open}
 use Rattle.standing.proofs.Taken.{within-fits}
 use Rattle.ends.proofs.Merges.{by-test, ready-kept}
 use Rattle.quiet.specs.Acts.{Overlap}
-use Rattle.acts.specs.Acts.{actOf, leaving, Acted, TakeGiven, TakenOut, AsksAll}
+use Rattle.acts.specs.Acts.{actOf, leaving, Acted, TakeGiven, TakenOut}
+use Rattle.operands.specs.AsksAll.{AsksAll}
 
 pub hand-kept : {S : Scope} {s rs : List ℕ} {n : ℕ} → Ready S s rs n → Kept S (inSlot s rs (n - 1))
 hand-kept {n = n} d = let h = d .high in d .needs (n - 1) (omega arith) (λ e. omega arith)
+
+-- a copy of the needs at hand above them
+pub above-ready : {S : Scope} {s rs : List ℕ} {n : ℕ} → Ready S s rs n → n < length rs → Ready S s (set rs n (getD rs (n - 1) 0)) (n + 1)
+above-ready {rs = rs} {n = n} d h = ready-open d (getD rs (n - 1) 0) (d .live .loose .pieces (n - 1) (omega (arith, d .high))) (hand-kept d) h
 
 -- A place is taken out
 module _ {bytes tab : List ℕ} {f : ℕ} {types s rs : List ℕ} {n : ℕ} {q : Place} {a : ℕ} (g : TakeGiven bytes tab f types s rs n q a) where
@@ -110,11 +115,11 @@ module _ {S : Scope} {s rs : List ℕ} {n : ℕ} (d : Ready S s rs n) where
   abbrev after : PartReq
   after = inSlot s rs (n - 1)
 
-  -- the slots with the needs after the act
-  above : {k : List PartReq} → Reach (heldBy s rs (n - 1)) k → Reach (heldBy s rs n) (after ∷ k)
-  above h =
+  -- with the needs at hand, the slots reach what is kept and them
+  with-hand : {l : List PartReq} → Reach (heldBy s rs (n - 1)) l → Reach (heldBy s rs n) (inSlot s rs (n - 1) ∷ l)
+  with-hand h =
       let e : (n - 1) + 1 ≡ n = omega (arith, d .high) in
-      reach-trans (rw e at (held-reach s rs (n - 1) (omega (arith, d .high, d .live .loose .few)))) (reach-cons after h)
+      reach-trans (rw e at (held-reach s rs (n - 1) (omega (arith, d .high, d .live .loose .few)))) (reach-cons (inSlot s rs (n - 1)) h)
 
   -- by what was taken out
   module _ {q : Place} {t us : List ℕ} {r : Bool} (w : TakenOut S q s rs n t us r) where
@@ -165,15 +170,15 @@ module _ {S : Scope} {s rs : List ℕ} {n : ℕ} (d : Ready S s rs n) where
       slots = o .slots;
       ready = λ z. untrue z;
       kept = λ z. untrue z;
-      is = λ aside c h. ap (λ (y : Passed). y >>= λ i p. askingAll S (after ∷ aside) xs p i) (o .is aside c (above h) ∙ ap (λ (b : Bool). passedBy b c (inSlot t us (m - 1))) e);
+      is = λ aside c h. ap (λ (y : Passed). y >>= λ i p. askingAll S (after ∷ aside) xs p i) (o .is aside c (with-hand h) ∙ ap (λ (b : Bool). passedBy b c (inSlot t us (m - 1))) e);
     }
 
     module _ (e : r ≡ true) (more : n < m) {v ws : List ℕ} {b : Bool} (a : AsksAll S xs t us m v ws b) where
-      left-is : (aside : List PartReq) (c : Carried) → Reach (heldBy s rs n) (after ∷ (aside ++ c .table)) → leaving S l xs aside after c ≡ passedBy b c (inSlot v ws (m - 1))
+      left-is : (aside : List PartReq) (c : Carried) → Reach (heldBy s rs (n - 1)) (aside ++ c .table) → leaving S l xs aside after c ≡ passedBy b c (inSlot v ws (m - 1))
       unfolding leaving
       left-is aside c h =
-          ap (λ (y : Passed). y >>= λ i p. askingAll S (after ∷ aside) xs p i) (o .is aside c h ∙ ap (λ (k : Bool). passedBy k c (inSlot t us (m - 1))) e)
-          ∙ a .is (after ∷ aside) c (reach-trans (o .reach e) h)
+          ap (λ (y : Passed). y >>= λ i p. askingAll S (after ∷ aside) xs p i) (o .is aside c (with-hand h) ∙ ap (λ (k : Bool). passedBy k c (inSlot t us (m - 1))) e)
+          ∙ a .is (after ∷ aside) c (reach-trans (o .reach e) (with-hand h))
 
       -- past it with an ask
       pub asked-full : b ≡ false → Stepped S (leaving S l xs) s rs n v ws false
@@ -182,7 +187,7 @@ module _ {S : Scope} {s rs : List ℕ} {n : ℕ} (d : Ready S s rs n) where
         slots = a .slots ∙ o .slots;
         ready = λ y. untrue y;
         kept = λ y. untrue y;
-        is = λ aside c h. left-is aside c (above h) ∙ ap (λ (k : Bool). passedBy k c (inSlot v ws (m - 1))) z;
+        is = λ aside c h. left-is aside c h ∙ ap (λ (k : Bool). passedBy k c (inSlot v ws (m - 1))) z;
       }
 
       -- within it: what is left goes to the slot of the needs at hand
@@ -205,7 +210,7 @@ module _ {S : Scope} {s rs : List ℕ} {n : ℕ} (d : Ready S s rs n) where
               slots = length-set ws (n - 1) from ∙ (a .slots ∙ o .slots);
               ready = λ _. ready-kept d (omega arith) high (live-set (live-less lv (omega arith)) (n - 1) (lv .loose .pieces i (omega arith))) same (rw here (rw k at (a .need z)));
               kept = λ _. same;
-              is = λ aside c h. (rw k at (left-is aside c (above h))) ∙ (ap (λ (g : Bool). passedBy g c (inSlot v ws i)) z ∙ ap (on c) (sym here));
+              is = λ aside c h. (rw k at (left-is aside c h)) ∙ (ap (λ (g : Bool). passedBy g c (inSlot v ws i)) z ∙ ap (on c) (sym here));
             }
 
   -- An act that gives nothing that is needed

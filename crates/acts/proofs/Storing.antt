@@ -1,41 +1,40 @@
 -- A store, from what its parts left: without a dynamic index by its place (`known-left`), with one by its indexes and its value (`somewhere-left`), and what it is by definition (`store-acted`).
-use Prim.Native.Nat.{ℕ, _+_, _-_, _<_, _≤_}
+use Prim.Native.Nat.{ℕ, _+_, _-_, _<_}
 use native.Mathlib.Omega.{arith}
-use mathlib.Core.Path.{_≡_, refl, sym, ap, subst, _∙_}
+use mathlib.Core.Path.{_≡_, refl, _∙_}
 use mathlib.Core.Bool.{Bool, true, false}
-use mathlib.Core.List.{List, [], _∷_, _++_, map}
+use mathlib.Core.List.{List, [], _∷_, map}
 use lib.ListN.{length, getD, set, length-set}
 use Rattle.part.specs.PartReq.{PartReq}
-use Rattle.part.specs.Store.{top, part}
-use Rattle.module.specs.Module.{ExpressionHandle, Store}
-use Rattle.module.specs.Tables.{functionOf}
+use Rattle.part.specs.Store.{part}
+use Rattle.part.proofs.Pieces.{part-0}
+use Rattle.module.specs.Module.{ExpressionHandle}
 use Rattle.clearance.specs.Shape.{some, below}
 use Rattle.clearance.specs.Scope.{Scope, Place, Path, pathOf, indexes, target, isPath}
-use Rattle.clearance.specs.Tree.{Act, store}
-use Rattle.clearance.specs.Needs.{Ask, ofValue, askWhole, overlap, without}
+use Rattle.clearance.specs.Tree.{store}
+use Rattle.clearance.specs.Needs.{ofValue, askWhole, overlap, without}
 use Rattle.clearance.specs.Judged.{isValue, fitsStatement}
 use Rattle.clearance.proofs.Small.{both-true}
 use Rattle.judge.specs.Given.{scopeAt}
-use Rattle.needs.specs.Path.{Piece}
 use Rattle.pass.specs.Pass.{storeAsks, storeLeaves, actAsks, actLeaves}
-use Rattle.asked.specs.Within.{Within, EachWithin}
+use Rattle.asked.specs.Within.{Within}
+use Rattle.asked.proofs.Asks.{each-more, each-none, whole-within, wholes-within}
+use Rattle.asked.proofs.Paths.{path-indexes}
 use Rattle.asked.proofs.Acts.{store-within, store-tidy, store-overlap}
-use Rattle.framed.specs.Kept.{Kept}
+use Rattle.framed.specs.Kept.{AsksFine}
 use Rattle.framed.proofs.Kept.{kept-without, overlap-ascends}
-use Rattle.hold.specs.Hold.{heldBy, inSlot, Live}
-use Rattle.hold.proofs.Slots.{slot-set, slot-other}
+use Rattle.hold.specs.Hold.{inSlot}
 use Rattle.standing.specs.Slots.{Ready}
 use Rattle.standing.specs.Standing.{Stepped}
-use Rattle.standing.specs.World.{World}
-use Rattle.standing.proofs.Readies.{ready-open}
 use Rattle.place.specs.Target.{any, Pointer}
 use Rattle.place.specs.Steps.{indexesOf}
 use Rattle.asking.specs.Asks.{Asks, stepOf, ValueGiven}
 use Rattle.quiet.specs.Acts.{Needing, Overlap}
-use Rattle.acts.specs.Acts.{ActGiven, StoreOf, actOf, leaving, Acted, TakeGiven, TakenOut, AsksAll, PlaceGiven, WholeGiven, SomewhereGiven}
+use Rattle.acts.specs.Acts.{ActGiven, StoreOf, actOf, leaving, TakenOut, PlaceGiven, SomewhereGiven}
+use Rattle.operands.specs.AsksAll.{ListGiven, AsksAll}
+use Rattle.operands.proofs.Lists.{given-right, all-full, list-next, list-then, value-given, value-all, all-piece}
 use Rattle.acts.proofs.Places.{world-framing, world-few, target-rooted, target-short, target-placed}
-use Rattle.acts.proofs.Whole.{all-one, all-then, all-full, whole-given, whole-asks, given-after}
-use Rattle.acts.proofs.Steps.{hand-kept, taken-opened, copied-opened, opened-full, asked-full, copy-asks, left, acted-idle, acted}
+use Rattle.acts.proofs.Steps.{hand-kept, above-ready, taken-opened, copied-opened, opened-full, asked-full, copy-asks, left, acted}
 
 -- What is needed of the place is asked of the value
 module _ {bytes tab : List ℕ} {f : ℕ} {types s rs : List ℕ} {n : ℕ} {q : Place} {a v : ℕ} (g : PlaceGiven bytes tab f types s rs n q a v) where
@@ -50,24 +49,26 @@ module _ {bytes tab : List ℕ} {f : ℕ} {types s rs : List ℕ} {n : ℕ} {q :
     known-full e = opened-full (g .take .ready) (taken-opened (g .take .ready) w) _ e
 
     module _ (e : r ≡ true) where
-      pub known-given : ValueGiven S t us (n + 2) v (getD us n 0)
-      known-given =
+      known-list : ListGiven S (ofValue v needed ∷ []) t us (n + 2)
+      known-list =
           let i : (n + 2) - 1 ≡ n + 1 = omega arith in
           record {
             read = g .read;
             judged = g .judged;
             live = w .live e;
-            hand = omega arith;
+            two = omega arith;
             spare = omega (arith, g .take .spare, w .slots);
             need = rw (i, w .hand e) (kept-without S q (inSlot s rs (n - 1)) (hand-kept (g .take .ready)));
-            piece = w .live e .loose .pieces n (omega arith);
-            ascends = rw (w .part e) (g .ascends);
-            within = rw (w .part e) (g .within);
+            within = each-more (g .within) each-none;
+            fine = (g .ascends, tt);
           }
+
+      pub known-given : ValueGiven S t us (n + 2) v (getD us n 0)
+      known-given = value-given known-list refl (getD us n 0) (w .part e) (w .live e .loose .pieces n (omega arith))
 
       module _ {u ws : List ℕ} {b : Bool} (d : Asks S (stepOf S (ofValue v (inSlot t us n))) t us (n + 2) u ws b) where
         asked : AsksAll S (ofValue v needed ∷ []) t us (n + 2) u ws b
-        asked = all-one (omega arith) (w .live e .loose .few) (rw (w .part e) at d)
+        asked = value-all known-list refl (getD us n 0) (w .part e) d
 
         pub value-full : b ≡ false → Stepped S (leaving S (without S q (inSlot s rs (n - 1))) (ofValue v needed ∷ [])) s rs n u ws false
         value-full z = asked-full (g .take .ready) (taken-opened (g .take .ready) w) _ e (omega arith) asked z
@@ -80,42 +81,52 @@ module _ {bytes tab : List ℕ} {f : ℕ} {types s rs : List ℕ} {n : ℕ} {q :
         known-left z y = left (g .take .ready) (taken-opened (g .take .ready) w) _ e (omega arith) asked z (n + 1) (omega arith) y
 
 -- Value and indexes are asked whole
+
+whole-fine : (xs : List ExpressionHandle) → AsksFine (map askWhole xs)
+whole-fine [] = tt
+whole-fine (x ∷ xs) = (tt, whole-fine xs)
+
 module _ {bytes tab : List ℕ} {f : ℕ} {s rs : List ℕ} {n p v : ℕ} (g : SomewhereGiven bytes tab f s rs n p v) where
-  abbrev same : List ℕ
-  same = set rs n (getD rs (n - 1) 0)
-
-  abbrev whole : List Ask
-  whole = map askWhole (indexesOf bytes tab f p)
-
   pub same-asks : (n - 1 < length rs) × (n < length rs)
   same-asks = (omega (arith, g .spare), omega (arith, g .spare))
 
   same-ready : Ready (scopeAt bytes tab f) s (set rs n (getD rs (n - 1) 0)) (n + 1)
-  same-ready = ready-open (g .ready) (getD rs (n - 1) 0) (g .ready .live .loose .pieces (n - 1) (omega (arith, g .ready .high))) (hand-kept (g .ready)) (same-asks .1)
+  same-ready = above-ready (g .ready) (same-asks .1)
 
-  pub indexes-given : {ys : List ℕ} → ys ≡ set rs n (getD rs (n - 1) 0) → WholeGiven (scopeAt bytes tab f) s ys (n + 1)
-  indexes-given y =
-      rw y
+  -- what is asked lies within its types
+  whole-list : ListGiven (scopeAt bytes tab f) (askWhole v ∷ map askWhole (indexesOf bytes tab f p)) s (set rs n (getD rs (n - 1) 0)) (n + 1)
+  whole-list =
+      let R = g .read in
+      let there = g .pointer .there in
       record {
-        read = g .read;
+        read = R;
         judged = g .judged;
         live = same-ready .live;
-        hand = omega arith;
+        two = omega (arith, g .ready .high);
         spare = omega (arith, g .spare, length-set rs n (getD rs (n - 1) 0));
         need = hand-kept same-ready;
+        within = each-more (whole-within (scopeAt bytes tab f) R v (g .value))
+            (wholes-within (scopeAt bytes tab f) R p (indexesOf bytes tab f p) (omega arith) (path-indexes (scopeAt bytes tab f) R (g .judged) p there (g .pointer .path)));
+        fine = (tt, whole-fine (indexesOf bytes tab f p));
       }
+
+  pub indexes-given : {ys : List ℕ} → ys ≡ set rs n (getD rs (n - 1) 0) → ListGiven (scopeAt bytes tab f) (map askWhole (indexesOf bytes tab f p)) s ys (n + 1)
+  indexes-given y = rw y (given-right (askWhole v ∷ []) whole-list)
 
   module _ {ys : List ℕ} (y : ys ≡ set rs n (getD rs (n - 1) 0)) {t us : List ℕ} {r : Bool} (d : AsksAll (scopeAt bytes tab f) (map askWhole (indexesOf bytes tab f p)) s ys (n + 1) t us r) where
     pub indexes-full : r ≡ false → Stepped (scopeAt bytes tab f) (leaving (scopeAt bytes tab f) (inSlot s rs (n - 1)) (askWhole v ∷ map askWhole (indexesOf bytes tab f p))) s rs n t us false
-    indexes-full e = asked-full (g .ready) (copied-opened (g .ready) (same-asks .1)) _ refl (omega arith) (all-full (askWhole v ∷ []) (rw (y, e) at d)) refl
+    indexes-full e = asked-full (g .ready) (copied-opened (g .ready) (same-asks .1)) _ refl (omega arith) (all-full (rw y at d) (askWhole v ∷ []) e) refl
 
     module _ (e : r ≡ true) where
+      value-list : ListGiven (scopeAt bytes tab f) (askWhole v ∷ []) t us (n + 1)
+      value-list = list-next (rw y at d) e [] whole-list
+
       pub stored-given : ValueGiven (scopeAt bytes tab f) t us (n + 1) v 0
-      stored-given = whole-given (given-after (indexes-given y) (rw e at d)) v (g .value)
+      stored-given = value-given value-list refl 0 (part-0 t) (all-piece value-list)
 
       module _ {u ws : List ℕ} {b : Bool} (a : Asks (scopeAt bytes tab f) (stepOf (scopeAt bytes tab f) (ofValue v (part t 0))) t us (n + 1) u ws b) where
         asked-both : AsksAll (scopeAt bytes tab f) (askWhole v ∷ map askWhole (indexesOf bytes tab f p)) s (set rs n (getD rs (n - 1) 0)) (n + 1) u ws b
-        asked-both = all-then (rw (y, e) at d) (whole-asks (given-after (indexes-given y) (rw e at d)) a)
+        asked-both = list-then (rw y at d) e whole-list (value-all value-list refl 0 (part-0 t) a)
 
         pub stored-full : b ≡ false → Stepped (scopeAt bytes tab f) (leaving (scopeAt bytes tab f) (inSlot s rs (n - 1)) (askWhole v ∷ map askWhole (indexesOf bytes tab f p))) s rs n u ws false
         stored-full z = asked-full (g .ready) (copied-opened (g .ready) (same-asks .1)) _ refl (omega arith) asked-both z

@@ -1,8 +1,8 @@
--- What one act is given in memory and what it leaves there, by the definition's `acting`; and its parts: a place taken out of the needs, asks one after the other.
+-- What one act is given in memory and what it leaves there, by the definition's `acting`; and its parts.
 use Prim.Native.Nat.{ℕ, _+_, _-_, _<_, _≤_}
 use mathlib.Core.Path.{_≡_}
 use mathlib.Core.Bool.{Bool, true, not}
-use mathlib.Core.List.{List, _∷_, _++_}
+use mathlib.Core.List.{List, _∷_}
 use lib.Dec.{ltb}
 use lib.ListN.{length}
 use Rattle.part.specs.PartReq.{PartReq}
@@ -20,12 +20,11 @@ use Rattle.judge.specs.Given.{scopeAt}
 use Rattle.needs.specs.Path.{Piece}
 use Rattle.asked.specs.Within.{Read, Judged, Within}
 use Rattle.framed.specs.Places.{Placed}
-use Rattle.framed.specs.Kept.{Kept}
-use Rattle.hold.specs.Hold.{heldBy, inSlot, Live, Reach}
+use Rattle.hold.specs.Hold.{heldBy, inSlot, Live}
 use Rattle.forms.specs.Frames.{Framing, Rooted}
 use Rattle.place.specs.Target.{Pointer}
 use Rattle.standing.specs.Slots.{Ready}
-use Rattle.standing.specs.Standing.{passedBy, Stepped}
+use Rattle.standing.specs.Standing.{Stepped}
 use Rattle.standing.specs.World.{World}
 
 -- what an act is given: slots for what it asks, and a path that its place fits
@@ -74,16 +73,6 @@ pub record TakenOut (S : Scope) (q : Place) (s rs : List ℕ) (n : ℕ) (t us : 
   pub hand : r ≡ true → inSlot t us (n + 1) ≡ without S q (inSlot s rs (n - 1))
   pub is : r ≡ not (ltb workBound (cellsOf (without S q (inSlot s rs (n - 1)) ∷ heldBy s rs n)))
 
--- The asks xs, the last first: the last of n slots has the needs then, or r is false, and the bound was passed.
-pub record AsksAll (S : Scope) (xs : List Ask) (s rs : List ℕ) (n : ℕ) (t us : List ℕ) (r : Bool) : Type 0 where
-  pub cells : length t ≡ length s
-  pub slots : length us ≡ length rs
-  pub live : r ≡ true → Live t us n
-  pub kept : r ≡ true → (j : ℕ) → j + 1 < n → inSlot t us j ≡ inSlot s rs j
-  pub need : r ≡ true → Kept S (inSlot t us (n - 1))
-  pub is : (aside : List PartReq) (c : Carried) → Reach (heldBy s rs (n - 1)) (aside ++ c .table) →
-      askingAll S aside xs (inSlot s rs (n - 1)) c ≡ passedBy r c (inSlot t us (n - 1))
-
 -- what is given where what is needed of the place q is asked of the value v
 pub record PlaceGiven (bytes t : List ℕ) (f : ℕ) (types s rs : List ℕ) (n : ℕ) (q : Place) (a v : ℕ) : Type 0 where
   pub take : TakeGiven bytes t f types s rs n q a
@@ -91,15 +80,6 @@ pub record PlaceGiven (bytes t : List ℕ) (f : ℕ) (types s rs : List ℕ) (n 
   pub judged : Judged (scopeAt bytes t f)
   pub ascends : Ascending (below (inSlot s rs (n - 1)) q)
   pub within : Within (scopeAt bytes t f) (ofValue v (below (inSlot s rs (n - 1)) q))
-
--- what is given where values are asked whole
-pub record WholeGiven (S : Scope) (s rs : List ℕ) (n : ℕ) : Type 0 where
-  pub read : Read S
-  pub judged : Judged S
-  pub live : Live s rs n
-  pub hand : 0 < n
-  pub spare : n + 2 ≤ length rs
-  pub need : Kept S (inSlot s rs (n - 1))
 
 -- what is given where the pointer p has a dynamic index
 pub record SomewhereGiven (bytes t : List ℕ) (f : ℕ) (s rs : List ℕ) (n p v : ℕ) : Type 0 where

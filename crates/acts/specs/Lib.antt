@@ -1,1 +1,2 @@
 pub mod Acts
+pub mod Marks

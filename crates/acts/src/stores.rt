@@ -7,54 +7,24 @@ ghost use Rattle.clearance.specs.Tree.{store};
 ghost use Rattle.clearance.specs.Needs.{ofValue, askWhole, without};
 ghost use Rattle.judge.specs.Given.{scopeAt};
 ghost use Rattle.hold.specs.Hold.{inSlot};
-ghost use Rattle.place.specs.Target.{Pointer, part};
+ghost use Rattle.place.specs.Target.{part};
 ghost use Rattle.place.specs.Steps.{indexesOf};
 ghost use Rattle.standing.specs.Standing.{Stepped};
-ghost use Rattle.acts.specs.Acts.{ActGiven, StoreOf, leaving, Acted, AsksAll, PlaceGiven, WholeGiven, SomewhereGiven};
+ghost use Rattle.acts.specs.Acts.{ActGiven, StoreOf, leaving, Acted, PlaceGiven, SomewhereGiven};
+ghost use Rattle.acts.specs.Marks.{PassGiven, ByMark};
 use crate::take::take_out;
 use asking::ask::ask_value;
+use ends::notes::blame;
 use hold::hold::copy;
 use module::handles::ExpressionHandle;
 use module::handles::FunctionHandle;
-use place::steps::Step;
-use place::steps::step_down;
+use operands::load::ask_indexes;
 use place::target::find_target;
 use quiet::acts::is_some;
+use quiet::acts::store_idle;
 use quiet::acts::store_overlap;
-
-// The dynamic indexes of the pointer p are asked whole, the last first.
-fn ask_indexes(
-    bytes: &[u8],
-    t: &[u32],
-    f: FunctionHandle,
-    cells: &mut [u32],
-    roots: &mut [u32],
-    n: usize,
-    p: ExpressionHandle,
-) -> bool
-    requires { ⌜ WholeGiven (scopeAt (now bytes) (now t) (f .0)) (now cells) (now roots) n ⌝ }
-    requires { ⌜ Pointer (now bytes) (now t) (f .0) (p .0) ⌝ }
-    ensures { λ r. ⌜ AsksAll (scopeAt (now (bytes .entry)) (now (t .entry)) (f .0)) (map askWhole (indexesOf (now (bytes .entry)) (now (t .entry)) (f .0) (p .0))) (now (cells .entry)) (now (roots .entry)) n (now (cells .exit)) (now (roots .exit)) r ⌝ }
-{
-    let mut h = p.0;
-    loop {
-        let step = step_down(bytes, t, f, ExpressionHandle(h));
-        match step {
-            Step::Variable => {
-                return true;
-            }
-            Step::Constant(base) => {
-                h = base;
-            }
-            Step::Dynamic(base, index) => {
-                if !ask_value(bytes, t, f, cells, roots, n, ExpressionHandle(index), 0) {
-                    return false;
-                }
-                h = base;
-            }
-        }
-    }
-}
+use standing::passing::Passing;
+use standing::passing::filled;
 
 // A store to the place path[from..to], of which the piece a is needed.
 fn store_at(
@@ -156,4 +126,72 @@ pub fn act_store(
         a,
         v,
     )
+}
+
+// The statement l, a store of the value v to the pointer a, in a pass.
+pub fn pass_store(
+    bytes: &[u8],
+    t: &[u32],
+    f: FunctionHandle,
+    types: &[u32],
+    alike: &[u32],
+    paths: &[u32],
+    cells: &mut [u32],
+    roots: &mut [u32],
+    path: &mut [u32],
+    n: usize,
+    p: Passing,
+    l: u16,
+    marked: bool,
+    a: ExpressionHandle,
+    v: ExpressionHandle,
+) -> Passing
+    requires { ⌜ PassGiven (now bytes) (now t) (f .0) (now types) (now alike) (now paths) (now cells) (now roots) (now path) n p l ⌝ }
+    requires { ⌜ StoreOf (scopeAt (now bytes) (now t) (f .0)) (a .0) (v .0) ⌝ }
+    ensures { λ r. ⌜ ByMark (scopeAt (now (bytes .entry)) (now (t .entry)) (f .0)) l marked (store (a .0) (v .0)) (now (cells .entry)) (now (roots .entry)) n p (now (cells .exit)) (now (roots .exit)) (now (path .entry)) (now (path .exit)) r ⌝ }
+{
+    let last = n - 1;
+    let above = n + 1;
+    if marked {
+        if act_store(
+            bytes,
+            t,
+            f,
+            types,
+            alike,
+            paths,
+            cells,
+            roots,
+            path,
+            n,
+            a,
+            v,
+        ) {
+            return p;
+        }
+        return filled();
+    }
+    let hand = roots[last];
+    if store_idle(bytes, t, f, types, alike, paths, cells, path, hand, a) {
+        return p;
+    }
+    copy(roots, last, n);
+    if !act_store(
+        bytes,
+        t,
+        f,
+        types,
+        alike,
+        paths,
+        cells,
+        roots,
+        path,
+        above,
+        a,
+        v,
+    ) {
+        return filled();
+    }
+    copy(roots, n, last);
+    blame(l, p)
 }

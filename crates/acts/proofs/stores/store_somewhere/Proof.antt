@@ -6,9 +6,9 @@ use Rattle.acts.proofs.stores.store_somewhere.Statement.{statement}
 use Rattle.acts.proofs.stores.store_somewhere.Tie as tie
 use Rattle.acts.proofs.stores.store_somewhere.Reads as reads
 use Rattle.acts.proofs.stores.store_somewhere.Lts as lts
-use Rattle.acts.proofs.stores.ask_indexes.Reads as ask-indexes-reads
 use Rattle.asking.proofs.ask.ask_value.Reads as ask-value-reads
 use Rattle.hold.proofs.hold.copy.Reads as copy-reads
+use Rattle.operands.proofs.load.ask_indexes.Reads as ask-indexes-reads
 
 sub-last : tie.Need-sub-last
 sub-last c = search needs
