@@ -7,4 +7,3 @@ pub mod Takes
 pub mod Framed
 pub mod Kept
 pub mod Width
-pub mod Stands

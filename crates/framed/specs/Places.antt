@@ -35,8 +35,3 @@ pub record Placed (S : Scope) (q : Place) : Type 0 where
 pub record Landed (S : Scope) (p : Path) (x : TypeInner) : Type 0 where
   pub place : Placed S (target p)
   pub exact : indexes (p .steps) ≡ [] → SameShape (shapeAt (frame S) (target p)) (unfoldType (shapeOf S) x)
-
--- where the value of an expression stands, and of what shape that is
-pub record Stood (S : Scope) (e : ExpressionHandle) (q : Place) : Type 0 where
-  pub place : Placed S q
-  pub shape : SameShape (shapeAt (frame S) q) (shapeOf S (typeOf S e))
