@@ -24,7 +24,7 @@ use Rattle.sound.proofs.Asked.{asked}
 use Rattle.clearance.specs.Scope.{Scope}
 use Rattle.clearance.specs.Verdict.{Request, Report}
 use Rattle.clearance.specs.IsNeed.{AscendingRequest}
-use Rattle.checking.specs.Check.{unread, means, scopeOf, valueOf, askedBy, reportBy, meaningOf, meaningBy, onModule, meaning}
+use Rattle.checking.specs.Check.{unread, means, scopeOf, valueOf, askedBy, reportBy, cutShort, onBuffer, meaningOf, meaningBy, onModule, meaning}
 
 -- the request q and the context c are of the module m
 pub record Known (m : Module) (q : asks.Request) (c : RequiredContext) : Type 0 where
@@ -40,17 +40,19 @@ pub record Read (s request report context : List ℕ) (S : Scope) (R : Request) 
   pub asking-is : requestOf request ≡ some asking
   pub given-is : contextOf context ≡ some given
   pub known : Known program asking given
+  pub whole : cutShort program (asking .function) report ≡ false
   pub scope-is : S ≡ scopeOf program (asking .function)
   pub asked-is : R ≡ askedBy asking
   pub report-is : P ≡ reportBy program (asking .function) report given
 
 module _ (s request report context : List ℕ) (S : Scope) (R : Request) (P : Report) where
-  -- what the two tests of 11 say
-  chosen : (m : Module) (q : asks.Request) (c : RequiredContext) (a b : Bool) → file.readModule s ≡ file.accepted m → requestOf request ≡ some q → contextOf context ≡ some c →
+  -- what the two tests of 11 say, and that of the buffer
+  chosen : (m : Module) (q : asks.Request) (c : RequiredContext) (a b d : Bool) → file.readModule s ≡ file.accepted m → requestOf request ≡ some q → contextOf context ≡ some c →
       known (length (m .functions)) (length (m .globals)) q ≡ a →
       knownContext (length (m .globals)) (length (functionAt m (q .function) .arguments)) (length (functionAt m (q .function) .locals)) c ≡ b →
-      cond a (cond b (means (scopeOf m (q .function)) (askedBy q) (reportBy m (q .function) report c)) (unread 11)) (unread 11) ≡ means S R P → Read s request report context S R P
-  chosen m q c true true hm hq hc ha hb e =
+      cutShort m (q .function) report ≡ d →
+      cond a (cond b (cond d (unread 21) (means (scopeOf m (q .function)) (askedBy q) (reportBy m (q .function) report c))) (unread 11)) (unread 11) ≡ means S R P → Read s request report context S R P
+  chosen m q c true true false hm hq hc ha hb hd e =
       record {
         program = m;
         asking = q;
@@ -59,19 +61,21 @@ module _ (s request report context : List ℕ) (S : Scope) (R : Request) (P : Re
         asking-is = hq;
         given-is = hc;
         known = record { request = ha; context = hb };
+        whole = hd;
         scope-is = cc;
         asked-is = cc;
         report-is = cc;
       }
-  chosen m q c true false hm hq hc ha hb e = never cc
-  chosen m q c false b hm hq hc ha hb e = never cc
+  chosen m q c true true true hm hq hc ha hb hd e = never cc
+  chosen m q c true false d hm hq hc ha hb hd e = never cc
+  chosen m q c false b d hm hq hc ha hb hd e = never cc
 
   of-records : (m : Module) (x : Option asks.Request) (y : Option RequiredContext) → file.readModule s ≡ file.accepted m → requestOf request ≡ x → contextOf context ≡ y →
       meaningBy m report x y ≡ means S R P → Read s request report context S R P
-  unfolding meaningBy meaningOf
+  unfolding meaningBy meaningOf onBuffer
   of-records m nothing y hm hq hc e = never cc
   of-records m (some q) nothing hm hq hc e = never cc
-  of-records m (some q) (some c) hm hq hc e = chosen m q c _ _ hm hq hc refl refl e
+  of-records m (some q) (some c) hm hq hc e = chosen m q c _ _ _ hm hq hc refl refl refl e
 
   of-module : (x : file.Answer) → file.readModule s ≡ x → onModule x request report context ≡ means S R P → Read s request report context S R P
   unfolding onModule

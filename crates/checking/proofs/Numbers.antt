@@ -25,7 +25,7 @@ use Rattle.clearance.specs.Answered.{Reason, unshaped, expression, statement, d
 use Rattle.clearance.proofs.Reasons.{reasons}
 use Rattle.pass.specs.Checked.{checked}
 use Rattle.pass.proofs.Checked.{checked-is}
-use Rattle.checking.specs.Check.{Meaning, unread, means, scopeOf, askedBy, reportBy, meaningOf, meaningBy, onModule, meaning, answerTo, check}
+use Rattle.checking.specs.Check.{Meaning, unread, means, scopeOf, askedBy, reportBy, cutShort, onBuffer, meaningOf, meaningBy, onModule, meaning, answerTo, check}
 use Rattle.checking.specs.Word.{checkWord, Roomy, wordAnswer}
 use Rattle.checking.specs.Claims.{CheckedClaims}
 use Rattle.checking.proofs.Word.{word-answer}
@@ -69,21 +69,23 @@ within-roomy f (refused n) s e h = (h .0, omega (arith, h .1))
 module _ (s request report context : List ℕ) where
   -- a refusal before the clearance
   abbrev Few : Meaning → Type 0
-  Few (unread n) = (0 < n) × (n ≤ 12)
+  Few (unread n) = (0 < n) × (n ≤ 21)
   Few (means S R P) = Unit {0}
 
-  either-few : (a b : Bool) (S : Scope) (R : Request) (P : Report) → Few (cond a (cond b (means S R P) (unread 11)) (unread 11))
-  either-few true true S R P = tt
-  either-few true false S R P = (omega arith, omega arith)
-  either-few false b S R P = (omega arith, omega arith)
+  either-few : (a b d : Bool) (S : Scope) (R : Request) (P : Report) → Few (cond a (cond b (cond d (unread 21) (means S R P)) (unread 11)) (unread 11))
+  either-few true true true S R P = (omega arith, omega arith)
+  either-few true true false S R P = tt
+  either-few true false d S R P = (omega arith, omega arith)
+  either-few false b d S R P = (omega arith, omega arith)
 
   records-few : (m : Module) (x : Option asks.Request) (y : Option RequiredContext) → Few (meaningBy m report x y)
-  unfolding meaningBy meaningOf
+  unfolding meaningBy meaningOf onBuffer
   records-few m nothing y = (omega arith, omega arith)
   records-few m (some q) nothing = (omega arith, omega arith)
   records-few m (some q) (some c) =
       either-few (known (length (m .functions)) (length (m .globals)) q)
       (knownContext (length (m .globals)) (length (functionAt m (q .function) .arguments)) (length (functionAt m (q .function) .locals)) c)
+      (cutShort m (q .function) report)
       (scopeOf m (q .function)) (askedBy q) (reportBy m (q .function) report c)
 
   module-few : (x : file.Answer) → file.readModule s ≡ x → Few (onModule x request report context)

@@ -4,18 +4,19 @@ use native.Mathlib.Numerals.{add-one}
 use native.Mathlib.Omega.{arith}
 use native.Mathlib.Decide.{decLt}
 use mathlib.Core.Path.{_≡_, refl, sym, ap, _∙_}
-use mathlib.Core.Bool.{Bool, true, false, _&&_}
+use mathlib.Core.Bool.{Bool, true, false, not, _&&_}
 use mathlib.Core.List.{List, [], _∷_}
 use lib.Dec.{ltb, eqb}
 use lib.ListN.{length, getD, drop, length-drop}
 use lib.Seq.{drop-cons, drop-nil, take-nil, take-all}
-use borrow.Author.Tests.{lt-ltb, le-ltb, eq-eqb, ne-eqb}
+use borrow.Author.Tests.{lt-ltb, le-ltb, eq-eqb}
 use Rattle.module.specs.Tables.{functionOf, moduleOf}
 use Rattle.walk.specs.Marks.{stretch}
 use Rattle.marks.specs.Places.{slice, startOf}
 use Rattle.marks.proofs.Write.{slice-long}
 use Rattle.clearance.specs.Judged.{every}
 use Rattle.clearance.specs.Verdict.{hasShape}
+use Rattle.checking.specs.Check.{cutShort}
 use Rattle.checking.specs.Stretch.{There, marksIn, MarksFound}
 use Rattle.checking.proofs.Counting.{stretch-is}
 
@@ -98,7 +99,8 @@ module _ {bytes t : List ℕ} {f : ℕ} (h : There bytes t f) (report : List ℕ
   unfolding hasShape
   shape-is = rw (← own, part-long report start count from to a b, ← stretch-is h, ← n)
 
-  found : (fits : Bool) → fits ≡ hasShape (functionOf bytes t f) (marksIn bytes t f report) → MarksFound bytes t f report (record { from = from; to = to; fits = fits })
+  found : (fits : Bool) → fits ≡ not (cutShort (moduleOf bytes t) f report) && hasShape (functionOf bytes t f) (marksIn bytes t f report) →
+      MarksFound bytes t f report (record { from = from; to = to; fits = fits })
   found fits e =
       record {
         ascends = omega arith;
@@ -109,8 +111,14 @@ module _ {bytes t : List ℕ} {f : ℕ} (h : There bytes t f) (report : List ℕ
         to-is = λ l. omega arith;
       }
 
-  pub found-short : (to - from ≡ count → ⊥) → MarksFound bytes t f report (record { from = from; to = to; fits = false })
-  found-short d = found false (sym (shape-is ∙ rw (ne-eqb (to - from) count d)))
+  pub found-short : length report < start + count → MarksFound bytes t f report (record { from = from; to = to; fits = false })
+  unfolding cutShort
+  found-short d = found false (rw (← s, ← n, lt-ltb (length report) (start + count) d))
 
-  pub found-whole : (r : Bool) → to - from ≡ count → r ≡ every (λ b. ltb b 2) (slice report from (to - from)) → MarksFound bytes t f report (record { from = from; to = to; fits = r })
-  found-whole r d e = found r (e ∙ sym (shape-is ∙ rw (eq-eqb (to - from) count d)))
+  pub found-whole : (r : Bool) → start + count ≤ length report → r ≡ every (λ b. ltb b 2) (slice report from (to - from)) → MarksFound bytes t f report (record { from = from; to = to; fits = r })
+  found-whole r d e =
+      let z : to - from ≡ count = omega arith in
+      found r (e ∙ sym (shape-is ∙ rw (eq-eqb (to - from) count z)) ∙ sym (ap (λ (q : Bool). not q && hasShape (functionOf bytes t f) (marksIn bytes t f report)) not-cut))
+    where
+      not-cut : cutShort (moduleOf bytes t) f report ≡ false
+      not-cut = unfold cutShort in rw (← s, ← n, le-ltb (length report) (start + count) d)

@@ -1,9 +1,10 @@
 -- What checking a report answers, from bytes. Refusals come in 01's order: of the module (1 to 5), of the request and the context (12, then 11), and then those of the clearance.
 -- Nothing is written.
-use Prim.Native.Nat.{ℕ}
-use mathlib.Core.Bool.{cond}
+use Prim.Native.Nat.{ℕ, _+_}
+use mathlib.Core.Bool.{Bool, cond}
 use mathlib.Core.List.{List}
 use mathlib.Core.Option.{Option, some, none as nothing}
+use lib.Dec.{ltb}
 use lib.ListN.{length}
 use Rattle.part.specs.PartReq.{PartReq, none}
 use Rattle.module.specs.Module.{FunctionHandle, Module}
@@ -36,10 +37,18 @@ valueOf (some p) = p
 abbrev pub askedBy : asks.Request → Request
 askedBy q = record { globals = q .globals; value = valueOf (q .retval) }
 
--- The marks are the function's stretch of the buffer that has those of all functions. Of a buffer that ends before the stretch does they are fewer, so that they have not the
--- function's shape: 21. (A function that has no marks lacks none.)
+-- The marks are the function's stretch of the buffer that has those of all functions.
 abbrev pub reportBy : Module → FunctionHandle → (report : List ℕ) → RequiredContext → Report
 reportBy m f report c = record { marks = slice report (startOf m f) (stretch m f); globals = c .globals; args = c .args }
+
+-- whether the buffer ends before the function's stretch does
+unfoldable pub cutShort : Module → FunctionHandle → (report : List ℕ) → Bool
+cutShort m f report = ltb (length report) (startOf m f + stretch m f)
+
+-- 21, where the buffer ends too early, even for a function that has no marks; of other marks it is the clearance's first test
+unfoldable pub onBuffer : Module → (report : List ℕ) → asks.Request → RequiredContext → Meaning
+onBuffer m report q c =
+    cond (cutShort m (q .function) report) (unread 21) (means (scopeOf m (q .function)) (askedBy q) (reportBy m (q .function) report c))
 
 -- 11: no such function or global in the request, or no such global, argument or local of that function in the context
 unfoldable pub meaningOf : Module → (report : List ℕ) → asks.Request → RequiredContext → Meaning
@@ -47,7 +56,7 @@ meaningOf m report q c =
     let f = functionAt m (q .function) in
     cond (known (length (m .functions)) (length (m .globals)) q)
     (cond (knownContext (length (m .globals)) (length (f .arguments)) (length (f .locals)) c)
-    (means (scopeOf m (q .function)) (askedBy q) (reportBy m (q .function) report c)) (unread 11))
+    (onBuffer m report q c) (unread 11))
     (unread 11)
 
 -- 12: a malformed request or context

@@ -74,9 +74,10 @@ pub fn marks_shape(bytes: &[u8], t: &[u32], f: FunctionHandle, report: &[u8]) ->
 {
     let start = marks_start(bytes, t, f) as usize;
     let count = mark_total(bytes, t, f) as usize;
+    let end = start + count;
     let from = least(start, report.len());
-    let to = least(start + count, report.len());
-    if to - from != count {
+    let to = least(end, report.len());
+    if report.len() < end {
         return MarksAt {
             from: from,
             to: to,

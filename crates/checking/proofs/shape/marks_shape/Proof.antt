@@ -22,17 +22,14 @@ mark-total-requires c κs = search needs
 cast-count : tie.Need-cast-count
 cast-count c = search needs
 
+add-end : tie.Need-add-end
+add-end c = search needs
+
 least-requires : tie.Need-least-requires
 least-requires c κs = search needs
 
-add-least : tie.Need-add-least
-add-least c = search needs
-
 least-requires-2 : tie.Need-least-requires-2
 least-requires-2 c κs = search needs
-
-sub-if1 : tie.Need-sub-if1
-sub-if1 c = search needs
 
 returns : tie.Need-returns
 returns c = found-short (c .before .before .before .before .before .before .before .before .pre) (c .before .before .before .before .before .before .before .before .args .report .now) (c .before .before .before .before .marks-start .ensures) (c .before .before .before .mark-total .ensures) (c .before .before .least .ensures) (c .before .least2 .ensures) (c .if1 .taken)
@@ -60,10 +57,9 @@ marks-shape-spec =
     cast-start
     mark-total-requires
     cast-count
+    add-end
     least-requires
-    add-least
     least-requires-2
-    sub-if1
     returns
     sub-are-bits
     part-are-bits-start
