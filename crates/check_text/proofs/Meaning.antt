@@ -1,6 +1,7 @@
 -- What is checked of a walk that was reported: no record is refused, and its marks and context are what the definition judges.
-use Prim.Native.Nat.{ℕ, _+_, _≤_}
+use Prim.Native.Nat.{ℕ, _+_, _-_}
 use native.Mathlib.Omega.{arith}
+use native.Mathlib.Nat.{sub-zero}
 use mathlib.Core.Path.{_≡_, refl, sym, ap, _∙_}
 use mathlib.Core.Bool.{Bool, true, false, cond}
 use mathlib.Core.List.{List}
@@ -76,8 +77,9 @@ module _ {bytes t s rs open-marks request : List ℕ} {k : ℕ} (J : Judging byt
     unfolding check meaning onModule
     same-check = rw (J .was-read .module-is)
 
-    pub checks : {word : ℕ} → word ≡ checkWord found → Checks bytes t s rs open-marks k request word
+    -- by a front of the buffer
+    pub checks : {word : ℕ} → word ≡ checkWord (answerTo (meaningBy m open-marks (requestOf request) (contextOf (take (n - 0) out)))) → Checks bytes t s rs open-marks k request word
     checks e = record {
-      numbered = record { answer = found; roomy = rw same-check at (check-roomy bytes request open-marks (take n out)); is = e };
+      numbered = record { answer = found; roomy = rw same-check at (check-roomy bytes request open-marks (take n out)); is = rw (sub-zero n) at e };
       is = λ q read required. let same : J .q ≡ q = cc in rw same at (means required);
     }

@@ -6,7 +6,7 @@ use mathlib.Core.List.{List, [], _∷_, _++_}
 use lib.ListN.{length, length-append}
 use borrow.Author.Tests.{lt-ltb, le-ltb}
 use Rattle.lines.specs.Text.{number, exprWord, stmtWord, refusedWord}
-use Rattle.lines.specs.Wrote.{longest, Wrote}
+use Rattle.lines.specs.Wrote.{longest, Fits, Wrote}
 use Rattle.lines.proofs.Writing.{texts, Rooms, wrote-then, wrote-as}
 use Rattle.lines.proofs.Long.{ten-long}
 use Rattle.clearance.specs.Verdict.{Answer, clear, atStatement, atStart, unjudgedExpression, unjudgedStatement, refused}
@@ -53,6 +53,14 @@ past-start (refused n) h l = omega (arith, h .0)
 
 pub names-something : {w : ℕ} → Numbered w → 2 ≤ w → 131072 ≤ w
 names-something {w} N l = rw (N .is) (past-start (N .answer) (N .roomy) (rw (N .is) at l))
+
+-- a name and a number
+module _ (name : List ℕ) (n : ℕ) {at : ℕ} (F : Fits at (name ++ number n)) where
+  pub named-first : Fits at name
+  named-first = record { room = omega (arith, length-append name (number n), F .room) }
+
+  pub named-next : {xs ys : List ℕ} {next : ℕ} → Wrote xs ys at name next → Fits next (number n)
+  named-next W = record { room = omega (arith, length-append name (number n), F .room, W .behind) }
 
 -- how long it is
 named-long : (word : List ℕ) (n : ℕ) → n < longest → length (word ++ number n) ≤ length word + 10
