@@ -2,12 +2,12 @@
 use context::remove::TYPE_WORDS;
 use crate::record::MAX_RECORD;
 use crate::record::write_record;
-use crate::stub::check_read;
 use field::limits::MAX_EXPRESSIONS;
 use field::limits::MAX_STATEMENTS;
 use field::limits::MAX_TYPES;
 use memory::layout::CELLS;
 use memory::layout::SLOTS;
+use verdict::verdict::check_read;
 ghost use mathlib.Core.Path.{_≡_};
 ghost use Rattle.module.specs.Tables.{moduleOf};
 ghost use Rattle.request.specs.Request.{requestOf};

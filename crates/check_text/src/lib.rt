@@ -2,4 +2,3 @@
 pub mod check;
 pub mod line;
 pub mod record;
-pub mod stub;
