@@ -1,0 +1,185 @@
+-- Round by round: what is left of the rounds is the whole, for the table that both tables' slots mean.
+use Prim.Native.Nat.{ℕ, zero, suc, _+_, _-_, _*_, _<_, _≤_}
+use native.Mathlib.Omega.{arith}
+use native.Mathlib.Decide.{decLt, ℕ-discrete}
+use mathlib.Core.Path.{_≡_, refl, sym, ap, _∙_}
+use mathlib.Core.Bool.{Bool, true, false, cond}
+use mathlib.Core.List.{List, []}
+use mathlib.Core.Option.{Option, some, none as nothing}
+use lib.ListN.{length, getD}
+use Rattle.part.specs.PartReq.{PartReq}
+use Rattle.part.specs.Store.{top, part, Good}
+use Rattle.module.specs.Tables.{functionOf}
+use Rattle.context.specs.RequiredContext.{RequiredContext}
+use Rattle.request.specs.Context.{contextOf}
+use Rattle.clearance.specs.Scope.{Scope}
+use Rattle.clearance.specs.Tree.{Tree, bodyTree}
+use Rattle.clearance.specs.Needs.{Exit, next, Setting, Table, reentry}
+use Rattle.clearance.specs.Verdict.{Request, setting, ending}
+use Rattle.framed.specs.Kept.{Kept}
+use Rattle.pass.specs.Pass.{Carried, Passed, on, full}
+use Rattle.pass.specs.Checked.{passOnce, settledBy, settleWithin, maxRounds, lastPass, answerOf}
+use Rattle.judge.specs.Given.{scopeAt}
+use Rattle.hold.specs.Hold.{inSlot, Live}
+use Rattle.standing.specs.Slots.{tableSize, askedSlot, endSlot, stackSlot, Beside, Ready}
+use Rattle.standing.specs.Standing.{Carries, TableIn, Went, Keeps}
+use Rattle.standing.specs.declared.passing.Passing.{Passing}
+use Rattle.standing.proofs.Aside.{beside-high, beside-low}
+use Rattle.checking.specs.Word.{checkWord}
+use Rattle.rounds.specs.Settling.{Settling, Settled, askedBy, reported}
+use Rattle.rounds.specs.Rounds.{Between, Asked, Begins, Rounding, Rounded, Renewed, Answers}
+
+-- `left` rounds are left, and their outcome is that of all
+pub record Turn (S : Scope) (R : Request) (a : Tree) (left : ℕ) (s rs : List ℕ) : Type 0 where
+  pub table : Table
+  pub between : Between S R table s rs
+  pub rest : settleWithin (setting S R) a (ending S R) left table ≡ settleWithin (setting S R) a (ending S R) maxRounds []
+
+pub turn-first : {S : Scope} {R : Request} (a : Tree) {s rs t us : List ℕ} → Begins S R s rs t us → Turn S R a maxRounds t us
+turn-first a b = record { table = []; between = b .between; rest = refl }
+
+settle-more : (W : Setting) (a : Tree) (k : Exit → PartReq) (n : ℕ) (o : Table) → 0 < n → settleWithin W a k n o ≡ settledBy (passOnce W a k o) (settleWithin W a k (n - 1))
+unfolding settleWithin
+settle-more W a k zero o h = absurd (omega arith)
+settle-more W a k (suc n) o h = let e : suc n - 1 ≡ n = omega arith in rw e
+
+settle-none : (W : Setting) (a : Tree) (k : Exit → PartReq) (n : ℕ) (o : Table) → n ≤ 0 → settleWithin W a k n o ≡ nothing
+unfolding settleWithin
+settle-none W a k zero o h = refl
+settle-none W a k (suc n) o h = absurd (omega arith)
+
+held-settles : (c : Carried) (m : PartReq) (again : Table → Option Passed) → c .held ≡ true → settledBy (on c m) again ≡ some (on c m)
+unfolding settledBy
+held-settles c m again h = rw h
+
+turns-on : (c : Carried) (m : PartReq) (again : Table → Option Passed) → c .held ≡ false → settledBy (on c m) again ≡ again (c .table)
+unfolding settledBy
+turns-on c m again h = rw h
+
+full-settles : (again : Table → Option Passed) → settledBy full again ≡ some full
+unfolding settledBy
+full-settles again = refl
+
+-- what the last pass came to
+pub record Last (S : Scope) (R : Request) (a : Tree) (t us : List ℕ) (q : Passing) : Type 0 where
+  pub carried : Carried
+  pub carries : Carries q carried
+  pub is : settleWithin (setting S R) a (ending S R) maxRounds [] ≡ some (on carried (inSlot t us stackSlot))
+
+record Source (us ws : List ℕ) (j : ℕ) : Type 0 where
+  at : ℕ
+  low : at < stackSlot + 1
+  apart : (j ≡ askedSlot → ⊥) → at ≡ askedSlot → ⊥
+  is : getD ws j 0 ≡ getD us at 0
+
+-- the new table was copied, and the needs at the end are at hand again
+module _ {S : Scope} {R : Request} {o : Table} {s rs t us ws : List ℕ} (b : Between S R o s rs) (d : Ready S t us (stackSlot + 1)) (k : Keeps s rs t us (stackSlot + 1)) (w : Renewed us ws) where
+  old-is : (j : ℕ) → j < tableSize → inSlot t ws j ≡ inSlot t us (tableSize + j)
+  old-is j l = ap (part t) (w .old j l)
+
+  other-is : (j : ℕ) → tableSize ≤ j → j < stackSlot → inSlot t ws j ≡ inSlot t us j
+  other-is j l h = ap (part t) (w .others j l h)
+
+  hand-is : inSlot t ws stackSlot ≡ inSlot t us endSlot
+  hand-is = ap (part t) (w .hand)
+
+  end-is : inSlot t us endSlot ≡ ending S R next
+  end-is = k .is endSlot (omega arith) (beside-high endSlot (omega arith)) ∙ b .end
+
+  asked-is : inSlot t ws askedSlot ≡ inSlot t us askedSlot
+  asked-is = other-is askedSlot (omega arith) (omega arith)
+
+  -- each slot has what some slot had, and only the asked part's has that
+  source : (j : ℕ) → j < stackSlot + 1 → Source us ws j
+  source j l =
+      elim (decLt j tableSize) [
+        | yes a ↦ record { at = tableSize + j; low = omega arith; apart = λ h e. omega arith; is = w .old j a }
+        | no a ↦
+            elim (ℕ-discrete j stackSlot) [
+              | yes e ↦ record { at = endSlot; low = omega arith; apart = λ h i. omega arith; is = rw e (w .hand) }
+              | no e ↦ record { at = j; low = l; apart = λ h. h; is = w .others j (omega arith) (omega arith) }
+            ]
+      ]
+
+  renewed-ready : Ready S t ws (stackSlot + 1)
+  renewed-ready = record {
+    live = record {
+      loose = record {
+        good = d .live .loose .good;
+        few = omega (arith, d .live .loose .few, w .long);
+        pieces = λ j l. let f = source j l in rw (f .is) (d .live .loose .pieces (f .at) (f .low));
+        long = d .live .loose .long;
+      };
+      slim = d .live .slim;
+    };
+    high = omega arith;
+    needs = λ j l h. let f = source j l in rw (f .is) (d .needs (f .at) (f .low) (f .apart h));
+    asked = rw asked-is (d .asked);
+  }
+
+  renewed : {c : Carried} → TableIn t us c → Between S R (c .table) t ws
+  renewed n = record {
+    ready = renewed-ready;
+    value = asked-is ∙ k .is askedSlot (omega arith) (beside-high askedSlot (omega arith)) ∙ b .value;
+    end = other-is endSlot (omega arith) (omega arith) ∙ end-is;
+    hand = hand-is ∙ end-is;
+    old = λ j l. old-is j l ∙ n .is j l;
+    new = λ j l. other-is (tableSize + j) (omega arith) (omega arith) ∙ n .is j l;
+    short = n .short;
+  }
+
+-- one round
+module _ {S : Scope} {R : Request} {a : Tree} {left : ℕ} {s rs t us before after : List ℕ} {q : Passing} (u : Turn S R a left s rs) (more : 0 < left) (w : Rounded S a s rs t us before after q) where
+  step : settleWithin (setting S R) a (ending S R) maxRounds [] ≡ settledBy (passOnce (setting S R) a (ending S R) (u .table)) (settleWithin (setting S R) a (ending S R) (left - 1))
+  step = sym (u .rest) ∙ settle-more (setting S R) a (ending S R) left (u .table) more
+
+  step-by : {p : Passed} → passOnce (setting S R) a (ending S R) (u .table) ≡ p →
+      settleWithin (setting S R) a (ending S R) maxRounds [] ≡ settledBy p (settleWithin (setting S R) a (ending S R) (left - 1))
+  step-by e = step ∙ ap (λ p. settledBy p (settleWithin (setting S R) a (ending S R) (left - 1))) e
+
+  pub turn-full : q .full ≡ true → settleWithin (setting S R) a (ending S R) maxRounds [] ≡ some full
+  turn-full h = step-by (w .is R (u .table) (u .between) .full h) ∙ full-settles (settleWithin (setting S R) a (ending S R) (left - 1))
+
+  module _ (on-it : q .full ≡ false) where
+    went : Went (passOnce (setting S R) a (ending S R) (u .table)) t us (stackSlot + 1) q
+    went = w .is R (u .table) (u .between) .on on-it
+
+    pub turn-last : q .held ≡ true → Last S R a t us q
+    turn-last h = record {
+      carried = went .carried;
+      carries = went .carries;
+      is =
+          step-by (went .is)
+          ∙ held-settles (went .carried) (inSlot t us stackSlot) (settleWithin (setting S R) a (ending S R) (left - 1)) (sym (went .carries .held) ∙ h);
+    }
+
+    pub turn-again : q .held ≡ false → {ws : List ℕ} → Renewed us ws → Turn S R a (left - 1) t ws
+    turn-again h n = record {
+      table = went .carried .table;
+      between = renewed (u .between) (w .ready on-it) (w .kept on-it) n (went .new);
+      rest =
+          sym
+          (step-by (went .is)
+          ∙ turns-on (went .carried) (inSlot t us stackSlot) (settleWithin (setting S R) a (ending S R) (left - 1)) (sym (went .carries .held) ∙ h));
+    }
+
+pub turn-none : {S : Scope} {R : Request} {a : Tree} {left : ℕ} {s rs : List ℕ} → Turn S R a left s rs → left ≤ 0 → settleWithin (setting S R) a (ending S R) maxRounds [] ≡ nothing
+turn-none {S} {R} {a} {left} u h = sym (u .rest) ∙ settle-none (setting S R) a (ending S R) left (u .table) h
+
+-- the answer's number by the last pass's outcome
+module _ {S : Scope} {R : Request} {marks : List ℕ} (context : List ℕ) where
+  settled-by : {o : Option Passed} {r : ℕ} → settleWithin (setting S R) (bodyTree (S .function) marks) (ending S R) maxRounds [] ≡ o →
+      ((c : RequiredContext) → contextOf context ≡ some c → r ≡ checkWord (answerOf (reported marks c) o)) → Settled S R marks context r
+  unfolding lastPass
+  settled-by e h = record { is = λ c z. h c z ∙ ap (λ o. checkWord (answerOf (reported marks c) o)) (sym e) }
+
+  pub settled-full : settleWithin (setting S R) (bodyTree (S .function) marks) (ending S R) maxRounds [] ≡ some full → Settled S R marks context (26 * 4294967296)
+  unfolding answerOf checkWord
+  settled-full e = settled-by e (λ c z. refl)
+
+  pub settled-past : settleWithin (setting S R) (bodyTree (S .function) marks) (ending S R) maxRounds [] ≡ nothing → Settled S R marks context (26 * 4294967296)
+  unfolding answerOf checkWord
+  settled-past e = settled-by e (λ c z. refl)
+
+  pub settled-last : {t us : List ℕ} {q : Passing} {r : ℕ} → Last S R (bodyTree (S .function) marks) t us q → Answers t (getD us stackSlot 0) q context r → Settled S R marks context r
+  settled-last l a = settled-by (l .is) (λ c z. a .is c marks (l .carried) z (l .carries))

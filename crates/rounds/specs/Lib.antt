@@ -1,0 +1,3 @@
+pub mod Settling
+pub mod Rounds
+pub mod Course
