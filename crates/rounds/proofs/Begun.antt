@@ -62,6 +62,14 @@ laid-is {rs} {us} v e h c =
       hand = getD-set-same (set (set us askedSlot v) endSlot e) stackSlot e 0 (omega (arith, c .long));
     }
 
+-- the slots that are set are there
+module _ {rs us : List ℕ} (h : stackSlot < length rs) (c : Cleared rs us) (v e : ℕ) where
+  pub end-there : endSlot < length (set us askedSlot v)
+  end-there = omega (arith, c .long, length-set us askedSlot v)
+
+  pub hand-there : stackSlot < length (set (set us askedSlot v) endSlot e)
+  hand-there = omega (arith, c .long, length-set us askedSlot v, length-set (set us askedSlot v) endSlot e)
+
 -- by the slot's use
 by-slot : (P : ℕ → Type 0) → ((j : ℕ) → j < askedSlot → P j) → P askedSlot → P endSlot → P stackSlot → (j : ℕ) → j < stackSlot + 1 → P j
 by-slot P low asked end hand j l =

@@ -27,16 +27,13 @@ use Rattle.standing.specs.declared.passing.Passing.{Passing}
 use Rattle.standing.proofs.Aside.{beside-high, beside-low}
 use Rattle.checking.specs.Word.{checkWord}
 use Rattle.rounds.specs.Settling.{Settling, Settled, askedBy, reported}
-use Rattle.rounds.specs.Rounds.{Between, Asked, Begins, Rounding, Rounded, Renewed, Answers}
+use Rattle.rounds.specs.Rounds.{Between, Asked, Begins, Rounding, Rounded, Renewed, Answers, Settles}
 
 -- `left` rounds are left, and their outcome is that of all
 pub record Turn (S : Scope) (R : Request) (a : Tree) (left : ℕ) (s rs : List ℕ) : Type 0 where
   pub table : Table
   pub between : Between S R table s rs
   pub rest : settleWithin (setting S R) a (ending S R) left table ≡ settleWithin (setting S R) a (ending S R) maxRounds []
-
-pub turn-first : {S : Scope} {R : Request} (a : Tree) {s rs t us : List ℕ} → Begins S R s rs t us → Turn S R a maxRounds t us
-turn-first a b = record { table = []; between = b .between; rest = refl }
 
 settle-more : (W : Setting) (a : Tree) (k : Exit → PartReq) (n : ℕ) (o : Table) → 0 < n → settleWithin W a k n o ≡ settledBy (passOnce W a k o) (settleWithin W a k (n - 1))
 unfolding settleWithin
@@ -61,10 +58,10 @@ unfolding settledBy
 full-settles again = refl
 
 -- what the last pass came to
-pub record Last (S : Scope) (R : Request) (a : Tree) (t us : List ℕ) (q : Passing) : Type 0 where
-  pub carried : Carried
-  pub carries : Carries q carried
-  pub is : settleWithin (setting S R) a (ending S R) maxRounds [] ≡ some (on carried (inSlot t us stackSlot))
+record Last (S : Scope) (R : Request) (a : Tree) (t us : List ℕ) (q : Passing) : Type 0 where
+  carried : Carried
+  carries : Carries q carried
+  is : settleWithin (setting S R) a (ending S R) maxRounds [] ≡ some (on carried (inSlot t us stackSlot))
 
 record Source (us ws : List ℕ) (j : ℕ) : Type 0 where
   at : ℕ
@@ -73,7 +70,7 @@ record Source (us ws : List ℕ) (j : ℕ) : Type 0 where
   is : getD ws j 0 ≡ getD us at 0
 
 -- the new table was copied, and the needs at the end are at hand again
-module _ {S : Scope} {R : Request} {o : Table} {s rs t us ws : List ℕ} (b : Between S R o s rs) (d : Ready S t us (stackSlot + 1)) (k : Keeps s rs t us (stackSlot + 1)) (w : Renewed us ws) where
+module _ {S : Scope} {t us ws : List ℕ} (d : Ready S t us (stackSlot + 1)) (w : Renewed us ws) where
   old-is : (j : ℕ) → j < tableSize → inSlot t ws j ≡ inSlot t us (tableSize + j)
   old-is j l = ap (part t) (w .old j l)
 
@@ -82,9 +79,6 @@ module _ {S : Scope} {R : Request} {o : Table} {s rs t us ws : List ℕ} (b : Be
 
   hand-is : inSlot t ws stackSlot ≡ inSlot t us endSlot
   hand-is = ap (part t) (w .hand)
-
-  end-is : inSlot t us endSlot ≡ ending S R next
-  end-is = k .is endSlot (omega arith) (beside-high endSlot (omega arith)) ∙ b .end
 
   asked-is : inSlot t ws askedSlot ≡ inSlot t us askedSlot
   asked-is = other-is askedSlot (omega arith) (omega arith)
@@ -117,16 +111,18 @@ module _ {S : Scope} {R : Request} {o : Table} {s rs t us ws : List ℕ} (b : Be
     asked = rw asked-is (d .asked);
   }
 
-  renewed : {c : Carried} → TableIn t us c → Between S R (c .table) t ws
-  renewed n = record {
-    ready = renewed-ready;
-    value = asked-is ∙ k .is askedSlot (omega arith) (beside-high askedSlot (omega arith)) ∙ b .value;
-    end = other-is endSlot (omega arith) (omega arith) ∙ end-is;
-    hand = hand-is ∙ end-is;
-    old = λ j l. old-is j l ∙ n .is j l;
-    new = λ j l. other-is (tableSize + j) (omega arith) (omega arith) ∙ n .is j l;
-    short = n .short;
-  }
+  renewed : {R : Request} {o : Table} {s rs : List ℕ} → Between S R o s rs → Keeps s rs t us (stackSlot + 1) → {c : Carried} → TableIn t us c → Between S R (c .table) t ws
+  renewed b k n =
+      let end = k .is endSlot (omega arith) (beside-high endSlot (omega arith)) ∙ b .end in
+      record {
+        ready = renewed-ready;
+        value = asked-is ∙ k .is askedSlot (omega arith) (beside-high askedSlot (omega arith)) ∙ b .value;
+        end = other-is endSlot (omega arith) (omega arith) ∙ end;
+        hand = hand-is ∙ end;
+        old = λ j l. old-is j l ∙ n .is j l;
+        new = λ j l. other-is (tableSize + j) (omega arith) (omega arith) ∙ n .is j l;
+        short = n .short;
+      }
 
 -- one round
 module _ {S : Scope} {R : Request} {a : Tree} {left : ℕ} {s rs t us before after : List ℕ} {q : Passing} (u : Turn S R a left s rs) (more : 0 < left) (w : Rounded S a s rs t us before after q) where
@@ -137,14 +133,14 @@ module _ {S : Scope} {R : Request} {a : Tree} {left : ℕ} {s rs t us before aft
       settleWithin (setting S R) a (ending S R) maxRounds [] ≡ settledBy p (settleWithin (setting S R) a (ending S R) (left - 1))
   step-by e = step ∙ ap (λ p. settledBy p (settleWithin (setting S R) a (ending S R) (left - 1))) e
 
-  pub turn-full : q .full ≡ true → settleWithin (setting S R) a (ending S R) maxRounds [] ≡ some full
+  turn-full : q .full ≡ true → settleWithin (setting S R) a (ending S R) maxRounds [] ≡ some full
   turn-full h = step-by (w .is R (u .table) (u .between) .full h) ∙ full-settles (settleWithin (setting S R) a (ending S R) (left - 1))
 
   module _ (on-it : q .full ≡ false) where
     went : Went (passOnce (setting S R) a (ending S R) (u .table)) t us (stackSlot + 1) q
     went = w .is R (u .table) (u .between) .on on-it
 
-    pub turn-last : q .held ≡ true → Last S R a t us q
+    turn-last : q .held ≡ true → Last S R a t us q
     turn-last h = record {
       carried = went .carried;
       carries = went .carries;
@@ -153,17 +149,17 @@ module _ {S : Scope} {R : Request} {a : Tree} {left : ℕ} {s rs t us before aft
           ∙ held-settles (went .carried) (inSlot t us stackSlot) (settleWithin (setting S R) a (ending S R) (left - 1)) (sym (went .carries .held) ∙ h);
     }
 
-    pub turn-again : q .held ≡ false → {ws : List ℕ} → Renewed us ws → Turn S R a (left - 1) t ws
+    turn-again : q .held ≡ false → {ws : List ℕ} → Renewed us ws → Turn S R a (left - 1) t ws
     turn-again h n = record {
       table = went .carried .table;
-      between = renewed (u .between) (w .ready on-it) (w .kept on-it) n (went .new);
+      between = renewed (w .ready on-it) n (u .between) (w .kept on-it) (went .new);
       rest =
           sym
           (step-by (went .is)
           ∙ turns-on (went .carried) (inSlot t us stackSlot) (settleWithin (setting S R) a (ending S R) (left - 1)) (sym (went .carries .held) ∙ h));
     }
 
-pub turn-none : {S : Scope} {R : Request} {a : Tree} {left : ℕ} {s rs : List ℕ} → Turn S R a left s rs → left ≤ 0 → settleWithin (setting S R) a (ending S R) maxRounds [] ≡ nothing
+turn-none : {S : Scope} {R : Request} {a : Tree} {left : ℕ} {s rs : List ℕ} → Turn S R a left s rs → left ≤ 0 → settleWithin (setting S R) a (ending S R) maxRounds [] ≡ nothing
 turn-none {S} {R} {a} {left} u h = sym (u .rest) ∙ settle-none (setting S R) a (ending S R) left (u .table) h
 
 -- the answer's number by the last pass's outcome
@@ -173,13 +169,58 @@ module _ {S : Scope} {R : Request} {marks : List ℕ} (context : List ℕ) where
   unfolding lastPass
   settled-by e h = record { is = λ c z. h c z ∙ ap (λ o. checkWord (answerOf (reported marks c) o)) (sym e) }
 
-  pub settled-full : settleWithin (setting S R) (bodyTree (S .function) marks) (ending S R) maxRounds [] ≡ some full → Settled S R marks context (26 * 4294967296)
+  settled-full : settleWithin (setting S R) (bodyTree (S .function) marks) (ending S R) maxRounds [] ≡ some full → Settled S R marks context (26 * 4294967296)
   unfolding answerOf checkWord
   settled-full e = settled-by e (λ c z. refl)
 
-  pub settled-past : settleWithin (setting S R) (bodyTree (S .function) marks) (ending S R) maxRounds [] ≡ nothing → Settled S R marks context (26 * 4294967296)
+  settled-past : settleWithin (setting S R) (bodyTree (S .function) marks) (ending S R) maxRounds [] ≡ nothing → Settled S R marks context (26 * 4294967296)
   unfolding answerOf checkWord
   settled-past e = settled-by e (λ c z. refl)
 
-  pub settled-last : {t us : List ℕ} {q : Passing} {r : ℕ} → Last S R (bodyTree (S .function) marks) t us q → Answers t (getD us stackSlot 0) q context r → Settled S R marks context r
+  settled-last : {t us : List ℕ} {q : Passing} {r : ℕ} → Last S R (bodyTree (S .function) marks) t us q → Answers t (getD us stackSlot 0) q context r → Settled S R marks context r
   settled-last l a = settled-by (l .is) (λ c z. a .is c marks (l .carried) z (l .carries))
+
+-- The loop's invariant: of s₀, rs₀, whatever was asked, so many rounds are left.
+pub record Turning (S : Scope) (a : Tree) (s₀ rs₀ : List ℕ) (left : ℕ) (s rs : List ℕ) : Type 0 where
+  pub ready : Ready S s rs (stackSlot + 1)
+  pub turn : (R : Request) → Between S R [] s₀ rs₀ → Turn S R a left s rs
+
+pub turning-first : {S : Scope} {a : Tree} {s rs : List ℕ} → Ready S s rs (stackSlot + 1) → Turning S a s rs maxRounds s rs
+turning-first d = record { ready = d; turn = λ R b. record { table = []; between = b; rest = refl } }
+
+module _ {S : Scope} (marks : List ℕ) {s₀ rs₀ : List ℕ} {left : ℕ} {s rs : List ℕ} (u : Turning S (bodyTree (S .function) marks) s₀ rs₀ left s rs) where
+  -- no round is left
+  pub turning-none : (context : List ℕ) → left ≤ 0 → Settles S marks context s₀ rs₀ (26 * 4294967296)
+  turning-none context h = record { is = λ R b. settled-past context (turn-none (u .turn R b) h) }
+
+  module _ (more : 0 < left) {t us before after : List ℕ} {q : Passing} (w : Rounded S (bodyTree (S .function) marks) s rs t us before after q) where
+    pub turning-full : (context : List ℕ) → q .full ≡ true → Settles S marks context s₀ rs₀ (26 * 4294967296)
+    turning-full context h = record { is = λ R b. settled-full context (turn-full (u .turn R b) more w h) }
+
+    pub turning-last : (context : List ℕ) → q .full ≡ false → q .held ≡ true → {r : ℕ} → Answers t (getD us stackSlot 0) q context r → Settles S marks context s₀ rs₀ r
+    turning-last context g h a = record { is = λ R b. settled-last context (turn-last (u .turn R b) more w g h) a }
+
+    pub turning-again : q .full ≡ false → q .held ≡ false → {ws : List ℕ} → Renewed us ws → Turning S (bodyTree (S .function) marks) s₀ rs₀ (left - 1) t ws
+    turning-again g h n = record { ready = renewed-ready (w .ready g) n; turn = λ R b. turn-again (u .turn R b) more w g h n }
+
+-- what the calls ask
+module _ {bytes t : List ℕ} {f : ℕ} {types alike paths firsts s rs path : List ℕ} {g v : ℕ} (G : Settling bytes t f types alike paths firsts s rs path g v) where
+  pub begin-asks : Asked bytes t types s rs g v
+  begin-asks = record {
+    same = G .world .given .values .same;
+    lower = G .world .given .shapes .lower;
+    good = G .good;
+    there = G .there;
+    long = G .long;
+    slim = G .slim;
+    slots = omega (arith, G .slots);
+    listed = G .listed;
+    ascends = G .ascends;
+  }
+
+  pub rounds-asks : {R : Request} {u us : List ℕ} → Begins (scopeAt bytes t f) R s rs u us → Rounding bytes t f types alike paths firsts u us path
+  rounds-asks b = record { world = G .world; begins = G .begins; ready = b .between .ready; slots = omega (arith, G .slots, b .slots); path-long = G .path-long }
+
+pub round-asks : {bytes t : List ℕ} {f : ℕ} {types alike paths firsts s₀ rs₀ path₀ s rs path : List ℕ} → Rounding bytes t f types alike paths firsts s₀ rs₀ path₀ →
+    Ready (scopeAt bytes t f) s rs (stackSlot + 1) → length rs ≡ length rs₀ → length path ≡ length path₀ → Rounding bytes t f types alike paths firsts s rs path
+round-asks g d l m = record { world = g .world; begins = g .begins; ready = d; slots = omega (arith, g .slots); path-long = omega (arith, g .path-long) }

@@ -28,7 +28,7 @@ use Rattle.standing.specs.World.{World}
 use Rattle.standing.specs.declared.passing.Passing.{Passing}
 use Rattle.checking.specs.Stretch.{Firsts}
 use Rattle.checking.specs.Word.{checkWord}
-use Rattle.rounds.specs.Settling.{askedBy, reported}
+use Rattle.rounds.specs.Settling.{Settled, askedBy, reported}
 
 -- Both tables' slots mean the table o, and the needs at hand are those at the function's end.
 pub record Between (S : Scope) (R : Request) (o : Table) (s rs : List ℕ) : Type 0 where
@@ -92,3 +92,7 @@ pub record Renewed (rs us : List ℕ) : Type 0 where
 pub record Answers (s : List ℕ) (n : ℕ) (q : Passing) (context : List ℕ) (r : ℕ) : Type 0 where
   pub is : (c : RequiredContext) (marks : List ℕ) (d : Carried) → contextOf context ≡ some c → Carries q d →
       r ≡ checkWord (answerOf (reported marks c) (some (on d (part s n))))
+
+-- r is the answer's number, whatever was asked
+pub record Settles (S : Scope) (marks context s rs : List ℕ) (r : ℕ) : Type 0 where
+  pub is : (R : Request) → Between S R [] s rs → Settled S R marks context r

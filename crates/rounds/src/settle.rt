@@ -6,7 +6,7 @@ ghost use Rattle.module.specs.Tables.{functionOf};
 ghost use Rattle.clearance.specs.Tree.{bodyTree};
 ghost use Rattle.judge.specs.Given.{scopeAt};
 ghost use Rattle.rounds.specs.Settling.{Settling, Settled, askedBy};
-ghost use Rattle.rounds.specs.Rounds.{Rounding, Rounded, Answers};
+ghost use Rattle.rounds.specs.Rounds.{Rounding, Rounded, Answers, Settles};
 use crate::around::pass_around;
 use crate::begin::begin;
 use crate::begin::renew;
@@ -85,6 +85,42 @@ fn answer(cells: &[u32], n: u32, q: Passing, context: &[u8]) -> u64
     START
 }
 
+// Rounds until each loop's needs hold; past the most of them the answer is 26.
+fn settle_rounds(
+    bytes: &[u8],
+    t: &[u32],
+    f: FunctionHandle,
+    types: &[u32],
+    alike: &[u32],
+    paths: &[u32],
+    marks: &[u8],
+    firsts: &[u32],
+    cells: &mut [u32],
+    roots: &mut [u32],
+    path: &mut [u32],
+    context: &[u8],
+) -> u64
+    requires { ⌜ Rounding (now bytes) (now t) (f .0) (now types) (now alike) (now paths) (now firsts) (now cells) (now roots) (now path) ⌝ }
+    ensures { λ r. ⌜ Settles (scopeAt (now (bytes .entry)) (now (t .entry)) (f .0)) (now (marks .entry)) (now (context .entry)) (now (cells .entry)) (now (roots .entry)) r ⌝ }
+{
+    let mut left = ROUNDS;
+    while 0 < left {
+        let q = round(
+            bytes, t, f, types, alike, paths, marks, firsts, cells, roots, path,
+        );
+        if q.full {
+            return 26 * REFUSAL;
+        }
+        if q.held {
+            return answer(cells, roots[STACK], q, context);
+        }
+        renew(roots);
+        left -= 1;
+    }
+    26 * REFUSAL
+}
+
+// The answer's number, of a judged function and what is asked of it.
 pub fn settle(
     bytes: &[u8],
     t: &[u32],
@@ -105,19 +141,7 @@ pub fn settle(
     ensures { λ r. ⌜ Settled (scopeAt (now (bytes .entry)) (now (t .entry)) (f .0)) (askedBy (now (cells .entry)) globals value) (now (marks .entry)) (now (context .entry)) r ⌝ }
 {
     begin(bytes, t, f, types, cells, roots, globals, value);
-    let mut left = ROUNDS;
-    while 0 < left {
-        let q = round(
-            bytes, t, f, types, alike, paths, marks, firsts, cells, roots, path,
-        );
-        if q.full {
-            return 26 * REFUSAL;
-        }
-        if q.held {
-            return answer(cells, roots[STACK], q, context);
-        }
-        renew(roots);
-        left -= 1;
-    }
-    26 * REFUSAL
+    settle_rounds(
+        bytes, t, f, types, alike, paths, marks, firsts, cells, roots, path, context,
+    )
 }

@@ -1,5 +1,5 @@
 -- `rounds::begin::begin` meets its contract (Begun).
-use Rattle.rounds.proofs.Begun.{value-asks, globals-asks, begun}
+use Rattle.rounds.proofs.Begun.{value-asks, globals-asks, end-there, hand-there, begun}
 use native.Mathlib.Omega.{arith}
 use borrow.Author.Needs.{needs}
 use Rattle.rounds.proofs.begin.begin.Statement.{statement}
@@ -23,10 +23,10 @@ slice-write-roots : tie.Need-slice-write-roots
 slice-write-roots c = omega (arith, c .before .before .before .before .before .before .before .before .before .before .before .before .before .before .before .before .before .pre .slots, c .before .before .clear-tables .ensures .long)
 
 slice-write-roots-2 : tie.Need-slice-write-roots-2
-slice-write-roots-2 c = omega (arith, c .before .before .before .before .before .before .before .before .before .before .before .before .before .before .before .before .before .pre .slots, c .before .before .clear-tables .ensures .long)
+slice-write-roots-2 c = end-there (c .before .before .before .before .before .before .before .before .before .before .before .before .before .before .before .before .before .pre .slots) (c .before .before .clear-tables .ensures) _ 0
 
 slice-write-roots-3 : tie.Need-slice-write-roots-3
-slice-write-roots-3 c = omega (arith, c .before .before .before .before .before .before .before .before .before .before .before .before .before .before .before .before .before .pre .slots, c .before .before .clear-tables .ensures .long)
+slice-write-roots-3 c = hand-there (c .before .before .before .before .before .before .before .before .before .before .before .before .before .before .before .before .before .pre .slots) (c .before .before .clear-tables .ensures) _ _
 
 same-length : tie.Need-same-length
 same-length c = search needs
