@@ -1,13 +1,12 @@
 -- What is asked stands trimmed, neither table has needs, and memory is ready for the first round.
-use Prim.Native.Nat.{ℕ, _+_, _*_, _<_, _≤_}
+use Prim.Native.Nat.{ℕ, _+_, _<_}
 use native.Mathlib.Omega.{arith}
 use native.Mathlib.Decide.{decLt, ℕ-discrete}
 use mathlib.Core.Path.{_≡_, refl, sym, ap, _∙_}
-use mathlib.Core.Bool.{false}
-use mathlib.Core.List.{List, [], _∷_}
+use mathlib.Core.List.{List, []}
 use lib.ListN.{length, getD, set, length-set}
 use lib.Seq.{getD-set-same, getD-set-other}
-use Rattle.part.specs.PartReq.{PartReq, none, entries}
+use Rattle.part.specs.PartReq.{none, entries}
 use Rattle.part.specs.Store.{top, part, Good, Room, Made}
 use Rattle.part.proofs.Pieces.{part-2}
 use Rattle.module.specs.Tables.{functionOf, moduleOf}
@@ -26,7 +25,7 @@ use Rattle.framed.proofs.Kept.{kept-none, kept-ending}
 use Rattle.hold.specs.Hold.{inSlot, Live}
 use Rattle.forms.specs.Frames.{trimGlobals}
 use Rattle.forms.proofs.Trimming.{ending-is}
-use Rattle.standing.specs.Slots.{tableSize, askedSlot, endSlot, stackSlot, Ready}
+use Rattle.standing.specs.Slots.{tableSize, askedSlot, endSlot, stackSlot}
 use Rattle.rounds.specs.Settling.{askedBy}
 use Rattle.rounds.specs.Rounds.{Between, Cleared, Asked, Begins}
 

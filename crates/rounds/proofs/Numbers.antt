@@ -1,10 +1,9 @@
 -- The answer's number: 15 before 16, then the lowest fault, then the start.
 use Prim.Native.Nat.{ℕ, _+_, _*_}
-use mathlib.Core.Path.{_≡_, refl, sym, ap, _∙_}
+use mathlib.Core.Path.{_≡_, sym, _∙_}
 use mathlib.Core.Bool.{Bool, true, false, cond}
 use mathlib.Core.List.{List}
-use mathlib.Core.Option.{Option, some, none as nothing}
-use lib.Dec.{eqb}
+use mathlib.Core.Option.{Option, some}
 use borrow.Author.Tests.{eq-eqb, ne-eqb}
 use Rattle.field.specs.Limits.{absent}
 use Rattle.part.specs.PartReq.{PartReq}
@@ -13,9 +12,7 @@ use Rattle.module.specs.Decode.{optionOf}
 use Rattle.context.specs.RequiredContext.{RequiredContext}
 use Rattle.request.specs.Context.{contextOf}
 use Rattle.clearance.specs.Verdict.{Report, refused, verdict, starts}
-use Rattle.pass.specs.Pass.{Carried, on}
 use Rattle.pass.specs.Checked.{answerOf}
-use Rattle.standing.specs.Standing.{Carries}
 use Rattle.standing.specs.declared.passing.Passing.{Passing}
 use Rattle.context_bytes.specs.Covered.{CoversContext}
 use Rattle.checking.specs.Word.{checkWord}

@@ -2,34 +2,29 @@
 use Prim.Native.Nat.{ℕ, _+_, _-_, _*_, _<_, _≤_}
 use native.Mathlib.Omega.{arith}
 use native.Mathlib.Decide.{decLt}
-use mathlib.Core.Path.{_≡_, refl, sym, ap, subst, _∙_}
-use mathlib.Core.Bool.{true, false, cond}
-use mathlib.Core.List.{List, [], _∷_, _++_}
-use mathlib.Core.Option.{none as nothing}
-use lib.Dec.{ltb}
+use mathlib.Core.Path.{_≡_, refl, sym, ap, _∙_}
+use mathlib.Core.Bool.{true, false}
+use mathlib.Core.List.{List, _∷_}
 use lib.ListN.{length, getD, List·getD-eq-default}
 use borrow.Author.Tests.{lt-ltb, le-ltb}
 use Rattle.field.specs.Limits.{absent}
 use Rattle.part.specs.PartReq.{PartReq, none}
-use Rattle.module.specs.Module.{Function}
 use Rattle.module.specs.Decode.{optionOf}
-use Rattle.module.specs.Decode.{tab}
 use Rattle.module.specs.Tables.{functionOf}
 use Rattle.module.proofs.Tab.{getD-tab, tab-past}
 use Rattle.clearance.specs.Scope.{Scope}
 use Rattle.clearance.specs.Tree.{Tree, bodyTree}
 use Rattle.clearance.specs.Needs.{Exit, next, broke, continued, returned, Table, reentry}
 use Rattle.clearance.specs.Verdict.{Request, setting, ending}
-use Rattle.pass.specs.Pass.{Carried, Passed, on, _>>=_, within, pass}
+use Rattle.pass.specs.Pass.{on, _>>=_, within, pass}
 use Rattle.pass.specs.Checked.{fresh, askedOf, passOnce}
-use Rattle.judge.specs.Given.{scopeAt}
-use Rattle.hold.specs.Hold.{inSlot, Live, Reach}
+use Rattle.hold.specs.Hold.{inSlot, Reach}
 use Rattle.hold.proofs.Reach.{reach-trans, reach-cons, reach-exchange, reach-getD}
 use Rattle.quiet.specs.Places.{treeOf}
 use Rattle.strays.specs.Places.{BlockOf}
 use Rattle.strays.proofs.Found.{body-there}
-use Rattle.standing.specs.Slots.{tableSize, askedSlot, endSlot, stackSlot, besides, asideOf, Ready}
-use Rattle.standing.specs.Standing.{Carries, TableIn, Targets, Stands, Came, Stretch, around, outcome}
+use Rattle.standing.specs.Slots.{tableSize, askedSlot, endSlot, stackSlot, besides, asideOf}
+use Rattle.standing.specs.Standing.{Carries, TableIn, Targets, Stands, around, outcome}
 use Rattle.standing.specs.declared.passing.Passing.{Passing}
 use Rattle.standing.specs.declared.passing.Exits.{Exits}
 use Rattle.standing.proofs.Aside.{aside-more}

@@ -3,30 +3,28 @@ use Prim.Native.Nat.{ℕ, zero, suc, _+_, _-_, _*_, _<_, _≤_}
 use native.Mathlib.Omega.{arith}
 use native.Mathlib.Decide.{decLt, ℕ-discrete}
 use mathlib.Core.Path.{_≡_, refl, sym, ap, _∙_}
-use mathlib.Core.Bool.{Bool, true, false, cond}
+use mathlib.Core.Bool.{true, false}
 use mathlib.Core.List.{List, []}
 use mathlib.Core.Option.{Option, some, none as nothing}
 use lib.ListN.{length, getD}
 use Rattle.part.specs.PartReq.{PartReq}
-use Rattle.part.specs.Store.{top, part, Good}
-use Rattle.module.specs.Tables.{functionOf}
+use Rattle.part.specs.Store.{part}
 use Rattle.context.specs.RequiredContext.{RequiredContext}
 use Rattle.request.specs.Context.{contextOf}
 use Rattle.clearance.specs.Scope.{Scope}
 use Rattle.clearance.specs.Tree.{Tree, bodyTree}
-use Rattle.clearance.specs.Needs.{Exit, next, Setting, Table, reentry}
+use Rattle.clearance.specs.Needs.{Exit, Setting, Table}
 use Rattle.clearance.specs.Verdict.{Request, setting, ending}
-use Rattle.framed.specs.Kept.{Kept}
 use Rattle.pass.specs.Pass.{Carried, Passed, on, full}
 use Rattle.pass.specs.Checked.{passOnce, settledBy, settleWithin, maxRounds, lastPass, answerOf}
 use Rattle.judge.specs.Given.{scopeAt}
-use Rattle.hold.specs.Hold.{inSlot, Live}
-use Rattle.standing.specs.Slots.{tableSize, askedSlot, endSlot, stackSlot, Beside, Ready}
+use Rattle.hold.specs.Hold.{inSlot}
+use Rattle.standing.specs.Slots.{tableSize, askedSlot, endSlot, stackSlot, Ready}
 use Rattle.standing.specs.Standing.{Carries, TableIn, Went, Keeps}
 use Rattle.standing.specs.declared.passing.Passing.{Passing}
-use Rattle.standing.proofs.Aside.{beside-high, beside-low}
+use Rattle.standing.proofs.Aside.{beside-high}
 use Rattle.checking.specs.Word.{checkWord}
-use Rattle.rounds.specs.Settling.{Settling, Settled, askedBy, reported}
+use Rattle.rounds.specs.Settling.{Settling, Settled, reported}
 use Rattle.rounds.specs.Rounds.{Between, Asked, Begins, Rounding, Rounded, Renewed, Answers, Settles}
 
 -- `left` rounds are left, and their outcome is that of all

@@ -1,6 +1,5 @@
 // Rounds until each loop's needs hold, and the answer's number.
 ghost use Prim.Native.Nat.{_<_};
-ghost use lib.ListN.{length};
 ghost use Rattle.part.specs.Store.{top, Good};
 ghost use Rattle.module.specs.Tables.{functionOf};
 ghost use Rattle.clearance.specs.Tree.{bodyTree};
@@ -60,7 +59,21 @@ fn round(
     };
     let b = body_block(t, f);
     pass_around(
-        bytes, t, f, types, alike, paths, marks, firsts, cells, roots, path, STACK + 1, x, p, b,
+        bytes,
+        t,
+        f,
+        types,
+        alike,
+        paths,
+        marks,
+        firsts,
+        cells,
+        roots,
+        path,
+        STACK + 1,
+        x,
+        p,
+        b,
     )
 }
 
@@ -106,7 +119,17 @@ fn settle_rounds(
     let mut left = ROUNDS;
     while 0 < left {
         let q = round(
-            bytes, t, f, types, alike, paths, marks, firsts, cells, roots, path,
+            bytes,
+            t,
+            f,
+            types,
+            alike,
+            paths,
+            marks,
+            firsts,
+            cells,
+            roots,
+            path,
         );
         if q.full {
             return 26 * REFUSAL;
@@ -142,6 +165,17 @@ pub fn settle(
 {
     begin(bytes, t, f, types, cells, roots, globals, value);
     settle_rounds(
-        bytes, t, f, types, alike, paths, marks, firsts, cells, roots, path, context,
+        bytes,
+        t,
+        f,
+        types,
+        alike,
+        paths,
+        marks,
+        firsts,
+        cells,
+        roots,
+        path,
+        context,
     )
 }
