@@ -35,7 +35,7 @@ use Rattle.rounds.specs.Course.{Course, Passes}
 use Rattle.rounds.specs.Rounds.{Between, Rounding, Rounded}
 
 -- the needs after a body are the same at each exit
-pub ending-same : (S : Scope) (R : Request) (x : Exit) → ending S R x ≡ ending S R next
+ending-same : (S : Scope) (R : Request) (x : Exit) → ending S R x ≡ ending S R next
 unfolding ending
 ending-same S R x = refl
 

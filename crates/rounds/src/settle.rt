@@ -21,7 +21,7 @@ use standing::passing::STACK;
 // The most rounds.
 const ROUNDS: u32 = 65536;
 
-// Where a refusal's number stands in an answer's, and a statement's kind.
+// Numbers of answers: a refusal's number stands from the bit 32 on; below it a statement's has this added, and the start is 1.
 const REFUSAL: u64 = 4294967296;
 
 const STATEMENT: u64 = 131072;
