@@ -125,6 +125,26 @@ fn cases_a_and_j() {
     check(CASE_J, &[("1 1 0 1", "arg 0 all; arg 1 all; arg 2 all", "stmt 2"), ("1 1 1 1", "arg 0 all; arg 2 all", "start")]);
 }
 
+/// Case A lists no pointer's type: a path has the type of what it leads to ("variable .. as declared") or, as in naga, a pointer to that.
+#[test]
+fn paths_as_declared() {
+    let plain = CASE_A.replace("expr 1: 9 LocalVariable", "expr 1: 2 LocalVariable");
+    let verdicts: Verdicts = &[("1 11 1", "arg 0 {1:all}", "clear"), ("0 11 1", "arg 0 all", "stmt 0"), ("1 11 1", "", "start")];
+    check(CASE_A, verdicts);
+    check(&plain, verdicts);
+    // an emit of a path changes nothing, whatever its type; a path is no value
+    let path = |last: &str, used: &str| {
+        format!(
+            "\nglobal 3\nfn function 0 -\narg 0 -\nexpr 3 GlobalVariable 0\nexpr 8 AccessIndex 0 0\nexpr 0 AccessIndex 1 1\n\
+             expr 0 {last}\nblock\nstmt Emit 0 3\nstmt Return {used}\nrequest 0 all\n"
+        )
+    };
+    check(&path("Load 2", "3"), &[("0001 1", "global 0 {0:{1:all}}", "clear"), ("0001 1", "global 0 {0:{0:all}}", "start")]);
+    check(&path("Load 2", "2"), &[("all", "global 0 all", "unjudged stmt 1")]);
+    check(&path("Unary 2", "3"), &[("all", "global 0 all", "unjudged expr 3")]);
+    check(&path("FunctionArgument 0", "3"), &[("0000 1", "arg 0 all", "clear")]);
+}
+
 /// A store of argument 0 to a part of global 0, which is asked.
 fn stored(global: usize, value: usize, path: &[(usize, usize)], request: &str) -> String {
     let mut text = format!("\nglobal {global}\nfn function - -\narg {value} -\nexpr {} GlobalVariable 0\n", global + 7);
@@ -382,7 +402,7 @@ fn dead_code() {
 fn judged(expressions: &str, statements: &str, wanted: &str) {
     let text = format!(
         "{TYPES}type 14: Array 0 0\ntype 15: Pointer 14\ntype 16: BindingArray 0\ntype 17: Struct [0:- 14:-]\ntype 18: Pointer 7\n\
-         type 19: Pointer 17\ntype 20: Struct [0:- 0:-]\nglobal 14\nglobal 7\nglobal 17\nfn function 0 -\narg 0 -\narg 1 -\narg 7 -\n\
+         type 19: Pointer 17\ntype 20: Struct [0:- 0:-]\ntype 21: Struct [15:-]\ntype 22: Array 15 2\nglobal 14\nglobal 7\nglobal 17\nfn function 0 -\narg 0 -\narg 1 -\narg 7 -\n\
          arg 20 -\nlocal 0\nexpr 0: 0 FunctionArgument 0\nexpr 1: 1 FunctionArgument 1\nexpr 2: 7 LocalVariable 0\n{expressions}\
          {statements}request 0 all\n"
     );
@@ -401,7 +421,7 @@ fn judged_expressions() {
     let right = |list: &[&str]| list.iter().for_each(|e| one(e, true));
     let wrong = |list: &[&str]| list.iter().for_each(|e| one(e, false));
     right(&["0 Literal", "6 ZeroValue", "4 Constant", "0 FunctionArgument 0", "7 LocalVariable 0", "20 FunctionArgument 3"]);
-    wrong(&["7 Literal", "1 FunctionArgument 0", "7 FunctionArgument 2", "0 LocalVariable 0", "8 LocalVariable 0"]);
+    wrong(&["7 Literal", "1 FunctionArgument 0", "7 FunctionArgument 2", "1 LocalVariable 0", "8 LocalVariable 0"]);
     wrong(&["0 WorkGroupUniformLoadResult", "0 Derivative 0", "0 CallResult", "0 Override", "0 ArrayLength 2"]);
     wrong(&["14 ZeroValue", "16 ZeroValue", "17 ZeroValue", "15 GlobalVariable 0", "19 GlobalVariable 2", "18 GlobalVariable 1"]);
     right(&["0 AccessIndex 1 1", "0 Access 1 0", "0 Access 1 1"]);
@@ -416,6 +436,8 @@ fn judged_expressions() {
     wrong(&["0 Compose [0]", "1 Compose [0 2]", "20 Compose [0]", "1 Compose []"]);
     right(&["1 Binary 0 1", "6 Binary 0 0", "0 Relational 1", "3 Math 0 1 - 0"]);
     wrong(&["1 Binary 0 2", "0 Binary 2 0", "0 Relational 2", "0 Math 0 - 2 -"]);
+    // a struct that has a pointer to an array of count 0 does not hold that array: 01 names the pointee apart, of an expression's own type
+    judged("expr 21 ZeroValue\nexpr 22 ZeroValue\n", "block\n", "clear");
     // a struct has no dynamic index; the lowest expression is named
     judged("expr 20 FunctionArgument 3\nexpr 0 Access 3 0\n", "block\n", "unjudged expr 4");
     judged("expr 20 FunctionArgument 3\nexpr 0 AccessIndex 3 1\n", "block\n", "clear");
@@ -500,6 +522,10 @@ fn limits() {
     check(&nested(9), &[("all", "arg 0 all", "refused 15"), ("000000000 1", "", "refused 15")]);
     check(&pieces(30, 2), &[("0", "", "start")]);
     check(&pieces(30, 3), &[("0", "", "refused 16"), ("2", "", "refused 21")]);
+    // the end, where the asked globals stand, is a point of a body without a statement too
+    let empty = |small: usize| pieces(30, small).replace("stmt Return -\n", "");
+    check(&empty(2), &[("", "", "start")]);
+    check(&empty(3), &[("", "", "refused 16")]);
 }
 
 /// 17 entries in the first round that become all in the next: no point of the last round passes a limit (reading 38).

@@ -131,7 +131,7 @@ impl<'a> Run<'a> {
     /// Evaluates its range upwards.
     fn emit(&mut self, s: usize, first: Handle, last: Handle) {
         for e in first..=last {
-            if !is_exempt(self.module, self.function, e) && !self.passes(s, e - first) {
+            if !is_exempt(self.function, e) && !self.passes(s, e - first) {
                 self.values[e] = self.evaluate(e);
             }
         }

@@ -116,6 +116,11 @@ impl Shapes {
         }
     }
 
+    /// What a path of this type leads to: what it points to, or the type itself where it is no pointer.
+    pub fn led_to(&self, id: Id) -> Id {
+        self.pointee(id).unwrap_or(id)
+    }
+
     /// What stands under an index, if it is within the type. No index is outside a run-sized or binding array.
     pub fn member(&self, id: Id, index: u16) -> Option<Id> {
         match self.list[id] {

@@ -126,7 +126,7 @@ impl<'a> Walk<'a> {
     fn emit(&mut self, s: usize, first: Handle, last: Handle, after: Needs) -> Needs {
         let mut needs = after;
         for e in (first..=last).rev() {
-            if is_exempt(self.module, self.function, e) {
+            if is_exempt(self.function, e) {
                 continue;
             }
             let Some(need) = needs.remove(&Key::Expression(e)) else { continue };

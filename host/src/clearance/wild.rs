@@ -19,6 +19,8 @@ struct Wild {
     blocks: Vec<Vec<String>>,
     left: usize,
     result: usize,
+    /// How many paths of a hundred have the type of what they lead to, and no pointer to it.
+    plain: usize,
 }
 
 /// What may be left from where a statement stands.
@@ -33,7 +35,9 @@ struct Inside {
 pub fn generate(statements: usize, seed: u64) -> Vec<u8> {
     let mut random = Random::new(seed);
     let result = random.below(COUNT);
-    let mut wild = Wild { random, expressions: Vec::new(), values: Vec::new(), emitted: 0, blocks: Vec::new(), left: statements, result };
+    let plain = *random.pick(&[0, 0, 50, 100]);
+    let (expressions, values, blocks) = (Vec::new(), Vec::new(), Vec::new());
+    let mut wild = Wild { random, expressions, values, emitted: 0, blocks, left: statements, result, plain };
     wild.first_expressions();
     let body = wild.block(Inside::default(), statements, 3, true);
     assert_eq!(body + 1, wild.blocks.len());
@@ -55,7 +59,9 @@ impl Wild {
         self.emitted = self.expressions.len();
     }
 
+    /// A kind past the values' is a path's.
     fn add(&mut self, kind: usize, operator: String) -> usize {
+        let kind = if kind >= COUNT && self.random.chance(self.plain) { kind - COUNT } else { kind };
         self.expressions.push(format!("expr {kind} {operator}\n"));
         self.expressions.len() - 1
     }
