@@ -17,7 +17,7 @@ host compare reading ORACLE SEED COUNT SOURCE...    the library against the orac
 host compare bindings ORACLE SEED COUNT SOURCE...   the same for the operations on bindings, asked anew of the sources' modules
 host compare requests ORACLE SEED COUNT SOURCE...   the same for requests: the sources, varied, damaged and generated modules, asked anew
 host clearance FILE          the verdict on the file's first request with the library's own report, by this program's own clearance
-host runs SEED COUNT         COUNT models of each generator with reports by several authors: the verdicts, and pairs of runs on what is cleared
+host runs SEED COUNT         generated models with reports by several authors: the verdicts, and at least COUNT pairs of runs on what is cleared
 host bench BENCH FILE...    the library's requests timed against the original's (BENCH: its program for timing, or the folder that has it); without FILE, on our own
 ";
 

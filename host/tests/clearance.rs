@@ -2,8 +2,8 @@
 use host::assemble::assemble;
 use host::clearance::authors::{Asked, Report};
 use host::clearance::campaign::Campaign;
-use host::clearance::run::{Inputs, Mode, Operators, Run};
-use host::clearance::value::Value;
+use host::clearance::plan::Plan;
+use host::clearance::run::{fresh, Mode, Operators, Run};
 use host::clearance::{answer, wild, Verdict};
 use host::context::Context;
 use host::part::{Part, Parts};
@@ -603,25 +603,21 @@ fn the_union_alone_is_no_point() {
     assert_eq!(verdict(&asked, &marks, "arg 0 all; arg 1 all"), "stmt 8");
 }
 
-fn number(n: u64) -> Value {
-    Value::Number(n)
-}
-
-fn vector(numbers: &[u64]) -> Value {
-    Value::Parts(numbers.iter().map(|n| number(*n)).collect())
-}
-
-/// What a function returns of these arguments, without its unmarked statements if marks are given.
-fn run(function: &str, arguments: &[Value], marks: Option<&str>) -> Option<Value> {
+/// The number that a function returns of these arguments, without its unmarked statements if marks are given.
+fn run(function: &str, arguments: &[Vec<u64>], marks: Option<&str>) -> Option<u64> {
     let asked = asked(&format!("{TYPES}{function}"));
-    let f = asked.function();
-    let zeros = |types: &[usize]| types.iter().map(|t| Value::zero(&asked.module.shapes, *t)).collect();
-    let inputs = Inputs { globals: zeros(&asked.module.globals), locals: zeros(&f.locals), arguments: arguments.to_vec() };
+    let plan = Plan::of(&asked.module, asked.function());
+    let operators = Operators { seed: 1, bound: 1 << 40 };
+    let mut memory = fresh(&plan, operators);
+    for (numbers, span) in arguments.iter().zip(&plan.layout.arguments) {
+        memory[span.clone()].copy_from_slice(numbers);
+    }
     let given: Vec<u8> = marks.unwrap_or("").bytes().filter(|b| *b != b' ').map(|b| b - b'0').collect();
     let all = vec![1; asked.outline.marks()];
     let (mode, given) = if marks.is_some() { (Mode::Needed, &given) } else { (Mode::Every, &all) };
-    let own = asked.own(given);
-    Run::new(&asked.module, f, &own, mode, Operators { seed: 1, bound: 1 << 40 }, inputs).outputs().map(|o| o.retval.expect("a result"))
+    let marks = asked.own(given);
+    let ends = Run { plan: &plan, marks: &marks, mode, operators, memory: &mut memory, left: 1000 }.ends();
+    ends.then(|| memory[plan.layout.result.start])
 }
 
 /// What no operator of its own says: paths, ranges, branches, loops, returns (readings 34, 40).
@@ -633,56 +629,32 @@ fn runs() {
              expr 1 FunctionArgument 2\nexpr 11 LocalVariable 0\n{how}request 0 all\n"
         )
     };
-    let arguments = |index: u64, pair: [u64; 2]| [vector(&[7, 8, 9, 10]), number(index), vector(&pair)];
+    let arguments = |index: u64, pair: [u64; 2]| [vec![7, 8, 9, 10], vec![index], pair.to_vec()];
     let value = pick("expr 0 Access 0 1\nblock\nstmt Emit 4 4\nstmt Return 4\n");
-    assert_eq!(run(&value, &arguments(3, [0, 0]), None), Some(number(10)));
-    assert_eq!(run(&value, &arguments(4, [0, 0]), None), Some(number(0)));
-    assert_eq!(run(&value, &arguments(3, [0, 0]), Some("0 1")), Some(number(0)));
-    assert_eq!(run(&pick("expr 0 Access 0 2\nblock\nstmt Emit 4 4\nstmt Return 4\n"), &arguments(0, [0, 0]), None), Some(number(0)));
+    assert_eq!(run(&value, &arguments(3, [0, 0]), None), Some(10));
+    assert_eq!(run(&value, &arguments(4, [0, 0]), None), Some(0));
+    assert_eq!(run(&value, &arguments(3, [0, 0]), Some("0 1")), Some(0));
+    assert_eq!(run(&pick("expr 0 Access 0 2\nblock\nstmt Emit 4 4\nstmt Return 4\n"), &arguments(0, [0, 0]), None), Some(0));
     // a store out of range does nothing; the path is followed when it is loaded
     let path = pick(
         "expr 7 Access 3 1\nexpr 7 AccessIndex 3 2\nexpr 0 Load 5\nblock\nstmt Store 3 0\nstmt Store 4 1\nstmt Emit 6 6\nstmt Return 6\n",
     );
-    assert_eq!(run(&path, &arguments(2, [0, 0]), None), Some(number(2)));
-    assert_eq!(run(&path, &arguments(5, [0, 0]), None), Some(number(9)));
-    assert_eq!(run(&path, &arguments(2, [0, 0]), Some("1 0 1 1")), Some(number(9)));
+    assert_eq!(run(&path, &arguments(2, [0, 0]), None), Some(2));
+    assert_eq!(run(&path, &arguments(5, [0, 0]), None), Some(9));
+    assert_eq!(run(&path, &arguments(2, [0, 0]), Some("1 0 1 1")), Some(9));
     // conditions and selectors that are no scalars
     let branch = pick("expr 0 Literal\nblock\nstmt Return 1\nblock\nblock\nstmt If 2 0 1\n");
-    assert_eq!(run(&branch, &arguments(6, [0, 1]), None), Some(number(6)));
-    assert_eq!(run(&branch, &arguments(6, [0, 0]), None), Some(number(0)));
+    assert_eq!(run(&branch, &arguments(6, [0, 1]), None), Some(6));
+    assert_eq!(run(&branch, &arguments(6, [0, 0]), None), Some(0));
     let switch = |selector: usize| pick(&format!("block\nstmt Return 1\nblock\nblock\nstmt Switch {selector} [6:0 default:1]\n"));
-    assert_eq!(run(&switch(1), &arguments(6, [6, 6]), None), Some(number(6)));
-    assert_eq!(run(&switch(1), &arguments(5, [6, 6]), None), Some(number(0)));
-    assert_eq!(run(&switch(2), &arguments(6, [6, 6]), None), Some(number(0)));
+    assert_eq!(run(&switch(1), &arguments(6, [6, 6]), None), Some(6));
+    assert_eq!(run(&switch(1), &arguments(5, [6, 6]), None), Some(0));
+    assert_eq!(run(&switch(2), &arguments(6, [6, 6]), None), Some(0));
     // a loop ends where break_if is not zero, or never
     let turns = |condition: &str| pick(&format!("block\nblock\nblock\nstmt Loop 0 1 {condition}\nstmt Return 1\n"));
-    assert_eq!(run(&turns("2"), &arguments(6, [0, 1]), None), Some(number(6)));
+    assert_eq!(run(&turns("2"), &arguments(6, [0, 1]), None), Some(6));
     assert_eq!((run(&turns("2"), &arguments(6, [0, 0]), None), run(&turns("-"), &arguments(6, [0, 1]), None)), (None, None));
-    assert_eq!(run(&turns("-"), &arguments(6, [0, 0]), Some("0 1")), Some(number(6)));
-}
-
-/// Which inputs two runs may differ in: no all at, above or below (reading 39).
-#[test]
-fn unneeded_parts() {
-    let start = Value::Parts(vec![number(9), vector(&[9, 9])]);
-    let changed = |part: &str| {
-        let (part, mut random, mut seen) = (Part::parse(part).unwrap(), Random::new(3), [false; 3]);
-        for _ in 0..50 {
-            let mut value = start.clone();
-            value.vary(Some(&part), &mut random, 5);
-            let Value::Parts(parts) = &value else { panic!() };
-            let now = [&parts[0], parts[1].member(0).unwrap(), parts[1].member(1).unwrap()];
-            now.iter().zip(&mut seen).for_each(|(n, s)| *s |= **n != number(9));
-        }
-        seen
-    };
-    assert_eq!(changed("all"), [false; 3]);
-    assert_eq!(changed("exist"), [true; 3]);
-    assert_eq!(changed("{}"), [true; 3]);
-    assert_eq!(changed("{1:all}"), [true, false, false]);
-    assert_eq!(changed("{1:{0:all}}"), [true, false, true]);
-    assert_eq!(changed("{0:{3:all}}"), [false, true, true]);
-    assert_eq!(changed("{0:{3:exist},1:exist}"), [true; 3]);
+    assert_eq!(run(&turns("-"), &arguments(6, [0, 0]), Some("0 1")), Some(6));
 }
 
 /// Reports by every author on models of both generators: whatever is cleared holds on pairs of runs.
