@@ -31,6 +31,7 @@ pub mod reached;
 pub mod readings;
 pub mod record;
 pub mod replay;
+pub mod report_text;
 pub mod reported;
 pub mod request;
 pub mod requests;

@@ -4,7 +4,7 @@ use host::clearance::authors::{Asked, Report};
 use host::clearance::campaign::Campaign;
 use host::clearance::plan::Plan;
 use host::clearance::run::{fresh, Mode, Operators, Run};
-use host::clearance::{answer, wild, Verdict};
+use host::clearance::{answer, show, wild, Verdict};
 use host::context::Context;
 use host::part::{Part, Parts};
 use host::random::Random;
@@ -123,6 +123,27 @@ fn cases_a_and_j() {
     );
     check(CASE_J, &[("1 1 1 1", "arg 0 all; arg 1 all; arg 2 all", "clear"), ("0 1 1 1", "arg 0 all; arg 1 all; arg 2 all", "clear")]);
     check(CASE_J, &[("1 1 0 1", "arg 0 all; arg 1 all; arg 2 all", "stmt 2"), ("1 1 1 1", "arg 0 all; arg 2 all", "start")]);
+}
+
+/// A report from anyone, and what is missing in it, in the listing's words.
+#[test]
+fn reports_in_words() {
+    let file = assemble(&format!("{TYPES}{CASE_A}")).unwrap().bytes;
+    let clear = "required yes\nretval all\narg 0 {1:all}\nlocal 0 exist\nexpr 3 all\nstmt 0 store yes\nstmt 1 emit yes yes\n\
+                 stmt 2 return yes\ncheck clear\n";
+    assert_eq!(show::given(&file, clear), Ok("check clear\n".into()));
+    let missing = "check stmt 0\nstmt 0: Store 1 0\n  it stores to local 0, which is needed after it, and is not marked\n\
+                   stmt 1: Emit 2 3\n  expr 3 is needed after it and not marked\n\
+                   arg 0 {1:all} is needed at the start, and the context has {0:all}\n";
+    assert_eq!(show::given(&file, "arg 0 {0:all}\nstmt 1 emit yes no\n"), Ok(missing.into()));
+    // another request than the file's
+    assert_eq!(show::given(&file, "request 0 exist\n"), Ok("check clear\n".into()));
+    assert!(show::given(&file, "request 1 all\n").is_err_and(|e| e.contains("refused 11")));
+    assert!(show::given(&file, "arg 1 all\n").is_err());
+    assert!(show::given(&file, "arg 0 all\nstmt 0 store\n").is_err_and(|e| e.starts_with("line 2")));
+    let kill = assemble(&format!("{TYPES}{CASE_A}").replace("stmt Return 3", "stmt Kill")).unwrap().bytes;
+    let words = "check unjudged stmt 2\nstmt 2: Kill\n  statements of this kind are not judged\n";
+    assert_eq!(show::given(&kill, ""), Ok(words.into()));
 }
 
 /// Case A lists no pointer's type: a path has the type of what it leads to ("variable .. as declared") or, as in naga, a pointer to that.

@@ -1,7 +1,7 @@
 //! What the clearance answers.
 use super::function::Module;
 use super::judged::{unjudged, Item};
-use super::walk::{Lack, Walk};
+use super::walk::Walk;
 use crate::check;
 use crate::context::Context;
 use crate::outline::Outline;
@@ -31,20 +31,23 @@ impl fmt::Display for Verdict {
     }
 }
 
-/// A verdict with the reason for it: the lowest broken rule, or what is wrong at the start.
+/// A verdict with all that is missing: marks, by statement ascending, then what the context lacks at the start.
 #[derive(Clone, PartialEq, Eq, Debug)]
 pub struct Judgement {
     pub verdict: Verdict,
-    pub reason: Option<String>,
+    pub missing: Vec<Missing>,
 }
 
-impl Judgement {
-    fn plain(verdict: Verdict) -> Judgement {
-        Judgement { verdict, reason: None }
-    }
+/// A mark of a statement, or without one something at the start.
+#[derive(Clone, PartialEq, Eq, Debug)]
+pub struct Missing {
+    pub statement: Option<usize>,
+    pub reason: String,
+}
 
-    fn because(verdict: Verdict, reason: &str) -> Judgement {
-        Judgement { verdict, reason: Some(reason.into()) }
+impl From<Verdict> for Judgement {
+    fn from(verdict: Verdict) -> Judgement {
+        Judgement { verdict, missing: Vec::new() }
     }
 }
 
@@ -94,21 +97,23 @@ fn read_context(bytes: &[u8]) -> Option<Context> {
 pub fn verdict(outline: &Outline, module: &Module, request: &Request, report: &[u8], context: &Context) -> Judgement {
     let number = request.function as usize;
     let stretch = report.get(outline.stretch(number)).filter(|marks| marks.iter().all(|m| *m <= 1));
-    let Some(marks) = stretch else { return Judgement::plain(Verdict::Refused(21)) };
+    let Some(marks) = stretch else { return Verdict::Refused(21).into() };
     if let Some(item) = unjudged(module, &module.functions[number]) {
-        return Judgement::plain(Verdict::Unjudged(item));
+        return Verdict::Unjudged(item).into();
     }
     let mut walk = Walk::new(module, request, outline.functions[number].own(marks));
     walk.rounds();
     let refusals = [(walk.found.given_up, 26), (walk.found.deep, 15), (walk.found.many, 16)];
     if let Some((_, number)) = refusals.into_iter().find(|r| r.0) {
-        return Judgement::plain(Verdict::Refused(number));
+        return Verdict::Refused(number).into();
     }
-    if let Some(Lack { statement, reason, .. }) = walk.found.lacks.first() {
-        return Judgement::because(Verdict::Statement(*statement), reason);
-    }
-    match walk.start_faults(&context.globals, &context.arguments).first() {
-        Some(reason) => Judgement::because(Verdict::Start, reason),
-        None => Judgement::plain(Verdict::Clear),
-    }
+    let marks = walk.found.lacks.iter().map(|l| Missing { statement: Some(l.statement), reason: l.reason.clone() });
+    let start = walk.start_faults(&context.globals, &context.arguments);
+    let missing: Vec<Missing> = marks.chain(start.into_iter().map(|reason| Missing { statement: None, reason })).collect();
+    let verdict = match missing.first() {
+        Some(Missing { statement: Some(s), .. }) => Verdict::Statement(*s),
+        Some(_) => Verdict::Start,
+        None => Verdict::Clear,
+    };
+    Judgement { verdict, missing }
 }

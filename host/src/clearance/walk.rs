@@ -236,18 +236,17 @@ impl<'a> Walk<'a> {
 
     /// Whether the needs at the start of a global or an argument are in the context; evaluated expressions may have none.
     pub fn start_faults(&self, globals: &[(u16, Part)], arguments: &[(u16, Part)]) -> Vec<String> {
-        let within = |parts: &[(u16, Part)], n: u16, need| {
-            let found = parts.iter().find(|p| p.0 == n);
-            found.is_some_and(|(_, part)| self.pieces.is_contained(need, part))
-        };
+        let given = |parts: &[(u16, Part)], n: u16| parts.iter().find(|p| p.0 == n).map(|p| p.1.clone());
         let fault = |(key, need): (&Key, &usize)| {
-            let fine = match *key {
-                Key::Global(g) => within(globals, g, *need),
-                Key::Argument(a) => within(arguments, a, *need),
-                Key::Local(_) => true,
-                Key::Expression(_) => false,
+            let context = match *key {
+                Key::Global(g) => given(globals, g),
+                Key::Argument(a) => given(arguments, a),
+                Key::Local(_) => return None,
+                Key::Expression(e) => return Some(format!("expr {e} is needed at the start: no emit gives it before its use")),
             };
-            (!fine).then(|| format!("{} {} is needed at the start", name(*key), self.pieces.part(*need)))
+            let fine = context.as_ref().is_some_and(|part| self.pieces.is_contained(*need, part));
+            let has = context.map_or("nothing of it".into(), |part| part.to_string());
+            (!fine).then(|| format!("{} {} is needed at the start, and the context has {has}", name(*key), self.pieces.part(*need)))
         };
         self.found.start.iter().filter_map(fault).collect()
     }
