@@ -4,6 +4,7 @@ pub mod assemble;
 pub mod bench;
 pub mod bindings;
 pub mod check;
+pub mod checks;
 pub mod clearance;
 pub mod commands;
 pub mod compare;

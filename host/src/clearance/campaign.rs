@@ -9,7 +9,7 @@ use crate::outline::Outline;
 use crate::random::Random;
 use crate::record::split;
 use crate::vary::varied;
-use crate::{limits, model};
+use crate::{limits, model, report_text};
 use std::collections::BTreeMap;
 use std::fmt::Write;
 
@@ -99,7 +99,7 @@ impl Campaign {
         random: &mut Random,
     ) -> Result<(), String> {
         let verdict = asked.judge(report).verdict;
-        self.count(author, &sort(&verdict));
+        self.count(author, &verdict.sort());
         let Some(plan) = plan else { return Ok(()) };
         let pairing = Pairing::of(asked, plan, report);
         match verdict {
@@ -130,17 +130,6 @@ impl Campaign {
     }
 }
 
-/// A verdict without its number, refusals with theirs.
-fn sort(verdict: &Verdict) -> String {
-    match verdict {
-        Verdict::Statement(_) => "stmt".into(),
-        Verdict::Unjudged(_) => "unjudged".into(),
-        other => other.to_string(),
-    }
-}
-
 fn difference(asked: &Asked, author: &str, report: &Report, reason: &str) -> String {
-    let marks = &asked.outline.functions[asked.request.function as usize];
-    let lines = marks.lines(&report.marks[asked.outline.stretch(asked.request.function as usize)]);
-    format!("{author}: {reason}\n{}request {}\n{}{lines}", list(&asked.bytes), asked.request.show(), report.context.lines())
+    format!("{author}: {reason}\n{}{}", list(&asked.bytes), report_text::show(asked, report))
 }

@@ -31,6 +31,50 @@ impl fmt::Display for Verdict {
     }
 }
 
+/// Where a verdict's number says what it names, and where a refusal stands.
+const STATEMENT: u64 = 2 << 16;
+const UNJUDGED_EXPRESSION: u64 = 3 << 16;
+const UNJUDGED_STATEMENT: u64 = 4 << 16;
+const REFUSED: u64 = 1 << 32;
+
+impl Verdict {
+    /// The number that means it across the C boundary.
+    pub fn word(&self) -> u64 {
+        match *self {
+            Verdict::Clear => 0,
+            Verdict::Start => 1,
+            Verdict::Statement(s) => STATEMENT + s as u64,
+            Verdict::Unjudged(Item::Expression(e)) => UNJUDGED_EXPRESSION + e as u64,
+            Verdict::Unjudged(Item::Statement(s)) => UNJUDGED_STATEMENT + s as u64,
+            Verdict::Refused(number) => REFUSED * u64::from(number),
+        }
+    }
+
+    /// What a number means, if it means a verdict.
+    pub fn of_word(word: u64) -> Option<Verdict> {
+        let number = (word % (1 << 16)) as usize;
+        let verdict = match word - number as u64 {
+            0 if word == 0 => Verdict::Clear,
+            0 => Verdict::Start,
+            STATEMENT => Verdict::Statement(number),
+            UNJUDGED_EXPRESSION => Verdict::Unjudged(Item::Expression(number)),
+            UNJUDGED_STATEMENT => Verdict::Unjudged(Item::Statement(number)),
+            _ => Verdict::Refused((word / REFUSED) as u32),
+        };
+        (verdict.word() == word && verdict != Verdict::Refused(0)).then_some(verdict)
+    }
+
+    /// Without the number that it names; a refusal keeps its own.
+    pub fn sort(&self) -> String {
+        match self {
+            Verdict::Statement(_) => "stmt".into(),
+            Verdict::Unjudged(Item::Expression(_)) => "unjudged expr".into(),
+            Verdict::Unjudged(Item::Statement(_)) => "unjudged stmt".into(),
+            other => other.to_string(),
+        }
+    }
+}
+
 /// A verdict with all that is missing: marks, by statement ascending, then what the context lacks at the start.
 #[derive(Clone, PartialEq, Eq, Debug)]
 pub struct Judgement {
@@ -116,4 +160,23 @@ pub fn verdict(outline: &Outline, module: &Module, request: &Request, report: &[
         None => Verdict::Clear,
     };
     Judgement { verdict, missing }
+}
+
+#[cfg(test)]
+mod tests {
+    use super::*;
+
+    #[test]
+    fn numbers_mean_verdicts() {
+        let items = [Item::Expression(1023), Item::Statement(0)].map(Verdict::Unjudged);
+        let others =
+            [Verdict::Clear, Verdict::Start, Verdict::Statement(0), Verdict::Statement(1023), Verdict::Refused(1), Verdict::Refused(26)];
+        for verdict in items.into_iter().chain(others) {
+            assert_eq!(Verdict::of_word(verdict.word()), Some(verdict));
+        }
+        assert_eq!((Verdict::Statement(7).word(), Verdict::Refused(21).word()), (131_079, 21 << 32));
+        for word in [2, 65_536, 131_071, 5 << 16, (1 << 32) - 1, (21 << 32) + 1] {
+            assert_eq!(Verdict::of_word(word), None, "{word}");
+        }
+    }
 }
