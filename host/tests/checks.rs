@@ -1,6 +1,6 @@
 //! The stored list of checks: the second clearance gives its answers, and every answer is there. (tests/checked.rs asks the library.)
 use host::checks::tally::Tally;
-use host::checks::{corners, Case};
+use host::checks::{corners, worst, Case};
 use host::clearance::authors::Asked;
 use host::clearance::Verdict;
 use host::library;
@@ -73,4 +73,15 @@ fn corners_are_at_their_limits() {
         assert_eq!(marked(corners::loops(16)), Verdict::Clear);
         assert_eq!(marked(corners::loops(480)), Verdict::Refused(15));
     });
+}
+
+/// What the worst inputs come to; of the greatest odometer see docs/PERFORMANCE.md.
+#[test]
+fn worst_inputs_have_an_answer() {
+    let answer = |input: worst::Named| library::with_stack(|| input.case().answer());
+    assert_eq!(answer(worst::loops(300)), Verdict::Clear);
+    assert_eq!(answer(worst::copies(1000)), Verdict::Clear);
+    assert_eq!(answer(worst::ifs(1000)), Verdict::Statement(0));
+    assert_eq!(answer(worst::odometer(2)), Verdict::Clear);
+    assert!(worst::in_loops(1024, 5, 1).is_ok_and(|file| Asked::of(&file).is_some_and(|a| a.is_judged())));
 }

@@ -5,6 +5,8 @@ pub mod fresh;
 pub mod listed;
 pub mod spoil;
 pub mod tally;
+pub mod timed;
+pub mod worst;
 
 use crate::clearance::authors::{Asked, Report};
 use crate::clearance::{self, Verdict};

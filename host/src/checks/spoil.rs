@@ -1,9 +1,11 @@
 //! Damaged buffers of a case: any bytes of the module, the request, the report or the context.
 use super::Case;
 use crate::compare::longest;
+use crate::context::Context;
 use crate::damage::damaged;
+use crate::part::Part;
 use crate::random::Random;
-use crate::record::{fields, write_long};
+use crate::record::{fields, write_long, Cursor};
 use std::ops::Range;
 
 /// The case with one buffer damaged, now and then another one too. `stretch` are the bytes of the report that are looked at.
@@ -27,6 +29,11 @@ fn request(bytes: &[u8], random: &mut Random) -> Vec<u8> {
     match random.below(8) {
         0 => [bytes, &[0; 3][..random.between(1, 3)]].concat(),
         1 => [bytes, bytes].concat(),
+        2..=3 if bytes.len() > 6 => {
+            let mut copy = bytes.to_vec();
+            copy[4] = copy[4].wrapping_add(random.between(1, 5) as u8);
+            copy
+        }
         _ => damaged(bytes, random),
     }
 }
@@ -66,10 +73,24 @@ fn context(bytes: &[u8], random: &mut Random) -> Vec<u8> {
             let at = random.between(6, bytes.len() - 1);
             copy[at] ^= 1 << random.below(8);
         }
+        4..=5 => copy = unknown(bytes, random).unwrap_or(copy),
         _ if bytes.len() >= 6 => copy = write_long(*b"CX", &other_fields(fields(&bytes[6..]), random)),
         _ => {}
     }
     copy
+}
+
+/// A context that names one variable more, which the function may not have.
+fn unknown(bytes: &[u8], random: &mut Random) -> Option<Vec<u8>> {
+    let mut context = Context::read(&mut Cursor::new(&fields(bytes.get(6..)?)))?;
+    let parts = match random.below(3) {
+        0 => &mut context.globals,
+        1 => &mut context.arguments,
+        _ => &mut context.locals,
+    };
+    let next = parts.last().map_or(0, |p| p.0 + 1);
+    parts.push((next.max(random.below(20) as u16), Part::All));
+    Some(context.record())
 }
 
 fn other_fields(mut values: Vec<u16>, random: &mut Random) -> Vec<u16> {
