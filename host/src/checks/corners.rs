@@ -6,8 +6,11 @@ fn file(text: &str) -> Vec<u8> {
     assemble(text).unwrap_or_else(|f| panic!("line {}: {}\n{text}", f.line, f.reason)).bytes
 }
 
-/// Any of them near its limit.
+/// Any of them near its limit; our own bound, which takes long, seldom.
 pub fn any(random: &mut Random) -> Vec<u8> {
+    if random.chance(2) {
+        return loops(random.between(340, 385));
+    }
     match random.below(6) {
         0 => sum(random.between(14, 19)),
         1 => nested(random.between(6, 10)),
