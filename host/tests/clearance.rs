@@ -133,7 +133,7 @@ fn reports_in_words() {
                  stmt 2 return yes\ncheck clear\n";
     assert_eq!(show::given(&file, clear), Ok("check clear\n".into()));
     let missing = "check stmt 0\nstmt 0: Store 1 0\n  it stores to local 0, which is needed after it, and is not marked\n\
-                   stmt 1: Emit 2 3\n  expr 3 is needed after it and not marked\n\
+                   stmt 1: Emit 2 3\nexpr 3: 0 AccessIndex 2 1\n  it is needed after the emit, and not marked\n\
                    arg 0 {1:all} is needed at the start, and the context has {0:all}\n";
     assert_eq!(show::given(&file, "arg 0 {0:all}\nstmt 1 emit yes no\n"), Ok(missing.into()));
     // another request than the file's

@@ -2,7 +2,7 @@
 use super::authors::{Asked, Report};
 use super::function::{Expression, Statement};
 use super::judged::Item;
-use super::verdict::{Judgement, Verdict};
+use super::verdict::{Judgement, Missing, Verdict};
 use crate::library;
 use crate::list::list;
 use crate::record::split;
@@ -37,19 +37,23 @@ fn shown(asked: &Asked, report: &Report) -> Result<String, String> {
 /// The verdict as a report's last line has it; then for each thing that is missing the listing's line, and why.
 fn lines(asked: &Asked, judgement: &Judgement) -> String {
     let mut text = format!("check {}\n", judgement.verdict);
+    let unjudged = |statement, expression, reason: &str| Missing { statement, expression, reason: reason.into() };
     match judgement.verdict {
-        Verdict::Unjudged(Item::Expression(e)) => text += &named(asked, &format!("expr {e}:"), unjudged_expression(asked, e)),
-        Verdict::Unjudged(Item::Statement(s)) => text += &named(asked, &format!("stmt {s}:"), unjudged_statement(asked, s)),
+        Verdict::Unjudged(Item::Expression(e)) => text += &words(asked, &unjudged(None, Some(e), unjudged_expression(asked, e))),
+        Verdict::Unjudged(Item::Statement(s)) => text += &words(asked, &unjudged(Some(s), None, unjudged_statement(asked, s))),
         Verdict::Refused(number) => text += &format!("{}\n", refused(number)),
         _ => {}
     }
-    for missing in &judgement.missing {
-        text += &match missing.statement {
-            Some(s) => named(asked, &format!("stmt {s}:"), &missing.reason),
-            None => format!("{}\n", missing.reason),
-        };
-    }
+    judgement.missing.iter().for_each(|missing| text += &words(asked, missing));
     text
+}
+
+/// The listing's lines, and below them the reason.
+fn words(asked: &Asked, missing: &Missing) -> String {
+    let starts = [missing.statement.map(|s| format!("stmt {s}:")), missing.expression.map(|e| format!("expr {e}:"))];
+    let named: Vec<String> = starts.into_iter().flatten().map(|start| line(asked, &start)).collect();
+    let indent = if named.is_empty() { "" } else { "  " };
+    format!("{}{indent}{}\n", named.concat(), missing.reason)
 }
 
 fn unjudged_expression(asked: &Asked, e: usize) -> &'static str {
@@ -75,11 +79,11 @@ fn refused(number: u32) -> &'static str {
     }
 }
 
-/// The asked function's line in the listing that starts so, and the reason.
-fn named(asked: &Asked, start: &str, reason: &str) -> String {
+/// The asked function's line in the listing that starts so.
+fn line(asked: &Asked, start: &str) -> String {
     let listing = list(&asked.bytes);
     let function = format!("fn {}:", asked.request.function);
     let lines = listing.lines().map(str::trim).skip_while(|l| !l.starts_with(&function));
     let found = lines.skip(1).take_while(|l| !l.starts_with("fn ")).find(|l| l.starts_with(start));
-    format!("{}\n  {reason}\n", found.unwrap_or(start))
+    format!("{}\n", found.unwrap_or(start))
 }

@@ -86,6 +86,8 @@ pub struct Judgement {
 #[derive(Clone, PartialEq, Eq, Debug)]
 pub struct Missing {
     pub statement: Option<usize>,
+    /// What an emit is to give.
+    pub expression: Option<usize>,
     pub reason: String,
 }
 
@@ -151,9 +153,7 @@ pub fn verdict(outline: &Outline, module: &Module, request: &Request, report: &[
     if let Some((_, number)) = refusals.into_iter().find(|r| r.0) {
         return Verdict::Refused(number).into();
     }
-    let marks = walk.found.lacks.iter().map(|l| Missing { statement: Some(l.statement), reason: l.reason.clone() });
-    let start = walk.start_faults(&context.globals, &context.arguments);
-    let missing: Vec<Missing> = marks.chain(start.into_iter().map(|reason| Missing { statement: None, reason })).collect();
+    let missing: Vec<Missing> = walk.missing_marks().chain(walk.missing_inputs(&context.globals, &context.arguments)).collect();
     let verdict = match missing.first() {
         Some(Missing { statement: Some(s), .. }) => Verdict::Statement(*s),
         Some(_) => Verdict::Start,
