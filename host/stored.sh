@@ -41,4 +41,7 @@ $host stored requests "$oracle" ../tests/requests.list ../examples "$scripts/cas
 for profile in tiny small; do files $profile 24 report- 1; done
 $host stored report "$oracle" ../tests/report.list ../examples/case-a.txt ../examples/casting.txt "$work"/report-* "$work/damaged"/x0000[0-4]*
 
+# for the check of reports: the second clearance's own answers
+$host stored clearance ../tests/clearance.list
+
 $host stored count ../tests/reading.list ../tests/requests.list

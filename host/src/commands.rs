@@ -1,4 +1,5 @@
 //! The commands: each reads its files, does one thing and says what went wrong.
+use crate::checks::listed;
 use crate::clearance::{campaign, show};
 use crate::measured::{self, File};
 use crate::stored::{Reading, Requests, Source};
@@ -12,12 +13,14 @@ host generate N SEED                a casting model of N statements, as a listin
 host stored reading ORACLE OUT SOURCE...    stored lists, from files and folders of files (.bin) and listings (.txt);
 host stored requests ORACLE OUT SOURCE...   ORACLE is the oracle's program, or the folder that has it
 host stored report ORACLE OUT SOURCE...
+host stored clearance OUT                   reports and contexts with the answers of this program's own clearance
 host stored count READING REQUESTS          a table of what the two lists reach
 host compare reading ORACLE SEED COUNT SOURCE...    the library against the oracle: the sources' modules and damaged copies of them
 host compare bindings ORACLE SEED COUNT SOURCE...   the same for the operations on bindings, asked anew of the sources' modules
 host compare requests ORACLE SEED COUNT SOURCE...   the same for requests: the sources, varied, damaged and generated modules, asked anew
+host check FILE REPORT       what is missing in a report from anyone on the file's module (REPORT: text, README.md), by this program's own clearance
 host clearance FILE          the verdict on the file's first request with the library's own report, by this program's own clearance
-host runs SEED COUNT         COUNT models of each generator with reports by several authors: the verdicts, and pairs of runs on what is cleared
+host runs SEED COUNT         generated models with reports by several authors: the verdicts, and at least COUNT pairs of runs on what is cleared
 host bench BENCH FILE...    the library's requests timed against the original's (BENCH: its program for timing, or the folder that has it); without FILE, on our own
 ";
 
@@ -31,11 +34,13 @@ pub fn run(words: &[&str]) -> Result<(), String> {
         ["stored", "reading", oracle, out, ref sources @ ..] => store_list(store::reading, oracle, out, sources),
         ["stored", "requests", oracle, out, ref sources @ ..] => store_list(store::requests, oracle, out, sources),
         ["stored", "report", oracle, out, ref sources @ ..] => store_list(store::report, oracle, out, sources),
+        ["stored", "clearance", out] => write(out, &library::with_stack(listed::list)?),
         ["stored", "count", reading, requests] => count_lists(reading, requests),
         ["compare", "reading", oracle, seed, count, ref sources @ ..] => compare_reading(oracle, seed, count, sources),
         ["compare", "bindings", oracle, seed, count, ref sources @ ..] => compare_bindings(oracle, seed, count, sources),
         ["compare", "requests", oracle, seed, count, ref sources @ ..] => compare_requests(oracle, seed, count, sources),
-        ["clearance", file] => print(&show::show(&read(file)?).map_err(|reason| format!("{file}: {reason}"))?),
+        ["clearance", file] => print(&show::own(&read(file)?).map_err(|reason| format!("{file}: {reason}"))?),
+        ["check", file, report] => check_report(file, report),
         ["runs", seed, count] => compare_runs(seed, count),
         ["bench", bench, ref files @ ..] => measure(bench, files),
         _ => Err(USAGE.into()),
@@ -115,6 +120,12 @@ fn compare_requests(oracle: &str, seed: &str, count: &str, sources: &[&str]) -> 
     let start = std::time::Instant::now();
     let reached = requests::compare(&program(oracle, "oracle"), number(seed)?, number(count)?, &store::sources(sources)?)?;
     print(&format!("seed: {seed}\nseconds: {}\n{}", start.elapsed().as_secs(), reached.lines()))
+}
+
+fn check_report(file: &str, report: &str) -> Result<(), String> {
+    let text = String::from_utf8_lossy(&read(report)?).into_owned();
+    let bytes = if file.ends_with(".txt") { store::sources(&[file])?.concat() } else { read(file)? };
+    print(&show::given(&bytes, &text).map_err(|reason| format!("{report}: {reason}"))?)
 }
 
 fn compare_runs(seed: &str, count: &str) -> Result<(), String> {

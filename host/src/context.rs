@@ -31,6 +31,12 @@ impl Context {
         part::write_list(&self.locals, fields);
     }
 
+    pub fn record(&self) -> Vec<u8> {
+        let mut fields = Vec::new();
+        self.write(&mut fields);
+        record::write_long(*b"CX", &fields)
+    }
+
     /// A report's lines.
     pub fn lines(&self) -> String {
         let mut text = lines("global", &self.globals);
@@ -61,8 +67,5 @@ pub fn lines(name: &str, parts: &Parts) -> String {
 
 /// The record of a context that asks for these parts of the arguments, ascending, and for nothing else.
 pub fn of_arguments(args: &[(u16, Part)]) -> Vec<u8> {
-    let context = Context { retval: Part::None, globals: Vec::new(), arguments: args.to_vec(), locals: Vec::new() };
-    let mut fields = Vec::new();
-    context.write(&mut fields);
-    record::write_long(*b"CX", &fields)
+    Context { retval: Part::None, globals: Vec::new(), arguments: args.to_vec(), locals: Vec::new() }.record()
 }

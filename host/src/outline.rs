@@ -137,7 +137,7 @@ impl Statement {
     }
 
     /// StatementReq's name.
-    fn name(&self) -> &'static str {
+    pub fn name(&self) -> &'static str {
         const NAMES: [&str; 16] = [
             "emit",
             "blockstmt",

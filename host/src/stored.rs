@@ -67,6 +67,46 @@ impl Requests {
     }
 }
 
+/// A module with checks of reports: request, report and context, and the second clearance's answer by its number.
+#[derive(PartialEq, Eq, Debug)]
+pub struct Checks {
+    pub module: Vec<u8>,
+    pub checks: Vec<Check>,
+}
+
+#[derive(PartialEq, Eq, Debug)]
+pub struct Check {
+    pub request: Vec<u8>,
+    pub report: Vec<u8>,
+    pub context: Vec<u8>,
+    pub answer: u64,
+}
+
+impl Checks {
+    pub fn write(&self, out: &mut Vec<u8>) {
+        string(&self.module, out);
+        out.extend((self.checks.len() as u16).to_le_bytes());
+        for check in &self.checks {
+            [&check.request, &check.report, &check.context].into_iter().for_each(|bytes| string(bytes, out));
+            out.extend(check.answer.to_le_bytes());
+        }
+    }
+
+    pub fn read(source: &mut Source) -> Option<Checks> {
+        let (module, count) = (source.string()?, source.short()?);
+        let checks = (0..count).map(|_| Check::read(source)).collect::<Option<_>>()?;
+        Some(Checks { module, checks })
+    }
+}
+
+impl Check {
+    fn read(source: &mut Source) -> Option<Check> {
+        let (request, report, context) = (source.string()?, source.string()?, source.string()?);
+        let answer = u64::from(source.long()?) + (u64::from(source.long()?) << 32);
+        Some(Check { request, report, context, answer })
+    }
+}
+
 fn write_answer(a: &Answer, out: &mut Vec<u8>) {
     let place = a.place.map_or([0, 0, 0], |p| [1 + p.statement as u16, p.function, p.number]);
     for field in [a.refusal, place[0], place[1], place[2]] {
@@ -154,5 +194,15 @@ mod tests {
         let read = Source(&out).all(Requests::read).unwrap();
         assert_eq!(read, [Requests::read(&mut Source(&out)).unwrap(), case]);
         assert!(Source(&out[..out.len() - 1]).all(Requests::read).is_none());
+    }
+
+    #[test]
+    fn checks_are_read_back() {
+        let check = |answer| Check { request: vec![1], report: vec![], context: vec![2, 3], answer };
+        let case = Checks { module: vec![9; 300], checks: vec![check(21 << 32), check(131_079)] };
+        let mut out = Vec::new();
+        case.write(&mut out);
+        assert_eq!(Source(&out).all(Checks::read), Some(vec![case]));
+        assert!(Source(&out[..out.len() - 1]).all(Checks::read).is_none());
     }
 }

@@ -4,13 +4,14 @@ use super::judged::unjudged;
 use super::needs::Key;
 use super::verdict::{verdict, Judgement};
 use super::walk::Walk;
+use crate::check;
 use crate::context::Context;
 use crate::lent::Lent;
 use crate::limits;
 use crate::outline::Outline;
 use crate::part::{Part, Parts};
 use crate::random::Random;
-use crate::record::{fields, records, split};
+use crate::record::{fields, records, split, write};
 use crate::request::Request;
 
 /// A module with a request, in every form that is needed here.
@@ -33,12 +34,18 @@ pub struct Report {
 impl Asked {
     /// A file's module, which reading accepts, and its first request, which fits.
     pub fn of(file: &[u8]) -> Option<Asked> {
-        crate::check::file(file).ok()?;
         let (bytes, rest) = file.split_at(split(file));
         let first = records(rest).0.into_iter().next()?;
-        let request = Request::read(&fields(first.body))?;
-        let record = rest[..4 + first.body.len()].to_vec();
-        Some(Asked { bytes: bytes.to_vec(), record, outline: Outline::of(bytes), module: Module::of(bytes), request })
+        Asked::asking(bytes, Request::read(&fields(first.body))?).ok()
+    }
+
+    /// A module that reading accepts with a request that fits it, or why not.
+    pub fn asking(bytes: &[u8], request: Request) -> Result<Asked, String> {
+        let refused = |r: check::Refusal| format!("refused {}: {}", r.number, r.reason);
+        let known = check::module(bytes).map_err(refused)?;
+        let record = write(*b"RQ", &request.fields()).ok_or("the request is too long")?;
+        check::request(&records(&record).0[0], &known).map_err(refused)?;
+        Ok(Asked { bytes: bytes.to_vec(), record, outline: Outline::of(bytes), module: Module::of(bytes), request })
     }
 
     fn number(&self) -> usize {

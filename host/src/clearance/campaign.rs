@@ -1,6 +1,7 @@
 //! Many models, each with reports by every author: what the verdicts are, and pairs of runs on each report that is cleared.
 use super::authors::{damaged, Asked, Report};
-use super::pair::{self, Pairs};
+use super::pair::{self, Pairing, Pairs};
+use super::plan::Plan;
 use super::verdict::Verdict;
 use super::wild;
 use crate::list::list;
@@ -8,7 +9,7 @@ use crate::outline::Outline;
 use crate::random::Random;
 use crate::record::split;
 use crate::vary::varied;
-use crate::{limits, model};
+use crate::{limits, model, report_text};
 use std::collections::BTreeMap;
 use std::fmt::Write;
 
@@ -24,26 +25,39 @@ pub struct Campaign {
 
 /// Copies of each author's report that are damaged.
 const DAMAGED: usize = 4;
-/// Pairs of inputs for each cleared report.
-const INPUTS: usize = 3;
+/// Pairs of inputs for each cleared report, and for each that is not.
+const INPUTS: usize = 8;
+const TRIES: usize = 2;
 
-/// So many models of each generator: casting models, most often small ones, and wild functions.
+/// Casting models, most often small ones, and wild functions, until so many pairs of runs were compared.
 pub fn run(seed: u64, count: usize) -> Result<String, String> {
     let mut random = Random::new(seed);
-    let (mut models, mut functions, mut others) = (Campaign::default(), Campaign::default(), Campaign::default());
-    for _ in 0..count {
-        let size = if random.chance(95) { random.between(model::LEAST, 120) } else { random.between(120, limits::STATEMENTS) };
-        models.model(&model::generate(size, random.bits())?, INPUTS, &mut random)?;
-        let size = random.between(1, 20);
-        let function = wild::generate(size, random.bits());
+    let start = std::time::Instant::now();
+    let [mut models, mut functions, mut others] = [(); 3].map(|()| Campaign::default());
+    while models.pairs.same + functions.pairs.same + others.pairs.same < count {
+        if random.chance(15) {
+            models.model(&casting(&mut random)?, INPUTS, &mut random)?;
+        }
+        let function = wild::generate(random.between(1, 20), random.bits());
         functions.model(&function, INPUTS, &mut random)?;
-        others.model(&varied_file(&function, &mut random), INPUTS, &mut random)?;
+        if random.chance(30) {
+            others.model(&varied_file(&function, &mut random), INPUTS, &mut random)?;
+        }
     }
-    Ok(format!("casting models\n{}wild functions\n{}varied ones\n{}", models.lines(), functions.lines(), others.lines()))
+    let all = models.pairs.same + functions.pairs.same + others.pairs.same;
+    let seconds = start.elapsed().as_secs_f64();
+    let head = format!("seed: {seed}\nseconds: {seconds:.0}\npairs: {all}, a second: {:.0}\n", all as f64 / seconds);
+    Ok(format!("{head}casting models\n{}wild functions\n{}varied ones\n{}", models.lines(), functions.lines(), others.lines()))
+}
+
+/// A casting model, most often a small one.
+pub fn casting(random: &mut Random) -> Result<Vec<u8>, String> {
+    let size = if random.chance(95) { random.between(model::LEAST, 120) } else { random.between(120, limits::STATEMENTS) };
+    model::generate(size, random.bits())
 }
 
 /// The file with some of its expressions and statements varied, judged or not.
-fn varied_file(file: &[u8], random: &mut Random) -> Vec<u8> {
+pub fn varied_file(file: &[u8], random: &mut Random) -> Vec<u8> {
     let (module, requests) = file.split_at(split(file));
     [&varied(module, &Outline::of(module), random), requests].concat()
 }
@@ -62,10 +76,11 @@ impl Campaign {
         if judged {
             reports.extend([("all marked", asked.all_marked()), ("grown", asked.grown())]);
         }
+        let plan = (judged && pair::is_small(&asked)).then(|| Plan::of(&asked.module, asked.function()));
         for (author, report) in &reports {
-            self.report(&asked, author, report, inputs, random)?;
+            self.report(&asked, plan.as_ref(), (author, report), inputs, random)?;
             for _ in 0..DAMAGED {
-                self.report(&asked, "damaged", &damaged(report, random), inputs, random)?;
+                self.report(&asked, plan.as_ref(), ("damaged", &damaged(report, random)), inputs, random)?;
             }
         }
         Ok(())
@@ -75,26 +90,29 @@ impl Campaign {
         *self.verdicts.entry((author, word.into())).or_default() += 1;
     }
 
-    fn report(&mut self, asked: &Asked, author: &'static str, report: &Report, inputs: usize, random: &mut Random) -> Result<(), String> {
-        let judgement = asked.judge(report);
-        self.count(author, &sort(&judgement.verdict));
-        if !pair::is_small(asked) {
-            return Ok(());
-        }
-        match judgement.verdict {
-            Verdict::Clear => {}
-            Verdict::Statement(_) | Verdict::Start => {
-                let differs = (0..inputs).any(|_| pair::compare(asked, report, random).is_err());
-                *self.refuted.entry(author).or_default() += usize::from(differs);
-                return Ok(());
+    fn report(
+        &mut self,
+        asked: &Asked,
+        plan: Option<&Plan>,
+        (author, report): (&'static str, &Report),
+        inputs: usize,
+        random: &mut Random,
+    ) -> Result<(), String> {
+        let verdict = asked.judge(report).verdict;
+        self.count(author, &verdict.sort());
+        let Some(plan) = plan else { return Ok(()) };
+        let pairing = Pairing::of(asked, plan, report);
+        match verdict {
+            Verdict::Clear => {
+                for _ in 0..inputs {
+                    self.pairs += pairing.compare(random).map_err(|reason| difference(asked, author, report, &reason))?;
+                }
             }
-            Verdict::Unjudged(_) | Verdict::Refused(_) => return Ok(()),
-        }
-        for _ in 0..inputs {
-            let pairs = pair::compare(asked, report, random).map_err(|reason| difference(asked, author, report, &reason))?;
-            self.pairs.same += pairs.same;
-            self.pairs.skipped += pairs.skipped;
-            self.pairs.apart += pairs.apart;
+            Verdict::Statement(_) | Verdict::Start => {
+                let differs = (0..TRIES).any(|_| pairing.compare(random).is_err());
+                *self.refuted.entry(author).or_default() += usize::from(differs);
+            }
+            Verdict::Unjudged(_) | Verdict::Refused(_) => {}
         }
         Ok(())
     }
@@ -112,17 +130,6 @@ impl Campaign {
     }
 }
 
-/// A verdict without its number, refusals with theirs.
-fn sort(verdict: &Verdict) -> String {
-    match verdict {
-        Verdict::Statement(_) => "stmt".into(),
-        Verdict::Unjudged(_) => "unjudged".into(),
-        other => other.to_string(),
-    }
-}
-
 fn difference(asked: &Asked, author: &str, report: &Report, reason: &str) -> String {
-    let marks = &asked.outline.functions[asked.request.function as usize];
-    let lines = marks.lines(&report.marks[asked.outline.stretch(asked.request.function as usize)]);
-    format!("{author}: {reason}\n{}request {}\n{}{lines}", list(&asked.bytes), asked.request.show(), report.context.lines())
+    format!("{author}: {reason}\n{}{}", list(&asked.bytes), report_text::show(asked, report))
 }

@@ -18,6 +18,8 @@ pub struct Function {
     pub locals: Vec<Id>,
     pub types: Vec<Id>,
     pub expressions: Vec<Expression>,
+    /// Of each expression, whether it is a path: a variable, or an index of a path.
+    pub paths: Vec<bool>,
     pub statements: Vec<Statement>,
     /// The statements of each block; the last is the body.
     pub blocks: Vec<Vec<usize>>,
@@ -125,8 +127,10 @@ impl Function {
             Mark::Argument => self.arguments.push(ids[fields[0] as usize]),
             Mark::Local => self.locals.push(ids[fields[0] as usize]),
             Mark::Expression => {
+                let made = expression(&fields[1..]).unwrap_or(Expression::Other);
                 self.types.push(ids[fields[0] as usize]);
-                self.expressions.push(expression(&fields[1..]).unwrap_or(Expression::Other));
+                self.paths.push(self.is_path(&made));
+                self.expressions.push(made);
             }
             Mark::Block => self.blocks.push(Vec::new()),
             Mark::Statement => {
@@ -135,6 +139,14 @@ impl Function {
                 self.blocks.iter_mut().last().into_iter().for_each(|b| b.push(number));
             }
             _ => {}
+        }
+    }
+
+    fn is_path(&self, expression: &Expression) -> bool {
+        match *expression {
+            Expression::GlobalVariable(_) | Expression::LocalVariable(_) => true,
+            Expression::AccessIndex { base, .. } | Expression::Access { base, .. } => self.paths[base],
+            _ => false,
         }
     }
 

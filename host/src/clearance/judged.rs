@@ -39,49 +39,64 @@ impl Judge<'_> {
         self.function.types[e]
     }
 
+    fn is_pointer(&self, e: Handle) -> bool {
+        self.shapes.pointee(self.shape(e)).is_some()
+    }
+
+    /// What serves as a value: neither a path nor a pointer.
     fn is_value(&self, e: Handle) -> bool {
-        self.shapes.pointee(self.shape(e)).is_none()
+        !self.function.paths[e] && !self.is_pointer(e)
+    }
+
+    /// What a path leads to. Its expression has that type ("as declared") or a pointer to it.
+    fn led_to(&self, e: Handle) -> Id {
+        self.shapes.led_to(self.shape(e))
+    }
+
+    /// Whether this is a path to something of this shape.
+    fn leads_to(&self, path: Handle, shape: Id) -> bool {
+        self.function.paths[path] && self.led_to(path) == shape
     }
 
     fn expression(&self, e: Handle) -> bool {
         let shape = self.shape(e);
-        let pointee = self.shapes.pointee(shape);
-        if self.shapes.is_unsized(shape) || pointee.is_some_and(|p| self.shapes.is_unsized(p)) {
+        if self.shapes.is_unsized(shape) || self.shapes.is_unsized(self.led_to(e)) {
             return false;
         }
         match self.function.expressions[e] {
-            Expression::AccessIndex { base, index } => self.is_member(base, |s| self.shapes.member(s, index), shape),
-            Expression::Access { base, index } => self.is_value(index) && self.is_member(base, |s| self.shapes.element(s), shape),
-            Expression::GlobalVariable(g) => self.is_variable(self.module.globals[g as usize], pointee),
-            Expression::LocalVariable(l) => self.is_variable(self.function.locals[l as usize], pointee),
-            _ => pointee.is_none() && self.value(e, shape),
+            Expression::AccessIndex { base, index } => self.is_member(base, |s| self.shapes.member(s, index), e),
+            Expression::Access { base, index } => self.is_value(index) && self.is_member(base, |s| self.shapes.element(s), e),
+            Expression::GlobalVariable(g) => self.is_variable(self.module.globals[g as usize], e),
+            Expression::LocalVariable(l) => self.is_variable(self.function.locals[l as usize], e),
+            _ => !self.is_pointer(e) && self.value(e, shape),
         }
     }
 
-    /// A pointer to the variable's own type, which is no pointer.
-    fn is_variable(&self, declared: Id, pointee: Option<Id>) -> bool {
-        pointee == Some(declared) && self.shapes.pointee(declared).is_none()
+    /// As declared, which is no pointer.
+    fn is_variable(&self, declared: Id, e: Handle) -> bool {
+        self.led_to(e) == declared && self.shapes.pointee(declared).is_none()
     }
 
-    /// A pointer's member is a pointer, a value's member a value.
-    fn is_member(&self, base: Handle, member: impl Fn(Id) -> Option<Id>, shape: Id) -> bool {
-        match (self.shapes.pointee(self.shape(base)), self.shapes.pointee(shape)) {
-            (Some(from), Some(to)) => member(from) == Some(to),
-            (None, None) => member(self.shape(base)) == Some(shape),
-            _ => false,
+    /// A path's member is what the path leads to further, a value's member a value.
+    fn is_member(&self, base: Handle, member: impl Fn(Id) -> Option<Id>, e: Handle) -> bool {
+        if self.function.paths[base] {
+            return member(self.led_to(base)) == Some(self.led_to(e));
         }
+        self.is_value(base) && self.is_value(e) && member(self.shape(base)) == Some(self.shape(e))
     }
 
     /// Expressions that give values, this one of no pointer's shape.
     fn value(&self, e: Handle, shape: Id) -> bool {
-        let same = |o: Handle| self.shape(o) == shape;
+        let same = |o: Handle| self.is_value(o) && self.shape(o) == shape;
         match self.function.expressions[e] {
             Expression::Literal | Expression::ZeroValue | Expression::Constant => true,
-            Expression::Splat(value) => matches!(self.shapes.get(shape), Shape::Vector(_)) && self.shape(value) == shape::SCALAR,
-            Expression::Swizzle { vector, ref pattern } => self.is_swizzle(vector, pattern, shape),
+            Expression::Splat(value) => {
+                matches!(self.shapes.get(shape), Shape::Vector(_)) && self.is_value(value) && self.shape(value) == shape::SCALAR
+            }
+            Expression::Swizzle { vector, ref pattern } => self.is_value(vector) && self.is_swizzle(vector, pattern, shape),
             Expression::Compose(ref components) => components.iter().all(|c| self.is_value(*c)) && self.is_compose(components, shape),
             Expression::FunctionArgument(a) => self.function.arguments[a as usize] == shape,
-            Expression::Load(pointer) => self.shapes.pointee(self.shape(pointer)) == Some(shape),
+            Expression::Load(pointer) => self.leads_to(pointer, shape),
             Expression::Unary(operand) | Expression::As(operand) => same(operand),
             Expression::Select { condition, accept, reject } => self.is_value(condition) && same(accept) && same(reject),
             Expression::Binary(left, right) => self.is_value(left) && self.is_value(right),
@@ -147,9 +162,7 @@ impl Judge<'_> {
             Statement::Return(value) => {
                 !stays.continuing && value.is_none_or(|v| self.is_value(v) && self.function.result == Some(self.shape(v)))
             }
-            Statement::Store { pointer, value } => {
-                self.is_value(value) && self.shapes.pointee(self.shape(pointer)) == Some(self.shape(value))
-            }
+            Statement::Store { pointer, value } => self.is_value(value) && self.leads_to(pointer, self.shape(value)),
             Statement::Other => false,
         }
     }

@@ -7,14 +7,12 @@ use super::shape::Shape;
 use super::walk::Walk;
 
 /// Whether an emit of it changes nothing: literals, zero values, constants, arguments and variable paths.
-pub fn is_exempt(module: &Module, function: &Function, e: Handle) -> bool {
-    match function.expressions[e] {
-        Expression::Literal | Expression::ZeroValue | Expression::Constant | Expression::FunctionArgument(_) => true,
-        Expression::GlobalVariable(_) | Expression::LocalVariable(_) | Expression::AccessIndex { .. } | Expression::Access { .. } => {
-            module.shapes.pointee(function.types[e]).is_some()
-        }
-        _ => false,
-    }
+pub fn is_exempt(function: &Function, e: Handle) -> bool {
+    let fixed = matches!(
+        function.expressions[e],
+        Expression::Literal | Expression::ZeroValue | Expression::Constant | Expression::FunctionArgument(_)
+    );
+    fixed || function.paths[e]
 }
 
 /// Whether a Binary is by part: the result is a scalar or a vector, and both operands have its shape.

@@ -116,6 +116,11 @@ impl Shapes {
         }
     }
 
+    /// What a path of this type leads to: what it points to, or the type itself where it is no pointer.
+    pub fn led_to(&self, id: Id) -> Id {
+        self.pointee(id).unwrap_or(id)
+    }
+
     /// What stands under an index, if it is within the type. No index is outside a run-sized or binding array.
     pub fn member(&self, id: Id, index: u16) -> Option<Id> {
         match self.list[id] {
@@ -134,6 +139,25 @@ impl Shapes {
             Shape::Struct(_) => None,
             _ => self.member(id, 0),
         }
+    }
+
+    /// How many elements an array has that is not run-sized.
+    pub fn elements(&self, id: Id) -> Option<u16> {
+        match self.list[id] {
+            Shape::Array { count, .. } if count > 0 => Some(count),
+            _ => None,
+        }
+    }
+
+    /// How many numbers of a value stand before those of this member.
+    pub fn offset(&self, id: Id, index: u16) -> usize {
+        let before = match self.list[id] {
+            Shape::Matrix { rows, .. } => u64::from(index) * u64::from(rows),
+            Shape::Array { base, .. } => u64::from(index) * self.sizes[base],
+            Shape::Struct(ref members) => members[..index as usize].iter().map(|m| self.sizes[*m]).sum(),
+            _ => u64::from(index),
+        };
+        before as usize
     }
 
     /// How many members taking out splits it into; nothing if it is not split.

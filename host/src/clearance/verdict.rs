@@ -1,7 +1,7 @@
 //! What the clearance answers.
 use super::function::Module;
 use super::judged::{unjudged, Item};
-use super::walk::{Lack, Walk};
+use super::walk::Walk;
 use crate::check;
 use crate::context::Context;
 use crate::outline::Outline;
@@ -31,20 +31,69 @@ impl fmt::Display for Verdict {
     }
 }
 
-/// A verdict with the reason for it: the lowest broken rule, or what is wrong at the start.
+/// Where a verdict's number says what it names, and where a refusal stands.
+const STATEMENT: u64 = 2 << 16;
+const UNJUDGED_EXPRESSION: u64 = 3 << 16;
+const UNJUDGED_STATEMENT: u64 = 4 << 16;
+const REFUSED: u64 = 1 << 32;
+
+impl Verdict {
+    /// The number that means it across the C boundary.
+    pub fn word(&self) -> u64 {
+        match *self {
+            Verdict::Clear => 0,
+            Verdict::Start => 1,
+            Verdict::Statement(s) => STATEMENT + s as u64,
+            Verdict::Unjudged(Item::Expression(e)) => UNJUDGED_EXPRESSION + e as u64,
+            Verdict::Unjudged(Item::Statement(s)) => UNJUDGED_STATEMENT + s as u64,
+            Verdict::Refused(number) => REFUSED * u64::from(number),
+        }
+    }
+
+    /// What a number means, if it means a verdict.
+    pub fn of_word(word: u64) -> Option<Verdict> {
+        let number = (word % (1 << 16)) as usize;
+        let verdict = match word - number as u64 {
+            0 if word == 0 => Verdict::Clear,
+            0 => Verdict::Start,
+            STATEMENT => Verdict::Statement(number),
+            UNJUDGED_EXPRESSION => Verdict::Unjudged(Item::Expression(number)),
+            UNJUDGED_STATEMENT => Verdict::Unjudged(Item::Statement(number)),
+            _ => Verdict::Refused((word / REFUSED) as u32),
+        };
+        (verdict.word() == word && verdict != Verdict::Refused(0)).then_some(verdict)
+    }
+
+    /// Without the number that it names; a refusal keeps its own.
+    pub fn sort(&self) -> String {
+        match self {
+            Verdict::Statement(_) => "stmt".into(),
+            Verdict::Unjudged(Item::Expression(_)) => "unjudged expr".into(),
+            Verdict::Unjudged(Item::Statement(_)) => "unjudged stmt".into(),
+            other => other.to_string(),
+        }
+    }
+}
+
+/// A verdict with all that is missing: marks, by statement ascending, then what the context lacks at the start.
 #[derive(Clone, PartialEq, Eq, Debug)]
 pub struct Judgement {
     pub verdict: Verdict,
-    pub reason: Option<String>,
+    pub missing: Vec<Missing>,
 }
 
-impl Judgement {
-    fn plain(verdict: Verdict) -> Judgement {
-        Judgement { verdict, reason: None }
-    }
+/// A mark of a statement, or without one something at the start.
+#[derive(Clone, PartialEq, Eq, Debug)]
+pub struct Missing {
+    pub statement: Option<usize>,
+    /// What an emit is to give.
+    pub expression: Option<usize>,
+    pub reason: String,
+}
 
-    fn because(verdict: Verdict, reason: &str) -> Judgement {
-        Judgement { verdict, reason: Some(reason.into()) }
+impl From<Verdict> for Judgement {
+    fn from(verdict: Verdict) -> Judgement {
+        Judgement { verdict, missing: Vec::new() }
     }
 }
 
@@ -94,21 +143,40 @@ fn read_context(bytes: &[u8]) -> Option<Context> {
 pub fn verdict(outline: &Outline, module: &Module, request: &Request, report: &[u8], context: &Context) -> Judgement {
     let number = request.function as usize;
     let stretch = report.get(outline.stretch(number)).filter(|marks| marks.iter().all(|m| *m <= 1));
-    let Some(marks) = stretch else { return Judgement::plain(Verdict::Refused(21)) };
+    let Some(marks) = stretch else { return Verdict::Refused(21).into() };
     if let Some(item) = unjudged(module, &module.functions[number]) {
-        return Judgement::plain(Verdict::Unjudged(item));
+        return Verdict::Unjudged(item).into();
     }
     let mut walk = Walk::new(module, request, outline.functions[number].own(marks));
     walk.rounds();
     let refusals = [(walk.found.given_up, 26), (walk.found.deep, 15), (walk.found.many, 16)];
     if let Some((_, number)) = refusals.into_iter().find(|r| r.0) {
-        return Judgement::plain(Verdict::Refused(number));
+        return Verdict::Refused(number).into();
     }
-    if let Some(Lack { statement, reason, .. }) = walk.found.lacks.first() {
-        return Judgement::because(Verdict::Statement(*statement), reason);
-    }
-    match walk.start_faults(&context.globals, &context.arguments).first() {
-        Some(reason) => Judgement::because(Verdict::Start, reason),
-        None => Judgement::plain(Verdict::Clear),
+    let missing: Vec<Missing> = walk.missing_marks().chain(walk.missing_inputs(&context.globals, &context.arguments)).collect();
+    let verdict = match missing.first() {
+        Some(Missing { statement: Some(s), .. }) => Verdict::Statement(*s),
+        Some(_) => Verdict::Start,
+        None => Verdict::Clear,
+    };
+    Judgement { verdict, missing }
+}
+
+#[cfg(test)]
+mod tests {
+    use super::*;
+
+    #[test]
+    fn numbers_mean_verdicts() {
+        let items = [Item::Expression(1023), Item::Statement(0)].map(Verdict::Unjudged);
+        let others =
+            [Verdict::Clear, Verdict::Start, Verdict::Statement(0), Verdict::Statement(1023), Verdict::Refused(1), Verdict::Refused(26)];
+        for verdict in items.into_iter().chain(others) {
+            assert_eq!(Verdict::of_word(verdict.word()), Some(verdict));
+        }
+        assert_eq!((Verdict::Statement(7).word(), Verdict::Refused(21).word()), (131_079, 21 << 32));
+        for word in [2, 65_536, 131_071, 5 << 16, (1 << 32) - 1, (21 << 32) + 1] {
+            assert_eq!(Verdict::of_word(word), None, "{word}");
+        }
     }
 }

@@ -6,6 +6,7 @@ use super::need::{Pieces, ALL};
 use super::needs::{self, join, name, Key, Needs};
 use super::operands::is_exempt;
 use super::path::Path;
+use super::verdict::Missing;
 use crate::limits;
 use crate::part::Part;
 use crate::request::Request;
@@ -126,12 +127,12 @@ impl<'a> Walk<'a> {
     fn emit(&mut self, s: usize, first: Handle, last: Handle, after: Needs) -> Needs {
         let mut needs = after;
         for e in (first..=last).rev() {
-            if is_exempt(self.module, self.function, e) {
+            if is_exempt(self.function, e) {
                 continue;
             }
             let Some(need) = needs.remove(&Key::Expression(e)) else { continue };
             if self.marks[s][e - first] == 0 {
-                self.lack(s, e - first, format!("expr {e} is needed after it and not marked"));
+                self.lack(s, e - first, "it is needed after the emit, and not marked".into());
             }
             self.spread(&mut needs, e, need);
             self.point(&needs);
@@ -234,22 +235,37 @@ impl<'a> Walk<'a> {
         before
     }
 
-    /// Whether the needs at the start of a global or an argument are in the context; evaluated expressions may have none.
-    pub fn start_faults(&self, globals: &[(u16, Part)], arguments: &[(u16, Part)]) -> Vec<String> {
-        let within = |parts: &[(u16, Part)], n: u16, need| {
-            let found = parts.iter().find(|p| p.0 == n);
-            found.is_some_and(|(_, part)| self.pieces.is_contained(need, part))
-        };
-        let fault = |(key, need): (&Key, &usize)| {
-            let fine = match *key {
-                Key::Global(g) => within(globals, g, *need),
-                Key::Argument(a) => within(arguments, a, *need),
-                Key::Local(_) => true,
-                Key::Expression(_) => false,
+    /// The marks whose lack breaks a rule, by statement ascending.
+    pub fn missing_marks(&self) -> impl Iterator<Item = Missing> + '_ {
+        self.found.lacks.iter().map(|lack| {
+            let expression = match self.function.statements[lack.statement] {
+                Statement::Emit { first, .. } => Some(first + lack.mark),
+                _ => None,
             };
-            (!fine).then(|| format!("{} {} is needed at the start", name(*key), self.pieces.part(*need)))
-        };
-        self.found.start.iter().filter_map(fault).collect()
+            Missing { statement: Some(lack.statement), expression, reason: lack.reason.clone() }
+        })
+    }
+
+    /// The needs at the start of globals and arguments that are not in the context; evaluated expressions may have none.
+    pub fn missing_inputs<'b>(&'b self, globals: &'b [(u16, Part)], arguments: &'b [(u16, Part)]) -> impl Iterator<Item = Missing> + 'b {
+        let given = |parts: &'b [(u16, Part)], n: u16| parts.iter().find(|p| p.0 == n).map(|p| &p.1);
+        self.found.start.iter().filter_map(move |(key, need)| {
+            let context = match *key {
+                Key::Global(g) => given(globals, g),
+                Key::Argument(a) => given(arguments, a),
+                Key::Local(_) => return None,
+                Key::Expression(e) => {
+                    let reason = "it is needed at the start: no emit gives it before its use".into();
+                    return Some(Missing { statement: None, expression: Some(e), reason });
+                }
+            };
+            if context.is_some_and(|part| self.pieces.is_contained(*need, part)) {
+                return None;
+            }
+            let has = context.map_or("nothing of it".into(), |part| part.to_string());
+            let reason = format!("{} {} is needed at the start, and the context has {has}", name(*key), self.pieces.part(*need));
+            Some(Missing { statement: None, expression: None, reason })
+        })
     }
 
     /// The needs of globals, or of arguments, at the start, as parts.

@@ -3,12 +3,18 @@
 use crate::assemble::assemble;
 use crate::random::Random;
 
-/// Types by number: scalar, vectors, a matrix of two columns, a struct, an array of it, and a struct of those; then pointers to them.
+/// Types by number: scalar, vectors, a matrix of two columns, a struct, an array of it, and a struct of those; an atomic, a struct of
+/// nothing, a third vector, and a struct of those; then pointers to them.
 const TYPES: &str = "type Scalar\ntype Vector 2\ntype Vector 3\ntype Matrix 2 3\ntype Struct [0:- 1:-]\ntype Array 4 3\n\
-                     type Struct [5:- 0:- 3:- 4:-]\n";
-const COUNT: usize = 7;
-const MEMBERS: [&[usize]; COUNT] = [&[], &[0, 0], &[0, 0, 0], &[2, 2], &[0, 1], &[4, 4, 4], &[5, 0, 3, 4]];
-const GLOBALS: [usize; 3] = [6, 4, 5];
+                     type Struct [5:- 0:- 3:- 4:-]\ntype Atomic\ntype Struct []\ntype Vector 4\ntype Struct [7:- 8:- 9:-]\n";
+const COUNT: usize = 11;
+const MEMBERS: [&[usize]; COUNT] =
+    [&[], &[0, 0], &[0, 0, 0], &[2, 2], &[0, 1], &[4, 4, 4], &[5, 0, 3, 4], &[], &[], &[0, 0, 0, 0], &[7, 8, 9]];
+const VECTORS: [usize; 3] = [1, 2, 9];
+const STRUCTS: [usize; 4] = [4, 6, 8, 10];
+/// Those that have no value of their own to compose.
+const SINGLE: [usize; 2] = [0, 7];
+const GLOBALS: [usize; 4] = [6, 4, 5, 10];
 
 struct Wild {
     random: Random,
@@ -19,6 +25,8 @@ struct Wild {
     blocks: Vec<Vec<String>>,
     left: usize,
     result: usize,
+    /// How many paths of a hundred have the type of what they lead to, and no pointer to it.
+    plain: usize,
 }
 
 /// What may be left from where a statement stands.
@@ -32,12 +40,20 @@ struct Inside {
 /// A function of about so many statements, with one request.
 pub fn generate(statements: usize, seed: u64) -> Vec<u8> {
     let mut random = Random::new(seed);
-    let result = random.below(COUNT);
-    let mut wild = Wild { random, expressions: Vec::new(), values: Vec::new(), emitted: 0, blocks: Vec::new(), left: statements, result };
+    let result = drawn(&mut random);
+    let plain = *random.pick(&[0, 0, 50, 100]);
+    let (expressions, values, blocks) = (Vec::new(), Vec::new(), Vec::new());
+    let mut wild = Wild { random, expressions, values, emitted: 0, blocks, left: statements, result, plain };
     wild.first_expressions();
     let body = wild.block(Inside::default(), statements, 3, true);
     assert_eq!(body + 1, wild.blocks.len());
     assemble(&wild.listing()).unwrap_or_else(|f| panic!("line {}: {}", f.line, f.reason)).bytes
+}
+
+/// A type: the first ones more often.
+fn drawn(random: &mut Random) -> usize {
+    let count = if random.chance(70) { 7 } else { COUNT };
+    random.below(count)
 }
 
 impl Wild {
@@ -55,7 +71,9 @@ impl Wild {
         self.emitted = self.expressions.len();
     }
 
+    /// A kind past the values' is a path's.
     fn add(&mut self, kind: usize, operator: String) -> usize {
+        let kind = if kind >= COUNT && self.random.chance(self.plain) { kind - COUNT } else { kind };
         self.expressions.push(format!("expr {kind} {operator}\n"));
         self.expressions.len() - 1
     }
@@ -63,8 +81,14 @@ impl Wild {
     /// A pointer to a part of this type.
     fn pointer(&mut self, kind: usize) -> usize {
         for _ in 0..6 {
-            let (mut at, mut own) =
-                *self.random.pick(&[(COUNT + 6, 6), (COUNT + 5, 5), (2 * COUNT, 6), (2 * COUNT + 1, 4), (2 * COUNT + 2, 5)]);
+            let (mut at, mut own) = *self.random.pick(&[
+                (COUNT + 6, 6),
+                (COUNT + 5, 5),
+                (2 * COUNT, 6),
+                (2 * COUNT + 1, 4),
+                (2 * COUNT + 2, 5),
+                (2 * COUNT + 3, 10),
+            ]);
             while own != kind && !MEMBERS[own].is_empty() {
                 (at, own) = self.step(COUNT, at, own);
             }
@@ -79,7 +103,7 @@ impl Wild {
     fn step(&mut self, pointer: usize, at: usize, own: usize) -> (usize, usize) {
         let index = self.random.below(MEMBERS[own].len());
         let inner = MEMBERS[own][index];
-        if own != 4 && own != 6 && self.random.chance(35) {
+        if !STRUCTS.contains(&own) && self.random.chance(35) {
             let by = self.value(0, 0);
             return (self.add(pointer + inner, format!("Access {at} {by}")), inner);
         }
@@ -108,7 +132,7 @@ impl Wild {
 
     /// A part of a greater value.
     fn member(&mut self, kind: usize, depth: usize) -> usize {
-        let mut own = *self.random.pick(&[1, 2, 2, 3, 4, 5, 6]);
+        let mut own = *self.random.pick(&[1, 2, 2, 3, 4, 5, 6, 9, 10]);
         let mut at = self.value(own, depth.saturating_sub(1));
         while own != kind && !MEMBERS[own].is_empty() {
             (at, own) = self.step(0, at, own);
@@ -128,9 +152,9 @@ impl Wild {
             3 => format!("Math {} - {} -", self.any(depth), self.any(depth)),
             4 => format!("Relational {}", self.any(depth)),
             5 => format!("Binary {} {}", self.any(depth), self.value(kind, depth)),
-            6 if kind == 1 || kind == 2 => format!("Splat {}", self.value(0, depth)),
-            7 if kind == 1 || kind == 2 => self.swizzle(kind, depth),
-            8 | 9 if kind != 0 => self.compose(kind, depth),
+            6 if VECTORS.contains(&kind) => format!("Splat {}", self.value(0, depth)),
+            7 if VECTORS.contains(&kind) => self.swizzle(kind, depth),
+            8 | 9 if !SINGLE.contains(&kind) => self.compose(kind, depth),
             _ => format!("Binary {} {}", self.value(kind, depth), self.value(kind, depth)),
         };
         self.add(kind, operator)
@@ -138,14 +162,15 @@ impl Wild {
 
     /// A value of any type, most often a scalar.
     fn any(&mut self, depth: usize) -> usize {
-        let kind = if self.random.chance(70) { 0 } else { self.random.below(COUNT) };
+        let kind = if self.random.chance(70) { 0 } else { drawn(&mut self.random) };
         self.value(kind, depth)
     }
 
     fn swizzle(&mut self, kind: usize, depth: usize) -> String {
-        let from = self.random.between(1, 2);
+        let from = *self.random.pick(&VECTORS);
         let vector = self.value(from, depth);
-        let letters: String = (0..kind + 1).map(|_| *self.random.pick(&['x', 'y', 'z'][..from + 1])).collect();
+        let known = &['x', 'y', 'z', 'w'][..MEMBERS[from].len()];
+        let letters: String = (0..MEMBERS[kind].len()).map(|_| *self.random.pick(known)).collect();
         format!("Swizzle {vector} .{letters}")
     }
 
@@ -153,6 +178,9 @@ impl Wild {
         let mut types = MEMBERS[kind].to_vec();
         if kind == 2 && self.random.chance(60) {
             types = self.random.pick(&[vec![1, 0], vec![0, 1], vec![2]]).clone();
+        }
+        if kind == 9 && self.random.chance(60) {
+            types = self.random.pick(&[vec![1, 1], vec![0, 2], vec![1, 0, 0], vec![9]]).clone();
         }
         let components: Vec<String> = types.iter().map(|t| self.value(*t, depth).to_string()).collect();
         format!("Compose [{}]", components.join(" "))
@@ -200,7 +228,7 @@ impl Wild {
             39..=43 if inside.continues => out.push("Continue".into()),
             44..=46 if !inside.continuing => self.returned(out),
             _ => {
-                let kind = self.random.below(COUNT);
+                let kind = drawn(&mut self.random);
                 let mut value = self.value(kind, 2);
                 let pointer = self.pointer(kind);
                 if self.random.chance(25) {
