@@ -4,7 +4,7 @@ use Rattle.check_text.proofs.check.check_bytes.Statement.{statement}
 use Rattle.check_text.proofs.check.check_bytes.Tie as tie
 use Rattle.check_text.proofs.check.check_bytes.Reads as reads
 use Rattle.check_text.proofs.check.check_bytes.Lts as lts
-use Rattle.check_text.proofs.stub.check_read.Reads as check-read-reads
+use Rattle.verdict.proofs.verdict.check_read.Reads as check-read-reads
 
 slice-aggregate-check-read : tie.Need-slice-aggregate-check-read
 slice-aggregate-check-read c = search needs
