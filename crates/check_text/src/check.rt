@@ -1,7 +1,7 @@
 // The check of the report that a walk has left in memory. That memory is then room for the check.
-use context::remove::TYPE_WORDS;
 use crate::record::MAX_RECORD;
 use crate::record::write_record;
+use context::remove::TYPE_WORDS;
 use field::limits::MAX_EXPRESSIONS;
 use field::limits::MAX_STATEMENTS;
 use field::limits::MAX_TYPES;

@@ -1,8 +1,8 @@
 -- A whole input: its module and its request are the parts that the code lends on, and the text is the definition's; written, it stands at the front of the buffer.
 use Prim.Native.Nat.{ℕ, _+_, _-_, _<_, _≤_}
 use native.Mathlib.Omega.{arith}
-use native.Mathlib.Nat.{sub-zero}
-use mathlib.Core.Path.{_≡_, sym, _∙_}
+use native.Mathlib.Nat.{sub-zero, zero-add}
+use mathlib.Core.Path.{_≡_, sym, ap, _∙_}
 use mathlib.Core.Bool.{Bool}
 use mathlib.Core.List.{List, _++_}
 use lib.ListN.{length, take, drop, length-append, length-drop, length-take}
@@ -77,7 +77,8 @@ module _ {text bytes t asked-bytes places s rs open-marks : List ℕ} {a : Outco
 -- a text behind a text
 front-then : {xs ys zs text more : List ℕ} {n r : ℕ} → Front xs ys text n → Wrote ys zs n more r → length text + length more ≤ length xs → Front xs zs (text ++ more) r
 front-then {xs} {ys} {zs} {text} {more} {n} {r} F W l =
-    let first : Wrote xs ys 0 text n = record { is = F .is ∙ sym (sets-eq text xs 0 (omega arith)); behind = F .behind } in
+    let all = sets-eq text xs 0 (omega arith) ∙ ap (λ (e : ℕ). text ++ drop e xs) (zero-add (length text)) in
+    let first : Wrote xs ys 0 text n = record { is = F .is ∙ sym all; behind = omega (arith, F .behind) } in
     wrote-front (wrote-then first W) (omega (arith, length-append text more))
 
 -- by what memory has, and its check
@@ -99,7 +100,9 @@ module _ {text bytes t asked-bytes places s rs open-marks : List ℕ} {f : ℕ} 
 
   module _ {word : ℕ} (C : Checks bytes t s rs open-marks (stackSlot + 4) asked-bytes word) where
     answers : wordAnswer word ≡ checkOf (moduleOf bytes t) (S .q) (reportIn bytes t s rs open-marks f (stackSlot + 4) required)
-    answers = numbers (C .numbered) ∙ rw (S .function-is) at (C .is (S .q) (S .asks) required)
+    answers =
+        numbers (C .numbered) ∙ C .is (S .q) (S .asks) required
+        ∙ ap (λ (g : ℕ). checkOf (moduleOf bytes t) (S .q) (reportIn bytes t s rs open-marks g (stackSlot + 4) required)) (S .function-is)
 
     whole : text ≡ textIn bytes t s rs open-marks f (stackSlot + 4) required ++ checkLine (wordAnswer word)
     whole = S .is ∙ rw answers

@@ -2,11 +2,11 @@
 mod outcome;
 mod text;
 
-use check_text::line::MAX_LINE;
 use crate::outcome::Outcome;
 use crate::outcome::read_front;
 use crate::outcome::walk_input;
 use crate::text::write_text;
+use check_text::line::MAX_LINE;
 use field::limits::MIN_REPORT;
 use lines::report::MAX_TEXT;
 use marks::places::PLACES;

@@ -1,7 +1,7 @@
 // The text of an outcome.
+use crate::outcome::Outcome;
 use check_text::check::check_report;
 use check_text::line::write_check;
-use crate::outcome::Outcome;
 use lines::report::write_refused;
 use lines::report::write_report_text;
 use memory::layout::CELLS;
