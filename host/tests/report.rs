@@ -1,5 +1,6 @@
 //! The program `report`, on the stored lists, and on inputs past every limit, each with a stack of 8 MiB. `rt check report` makes it. What it prints are the oracle's
 //! lines, and the line of the second clearance.
+use host::assemble::assemble;
 use host::reported::printed;
 use host::stored::{Report, Requests, Source};
 use std::io::Write;
@@ -61,4 +62,21 @@ fn any_input_has_an_answer() {
     long.extend(b"RQ\xff\xff");
     long.extend([0; 1_000_000]);
     assert_eq!(run(&long), "refused 3\n");
+}
+
+/// Case J, but what is stored before the if stands nine members deep in argument 0. The walk does not look at it; the check does, and needs nine levels are refused.
+#[test]
+fn a_check_may_be_refused() {
+    let types: String = (0..9).map(|n| format!("type Struct [{n}:-]\n")).collect();
+    let members: String = (0..9).map(|n| format!("expr {} AccessIndex {} 0\n", 8 - n, n + 3)).collect();
+    let listing = format!(
+        "type Scalar\n{types}global 0\nfn entry - -\narg 9 -\narg 0 -\narg 0 -\nexpr 0 GlobalVariable 0\nexpr 0 FunctionArgument 1\n\
+         expr 0 FunctionArgument 2\nexpr 9 FunctionArgument 0\n{members}block\nstmt Return -\nblock\nblock\nstmt Emit 4 12\nstmt Store 0 12\n\
+         stmt If 1 0 1\nstmt Store 0 2\nrequest 0 none 0=all\n"
+    );
+    let input = assemble(&listing).expect("a listing").bytes;
+    let output = run(&input);
+    let lines = output.strip_suffix("check refused 15\n").expect(&output);
+    assert!(lines.contains("stmt 2 store no\n"));
+    assert_eq!(output, printed(&input, lines));
 }
