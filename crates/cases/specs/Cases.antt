@@ -3,7 +3,7 @@
 use Prim.Native.Nat.{ℕ, _≤_}
 use mathlib.Core.Path.{_≡_}
 use mathlib.Core.Bool.{true, false}
-use mathlib.Core.List.{List, [], _∷_}
+use mathlib.Core.List.{List, [], _∷_, _++_}
 use mathlib.Core.Option.{Option, some, none as nothing}
 use lib.ListN.{length, replicate, getD}
 use lib.Seq.{sets}
@@ -16,15 +16,15 @@ use Rattle.context.specs.RequiredContext.{variable}
 use Rattle.request.specs.Request.{Request, asking}
 use Rattle.programs.specs.Files.{fileA, pointerFileA, fileI, fileJ, returnAll, globalAll}
 use Rattle.programs.specs.Programs.{moduleA, functionA, moduleJ, functionJ}
-use Rattle.programs.specs.Texts.{textA, textI, textJ}
+use Rattle.programs.specs.Texts.{lines, textA, textI, textJ}
 use Rattle.walk.specs.State.{atStatement}
 use Rattle.walk.specs.Requests.{Answer, Report, reported, fresh, requests}
 use Rattle.pruner.specs.Form.{minPruner}
 use Rattle.requests.specs.Answer.{minAnswer}
 use Rattle.requests.specs.Serve.{visited, refusedAt, Lent, serve}
 use Rattle.clearance.specs.Verdict as verdict
+use Rattle.report_text.specs.Input.{judgedOf, reportInput}
 use Rattle.cases.specs.Buffers.{totalsA, answerA, totalsJ, answerJ}
-use Rattle.cases.specs.Printed.{printed}
 
 -- the type t is of this kind
 abbrev pub Is : List TypeInner → TypeHandle → TypeInner → Type 0
@@ -38,7 +38,7 @@ pub data ScalarOrArray : TypeInner → Type 0 where
 abbrev pub answerOf : Module → Request → List Answer
 answerOf m q = requests m (fresh m) (q ∷ []) .0
 
--- the report of case A, all its lines but `check`
+-- the report of case A
 abbrev pub reportA : Report
 reportA =
     record {
@@ -74,9 +74,9 @@ reportJ =
       bytes = 1 ∷ 0 ∷ 1 ∷ 1 ∷ [];
     }
 
--- what the clearance judges of a report: its marks, and its context's globals and arguments
-abbrev pub judgedOf : Report → verdict.Report
-judgedOf r = record { marks = r .marks; globals = r .context .globals; args = r .context .args }
+-- what `report` prints of a module's bytes with a request's behind them
+abbrev pub printed : (file bytes : List ℕ) → List ℕ
+printed s bytes = reportInput (s ++ bytes)
 
 -- buffers that are long enough, the pruner's with nothing asked yet
 pub record Ready (lent : Lent) : Type 0 where
@@ -92,13 +92,13 @@ written lent totals marks answer =
     record { pruner = sets (lent .pruner) 0 totals; report = sets (lent .report) 0 marks; answer = sets (lent .answer) 0 answer }
 
 pub record Cases : Type 0 where
-  -- Asked: return value all. It prints, all but `check`:
-  pub A : printed fileA returnAll ≡ textA
+  -- Asked: return value all. It prints, whole:
+  pub A : printed fileA returnAll ≡ textA ++ lines ("check clear" ∷ [])
   -- the same where the file has a pointer to the three-vector.
-  pub A-pointer : printed pointerFileA returnAll ≡ textA
+  pub A-pointer : printed pointerFileA returnAll ≡ textA ++ lines ("check clear" ∷ [])
   -- The visits, and what is left in the buffers.
   pub A-buffers : (lent : Lent) → Ready lent → serve fileA returnAll lent ≡ (visited 8, written lent totalsA (1 ∷ 1 ∷ 1 ∷ 1 ∷ []) answerA)
-  -- Of the module that the file means, and of the report of its walk: check clear
+  -- Of the module that the file means, and of the report of its walk, the clearance by its definition: clear
   pub A-module : readModule fileA ≡ accepted moduleA
   pub A-walk : answerOf moduleA (asking 0 (some all) none) ≡ (reported reportA ∷ [])
   pub A-check : verdict.clearance (record { program = moduleA; function = functionA 1 }) (record { globals = none; value = all }) (judgedOf reportA)
@@ -122,10 +122,10 @@ pub record Cases : Type 0 where
   -- loop body a=b; b=c, all locals, a returned: refusal 14, at the loop. The buffers stay.
   pub I : printed fileI returnAll ≡ textI
   pub I-buffers : (lent : Lent) → Ready lent → serve fileI returnAll lent ≡ (refusedAt 14 (atStatement 0 4), lent)
-  -- global 0 asked, all: mark 1 is no,
-  pub J : printed fileJ globalAll ≡ textJ
+  -- global 0 asked, all: mark 1 is no, not clear at 1.
+  pub J : printed fileJ globalAll ≡ textJ ++ lines ("check stmt 1" ∷ [])
   pub J-buffers : (lent : Lent) → Ready lent → serve fileJ globalAll lent ≡ (visited 7, written lent totalsJ (1 ∷ 0 ∷ 1 ∷ 1 ∷ []) answerJ)
-  -- not clear at 1.
+  -- The clearance by its definition: at 1.
   pub J-module : readModule fileJ ≡ accepted moduleJ
   pub J-walk : answerOf moduleJ (asking 0 nothing (more (variable 0) all none)) ≡ (reported reportJ ∷ [])
   pub J-check : verdict.clearance (record { program = moduleJ; function = functionJ }) (record { globals = more (variable 0) all none; value = none })

@@ -1,3 +1,2 @@
 pub mod Buffers
 pub mod Cases
-pub mod Printed

@@ -30,7 +30,8 @@ use Rattle.walk.specs.Requests as requests
 use Rattle.walk.specs.Requests.{Pruner, Report, reported, endCount, ended, begun, walkRequest, answered, request}
 use Rattle.walk.specs.Proper.{FinePruner}
 use Rattle.walk.proofs.Keeps.{Needs, Kept}
-use Rattle.walk.proofs.Functions.{request-keeps}
+use Rattle.walk.proofs.Ends.{ended as leaves}
+use Rattle.walk.proofs.Functions.{function-keeps, request-keeps}
 use Rattle.sound.specs.Asked.{WasRead}
 use Rattle.sound.proofs.There.{function-valid, operands-below, names-below}
 use Rattle.sound.proofs.Sound.{letter-below, type-indexed}
@@ -273,14 +274,21 @@ unfolding needOf
 asked-named nothing h = retval-named gone tt
 asked-named (some p) h = retval-named (there p) h
 
+base-named : (q : Request) → NamedRequest q → NamedContext (record { globals = q .globals; locals = none; args = none; retval = requests.asked (q .retval) })
+base-named q h = record { globals = h .globals; locals = tt; args = tt; retval = asked-named (q .retval) (h .retval) }
+
 kept-named : (m : Module) → Valid m → (pruner : Pruner) (q : Request) → NamedPruner pruner → NamedRequest q → NamedPruner (request m pruner q .1)
 unfolding named
 kept-named m v pruner q h hq =
-    let kept =
-    request-keeps (named m v) pruner q tt (record { globals = h .globals; functions = h .functions })
-    (record { globals = hq .globals; locals = tt; args = tt; retval = asked-named (q .retval) (hq .retval) })
-    in
+    let kept = request-keeps (named m v) pruner q tt (record { globals = h .globals; functions = h .functions }) (base-named q hq) in
     record { globals = kept .globals; functions = kept .functions }
+
+-- nor does the context have one in which the walk ends
+left-named : (m : Module) → Valid m → (pruner : Pruner) (q : Request) → NamedPruner pruner → NamedRequest q → {st : State} {b : Bool}
+    → addFunction m (q .function) nowhere 0 (q .globals) (requests.asked (q .retval)) (begun pruner) ≡ went st b → NamedContext (st .context)
+unfolding named begun
+left-named m v pruner q h hq e =
+    leaves (function-keeps (named m v) (q .function) nowhere 0 (q .globals) (requests.asked (q .retval)) (begun pruner) (base-named q hq) (record { globals = h .globals; functions = h .functions; visits = tt })) e .context
 
 -- 16 at the request's end
 abbrev OnWent : (State → Type 0) → Out Bool → Type 0
@@ -315,6 +323,11 @@ module _ (bytes : List ℕ) (m : Module) (read : file.readModule bytes ≡ file.
   left-fine : (pruner : Pruner) (q : Request) → FinePruner m pruner → WasRead m q → FinePruner m (request m pruner q .1)
   unfolding requests.requests
   left-fine pruner q h hq = requests-fine bytes m read pruner (q ∷ []) h (hq, tt)
+
+  pub walked-named : (s : List ℕ) (pruner : Pruner) (q : Request) → readPruner m s ≡ accepted pruner → WasRead m q → {st : State} {b : Bool}
+      → addFunction m (q .function) nowhere 0 (q .globals) (requests.asked (q .retval)) (begun pruner) ≡ went st b → NamedContext (st .context)
+  walked-named s pruner q before asked e =
+      left-named m (module-valid bytes m read) pruner q (read-named m s pruner before) (request-named m q asked) e
 
   -- Any buffer s that is accepted, and any request over it that is reported: the totals that it leaves fit the least buffer, and the next request reads them.
   module _ (s : List ℕ) (pruner : Pruner) (q : Request) (r : Report) (before : readPruner m s ≡ accepted pruner) (asked : WasRead m q)

@@ -63,7 +63,7 @@ asked-refused m (reading.refused k) e = ap refusedText (cc)
 asked-refused m (reading.accepted q) e = absurd (with-refused q (readPruner m none-yet) (fresh m) (readPruner-zero m []) e)
 
 module _ {bytes t places s rs open-marks totals asked-bytes : List ℕ} {b : Begun} (B : Begins bytes t places minReport asked-bytes none-yet s rs open-marks totals b) where
-  pub request-refused : {n : ℕ} → b ≡ begun.Refused n → TextIs (requestText (moduleOf bytes t) (readRequest (moduleOf bytes t) minReport asked-bytes)) bytes t places s rs open-marks (Refused n)
+  pub request-refused : {n : ℕ} → b ≡ begun.Refused n → TextIs (requestText (moduleOf bytes t) (readRequest (moduleOf bytes t) minReport asked-bytes)) bytes t asked-bytes places s rs open-marks (Refused n)
   request-refused e = record { by = asked-refused (moduleOf bytes t) (readRequest (moduleOf bytes t) minReport asked-bytes) (rw e at (B .by)) }
 
   module _ {f : Handle} {sum : ℕ} (e : b ≡ begun.Ready f sum) where
@@ -84,6 +84,6 @@ module _ {bytes t places s rs open-marks totals asked-bytes : List ℕ} {b : Beg
       request-asked = record { q = ready .q; function-is = ready .function-is; sum-is = rw (← old-fresh) (ready .sum-is); loaded = loaded }
 
       pub request-walked : {u us open-after : List ℕ} {r : Outcome} → Walked bytes t types places s rs open-marks totals (f .0) u us open-after r
-          → TextIs (requestText (moduleOf bytes t) (readRequest (moduleOf bytes t) minReport asked-bytes)) bytes t places u us open-after r
+          → TextIs (requestText (moduleOf bytes t) (readRequest (moduleOf bytes t) minReport asked-bytes)) bytes t asked-bytes places u us open-after r
       unfolding requestText
-      request-walked W = rw (read-both .0) (W .by (ready .q) (ready .function-is) loaded)
+      request-walked W = rw (read-both .0) (W .by asked-bytes (ready .q) (read-both .0) (ready .function-is) loaded)

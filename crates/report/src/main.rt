@@ -1,4 +1,4 @@
-// Reads a module and then one request from standard input, and prints the lines of its report or the line of its refusal.
+// Reads a module and then one request from standard input, and prints the lines of its report and of its check, or the line of its refusal.
 mod outcome;
 mod text;
 
@@ -6,6 +6,7 @@ use crate::outcome::Outcome;
 use crate::outcome::read_front;
 use crate::outcome::walk_input;
 use crate::text::write_text;
+use check_text::line::MAX_LINE;
 use field::limits::MIN_REPORT;
 use lines::report::MAX_TEXT;
 use marks::places::PLACES;
@@ -16,7 +17,7 @@ use report_text::split::MAX_INPUT;
 ghost use Prim.Native.Nat.{_≤_};
 ghost use lib.ListN.{length};
 ghost use Rattle.io.specs.Counts.{Counts};
-ghost use Rattle.report_text.specs.Split.{moduleIn};
+ghost use Rattle.report_text.specs.Split.{moduleIn, requestIn};
 ghost use Rattle.report_text.specs.Input.{maxInput, reportInput};
 ghost use Rattle.report.specs.Outcome.{TextIs};
 
@@ -28,20 +29,20 @@ fn read_input(input: &mut [u8]) -> usize
     io::read_full(0, input)
 }
 
-// The text's array is needed only when the walk has ended. Called from two places, this stays a function of its own, so that the array is not on the stack during
-// the walk.
+// The arrays of the text and of the check are needed only when the walk has ended. Called from two places, this stays a function of its own, so that they are not on
+// the stack during the walk.
 fn print(
     input: &[u8],
     t: &[u32],
     places: &[u32],
-    cells: &[u32],
-    slots: &[u32],
+    cells: &mut [u32; CELLS],
+    slots: &mut [u32; SLOTS],
     open: &[u8],
     outcome: Outcome,
 )
-    requires { ⌜ TextIs (reportInput (now input)) (moduleIn (now input)) (now t) (now places) (now cells) (now slots) (now «open») outcome ⌝ }
+    requires { ⌜ TextIs (reportInput (now input)) (moduleIn (now input)) (now t) (requestIn (now input)) (now places) (now cells) (now slots) (now «open») outcome ⌝ }
 {
-    let mut text: [u8; MAX_TEXT] = [0; MAX_TEXT];
+    let mut text: [u8; MAX_TEXT + MAX_LINE] = [0; MAX_TEXT + MAX_LINE];
     let n = write_text(&mut text, input, t, places, cells, slots, open, outcome);
     io::write_all(1, &text[0..n]);
 }

@@ -33,7 +33,7 @@ ghost use Rattle.context.specs.Types.{typeWords};
 ghost use Rattle.request.specs.Request.{readRequest};
 ghost use Rattle.reading.specs.Reads.{Reads};
 ghost use Rattle.state.specs.Ready.{WasRead};
-ghost use Rattle.report_text.specs.Split.{moduleIn};
+ghost use Rattle.report_text.specs.Split.{moduleIn, requestIn};
 ghost use Rattle.report_text.specs.Input.{requestText, reportInput};
 ghost use Rattle.report.specs.Outcome.{TextIs, Asked, Walked};
 
@@ -99,7 +99,7 @@ fn walk_request(
     request: &[u8],
 ) -> Outcome
     requires { ⌜ WasRead (now bytes) (now t) × (length (now table) ≡ typeWords * length (moduleOf (now bytes) (now t) .types)) ⌝ }
-    ensures { λ r. ⌜ TextIs (requestText (moduleOf (now (bytes .entry)) (now (t .entry))) (readRequest (moduleOf (now (bytes .entry)) (now (t .entry))) minReport (now (request .entry)))) (now (bytes .entry)) (now (t .entry)) (now (places .exit)) (now (cells .exit)) (now (slots .exit)) (now («open» .exit)) r ⌝ }
+    ensures { λ r. ⌜ TextIs (requestText (moduleOf (now (bytes .entry)) (now (t .entry))) (readRequest (moduleOf (now (bytes .entry)) (now (t .entry))) minReport (now (request .entry)))) (now (bytes .entry)) (now (t .entry)) (now (request .entry)) (now (places .exit)) (now (cells .exit)) (now (slots .exit)) (now («open» .exit)) r ⌝ }
 {
     place_marks(bytes, t, places);
     fill(bytes, t, table);
@@ -144,7 +144,7 @@ fn walk_read(
     request: &[u8],
 ) -> Outcome
     requires { ⌜ WasRead (now bytes) (now t) ⌝ }
-    ensures { λ r. ⌜ TextIs (requestText (moduleOf (now (bytes .entry)) (now (t .entry))) (readRequest (moduleOf (now (bytes .entry)) (now (t .entry))) minReport (now (request .entry)))) (now (bytes .entry)) (now (t .entry)) (now (places .exit)) (now (cells .exit)) (now (slots .exit)) (now («open» .exit)) r ⌝ }
+    ensures { λ r. ⌜ TextIs (requestText (moduleOf (now (bytes .entry)) (now (t .entry))) (readRequest (moduleOf (now (bytes .entry)) (now (t .entry))) minReport (now (request .entry)))) (now (bytes .entry)) (now (t .entry)) (now (request .entry)) (now (places .exit)) (now (cells .exit)) (now (slots .exit)) (now («open» .exit)) r ⌝ }
 {
     let mut table: [u32; TYPE_WORDS * MAX_TYPES] = [0; TYPE_WORDS * MAX_TYPES];
     let mut totals: [u8; TOTALS_SIZE] = [0; TOTALS_SIZE];
@@ -183,7 +183,7 @@ pub fn walk_input(
     open: &mut [u8; MIN_REPORT],
 ) -> Outcome
     requires { ⌜ WasRead (moduleIn (now input)) (now t) ⌝ }
-    ensures { λ r. ⌜ TextIs (reportInput (now (input .entry))) (moduleIn (now (input .entry))) (now (t .entry)) (now (places .exit)) (now (cells .exit)) (now (slots .exit)) (now («open» .exit)) r ⌝ }
+    ensures { λ r. ⌜ TextIs (reportInput (now (input .entry))) (moduleIn (now (input .entry))) (now (t .entry)) (requestIn (now (input .entry))) (now (places .exit)) (now (cells .exit)) (now (slots .exit)) (now («open» .exit)) r ⌝ }
 {
     let n = input.len();
     let at = split(input);

@@ -6,6 +6,10 @@ use Rattle.module.specs.Tables.{maxItems}
 use borrow.Author.Needs.{needs}
 use Rattle.report.proofs.outcome.read_front.Statement.{statement}
 use Rattle.report.proofs.outcome.read_front.Tie as tie
+use Rattle.report.proofs.outcome.read_front.Reads as reads
+use Rattle.report.proofs.outcome.read_front.Lts as lts
+use Rattle.reading.proofs.read.read.Reads as read-reads
+use Rattle.report_text.proofs.split.split.Reads as split-reads
 
 split-requires : tie.Need-split-requires
 split-requires c κs = search needs

@@ -3,6 +3,10 @@ use Rattle.report.proofs.Walking.{walk-enters, walk-halted, walk-own, w
 use borrow.Author.Needs.{needs}
 use Rattle.report.proofs.outcome.walk_function.Statement.{statement}
 use Rattle.report.proofs.outcome.walk_function.Tie as tie
+use Rattle.report.proofs.outcome.walk_function.Reads as reads
+use Rattle.report.proofs.outcome.walk_function.Lts as lts
+use Rattle.function.proofs.add.add_function.Reads as add-function-reads
+use Rattle.leave.proofs.leave.own_pieces.Reads as own-pieces-reads
 
 add-function-requires : tie.Need-add-function-requires
 add-function-requires c κs = (walk-enters (c .before .before .before .before .before .before .pre), search needs)

@@ -3,6 +3,10 @@ use Rattle.report.proofs.Whole.{split-inside, input-read, input-walked}
 use borrow.Author.Needs.{needs}
 use Rattle.report.proofs.outcome.walk_input.Statement.{statement}
 use Rattle.report.proofs.outcome.walk_input.Tie as tie
+use Rattle.report.proofs.outcome.walk_input.Reads as reads
+use Rattle.report.proofs.outcome.walk_input.Lts as lts
+use Rattle.report.proofs.outcome.walk_read.Reads as walk-read-reads
+use Rattle.report_text.proofs.split.split.Reads as split-reads
 
 split-requires : tie.Need-split-requires
 split-requires c κs = search needs

@@ -4,6 +4,10 @@ use native.Mathlib.Omega.{arith}
 use borrow.Author.Needs.{needs}
 use Rattle.report.proofs.outcome.walk_read.Statement.{statement}
 use Rattle.report.proofs.outcome.walk_read.Tie as tie
+use Rattle.report.proofs.outcome.walk_read.Reads as reads
+use Rattle.report.proofs.outcome.walk_read.Lts as lts
+use Rattle.access.proofs.whole.types.Reads as types-reads
+use Rattle.report.proofs.outcome.walk_request.Reads as walk-request-reads
 
 types-requires : tie.Need-types-requires
 types-requires c κs = search needs

@@ -4,6 +4,12 @@ use Rattle.report.proofs.Requesting.{fill-asks, request-refused, reques
 use borrow.Author.Needs.{needs}
 use Rattle.report.proofs.outcome.walk_request.Statement.{statement}
 use Rattle.report.proofs.outcome.walk_request.Tie as tie
+use Rattle.report.proofs.outcome.walk_request.Reads as reads
+use Rattle.report.proofs.outcome.walk_request.Lts as lts
+use Rattle.marks.proofs.places.place_marks.Reads as place-marks-reads
+use Rattle.report.proofs.outcome.walk_function.Reads as walk-function-reads
+use Rattle.requests.proofs.begin.begin_request.Reads as begin-request-reads
+use Rattle.type_table.proofs.fill.Reads as fill-reads
 
 place-marks-requires : tie.Need-place-marks-requires
 place-marks-requires c κs = (c .before .before .before .before .before .pre .0, search needs)

@@ -1,0 +1,3 @@
+pub mod Saying
+pub mod Recording
+pub mod Meaning

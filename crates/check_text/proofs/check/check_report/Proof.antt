@@ -1,0 +1,42 @@
+-- `check_text::check::check_report` meets its contract: what is checked is the walk's report.
+use Rattle.check_text.proofs.Meaning.{checks}
+use borrow.Author.Needs.{needs}
+use Rattle.check_text.proofs.check.check_report.Statement.{statement}
+use Rattle.check_text.proofs.check.check_report.Tie as tie
+use Rattle.check_text.proofs.check.check_report.Reads as reads
+use Rattle.check_text.proofs.check.check_report.Lts as lts
+use Rattle.check_text.proofs.check.check_bytes.Reads as check-bytes-reads
+use Rattle.check_text.proofs.record.write_record.Reads as write-record-reads
+
+slice-aggregate-write-record : tie.Need-slice-aggregate-write-record
+slice-aggregate-write-record c = search needs
+
+write-record-requires : tie.Need-write-record-requires
+write-record-requires c κs = ((c .before .before .before .before .before .before .before .before .before .pre .memory, c .before .before .before .before .before .before .before .before .before .pre .high), (c .before .before .before .before .before .before .before .before .before .pre .few, search needs))
+
+sub-check-bytes : tie.Need-sub-check-bytes
+sub-check-bytes c = search needs
+
+part-check-bytes-start : tie.Need-part-check-bytes-start
+part-check-bytes-start c = search needs
+
+part-check-bytes-end : tie.Need-part-check-bytes-end
+part-check-bytes-end c = c .before .before .before .before .write-record .ensures .inside
+
+check-bytes-requires : tie.Need-check-bytes-requires
+check-bytes-requires c κs = search needs
+
+returns : tie.Need-returns
+returns c = checks (c .before .before .before .before .before .before .before .before .before .before .before .before .before .before .before .before .pre) (c .before .before .before .before .before .before .write-record .ensures) (c .check-bytes .ensures)
+
+pub check-report-spec : {M : Type 1} → statement M
+check-report-spec =
+    tie.close
+    (tie.spec
+    slice-aggregate-write-record
+    write-record-requires
+    sub-check-bytes
+    part-check-bytes-start
+    part-check-bytes-end
+    check-bytes-requires
+    returns)
