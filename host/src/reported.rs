@@ -1,8 +1,11 @@
 //! What a request answers beside marks and totals. Its record, a form of the library's own: AN, a 32-bit length, whether the function is
-//! required, the visits in two fields, the input context, and the record of each expression of the function: a part, or none.
+//! required, the visits in two fields, the input context, and the record of each expression of the function: a part, or none. And the
+//! whole of what the program `report` prints.
+use crate::clearance::authors::Asked;
 use crate::context::Context;
 use crate::part::Part;
 use crate::record::{self, Cursor};
+use crate::report_text;
 
 #[derive(Clone, PartialEq, Eq, Debug)]
 pub struct Reported {
@@ -36,6 +39,16 @@ impl Reported {
         let required = if self.required { "yes" } else { "no" };
         format!("required {required}\n{}{}", self.context.lines(), record_lines(&self.records))
     }
+}
+
+/// What `report` prints for a module and a request, by the lines of the report: these, and that of the second clearance. A refusal has no other line.
+pub fn printed(input: &[u8], lines: &str) -> String {
+    if lines.starts_with("refused") {
+        return lines.to_string();
+    }
+    let asked = Asked::of(input).expect("a module and its request");
+    let report = report_text::parse(lines, &asked).expect("a report's lines");
+    format!("{lines}check {}\n", asked.judge(&report).verdict)
 }
 
 pub fn flag(field: u16) -> Option<bool> {
