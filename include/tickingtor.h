@@ -28,6 +28,18 @@ uint64_t tickingtor_request(const uint8_t *module, size_t module_length, const u
                             size_t pruner_length, uint8_t *report, size_t report_length, uint8_t *answer, size_t answer_length);
 
 /*
+ * Whether a report can be trusted: the clearance of the marks and the input context, from anyone, for what the request asks. `report` has the
+ * marks of all functions as a request writes them, of which those of the asked function are looked at; `context` is a record CX: a 32-bit
+ * length, then a context as above. Answers one number: 0 clear; 1 the start (a need there is not in the context, or no emit gives it);
+ * 131,072 + s where the statement s is the lowest that breaks a rule; 196,608 + e and 262,144 + s where the function is not judged, by its
+ * lowest expression e, else statement s. Otherwise 2^32 times the number by which it refuses, in this order: a module's 1 to 5; 12 (request or
+ * context); 11; 21 (`report` ends before the function's marks do, or has another byte than 0 and 1 among them); of a judged function 26 (the
+ * needs pass the memory or the rounds that they are given), 15, 16. Nothing is written.
+ */
+uint64_t tickingtor_check(const uint8_t *module, size_t module_length, const uint8_t *request, size_t request_length, const uint8_t *report,
+                          size_t report_length, const uint8_t *context, size_t context_length);
+
+/*
  * Operations on bindings. Each answers one number: below 2^32, how many bytes it wrote to `out`, from the first on; otherwise 2^32
  * times the number by which it refuses (a module's 1 to 5 come first), and then `out` is as it was. 13 alone adds the argument's
  * number. `out` shares no byte with the other slices. A call takes at most 1.5 MB of stack.

@@ -1,9 +1,11 @@
 //! The commands: each reads its files, does one thing and says what went wrong.
-use crate::checks::listed;
+use crate::checks::{self, listed};
 use crate::clearance::{campaign, show};
+use crate::lent::Lent;
 use crate::measured::{self, File};
 use crate::stored::{Reading, Requests, Source};
-use crate::{assemble, bench, bindings, check, compare, count, form, library, list, model, requests, store};
+use crate::{assemble, bench, bindings, check, compare, count, form, library, limits, list, model, requests, store};
+use std::cell::RefCell;
 
 const USAGE: &str = "\
 host assemble [--any] LISTING OUT   a listing to a file; --any: also one that reading would refuse
@@ -18,9 +20,11 @@ host stored count READING REQUESTS          a table of what the two lists reach
 host compare reading ORACLE SEED COUNT SOURCE...    the library against the oracle: the sources' modules and damaged copies of them
 host compare bindings ORACLE SEED COUNT SOURCE...   the same for the operations on bindings, asked anew of the sources' modules
 host compare requests ORACLE SEED COUNT SOURCE...   the same for requests: the sources, varied, damaged and generated modules, asked anew
-host check FILE REPORT       what is missing in a report from anyone on the file's module (REPORT: text, README.md), by this program's own clearance
+host compare clearance SEED COUNT [FOLDER]    the library's check of reports against this program's own clearance; FOLDER: for differences
+host check FILE REPORT       what is missing in a report from anyone on the file's module (REPORT: text, README.md)
 host clearance FILE          the verdict on the file's first request with the library's own report, by this program's own clearance
 host runs SEED COUNT         generated models with reports by several authors: the verdicts, and at least COUNT pairs of runs on what is cleared
+host bench check            the library's check of reports timed: of models beside their walk, and on the worst inputs
 host bench BENCH FILE...    the library's requests timed against the original's (BENCH: its program for timing, or the folder that has it); without FILE, on our own
 ";
 
@@ -39,9 +43,12 @@ pub fn run(words: &[&str]) -> Result<(), String> {
         ["compare", "reading", oracle, seed, count, ref sources @ ..] => compare_reading(oracle, seed, count, sources),
         ["compare", "bindings", oracle, seed, count, ref sources @ ..] => compare_bindings(oracle, seed, count, sources),
         ["compare", "requests", oracle, seed, count, ref sources @ ..] => compare_requests(oracle, seed, count, sources),
+        ["compare", "clearance", seed, count] => compare_clearance(seed, count, "."),
+        ["compare", "clearance", seed, count, folder] => compare_clearance(seed, count, folder),
         ["clearance", file] => print(&show::own(&read(file)?).map_err(|reason| format!("{file}: {reason}"))?),
         ["check", file, report] => check_report(file, report),
         ["runs", seed, count] => compare_runs(seed, count),
+        ["bench", "check"] => measure_checks(),
         ["bench", bench, ref files @ ..] => measure(bench, files),
         _ => Err(USAGE.into()),
     }
@@ -126,6 +133,19 @@ fn check_report(file: &str, report: &str) -> Result<(), String> {
     let text = String::from_utf8_lossy(&read(report)?).into_owned();
     let bytes = if file.ends_with(".txt") { store::sources(&[file])?.concat() } else { read(file)? };
     print(&show::given(&bytes, &text).map_err(|reason| format!("{report}: {reason}"))?)
+}
+
+fn compare_clearance(seed: &str, count: &str, folder: &str) -> Result<(), String> {
+    let (seed, count) = (number(seed)?, number(count)?);
+    print(&library::with_stack(|| checks::compare::compare(seed, count, folder.as_ref(), &checks::Case::check))?)
+}
+
+fn measure_checks() -> Result<(), String> {
+    let tables = library::with_stack(|| {
+        let lent = RefCell::new(Lent::with_report(limits::REPORT));
+        checks::timed::timed(&checks::Case::check, &|asked| checks::timed::walk(&mut lent.borrow_mut(), asked))
+    });
+    print(&tables?)
 }
 
 fn compare_runs(seed: &str, count: &str) -> Result<(), String> {

@@ -42,6 +42,16 @@ extern "C" {
         out: *mut u8,
         out_length: usize,
     ) -> u64;
+    fn tickingtor_check(
+        module: *const u8,
+        module_length: usize,
+        request: *const u8,
+        request_length: usize,
+        report: *const u8,
+        report_length: usize,
+        context: *const u8,
+        context_length: usize,
+    ) -> u64;
 }
 
 /// Whether the bytes are a module: 0, or the number by which they are refused.
@@ -107,6 +117,23 @@ pub fn request(module: &[u8], request: &[u8], pruner: &mut [u8], report: &mut [u
     let reply = Reply::of(word);
     assert_eq!(reply.word(), word, "no answer of a request");
     reply
+}
+
+/// What the clearance answers of a report buffer and a context, for what the request asks: a verdict's number.
+pub fn check(module: &[u8], request: &[u8], report: &[u8], context: &[u8]) -> u64 {
+    // SAFETY: each pointer and length are those of a slice, which the function only reads; it asks nothing else.
+    unsafe {
+        tickingtor_check(
+            module.as_ptr(),
+            module.len(),
+            request.as_ptr(),
+            request.len(),
+            report.as_ptr(),
+            report.len(),
+            context.as_ptr(),
+            context.len(),
+        )
+    }
 }
 
 /// The stack that a request is given here: more than it takes (include/tickingtor.h), and than a thread has by itself.

@@ -1,4 +1,5 @@
 //! Every function that include/tickingtor.h declares is linked and called, with input that it accepts and with input that it refuses.
+use host::clearance::Verdict;
 use host::lent::Lent;
 use host::library::{self, Answer, Reply};
 use host::oracle::Place;
@@ -79,11 +80,26 @@ fn short_buffers() {
     assert_eq!(ask(0, 0, 0, &request("0 {1:all,0:all}")), refused(12));
 }
 
-const CALLED: [(&str, fn()); 5] = [
+/// The first function's report is clear with its marks and the member that is returned, and lacks one or the other without.
+fn check() {
+    let (bytes, asked) = (module(), request("0 all"));
+    let context = |part: &str| context::of_arguments(&[(0, Part::parse(part).expect("a part"))]);
+    let ask = |module: &[u8], marks: &[u8], context: &[u8]| Verdict::of_word(library::check(module, &asked, marks, context));
+    assert_eq!(ask(&bytes, &[1, 1, 0], &context("{1:all}")), Some(Verdict::Clear));
+    assert_eq!(ask(&bytes, &[1, 1], &context("all")), Some(Verdict::Clear));
+    assert_eq!(ask(&bytes, &[1, 0], &context("{0:all}")), Some(Verdict::Start));
+    assert_eq!(ask(&bytes, &[0, 1], &context("all")), Some(Verdict::Statement(0)));
+    assert_eq!(ask(&bytes, &[1], &context("all")), Some(Verdict::Refused(21)));
+    assert_eq!(ask(&bytes, &[1, 1], b"CX"), Some(Verdict::Refused(12)));
+    assert_eq!(ask(b"TY", &[1, 1], b"CX"), Some(Verdict::Refused(2)));
+}
+
+const CALLED: [(&str, fn()); 6] = [
     ("tickingtor_read", read),
     ("tickingtor_input_to_bindings", input_to_bindings),
     ("tickingtor_output_from_bindings", output_from_bindings),
     ("tickingtor_add_binding", add_binding),
+    ("tickingtor_check", || library::with_stack(check)),
     ("tickingtor_request", || library::with_stack(|| (asks(), short_buffers())).0),
 ];
 

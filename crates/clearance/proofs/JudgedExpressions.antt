@@ -270,8 +270,9 @@ module _ (S : Scope) where
         let z = index-fitting _ b (both-true (isValue S i) _ h .1) .1 in
         subst (λ u. same S u (pointee S e) ≡ true) (same-type _ (z .0) t (z .1) (of-parts S _ t p)) (z .2)
 
-    judged-of : (x : Expression) → fitsExpression S e x ≡ true → (HoldsUnsized S (typeOf S e) → ⊥) → JudgedExpression S e x
-    unfolding fitsExpression
+    judged-of : (x : Expression) → fitsExpression S e x ≡ true → (HoldsUnsized S (typeOf S e) → ⊥) × ((t : TypeHandle) → inner S (typeOf S e) ≡ Pointer t → HoldsUnsized S t → ⊥) →
+        JudgedExpression S e x
+    unfolding fitsExpression innerOf
     judged-of x h g = record {
       kind = kind-of x h;
       loadsPath = λ p q. path-exactly S p .0 (both-true (isPath S p) _ (both-true (isValue S e) _ (rw q at h) .1) .0);
@@ -292,7 +293,8 @@ module _ (S : Scope) where
           let z = both-true (isScalar (innerOf S v)) _ (both-true (isValue S v) _ (rw q at h) .1) in
           let y = vector-of S _ (z .1) in (scalar-of S _ (z .0), y .0, y .1);
       compose = λ cs q. composed-of S _ cs (both-true (every (isValue S) cs) _ (rw q at h) .1);
-      sized = g;
+      sized = g .0;
+      pointeeSized = g .1;
     }
 
     -- To the test
@@ -382,10 +384,10 @@ module _ (S : Scope) where
 
     -- The test is true exactly where every clause holds.
     pub expression-exactly : (judgedExpression S e ≡ true) ↔ FitExpression S e
-    unfolding judgedExpression
+    unfolding judgedExpression innerOf
     expression-exactly = (
       (λ h.
           let z = both-true (fitsExpression S e (typed S e .expression)) _ h in
           judged-of _ (z .0) (sized-exactly S (typeOf S e) .0 (z .1))),
-      (λ j. both-are _ _ (fits-from _ refl j) (sized-exactly S (typeOf S e) .1 (j .sized))),
+      (λ j. both-are _ _ (fits-from _ refl j) (sized-exactly S (typeOf S e) .1 (j .sized, j .pointeeSized))),
     )

@@ -21,11 +21,11 @@ use Rattle.module.specs.Knot.{below}
 use Rattle.module.proofs.Knot.{knot-is, below-lt}
 use Rattle.clearance.specs.Scope.{Scope, inner, kind, bases, isKind, isScalar, isVector, isPointer, pairwise, alikeInner, alike, fits, typed, typeOf, innerOf}
 use Rattle.clearance.specs.Scope.{slot, Path, nowhere, further, stepFrom, pathOf, isPath}
-use Rattle.clearance.specs.Judged.{every, partType, elementType, pointeeType, same, samePart, isValue, holdsIn, holdsUnsized, hasVectorSize, componentCount, countComponents, fitsCompose}
+use Rattle.clearance.specs.Judged.{every, partType, elementType, pointeeType, same, samePart, isValue, holdsIn, holdsUnsized, pointeeHolds, holdsEither, hasVectorSize, componentCount, countComponents, fitsCompose}
 use Rattle.clearance.specs.Rules.{Member, here, later}
 use Rattle.clearance.specs.IsJudged.{Declares, global, local, IndexOf, constant, dynamic, IsPath, ends, goesOn, MayPoint, aVariable, anIndex, IsValue}
 use Rattle.clearance.specs.IsJudged.{Part, component, column, element, member, Parts, components, columns, elements, Components, scalar, vector, none, Members, one, ComposedOf, aVector, aMatrix, anArray, aStruct}
-use Rattle.clearance.specs.IsJudged.{HoldsUnsized, runSized, bindings, inside}
+use Rattle.clearance.specs.IsJudged.{HoldsUnsized, runSized, bindings, ofElement, ofMember}
 use Rattle.clearance.proofs.Small.{cases, both-true, both-are}
 use Rattle.clearance.proofs.Lowest.{no-member, first-or-later}
 
@@ -362,11 +362,13 @@ module _ (S : Scope) where
 
   -- Unsized arrays
 
-  -- what holds one by what is given of the types that it is made of
+  -- what holds one by what is given of its elements and members
   HoldsIn : (TypeHandle → Bool) → TypeInner → Type 0
   HoldsIn holds i =
       ((base : TypeHandle) × (i ≡ Array base 0))
-      ⊎ (((base : TypeHandle) × (i ≡ BindingArray base)) ⊎ ((u : TypeHandle) × Member u (bases i) × (holds u ≡ true)))
+      ⊎ (((base : TypeHandle) × (i ≡ BindingArray base))
+      ⊎ (((u : TypeHandle) × (n : ℕ) × (i ≡ Array u n) × (holds u ≡ true))
+      ⊎ ((ms : List TypeMember) × (u : TypeHandle) × (i ≡ Struct ms) × Member u (map (λ m. m .type) ms) × (holds u ≡ true))))
 
   some-member : (holds : TypeHandle → Bool) (ms : List TypeMember) → not (every (λ m. not (holds (m .type))) ms) ≡ true →
       (u : TypeHandle) × Member u (map (λ m. m .type) ms) × (holds u ≡ true)
@@ -378,17 +380,17 @@ module _ (S : Scope) where
       (λ e. let z = some-member holds ms (rw e at h) in (z .0, later (z .1), z .2))
 
   holds-in : (holds : TypeHandle → Bool) (i : TypeInner) → holdsIn holds i ≡ true → HoldsIn holds i
-  unfolding holdsIn HoldsIn bases
+  unfolding holdsIn HoldsIn
   holds-in holds Scalar h = never h
   holds-in holds (Vector n) h = never h
   holds-in holds (Matrix c r) h = never h
   holds-in holds Atomic h = never h
-  holds-in holds (Pointer base) h = inr (inr (base, here, h))
+  holds-in holds (Pointer base) h = never h
   holds-in holds (Array base n) h =
       cases (eqb n 0)
       (λ e. inl (base, ap (Array base) (eqb-true n 0 e)))
-      (λ e. inr (inr (base, here, either-is _ _ h e)))
-  holds-in holds (Struct ms) h = inr (inr (some-member holds ms h))
+      (λ e. inr (inr (inl (base, n, refl, either-is _ _ h e))))
+  holds-in holds (Struct ms) h = let z = some-member holds ms h in inr (inr (inr (ms, z .0, refl, z .1, z .2)))
   holds-in holds (BindingArray base) h = inr (inl (base, refl))
   holds-in holds Opaque h = never h
 
@@ -399,18 +401,6 @@ module _ (S : Scope) where
   member-holds holds (x ∷ ms) u m h =
       first-or-later (x .type) u _ m (λ e. let z : holds (x .type) ≡ true = rw e at h in rw z)
       (λ i. cases (holds (x .type)) (λ e. rw e) (λ e. rw e (member-holds holds ms u i h)))
-
-  base-holds : (holds : TypeHandle → Bool) (i : TypeInner) (u : TypeHandle) → Member u (bases i) → holds u ≡ true → holdsIn holds i ≡ true
-  unfolding holdsIn bases
-  base-holds holds Scalar u m h = no-member u [] refl m
-  base-holds holds (Vector n) u m h = no-member u [] refl m
-  base-holds holds (Matrix c r) u m h = no-member u [] refl m
-  base-holds holds Atomic u m h = no-member u [] refl m
-  base-holds holds (Pointer base) u m h = first-or-later base u [] m (λ e. rw e at h) (no-member u [] refl)
-  base-holds holds (Array base n) u m h = either-right (eqb n 0) _ (first-or-later base u [] m (λ e. rw e at h) (no-member u [] refl))
-  base-holds holds (Struct ms) u m h = rw (member-holds holds ms u m h)
-  base-holds holds (BindingArray base) u m h = refl
-  base-holds holds Opaque u m h = no-member u [] refl m
 
   abbrev lower : TypeHandle → TypeHandle → Bool
   lower t = below (holdsUnsized S) false t
@@ -431,16 +421,46 @@ module _ (S : Scope) where
       go : ((u : TypeHandle) → u < t → holdsUnsized S u ≡ true → HoldsUnsized S u) → HoldsIn (lower t) (inner S t) → HoldsUnsized S t
       go f (inl z) = runSized (z .1)
       go f (inr (inl z)) = bindings (z .1)
-      go f (inr (inr z)) = let y = lower-holds t (z .0) (z .2) in inside (z .1) (y .0) (f (z .0) (y .0) (y .1))
+      go f (inr (inr (inl z))) = let y = lower-holds t (z .0) (z .3) in ofElement (z .2) (y .0) (f (z .0) (y .0) (y .1))
+      go f (inr (inr (inr z))) = let y = lower-holds t (z .1) (z .4) in ofMember (z .2) (z .3) (y .0) (f (z .1) (y .0) (y .1))
 
   of-holds : (t : TypeHandle) → HoldsUnsized S t → holdsUnsized S t ≡ true
   unfolding holdsIn
   of-holds t (runSized e) = holds-step t ∙ (rw (e, holdsIn))
   of-holds t (bindings e) = holds-step t ∙ (rw (e, holdsIn))
-  of-holds t (inside {u = u} m l h) = holds-step t ∙ base-holds (lower t) (inner S t) u m (below-lt (holdsUnsized S) false t u l ∙ of-holds u h)
+  of-holds t (ofElement {u = u} {n = n} e l h) =
+      holds-step t ∙ rw e (either-right (eqb n 0) _ (below-lt (holdsUnsized S) false t u l ∙ of-holds u h))
+  of-holds t (ofMember {u = u} {ms = ms} e m l h) =
+      holds-step t ∙ rw (e, member-holds (lower t) ms u m (below-lt (holdsUnsized S) false t u l ∙ of-holds u h))
 
-  pub sized-exactly : (t : TypeHandle) → (not (holdsUnsized S t) ≡ true) ↔ (HoldsUnsized S t → ⊥)
+  holds-exactly : (t : TypeHandle) → (holdsUnsized S t ≡ true) ↔ HoldsUnsized S t
+  holds-exactly t = (holds-below (suc t) t (omega arith), of-holds t)
+
+  -- of a pointer's pointee
+  pointee-of : (i : TypeInner) → pointeeHolds (holdsUnsized S) i ≡ true → (u : TypeHandle) × (i ≡ Pointer u) × HoldsUnsized S u
+  unfolding pointeeHolds
+  pointee-of Scalar h = never h
+  pointee-of (Vector n) h = never h
+  pointee-of (Matrix c r) h = never h
+  pointee-of Atomic h = never h
+  pointee-of (Pointer base) h = (base, refl, holds-exactly base .0 h)
+  pointee-of (Array base n) h = never h
+  pointee-of (Struct ms) h = never h
+  pointee-of (BindingArray base) h = never h
+  pointee-of Opaque h = never h
+
+  of-pointee : (i : TypeInner) (u : TypeHandle) → i ≡ Pointer u → HoldsUnsized S u → pointeeHolds (holdsUnsized S) i ≡ true
+  unfolding pointeeHolds
+  of-pointee i u e h = rw e (of-holds u h)
+
+  pub sized-exactly : (t : TypeHandle) →
+      (not (holdsEither S t) ≡ true) ↔ ((HoldsUnsized S t → ⊥) × ((u : TypeHandle) → inner S t ≡ Pointer u → HoldsUnsized S u → ⊥))
+  unfolding holdsEither
   sized-exactly t = (
-    (λ h g. impossible (sym (not-true _ h) ∙ of-holds t g)),
-    (λ h. cases (holdsUnsized S t) (λ e. absurd (h (holds-below (suc t) t (omega arith) e))) (λ e. rw e)),
+    (λ h. (
+      (λ g. impossible (sym (not-true _ h) ∙ either-left _ _ (of-holds t g))),
+      (λ u e g. impossible (sym (not-true _ h) ∙ either-right (holdsUnsized S t) _ (of-pointee _ u e g))),
+    )),
+    (λ z. cases (holdsUnsized S t) (λ e. absurd (z .0 (holds-exactly t .0 e)))
+        (λ e. cases (pointeeHolds (holdsUnsized S) (inner S t)) (λ g. let y = pointee-of _ g in absurd (z .1 (y .0) (y .1) (y .2))) (λ g. rw (e, g)))),
   )

@@ -3,7 +3,7 @@
 use Prim.Native.Nat.{ℕ, _+_, _<_, _≤_}
 use mathlib.Core.Path.{_≡_}
 use mathlib.Core.Bool.{true}
-use mathlib.Core.List.{List, [], _∷_}
+use mathlib.Core.List.{List, [], _∷_, map}
 use mathlib.Core.Logic.{_⊎_}
 use mathlib.Core.Option.{Option, some}
 use lib.ListN.{length, getD}
@@ -15,7 +15,7 @@ use Rattle.module.specs.Module.{Derivative, Relational, Math, As, CallResult, A
 use Rattle.module.specs.Module.{RayQueryGetIntersection, Override, SubgroupBallotResult, SubgroupOperationResult, RayQueryVertexPositions}
 use Rattle.module.specs.Module.{Emit, Block, If, Switch, Loop, Break, Continue, Return, Kill, ControlBarrier, MemoryBarrier, ImageAtomic, Store}
 use Rattle.module.specs.Module.{AtomicStatement, Call, ImageStore, RayQuery, WorkGroupUniformLoad, SubgroupBallot, SubgroupGather, SubgroupCollectiveOperation}
-use Rattle.clearance.specs.Scope.{Scope, inner, memberTypes, bases, alike, typed, typeOf, innerOf, argumentType}
+use Rattle.clearance.specs.Scope.{Scope, inner, memberTypes, alike, typed, typeOf, innerOf, argumentType}
 use Rattle.clearance.specs.Tree.{Tree, seq, branch, switch, loop, unmarked, bodyTree}
 use Rattle.clearance.specs.Needs.{Exit, broke, continued}
 use Rattle.clearance.specs.Judged.{pointee, same}
@@ -181,11 +181,13 @@ pub data ComposedOf (S : Scope) (cs : List ExpressionHandle) : TypeInner → Typ
   anArray : {base : TypeHandle} {n : ℕ} → length cs ≡ n → ((c : ExpressionHandle) → Member c cs → alike S base (typeOf S c) ≡ true) → ComposedOf S cs (Array base n)
   aStruct : {ms : List TypeMember} → Members S ms cs → ComposedOf S cs (Struct ms)
 
--- a type is, or holds at any depth, an array of count 0 or a binding array; what it is made of, a pointer's pointee too, has lower numbers
+-- a type is, or holds at any depth, an array of count 0 or a binding array: its elements and members have lower numbers, and a pointer holds
+-- none
 pub data HoldsUnsized (S : Scope) : TypeHandle → Type 0 where
   runSized : {t base : TypeHandle} → inner S t ≡ Array base 0 → HoldsUnsized S t
   bindings : {t base : TypeHandle} → inner S t ≡ BindingArray base → HoldsUnsized S t
-  inside : {t u : TypeHandle} → Member u (bases (inner S t)) → u < t → HoldsUnsized S u → HoldsUnsized S t
+  ofElement : {t u : TypeHandle} {n : ℕ} → inner S t ≡ Array u n → u < t → HoldsUnsized S u → HoldsUnsized S t
+  ofMember : {t u : TypeHandle} {ms : List TypeMember} → inner S t ≡ Struct ms → Member u (map (λ m. m .type) ms) → u < t → HoldsUnsized S u → HoldsUnsized S t
 
 -- Control flow
 
@@ -237,6 +239,7 @@ pub record JudgedExpression (S : Scope) (e : ExpressionHandle) (x : Expression) 
   pub compose : (cs : List ExpressionHandle) → x ≡ Compose cs → ComposedOf S cs (innerOf S e)
   -- "no expression's type or pointee holds an array of count 0 or a binding array"
   pub sized : HoldsUnsized S (typeOf S e) → ⊥
+  pub pointeeSized : (t : TypeHandle) → innerOf S e ≡ Pointer t → HoldsUnsized S t → ⊥
 
 -- of the statement n, which is x, of a function with this body
 pub record JudgedStatement (S : Scope) (whole : Tree) (n : ℕ) (x : Statement) : Type 0 where

@@ -78,13 +78,13 @@ samePart S (some i) j = same S i j
 unfoldable pub isValue : Scope → ExpressionHandle → Bool
 isValue S e = not (isPath S e) && not (isPointer (innerOf S e))
 
--- whether a type holds an array of count 0 or a binding array; of a pointer, its pointee
+-- whether a type holds an array of count 0 or a binding array; a pointer does not hold its pointee
 unfoldable pub holdsIn : (TypeHandle → Bool) → TypeInner → Bool
 holdsIn holds Scalar = false
 holdsIn holds (Vector n) = false
 holdsIn holds (Matrix columns rows) = false
 holdsIn holds Atomic = false
-holdsIn holds (Pointer base) = holds base
+holdsIn holds (Pointer base) = false
 holdsIn holds (Array base n) = eqb n 0 || holds base
 holdsIn holds (Struct ms) = not (every (λ m. not (holds (m .type))) ms)
 holdsIn holds (BindingArray base) = true
@@ -92,6 +92,22 @@ holdsIn holds Opaque = false
 
 unfoldable pub holdsUnsized : Scope → TypeHandle → Bool
 holdsUnsized S t = knot (λ holds h. holdsIn holds (inner S h)) false t
+
+-- of a pointer, whether its pointee does
+unfoldable pub pointeeHolds : (TypeHandle → Bool) → TypeInner → Bool
+pointeeHolds holds Scalar = false
+pointeeHolds holds (Vector n) = false
+pointeeHolds holds (Matrix columns rows) = false
+pointeeHolds holds Atomic = false
+pointeeHolds holds (Pointer base) = holds base
+pointeeHolds holds (Array base n) = false
+pointeeHolds holds (Struct ms) = false
+pointeeHolds holds (BindingArray base) = false
+pointeeHolds holds Opaque = false
+
+-- the type or its pointee
+unfoldable pub holdsEither : Scope → TypeHandle → Bool
+holdsEither S t = holdsUnsized S t || pointeeHolds (holdsUnsized S) (inner S t)
 
 -- Expressions
 
@@ -182,7 +198,7 @@ fitsExpression S e SubgroupOperationResult = false
 fitsExpression S e RayQueryVertexPositions = false
 
 unfoldable pub judgedExpression : Scope → ExpressionHandle → Bool
-judgedExpression S e = fitsExpression S e (typed S e .expression) && not (holdsUnsized S (typeOf S e))
+judgedExpression S e = fitsExpression S e (typed S e .expression) && not (holdsEither S (typeOf S e))
 
 -- Statements
 

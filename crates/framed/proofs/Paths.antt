@@ -15,7 +15,7 @@ use Rattle.valid.specs.Valid.{NamesBelow}
 use Rattle.clearance.specs.Shape.{Shape, array, member, isVoid, shapeAt}
 use Rattle.clearance.specs.Scope.{Scope, inner, vectorShape, elements, unfoldType, shapeOf, typed, noExpression, Slot, global, local, slot, frame, Step, at, by, Path, nowhere, further}
 use Rattle.clearance.specs.Scope.{stepFrom, pathOf, front, indexes, target, isPath, isPointer, typeOf}
-use Rattle.clearance.specs.Judged.{partType, pointee, same, fitsIndex, fitsVariable, fitsExpression, holdsUnsized, judgedExpression}
+use Rattle.clearance.specs.Judged.{partType, pointee, same, fitsIndex, fitsVariable, fitsExpression, holdsEither, judgedExpression}
 use Rattle.clearance.specs.IsJudged.{Declares, global as aGlobal, local as aLocal, IndexOf, constant, dynamic, IsPath, ends, goesOn, Part, component, column, element, member as aMember}
 use Rattle.clearance.proofs.Small.{both-true}
 use Rattle.clearance.proofs.Values.{nil-right, regroup}
@@ -155,7 +155,7 @@ module _ (S : Scope) (R : Lowered S) (J : Judged S) where
 
   pub fits-as : (e : ExpressionHandle) (x : Expression) → e < length (S .function .expressions) → typed S e .expression ≡ x → fitsExpression S e x ≡ true
   unfolding judgedExpression
-  fits-as e x l h = subst (λ y. fitsExpression S e y ≡ true) h (both-true (fitsExpression S e (typed S e .expression)) (not (holdsUnsized S (typeOf S e))) (J .each e l) .0)
+  fits-as e x l h = subst (λ y. fitsExpression S e y ≡ true) h (both-true (fitsExpression S e (typed S e .expression)) (not (holdsEither S (typeOf S e))) (J .each e l) .0)
 
   pub names-as : (e : ExpressionHandle) (x : Expression) → e < length (S .function .expressions) → typed S e .expression ≡ x →
       NamesBelow (length (S .program .globals)) (length (S .function .arguments)) (length (S .function .locals)) x

@@ -3,13 +3,12 @@ use Prim.Native.Nat.{ℕ, zero, suc, _+_, _-_, _<_, _≤_}
 use native.Mathlib.Omega.{arith}
 use native.Mathlib.Decide.{ℕ-discrete}
 use mathlib.Core.Path.{_≡_, refl, sym, ap, _∙_}
-use mathlib.Core.Bool.{Bool, true, false, and-true, and-false}
+use mathlib.Core.Bool.{Bool, true, false, _||_, and-true, and-false}
 use mathlib.Core.List.{List, [], _∷_}
 use mathlib.Core.Option.{Option, some, none as nothing}
-use lib.Dec.{eqb}
 use lib.ListN.{length, getD}
-use borrow.Author.Tests.{le-ltb, eq-eqb, ne-eqb}
-use Rattle.module.specs.Module.{Kill}
+use borrow.Author.Tests.{le-ltb}
+use Rattle.module.specs.Module.{Opaque, Kill}
 use Rattle.module.specs.Decode.{expressionOf}
 use Rattle.module.specs.Tables.{functionOf}
 use Rattle.access.specs.declared.kinded.Kinded.{Kinded}
@@ -17,13 +16,14 @@ use Rattle.access.specs.Access.{typedAt, statementAt}
 use Rattle.access.proofs.Access.{typed-is, statement-is}
 use Rattle.context.specs.Types.{typesOf}
 use Rattle.clearance.specs.Scope.{Scope, noExpression, typed, typeOf}
-use Rattle.clearance.specs.Judged.{isValue, holdsUnsized, fitsExpression, fitsStatement, judgedExpression, unless, failing, lower, lowest, blamedExpression}
+use Rattle.clearance.specs.Judged.{isValue, pointeeHolds, holdsEither, fitsExpression, fitsStatement, judgedExpression, unless, failing, lower, lowest, blamedExpression}
 use Rattle.clearance.proofs.Small.{cases}
 use Rattle.judge.specs.Marked.{marked}
 use Rattle.judge.specs.Unsized.{UnsizedTable}
 use Rattle.judge.specs.Given.{scopeAt, Given, Row, Fits}
 use Rattle.judge.proofs.PathSteps.{past}
 use Rattle.judge.proofs.ValueRows.{Each}
+use Rattle.judge.proofs.Unsized.{held-either}
 use Rattle.judge.proofs.Operands.{S, type-low, G, o, by-kind}
 
 -- kinds that need no operand
@@ -79,20 +79,20 @@ module _ {bytes t : List ℕ} {f : ℕ} {types alike paths : List ℕ} {e : ℕ}
   pub fits-first : row .kind ≤ 2 → (row .kind ≡ 2 → ⊥) → Fits bytes t f e v
   fits-first h n = by-kind R (row .kind) refl (value ∙ first-kinds (S (G R)) e (o R) (row .kind) (omega arith))
 
--- judged: it fits and holds nothing unsized
-module _ {bytes t : List ℕ} {f : ℕ} {types alike paths : List ℕ} (given : Given bytes t f types alike paths) {held : List ℕ} (U : UnsizedTable (typesOf types) held) (e : ℕ) (there : e < length (functionOf bytes t f .expressions)) {a w : ℕ} (own : a ≡ typeOf (S given) e) (entry : w ≡ getD held a 0) where
-  held-is : eqb w 1 ≡ holdsUnsized (S given) (typeOf (S given) e)
-  unfolding marked
-  held-is = rw (entry, own) (U .is (S given) (given .values .same) (typeOf (S given) e) (type-low given e there))
+-- judged: it fits, and neither its type nor its pointee holds an unsized array
+module _ {bytes t : List ℕ} {f : ℕ} {types alike paths : List ℕ} (given : Given bytes t f types alike paths) {held : List ℕ} (U : UnsizedTable (typesOf types) held) (e : ℕ) (there : e < length (functionOf bytes t f .expressions)) {a : ℕ} {w : Bool} (own : a ≡ typeOf (S given) e) (entry : w ≡ marked held a || pointeeHolds (marked held) (getD (typesOf types) a Opaque)) where
+  held-is : w ≡ holdsEither (S given) (typeOf (S given) e)
+  held-is =
+      entry ∙ rw own (held-either types held (given .shapes .lower) U (S given) (given .values .same) (typeOf (S given) e) (type-low given e there))
 
-  pub judged-unsized : w ≡ 1 → false ≡ judgedExpression (S given) e
+  pub judged-unsized : w ≡ true → false ≡ judgedExpression (S given) e
   unfolding judgedExpression
-  judged-unsized h = sym (rw (← held-is, eq-eqb w 1 h) (and-false (fitsExpression (S given) e (typed (S given) e .expression))))
+  judged-unsized h = sym (rw (← held-is, h) (and-false (fitsExpression (S given) e (typed (S given) e .expression))))
 
-  pub judged-fits : {r : Bool} → (w ≡ 1 → ⊥) → Fits bytes t f e r → r ≡ judgedExpression (S given) e
+  pub judged-fits : {r : Bool} → w ≡ false → Fits bytes t f e r → r ≡ judgedExpression (S given) e
   unfolding judgedExpression typed
   judged-fits h q =
-      q ∙ sym (rw (← held-is, ne-eqb w 1 h, typed-is bytes t f e noExpression there) (and-true (fitsExpression (S given) e (typedAt bytes t f e .expression))))
+      q ∙ sym (rw (← held-is, h, typed-is bytes t f e noExpression there) (and-true (fitsExpression (S given) e (typedAt bytes t f e .expression))))
 
 -- the lowest that fails a test of its number
 module _ {A : Type 0} (p : ℕ → Bool) where

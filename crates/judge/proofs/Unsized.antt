@@ -1,8 +1,9 @@
--- `holdsUnsized` is one step over its own answers for lower types: of the type itself, or of one of those that it is made of. So a table
--- of the lower types gives the next entry.
+-- `holdsUnsized` is one step over its own answers for lower types: of the type itself, or, but for a pointer, of one of those that it is
+-- made of. So a table of the lower types gives the next entry.
 use Prim.Native.Nat.{ℕ, zero, suc, _+_, _<_, _≤_}
 use native.Mathlib.Omega.{arith}
-use mathlib.Core.Path.{_≡_, refl, sym, ap, _∙_}
+use native.Mathlib.Decide.{ℕ-discrete}
+use mathlib.Core.Path.{_≡_, refl, sym, ap, ap₂, _∙_}
 use mathlib.Core.Bool.{Bool, true, false, not, _&&_, _||_, and-false, or-false}
 use mathlib.Core.List.{List, [], _∷_, map}
 use lib.Dec.{eqb}
@@ -16,7 +17,7 @@ use Rattle.module.proofs.Knot.{knot-is, below-lt}
 use Rattle.context.specs.Types.{typeWord, typeCount, typesOf}
 use Rattle.bindings.proofs.Returning.{types-long}
 use Rattle.clearance.specs.Scope.{Scope, inner, kind, bases}
-use Rattle.clearance.specs.Judged.{every, holdsIn, holdsUnsized}
+use Rattle.clearance.specs.Judged.{every, holdsIn, holdsUnsized, pointeeHolds, holdsEither}
 use Rattle.judge.specs.Alike.{Lower}
 use Rattle.judge.specs.Marked.{marked}
 use Rattle.judge.specs.Unsized.{UnsizedTable}
@@ -62,23 +63,39 @@ only-one true b = refl
 only-one false true = refl
 only-one false false = refl
 
-holds-parts : (holds : ℕ → Bool) (x : TypeInner) → holdsIn holds x ≡ itself x || some holds (bases x)
-unfolding holdsIn bases every
-holds-parts holds Scalar = refl
-holds-parts holds (Vector size) = refl
-holds-parts holds (Matrix columns rows) = refl
-holds-parts holds Atomic = refl
-holds-parts holds (Pointer base) = only-one false (holds base)
-holds-parts holds (Array base count) = only-one (eqb count 0) (holds base)
-holds-parts holds (Struct ms) = rw (every-member ms, every-type (λ b. not (holds b)) ms)
-holds-parts holds (BindingArray base) = refl
-holds-parts holds Opaque = refl
+holds-parts : (holds : ℕ → Bool) (x : TypeInner) → (number x ≡ 4 → ⊥) → holdsIn holds x ≡ itself x || some holds (bases x)
+unfolding holdsIn bases every kind
+holds-parts holds Scalar n = refl
+holds-parts holds (Vector size) n = refl
+holds-parts holds (Matrix columns rows) n = refl
+holds-parts holds Atomic n = refl
+holds-parts holds (Pointer base) n = absurd (n refl)
+holds-parts holds (Array base count) n = only-one (eqb count 0) (holds base)
+holds-parts holds (Struct ms) n = rw (every-member ms, every-type (λ b. not (holds b)) ms)
+holds-parts holds (BindingArray base) n = refl
+holds-parts holds Opaque n = refl
+
+pointer-holds : (holds : ℕ → Bool) (x : TypeInner) → number x ≡ 4 → holdsIn holds x ≡ false
+unfolding holdsIn kind
+pointer-holds holds Scalar h = refl
+pointer-holds holds (Vector size) h = refl
+pointer-holds holds (Matrix columns rows) h = refl
+pointer-holds holds Atomic h = refl
+pointer-holds holds (Pointer base) h = refl
+pointer-holds holds (Array base count) h = absurd (omega arith)
+pointer-holds holds (Struct ms) h = absurd (omega arith)
+pointer-holds holds (BindingArray base) h = absurd (omega arith)
+pointer-holds holds Opaque h = refl
 
 holds-agree : (holds other : ℕ → Bool) (x : TypeInner) → ((i : ℕ) → i < length (bases x) → holds (getD (bases x) i 0) ≡ other (getD (bases x) i 0)) → holdsIn holds x ≡ holdsIn other x
 holds-agree holds other x f =
-    holds-parts holds x
-    ∙ (ap (λ (b : Bool). itself x || not b) (every-agree (λ b. not (holds b)) (λ b. not (other b)) (bases x) (λ i l. ap not (f i l)))
-    ∙ sym (holds-parts other x))
+    elim (ℕ-discrete (number x) 4) [
+      | yes h ↦ pointer-holds holds x h ∙ sym (pointer-holds other x h)
+      | no n ↦
+          holds-parts holds x n
+          ∙ (ap (λ (b : Bool). itself x || not b) (every-agree (λ b. not (holds b)) (λ b. not (other b)) (bases x) (λ i l. ap not (f i l)))
+          ∙ sym (holds-parts other x n))
+    ]
 
 -- `holdsUnsized`, which looks at a scope's types alone
 unfoldable pub holdsAmong : List TypeInner → ℕ → Bool
@@ -150,13 +167,19 @@ module _ (table xs : List ℕ) where
   pub unmarked-all : {n i : ℕ} → n ≡ length xs → n ≤ i → Unmarked table xs i → false ≡ some (marked table) xs
   unmarked-all e l U = sym (ap not (every-true (λ b. not (marked table b)) xs (λ k h. ap not (U .each k (omega arith)))))
 
--- an entry, by both answers
-module _ (table : List ℕ) (x : TypeInner) {a : Bool} (e : a ≡ itself x) where
+-- an entry: a pointer's, and by both answers
+pub entry-pointer : (table : List ℕ) (x : TypeInner) {k : ℕ} → k ≡ number x → k ≡ 4 → eqb 0 1 ≡ holdsIn (marked table) x
+entry-pointer table x e h = sym (pointer-holds (marked table) x (sym e ∙ h))
+
+module _ (table : List ℕ) (x : TypeInner) {k : ℕ} (q : k ≡ number x) (n : k ≡ 4 → ⊥) {a : Bool} (e : a ≡ itself x) where
+  abbrev parts : holdsIn (marked table) x ≡ itself x || some (marked table) (bases x)
+  parts = holds-parts (marked table) x (λ z. n (q ∙ z))
+
   pub entry-itself : a ≡ true → eqb 1 1 ≡ holdsIn (marked table) x
-  entry-itself h = sym (holds-parts (marked table) x ∙ rw (← e, h))
+  entry-itself h = sym (parts ∙ rw (← e, h))
 
   pub entry-some : {b r : Bool} → a ≡ false → b ≡ some (marked table) (bases x) → b ≡ r → r ≡ holdsIn (marked table) x
-  entry-some h f q = sym q ∙ sym (holds-parts (marked table) x ∙ rw (← e, h, ← f))
+  entry-some h f q = sym q ∙ sym (parts ∙ rw (← e, h, ← f))
 
 -- the whole table
 pub filled : (rows table : List ℕ) {n k : ℕ} → n ≡ typeCount rows → length table ≡ n → n ≤ k → Marks (holdsAmong (typesOf rows)) table k → UnsizedTable (typesOf rows) table
@@ -165,3 +188,59 @@ filled rows table {n} {k} e f l M =
       long = f ∙ (e ∙ sym (types-long rows));
       is = λ S s t h. M .each t (omega (arith, types-long rows)) ∙ (rw (← s) (holds-among S t));
     }
+
+-- a type or its pointee
+plain-pointee : (holds : ℕ → Bool) (x : TypeInner) → (number x ≡ 4 → ⊥) → pointeeHolds holds x ≡ false
+unfolding pointeeHolds kind
+plain-pointee holds Scalar n = refl
+plain-pointee holds (Vector size) n = refl
+plain-pointee holds (Matrix columns rows) n = refl
+plain-pointee holds Atomic n = refl
+plain-pointee holds (Pointer base) n = absurd (n refl)
+plain-pointee holds (Array base count) n = refl
+plain-pointee holds (Struct ms) n = refl
+plain-pointee holds (BindingArray base) n = refl
+plain-pointee holds Opaque n = refl
+
+pointee-agree : (holds other : ℕ → Bool) (x : TypeInner) → ((i : ℕ) → i < length (bases x) → holds (getD (bases x) i 0) ≡ other (getD (bases x) i 0)) →
+    pointeeHolds holds x ≡ pointeeHolds other x
+unfolding pointeeHolds bases
+pointee-agree holds other Scalar f = refl
+pointee-agree holds other (Vector size) f = refl
+pointee-agree holds other (Matrix columns rows) f = refl
+pointee-agree holds other Atomic f = refl
+pointee-agree holds other (Pointer base) f = f 0 (omega arith)
+pointee-agree holds other (Array base count) f = refl
+pointee-agree holds other (Struct ms) f = refl
+pointee-agree holds other (BindingArray base) f = refl
+pointee-agree holds other Opaque f = refl
+
+module _ (rows table : List ℕ) (t : ℕ) {w : ℕ} (entry : w ≡ getD table t 0) where
+  abbrev Either : Bool → Type 0
+  Either r = r ≡ marked table t || pointeeHolds (marked table) (getD (typesOf rows) t Opaque)
+
+  pub either-itself : w ≡ 1 → Either true
+  unfolding marked
+  either-itself h = sym (rw (eq-eqb (getD table t 0) 1 (sym entry ∙ h)))
+
+  module _ (n : w ≡ 1 → ⊥) {k : ℕ} (e : k ≡ number (getD (typesOf rows) t Opaque)) where
+    unmarked : marked table t ≡ false
+    unfolding marked
+    unmarked = ne-eqb (getD table t 0) 1 (λ q. n (entry ∙ q))
+
+    pub either-pointee : {b u : ℕ} → k ≡ 4 → b ≡ typeWord rows t 1 → u ≡ getD table b 0 → Either (eqb u 1)
+    either-pointee {b} h q v =
+        sym (rw (unmarked, row-is rows t 4 (omega arith) e h) (unfold typeInnerOf pointeeHolds marked in rw (v, q)))
+
+    pub either-none : (k ≡ 4 → ⊥) → Either false
+    either-none h = sym (rw (unmarked, plain-pointee (marked table) (getD (typesOf rows) t Opaque) (λ z. h (e ∙ z))))
+
+-- by the table, where types are made of lower ones
+pub held-either : (types table : List ℕ) → Lower (typesOf types) → UnsizedTable (typesOf types) table → (S : Scope) → S .program .types ≡ typesOf types → (t : ℕ) → t < length (typesOf types) →
+    marked table t || pointeeHolds (marked table) (getD (typesOf types) t Opaque) ≡ holdsEither S t
+unfolding holdsEither inner
+held-either types table L U S s t l =
+    ap₂ (λ (a b : Bool). a || b) (U .is S s t l)
+    (pointee-agree (marked table) (holdsUnsized S) (getD (typesOf types) t Opaque)
+    (λ i m. U .is S s (getD (bases (getD (typesOf types) t Opaque)) i 0) (omega (arith, L .each t i m)))
+    ∙ ap (λ (ts : List TypeInner). pointeeHolds (holdsUnsized S) (getD ts t Opaque)) (sym s))

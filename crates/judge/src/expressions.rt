@@ -12,11 +12,11 @@ use crate::indexes::fits_index;
 use crate::made::fits_made;
 use crate::named::fits_named;
 use crate::operators::fits_operator;
+use crate::unsized_types::holds_either;
 use crate::values::is_value;
 use crate::values::type_of;
 use access::function::expressions;
 use access::kinded::expression;
-use bindings::types::word;
 use module::handles::ExpressionHandle;
 use module::handles::FunctionHandle;
 
@@ -72,7 +72,7 @@ pub fn fits_expression(
     value
 }
 
-// Whether the expression e fits and its type holds no unsized array.
+// Whether the expression e fits and neither its type nor its pointee holds an unsized array.
 pub fn judged_expression(
     bytes: &[u8],
     t: &[u32],
@@ -89,7 +89,7 @@ pub fn judged_expression(
     ensures { λ r. ⌜ r ≡ judgedExpression (scopeAt (now (bytes .entry)) (now (t .entry)) (f .0)) (e .0) ⌝ }
 {
     let own = type_of(bytes, t, f, e);
-    if word(held, own.0 as usize) == 1 {
+    if holds_either(types, held, own.0) {
         return false;
     }
     fits_expression(bytes, t, f, types, alike, paths, e)

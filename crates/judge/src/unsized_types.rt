@@ -1,6 +1,6 @@
-// Types that hold an array of count 0 or a binding array, by a table: 1 for each of them and 0 for the others.
+// Types that hold an array of count 0 or a binding array, by a table: 1 for each of them and 0 for the others, pointers among them.
 ghost use mathlib.Core.Path.{_≡_};
-ghost use mathlib.Core.Bool.{false, not};
+ghost use mathlib.Core.Bool.{false, not, _||_};
 ghost use Prim.Native.Nat.{_≤_};
 ghost use lib.Dec.{eqb};
 ghost use lib.ListN.{length, getD};
@@ -8,7 +8,7 @@ ghost use Rattle.field.specs.Limits.{maxTypes};
 ghost use Rattle.module.specs.Module.{Opaque};
 ghost use Rattle.context.specs.Types.{typeCount, typesOf};
 ghost use Rattle.clearance.specs.Scope.{bases};
-ghost use Rattle.clearance.specs.Judged.{every, holdsIn};
+ghost use Rattle.clearance.specs.Judged.{every, holdsIn, pointeeHolds};
 ghost use Rattle.judge.specs.Alike.{Lower};
 ghost use Rattle.judge.specs.Marked.{marked};
 ghost use Rattle.judge.specs.Unsized.{UnsizedTable};
@@ -16,6 +16,7 @@ use crate::rows::base_at;
 use crate::rows::base_count;
 use crate::rows::kind_at;
 use crate::rows::second_word;
+use bindings::types::first_word;
 use bindings::types::word;
 
 // Whether the type t is itself an array of count 0 or a binding array.
@@ -45,10 +46,13 @@ fn some_base(types: &[u32], table: &[u32], t: u32) -> bool
     false
 }
 
-// The type t's entry, from those of the types that it is made of.
+// The type t's entry, from those of the types that it is made of. A pointer does not hold its pointee.
 fn unsized_entry(types: &[u32], table: &[u32], t: u32) -> u32
     ensures { λ r. ⌜ eqb r 1 ≡ holdsIn (marked (now (table .entry))) (getD (typesOf (now (types .entry))) t Opaque) ⌝ }
 {
+    if kind_at(types, t) == 4 {
+        return 0;
+    }
     if is_unsized(types, t) {
         return 1;
     }
@@ -72,4 +76,17 @@ pub fn fill_unsized(types: &[u32], table: &mut [u32])
         table[at] = r;
         k += 1;
     }
+}
+
+// Whether the table marks the type t or, of a pointer, its pointee.
+pub fn holds_either(types: &[u32], table: &[u32], t: u32) -> bool
+    ensures { λ r. ⌜ r ≡ marked (now (table .entry)) t || pointeeHolds (marked (now (table .entry))) (getD (typesOf (now (types .entry))) t Opaque) ⌝ }
+{
+    if word(table, t as usize) == 1 {
+        return true;
+    }
+    if kind_at(types, t) == 4 {
+        return word(table, first_word(types, t) as usize) == 1;
+    }
+    false
 }

@@ -18,7 +18,7 @@ use Rattle.clearance.specs.Tree.{marked, markAt, byMark, emits, caseAt, stateme
 use Rattle.clearance.specs.Needs.{askOperand, askPicked, askComponents, askSteps, asks, gives, needAt, needFrom, need, needs, overlap, without, storing, giving}
 use Rattle.clearance.specs.Needs.{before, idle, wholly, upon, outBreak, outContinue, ofCase, ofContinuing, ofBody, each, union, most, quiet, onlyNext}
 use Rattle.clearance.specs.Needs.{obeys, kept, turning, valued, afterContinuing, loops, reentry, joinAt, enough}
-use Rattle.clearance.specs.Judged.{every, presently, partType, elementType, pointeeType, pointee, same, samePart, isValue, holdsIn, holdsUnsized, fitsIndex, hasVectorSize, componentCount}
+use Rattle.clearance.specs.Judged.{every, presently, partType, elementType, pointeeType, pointee, same, samePart, isValue, holdsIn, holdsUnsized, pointeeHolds, holdsEither, fitsIndex, hasVectorSize, componentCount}
 use Rattle.clearance.specs.Judged.{countComponents, fitsCompose, fitsVariable, fitsExpression, judgedExpression, fitsReturn, fitsStatement, atTop, inCase, inBody, unless, strays, failing, lower, lowest}
 use Rattle.clearance.specs.Judged.{blamedExpression, blamedStatement}
 use Rattle.clearance.specs.Verdict.{ending, needsExpression, starts, verdict, pieces, hasShape}
@@ -57,5 +57,5 @@ answer marks args =
 examples :
     answer (1 ∷ 1 ∷ 1 ∷ []) (more (variable 0) all none) ∷ answer (1 ∷ 1 ∷ 1 ∷ []) none ∷ answer (1 ∷ 0 ∷ 1 ∷ []) none ∷ answer (1 ∷ 0 ∷ 0 ∷ []) none ∷ []
     ≡ clear ∷ atStart ∷ atStatement 1 ∷ clear ∷ []
-unfolding answer function program tie knot member extent shapeAt leaf inside cov below under keep trim hit members split alter takeOut sum size inner memberTypes vectorShape elements unfoldType shapeOf kind bases isKind pairwise alikeInner alike fits slot typed typeOf innerOf argumentType resultShape slots kindShape frame isPath byPart anyVector optional armOf arm sourceOf source further stepFrom pathOf front indexes target markCount marksBefore marked markAt byMark emits caseAt statement statementsFrom blockTree bodyTree askOperand askPicked askComponents askSteps asks gives needAt needFrom need needs overlap without storing giving before idle wholly upon outBreak outContinue ofCase ofContinuing ofBody each union most quiet onlyNext obeys kept turning valued afterContinuing loops reentry joinAt enough every presently partType elementType pointeeType pointee same samePart isValue holdsIn holdsUnsized fitsIndex hasVectorSize componentCount countComponents fitsCompose fitsVariable fitsExpression judgedExpression fitsReturn fitsStatement atTop inCase inBody unless strays failing lower lowest blamedExpression blamedStatement ending needsExpression starts verdict pieces hasShape getSubpart has inPart contains merge onNone add entries width depth over equal among eachOnce cellsIn flatMap joining partFrom partOf asking askingAll storeAsks storeLeaves actAsks actLeaves acting turningOn valuing entering tooLarge tooMany point blame enter within pointed passCases passInside pass fresh askedOf passOnce settledBy settleWithin lastPass answerOf judgeBy checked
+unfolding answer function program tie knot member extent shapeAt leaf inside cov below under keep trim hit members split alter takeOut sum size inner memberTypes vectorShape elements unfoldType shapeOf kind bases isKind pairwise alikeInner alike fits slot typed typeOf innerOf argumentType resultShape slots kindShape frame isPath byPart anyVector optional armOf arm sourceOf source further stepFrom pathOf front indexes target markCount marksBefore marked markAt byMark emits caseAt statement statementsFrom blockTree bodyTree askOperand askPicked askComponents askSteps asks gives needAt needFrom need needs overlap without storing giving before idle wholly upon outBreak outContinue ofCase ofContinuing ofBody each union most quiet onlyNext obeys kept turning valued afterContinuing loops reentry joinAt enough every presently partType elementType pointeeType pointee same samePart isValue holdsIn holdsUnsized pointeeHolds holdsEither fitsIndex hasVectorSize componentCount countComponents fitsCompose fitsVariable fitsExpression judgedExpression fitsReturn fitsStatement atTop inCase inBody unless strays failing lower lowest blamedExpression blamedStatement ending needsExpression starts verdict pieces hasShape getSubpart has inPart contains merge onNone add entries width depth over equal among eachOnce cellsIn flatMap joining partFrom partOf asking askingAll storeAsks storeLeaves actAsks actLeaves acting turningOn valuing entering tooLarge tooMany point blame enter within pointed passCases passInside pass fresh askedOf passOnce settledBy settleWithin lastPass answerOf judgeBy checked
 examples = refl

@@ -20,7 +20,7 @@ use Rattle.clearance.specs.Needs.{askOperand, askPicked, askComponents, askStep
 use Rattle.clearance.specs.Needs.{storing, giving, before, idle, wholly, upon, outBreak, outContinue, ofCase, ofContinuing, ofBody, each, union, concat, through, most}
 use Rattle.clearance.specs.Needs.{quiet, onlyNext, obeys, kept, turning, valued, afterContinuing, walk, afterBody, lacking, stable, sweep}
 use Rattle.clearance.specs.Needs.{around, amid, somewhere, loops, reentry, joinAt, round, settle, enough, smallest}
-use Rattle.clearance.specs.Judged.{every, presently, partType, elementType, pointeeType, pointee, same, samePart, isValue, holdsIn, holdsUnsized}
+use Rattle.clearance.specs.Judged.{every, presently, partType, elementType, pointeeType, pointee, same, samePart, isValue, holdsIn, holdsUnsized, pointeeHolds, holdsEither}
 use Rattle.clearance.specs.Judged.{fitsIndex, hasVectorSize, componentCount, countComponents, fitsCompose, fitsVariable, fitsExpression, judgedExpression}
 use Rattle.clearance.specs.Judged.{fitsReturn, fitsStatement, atTop, inCase, inBody, unless, strays, failing, lower, lowest, blamedExpression}
 use Rattle.clearance.specs.Judged.{blamedStatement}
@@ -32,20 +32,23 @@ use Rattle.clearance.specs.Verdict.{Answer, unjudgedExpression, unjudgedStateme
 program : Module
 program = record {
   types =
-      -- 0, 1: a number, a vector, and 2, 3 pointers to them; 4, 5: an array; 6, 7: a struct; 8, 9: a run-sized array; 10, 11: a matrix
+      -- 0, 1: a number, a vector, and 2, 3 pointers to them; 4, 5: an array; 6, 7: a struct; 8, 9: a run-sized array; 10, 11: a matrix; 13: a
+      -- struct with a pointer to the run-sized array
       Scalar ∷ Vector 3 ∷ Pointer 0 ∷ Pointer 1 ∷ Array 0 4 ∷ Pointer 4
       ∷ Struct (record { type = 0; binding = nothing } ∷ record { type = 1; binding = nothing } ∷ []) ∷ Pointer 6 ∷ Array 0 0 ∷ Pointer 8
-      ∷ Matrix 2 3 ∷ Pointer 10 ∷ Vector 2 ∷ [];
+      ∷ Matrix 2 3 ∷ Pointer 10 ∷ Vector 2 ∷ Struct (record { type = 9; binding = nothing } ∷ []) ∷ [];
   globals = 6 ∷ 8 ∷ 10 ∷ 4 ∷ [];
   functions = [];
 }
 
--- a function of a number, a vector and a number, that returns a number
+-- a function of a number, a vector, a number and that struct, that returns a number
 function : List Typed → List Statement → List BlockRange → Function
 function es ss bs = record {
   entry = true;
   result = present (record { type = 0; binding = nothing });
-  arguments = record { type = 0; binding = nothing } ∷ record { type = 1; binding = nothing } ∷ record { type = 0; binding = nothing } ∷ [];
+  arguments =
+      record { type = 0; binding = nothing } ∷ record { type = 1; binding = nothing } ∷ record { type = 0; binding = nothing }
+      ∷ record { type = 13; binding = nothing } ∷ [];
   locals = 0 ∷ 0 ∷ [];
   expressions = es;
   statements = ss;
@@ -80,6 +83,8 @@ answers =
     ∷ answer (ex 1 (FunctionArgument 1) ∷ ex 6 (GlobalVariable 0) ∷ ex 1 (AccessIndex 1 1) ∷ []) (Store 2 0 ∷ []) (bk 0 1 ∷ []) (1 ∷ []) (v 0 all none) none (v 0 (more 0 all none) none) (v 1 all none)
     -- a run-sized array is not judged
     ∷ answer (ex 9 (GlobalVariable 1) ∷ []) [] (bk 0 0 ∷ []) [] none none none none
+    -- what has a pointer to one does not hold it
+    ∷ answer (ex 13 (FunctionArgument 3) ∷ []) [] (bk 0 0 ∷ []) [] none none none none
     -- a break without a target
     ∷ answer [] (Break ∷ []) (bk 0 1 ∷ []) (1 ∷ []) none none none none
     -- marks of another shape
@@ -138,6 +143,6 @@ answers =
 
 examples :
     answers
-    ≡ unjudgedExpression 1 ∷ unjudgedExpression 1 ∷ unjudgedExpression 0 ∷ clear ∷ unjudgedExpression 0 ∷ unjudgedStatement 0 ∷ refused 21 ∷ unjudgedStatement 0 ∷ clear ∷ atStart ∷ atStatement 0 ∷ clear ∷ clear ∷ atStart ∷ unjudgedExpression 2 ∷ clear ∷ clear ∷ atStart ∷ unjudgedExpression 1 ∷ atStatement 0 ∷ atStart ∷ clear ∷ clear ∷ atStart ∷ unjudgedStatement 0 ∷ unjudgedStatement 0 ∷ atStatement 1 ∷ clear ∷ clear ∷ unjudgedStatement 0 ∷ clear ∷ clear ∷ []
-unfolding answers answer function program v ex bk tie knot member extent shapeAt leaf inside cov below under keep trim hit members split alter takeOut sum size inner memberTypes vectorShape elements unfoldType shapeOf kind bases isKind pairwise alikeInner alike fits slot typed typeOf innerOf argumentType resultShape slots kindShape frame isPath byPart anyVector optional armOf arm sourceOf source further stepFrom pathOf front indexes target markCount marksBefore marked markAt byMark emits caseAt statement statementsFrom blockTree bodyTree askOperand askPicked askComponents askSteps asks gives needAt needFrom need needs overlap without storing giving before idle wholly upon outBreak outContinue ofCase ofContinuing ofBody each union concat through most quiet onlyNext obeys kept turning valued afterContinuing walk afterBody lacking stable sweep around amid somewhere loops reentry joinAt round settle enough smallest every presently partType elementType pointeeType pointee same samePart isValue holdsIn holdsUnsized fitsIndex hasVectorSize componentCount countComponents fitsCompose fitsVariable fitsExpression judgedExpression fitsReturn fitsStatement atTop inCase inBody unless strays failing lower lowest blamedExpression blamedStatement ending startNeeds faults needsExpression starts verdict pieces atPoint limited answerBy judge hasShape clearance getSubpart has within contains merge onNone add entries width depth over
+    ≡ unjudgedExpression 1 ∷ unjudgedExpression 1 ∷ unjudgedExpression 0 ∷ clear ∷ unjudgedExpression 0 ∷ clear ∷ unjudgedStatement 0 ∷ refused 21 ∷ unjudgedStatement 0 ∷ clear ∷ atStart ∷ atStatement 0 ∷ clear ∷ clear ∷ atStart ∷ unjudgedExpression 2 ∷ clear ∷ clear ∷ atStart ∷ unjudgedExpression 1 ∷ atStatement 0 ∷ atStart ∷ clear ∷ clear ∷ atStart ∷ unjudgedStatement 0 ∷ unjudgedStatement 0 ∷ atStatement 1 ∷ clear ∷ clear ∷ unjudgedStatement 0 ∷ clear ∷ clear ∷ []
+unfolding answers answer function program v ex bk tie knot member extent shapeAt leaf inside cov below under keep trim hit members split alter takeOut sum size inner memberTypes vectorShape elements unfoldType shapeOf kind bases isKind pairwise alikeInner alike fits slot typed typeOf innerOf argumentType resultShape slots kindShape frame isPath byPart anyVector optional armOf arm sourceOf source further stepFrom pathOf front indexes target markCount marksBefore marked markAt byMark emits caseAt statement statementsFrom blockTree bodyTree askOperand askPicked askComponents askSteps asks gives needAt needFrom need needs overlap without storing giving before idle wholly upon outBreak outContinue ofCase ofContinuing ofBody each union concat through most quiet onlyNext obeys kept turning valued afterContinuing walk afterBody lacking stable sweep around amid somewhere loops reentry joinAt round settle enough smallest every presently partType elementType pointeeType pointee same samePart isValue holdsIn holdsUnsized pointeeHolds holdsEither fitsIndex hasVectorSize componentCount countComponents fitsCompose fitsVariable fitsExpression judgedExpression fitsReturn fitsStatement atTop inCase inBody unless strays failing lower lowest blamedExpression blamedStatement ending startNeeds faults needsExpression starts verdict pieces atPoint limited answerBy judge hasShape clearance getSubpart has within contains merge onNone add entries width depth over
 examples = refl

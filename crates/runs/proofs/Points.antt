@@ -21,7 +21,7 @@ use Rattle.clearance.specs.Needs.{askOperand, askPicked, askComponents, askStep
 use Rattle.clearance.specs.Needs.{storing, giving, before, idle, wholly, upon, outBreak, outContinue, ofCase, ofContinuing, ofBody, each, union}
 use Rattle.clearance.specs.Needs.{concat, through, most, quiet, onlyNext, obeys, kept, turning, valued, afterContinuing, walk, afterBody, lacking}
 use Rattle.clearance.specs.Needs.{stable, sweep, around, amid, somewhere, loops, reentry, joinAt, round, settle, enough, smallest}
-use Rattle.clearance.specs.Judged.{every, presently, partType, elementType, pointeeType, pointee, same, samePart, isValue, holdsIn, holdsUnsized}
+use Rattle.clearance.specs.Judged.{every, presently, partType, elementType, pointeeType, pointee, same, samePart, isValue, holdsIn, holdsUnsized, pointeeHolds, holdsEither}
 use Rattle.clearance.specs.Judged.{fitsIndex, hasVectorSize, componentCount, countComponents, fitsCompose, fitsVariable, fitsExpression, judgedExpression}
 use Rattle.clearance.specs.Judged.{fitsReturn, fitsStatement, atTop, inCase, inBody, unless, strays, failing, lower, lowest, blamedExpression}
 use Rattle.clearance.specs.Judged.{blamedStatement}
@@ -62,5 +62,5 @@ examples :
     at-point 1 (λ n. needs-both n && not (needs-global n)) ∷ at-point 1 (λ n. needs-both n && needs-global n)
     ∷ at-point 0 (λ n. needs-both n && not (needs-global n)) ∷ at-point 0 (λ n. needs-both n && needs-global n) ∷ []
     ≡ true ∷ false ∷ false ∷ true ∷ []
-unfolding at-point needs-both needs-global program function tie knot member extent shapeAt leaf inside cov below under keep trim hit members split alter takeOut begins after sum size inner memberTypes vectorShape elements unfoldType shapeOf kind bases isKind pairwise alikeInner alike fits slot typed typeOf innerOf argumentType resultShape slots kindShape frame isPath byPart anyVector optional armOf arm sourceOf source further stepFrom pathOf front indexes target markCount marksBefore marked markAt byMark emits caseAt statement statementsFrom blockTree bodyTree askOperand askPicked askComponents askSteps asks gives needAt needFrom need needs overlap without storing giving before idle wholly upon outBreak outContinue ofCase ofContinuing ofBody each union concat through most quiet onlyNext obeys kept turning valued afterContinuing walk afterBody lacking stable sweep around amid somewhere loops reentry joinAt round settle enough smallest every presently partType elementType pointeeType pointee same samePart isValue holdsIn holdsUnsized fitsIndex hasVectorSize componentCount countComponents fitsCompose fitsVariable fitsExpression judgedExpression fitsReturn fitsStatement atTop inCase inBody unless strays failing lower lowest blamedExpression blamedStatement ending startNeeds faults needsExpression starts verdict pieces atPoint limited answerBy judge hasShape clearance getSubpart has within contains merge onNone add entries width depth over
+unfolding at-point needs-both needs-global program function tie knot member extent shapeAt leaf inside cov below under keep trim hit members split alter takeOut begins after sum size inner memberTypes vectorShape elements unfoldType shapeOf kind bases isKind pairwise alikeInner alike fits slot typed typeOf innerOf argumentType resultShape slots kindShape frame isPath byPart anyVector optional armOf arm sourceOf source further stepFrom pathOf front indexes target markCount marksBefore marked markAt byMark emits caseAt statement statementsFrom blockTree bodyTree askOperand askPicked askComponents askSteps asks gives needAt needFrom need needs overlap without storing giving before idle wholly upon outBreak outContinue ofCase ofContinuing ofBody each union concat through most quiet onlyNext obeys kept turning valued afterContinuing walk afterBody lacking stable sweep around amid somewhere loops reentry joinAt round settle enough smallest every presently partType elementType pointeeType pointee same samePart isValue holdsIn holdsUnsized pointeeHolds holdsEither fitsIndex hasVectorSize componentCount countComponents fitsCompose fitsVariable fitsExpression judgedExpression fitsReturn fitsStatement atTop inCase inBody unless strays failing lower lowest blamedExpression blamedStatement ending startNeeds faults needsExpression starts verdict pieces atPoint limited answerBy judge hasShape clearance getSubpart has within contains merge onNone add entries width depth over
 examples = refl

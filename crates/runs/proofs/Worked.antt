@@ -23,7 +23,7 @@ use Rattle.clearance.specs.Needs.{askOperand, askPicked, askComponents, askStep
 use Rattle.clearance.specs.Needs.{storing, giving, before, idle, wholly, upon, outBreak, outContinue, ofCase, ofContinuing, ofBody, each, union}
 use Rattle.clearance.specs.Needs.{concat, through, most, quiet, onlyNext, obeys, kept, turning, valued, afterContinuing, walk, afterBody, lacking}
 use Rattle.clearance.specs.Needs.{stable, sweep, around, amid, somewhere, loops, reentry, joinAt, round, settle, enough, smallest, Table}
-use Rattle.clearance.specs.Judged.{every, presently, partType, elementType, pointeeType, pointee, same, samePart, isValue, holdsIn, holdsUnsized}
+use Rattle.clearance.specs.Judged.{every, presently, partType, elementType, pointeeType, pointee, same, samePart, isValue, holdsIn, holdsUnsized, pointeeHolds, holdsEither}
 use Rattle.clearance.specs.Judged.{fitsIndex, hasVectorSize, componentCount, countComponents, fitsCompose, fitsVariable, fitsExpression, judgedExpression}
 use Rattle.clearance.specs.Judged.{fitsReturn, fitsStatement, atTop, inCase, inBody, unless, strays, failing, lower, lowest, blamedExpression}
 use Rattle.clearance.specs.Judged.{blamedStatement}
@@ -92,7 +92,7 @@ report = record { marks = 1 ∷ 1 ∷ 1 ∷ 0 ∷ 1 ∷ 1 ∷ 1 ∷ 0 ∷ 0 ∷ 
 
 -- it is cleared
 is-clear : clearance scope request report ≡ clear
-unfolding program function tie knot member extent shapeAt leaf inside cov below under keep trim hit members split alter takeOut begins after sum size inner memberTypes vectorShape elements unfoldType shapeOf kind bases isKind pairwise alikeInner alike fits slot typed typeOf innerOf argumentType resultShape slots kindShape frame isPath byPart anyVector optional armOf arm sourceOf source further stepFrom pathOf front indexes target markCount marksBefore marked markAt byMark emits caseAt statement statementsFrom blockTree bodyTree askOperand askPicked askComponents askSteps asks gives needAt needFrom need needs overlap without storing giving before idle wholly upon outBreak outContinue ofCase ofContinuing ofBody each union concat through most quiet onlyNext obeys kept turning valued afterContinuing walk afterBody lacking stable sweep around amid somewhere loops reentry joinAt round settle enough smallest every presently partType elementType pointeeType pointee same samePart isValue holdsIn holdsUnsized fitsIndex hasVectorSize componentCount countComponents fitsCompose fitsVariable fitsExpression judgedExpression fitsReturn fitsStatement atTop inCase inBody unless strays failing lower lowest blamedExpression blamedStatement ending startNeeds faults needsExpression starts verdict pieces atPoint limited answerBy judge hasShape clearance getSubpart has within contains merge onNone add entries width depth over
+unfolding program function tie knot member extent shapeAt leaf inside cov below under keep trim hit members split alter takeOut begins after sum size inner memberTypes vectorShape elements unfoldType shapeOf kind bases isKind pairwise alikeInner alike fits slot typed typeOf innerOf argumentType resultShape slots kindShape frame isPath byPart anyVector optional armOf arm sourceOf source further stepFrom pathOf front indexes target markCount marksBefore marked markAt byMark emits caseAt statement statementsFrom blockTree bodyTree askOperand askPicked askComponents askSteps asks gives needAt needFrom need needs overlap without storing giving before idle wholly upon outBreak outContinue ofCase ofContinuing ofBody each union concat through most quiet onlyNext obeys kept turning valued afterContinuing walk afterBody lacking stable sweep around amid somewhere loops reentry joinAt round settle enough smallest every presently partType elementType pointeeType pointee same samePart isValue holdsIn holdsUnsized pointeeHolds holdsEither fitsIndex hasVectorSize componentCount countComponents fitsCompose fitsVariable fitsExpression judgedExpression fitsReturn fitsStatement atTop inCase inBody unless strays failing lower lowest blamedExpression blamedStatement ending startNeeds faults needsExpression starts verdict pieces atPoint limited answerBy judge hasShape clearance getSubpart has within contains merge onNone add entries width depth over
 is-clear = refl
 
 -- sums; and whether the first is at least the second
@@ -134,12 +134,12 @@ runs mode fuel s = returns (run scope report (numberwise operate) mode fuel s)
 
 -- two turns suffice, one does not; both starts give 6 in both ways of running
 runs-end : (runs everything 1 start ≡ nothing) × (runs everything 2 start ≡ present 6) × (runs neededOnly 2 start ≡ present 6) × (runs everything 2 start′ ≡ present 6) × (runs neededOnly 2 start′ ≡ present 6)
-unfolding runs returns start start′ operate numberwise program function tie knot member extent shapeAt leaf inside cov below under keep trim hit members split alter takeOut begins after sum size inner memberTypes vectorShape elements unfoldType shapeOf kind bases isKind pairwise alikeInner alike fits slot typed typeOf innerOf argumentType resultShape slots kindShape frame isPath byPart anyVector optional armOf arm sourceOf source further stepFrom pathOf front indexes target markCount marksBefore marked markAt byMark emits caseAt statement statementsFrom blockTree bodyTree askOperand askPicked askComponents askSteps asks gives needAt needFrom need needs overlap without storing giving before idle wholly upon outBreak outContinue ofCase ofContinuing ofBody each union concat through most quiet onlyNext obeys kept turning valued afterContinuing walk afterBody lacking stable sweep around amid somewhere loops reentry joinAt round settle enough smallest every presently partType elementType pointeeType pointee same samePart isValue holdsIn holdsUnsized fitsIndex hasVectorSize componentCount countComponents fitsCompose fitsVariable fitsExpression judgedExpression fitsReturn fitsStatement atTop inCase inBody unless strays failing lower lowest blamedExpression blamedStatement ending startNeeds faults needsExpression starts verdict pieces atPoint limited answerBy judge hasShape clearance getSubpart has within contains merge onNone add entries width depth over look put element onward partOf picked zeroIn numberIn valueFrom value isZero numberOf elementBy valueOperand composed concatenated follow place loaded evaluate stored perform giveBack then endBy turns position orElse pick inPicked passing again exec keeps begin final run
+unfolding runs returns start start′ operate numberwise program function tie knot member extent shapeAt leaf inside cov below under keep trim hit members split alter takeOut begins after sum size inner memberTypes vectorShape elements unfoldType shapeOf kind bases isKind pairwise alikeInner alike fits slot typed typeOf innerOf argumentType resultShape slots kindShape frame isPath byPart anyVector optional armOf arm sourceOf source further stepFrom pathOf front indexes target markCount marksBefore marked markAt byMark emits caseAt statement statementsFrom blockTree bodyTree askOperand askPicked askComponents askSteps asks gives needAt needFrom need needs overlap without storing giving before idle wholly upon outBreak outContinue ofCase ofContinuing ofBody each union concat through most quiet onlyNext obeys kept turning valued afterContinuing walk afterBody lacking stable sweep around amid somewhere loops reentry joinAt round settle enough smallest every presently partType elementType pointeeType pointee same samePart isValue holdsIn holdsUnsized pointeeHolds holdsEither fitsIndex hasVectorSize componentCount countComponents fitsCompose fitsVariable fitsExpression judgedExpression fitsReturn fitsStatement atTop inCase inBody unless strays failing lower lowest blamedExpression blamedStatement ending startNeeds faults needsExpression starts verdict pieces atPoint limited answerBy judge hasShape clearance getSubpart has within contains merge onNone add entries width depth over look put element onward partOf picked zeroIn numberIn valueFrom value isZero numberOf elementBy valueOperand composed concatenated follow place loaded evaluate stored perform giveBack then endBy turns position orElse pick inPicked passing again exec keeps begin final run
 runs-end = (refl, refl, refl, refl, refl)
 
 -- and so they do however they run, by the claim
 result-required : Required scope request (slot result)
-result-required = record { exists = unfold program function tie knot member extent shapeAt leaf inside cov below under keep trim hit members split alter takeOut begins after sum size inner memberTypes vectorShape elements unfoldType shapeOf kind bases isKind pairwise alikeInner alike fits slot typed typeOf innerOf argumentType resultShape slots kindShape frame isPath byPart anyVector optional armOf arm sourceOf source further stepFrom pathOf front indexes target markCount marksBefore marked markAt byMark emits caseAt statement statementsFrom blockTree bodyTree askOperand askPicked askComponents askSteps asks gives needAt needFrom need needs overlap without storing giving before idle wholly upon outBreak outContinue ofCase ofContinuing ofBody each union concat through most quiet onlyNext obeys kept turning valued afterContinuing walk afterBody lacking stable sweep around amid somewhere loops reentry joinAt round settle enough smallest every presently partType elementType pointeeType pointee same samePart isValue holdsIn holdsUnsized fitsIndex hasVectorSize componentCount countComponents fitsCompose fitsVariable fitsExpression judgedExpression fitsReturn fitsStatement atTop inCase inBody unless strays failing lower lowest blamedExpression blamedStatement ending startNeeds faults needsExpression starts verdict pieces atPoint limited answerBy judge hasShape clearance getSubpart has within contains merge onNone add entries width depth over in refl; wanted = unfold cov asked slot getSubpart in refl }
+result-required = record { exists = unfold program function tie knot member extent shapeAt leaf inside cov below under keep trim hit members split alter takeOut begins after sum size inner memberTypes vectorShape elements unfoldType shapeOf kind bases isKind pairwise alikeInner alike fits slot typed typeOf innerOf argumentType resultShape slots kindShape frame isPath byPart anyVector optional armOf arm sourceOf source further stepFrom pathOf front indexes target markCount marksBefore marked markAt byMark emits caseAt statement statementsFrom blockTree bodyTree askOperand askPicked askComponents askSteps asks gives needAt needFrom need needs overlap without storing giving before idle wholly upon outBreak outContinue ofCase ofContinuing ofBody each union concat through most quiet onlyNext obeys kept turning valued afterContinuing walk afterBody lacking stable sweep around amid somewhere loops reentry joinAt round settle enough smallest every presently partType elementType pointeeType pointee same samePart isValue holdsIn holdsUnsized pointeeHolds holdsEither fitsIndex hasVectorSize componentCount countComponents fitsCompose fitsVariable fitsExpression judgedExpression fitsReturn fitsStatement atTop inCase inBody unless strays failing lower lowest blamedExpression blamedStatement ending startNeeds faults needsExpression starts verdict pieces atPoint limited answerBy judge hasShape clearance getSubpart has within contains merge onNone add entries width depth over in refl; wanted = unfold cov asked slot getSubpart in refl }
 
 same-results : (one other : Mode) (m n : ℕ) (s t : State) → run scope report (numberwise operate) one m start ≡ present s →
     run scope report (numberwise operate) other n start′ ≡ present t → s (slot result) ≡ t (slot result)
@@ -151,14 +151,14 @@ abbrev unmarkedReport : Report
 unmarkedReport = record { marks = 1 ∷ 0 ∷ 1 ∷ 0 ∷ 1 ∷ 1 ∷ 1 ∷ 0 ∷ 0 ∷ 1 ∷ 1 ∷ 1 ∷ []; globals = none; args = needed }
 
 mark-missing : clearance scope request unmarkedReport ≡ atStatement 1
-unfolding program function tie knot member extent shapeAt leaf inside cov below under keep trim hit members split alter takeOut begins after sum size inner memberTypes vectorShape elements unfoldType shapeOf kind bases isKind pairwise alikeInner alike fits slot typed typeOf innerOf argumentType resultShape slots kindShape frame isPath byPart anyVector optional armOf arm sourceOf source further stepFrom pathOf front indexes target markCount marksBefore marked markAt byMark emits caseAt statement statementsFrom blockTree bodyTree askOperand askPicked askComponents askSteps asks gives needAt needFrom need needs overlap without storing giving before idle wholly upon outBreak outContinue ofCase ofContinuing ofBody each union concat through most quiet onlyNext obeys kept turning valued afterContinuing walk afterBody lacking stable sweep around amid somewhere loops reentry joinAt round settle enough smallest every presently partType elementType pointeeType pointee same samePart isValue holdsIn holdsUnsized fitsIndex hasVectorSize componentCount countComponents fitsCompose fitsVariable fitsExpression judgedExpression fitsReturn fitsStatement atTop inCase inBody unless strays failing lower lowest blamedExpression blamedStatement ending startNeeds faults needsExpression starts verdict pieces atPoint limited answerBy judge hasShape clearance getSubpart has within contains merge onNone add entries width depth over
+unfolding program function tie knot member extent shapeAt leaf inside cov below under keep trim hit members split alter takeOut begins after sum size inner memberTypes vectorShape elements unfoldType shapeOf kind bases isKind pairwise alikeInner alike fits slot typed typeOf innerOf argumentType resultShape slots kindShape frame isPath byPart anyVector optional armOf arm sourceOf source further stepFrom pathOf front indexes target markCount marksBefore marked markAt byMark emits caseAt statement statementsFrom blockTree bodyTree askOperand askPicked askComponents askSteps asks gives needAt needFrom need needs overlap without storing giving before idle wholly upon outBreak outContinue ofCase ofContinuing ofBody each union concat through most quiet onlyNext obeys kept turning valued afterContinuing walk afterBody lacking stable sweep around amid somewhere loops reentry joinAt round settle enough smallest every presently partType elementType pointeeType pointee same samePart isValue holdsIn holdsUnsized pointeeHolds holdsEither fitsIndex hasVectorSize componentCount countComponents fitsCompose fitsVariable fitsExpression judgedExpression fitsReturn fitsStatement atTop inCase inBody unless strays failing lower lowest blamedExpression blamedStatement ending startNeeds faults needsExpression starts verdict pieces atPoint limited answerBy judge hasShape clearance getSubpart has within contains merge onNone add entries width depth over
 mark-missing = refl
 
 unmarkedRuns : Mode → State → Option ℕ
 unmarkedRuns mode s = returns (run scope unmarkedReport (numberwise operate) mode 2 s)
 
 mark-matters : (unmarkedRuns everything start ≡ present 6) × (unmarkedRuns neededOnly start ≡ present 0)
-unfolding unmarkedRuns returns start operate numberwise program function tie knot member extent shapeAt leaf inside cov below under keep trim hit members split alter takeOut begins after sum size inner memberTypes vectorShape elements unfoldType shapeOf kind bases isKind pairwise alikeInner alike fits slot typed typeOf innerOf argumentType resultShape slots kindShape frame isPath byPart anyVector optional armOf arm sourceOf source further stepFrom pathOf front indexes target markCount marksBefore marked markAt byMark emits caseAt statement statementsFrom blockTree bodyTree askOperand askPicked askComponents askSteps asks gives needAt needFrom need needs overlap without storing giving before idle wholly upon outBreak outContinue ofCase ofContinuing ofBody each union concat through most quiet onlyNext obeys kept turning valued afterContinuing walk afterBody lacking stable sweep around amid somewhere loops reentry joinAt round settle enough smallest every presently partType elementType pointeeType pointee same samePart isValue holdsIn holdsUnsized fitsIndex hasVectorSize componentCount countComponents fitsCompose fitsVariable fitsExpression judgedExpression fitsReturn fitsStatement atTop inCase inBody unless strays failing lower lowest blamedExpression blamedStatement ending startNeeds faults needsExpression starts verdict pieces atPoint limited answerBy judge hasShape clearance getSubpart has within contains merge onNone add entries width depth over look put element onward partOf picked zeroIn numberIn valueFrom value isZero numberOf elementBy valueOperand composed concatenated follow place loaded evaluate stored perform giveBack then endBy turns position orElse pick inPicked passing again exec keeps begin final run
+unfolding unmarkedRuns returns start operate numberwise program function tie knot member extent shapeAt leaf inside cov below under keep trim hit members split alter takeOut begins after sum size inner memberTypes vectorShape elements unfoldType shapeOf kind bases isKind pairwise alikeInner alike fits slot typed typeOf innerOf argumentType resultShape slots kindShape frame isPath byPart anyVector optional armOf arm sourceOf source further stepFrom pathOf front indexes target markCount marksBefore marked markAt byMark emits caseAt statement statementsFrom blockTree bodyTree askOperand askPicked askComponents askSteps asks gives needAt needFrom need needs overlap without storing giving before idle wholly upon outBreak outContinue ofCase ofContinuing ofBody each union concat through most quiet onlyNext obeys kept turning valued afterContinuing walk afterBody lacking stable sweep around amid somewhere loops reentry joinAt round settle enough smallest every presently partType elementType pointeeType pointee same samePart isValue holdsIn holdsUnsized pointeeHolds holdsEither fitsIndex hasVectorSize componentCount countComponents fitsCompose fitsVariable fitsExpression judgedExpression fitsReturn fitsStatement atTop inCase inBody unless strays failing lower lowest blamedExpression blamedStatement ending startNeeds faults needsExpression starts verdict pieces atPoint limited answerBy judge hasShape clearance getSubpart has within contains merge onNone add entries width depth over look put element onward partOf picked zeroIn numberIn valueFrom value isZero numberOf elementBy valueOperand composed concatenated follow place loaded evaluate stored perform giveBack then endBy turns position orElse pick inPicked passing again exec keeps begin final run
 mark-matters = (refl, refl)
 
 -- Which mark is missing is told by its position: the emit of 9 to 11 has three, the positions 2 to 4, and here it lacks the last.
@@ -171,7 +171,7 @@ settled f (present t) = f t
 
 emit-missing : let t = smallest (setting scope request) (body scope emitReport) (ending scope request) in
     (settled (faults scope request emitReport) t ≡ 2 ∷ []) × (settled (missingMarks scope request emitReport) t ≡ 4 ∷ [])
-unfolding settled missingMarks program function tie knot member extent shapeAt leaf inside cov below under keep trim hit members split alter takeOut begins after sum size inner memberTypes vectorShape elements unfoldType shapeOf kind bases isKind pairwise alikeInner alike fits slot typed typeOf innerOf argumentType resultShape slots kindShape frame isPath byPart anyVector optional armOf arm sourceOf source further stepFrom pathOf front indexes target markCount marksBefore marked markAt byMark emits caseAt statement statementsFrom blockTree bodyTree askOperand askPicked askComponents askSteps asks gives needAt needFrom need needs overlap without storing giving before idle wholly upon outBreak outContinue ofCase ofContinuing ofBody each union concat through most quiet onlyNext obeys kept turning valued afterContinuing walk afterBody lacking stable sweep around amid somewhere loops reentry joinAt round settle enough smallest every presently partType elementType pointeeType pointee same samePart isValue holdsIn holdsUnsized fitsIndex hasVectorSize componentCount countComponents fitsCompose fitsVariable fitsExpression judgedExpression fitsReturn fitsStatement atTop inCase inBody unless strays failing lower lowest blamedExpression blamedStatement ending startNeeds faults needsExpression starts verdict pieces atPoint limited answerBy judge hasShape clearance getSubpart has within contains merge onNone add entries width depth over
+unfolding settled missingMarks program function tie knot member extent shapeAt leaf inside cov below under keep trim hit members split alter takeOut begins after sum size inner memberTypes vectorShape elements unfoldType shapeOf kind bases isKind pairwise alikeInner alike fits slot typed typeOf innerOf argumentType resultShape slots kindShape frame isPath byPart anyVector optional armOf arm sourceOf source further stepFrom pathOf front indexes target markCount marksBefore marked markAt byMark emits caseAt statement statementsFrom blockTree bodyTree askOperand askPicked askComponents askSteps asks gives needAt needFrom need needs overlap without storing giving before idle wholly upon outBreak outContinue ofCase ofContinuing ofBody each union concat through most quiet onlyNext obeys kept turning valued afterContinuing walk afterBody lacking stable sweep around amid somewhere loops reentry joinAt round settle enough smallest every presently partType elementType pointeeType pointee same samePart isValue holdsIn holdsUnsized pointeeHolds holdsEither fitsIndex hasVectorSize componentCount countComponents fitsCompose fitsVariable fitsExpression judgedExpression fitsReturn fitsStatement atTop inCase inBody unless strays failing lower lowest blamedExpression blamedStatement ending startNeeds faults needsExpression starts verdict pieces atPoint limited answerBy judge hasShape clearance getSubpart has within contains merge onNone add entries width depth over
 emit-missing = (refl, refl)
 
 -- Without the vector in the context it is not clear, at the start; and a change that this context calls unneeded changes what is returned.
@@ -179,7 +179,7 @@ abbrev shorterReport : Report
 shorterReport = record { marks = report .marks; globals = none; args = more (variable 1) all (more (variable 2) all none) }
 
 entry-missing : clearance scope request shorterReport ≡ atStart
-unfolding program function tie knot member extent shapeAt leaf inside cov below under keep trim hit members split alter takeOut begins after sum size inner memberTypes vectorShape elements unfoldType shapeOf kind bases isKind pairwise alikeInner alike fits slot typed typeOf innerOf argumentType resultShape slots kindShape frame isPath byPart anyVector optional armOf arm sourceOf source further stepFrom pathOf front indexes target markCount marksBefore marked markAt byMark emits caseAt statement statementsFrom blockTree bodyTree askOperand askPicked askComponents askSteps asks gives needAt needFrom need needs overlap without storing giving before idle wholly upon outBreak outContinue ofCase ofContinuing ofBody each union concat through most quiet onlyNext obeys kept turning valued afterContinuing walk afterBody lacking stable sweep around amid somewhere loops reentry joinAt round settle enough smallest every presently partType elementType pointeeType pointee same samePart isValue holdsIn holdsUnsized fitsIndex hasVectorSize componentCount countComponents fitsCompose fitsVariable fitsExpression judgedExpression fitsReturn fitsStatement atTop inCase inBody unless strays failing lower lowest blamedExpression blamedStatement ending startNeeds faults needsExpression starts verdict pieces atPoint limited answerBy judge hasShape clearance getSubpart has within contains merge onNone add entries width depth over
+unfolding program function tie knot member extent shapeAt leaf inside cov below under keep trim hit members split alter takeOut begins after sum size inner memberTypes vectorShape elements unfoldType shapeOf kind bases isKind pairwise alikeInner alike fits slot typed typeOf innerOf argumentType resultShape slots kindShape frame isPath byPart anyVector optional armOf arm sourceOf source further stepFrom pathOf front indexes target markCount marksBefore marked markAt byMark emits caseAt statement statementsFrom blockTree bodyTree askOperand askPicked askComponents askSteps asks gives needAt needFrom need needs overlap without storing giving before idle wholly upon outBreak outContinue ofCase ofContinuing ofBody each union concat through most quiet onlyNext obeys kept turning valued afterContinuing walk afterBody lacking stable sweep around amid somewhere loops reentry joinAt round settle enough smallest every presently partType elementType pointeeType pointee same samePart isValue holdsIn holdsUnsized pointeeHolds holdsEither fitsIndex hasVectorSize componentCount countComponents fitsCompose fitsVariable fitsExpression judgedExpression fitsReturn fitsStatement atTop inCase inBody unless strays failing lower lowest blamedExpression blamedStatement ending startNeeds faults needsExpression starts verdict pieces atPoint limited answerBy judge hasShape clearance getSubpart has within contains merge onNone add entries width depth over
 entry-missing = refl
 
 unfoldable start″ : State
@@ -193,5 +193,5 @@ shorterRuns : State → Option ℕ
 shorterRuns s = returns (run scope shorterReport (numberwise operate) everything 2 s)
 
 entry-matters : (shorterRuns start ≡ present 6) × (shorterRuns start″ ≡ present 4)
-unfolding shorterRuns returns start start″ operate numberwise program function tie knot member extent shapeAt leaf inside cov below under keep trim hit members split alter takeOut begins after sum size inner memberTypes vectorShape elements unfoldType shapeOf kind bases isKind pairwise alikeInner alike fits slot typed typeOf innerOf argumentType resultShape slots kindShape frame isPath byPart anyVector optional armOf arm sourceOf source further stepFrom pathOf front indexes target markCount marksBefore marked markAt byMark emits caseAt statement statementsFrom blockTree bodyTree askOperand askPicked askComponents askSteps asks gives needAt needFrom need needs overlap without storing giving before idle wholly upon outBreak outContinue ofCase ofContinuing ofBody each union concat through most quiet onlyNext obeys kept turning valued afterContinuing walk afterBody lacking stable sweep around amid somewhere loops reentry joinAt round settle enough smallest every presently partType elementType pointeeType pointee same samePart isValue holdsIn holdsUnsized fitsIndex hasVectorSize componentCount countComponents fitsCompose fitsVariable fitsExpression judgedExpression fitsReturn fitsStatement atTop inCase inBody unless strays failing lower lowest blamedExpression blamedStatement ending startNeeds faults needsExpression starts verdict pieces atPoint limited answerBy judge hasShape clearance getSubpart has within contains merge onNone add entries width depth over look put element onward partOf picked zeroIn numberIn valueFrom value isZero numberOf elementBy valueOperand composed concatenated follow place loaded evaluate stored perform giveBack then endBy turns position orElse pick inPicked passing again exec keeps begin final run
+unfolding shorterRuns returns start start″ operate numberwise program function tie knot member extent shapeAt leaf inside cov below under keep trim hit members split alter takeOut begins after sum size inner memberTypes vectorShape elements unfoldType shapeOf kind bases isKind pairwise alikeInner alike fits slot typed typeOf innerOf argumentType resultShape slots kindShape frame isPath byPart anyVector optional armOf arm sourceOf source further stepFrom pathOf front indexes target markCount marksBefore marked markAt byMark emits caseAt statement statementsFrom blockTree bodyTree askOperand askPicked askComponents askSteps asks gives needAt needFrom need needs overlap without storing giving before idle wholly upon outBreak outContinue ofCase ofContinuing ofBody each union concat through most quiet onlyNext obeys kept turning valued afterContinuing walk afterBody lacking stable sweep around amid somewhere loops reentry joinAt round settle enough smallest every presently partType elementType pointeeType pointee same samePart isValue holdsIn holdsUnsized pointeeHolds holdsEither fitsIndex hasVectorSize componentCount countComponents fitsCompose fitsVariable fitsExpression judgedExpression fitsReturn fitsStatement atTop inCase inBody unless strays failing lower lowest blamedExpression blamedStatement ending startNeeds faults needsExpression starts verdict pieces atPoint limited answerBy judge hasShape clearance getSubpart has within contains merge onNone add entries width depth over look put element onward partOf picked zeroIn numberIn valueFrom value isZero numberOf elementBy valueOperand composed concatenated follow place loaded evaluate stored perform giveBack then endBy turns position orElse pick inPicked passing again exec keeps begin final run
 entry-matters = (refl, refl)

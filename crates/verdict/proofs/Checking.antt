@@ -1,12 +1,12 @@
 -- The number of a check, put together: 21, what is not judged, or that of the rounds; and what the rounds are given.
-use Prim.Native.Nat.{ℕ, suc, _+_, _-_, _*_, _<_, _≤_}
+use Prim.Native.Nat.{ℕ, suc, _-_, _*_, _<_, _≤_}
 use native.Mathlib.Omega.{arith}
-use mathlib.Core.Path.{_≡_, refl, sym, ap, subst, _∙_}
-use mathlib.Core.Bool.{Bool, true, false, cond, not, _&&_}
+use mathlib.Core.Path.{_≡_, refl, sym, ap, _∙_}
+use mathlib.Core.Bool.{Bool, true, false, not, _&&_}
 use mathlib.Core.List.{List, []}
 use mathlib.Core.Option.{Option, some, none as nothing}
 use lib.ListN.{length, take, length-take}
-use Rattle.field.specs.Limits.{maxTypes, maxExpressions, maxStatements}
+use Rattle.field.specs.Limits.{maxTypes, maxExpressions}
 use Rattle.part.proofs.Equations.{never}
 use Rattle.module.specs.Module.{Module, Kill}
 use Rattle.module.specs.Tables.{maxItems, functionOf, moduleOf}
@@ -19,8 +19,7 @@ use Rattle.context.specs.RequiredContext.{RequiredContext}
 use Rattle.request.specs.Request.{requestOf}
 use Rattle.request.specs.Context.{contextOf}
 use Rattle.walk.specs.Resolve.{functionAt}
-use Rattle.walk.specs.Marks.{stretch}
-use Rattle.marks.specs.Places.{slice, startOf}
+use Rattle.marks.specs.Places.{slice}
 use Rattle.state.specs.Ready.{WasRead}
 use Rattle.sound.specs.Sizes.{recordsOf}
 use Rattle.sound.proofs.Totals.{total-take, total-lower}
@@ -28,16 +27,13 @@ use Rattle.sound.proofs.Sizes.{few-records}
 use Rattle.clearance.specs.Scope.{Scope}
 use Rattle.clearance.specs.Tree.{bodyTree}
 use Rattle.clearance.specs.Judged.{blamedExpression, blamedStatement}
-use Rattle.clearance.specs.Verdict.{Request, Report, Answer, refused, body, hasShape}
-use Rattle.clearance.proofs.Small.{cases}
-use Rattle.pass.specs.Checked.{lastPass, answerOf, judgeBy, checked}
+use Rattle.clearance.specs.Verdict.{Request, Report, refused, body, hasShape}
+use Rattle.pass.specs.Checked.{judgeBy, checked}
 use Rattle.judge.specs.Given.{scopeAt}
 use Rattle.judge.proofs.PathSteps.{function-valid, few}
 use Rattle.asked.proofs.Function.{read-function, judged-function, statements-fit}
-use Rattle.standing.specs.Slots.{stackSlot}
 use Rattle.standing.specs.World.{World}
-use Rattle.checking.specs.Check.{unread, means, scopeOf, valueOf, reportBy, cutShort, onBuffer, meaningBy, answerTo}
-use Rattle.checking.specs.Check as check
+use Rattle.checking.specs.Check.{scopeOf, valueOf, cutShort, onBuffer, meaningBy, answerTo}
 use Rattle.checking.specs.Word.{checkWord}
 use Rattle.checking.specs.Stretch.{There, Firsts, marksIn, MarksFound}
 use Rattle.checking.specs.declared.shape.MarksAt.{MarksAt}
@@ -45,7 +41,7 @@ use Rattle.rounds.specs.Settling.{askedBy, reported, Settling, Settled}
 use Rattle.verdict.specs.Heard.{asksBy, Accepted, Hears}
 use Rattle.verdict.specs.declared.heard.Heard.{Heard}
 use Rattle.verdict.specs.declared.heard.Heard.the-variants.{Refused, Of}
-use Rattle.verdict.specs.Tables.{Sized, Tables, unjudged, Judges}
+use Rattle.verdict.specs.Tables.{Tables, unjudged, Judges}
 use Rattle.verdict.specs.Checks.{Working, Asked, Marked, MarksChecked, ReportChecked}
 
 -- What is not judged, and what is

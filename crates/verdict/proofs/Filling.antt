@@ -1,9 +1,8 @@
 -- The tables of a function, of a module that was read: what filling them asks, and that they serve; and the number of what is not judged.
-use Prim.Native.Nat.{ℕ, _+_, _*_, _<_, _≤_}
+use Prim.Native.Nat.{ℕ, _+_, _*_, _≤_}
 use native.Mathlib.Omega.{arith}
 use mathlib.Core.Path.{_≡_, sym, _∙_}
 use mathlib.Core.List.{List}
-use mathlib.Core.Option.{Option, some, none as nothing}
 use lib.ListN.{length}
 use Rattle.field.specs.Limits.{maxTypes}
 use Rattle.module.specs.Tables.{functionOf, moduleOf}
@@ -22,7 +21,7 @@ use Rattle.judge.specs.declared.expressions.Blamed.{Blamed}
 use Rattle.judge.specs.declared.expressions.Blamed.the-variants.{Nothing, At}
 use Rattle.judge.proofs.Equivalence.{lower-types}
 use Rattle.checking.specs.Stretch.{There}
-use Rattle.verdict.specs.Tables.{Sized, Tables, unjudged, Judges}
+use Rattle.verdict.specs.Tables.{Tables, unjudged, Judges}
 
 module _ {bytes t : List ℕ} {f : ℕ} (T : There bytes t f) where
   pub few-types : length (moduleOf bytes t .types) ≤ maxTypes

@@ -1,7 +1,7 @@
 -- What a request and a context ask together: the request is read into a fresh store, then the context's number is asked. By cases of what is read, each as the definition refuses it.
 use Prim.Native.Nat.{ℕ, _+_, _*_, _<_, _≤_}
 use native.Mathlib.Omega.{arith}
-use mathlib.Core.Path.{_≡_, refl, sym, ap, subst, _∙_}
+use mathlib.Core.Path.{_≡_, refl, sym, ap, _∙_}
 use mathlib.Core.Bool.{Bool, true, false, cond}
 use mathlib.Core.List.{List}
 use mathlib.Core.Option.{Option, some, none as nothing}
@@ -19,12 +19,11 @@ use Rattle.module.specs.File as file
 use Rattle.module.specs.Tables.{functionOf, moduleOf}
 use Rattle.module.specs.declared.handles.FunctionHandle.{FunctionHandle as Handle}
 use Rattle.access.proofs.Access.{function-is}
-use Rattle.valid.proofs.Accepted.{valid}
 use Rattle.context.specs.RequiredContext.{RequiredContext, pieces}
-use Rattle.request.specs.Fields.{Answer, refused, accepted}
+use Rattle.request.specs.Fields.{refused, accepted}
 use Rattle.request.specs.Request.{Request, asking, requestOf, known, judge}
 use Rattle.request.specs.Context.{contextOf, knownContext, judgeContext, readContext}
-use Rattle.request.specs.Answers.{optional, Held, requestAnswer, RequestHeld, RequestWasRead}
+use Rattle.request.specs.Answers.{optional, RequestHeld, RequestWasRead}
 use Rattle.request.specs.declared.lists.Optional.{Optional}
 use Rattle.request.specs.declared.lists.Optional.the-variants.{Nothing, Piece}
 use Rattle.request.specs.declared.requests.Request as declared
@@ -35,11 +34,9 @@ use Rattle.walk.specs.Statement.{needOf, retvalOf}
 use Rattle.walk.specs.Marks.{stretch}
 use Rattle.marks.specs.Places.{startOf}
 use Rattle.sound.proofs.Asked as sound
-use Rattle.requests.specs.Begin.{baseOf}
 use Rattle.requests.proofs.Basing.{long-refused}
 use Rattle.requests.proofs.Few.{base-few}
 use Rattle.context_bytes.specs.Checked.{statusOf}
-use Rattle.pass.specs.Pass.{workBound}
 use Rattle.checking.specs.Check.{unread, scopeOf, valueOf, reportBy, cutShort, onBuffer, meaningOf, meaningBy}
 use Rattle.checking.specs.Check as check
 use Rattle.checking.specs.Stretch.{There}

@@ -6,7 +6,7 @@ use mathlib.Core.Option.{some}
 use lib.ListN.{length}
 use Rattle.field.specs.Limits.{maxTypes, maxExpressions, maxStatements}
 use Rattle.module.specs.Module.{Module}
-use Rattle.module.specs.Tables.{maxItems, functionOf, moduleOf}
+use Rattle.module.specs.Tables.{maxItems, moduleOf}
 use Rattle.context.specs.Types.{typeWords}
 use Rattle.context.specs.RequiredContext.{RequiredContext}
 use Rattle.request.specs.Context.{contextOf}

@@ -66,7 +66,10 @@ fn context_status(bytes: &[u8], t: &[u32], f: FunctionHandle, context: &[u8]) ->
     requires { ⌜ There (now bytes) (now t) (f .0) ⌝ }
     ensures { λ r. ⌜ r ≡ statusOf (readContext (moduleOf (now (bytes .entry)) (now (t .entry))) (functionAt (moduleOf (now (bytes .entry)) (now (t .entry))) (f .0)) (now (context .entry))) ⌝ }
 {
-    check_context(context, globals(t), arguments(t, f), locals(t, f))
+    let all = globals(t);
+    let given = arguments(t, f);
+    let own = locals(t, f);
+    check_context(context, all, given, own)
 }
 
 pub fn hear(bytes: &[u8], t: &[u32], cells: &mut [u32], request: &[u8], context: &[u8]) -> Heard

@@ -10,6 +10,7 @@ pub mod worst;
 
 use crate::clearance::authors::{Asked, Report};
 use crate::clearance::{self, Verdict};
+use crate::library;
 
 #[derive(Clone, PartialEq, Eq, Debug)]
 pub struct Case {
@@ -28,5 +29,16 @@ impl Case {
     /// By the second clearance.
     pub fn answer(&self) -> Verdict {
         clearance::answer(&self.module, &self.request, &self.report, &self.context)
+    }
+
+    /// By the library, which may write nothing.
+    pub fn check(&self) -> Result<u64, String> {
+        let lent = self.clone();
+        let word = library::check(&lent.module, &lent.request, &lent.report, &lent.context);
+        if lent == *self {
+            Ok(word)
+        } else {
+            Err("the check has changed a buffer".into())
+        }
     }
 }

@@ -3,6 +3,7 @@ use super::authors::{Asked, Report};
 use super::function::{Expression, Statement};
 use super::judged::Item;
 use super::verdict::{Judgement, Missing, Verdict};
+use crate::checks::Case;
 use crate::library;
 use crate::list::list;
 use crate::record::split;
@@ -30,8 +31,15 @@ fn shown(asked: &Asked, report: &Report) -> Result<String, String> {
     if !report.context.fits(&asked.outline, function) {
         return Err("the context names what the function has not, or a part past the limits".into());
     }
-    let judgement = library::with_stack(|| asked.judge(report));
-    Ok(lines(asked, &judgement))
+    let (judgement, word) = library::with_stack(|| (asked.judge(report), Case::of(asked, report).check()));
+    let found = Verdict::of_word(word?).ok_or("the library gives no answer")?;
+    if found == judgement.verdict {
+        return Ok(lines(asked, &judgement));
+    }
+    if found == Verdict::Refused(26) {
+        return Ok(lines(asked, &found.into()));
+    }
+    Err(format!("the library answers {found}, this program's own clearance {}", judgement.verdict))
 }
 
 /// The verdict as a report's last line has it; then for each thing that is missing the listing's line, and why.

@@ -13,7 +13,7 @@ use Rattle.checking.proofs.shape.marks_shape.Reads as marks-shape-reads
 use Rattle.verdict.proofs.verdict.check_marks.Reads as check-marks-reads
 
 marks-shape-requires : tie.Need-marks-shape-requires
-marks-shape-requires c κs = search needs
+marks-shape-requires c κs = asked-there (c .before .before .before .before .before .before .before .before .before .before .before .before .pre)
 
 mul-result : tie.Need-mul-result
 mul-result c = search needs
