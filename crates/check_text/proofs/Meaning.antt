@@ -2,7 +2,7 @@
 use Prim.Native.Nat.{ℕ, _+_, _-_}
 use native.Mathlib.Omega.{arith}
 use native.Mathlib.Nat.{sub-zero}
-use mathlib.Core.Path.{_≡_, refl, sym, ap, _∙_}
+use mathlib.Core.Path.{_≡_, refl, ap, _∙_}
 use mathlib.Core.Bool.{Bool, true, false, cond}
 use mathlib.Core.List.{List}
 use mathlib.Core.Option.{Option, some, none as nothing}
@@ -15,8 +15,8 @@ use Rattle.module.specs.Module.{Module}
 use Rattle.module.specs.Tables.{moduleOf}
 use Rattle.context.specs.RequiredContext.{RequiredContext}
 use Rattle.request.specs.Fields.{Answer, refused, accepted}
-use Rattle.request.specs.Request.{Request, requestOf, known, judge, readRequest}
-use Rattle.request.specs.Context.{contextOf, knownContext, writeContext}
+use Rattle.request.specs.Request.{Request, requestOf, known, judge}
+use Rattle.request.specs.Context.{contextOf}
 use Rattle.request.proofs.Back.{contextOf-writeContext}
 use Rattle.sound.proofs.Asked.{asked}
 use Rattle.walk.specs.Marks.{stretch}
@@ -26,11 +26,11 @@ use Rattle.pruner.proofs.Fine.{context-filed, context-known}
 use Rattle.lines.specs.Reported.{reportIn}
 use Rattle.clearance.specs.Verdict as verdict
 use Rattle.checking.specs.Check.{cutShort, onBuffer, meaningOf, meaningBy, onModule, meaning, answerTo, check}
-use Rattle.checking.specs.Word.{checkWord, Roomy}
+use Rattle.checking.specs.Word.{checkWord}
 use Rattle.checking.proofs.Counting.{end-small}
 use Rattle.checking.proofs.Numbers.{check-roomy}
 use Rattle.report_text.specs.Input.{checkOf}
-use Rattle.check_text.specs.Checked.{Recorded, Judging, Numbered, Checks}
+use Rattle.check_text.specs.Checked.{Recorded, Judging, Checks}
 
 -- an accepted request was read, and names what is there
 chosen : (o : Request) {q : Request} (a b : Bool) → cond a (cond b (refused 18) (accepted o)) (refused 11) ≡ accepted q → (a ≡ true) × (o ≡ q)

@@ -2,11 +2,10 @@
 use Prim.Native.Nat.{ℕ, _+_, _*_, _<_, _≤_, _^_}
 use native.Mathlib.Omega.{arith}
 use mathlib.Core.Path.{_≡_, _∙_, ap}
-use mathlib.Core.List.{List, _++_}
+use mathlib.Core.List.{List}
 use lib.ListN.{length, getD, take, drop}
 use lib.Seq.{sets, sets-eq, length-sets, take-append-seam}
 use Rattle.field.specs.Limits.{maxPieces}
-use Rattle.part.specs.Store.{part, top}
 use Rattle.context.specs.RequiredContext.{RequiredContext, pieces}
 use Rattle.context.specs.Contexts.{contextOf, HasContext}
 use Rattle.context.specs.declared.required_context.RequiredContext.{RequiredContext as Pieces}

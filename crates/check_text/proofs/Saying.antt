@@ -1,13 +1,13 @@
 -- The line by the range of the number, and its length.
 use Prim.Native.Nat.{ℕ, _+_, _-_, _/_, _<_, _≤_}
 use native.Mathlib.Omega.{arith}
-use mathlib.Core.Path.{_≡_, refl, sym, ap, _∙_}
+use mathlib.Core.Path.{_≡_, ap, _∙_}
 use mathlib.Core.List.{List, [], _∷_, _++_}
 use lib.ListN.{length, length-append}
 use borrow.Author.Tests.{lt-ltb, le-ltb}
 use Rattle.lines.specs.Text.{number, exprWord, stmtWord, refusedWord}
 use Rattle.lines.specs.Wrote.{longest, Fits, Wrote}
-use Rattle.lines.proofs.Writing.{texts, Rooms, wrote-then, wrote-as}
+use Rattle.lines.proofs.Writing.{texts, Rooms, wrote-then}
 use Rattle.lines.proofs.Long.{ten-long}
 use Rattle.clearance.specs.Verdict.{Answer, clear, atStatement, atStart, unjudgedExpression, unjudgedStatement, refused}
 use Rattle.checking.specs.Word.{checkWord, Roomy, wordAnswer}
