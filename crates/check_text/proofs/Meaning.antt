@@ -14,7 +14,7 @@ use Rattle.part.proofs.Equations.{never}
 use Rattle.module.specs.Module.{Module}
 use Rattle.module.specs.Tables.{moduleOf}
 use Rattle.context.specs.RequiredContext.{RequiredContext}
-use Rattle.request.specs.Fields.{Answer, refused, accepted}
+use Rattle.request.specs.Fields.{refused, accepted}
 use Rattle.request.specs.Request.{Request, requestOf, known, judge}
 use Rattle.request.specs.Context.{contextOf}
 use Rattle.request.proofs.Back.{contextOf-writeContext}
