@@ -39,7 +39,7 @@ use Rattle.clearance.specs.Tree.{marked, markAt, byMark, emits, caseAt, stateme
 use Rattle.clearance.specs.Needs.{askOperand, askPicked, askComponents, askSteps, asks, gives, needAt, needFrom, need, needs, overlap, without, storing, giving}
 use Rattle.clearance.specs.Needs.{before, idle, wholly, upon, outBreak, outContinue, ofCase, ofContinuing, ofBody, each, union, most, quiet, onlyNext}
 use Rattle.clearance.specs.Needs.{obeys, kept, turning, valued, afterContinuing, loops, reentry, joinAt, enough}
-use Rattle.clearance.specs.Judged.{every, presently, partType, elementType, pointeeType, pointee, same, samePart, isValue, holdsIn, holdsUnsized, fitsIndex, hasVectorSize, componentCount}
+use Rattle.clearance.specs.Judged.{every, presently, partType, elementType, pointeeType, pointee, same, samePart, isValue, holdsIn, holdsEither, pointeeHolds, holdsUnsized, fitsIndex, hasVectorSize, componentCount}
 use Rattle.clearance.specs.Judged.{countComponents, fitsCompose, fitsVariable, fitsExpression, judgedExpression, fitsReturn, fitsStatement, atTop, inCase, inBody, unless, strays, failing, lower, lowest}
 use Rattle.clearance.specs.Judged.{blamedExpression, blamedStatement}
 use Rattle.clearance.specs.Verdict.{ending, needsExpression, starts, verdict, pieces, hasShape}
@@ -59,7 +59,7 @@ unfolding tie knot member extent shapeAt leaf inside cov below under keep trim h
     marksBefore marked markAt byMark emits caseAt statement statementsFrom blockTree bodyTree askOperand askPicked askComponents askSteps asks
     gives needAt needFrom need needs overlap without storing giving before idle wholly upon outBreak outContinue ofCase ofContinuing ofBody each
     union most quiet onlyNext obeys kept turning valued afterContinuing loops reentry joinAt enough every presently partType elementType
-    pointeeType pointee same samePart isValue holdsIn holdsUnsized fitsIndex hasVectorSize componentCount countComponents fitsCompose
+    pointeeType pointee same samePart isValue holdsIn holdsEither pointeeHolds holdsUnsized fitsIndex hasVectorSize componentCount countComponents fitsCompose
     fitsVariable fitsExpression judgedExpression fitsReturn fitsStatement atTop inCase inBody unless strays failing lower lowest
     blamedExpression blamedStatement ending needsExpression starts verdict pieces hasShape getSubpart has inPart contains merge onNone add
     entries width depth overPart equal among eachPart cellsIn flatMap joining partFrom partOf asking askingAll storeAsks storeLeaves actAsks
