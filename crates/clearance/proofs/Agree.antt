@@ -6,7 +6,7 @@ use mathlib.Core.List.{List, [], _∷_, _++_}
 use Rattle.part.specs.PartReq.{PartReq}
 use Rattle.module.specs.Module.{ExpressionHandle}
 use Rattle.clearance.specs.Shape.{leaf, cov, under}
-use Rattle.clearance.specs.Scope.{Scope, Place, shapeOf, typeOf, frame, Source, given, from, source}
+use Rattle.clearance.specs.Scope.{Scope, Place, shapeOf, typeOf, innerOf, frame, Source, given, from, source}
 use Rattle.clearance.specs.Needs.{Ask, ofValue, ofPlace, askWhole, needAt, needFrom, need, needs, wholly}
 use Rattle.clearance.proofs.Small.{cases}
 use Rattle.clearance.proofs.Cov.{cov-all, cov-under, cov-add-left, cov-add-right, cov-trim, within-leaf}
@@ -93,4 +93,4 @@ module _ (S : Scope) where
 
     pub wholly-number : (e : ExpressionHandle) (n : PartReq) → Agree (wholly S e n) s u → numberOf S ops s e ≡ numberOf S ops u e
     unfolding numberOf
-    wholly-number e n g = ap (numberIn (shapeOf S (typeOf S e))) (wholly-value e n g)
+    wholly-number e n g = ap (numberIn (innerOf S e)) (wholly-value e n g)

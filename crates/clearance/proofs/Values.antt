@@ -8,7 +8,7 @@ use mathlib.Core.Option.{Option, some, none as nothing}
 use Rattle.part.specs.PartReq.{PartReq, all, none, getSubpart}
 use Rattle.module.specs.Module.{ExpressionHandle}
 use Rattle.clearance.specs.Shape.{Shape, member, extent, cov}
-use Rattle.clearance.specs.Scope.{Scope, shapeOf, typeOf, Operand, whole, same, Arm, fixed, argued, pointing, operator, accessIndex, access}
+use Rattle.clearance.specs.Scope.{Scope, shapeOf, typeOf, innerOf, Operand, whole, same, Arm, fixed, argued, pointing, operator, accessIndex, access}
 use Rattle.clearance.specs.Scope.{swizzle, compose, joined, load, unjudged, arm, Step, at, by, Path, pathOf, front, indexes, target}
 use Rattle.clearance.specs.Needs.{Ask, ofPlace, askOperand, askWhole, askPicked, askComponents, askSteps, asks}
 use Rattle.clearance.proofs.Cov.{cov-all, cov-here, cov-or-none, cov-extend}
@@ -112,7 +112,7 @@ module _ (S : Scope) (ops : Operators) (s u : State) where
   follow-same (by e ∷ xs) h t =
       let z : _≡_ {A = ℕ → Option (List ℕ)} (λ i. onward (follow S ops s (member t i) xs) (λ q. some (i ∷ q))) (λ i. onward (follow S ops u (member t i) xs) (λ q. some (i ∷ q)))
       = fun-ext (λ i. ap (λ o. onward o (λ q. some (i ∷ q))) (follow-same xs (h .1) (member t i))) in
-      ap₂ (λ (v : Value) f. onward (onward (numberIn (shapeOf S (typeOf S e)) v) (element (extent t))) f) (met-whole S ops s u e (h .0)) z
+      ap₂ (λ (v : Value) f. onward (onward (numberIn (innerOf S e) v) (element (extent t))) f) (met-whole S ops s u e (h .0)) z
 
   pub place-same : (p : Path) → Same (map askWhole (indexes (p .steps))) → place S ops s p ≡ place S ops u p
   unfolding place
@@ -155,7 +155,7 @@ module _ (S : Scope) (ops : Operators) (s u : State) where
       rw (nil-right q) at (B .parts e xs i q _ _ (operands-same q a c xs h) [])
   evaluate-same B e (accessIndex base n) i a h q c = h .0 (n ∷ q) (cov-here n n a none q (omega arith) (omega arith) ∙ c)
   evaluate-same B e (access base index) i a h q c =
-      ap₂ (λ (v w : Value). partOf v (onward (numberIn (shapeOf S (typeOf S index)) w) (element (extent (shapeOf S (typeOf S base))))) q)
+      ap₂ (λ (v w : Value). partOf v (onward (numberIn (innerOf S index) w) (element (extent (shapeOf S (typeOf S base))))) q)
       (met-whole S ops s u base (h .0)) (met-whole S ops s u index (h .1 .0))
   evaluate-same B e (swizzle v pattern) i a h [] c = picked-top _ _ pattern
   evaluate-same B e (swizzle v pattern) i a h (j ∷ q) c = let z : 0 + j ≡ j = omega arith in picked-same v pattern 0 a h j q (rw z c)

@@ -11,9 +11,10 @@ use lib.Dec.{ltb}
 use borrow.Author.Tests.{ltb-true, ltb-false, lt-ltb, le-ltb, eqb-true, eq-eqb}
 use Rattle.field.specs.Limits.{absent}
 use Rattle.part.proofs.Equations.{never}
+use Rattle.module.specs.Module.{TypeInner, Scalar, Vector, Matrix, Atomic, Pointer, Array, Struct, BindingArray, Opaque}
 use Rattle.module.specs.Module.{ExpressionHandle}
-use Rattle.clearance.specs.Shape.{Shape, number, void, struct, array, member, isNumber, leaf}
-use Rattle.clearance.specs.Scope.{Scope, shapeOf, typeOf}
+use Rattle.clearance.specs.Shape.{Shape, number, void, struct, array, member, leaf}
+use Rattle.clearance.specs.Scope.{Scope, kind, isKind, isScalar, innerOf}
 use Rattle.clearance.specs.Run.{Value, State, Operators, onward, zeroIn, numberIn, numberOf, elementBy, position, orElse, pick}
 use Rattle.clearance.proofs.Small.{cases, each-at, each-from}
 
@@ -78,18 +79,23 @@ zero-from (array n t) v h = each-from n _ (λ i l. zero-from t _ (λ q o. h (i �
 pub zero-exactly : (t : Shape) (v : Value) → (zeroIn t v ≡ true) ↔ ((q : List ℕ) → leaf t q ≡ true → v q ≡ 0)
 zero-exactly t v = (zero-at t v, zero-from t v)
 
-no-number : (t : Shape) (v : Value) → isNumber t ≡ false → numberIn t v ≡ nothing
-unfolding numberIn
-no-number number v h = never (sym h)
-no-number void v h = refl
-no-number (struct b n f) v h = refl
-no-number (array n t) v h = refl
+no-number : (i : TypeInner) (v : Value) → isScalar i ≡ false → numberIn i v ≡ nothing
+unfolding numberIn isKind kind
+no-number Scalar v h = never (sym h)
+no-number (Vector n) v h = refl
+no-number (Matrix columns rows) v h = refl
+no-number Atomic v h = refl
+no-number (Pointer base) v h = refl
+no-number (Array base n) v h = refl
+no-number (Struct ms) v h = refl
+no-number (BindingArray base) v h = refl
+no-number Opaque v h = refl
 
-module _ (S : Scope) (ops : Operators) (s : State) (e : ExpressionHandle) (h : isNumber (shapeOf S (typeOf S e)) ≡ false) where
+module _ (S : Scope) (ops : Operators) (s : State) (e : ExpressionHandle) (h : isScalar (innerOf S e) ≡ false) where
   pub default-taken : (values : List ℕ) → pick values (numberOf S ops s e) ≡ position absent values
   unfolding pick numberOf onward orElse
-  default-taken values = rw (no-number (shapeOf S (typeOf S e)) _ h)
+  default-taken values = rw (no-number (innerOf S e) _ h)
 
   pub out-of-range : (n : ℕ) → elementBy S ops s n e ≡ nothing
   unfolding elementBy numberOf onward
-  out-of-range n = rw (no-number (shapeOf S (typeOf S e)) _ h)
+  out-of-range n = rw (no-number (innerOf S e) _ h)

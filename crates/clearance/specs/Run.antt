@@ -5,6 +5,7 @@ use mathlib.Core.List.{List, [], _∷_, _++_, map}
 use mathlib.Core.Option.{Option, some, none as nothing}
 use lib.Dec.{ltb, eqb}
 use Rattle.field.specs.Limits.{absent}
+use Rattle.module.specs.Module.{TypeInner, Scalar, Vector, Matrix, Atomic, Pointer, Array, Struct, BindingArray, Opaque}
 use Rattle.module.specs.Module.{ExpressionHandle}
 use Rattle.clearance.specs.Shape.{Shape, number, void, struct, array, member, extent, shapeAt, leaf, begins, after}
 use Rattle.clearance.specs.Scope.{Scope, isVector, innerOf, result, evaluated, variable, Place, slot, shapeOf, typeOf, frame}
@@ -54,11 +55,16 @@ zeroIn (struct b n f) v = each n (λ j. zeroIn (f (b + j)) (λ q. v ((b + j) ∷
 zeroIn (array n t) v = each n (λ j. zeroIn t (λ q. v (j ∷ q)))
 
 -- a scalar's number; a value that is no scalar has none
-unfoldable pub numberIn : Shape → Value → Option ℕ
-numberIn number v = some (v [])
-numberIn void v = nothing
-numberIn (struct b n f) v = nothing
-numberIn (array n t) v = nothing
+unfoldable pub numberIn : TypeInner → Value → Option ℕ
+numberIn Scalar v = some (v [])
+numberIn (Vector n) v = nothing
+numberIn (Matrix columns rows) v = nothing
+numberIn Atomic v = nothing
+numberIn (Pointer base) v = nothing
+numberIn (Array base n) v = nothing
+numberIn (Struct ms) v = nothing
+numberIn (BindingArray base) v = nothing
+numberIn Opaque v = nothing
 
 -- a part of a value; reading out of range gives zero
 unfoldable pub partOf : Value → Option ℕ → Value
@@ -87,7 +93,7 @@ module _ (S : Scope) (ops : Operators) (s : State) where
 
   -- the number of a selector or a dynamic index
   unfoldable pub numberOf : ExpressionHandle → Option ℕ
-  numberOf e = numberIn (shapeOf S (typeOf S e)) (value e)
+  numberOf e = numberIn (innerOf S e) (value e)
 
   -- the element of n that a dynamic index names; one that is no scalar is out of range
   unfoldable pub elementBy : ℕ → ExpressionHandle → Option ℕ

@@ -6,7 +6,7 @@ use mathlib.Core.Bool.{true, cond}
 use mathlib.Core.List.{List, [], _∷_, _++_}
 use mathlib.Core.Option.{Option, some as present, none as nothing}
 use Rattle.part.specs.PartReq.{none}
-use Rattle.module.specs.Module.{Scalar, Vector, Statement, FunctionArgument, Access, Emit, Return, If, Switch, Store, LocalVariable, Load, Array, Pointer, Function, Module}
+use Rattle.module.specs.Module.{Scalar, Vector, Atomic, Statement, FunctionArgument, Access, Emit, Return, If, Switch, Store, LocalVariable, Load, Array, Pointer, Function, Module}
 use Rattle.module.specs.Knot.{tie, knot}
 use Rattle.module.specs.Marks.{markCount, marksBefore}
 use Rattle.clearance.specs.Shape.{member, extent, shapeAt, leaf, begins, after}
@@ -20,16 +20,18 @@ use Rattle.clearance.specs.Run.{follow, place, loaded, evaluate, stored, perfor
 use Rattle.clearance.specs.Run.{inPicked, passing, again, exec, keeps, begin, final, run, State, everything}
 use Rattle.clearance.proofs.Operators.{numberwise}
 
--- 0: a number; 1: a two-vector; 2: an array of two numbers; 3, 4: pointers to a number and to the array
+-- 0: a number; 1: a two-vector; 2: an array of two numbers; 3, 4: pointers to a number and to the array; 5: an atomic number
 program : Module
-program = record { types = Scalar ∷ Vector 2 ∷ Array 0 2 ∷ Pointer 0 ∷ Pointer 2 ∷ []; globals = []; functions = [] }
+program = record { types = Scalar ∷ Vector 2 ∷ Array 0 2 ∷ Pointer 0 ∷ Pointer 2 ∷ Atomic ∷ []; globals = []; functions = [] }
 
--- Of a vector and two numbers. Blocks: the statement 0, the statement 1, and the rest.
+-- Of a vector, two numbers and an atomic one. Blocks: the statement 0, the statement 1, and the rest.
 function : List Statement → ℕ → Function
 function ss rest = record {
   entry = true;
   result = present (record { type = 0; binding = nothing });
-  arguments = record { type = 1; binding = nothing } ∷ record { type = 0; binding = nothing } ∷ record { type = 0; binding = nothing } ∷ [];
+  arguments =
+      record { type = 1; binding = nothing } ∷ record { type = 0; binding = nothing } ∷ record { type = 0; binding = nothing }
+      ∷ record { type = 5; binding = nothing } ∷ [];
   locals = 2 ∷ [];
   expressions =
       -- 0 to 2: the arguments; 3, 4: the vector by itself, and by the first number
@@ -39,12 +41,14 @@ function ss rest = record {
       -- 5: the array; 6, 8: its element by the vector, and by the first number; 7, 9: those loaded
       ∷ record { type = 4; expression = LocalVariable 0 } ∷ record { type = 3; expression = Access 5 0 }
       ∷ record { type = 0; expression = Load 6 } ∷ record { type = 3; expression = Access 5 1 }
-      ∷ record { type = 0; expression = Load 8 } ∷ [];
+      ∷ record { type = 0; expression = Load 8 }
+      -- 10: the atomic number; 11: the vector by it
+      ∷ record { type = 5; expression = FunctionArgument 3 } ∷ record { type = 0; expression = Access 0 10 } ∷ [];
   statements = ss;
   blocks = record { first = 0; count = 1 } ∷ record { first = 1; count = 1 } ∷ record { first = 2; count = rest } ∷ [];
 }
 
--- the vector (x, y), the numbers 1 and 2; the array's elements are 3
+-- the vector (x, y), the numbers 1 and 2, the atomic 0; the array's elements are 3
 start : ℕ → ℕ → State
 start x y q =
     cond (begins (slot (argument 0) ++ (0 ∷ [])) q) x
@@ -86,10 +90,12 @@ answers =
     -- a vector is no element; a number is
     ∷ indexed 3 5 6 ∷ indexed 4 5 6 ∷ indexed 7 0 0 ∷ indexed 9 0 0
     -- and such a store does nothing
-    ∷ stored-by 6 ∷ stored-by 8 ∷ []
+    ∷ stored-by 6 ∷ stored-by 8
+    -- an atomic number equals no case, and is no element
+    ∷ switched 10 0 0 ∷ indexed 11 5 6 ∷ []
 
 examples :
     answers
-    ≡ present 1 ∷ present 1 ∷ present 1 ∷ present 2 ∷ present 2 ∷ present 1 ∷ present 0 ∷ present 6 ∷ present 0 ∷ present 3 ∷ present 3 ∷ present 2 ∷ []
+    ≡ present 1 ∷ present 1 ∷ present 1 ∷ present 2 ∷ present 2 ∷ present 1 ∷ present 0 ∷ present 6 ∷ present 0 ∷ present 3 ∷ present 3 ∷ present 2 ∷ present 2 ∷ present 0 ∷ []
 unfolding answers on-vector switched indexed stored-by returned returns start function program tie knot member extent shapeAt leaf begins after inner memberTypes vectorShape elements unfoldType shapeOf kind bases isKind pairwise alikeInner alike slot typed typeOf innerOf argumentType resultShape slots kindShape frame isPath byPart anyVector optional armOf arm sourceOf source further stepFrom pathOf markCount marksBefore marked markAt byMark emits caseAt statement statementsFrom blockTree bodyTree gives outBreak outContinue each look put element onward partOf picked zeroIn numberIn valueFrom value isZero numberOf elementBy valueOperand composed concatenated follow place loaded evaluate stored perform giveBack then endBy turns position orElse pick inPicked passing again exec keeps begin final run numberwise
 examples = refl
