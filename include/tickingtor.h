@@ -34,7 +34,7 @@ uint64_t tickingtor_request(const uint8_t *module, size_t module_length, const u
  * 131,072 + s where the statement s is the lowest that breaks a rule; 196,608 + e and 262,144 + s where the function is not judged, by its
  * lowest expression e, else statement s. Otherwise 2^32 times the number by which it refuses, in this order: a module's 1 to 5; 12 (request or
  * context); 11; 21 (`report` ends before the function's marks do, or has another byte than 0 and 1 among them); of a judged function 26 (the
- * needs pass the memory or the rounds that they are given), 15, 16. Nothing is written. A call takes at most 4.8 MB of stack.
+ * needs pass the memory or the rounds that they are given), 15, 16. Nothing is written. A call takes up to some 5 MB of stack.
  */
 uint64_t tickingtor_check(const uint8_t *module, size_t module_length, const uint8_t *request, size_t request_length, const uint8_t *report,
                           size_t report_length, const uint8_t *context, size_t context_length);
