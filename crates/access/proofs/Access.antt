@@ -17,13 +17,9 @@ use Rattle.module.specs.Reading.{rangeOf, closed}
 use Rattle.module.specs.Tables.{word, rowAt, headAt, itemsAt, localsFrom, expressionsFrom, openOf, functionOf, moduleOf}
 use Rattle.module.proofs.Tab.{length-tab, getD-tab}
 use Rattle.access.specs.declared.kinded.Kinded.{Kinded}
-use Rattle.access.specs.Access.{typeAt, globalAt, argumentAt, localAt, typedAt, statementAt, startsOf, rangeAt, operandAt, typeRow, expressionRow, statementRow}
+use Rattle.access.specs.Access.{globalAt, argumentAt, localAt, typedAt, statementAt, startsOf, rangeAt, operandAt, expressionRow, statementRow}
 
 module _ (bytes t : List ℕ) where
-  pub type-is : (h : ℕ) (d : TypeInner) → h < length (moduleOf bytes t .types) → getD (moduleOf bytes t .types) h d ≡ typeAt bytes t h
-  unfolding moduleOf typeAt
-  type-is h d l = getD-tab _ _ h d (rw length-tab at l)
-
   pub global-is : (g d : ℕ) → g < length (moduleOf bytes t .globals) → getD (moduleOf bytes t .globals) g d ≡ globalAt bytes t g
   unfolding moduleOf globalAt
   global-is g d l = getD-tab _ _ g d (rw length-tab at l)
@@ -55,10 +51,6 @@ module _ (bytes t : List ℕ) where
       ∙ ap (λ (n : ℕ). rangeOf (startsOf t (rowAt t f)) n b) (length-tab (rowAt t f .statements) _)
 
   -- In an arm of a kind the record's row gives the constructor: `expressionOf` computes at a numeral.
-  pub type-of : (h k : ℕ) (r : Kinded) → r ≡ typeRow bytes t h → r .kind ≡ k → typeAt bytes t h ≡ typeInnerOf k (operandAt bytes r)
-  unfolding typeAt typeOf typeRow
-  type-of h k r e q = rw (← q, e)
-
   pub expression-of : (f e k : ℕ) (r : Kinded) → r ≡ expressionRow bytes t f e → r .kind ≡ k → typedAt bytes t f e .expression ≡ expressionOf k (operandAt bytes r)
   unfolding typedAt typedOf expressionRow
   expression-of f e k r q p = rw (← p, q)
@@ -116,10 +108,6 @@ module _ (t : List ℕ) (f : ℕ) (r : Row) (h : r ≡ rowAt t f) where
   pub block-read : (b first next count : ℕ) → first ≡ getD (startsOf t r) b 0 → next ≡ getD (startsOf t r) (b + 1) (r .statements) → count ≡ next - first → _≡_ {A = BlockRange} (record { first = first; count = count }) (rangeAt t f b)
   unfolding rangeAt rangeOf
   block-read b first next count p q c = rw (c, q, p, h, add-one b)
-
-  pub entry-read : (bytes : List ℕ) (a : ℕ) → a ≡ getD (bodyAt bytes (r .offset)) 0 0 → eqb a 1 ≡ functionOf bytes t f .entry
-  unfolding functionOf closed openOf
-  entry-read bytes a p = rw (p, h)
 
   pub result-read : (bytes : List ℕ) (a b : ℕ) → a ≡ getD (bodyAt bytes (r .offset)) 1 0 → b ≡ getD (bodyAt bytes (r .offset)) 2 0 → _≡_ {A = Option FunctionResult} (cond (eqb a absent) nothing (some (record { type = a; binding = optionOf b }))) (functionOf bytes t f .result)
   unfolding functionOf closed openOf resultOf

@@ -24,9 +24,6 @@ expressionNumber t f e = expressionsFrom (rowAt t f) + e
 abbrev pub statementNumber : List ℕ → FunctionHandle → ℕ → ℕ
 statementNumber t f s = statementsFrom (rowAt t f) + s
 
-unfoldable pub typeAt : List ℕ → List ℕ → TypeHandle → TypeInner
-typeAt bytes t h = typeOf (typeBody bytes t h)
-
 unfoldable pub globalAt : List ℕ → List ℕ → GlobalHandle → TypeHandle
 globalAt bytes t g = getD (globalBody bytes t g) 0 0
 
@@ -57,24 +54,18 @@ operandAt bytes r j = getD (bodyAt bytes (r .offset)) (r .before + j) 0
 abbrev pub kindedAt : List ℕ → ℕ → ℕ → ℕ → Kinded
 kindedAt bytes offset j before = record { kind = getD (bodyAt bytes offset) j 0; offset = offset; before = before }
 
-unfoldable pub typeRow : List ℕ → List ℕ → TypeHandle → Kinded
-typeRow bytes t h = kindedAt bytes (word t (typesAt + h)) 0 1
-
 unfoldable pub expressionRow : List ℕ → List ℕ → FunctionHandle → ExpressionHandle → Kinded
 expressionRow bytes t f e = kindedAt bytes (word t (itemsAt + expressionNumber t f e)) 1 2
 
 unfoldable pub statementRow : List ℕ → List ℕ → FunctionHandle → ℕ → Kinded
 statementRow bytes t f s = kindedAt bytes (word t (itemsAt + statementNumber t f s)) 0 1
 
--- A type with its binding, as a member, an argument and a result.
-abbrev pub memberFrom : Bound → Member
-memberFrom r = record { type = r .ty; binding = optionOf (r .binding) }
-
+-- A type with its binding, as an argument and a result.
 abbrev pub argFrom : Bound → FunctionArg
-argFrom r = record { type = r .ty; binding = optionOf (r .binding) }
+argFrom r = record { type = r .ty .0; binding = optionOf (r .binding) }
 
 abbrev pub resultFrom : Bound → Option FunctionResult
-resultFrom r = cond (eqb (r .ty) absent) nothing (some (record { type = r .ty; binding = optionOf (r .binding) }))
+resultFrom r = cond (eqb (r .ty .0) absent) nothing (some (record { type = r .ty .0; binding = optionOf (r .binding) }))
 
 abbrev pub rangeFrom : declared.BlockRange → BlockRange
 rangeFrom r = record { first = r .first; count = r .count }

@@ -65,20 +65,13 @@ pub fn body_block(t: &[u32], f: FunctionHandle) -> BlockHandle
     BlockHandle(n - 1)
 }
 
-pub fn entry(bytes: &[u8], t: &[u32], f: FunctionHandle) -> bool
-    ensures { λ r. ⌜ r ≡ functionOf (now (bytes .entry)) (now (t .entry)) (f .0) .entry ⌝ }
-{
-    let row = row_at(t, f.0);
-    body(bytes, row.offset, 0) == 1
-}
-
 // The result, whose type is absent where the function has none.
 pub fn result(bytes: &[u8], t: &[u32], f: FunctionHandle) -> Bound
     ensures { λ r. ⌜ resultFrom r ≡ functionOf (now (bytes .entry)) (now (t .entry)) (f .0) .result ⌝ }
 {
     let row = row_at(t, f.0);
     Bound {
-        ty: body(bytes, row.offset, 1),
+        ty: TypeHandle(body(bytes, row.offset, 1) as u32),
         binding: body(bytes, row.offset, 2),
     }
 }
@@ -89,7 +82,7 @@ pub fn argument(bytes: &[u8], t: &[u32], f: FunctionHandle, i: u32) -> Bound
     let row = row_at(t, f.0);
     let offset = word(t, ITEMS + ((row.items as usize) + (i as usize)));
     Bound {
-        ty: body(bytes, offset, 0),
+        ty: TypeHandle(body(bytes, offset, 0) as u32),
         binding: body(bytes, offset, 1),
     }
 }

@@ -1,15 +1,16 @@
-// Records that have a kind: types, expressions, statements. Their operands are asked for by number.
+// Records that have a kind: expressions, statements. Their operands are asked for by number.
+use module::handles::BlockHandle;
 use module::handles::ExpressionHandle;
 use module::handles::FunctionHandle;
-use module::handles::TypeHandle;
+use module::handles::GlobalHandle;
+use module::handles::LocalHandle;
 use module::record::body;
 use module::tables::ITEMS;
-use module::tables::TYPES;
 use module::tables::row_at;
 use module::tables::word;
 ghost use mathlib.Core.Path.{_≡_};
-ghost use Prim.Native.Nat.{ℕ};
-ghost use Rattle.access.specs.Access.{operandAt, expressionNumber, statementNumber, typeRow, expressionRow, statementRow};
+ghost use Prim.Native.Nat.{ℕ, _<_};
+ghost use Rattle.access.specs.Access.{operandAt, expressionNumber, statementNumber, expressionRow, statementRow};
 
 // The kind of a record, its place, and how many fields stand before its operands.
 pub struct Kinded {
@@ -25,15 +26,37 @@ pub fn operand(bytes: &[u8], row: Kinded, j: u16) -> u16
     body(bytes, row.offset, (row.before as u32) + (j as u32))
 }
 
-pub fn type_row(bytes: &[u8], t: &[u32], h: TypeHandle) -> Kinded
-    ensures { λ r. ⌜ r ≡ typeRow (now (bytes .entry)) (now (t .entry)) (h .0) ⌝ }
+// The same as the handle that it is. An operand that may be absent has the number 65535 then.
+pub fn expression_operand(bytes: &[u8], row: Kinded, j: u16) -> ExpressionHandle
+    ensures { λ r. ⌜ r .0 ≡ operandAt (now (bytes .entry)) row j ⌝ }
 {
-    let offset = word(t, TYPES + (h.0 as usize));
-    Kinded {
-        kind: body(bytes, offset, 0),
-        offset: offset,
-        before: 1,
-    }
+    ExpressionHandle(operand(bytes, row, j) as u32)
+}
+
+pub fn global_operand(bytes: &[u8], row: Kinded, j: u16) -> GlobalHandle
+    ensures { λ r. ⌜ r .0 ≡ operandAt (now (bytes .entry)) row j ⌝ }
+{
+    GlobalHandle(operand(bytes, row, j) as u32)
+}
+
+pub fn local_operand(bytes: &[u8], row: Kinded, j: u16) -> LocalHandle
+    ensures { λ r. ⌜ r .0 ≡ operandAt (now (bytes .entry)) row j ⌝ }
+{
+    LocalHandle(operand(bytes, row, j) as u32)
+}
+
+pub fn function_operand(bytes: &[u8], row: Kinded, j: u16) -> FunctionHandle
+    ensures { λ r. ⌜ r .0 ≡ operandAt (now (bytes .entry)) row j ⌝ }
+{
+    FunctionHandle(operand(bytes, row, j) as u32)
+}
+
+// A switch has two operands for each of fewer than 65536 cases.
+pub fn block_operand(bytes: &[u8], row: Kinded, j: u32) -> BlockHandle
+    requires { ⌜ j < 200000 ⌝ }
+    ensures { λ r. ⌜ r .0 ≡ operandAt (now (bytes .entry)) row j ⌝ }
+{
+    BlockHandle(body(bytes, row.offset, (row.before as u32) + j) as u32)
 }
 
 // The number of an expression among the items of the file.

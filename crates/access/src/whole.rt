@@ -1,22 +1,19 @@
-// The whole module: how many of each it has, and the types of globals and of members.
-use crate::kinded::Kinded;
+// The whole module: how many of each it has, and the types of globals.
 use module::access::global_type;
 use module::handles::GlobalHandle;
 use module::handles::TypeHandle;
-use module::record::body;
 use module::tables::HEAD;
 use module::tables::word;
 ghost use mathlib.Core.Path.{_≡_};
 ghost use mathlib.Core.List.{List};
-ghost use Prim.Native.Nat.{ℕ, _+_, _*_};
-ghost use lib.ListN.{length, getD};
+ghost use Prim.Native.Nat.{ℕ};
+ghost use lib.ListN.{length};
 ghost use Rattle.module.specs.Tables.{moduleOf};
-ghost use Rattle.module.specs.Decode.{memberOf};
-ghost use Rattle.access.specs.Access.{globalAt, memberFrom, operandAt};
+ghost use Rattle.access.specs.Access.{globalAt};
 
 // A type and a binding, 65535 where it is absent.
 pub struct Bound {
-    pub ty: u16,
+    pub ty: TypeHandle,
     pub binding: u16,
 }
 
@@ -42,15 +39,4 @@ pub fn global(bytes: &[u8], t: &[u32], g: GlobalHandle) -> TypeHandle
     ensures { λ r. ⌜ r .0 ≡ globalAt (now (bytes .entry)) (now (t .entry)) (g .0) ⌝ }
 {
     TypeHandle(global_type(bytes, t, g) as u32)
-}
-
-// The member i of a struct, by its row.
-pub fn member(bytes: &[u8], row: Kinded, i: u16) -> Bound
-    ensures { λ r. ⌜ memberFrom r ≡ memberOf (operandAt (now (bytes .entry)) row) i ⌝ }
-{
-    let j = 2 * (i as u32);
-    Bound {
-        ty: body(bytes, row.offset, (row.before as u32) + (1 + j)),
-        binding: body(bytes, row.offset, (row.before as u32) + (2 + j)),
-    }
 }

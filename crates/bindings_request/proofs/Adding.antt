@@ -39,12 +39,12 @@ use Rattle.bindings_request.proofs.Modules.{of-function, rows-sized, ro
 use Rattle.bindings_request.proofs.Answers.{gave-refused}
 
 -- what the table of results says, by its two numbers
-pub result-by : (x : TypeBound) → resultFrom x ≡ resultBy (x .ty) (x .binding)
+pub result-by : (x : TypeBound) → resultFrom x ≡ resultBy (x .ty .0) (x .binding)
 unfolding resultBy
 result-by x = refl
 
 module _ {bytes t types : List ℕ} (T : Tables bytes t types) {f b : ℕ} (low : f < length (moduleOf bytes t .functions)) (few : b < bindings) (x : TypeBound) (R : resultFrom x ≡ functionOf bytes t f .result) where
-  result-is : functionOf bytes t f .result ≡ resultBy (x .ty) (x .binding)
+  result-is : functionOf bytes t f .result ≡ resultBy (x .ty .0) (x .binding)
   result-is = sym R ∙ result-by x
 
   -- what `addRequest` says of the function
@@ -55,13 +55,13 @@ module _ {bytes t types : List ℕ} (T : Tables bytes t types) {f b : ℕ} (low 
 
   module _ {s u : List ℕ} (o : Optional) {entry globals : ℕ} (m : Made s u (asked (optional s o)) 1 entry) (held : globals < top s) where
     pub add-asks : (parts : List ℕ) → length parts ≡ typeCount types → Room s (1 + (outputCells parts + maxPieces))
-        → Good u × (AllBound (typesOf types) × (AllSized (typesOf types) × (((length parts ≡ typeCount types) × (length parts ≤ 4294967295)) × ((BoundResult (resultBy (x .ty) (x .binding)) × Room u (outputCells parts + maxPieces)) × ((b < bindings) × ((globals < top u) × (entry < top u)))))))
+        → Good u × (AllBound (typesOf types) × (AllSized (typesOf types) × (((length parts ≡ typeCount types) × (length parts ≤ 4294967295)) × ((BoundResult (resultBy (x .ty .0) (x .binding)) × Room u (outputCells parts + maxPieces)) × ((b < bindings) × ((globals < top u) × (entry < top u)))))))
     add-asks parts l room =
         let cost : top u ≤ top s + 1 = m .cost in
         let long : length u ≡ length s = m .kept .long in
         (m .kept .good, (rows-bound T, (rows-sized T, ((l, omega (arith, rows-few T)), ((rw (← result-is) (result-bound T f low), omega arith), (few, (omega (arith, m .kept .tops), m .piece)))))))
 
-    module _ {v : List ℕ} {a : Asking} (A : Asked u v (x .ty) (x .binding) (part u globals) (λ y. asRequest (outputFromBindings (typesOf types) (single b) y) (addBinding (typesOf types) b y (requestContext (part u globals) (part u entry)))) a) where
+    module _ {v : List ℕ} {a : Asking} (A : Asked u v (x .ty .0) (x .binding) (part u globals) (λ y. asRequest (outputFromBindings (typesOf types) (single b) y) (addBinding (typesOf types) b y (requestContext (part u globals) (part u entry)))) a) where
       globals-same : part v globals ≡ part u globals
       globals-same = A .kept .same globals (omega (arith, m .kept .tops))
 

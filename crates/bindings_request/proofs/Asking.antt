@@ -52,11 +52,11 @@ module _ (bytes t bs : List ℕ) (room f : ℕ) where
       output-short l = gave-refused (rw (set-is .0, lt-ltb f (length (moduleOf bytes t .functions)) low, lt-ltb room minReport l))
 
       module _ {types : List ℕ} (T : Tables bytes t types) (x : TypeBound) (R : resultFrom x ≡ functionOf bytes t f .result) where
-        result-is : functionOf bytes t f .result ≡ resultBy (x .ty) (x .binding)
+        result-is : functionOf bytes t f .result ≡ resultBy (x .ty .0) (x .binding)
         result-is = sym R ∙ result-by x
 
         pub output-asks : {cells parts u : List ℕ} → length parts ≡ typeCount types → Lent cells parts [] → Good u → top u ≡ 3 → length u ≡ length cells
-            → Good u × (AllBound (typesOf types) × (AllSized (typesOf types) × (((length parts ≡ typeCount types) × (length parts ≤ 4294967295)) × (BoundResult (resultBy (x .ty) (x .binding)) × Room u (outputCells parts)))))
+            → Good u × (AllBound (typesOf types) × (AllSized (typesOf types) × (((length parts ≡ typeCount types) × (length parts ≤ 4294967295)) × (BoundResult (resultBy (x .ty .0) (x .binding)) × Room u (outputCells parts)))))
         output-asks l L g th lh =
             let big = L .room in
             (g, (rows-bound T, (rows-sized T, ((l, omega (arith, rows-few T)), (rw (← result-is) (result-bound T f low), omega arith)))))
@@ -66,7 +66,7 @@ module _ (bytes t bs : List ℕ) (room f : ℕ) where
         output-request =
             rw (set-is .0, of-function (moduleOf bytes t .functions) f (functionOf bytes t f) (λ y. asRequest (outputFromBindings (moduleOf bytes t .types) (setOf bs) y) (outputFromBindings (moduleOf bytes t .types) (setOf bs) y)) low, function-is bytes t f (functionOf bytes t f) low, T .rows, set-is .1)
 
-        module _ {u v : List ℕ} {a : Asking} (A : Asked u v (x .ty) (x .binding) none (λ y. asRequest (outputFromBindings (typesOf types) s y) (outputFromBindings (typesOf types) s y)) a) where
+        module _ {u v : List ℕ} {a : Asking} (A : Asked u v (x .ty .0) (x .binding) none (λ y. asRequest (outputFromBindings (typesOf types) s y) (outputFromBindings (typesOf types) s y)) a) where
           pub output-write-asks : {n l : ℕ} → n ≤ l → Good v × (((2 < top v) × AskingHeld v (part v 2) a) × (n ≤ l))
           output-write-asks r = (A .kept .good, ((omega (arith, A .kept .good .base), rw (part-2 v) (A .held)), r))
 

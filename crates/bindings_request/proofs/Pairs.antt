@@ -34,23 +34,23 @@ module _ {bytes t : List ℕ} {f : ℕ} {old pairs : List ℕ} {i : ℕ} (n : �
   pub filled-second : 2 * i + 1 < length pairs
   filled-second = omega (arith, F .long)
 
-  pub filled-more : (x : TypeBound) → argFrom x ≡ argumentAt bytes t f i → Filled bytes t f old (set (set pairs (2 * i) (x .ty)) (2 * i + 1) (x .binding)) (i + 1)
+  pub filled-more : (x : TypeBound) → argFrom x ≡ argumentAt bytes t f i → Filled bytes t f old (set (set pairs (2 * i) (x .ty .0)) (2 * i + 1) (x .binding)) (i + 1)
   filled-more x e =
-      let one : List ℕ = set pairs (2 * i) (x .ty) in
-      let inside : 2 * i + 1 < length one = rw (length-set pairs (2 * i) (x .ty)) filled-second in
+      let one : List ℕ = set pairs (2 * i) (x .ty .0) in
+      let inside : 2 * i + 1 < length one = rw (length-set pairs (2 * i) (x .ty .0)) filled-second in
       record {
-        long = length-set one (2 * i + 1) (x .binding) ∙ (length-set pairs (2 * i) (x .ty) ∙ F .long);
+        long = length-set one (2 * i + 1) (x .binding) ∙ (length-set pairs (2 * i) (x .ty .0) ∙ F .long);
         low = omega (arith, F .long);
         is = λ j l. elim (ℕ-discrete j i) [
           | yes z ↦
               let a : 2 * i ≡ 2 * i + 1 → ⊥ = omega arith in
-              rw (z, getD-set-other one (2 * i + 1) (2 * i) (x .binding) 0 a, getD-set-same pairs (2 * i) (x .ty) 0 h, getD-set-same one (2 * i + 1) (x .binding) 0 inside) e
+              rw (z, getD-set-other one (2 * i + 1) (2 * i) (x .binding) 0 a, getD-set-same pairs (2 * i) (x .ty .0) 0 h, getD-set-same one (2 * i + 1) (x .binding) 0 inside) e
           | no z ↦
               let a : 2 * j ≡ 2 * i + 1 → ⊥ = omega arith in
               let b : 2 * j + 1 ≡ 2 * i + 1 → ⊥ = λ q. z (omega arith) in
               let c : 2 * j ≡ 2 * i → ⊥ = λ q. z (omega arith) in
               let d : 2 * j + 1 ≡ 2 * i → ⊥ = omega arith in
-              rw (getD-set-other one (2 * i + 1) (2 * j) (x .binding) 0 a, getD-set-other one (2 * i + 1) (2 * j + 1) (x .binding) 0 b, getD-set-other pairs (2 * i) (2 * j) (x .ty) 0 c, getD-set-other pairs (2 * i) (2 * j + 1) (x .ty) 0 d)
+              rw (getD-set-other one (2 * i + 1) (2 * j) (x .binding) 0 a, getD-set-other one (2 * i + 1) (2 * j + 1) (x .binding) 0 b, getD-set-other pairs (2 * i) (2 * j) (x .ty .0) 0 c, getD-set-other pairs (2 * i) (2 * j + 1) (x .ty .0) 0 d)
               (F .is j (next-less j i l z))
         ];
       }

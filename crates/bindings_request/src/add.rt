@@ -52,7 +52,7 @@ fn add_to(
         cells,
         types,
         b,
-        x.ty as u32,
+        x.ty.0,
         x.binding as u32,
         parts,
         globals,

@@ -39,7 +39,7 @@ fn fill(bytes: &[u8], t: &[u32], f: u32, pairs: &mut [u32])
     while 2 * i < pairs.len() {
         let k = i + 1;
         let x = argument(bytes, t, FunctionHandle(f), i as u32);
-        pairs[2 * i] = x.ty as u32;
+        pairs[2 * i] = x.ty.0;
         pairs[2 * i + 1] = x.binding as u32;
         i = k;
     }

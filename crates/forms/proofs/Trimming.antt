@@ -156,13 +156,13 @@ ending-is bytes t types f e p = ap (λ v. keep (variable 0) (trim p v) none) (fi
 
 -- a function's result
 module _ (S : Scope) (b : Bound) {r : Option FunctionResult} (w : resultFrom b ≡ r) where
-  pub result-void : b .ty ≡ absent → void ≡ resultShape S r
+  pub result-void : b .ty .0 ≡ absent → void ≡ resultShape S r
   unfolding resultShape
-  result-void h = rw (← w, eq-eqb (b .ty) absent h)
+  result-void h = rw (← w, eq-eqb (b .ty .0) absent h)
 
-  pub result-type : (types : List ℕ) → S .program .types ≡ typesOf types → (b .ty ≡ absent → ⊥) → shapeBy types (Of (b .ty)) ≡ resultShape S r
+  pub result-type : (types : List ℕ) → S .program .types ≡ typesOf types → (b .ty .0 ≡ absent → ⊥) → shapeBy types (Of (b .ty .0)) ≡ resultShape S r
   unfolding resultShape
-  result-type types e h = rw (← w, ne-eqb (b .ty) absent h) (sym (shape-is types S e (b .ty)))
+  result-type types e h = rw (← w, ne-eqb (b .ty .0) absent h) (sym (shape-is types S e (b .ty .0)))
 
 pub value-trimmed : {s u : List ℕ} (p : ℕ) {n : ℕ} (v w : Shape) → v ≡ w → Made s u (trim (part s p) v) (entries (part s p)) n → Made s u (trim (part s p) w) (entries (part s p)) n
 value-trimmed {s} p v w e m = as-made m (ap (trim (part s p)) e) (omega arith)

@@ -18,9 +18,9 @@ use crate::take::keep;
 use access::function::result;
 use access::whole::global;
 use access::whole::globals;
-use field::limits::ABSENT;
 use module::handles::FunctionHandle;
 use module::handles::GlobalHandle;
+use module::handles::NO_HANDLE;
 use part::limits::SPINE;
 use part::store::look;
 
@@ -99,10 +99,10 @@ fn result_form(bytes: &[u8], t: &[u32], f: FunctionHandle, types: &[u32]) -> For
     ensures { λ r. ⌜ shapeBy (now (types .entry)) r ≡ resultShape (scopeAt (now (bytes .entry)) (now (t .entry)) (f .0)) (functionOf (now (bytes .entry)) (now (t .entry)) (f .0) .result) ⌝ }
 {
     let b = result(bytes, t, f);
-    if b.ty == ABSENT {
+    if b.ty.0 == NO_HANDLE {
         return Form::Void;
     }
-    Form::Of(b.ty as u32)
+    Form::Of(b.ty.0)
 }
 
 // What is left of p, asked of a function's result.

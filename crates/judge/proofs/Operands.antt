@@ -172,16 +172,16 @@ module _ {bytes t : List ℕ} {f : ℕ} {types alike paths : List ℕ} {e : ℕ}
       unfolding expressionOf fitsExpression fitsVariable pointee innerOf
       fits-local p = by-kind 11 h (p ∙ rw (q, at, own, local-is bytes t f (o 0) 0 there-local))
 
-    pub fits-argument : (b : Bound) {v s r : Bool} → row .kind ≡ 9 → v ≡ isValue (S G) e → argFrom b ≡ argumentAt bytes t f x → s ≡ byTable alike (b .ty) a → r ≡ v && s → Fits bytes t f e r
+    pub fits-argument : (b : Bound) {v s r : Bool} → row .kind ≡ 9 → v ≡ isValue (S G) e → argFrom b ≡ argumentAt bytes t f x → s ≡ byTable alike (b .ty .0) a → r ≡ v && s → Fits bytes t f e r
     unfolding expressionOf fitsExpression
     fits-argument b h v p s q =
         let there : o 0 < length (F G .arguments) = names 9 h in
         let d = argFrom b in
         let is : getD (F G .arguments) (o 0) d ≡ d = argument-is bytes t f (o 0) d there ∙ sym (p ∙ ap (argumentAt bytes t f) at) in
-        let ty : argumentType (F G .arguments) (o 0) ≡ b .ty = argument-type (F G .arguments) d (o 0) there ∙ ap (λ (y : FunctionArg). y .type) is in
-        let low : b .ty < length (typesOf types) =
+        let ty : argumentType (F G .arguments) (o 0) ≡ b .ty .0 = argument-type (F G .arguments) d (o 0) there ∙ ap (λ (y : FunctionArg). y .type) is in
+        let low : b .ty .0 < length (typesOf types) =
         rw (← ap (λ (y : FunctionArg). y .type) is, ← G .values .same) (function-valid bytes t f (G .read) (G .there) .parts .each-argument (o 0) d there .0) in
-        by-kind 9 h (q ∙ rw (v, s, G .shapes .table .is (S G) (G .values .same) (b .ty) a low own-low, ty, own))
+        by-kind 9 h (q ∙ rw (v, s, G .shapes .table .is (S G) (G .values .same) (b .ty .0) a low own-low, ty, own))
 
     pub load-low : row .kind ≡ 12 → (x < n G) × (e < n G)
     unfolding expressionOf

@@ -54,16 +54,16 @@ module _ {bytes t : List ℕ} {f : ℕ} {types alike paths : List ℕ} (given : 
     unfolding presently optionOf
     return-absent h = rw (eq-eqb v absent h)
 
-    pub return-none : (b : Bound) → (v ≡ absent → ⊥) → resultFrom b ≡ functionOf bytes t f .result → b .ty ≡ absent → false ≡ returned
-    return-none b h q d = none-returned T (functionOf bytes t f .result) v h (rw (eq-eqb (b .ty) absent d) at q)
+    pub return-none : (b : Bound) → (v ≡ absent → ⊥) → resultFrom b ≡ functionOf bytes t f .result → b .ty .0 ≡ absent → false ≡ returned
+    return-none b h q d = none-returned T (functionOf bytes t f .result) v h (rw (eq-eqb (b .ty .0) absent d) at q)
 
-    pub return-some : (b : Bound) {a : ℕ} {u s r : Bool} → MaybeBelow (n given) (optionOf v) → (v ≡ absent → ⊥) → resultFrom b ≡ functionOf bytes t f .result → (b .ty ≡ absent → ⊥) → a ≡ typeOf T v → s ≡ byTable alike (b .ty) a → u ≡ isValue T v → r ≡ u && s → r ≡ returned
+    pub return-some : (b : Bound) {a : ℕ} {u s r : Bool} → MaybeBelow (n given) (optionOf v) → (v ≡ absent → ⊥) → resultFrom b ≡ functionOf bytes t f .result → (b .ty .0 ≡ absent → ⊥) → a ≡ typeOf T v → s ≡ byTable alike (b .ty .0) a → u ≡ isValue T v → r ≡ u && s → r ≡ returned
     return-some b {a} l h q d ta s u z =
         let there : v < n given = there-returned (n given) v h l in
-        let some-is = rw (ne-eqb (b .ty) absent d) at q in
-        let ty : b .ty < length (typesOf types) =
+        let some-is = rw (ne-eqb (b .ty .0) absent d) at q in
+        let ty : b .ty .0 < length (typesOf types) =
         rw (← given .values .same) (result-low (length (moduleOf bytes t .types)) (functionOf bytes t f .result) some-is (function-valid bytes t f (given .read) (given .there) .result)) in
-        let likes = given .shapes .table .is T (given .values .same) (b .ty) a ty (omega (arith, ta, type-low given v there)) in
+        let likes = given .shapes .table .is T (given .values .same) (b .ty .0) a ty (omega (arith, ta, type-low given v there)) in
         some-returned T (functionOf bytes t f .result) v h some-is (z ∙ rw (u, s, likes, ta))
 
   module _ (s : ℕ) (there : s < length (F given .statements)) {row : Kinded} (is : row ≡ statementRow bytes t f s) where

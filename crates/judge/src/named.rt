@@ -96,7 +96,7 @@ pub fn fits_named(
     let value = is_value(bytes, t, f, types, paths, e);
     if row.kind == FUNCTION_ARGUMENT {
         let a = argument(bytes, t, f, n);
-        return both(value, is_alike(alike, TypeHandle(a.ty as u32), own));
+        return both(value, is_alike(alike, a.ty, own));
     }
     both(
         value,

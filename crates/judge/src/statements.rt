@@ -22,7 +22,7 @@ use access::kinded::operand;
 use access::kinded::statement;
 use module::handles::ExpressionHandle;
 use module::handles::FunctionHandle;
-use module::handles::TypeHandle;
+use module::handles::NO_HANDLE;
 
 const ABSENT: u16 = 65535;
 
@@ -50,13 +50,13 @@ fn fits_return(
         return true;
     }
     let declared = result(bytes, t, f);
-    if declared.ty == ABSENT {
+    if declared.ty.0 == NO_HANDLE {
         return false;
     }
     let value = ExpressionHandle(v as u32);
     let same = is_alike(
         alike,
-        TypeHandle(declared.ty as u32),
+        declared.ty,
         type_of(bytes, t, f, value),
     );
     both(is_value(bytes, t, f, types, paths, value), same)

@@ -10,3 +10,6 @@ pub struct FunctionHandle(pub u32);
 pub struct ExpressionHandle(pub u32);
 
 pub struct BlockHandle(pub u32);
+
+// The number of a handle that a file may leave out, and does.
+pub const NO_HANDLE: u32 = 65535;

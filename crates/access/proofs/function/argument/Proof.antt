@@ -27,6 +27,9 @@ word-requires c κs = search needs
 body-requires : tie.Need-body-requires
 body-requires c κs = search needs
 
+cast-t12 : tie.Need-cast-t12
+cast-t12 c = search needs
+
 body-requires-2 : tie.Need-body-requires-2
 body-requires-2 c κs = search needs
 
@@ -43,5 +46,6 @@ argument-spec =
     add-word-2
     word-requires
     body-requires
+    cast-t12
     body-requires-2
     returns)

@@ -14,6 +14,9 @@ row-at-requires c κs = search needs
 body-requires : tie.Need-body-requires
 body-requires c κs = search needs
 
+cast-t6 : tie.Need-cast-t6
+cast-t6 c = search needs
+
 body-requires-2 : tie.Need-body-requires-2
 body-requires-2 c κs = search needs
 
@@ -21,4 +24,4 @@ returns : tie.Need-returns
 returns c = result-read _ _ _ (c .before .before .row-at .ensures) _ _ _ (c .before .body .ensures) (c .body2 .ensures)
 
 pub result-spec : {M : Type 1} → statement M
-result-spec = tie.close (tie.spec row-at-requires body-requires body-requires-2 returns)
+result-spec = tie.close (tie.spec row-at-requires body-requires cast-t6 body-requires-2 returns)
