@@ -54,11 +54,7 @@ fn fits_return(
         return false;
     }
     let value = ExpressionHandle(v as u32);
-    let same = is_alike(
-        alike,
-        declared.ty,
-        type_of(bytes, t, f, value),
-    );
+    let same = is_alike(alike, declared.ty, type_of(bytes, t, f, value));
     both(is_value(bytes, t, f, types, paths, value), same)
 }
 
