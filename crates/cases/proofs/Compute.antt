@@ -5,7 +5,6 @@ use Rattle.module.specs.Module.{Module}
 use Rattle.request.specs.Request.{Request}
 use Rattle.walk.specs.Requests.{Report}
 use Rattle.clearance.specs.Verdict.{Answer}
-use Rattle.cases.specs.Cases.{printed}
 use Rattle.field.specs.Field.{fieldAt}
 use Rattle.part.specs.PartReq.{width}
 use Rattle.module.specs.Record.{fieldsTo, bodyAt, markOf}
@@ -68,7 +67,7 @@ unfolding tie knot member extent shapeAt leaf inside cov below under keep trim h
 check m q r = checkOf m q r
 
 -- what is printed; to unfold it is to unfold all that these compute with
-unfoldable pub print : (file bytes : List ℕ) → List ℕ
+unfoldable pub print : List ℕ → List ℕ
 unfolding fieldAt width fieldsTo bodyAt markOf typeShapes expressionShapes statementShapes tab optionOf memberOf typeInnerOf levelHandles
     modeHandles levelOf modeOf expressionOf caseOf statementOf typeOf resultOf argOf typedOf stOf one many counted pairs elem casesAfter
     unemitted rangeIn resultIn patternAfter codeAfter taken operands scopeOf emit emitBy opened grown stageOf typesWith globalsWith added
@@ -78,4 +77,4 @@ unfolding fieldAt width fieldsTo bodyAt markOf typeShapes expressionShapes state
     answers writeRecord writeRecords writeTotal writeTotals Rattle.pruner.specs.Form.writeBody writePruner digits number textFrom variablesText
     retvalText contextText recordText recordsText nameOf markText marksText statementsText requiredText reportText refusedText answerBody
     writeAnswer finish check checkText checkLine headsRequest moduleBytes answerText requestText moduleText reportInput
-print s bytes = printed s bytes
+print s = reportInput s
