@@ -5,7 +5,7 @@ use Rattle.module.specs.Module.{Module}
 use Rattle.request.specs.Request.{Request}
 use Rattle.walk.specs.Requests.{Report}
 use Rattle.clearance.specs.Verdict.{Answer}
-use Rattle.field.specs.Field.{fieldAt}
+use Rattle.field.specs.Field.{fieldAt, wordAt}
 use Rattle.part.specs.PartReq.{width}
 use Rattle.module.specs.Record.{fieldsTo, bodyAt, markOf}
 use Rattle.module.specs.Shape.{typeShapes, expressionShapes, statementShapes}
@@ -16,12 +16,13 @@ use Rattle.module.specs.Blocks.{held, heldFrom, allBelow, holdersAbove, heldInA
 use Rattle.module.specs.File.{placed, over, fine, ended, endedAt, bodyNext, markNext, recordNext, readFrom, start, readModule}
 use Rattle.request.specs.Fields.{fields, bytesOf, framed, whole}
 use Rattle.request.specs.Part.{readEntries, readLevel, byCode, readPart, readReturn, readVariables, withCode, writeEntries, writePart, writeReturn, writeVariables}
-use Rattle.request.specs.Context.{writeContextBody}
+use Rattle.request.specs.Context.{readLists, readContextBody, writeContextBody}
 use Rattle.request.specs.Request.{readBody, requestOf, known, judge}
 use Rattle.walk.proofs.Compute.{answers}
-use Rattle.pruner.specs.Form.{writeRecord, writeRecords, writeTotal, writeTotals, writePruner}
+use Rattle.pruner.specs.Form.{writeRecord, writeRecords, writeTotal, writeTotals, writePruner, readRecords}
 use Rattle.lines.specs.Text.{digits, number, textFrom, variablesText, retvalText, contextText, recordText, recordsText, nameOf, markText, marksText, statementsText, requiredText, reportText, refusedText}
 use Rattle.requests.specs.Answer.{answerBody, writeAnswer}
+use Rattle.requests.specs.ReadAnswer.{readAnswer}
 use Rattle.requests.specs.Serve.{finish}
 use Rattle.part.specs.PartReq.{getSubpart, has, within as inPart, contains, merge, onNone, add, entries, depth, over as overPart}
 use Rattle.part.specs.Count.{same as equal, among, eachOnce as eachPart}
@@ -76,5 +77,5 @@ unfolding fieldAt width fieldsTo bodyAt markOf typeShapes expressionShapes state
     writeEntries writePart writeReturn writeVariables writeContextBody readBody requestOf Rattle.request.specs.Request.allBelow known judge
     answers writeRecord writeRecords writeTotal writeTotals Rattle.pruner.specs.Form.writeBody writePruner digits number textFrom variablesText
     retvalText contextText recordText recordsText nameOf markText marksText statementsText requiredText reportText refusedText answerBody
-    writeAnswer finish check checkText checkLine headsRequest moduleBytes answerText requestText moduleText reportInput
+    writeAnswer wordAt Rattle.request.specs.Part.asked readLists readContextBody readRecords Rattle.requests.specs.ReadAnswer.readBody readAnswer finish check checkText checkLine headsRequest moduleBytes answerText requestText moduleText reportInput
 print s = reportInput s

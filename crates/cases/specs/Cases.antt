@@ -21,6 +21,7 @@ use Rattle.walk.specs.State.{atStatement}
 use Rattle.walk.specs.Requests.{Answer, Report, reported, fresh, requests}
 use Rattle.pruner.specs.Form.{minPruner}
 use Rattle.requests.specs.Answer.{minAnswer}
+use Rattle.requests.specs.ReadAnswer.{answeredOf, readAnswer}
 use Rattle.requests.specs.Serve.{visited, refusedAt, Lent, serve}
 use Rattle.clearance.specs.Verdict as verdict
 use Rattle.report_text.specs.Input.{judgedOf, reportInput}
@@ -92,8 +93,9 @@ pub record Cases : Type 0 where
   pub A : reportInput (fileA ++ returnAll) ≡ textA ++ lines ("check clear" ∷ [])
   -- the same where the file has a pointer to the three-vector.
   pub A-pointer : reportInput (pointerFileA ++ returnAll) ≡ textA ++ lines ("check clear" ∷ [])
-  -- The visits, and what is left in the buffers.
+  -- The visits, and what is left in the buffers; a caller reads the answer as the report.
   pub A-buffers : (lent : Lent) → Ready lent → serve fileA returnAll lent ≡ (visited 8, written lent totalsA (1 ∷ 1 ∷ 1 ∷ 1 ∷ []) answerA)
+  pub A-read : readAnswer 4 answerA ≡ some (answeredOf reportA)
   -- Of the module that the file means, and of the report of its walk, the clearance by its definition: clear
   pub A-module : readModule fileA ≡ accepted moduleA
   pub A-walk : answerOf moduleA (asking 0 (some all) none) ≡ (reported reportA ∷ [])
@@ -121,6 +123,7 @@ pub record Cases : Type 0 where
   -- global 0 asked, all: mark 1 is no, not clear at 1.
   pub J : reportInput (fileJ ++ globalAll) ≡ textJ ++ lines ("check stmt 1" ∷ [])
   pub J-buffers : (lent : Lent) → Ready lent → serve fileJ globalAll lent ≡ (visited 7, written lent totalsJ (1 ∷ 0 ∷ 1 ∷ 1 ∷ []) answerJ)
+  pub J-read : readAnswer 4 answerJ ≡ some (answeredOf reportJ)
   -- The clearance by its definition: at 1.
   pub J-module : readModule fileJ ≡ accepted moduleJ
   pub J-walk : answerOf moduleJ (asking 0 nothing (more (variable 0) all none)) ≡ (reported reportJ ∷ [])
