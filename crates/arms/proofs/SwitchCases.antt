@@ -147,7 +147,7 @@ module _ {bytes t types places s rs open-marks totals : List ℕ} {fr : Frame} {
   selector-there kind =
       subst (UsesBelow (length (functionAt m f .expressions)) (entriesBelow f (m .functions)))
       (decoded bytes t f b (fr .statement) (A .within) row (A .is) ∙ ap (λ (k : ℕ). statementOf k o) kind)
-      (uses-below m (module-valid bytes m (A .begins .standing .ready .was-read .module-is)) f (fr .statement))
+      (uses-below m (module-valid bytes m (A .begins .standing .ready .was-read .module-is)) f (fr .statement)) .0
 
   -- the context is counted and copied
   pub outside-few : {r : ℕ} → r ≡ sumFrom (read s rs) at 4 → fr .held + r ≤ maxPieces

@@ -13,7 +13,7 @@ use borrow.Author.Tests.{ne-eqb, eq-eqb}
 use Rattle.field.specs.Limits.{absent}
 use Rattle.part.specs.PartReq.{PartReq, all, exist, over}
 use Rattle.walk.specs.Expression.{Ask, ofOperand}
-use Rattle.valid.proofs.Accepted.{in-range}
+use Rattle.valid.proofs.Lists.{in-range}
 use Rattle.memory.specs.Layout.{allSlot, existSlot}
 use Rattle.memory.specs.Memory.{Memory}
 use Rattle.memory.specs.Want.{asked, Wants, wantOf}

@@ -20,7 +20,8 @@ use Rattle.module.specs.Module.{RayQueryGetIntersection, Override, SubgroupBall
 use Rattle.clearance.specs.Scope.{Scope, inner, kind, isKind, isScalar, isPointer, alike, fits, typed, typeOf, innerOf, isPath}
 use Rattle.clearance.specs.Judged.{every, presently, partType, elementType, pointee, same, samePart, isValue, fitsIndex, hasVectorSize, fitsVariable, fitsExpression, judgedExpression}
 use Rattle.clearance.specs.Rules.{Member, here, later}
-use Rattle.clearance.specs.IsJudged.{expressionKind, ExpressionKinds, Declares, global, local, IndexOf, constant, dynamic, IsPath, MayPoint, aVariable, anIndex, IsValue}
+use Rattle.module.specs.Kinds.{expressionKind}
+use Rattle.clearance.specs.IsJudged.{ExpressionKinds, Declares, global, local, IndexOf, constant, dynamic, IsPath, MayPoint, aVariable, anIndex, IsValue}
 use Rattle.clearance.specs.IsJudged.{TakesValue, asIndex, ofSplat, ofSwizzle, ofCompose, ofUnary, left, right, asCondition, asAccept, asReject, ofRelational, ofMath, ofMath1, ofMath2, ofMath3, ofAs}
 use Rattle.clearance.specs.IsJudged.{Indexes, at, by, ComposedOf, aVector, aMatrix, anArray, aStruct, HoldsUnsized, JudgedExpression, FitExpression}
 use Rattle.clearance.proofs.Small.{cases, both-true, both-are}

@@ -15,7 +15,8 @@ use Rattle.clearance.specs.Scope.{Scope, alike, typeOf, isPath}
 use Rattle.clearance.specs.Tree.{Tree}
 use Rattle.clearance.specs.Judged.{presently, isValue, fitsReturn, fitsStatement, atTop, strays}
 use Rattle.clearance.specs.Rules.{Member}
-use Rattle.clearance.specs.IsJudged.{statementKind, StatementKinds, IsValue, UsesValue, ofIf, ofSwitch, ofLoop, ofReturn, ofStore, JudgedStatement}
+use Rattle.module.specs.Kinds.{statementKind}
+use Rattle.clearance.specs.IsJudged.{StatementKinds, IsValue, UsesValue, ofIf, ofSwitch, ofLoop, ofReturn, ofStore, JudgedStatement}
 use Rattle.clearance.proofs.Small.{both-true, both-are}
 use Rattle.clearance.proofs.Relations.{either-left, either-right, path-exactly, value-exactly}
 use Rattle.clearance.proofs.Strays.{stays-exactly}

@@ -128,13 +128,13 @@ fn type_split(types: &[u32], t: u32) -> Split
 {
     let k = kind_at(types, t);
     if k == 1 {
-        return Split::Into(first_word(types, t));
+        return Split::Into(first_word(types, TypeHandle(t)));
     }
     if k == 2 {
-        return Split::Into(first_word(types, t));
+        return Split::Into(first_word(types, TypeHandle(t)));
     }
     if k == 6 {
-        return Split::Into(first_word(types, t));
+        return Split::Into(first_word(types, TypeHandle(t)));
     }
     Split::Whole
 }

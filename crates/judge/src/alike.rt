@@ -14,6 +14,7 @@ use crate::rows::kind_at;
 use crate::rows::second_word;
 use bindings::types::first_word;
 use bindings::types::word;
+use module::handles::TypeHandle;
 
 // Whether two types are of one kind and have the same sizes.
 fn same_kind(types: &[u32], a: u32, b: u32) -> bool
@@ -25,10 +26,10 @@ fn same_kind(types: &[u32], a: u32, b: u32) -> bool
         return false;
     }
     if k == 1 {
-        return first_word(types, a) == first_word(types, b);
+        return first_word(types, TypeHandle(a)) == first_word(types, TypeHandle(b));
     }
     if k == 2 {
-        if first_word(types, a) != first_word(types, b) {
+        if first_word(types, TypeHandle(a)) != first_word(types, TypeHandle(b)) {
             return false;
         }
         return second_word(types, a) == second_word(types, b);

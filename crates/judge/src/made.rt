@@ -68,7 +68,7 @@ fn fits_swizzle(
     if kind_at(types, a.0) != 1 {
         return false;
     }
-    let within = letters_below(bytes, row, first_word(types, a.0));
+    let within = letters_below(bytes, row, first_word(types, a));
     let sized = is_vector_of(
         types,
         operand(bytes, row, 1) as u32,
@@ -89,7 +89,7 @@ fn component_count(types: &[u32], a: TypeHandle) -> u32
         return 1;
     }
     if k == 1 {
-        return first_word(types, a.0);
+        return first_word(types, a);
     }
     0
 }
@@ -165,7 +165,7 @@ fn fits_compose(
     if k == 1 {
         return both(
             values,
-            joins(bytes, t, f, types, row, first_word(types, a.0)),
+            joins(bytes, t, f, types, row, first_word(types, a)),
         );
     }
     if part_count(types, a) != operand(bytes, row, 0) as u32 {

@@ -10,12 +10,13 @@ use bindings::types::is_base;
 use bindings::types::type_kind;
 use bindings::types::word;
 use context::remove::TYPE_WORDS;
+use module::handles::TypeHandle;
 
 // The kind of the type t: a number that is no other kind's is an opaque type's.
 pub fn kind_at(types: &[u32], t: u32) -> u32
     ensures { λ r. ⌜ r ≡ getD (kind (getD (typesOf (now (types .entry))) t Opaque)) 0 0 ⌝ }
 {
-    let k = type_kind(types, t);
+    let k = type_kind(types, TypeHandle(t));
     if 8 < k {
         return 8;
     }
@@ -35,7 +36,7 @@ pub fn base_count(types: &[u32], t: u32) -> u32
 {
     let k = kind_at(types, t);
     if k == 6 {
-        return first_word(types, t);
+        return first_word(types, TypeHandle(t));
     }
     if is_base(k) {
         return 1;
@@ -51,5 +52,5 @@ pub fn base_at(types: &[u32], t: u32, i: u32) -> u32
     if kind_at(types, t) == 6 {
         return word(types, TYPE_WORDS * (t as usize) + (2 + 2 * (i as usize)));
     }
-    first_word(types, t)
+    first_word(types, TypeHandle(t))
 }

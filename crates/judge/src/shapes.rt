@@ -29,7 +29,7 @@ pub fn is_vector_of(types: &[u32], n: u32, b: TypeHandle) -> bool
     if kind_at(types, b.0) != 1 {
         return false;
     }
-    n == first_word(types, b.0)
+    n == first_word(types, b)
 }
 
 // Whether what a dynamic index of the type a gives is of b's shape.
@@ -47,7 +47,7 @@ pub fn same_element(types: &[u32], alike: &[u32], a: TypeHandle, b: TypeHandle) 
         return is_vector_of(types, second_word(types, a.0), b);
     }
     if k == 5 {
-        return is_alike(alike, TypeHandle(first_word(types, a.0)), b);
+        return is_alike(alike, TypeHandle(first_word(types, a)), b);
     }
     false
 }
@@ -61,13 +61,13 @@ pub fn part_count(types: &[u32], a: TypeHandle) -> u32
         return second_word(types, a.0);
     }
     if k == 1 {
-        return first_word(types, a.0);
+        return first_word(types, a);
     }
     if k == 2 {
-        return first_word(types, a.0);
+        return first_word(types, a);
     }
     if k == 6 {
-        return first_word(types, a.0);
+        return first_word(types, a);
     }
     0
 }
@@ -94,7 +94,7 @@ pub fn pointee(types: &[u32], a: TypeHandle) -> TypeHandle
     ensures { λ r. ⌜ Pointee (now (types .entry)) (a .0) (r .0) ⌝ }
 {
     if kind_at(types, a.0) == 4 {
-        return TypeHandle(first_word(types, a.0));
+        return TypeHandle(first_word(types, a));
     }
     a
 }

@@ -18,6 +18,7 @@ use crate::rows::kind_at;
 use crate::rows::second_word;
 use bindings::types::first_word;
 use bindings::types::word;
+use module::handles::TypeHandle;
 
 // Whether the type t is itself an array of count 0 or a binding array.
 fn is_unsized(types: &[u32], t: u32) -> bool
@@ -86,7 +87,7 @@ pub fn holds_either(types: &[u32], table: &[u32], t: u32) -> bool
         return true;
     }
     if kind_at(types, t) == 4 {
-        return word(table, first_word(types, t) as usize) == 1;
+        return word(table, first_word(types, TypeHandle(t)) as usize) == 1;
     }
     false
 }

@@ -1,5 +1,6 @@
 pub mod Cases
 pub mod Counted
+pub mod Each
 pub mod Fields
 pub mod Modules
 pub mod Records

@@ -3,6 +3,7 @@ pub mod Blocks
 pub mod Checks
 pub mod Decode
 pub mod File
+pub mod Kinds
 pub mod Knot
 pub mod Marks
 pub mod Module
@@ -13,3 +14,4 @@ pub mod Record
 pub mod Scan
 pub mod Shape
 pub mod Tables
+pub mod Way

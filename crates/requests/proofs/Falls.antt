@@ -308,7 +308,7 @@ module _ (m : Module) (fr : Frame) (inside : InModule m (here fr)) where
     statement-falls entries (Emit first last) st u = goes
     statement-falls entries (Block b) st u = nested-falls b st
     statement-falls entries (If condition accept reject) st u = if-falls condition accept reject st u
-    statement-falls entries (Switch selector cases) st u = switch-falls selector cases st u
+    statement-falls entries (Switch selector cases) st u = switch-falls selector cases st (u .0)
     statement-falls entries (Loop body continuing breakIf) st u = loop-falls body continuing breakIf st u
     statement-falls entries Break st u = goes
     statement-falls entries Continue st u = goes

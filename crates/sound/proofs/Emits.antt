@@ -1,26 +1,27 @@
--- No expression stands in two emits, so that a function's marks are at most two for each statement and one for each expression. The flags of what has been emitted
+-- A function's marks are at most two for each statement and one for each expression, since no expression stands in two emits. The flags of what has been emitted
 -- are counted while the function is read, by the rule of reading (`valid`, proofs/Records).
 use mathlib.Core.Path.{_≡_, refl, sym, ap, _∙_}
-use mathlib.Core.Bool.{Bool, true, false, not, cond, false≢true, _&&_}
+use mathlib.Core.Bool.{Bool, true, false, not, false≢true, _&&_}
 use mathlib.Core.List.{List, [], _∷_, _++_}
 use mathlib.Core.Option.{some}
 use Prim.Native.Nat.{ℕ, zero, suc, _+_, _*_, _-_, _<_, _≤_}
 use native.Mathlib.Omega.{arith}
-use lib.Dec.{ltb, leb, eqb}
+use lib.Dec.{ltb, leb}
 use lib.ListN.{length, getD, set, length-append, length-set}
 use lib.Seq.{getD-set-other}
 use borrow.Author.Tests.{ltb-true, leb-true, ne-eqb, not-true}
-use Rattle.module.specs.Module.{Statement, Break, Function, Module}
+use Rattle.module.specs.Module.{Statement, Function, Module}
 use Rattle.module.specs.declared.record.Mark.{Mark}
 use Rattle.module.specs.declared.record.Mark.the-variants.{TY, GV, FN, AR, LV, EX, BK, ST}
 use Rattle.module.specs.Marks.{markCount, marksBefore}
 use Rattle.module.specs.Decode.{statementOf, typedOf, stOf}
 use Rattle.module.specs.Reading.{Reading, scopeOf, emit, emitBy, opened, grown, added, closed}
-use Rattle.module.specs.Operands.{Scope, Left, given, unemitted, rangeIn, taken, onLeft, operands}
+use Rattle.module.specs.Operands.{Scope, unemitted, rangeIn, taken, operands}
 use Rattle.module.specs.Shape.{statementShapes}
 use Rattle.module.specs.File.{fine, accepted, start, readModule}
-use Rattle.valid.proofs.Fits.{and-left, and-right}
-use Rattle.valid.proofs.Decoded.{by-number, statementsBy}
+use Rattle.module.proofs.Each.{each}
+use Rattle.valid.proofs.Fits.{and-left, and-right, given-true}
+use Rattle.valid.proofs.Emits.{emitBy-length}
 use Rattle.valid.proofs.Records.{opens, withLast, Before, Keeps, kept}
 
 -- how many flags are set
@@ -57,11 +58,6 @@ unemitted-set bs e k (suc n) l =
     let other : e ≡ k → ⊥ = λ q. absurd (omega arith) in
     rw (getD-set-other bs e k true false (λ q. absurd (omega arith)), unemitted-set bs e (suc k) n (omega arith))
 
-emit-length : (bs : List Bool) (e n : ℕ) → length (emit bs e n) ≡ length bs
-unfolding emit
-emit-length bs e zero = refl
-emit-length bs e (suc n) = emit-length (set bs e true) (suc e) n ∙ length-set bs e true
-
 emit-ticked : (bs : List Bool) (e n : ℕ) → unemitted bs e n ≡ true → e + n ≤ length bs → ticked (emit bs e n) ≡ ticked bs + n
 unfolding emit unemitted
 emit-ticked bs e zero h l = omega arith
@@ -82,23 +78,11 @@ marks-more (x ∷ ss) s = omega (arith, marks-more ss s)
 
 -- every statement but an emit, of kind 0
 few-marks : (o : ℕ → ℕ) (kind : ℕ) → (kind ≡ 0 → ⊥) → markCount (statementOf kind o) ≤ 2
-unfolding statementOf statementsBy markCount
+unfolding statementOf markCount
 few-marks o =
-    by-number (λ k x. (k ≡ 0 → ⊥) → markCount x ≤ 2) (statementsBy o) Break
+    each (λ k. (k ≡ 0 → ⊥) → markCount (statementOf k o) ≤ 2) 21
     (λ h. absurd (h refl), (λ h. omega arith, (λ h. omega arith, (λ h. omega arith, (λ h. omega arith, (λ h. omega arith, (λ h. omega arith, (λ h. omega arith, (λ h. omega arith, (λ h. omega arith, (λ h. omega arith, (λ h. omega arith, (λ h. omega arith, (λ h. omega arith, (λ h. omega arith, (λ h. omega arith, (λ h. omega arith, (λ h. omega arith, (λ h. omega arith, (λ h. omega arith, (λ h. omega arith, tt)))))))))))))))))))))
     (λ k h. omega arith)
-
-given-true : (b : Bool) (l : Left) (k : List ℕ → Bool) → onLeft (given b l) k ≡ true → b ≡ true
-given-true true l k h = refl
-given-true false l k h = h
-
-emitBy-length : (fs : List ℕ) (bs : List Bool) → length (emitBy fs bs) ≡ length bs
-unfolding emitBy
-emitBy-length fs bs = go (eqb (getD fs 0 0) 0)
-  where
-    go : (b : Bool) → length (cond b (emit bs (getD fs 1 0) (suc (getD fs 2 0) - getD fs 1 0)) bs) ≡ length bs
-    go true = emit-length bs (getD fs 1 0) (suc (getD fs 2 0) - getD fs 1 0)
-    go false = refl
 
 -- a statement that is allowed sets as many flags as an emit has marks
 statement-marks : (s : Scope) (fs : List ℕ) → length (s .emitted) ≡ s .expressions → fine ST s fs ≡ true → ticked (s .emitted) + markCount (stOf fs) ≤ ticked (emitBy fs (s .emitted)) + 2
@@ -108,7 +92,7 @@ statement-marks s (zero ∷ []) l h = absurd (false≢true h)
 statement-marks s (zero ∷ first ∷ []) l h = absurd (false≢true h)
 statement-marks s (zero ∷ first ∷ last ∷ xs) l h =
     let free = unemitted (s .emitted) first (suc last - first) in
-    let t = given-true (leb first last && (ltb last (s .expressions) && free)) (some xs) (operands [] s) h in
+    let t = given-true (leb first last && (ltb last (s .expressions) && free)) (some xs) (operands [] s) h .0 in
     let u = and-right (leb first last) (ltb last (s .expressions) && free) t in
     let low = ltb-true last (s .expressions) (and-left (ltb last (s .expressions)) free u) in
     let up = leb-true first last (and-left (leb first last) (ltb last (s .expressions) && free) t) in

@@ -11,7 +11,7 @@ use borrow.Author.Tests.{lt-ltb}
 use Rattle.module.specs.Module.{ExpressionHandle, FunctionHandle, BlockHandle, Function, Module, SampleLevel, Auto, Zero, Exact, Bias, Gradient, Expression, Literal, ZeroValue, WorkGroupUniformLoadResult, AccessIndex, Access, Constant, Splat, Swizzle, Compose, FunctionArgument, GlobalVariable, LocalVariable, Load, ImageSample, ImageLoad, ImageQuery, Unary, Binary, Select, Derivative, Relational, Math, As, CallResult, AtomicResult, ArrayLength, RayQueryProceedResult, RayQueryGetIntersection, Override, SubgroupBallotResult, SubgroupOperationResult, RayQueryVertexPositions, Statement, Emit, Block, If, Switch, Loop, Break, Continue, Return, Kill, ControlBarrier, MemoryBarrier, ImageAtomic, Store, AtomicStatement, Call, ImageStore, RayQuery, WorkGroupUniformLoad, SubgroupBallot, SubgroupGather, SubgroupCollectiveOperation}
 use Rattle.module.specs.Blocks.{held, allBelow}
 use Rattle.valid.specs.Valid.{EachBelow, MaybeBelow, LevelBelow, OperandsBelow, UsesBelow, entriesBelow, Valid}
-use Rattle.valid.proofs.Accepted.{in-range}
+use Rattle.valid.proofs.Lists.{in-range}
 use Rattle.valid.proofs.Uses.{callable, held-below}
 use Rattle.walk.specs.Resolve.{functionAt, expressionAt}
 use Rattle.walk.specs.Marks.{statementAt, blockAt}

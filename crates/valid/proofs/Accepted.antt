@@ -1,16 +1,15 @@
 -- Every record that is allowed leaves what has been read valid, and so a module that is accepted is valid: by the marks for one
 -- record, then by the rule of reading (proofs/Records).
-use mathlib.Core.Path.{_≡_, refl, sym, ap, _∙_, subst, fun-ext}
+use mathlib.Core.Path.{_≡_, refl, sym, ap, subst, fun-ext}
 use mathlib.Core.Bool.{Bool, true, false, not, cond, false≢true, _&&_, _||_}
 use mathlib.Core.List.{List, [], _∷_, _++_, map}
 use mathlib.Core.Option.{Option, some, none as nothing}
-use mathlib.Core.Logic.{⊎-elim}
-use Prim.Native.Nat.{ℕ, zero, suc, _+_, _-_, _<_, _≤_}
-use native.Mathlib.Nat.{add-zero, eq-or-lt-of-le, le-of-suc-le-suc, le-refl, le-trans}
+use Prim.Native.Nat.{ℕ, suc, _+_, _<_, _≤_}
+use native.Mathlib.Nat.{le-refl}
 use native.Mathlib.Omega.{arith}
 use lib.Dec.{ltb, leb, eqb}
-use lib.ListN.{length, getD, length-append, List·getD-append, List·getD-eq-default}
-use lib.Seq.{getD-at, take-append-le, take-at}
+use lib.ListN.{length, getD}
+use lib.Seq.{take-append-le, take-at}
 use borrow.Author.Tests.{ltb-true, ltb-false, leb-false, not-false, eqb-true, eq-eqb, le-leb}
 use Rattle.field.specs.Limits.{absent, maxTypes, maxGlobals, maxFunctions, maxArguments, maxMembers, maxComponents, maxLocals, maxExpressions, maxStatements}
 use Rattle.module.specs.Module.{Typed, Statement, BlockRange, FunctionArg, FunctionResult, Function, Module}
@@ -24,45 +23,14 @@ use Rattle.module.specs.Blocks.{blockRule}
 use Rattle.module.specs.File.{over, fine, placed, accepted, start, readModule}
 use Rattle.module.proofs.Tab.{length-tab, getD-tab}
 use Rattle.valid.specs.Valid.{All, TypeValid, ExpressionValid, StatementValid, PartsValid, FunctionValid, MaybeBelow, ResultBelow, entriesBelow, Valid}
+use Rattle.valid.proofs.Lists.{length-one-more, all-more, more-length}
+use Rattle.valid.proofs.Starts.{Starts, range-within, ranges-apart, in-one, more-starts, starts-further}
+use Rattle.valid.proofs.Emits.{Flagged, no-emits, expression-more, statement-more}
+use Rattle.valid.proofs.Cases.{or-left, or-right}
 use Rattle.valid.proofs.Fits.{numbers, and-left, and-right, fits}
 use Rattle.valid.proofs.Further.{further, names-further, uses-further}
 use Rattle.valid.proofs.Records.{opens, moduleIn, Before, Keeps, kept}
 use Rattle.valid.proofs.Decoded.{maybe, type-fine, expression-fine, names-fine, statement-fine, members-within, components-within, arguments-within}
-
--- Lists, element by element.
-module _ {A : Type 0} where
-  length-one-more : (xs : List A) (x : A) → length (xs ++ (x ∷ [])) ≡ suc (length xs)
-  length-one-more xs x = length-append xs (x ∷ []) ∙ omega arith
-
-  at-last : (P : ℕ → A → Type 0) (xs : List A) (x d : A) (i : ℕ) → i ≡ length xs → P (length xs) x → P i (getD (xs ++ (x ∷ [])) i d)
-  at-last P xs x d i e z =
-      subst (λ (j : ℕ). P j (getD (xs ++ (x ∷ [])) j d)) (sym e)
-      (subst (λ (y : A). P (length xs) y) (sym (getD-at xs x [] d (length xs) refl)) z)
-
-  all-more : (P : ℕ → A → Type 0) (xs : List A) (x : A) → All P xs → P (length xs) x → All P (xs ++ (x ∷ []))
-  all-more P xs x h z i d l =
-      ⊎-elim
-      (λ e. at-last P xs x d i e z)
-      (λ m. subst (λ (y : A). P i y) (sym (List·getD-append xs (x ∷ []) d i m)) (h i d m))
-      (eq-or-lt-of-le (le-of-suc-le-suc (rw length-one-more at l)))
-
-  more-length : (xs : List A) (x : A) → length xs ≤ length (xs ++ (x ∷ []))
-  more-length xs x = rw length-one-more (omega arith)
-
--- in range it does not matter what stands for what there is not
-pub in-range : {A : Type 0} (xs : List A) (i : ℕ) (c d : A) → i < length xs → getD xs i c ≡ getD xs i d
-in-range [] i c d l = absurd (omega arith)
-in-range (x ∷ xs) zero c d l = refl
-in-range (x ∷ xs) (suc i) c d l = in-range xs i c d (le-of-suc-le-suc l)
-
--- Tests.
-or-left : (a b : Bool) → (a || b) ≡ false → a ≡ false
-or-left true b h = h
-or-left false b h = refl
-
-or-right : (a b : Bool) → (a || b) ≡ false → b ≡ false
-or-right true b h = absurd (false≢true (sym h))
-or-right false b h = h
 
 -- a count that is not over its limit, where the kind has one
 within : (k c n most : ℕ) → (eqb k c && ltb most n) ≡ false → k ≡ c → n ≤ most
@@ -162,16 +130,13 @@ function-further {f = f} p q v =
       result = result-further (f .result) p (v .result);
       blocks = v .blocks;
       ranges = v .ranges;
+      emits = v .emits;
+      in-blocks = v .in-blocks;
       apart = v .apart;
     }
 
 abbrev OpenValid : (types globals : ℕ) → List Bool → Open → Type 0
 OpenValid types globals entries f = PartsValid types globals entries (f .arguments) (f .locals) (f .expressions) (f .statements)
-
--- the first statements of n blocks: none before the one of the block before, none past the m statements
-pub record Starts (starts : List ℕ) (m : ℕ) : Type 0 where
-  pub within : (b : ℕ) → b < length starts → getD starts b 0 ≤ m
-  pub ascend : (b : ℕ) → suc b < length starts → getD starts b 0 ≤ getD starts (suc b) 0
 
 -- of an open function: there is room for it, and its result is there
 abbrev HeadValid : Reading → Type 0
@@ -181,63 +146,9 @@ pub record ReadValid (r : Reading) : Type 0 where
   pub whole : Valid (moduleIn r)
   pub one : OpenValid (length (r .types)) (length (r .globals)) (map (λ f. f .entry) (r .functions)) (r .open-one)
   pub starts : Starts (r .open-one .starts) (length (r .open-one .statements))
+  pub emits : Flagged (r .open-one .emitted) (length (r .open-one .expressions)) (r .open-one .statements)
+  pub block : eqb (r .stage) inBlocks ≡ true → 0 < length (r .open-one .starts)
   pub space : leb inArguments (r .stage) ≡ true → HeadValid r
-
--- the statements of a block are the function's
-range-within : (starts : List ℕ) (m b : ℕ) → Starts starts m → b < length starts → rangeOf starts m b .first + rangeOf starts m b .count ≤ m
-unfolding rangeOf
-range-within starts m b v l =
-    ⊎-elim
-    (λ e.
-    let past : getD starts (suc b) m ≡ m = List·getD-eq-default starts m (omega arith) in
-    let low = v .within b l in
-    subst (λ (k : ℕ). getD starts b 0 + (k - getD starts b 0) ≤ m) (sym past) (omega arith))
-    (λ n.
-    let same = in-range starts (suc b) m 0 n in
-    let high = v .within (suc b) n in
-    let low = v .ascend b n in
-    subst (λ (k : ℕ). getD starts b 0 + (k - getD starts b 0) ≤ m) (sym same) (omega arith))
-    (eq-or-lt-of-le l)
-
--- and they come before those of a later block
-starts-before : (starts : List ℕ) (m : ℕ) → Starts starts m → (k a : ℕ) → suc (a + k) < length starts → getD starts (suc a) 0 ≤ getD starts (suc (a + k)) 0
-starts-before starts m v zero a l = rw add-zero (le-refl (getD starts (suc a) 0))
-starts-before starts m v (suc k) a l =
-    let before = starts-before starts m v k a (omega arith) in
-    let step = v .ascend (suc (a + k)) (omega arith) in
-    let same : suc (a + suc k) ≡ suc (suc (a + k)) = omega arith in
-    rw same (le-trans before step)
-
-ranges-apart : (starts : List ℕ) (m a b : ℕ) → Starts starts m → a < b → b < length starts → rangeOf starts m a .first + rangeOf starts m a .count ≤ rangeOf starts m b .first
-unfolding rangeOf
-ranges-apart starts m a b v l h =
-    let next : suc a < length starts = omega arith in
-    let same = in-range starts (suc a) m 0 next in
-    let low = v .ascend a next in
-    let here : suc (a + (b - suc a)) ≡ b = omega arith in
-    let far : getD starts (suc a) 0 ≤ getD starts b 0 = subst (λ (k : ℕ). getD starts (suc a) 0 ≤ getD starts k 0) here (starts-before starts m v (b - suc a) a (omega arith)) in
-    subst (λ (k : ℕ). getD starts a 0 + (k - getD starts a 0) ≤ getD starts b 0) (sym same) (omega arith)
-
-more-starts : (starts : List ℕ) (m : ℕ) → Starts starts m → Starts (starts ++ (m ∷ [])) m
-more-starts starts m v =
-    record {
-      within = λ b l. all-more (λ i x. x ≤ m) starts m (λ i d k. subst (λ (x : ℕ). x ≤ m) (in-range starts i 0 d k) (v .within i k)) (le-refl m) b 0 l;
-      ascend = λ b l.
-          let k : suc b ≤ length starts = le-of-suc-le-suc (rw length-one-more at l) in
-          let here : getD (starts ++ (m ∷ [])) b 0 ≡ getD starts b 0 = List·getD-append starts (m ∷ []) 0 b k in
-          ⊎-elim
-          (λ e.
-          subst (λ (x : ℕ). x ≤ getD (starts ++ (m ∷ [])) (suc b) 0) (sym here)
-          (at-last (λ i x. getD starts b 0 ≤ x) starts m 0 (suc b) e (v .within b k)))
-          (λ n.
-          let there : getD (starts ++ (m ∷ [])) (suc b) 0 ≡ getD starts (suc b) 0 = List·getD-append starts (m ∷ []) 0 (suc b) n in
-          let h = v .ascend b n in
-          rw (here, there) h)
-          (eq-or-lt-of-le k);
-    }
-
-starts-further : {starts : List ℕ} {m n : ℕ} → m ≤ n → Starts starts m → Starts starts n
-starts-further l v = record { within = λ b k. le-trans (v .within b k) l; ascend = v .ascend }
 
 -- a function with its head alone
 opened-valid : (t g : ℕ) (entries : List Bool) (fs : List ℕ) → OpenValid t g entries (opened fs)
@@ -254,9 +165,19 @@ opened-valid t g entries fs =
       few-statements = omega arith;
     }
 
-opened-starts : (fs : List ℕ) (m : ℕ) → Starts (opened fs .starts) m
+opened-starts : (fs : List ℕ) → Starts (opened fs .starts) (length (opened fs .statements))
 unfolding opened
-opened-starts fs m = record { within = λ b l. absurd (omega arith); ascend = λ b l. absurd (omega arith) }
+opened-starts fs =
+    record {
+      within = λ b l. absurd (omega arith);
+      ascend = λ b l. absurd (omega arith);
+      first = refl;
+      some-block = λ l. absurd (omega arith);
+    }
+
+opened-emits : (fs : List ℕ) → Flagged (opened fs .emitted) (length (opened fs .expressions)) (opened fs .statements)
+unfolding opened
+opened-emits fs = no-emits
 
 -- where a function ends
 module _ (r : Reading) (v : ReadValid r) where
@@ -272,13 +193,15 @@ module _ (r : Reading) (v : ReadValid r) where
             subst
             (λ (x : BlockRange). x .first + x .count ≤ length (r .open-one .statements))
             (sym (getD-tab (length (r .open-one .starts)) (rangeOf (r .open-one .starts) (length (r .open-one .statements))) b d k))
-            (range-within (r .open-one .starts) (length (r .open-one .statements)) b (v .starts) k);
+            (range-within (r .open-one .starts) (length (r .open-one .statements)) (v .starts) b k);
+        emits = v .emits .once;
+        in-blocks = λ s l. in-one (r .open-one .starts) (length (r .open-one .statements)) (v .starts) s l;
         apart = λ a b d l h.
             let n = length (r .open-one .starts) in
             let range = rangeOf (r .open-one .starts) (length (r .open-one .statements)) in
             let k : b < n = rw length-tab at h in
             rw (getD-tab n range a d (omega arith), getD-tab n range b d k)
-            (ranges-apart (r .open-one .starts) (length (r .open-one .statements)) a b (v .starts) l k);
+            (ranges-apart (r .open-one .starts) (length (r .open-one .statements)) (v .starts) a b l k);
       }
 
   functions-more : ResultBelow (length (r .types)) (r .open-one .result) → blockRule (closed (r .open-one)) ≡ true → All (λ f. FunctionValid (length (r .types)) (length (r .globals)) (entriesBelow f (r .functions ++ (closed (r .open-one) ∷ [])))) (r .functions ++ (closed (r .open-one) ∷ []))
@@ -327,7 +250,7 @@ Ready AR r = Inside r
 Ready LV r = Inside r
 Ready EX r = Inside r
 Ready BK r = Inside r
-Ready ST r = Inside r
+Ready ST r = Inside r × (0 < length (r .open-one .starts))
 
 ready : (mark : Mark) (r : Reading) → Before ReadValid EndedValid mark r → placed mark (r .stage) ≡ true → Ready mark r
 unfolding placed
@@ -340,7 +263,7 @@ ready LV r v p = record { read = v; inside = and-left (leb inArguments (r .stage
 ready EX r v p = record { read = v; inside = and-left (leb inArguments (r .stage)) _ p }
 ready BK r v p = record { read = v; inside = p }
 ready ST r v p =
-    record { read = v; inside = le-leb inArguments (r .stage) (omega (arith, eqb-true (r .stage) inBlocks p)) }
+    (record { read = v; inside = le-leb inArguments (r .stage) (omega (arith, eqb-true (r .stage) inBlocks p)) }, v .block p)
 
 -- a result that a head gives
 result-cond : (t x y : ℕ) (b : Bool) → (b || ltb x t) ≡ true → belowOrAbsent bindings y ≡ true → ResultBelow t (cond b nothing (some (record { type = x; binding = optionOf y })))
@@ -372,6 +295,8 @@ module _ (fs : List ℕ) (r : Reading) where
             };
         one = parts-further l (le-refl _) (v .one);
         starts = v .starts;
+        emits = v .emits;
+        block = λ e. absurd (false≢true e);
         space = λ e. absurd (false≢true e);
       }
 
@@ -394,6 +319,8 @@ module _ (fs : List ℕ) (r : Reading) where
             };
         one = parts-further (le-refl _) l (v .one);
         starts = v .starts;
+        emits = v .emits;
+        block = λ e. absurd (false≢true e);
         space = λ e. absurd (false≢true e);
       }
 
@@ -403,7 +330,9 @@ module _ (fs : List ℕ) (r : Reading) where
       record {
         whole = v;
         one = opened-valid (length (r .types)) (length (r .globals)) (map (λ f. f .entry) (r .functions)) fs;
-        starts = opened-starts fs (length (opened fs .statements));
+        starts = opened-starts fs;
+        emits = opened-emits fs;
+        block = λ e. absurd (false≢true e);
         space = λ e.
             (room (length (r .functions)) maxFunctions o, result-read (length (r .types)) fs (fits (flag ∷ result ∷ []) (scopeOf r) fs h .1 .0));
       }
@@ -432,6 +361,8 @@ module _ (fs : List ℕ) (r : Reading) where
               few-statements = v .one .few-statements;
             };
         starts = v .starts;
+        emits = v .emits;
+        block = λ e. absurd (false≢true e);
         space = λ e. v .space (w .inside);
       }
 
@@ -457,6 +388,8 @@ module _ (fs : List ℕ) (r : Reading) where
               few-statements = v .one .few-statements;
             };
         starts = v .starts;
+        emits = v .emits;
+        block = λ e. absurd (false≢true e);
         space = λ e. v .space (w .inside);
       }
 
@@ -488,6 +421,8 @@ module _ (fs : List ℕ) (r : Reading) where
               few-statements = v .one .few-statements;
             };
         starts = v .starts;
+        emits = expression-more (length-one-more (r .open-one .expressions) (typedOf fs)) (v .emits);
+        block = λ e. absurd (false≢true e);
         space = λ e. v .space (w .inside);
       }
 
@@ -499,13 +434,15 @@ module _ (fs : List ℕ) (r : Reading) where
         whole = v .whole;
         one = v .one;
         starts = more-starts (r .open-one .starts) (length (r .open-one .statements)) (v .starts);
+        emits = v .emits;
+        block = λ e. omega (arith, length-one-more (r .open-one .starts) (length (r .open-one .statements)));
         space = λ e. v .space (w .inside);
       }
 
-  more-statements : Inside r → over ST (scopeOf r) fs ≡ false → fine ST (scopeOf r) fs ≡ true → ReadValid (added ST fs r)
+  more-statements : Inside r × (0 < length (r .open-one .starts)) → over ST (scopeOf r) fs ≡ false → fine ST (scopeOf r) fs ≡ true → ReadValid (added ST fs r)
   unfolding added typesWith globalsWith grown stageOf scopeOf over
   more-statements w o h =
-      let v = w .read in
+      let v = w .0 .read in
       let x = statement-valid (scopeOf r) fs o h in
       record {
         whole = v .whole;
@@ -528,8 +465,10 @@ module _ (fs : List ℕ) (r : Reading) where
                   subst (λ (n : ℕ). n ≤ maxStatements) (sym (length-one-more (r .open-one .statements) (stOf fs)))
                   (room (length (r .open-one .statements)) maxStatements (or-left (leb maxStatements (length (r .open-one .statements))) _ o));
             };
-        starts = starts-further (more-length (r .open-one .statements) (stOf fs)) (v .starts);
-        space = λ e. v .space (w .inside);
+        starts = starts-further (more-length (r .open-one .statements) (stOf fs)) (w .1) (v .starts);
+        emits = statement-more (scopeOf r) fs (r .open-one .statements) (v .emits) h;
+        block = λ e. w .1;
+        space = λ e. v .space (w .0 .inside);
       }
 
 added-valid : (mark : Mark) (fs : List ℕ) (r : Reading) → Ready mark r → over mark (scopeOf r) fs ≡ false → fine mark (scopeOf r) fs ≡ true → ReadValid (added mark fs r)
@@ -556,7 +495,9 @@ start-valid =
             few-functions = omega arith;
           };
       one = opened-valid 0 0 [] [];
-      starts = opened-starts [] (length (opened [] .statements));
+      starts = opened-starts [];
+      emits = opened-emits [];
+      block = λ e. absurd (false≢true e);
       space = λ e. absurd (false≢true e);
     }
 

@@ -1,7 +1,8 @@
--- What the decoding of allowed fields gives is fine: the kinds of a list of constructors, each by what fits its shape.
-use mathlib.Core.Path.{_≡_, refl, subst}
-use mathlib.Core.Bool.{Bool, true, false, cond, _||_}
-use mathlib.Core.List.{List, [], _∷_}
+-- What the decoding of allowed fields gives is fine: kind by kind, each by what fits its shape.
+use mathlib.Core.Path.{_≡_, refl, sym, ap, _∙_, subst, fun-ext}
+use mathlib.Core.Bool.{Bool, true, false, cond, false≢true, _||_}
+use mathlib.Core.Logic.{_⊎_, inl, inr}
+use mathlib.Core.List.{[], _∷_}
 use mathlib.Core.Option.{some, none as nothing}
 use Prim.Native.Nat.{ℕ, zero, suc, _+_, _*_, _<_, _≤_}
 use native.Mathlib.Omega.{arith}
@@ -9,23 +10,15 @@ use lib.Dec.{ltb, leb, eqb}
 use lib.ListN.{length, getD}
 use borrow.Author.Tests.{ltb-true, leb-true, not-true}
 use Rattle.field.specs.Limits.{absent, maxMembers, maxComponents, maxArguments}
-use Rattle.module.specs.Module.{Member, TypeInner, Scalar, Vector, Matrix, Atomic, Pointer, Array, Struct, BindingArray, Opaque, Expression, Literal, ZeroValue, WorkGroupUniformLoadResult, AccessIndex, Access, Constant, Splat, Swizzle, Compose, FunctionArgument, GlobalVariable, LocalVariable, Load, ImageSample, ImageLoad, ImageQuery, Unary, Binary, Select, Derivative, Relational, Math, As, CallResult, AtomicResult, ArrayLength, RayQueryProceedResult, RayQueryGetIntersection, Override, SubgroupBallotResult, SubgroupOperationResult, RayQueryVertexPositions, Statement, Emit, Block, If, Switch, Loop, Break, Continue, Return, Kill, ControlBarrier, MemoryBarrier, ImageAtomic, Store, AtomicStatement, Call, ImageStore, RayQuery, WorkGroupUniformLoad, SubgroupBallot, SubgroupGather, SubgroupCollectiveOperation}
+use Rattle.module.specs.Module.{Member, SwitchCase}
 use Rattle.module.specs.Shape.{never, typeShapes, expressionShapes, statementShapes, typeShape, expressionShape, statementShape}
 use Rattle.module.specs.Decode.{tab, optionOf, memberOf, levelHandles, modeHandles, levelOf, modeOf, caseOf, typeInnerOf, expressionOf, statementOf}
-use Rattle.module.specs.Operands.{Scope, below, belowOrAbsent, twoToFour, bindings}
+use Rattle.module.specs.Operands.{Scope, elem, below, belowOrAbsent, twoToFour, bindings}
+use Rattle.module.proofs.Each.{each}
 use Rattle.module.proofs.Tab.{length-tab, getD-tab}
-use Rattle.valid.specs.Valid.{EachBelow, MaybeBelow, LevelBelow, ModeBelow, TypeFine, OperandsBelow, MembersWithin, ComponentsWithin, NamesBelow, UsesBelow, ArgumentsWithin}
+use Rattle.valid.specs.Valid.{EachBelow, MaybeBelow, LevelBelow, ModeBelow, TypeFine, OperandsBelow, MembersWithin, ComponentsWithin, NamesBelow, CasesFine, UsesBelow, ArgumentsWithin}
 use Rattle.valid.proofs.Fits.{Fits, and-left, and-right}
-
--- something of each element of a list and of its number
-abbrev pub ByNumber : {A : Type 0} → (ℕ → A → Type 0) → List A → Type 0
-ByNumber P [] = Unit {0}
-ByNumber P (x ∷ xs) = P 0 x × ByNumber (λ k. P (suc k)) xs
-
-pub by-number : {A : Type 0} (P : ℕ → A → Type 0) (xs : List A) (d : A) → ByNumber P xs → ((k : ℕ) → P k d) → (k : ℕ) → P k (getD xs k d)
-by-number P [] d h z k = z k
-by-number P (x ∷ xs) d h z zero = h .0
-by-number P (x ∷ xs) d h z (suc k) = by-number (λ j. P (suc j)) xs d (h .1) (λ j. z (suc j)) k
+use Rattle.valid.proofs.Cases.{CasesRead}
 
 maybe-cond : (n x : ℕ) (b : Bool) → (b || ltb x n) ≡ true → MaybeBelow n (cond b nothing (some x))
 maybe-cond n x true h = tt
@@ -58,81 +51,6 @@ mode-fine n zero x a = tt
 mode-fine n (suc zero) x a = ltb-true x n (a (omega arith))
 mode-fine n (suc (suc code)) x a = tt
 
--- The kinds in their order, as the decoding has them.
-unfoldable typesBy : (ℕ → ℕ) → List TypeInner
-typesBy o =
-    (Scalar
-    ∷ Vector (o 0)
-    ∷ Matrix (o 0) (o 1)
-    ∷ Atomic
-    ∷ Pointer (o 0)
-    ∷ Array (o 0) (o 1)
-    ∷ Struct (tab (o 0) (memberOf o))
-    ∷ BindingArray (o 0)
-    ∷ Opaque
-    ∷ [])
-
-unfoldable expressionsBy : (ℕ → ℕ) → List Expression
-expressionsBy o =
-    (Literal
-    ∷ ZeroValue
-    ∷ WorkGroupUniformLoadResult
-    ∷ AccessIndex (o 0) (o 1)
-    ∷ Access (o 0) (o 1)
-    ∷ Constant
-    ∷ Splat (o 0)
-    ∷ Swizzle (o 0) (tab (o 1) (λ i. o (2 + i)))
-    ∷ Compose (tab (o 0) (λ i. o (1 + i)))
-    ∷ FunctionArgument (o 0)
-    ∷ GlobalVariable (o 0)
-    ∷ LocalVariable (o 0)
-    ∷ Load (o 0)
-    ∷ ImageSample (o 0) (o 1) (o 2) (optionOf (o 3)) (levelOf (o 4) (o 5) (o 6)) (optionOf (o (5 + getD levelHandles (o 4) 0)))
-    ∷ ImageLoad (o 0) (o 1) (optionOf (o 2)) (optionOf (o 3)) (optionOf (o 4))
-    ∷ ImageQuery (o 0) (optionOf (o 1))
-    ∷ Unary (o 0)
-    ∷ Binary (o 0) (o 1)
-    ∷ Select (o 0) (o 1) (o 2)
-    ∷ Derivative (o 0)
-    ∷ Relational (o 0)
-    ∷ Math (o 0) (optionOf (o 1)) (optionOf (o 2)) (optionOf (o 3))
-    ∷ As (o 0)
-    ∷ CallResult
-    ∷ AtomicResult
-    ∷ ArrayLength (o 0)
-    ∷ RayQueryProceedResult
-    ∷ RayQueryGetIntersection (o 0)
-    ∷ Override
-    ∷ SubgroupBallotResult
-    ∷ SubgroupOperationResult
-    ∷ RayQueryVertexPositions
-    ∷ [])
-
-unfoldable pub statementsBy : (ℕ → ℕ) → List Statement
-statementsBy o =
-    (Emit (o 0) (o 1)
-    ∷ Block (o 0)
-    ∷ If (o 0) (o 1) (o 2)
-    ∷ Switch (o 0) (tab (o 1) (caseOf o))
-    ∷ Loop (o 0) (o 1) (optionOf (o 2))
-    ∷ Break
-    ∷ Continue
-    ∷ Return (optionOf (o 0))
-    ∷ Kill
-    ∷ ControlBarrier
-    ∷ MemoryBarrier
-    ∷ ImageAtomic
-    ∷ Store (o 0) (o 1)
-    ∷ AtomicStatement (o 0) (o 1) (optionOf (o 2))
-    ∷ Call (o 0) (tab (o 1) (λ i. o (2 + i))) (optionOf (o (2 + o 1)))
-    ∷ ImageStore (o 0) (o 1) (optionOf (o 2)) (o 3)
-    ∷ RayQuery (o 0)
-    ∷ WorkGroupUniformLoad (o 0) (o 1)
-    ∷ SubgroupBallot (o 0) (optionOf (o 1))
-    ∷ SubgroupGather (modeOf (o 0) (o 1)) (o (1 + getD modeHandles (o 0) 0)) (o (2 + getD modeHandles (o 0) 0))
-    ∷ SubgroupCollectiveOperation (o 0) (o 1)
-    ∷ [])
-
 module _ (s : Scope) (o : ℕ → ℕ) where
   members-fine : ((i : ℕ) → i < o 0 → (below (s .types) (o (1 + 2 * i)) ≡ true) × (belowOrAbsent bindings (o (2 + 2 * i)) ≡ true)) → (i : ℕ) (d : Member) → i < length (tab (o 0) (memberOf o)) → (getD (tab (o 0) (memberOf o)) i d .type < s .types) × MaybeBelow bindings (getD (tab (o 0) (memberOf o)) i d .binding)
   unfolding memberOf
@@ -141,9 +59,9 @@ module _ (s : Scope) (o : ℕ → ℕ) where
       rw (getD-tab (o 0) (memberOf o) i d m) (ltb-true (o (1 + 2 * i)) (s .types) (h i m .0), maybe bindings (o (2 + 2 * i)) (h i m .1))
 
   pub type-fine : (kind : ℕ) → Fits (typeShape kind) s o → TypeFine (s .types) (typeInnerOf kind o)
-  unfolding typeInnerOf typeShapes typesBy
+  unfolding typeInnerOf typeShapes
   type-fine =
-      by-number (λ k x. Fits (getD typeShapes k (never ∷ [])) s o → TypeFine (s .types) x) (typesBy o) Opaque
+      each (λ k. Fits (getD typeShapes k (never ∷ [])) s o → TypeFine (s .types) (typeInnerOf k o)) 9
       (λ h. tt, (λ h. sized (o 0) (h .0), (λ h. (sized (o 0) (h .0), sized (o 1) (h .1 .0)), (λ h. tt, (λ h. ltb-true (o 0) (s .types) (h .0), (λ h. (ltb-true (o 0) (s .types) (h .0), ltb-true (o 1) absent (h .1 .0)), (λ h. members-fine (h .0), (λ h. ltb-true (o 0) (s .types) (h .0), (λ h. tt, tt)))))))))
       (λ k h. tt)
 
@@ -160,6 +78,35 @@ module _ (s : Scope) (o : ℕ → ℕ) where
       let n = s .expressions in
       let e : 1 + (1 + (1 + (1 + (1 + getD levelHandles (o 4) 0 + 0)))) ≡ 5 + getD levelHandles (o 4) 0 = omega arith in
       (ltb-true (o 0) n (h .0), ltb-true (o 1) n (h .1 .0), ltb-true (o 2) n (h .1 .1 .0), maybe n (o 3) (h .1 .1 .1 .0), level-fine n (o 4) (o 5) (o 6) (λ l. h .1 .1 .1 .1 .0 .1 0 l) (λ l. h .1 .1 .1 .1 .0 .1 1 l), maybe n (o (5 + getD levelHandles (o 4) 0)) (subst (λ (k : ℕ). belowOrAbsent n (o k) ≡ true) e (h .1 .1 .1 .1 .1 .0)))
+
+  switch-fine : Fits (statementShape 3) s o → (o 0 < s .expressions) × CasesFine (tab (o 1) (caseOf o))
+  unfolding statementShapes caseOf elem
+  switch-fine h = (ltb-true (o 0) (s .expressions) (h .0), cases-fine (subst (CasesRead [] (o 1)) (fun-ext (λ i. ap o (e i))) (h .1 .0)))
+    where
+      e : (i : ℕ) → 1 + (1 + 2 * i) ≡ 2 + 2 * i
+      e i = omega arith
+
+      value-at : (i : ℕ) (d : SwitchCase) → i < o 1 → getD (tab (o 1) (caseOf o)) i d .value ≡ o (2 + 2 * i)
+      value-at i d l = ap (λ (c : SwitchCase). c .value) (getD-tab (o 1) (caseOf o) i d l)
+
+      long : length (tab (o 1) (caseOf o)) ≡ o 1
+      long = length-tab (o 1) (caseOf o)
+
+      default-fine : ((elem absent [] ≡ true) ⊎ ((i : ℕ) × ((i < o 1) × (o (2 + 2 * i) ≡ absent)))) → (i : ℕ) × ((i < o 1) × (o (2 + 2 * i) ≡ absent))
+      default-fine (inl h) = absurd (false≢true h)
+      default-fine (inr h) = h
+
+      cases-fine : CasesRead [] (o 1) (λ i. o (2 + 2 * i)) → CasesFine (tab (o 1) (caseOf o))
+      cases-fine c =
+          let one = default-fine (c .default) in
+          record {
+            distinct = λ i j d k l q.
+                let m : j < o 1 = omega (arith, long) in
+                c .distinct i j k m (sym (value-at i d (omega arith)) ∙ (q ∙ value-at j d m));
+            default = one .0;
+            default-there = omega (arith, long, one .1 .0);
+            default-is = λ d. value-at (one .0) d (one .1 .0) ∙ one .1 .1;
+          }
 
   call-fine : Fits (statementShape 14) s o → (getD (s .entries) (o 0) true ≡ false) × EachBelow (s .expressions) (tab (o 1) (λ i. o (2 + i))) × MaybeBelow (s .expressions) (optionOf (o (2 + o 1)))
   unfolding statementShapes
@@ -179,44 +126,44 @@ module _ (s : Scope) (o : ℕ → ℕ) where
       (mode-fine n (o 0) (o 1) (λ l. h .0 .1 0 l), ltb-true (o (1 + w)) n (subst (λ (k : ℕ). ltb (o k) n ≡ true) e (h .1 .0)), ltb-true (o (2 + w)) n (subst (λ (k : ℕ). ltb (o k) n ≡ true) g (h .1 .1 .0)))
 
   pub expression-fine : (kind : ℕ) → Fits (expressionShape kind) s o → OperandsBelow (s .expressions) (expressionOf kind o)
-  unfolding expressionOf expressionShapes expressionsBy
+  unfolding expressionOf expressionShapes
   expression-fine =
-      by-number (λ k x. Fits (getD expressionShapes k (never ∷ [])) s o → OperandsBelow (s .expressions) x) (expressionsBy o) Literal
+      each (λ k. Fits (getD expressionShapes k (never ∷ [])) s o → OperandsBelow (s .expressions) (expressionOf k o)) 32
       (λ h. tt, (λ h. tt, (λ h. tt, (λ h. (ltb-true (o 0) (s .expressions) (h .0), ltb-true (o 1) absent (h .1 .0)), (λ h. (ltb-true (o 0) (s .expressions) (h .0), ltb-true (o 1) (s .expressions) (h .1 .0)), (λ h. tt, (λ h. ltb-true (o 0) (s .expressions) (h .0), (λ h. swizzle-fine h, (λ h. each-tab (s .expressions) (o 0) (λ i. o (1 + i)) (h .0), (λ h. tt, (λ h. tt, (λ h. tt, (λ h. ltb-true (o 0) (s .expressions) (h .0), (λ h. sample-fine h, (λ h. (ltb-true (o 0) (s .expressions) (h .0), ltb-true (o 1) (s .expressions) (h .1 .0), maybe (s .expressions) (o 2) (h .1 .1 .0), maybe (s .expressions) (o 3) (h .1 .1 .1 .0), maybe (s .expressions) (o 4) (h .1 .1 .1 .1 .0)), (λ h. (ltb-true (o 0) (s .expressions) (h .0), maybe (s .expressions) (o 1) (h .1 .0)), (λ h. ltb-true (o 0) (s .expressions) (h .0), (λ h. (ltb-true (o 0) (s .expressions) (h .0), ltb-true (o 1) (s .expressions) (h .1 .0)), (λ h. (ltb-true (o 0) (s .expressions) (h .0), ltb-true (o 1) (s .expressions) (h .1 .0), ltb-true (o 2) (s .expressions) (h .1 .1 .0)), (λ h. ltb-true (o 0) (s .expressions) (h .0), (λ h. ltb-true (o 0) (s .expressions) (h .0), (λ h. (ltb-true (o 0) (s .expressions) (h .0), maybe (s .expressions) (o 1) (h .1 .0), maybe (s .expressions) (o 2) (h .1 .1 .0), maybe (s .expressions) (o 3) (h .1 .1 .1 .0)), (λ h. ltb-true (o 0) (s .expressions) (h .0), (λ h. tt, (λ h. tt, (λ h. ltb-true (o 0) (s .expressions) (h .0), (λ h. tt, (λ h. ltb-true (o 0) (s .expressions) (h .0), (λ h. tt, (λ h. tt, (λ h. tt, (λ h. tt, tt))))))))))))))))))))))))))))))))
       (λ k h. tt)
 
   pub names-fine : (kind : ℕ) → Fits (expressionShape kind) s o → NamesBelow (s .globals) (s .arguments) (s .locals) (expressionOf kind o)
-  unfolding expressionOf expressionShapes expressionsBy
+  unfolding expressionOf expressionShapes
   names-fine =
-      by-number (λ k x. Fits (getD expressionShapes k (never ∷ [])) s o → NamesBelow (s .globals) (s .arguments) (s .locals) x) (expressionsBy o) Literal
+      each (λ k. Fits (getD expressionShapes k (never ∷ [])) s o → NamesBelow (s .globals) (s .arguments) (s .locals) (expressionOf k o)) 32
       (λ h. tt, (λ h. tt, (λ h. tt, (λ h. tt, (λ h. tt, (λ h. tt, (λ h. tt, (λ h. tt, (λ h. tt, (λ h. ltb-true (o 0) (s .arguments) (h .0), (λ h. ltb-true (o 0) (s .globals) (h .0), (λ h. ltb-true (o 0) (s .locals) (h .0), (λ h. tt, (λ h. tt, (λ h. tt, (λ h. tt, (λ h. tt, (λ h. tt, (λ h. tt, (λ h. tt, (λ h. tt, (λ h. tt, (λ h. tt, (λ h. tt, (λ h. tt, (λ h. tt, (λ h. tt, (λ h. tt, (λ h. tt, (λ h. tt, (λ h. tt, (λ h. tt, tt))))))))))))))))))))))))))))))))
       (λ k h. tt)
 
   pub statement-fine : (kind : ℕ) → Fits (statementShape kind) s o → UsesBelow (s .expressions) (s .entries) (statementOf kind o)
-  unfolding statementOf statementShapes statementsBy
+  unfolding statementOf statementShapes
   statement-fine =
-      by-number (λ k x. Fits (getD statementShapes k (never ∷ [])) s o → UsesBelow (s .expressions) (s .entries) x) (statementsBy o) Break
-      (λ h. (leb-true (o 0) (o 1) (h .0 .0), ltb-true (o 1) (s .expressions) (h .0 .1)), (λ h. tt, (λ h. ltb-true (o 0) (s .expressions) (h .0), (λ h. ltb-true (o 0) (s .expressions) (h .0), (λ h. maybe (s .expressions) (o 2) (h .1 .1 .0), (λ h. tt, (λ h. tt, (λ h. maybe (s .expressions) (o 0) (h .0), (λ h. tt, (λ h. tt, (λ h. tt, (λ h. tt, (λ h. (ltb-true (o 0) (s .expressions) (h .0), ltb-true (o 1) (s .expressions) (h .1 .0)), (λ h. (ltb-true (o 0) (s .expressions) (h .0), ltb-true (o 1) (s .expressions) (h .1 .0), maybe (s .expressions) (o 2) (h .1 .1 .0)), (λ h. call-fine h, (λ h. (ltb-true (o 0) (s .expressions) (h .0), ltb-true (o 1) (s .expressions) (h .1 .0), maybe (s .expressions) (o 2) (h .1 .1 .0), ltb-true (o 3) (s .expressions) (h .1 .1 .1 .0)), (λ h. ltb-true (o 0) (s .expressions) (h .0), (λ h. (ltb-true (o 0) (s .expressions) (h .0), ltb-true (o 1) (s .expressions) (h .1 .0)), (λ h. (ltb-true (o 0) (s .expressions) (h .0), maybe (s .expressions) (o 1) (h .1 .0)), (λ h. gather-fine h, (λ h. (ltb-true (o 0) (s .expressions) (h .0), ltb-true (o 1) (s .expressions) (h .1 .0)), tt)))))))))))))))))))))
+      each (λ k. Fits (getD statementShapes k (never ∷ [])) s o → UsesBelow (s .expressions) (s .entries) (statementOf k o)) 21
+      (λ h. (leb-true (o 0) (o 1) (h .0 .0), ltb-true (o 1) (s .expressions) (h .0 .1)), (λ h. tt, (λ h. ltb-true (o 0) (s .expressions) (h .0), (λ h. switch-fine h, (λ h. maybe (s .expressions) (o 2) (h .1 .1 .0), (λ h. tt, (λ h. tt, (λ h. maybe (s .expressions) (o 0) (h .0), (λ h. tt, (λ h. tt, (λ h. tt, (λ h. tt, (λ h. (ltb-true (o 0) (s .expressions) (h .0), ltb-true (o 1) (s .expressions) (h .1 .0)), (λ h. (ltb-true (o 0) (s .expressions) (h .0), ltb-true (o 1) (s .expressions) (h .1 .0), maybe (s .expressions) (o 2) (h .1 .1 .0)), (λ h. call-fine h, (λ h. (ltb-true (o 0) (s .expressions) (h .0), ltb-true (o 1) (s .expressions) (h .1 .0), maybe (s .expressions) (o 2) (h .1 .1 .0), ltb-true (o 3) (s .expressions) (h .1 .1 .1 .0)), (λ h. ltb-true (o 0) (s .expressions) (h .0), (λ h. (ltb-true (o 0) (s .expressions) (h .0), ltb-true (o 1) (s .expressions) (h .1 .0)), (λ h. (ltb-true (o 0) (s .expressions) (h .0), maybe (s .expressions) (o 1) (h .1 .0)), (λ h. gather-fine h, (λ h. (ltb-true (o 0) (s .expressions) (h .0), ltb-true (o 1) (s .expressions) (h .1 .0)), tt)))))))))))))))))))))
       (λ k h. tt)
 
   -- 4 of the counts: of members, of components, of arguments
   pub members-within : (kind : ℕ) → (kind ≡ 6 → o 0 ≤ maxMembers) → MembersWithin (typeInnerOf kind o)
-  unfolding typeInnerOf typesBy
+  unfolding typeInnerOf
   members-within =
-      by-number (λ k x. (k ≡ 6 → o 0 ≤ maxMembers) → MembersWithin x) (typesBy o) Opaque
+      each (λ k. (k ≡ 6 → o 0 ≤ maxMembers) → MembersWithin (typeInnerOf k o)) 9
       (λ h. tt, (λ h. tt, (λ h. tt, (λ h. tt, (λ h. tt, (λ h. tt, (λ h. rw length-tab (h refl), (λ h. tt, (λ h. tt, tt)))))))))
       (λ k h. tt)
 
   pub components-within : (kind : ℕ) → (kind ≡ 8 → o 0 ≤ maxComponents) → ComponentsWithin (expressionOf kind o)
-  unfolding expressionOf expressionsBy
+  unfolding expressionOf
   components-within =
-      by-number (λ k x. (k ≡ 8 → o 0 ≤ maxComponents) → ComponentsWithin x) (expressionsBy o) Literal
+      each (λ k. (k ≡ 8 → o 0 ≤ maxComponents) → ComponentsWithin (expressionOf k o)) 32
       (λ h. tt, (λ h. tt, (λ h. tt, (λ h. tt, (λ h. tt, (λ h. tt, (λ h. tt, (λ h. tt, (λ h. rw length-tab (h refl), (λ h. tt, (λ h. tt, (λ h. tt, (λ h. tt, (λ h. tt, (λ h. tt, (λ h. tt, (λ h. tt, (λ h. tt, (λ h. tt, (λ h. tt, (λ h. tt, (λ h. tt, (λ h. tt, (λ h. tt, (λ h. tt, (λ h. tt, (λ h. tt, (λ h. tt, (λ h. tt, (λ h. tt, (λ h. tt, (λ h. tt, tt))))))))))))))))))))))))))))))))
       (λ k h. tt)
 
   pub arguments-within : (kind : ℕ) → (kind ≡ 14 → o 1 ≤ maxArguments) → ArgumentsWithin (statementOf kind o)
-  unfolding statementOf statementsBy
+  unfolding statementOf
   arguments-within =
-      by-number (λ k x. (k ≡ 14 → o 1 ≤ maxArguments) → ArgumentsWithin x) (statementsBy o) Break
+      each (λ k. (k ≡ 14 → o 1 ≤ maxArguments) → ArgumentsWithin (statementOf k o)) 21
       (λ h. tt, (λ h. tt, (λ h. tt, (λ h. tt, (λ h. tt, (λ h. tt, (λ h. tt, (λ h. tt, (λ h. tt, (λ h. tt, (λ h. tt, (λ h. tt, (λ h. tt, (λ h. tt, (λ h. rw length-tab (h refl), (λ h. tt, (λ h. tt, (λ h. tt, (λ h. tt, (λ h. tt, (λ h. tt, tt)))))))))))))))))))))
       (λ k h. tt)

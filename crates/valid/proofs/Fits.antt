@@ -9,9 +9,11 @@ use native.Mathlib.Omega.{arith}
 use lib.Dec.{ltb, leb, eqb}
 use lib.ListN.{getD, drop}
 use lib.Seq.{getD-drop, drop-drop}
+use borrow.Author.Tests.{not-true}
 use Rattle.field.specs.Limits.{absent}
 use Rattle.module.specs.Decode.{levelHandles, modeHandles}
 use Rattle.module.specs.Shape.{Operand, expression, optional, index, list, pattern, level, mode, argument, global, local, block, cases, function, range, type, size, members, binding, flag, result, never}
+use Rattle.valid.proofs.Cases.{CasesRead, cases-none, cases-more}
 use Rattle.module.specs.Operands.{Scope, Left, given, one, then, many, counted, below, belowOrAbsent, twoToFour, bindings, pairs, elem, casesAfter, unemitted, rangeIn, resultIn, patternAfter, codeAfter, taken, onLeft, operands}
 
 -- the operands from k on
@@ -58,7 +60,7 @@ Fit argument s o = below (s .arguments) (o 0) ≡ true
 Fit global s o = below (s .globals) (o 0) ≡ true
 Fit local s o = below (s .locals) (o 0) ≡ true
 Fit block s o = Unit {0}
-Fit cases s o = Unit {0}
+Fit cases s o = CasesRead [] (o 0) (λ i. o (1 + 2 * i))
 Fit function s o = not (getD (s .entries) (o 0) true) ≡ true
 Fit range s o = (leb (o 0) (o 1) ≡ true) × (ltb (o 1) (s .expressions) ≡ true)
 Fit type s o = below (s .types) (o 0) ≡ true
@@ -82,7 +84,7 @@ pub and-right : (a b : Bool) → (a && b) ≡ true → b ≡ true
 and-right true b h = h
 and-right false b h = absurd (false≢true h)
 
-given-true : (b : Bool) (l : Left) (k : List ℕ → Bool) → onLeft (given b l) k ≡ true → (b ≡ true) × (onLeft l k ≡ true)
+pub given-true : (b : Bool) (l : Left) (k : List ℕ → Bool) → onLeft (given b l) k ≡ true → (b ≡ true) × (onLeft l k ≡ true)
 given-true true l k h = (refl, h)
 given-true false l k h = absurd (false≢true h)
 
@@ -145,15 +147,26 @@ pairs-fits p q (suc n) xs k h =
       sym (ap k (ap (drop (2 * n)) two ∙ drop-drop (2 * n) 2 xs ∙ ap (λ (m : ℕ). drop m xs) g)) ∙ t .1,
     )
 
-cases-fits : (earlier : List ℕ) (n : ℕ) (xs : List ℕ) (k : List ℕ → Bool) → onLeft (casesAfter earlier n xs) k ≡ true → k (drop (2 * n) xs) ≡ true
+-- the values stand at every second field
+values-after : (earlier : List ℕ) (n v b : ℕ) (xs : List ℕ) → CasesRead earlier n (λ i. numbers xs (2 * i)) → CasesRead earlier n (λ i. numbers (v ∷ b ∷ xs) (2 * suc i))
+values-after earlier n v b xs =
+    let e : (i : ℕ) → suc (suc (2 * i)) ≡ 2 * suc i = λ i. omega arith in
+    subst (CasesRead earlier n) (fun-ext (λ i. ap (numbers (v ∷ b ∷ xs)) (e i)))
+
+cases-fits : (earlier : List ℕ) (n : ℕ) (xs : List ℕ) (k : List ℕ → Bool) → onLeft (casesAfter earlier n xs) k ≡ true → CasesRead earlier n (λ i. numbers xs (2 * i)) × (k (drop (2 * n) xs) ≡ true)
 unfolding casesAfter
-cases-fits earlier zero xs k h = given-true (elem absent earlier) (some xs) k h .1
+cases-fits earlier zero xs k h =
+    let a = given-true (elem absent earlier) (some xs) k h in
+    (cases-none earlier (λ i. numbers xs (2 * i)) (a .0), a .1)
 cases-fits earlier (suc n) [] k h = absurd (false≢true h)
 cases-fits earlier (suc n) (v ∷ []) k h = absurd (false≢true h)
 cases-fits earlier (suc n) (v ∷ b ∷ xs) k h =
     let a = given-true (not (elem v earlier)) (casesAfter (v ∷ earlier) n xs) k h in
-    let g : 2 + 2 * n ≡ 2 * suc n = omega arith in
-    sym (ap k (drop-drop (2 * n) 2 (v ∷ b ∷ xs) ∙ ap (λ (m : ℕ). drop m (v ∷ b ∷ xs)) g)) ∙ cases-fits (v ∷ earlier) n xs k (a .1)
+    let c = cases-fits (v ∷ earlier) n xs k (a .1) in
+    let g : 2 + 2 * n ≡ 2 * suc n = omega arith in (
+      cases-more earlier n (λ i. numbers (v ∷ b ∷ xs) (2 * i)) (not-true (elem v earlier) (a .0)) (values-after (v ∷ earlier) n v b xs (c .0)),
+      sym (ap k (drop-drop (2 * n) 2 (v ∷ b ∷ xs) ∙ ap (λ (m : ℕ). drop m (v ∷ b ∷ xs)) g)) ∙ c .1,
+    )
 
 range-fits : (n : ℕ) (emitted : List Bool) (xs : List ℕ) (k : List ℕ → Bool) → onLeft (rangeIn n emitted xs) k ≡ true → ((leb (numbers xs 0) (numbers xs 1) ≡ true) × (ltb (numbers xs 1) n ≡ true)) × (k (drop 2 xs) ≡ true)
 unfolding rangeIn
@@ -206,7 +219,8 @@ class-fits global s xs k h = one-fits (below (s .globals)) xs k h
 class-fits local s xs k h = one-fits (below (s .locals)) xs k h
 class-fits block s xs k h = (tt, one-fits (λ x. true) xs k h .1)
 class-fits cases s xs k h =
-    (tt, sym (ap k (drop-drop (2 * numbers xs 0) 1 xs)) ∙ cases-fits [] (numbers xs 0) (drop 1 xs) k (counted-fits (casesAfter []) xs k h))
+    let a = cases-fits [] (numbers xs 0) (drop 1 xs) k (counted-fits (casesAfter []) xs k h) in
+    (subst (CasesRead [] (numbers xs 0)) (fun-ext (λ i. getD-drop 1 xs (2 * i) 0)) (a .0), sym (ap k (drop-drop (2 * numbers xs 0) 1 xs)) ∙ a .1)
 class-fits function s xs k h = one-fits (λ x. not (getD (s .entries) x true)) xs k h
 class-fits range s xs k h = range-fits (s .expressions) (s .emitted) xs k h
 class-fits type s xs k h = one-fits (below (s .types)) xs k h

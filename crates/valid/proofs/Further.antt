@@ -57,7 +57,7 @@ pub uses-further : (x : Statement) (entries : List Bool) {m n : ℕ} → m ≤ n
 uses-further (Emit first last) entries l h = (h .0, further (h .1) l)
 uses-further (Block b) entries l h = tt
 uses-further (If condition accept reject) entries l h = further h l
-uses-further (Switch selector cases) entries l h = further h l
+uses-further (Switch selector cases) entries l h = (further (h .0) l, h .1)
 uses-further (Loop body continuing breakIf) entries l h = maybe-further breakIf h l
 uses-further Break entries l h = tt
 uses-further Continue entries l h = tt

@@ -1,6 +1,10 @@
 pub mod Accepted
+pub mod Cases
 pub mod Decoded
+pub mod Emits
 pub mod Fits
 pub mod Further
+pub mod Lists
 pub mod Records
+pub mod Starts
 pub mod Uses

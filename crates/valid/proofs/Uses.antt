@@ -14,7 +14,7 @@ use Rattle.module.specs.Module.{BlockHandle, BlockRange, Statement, Break, Func
 use Rattle.module.specs.Blocks.{held, heldFrom, heldIn, allBelow, holdersAbove, blockRule}
 use Rattle.valid.specs.Valid.{EachBelow, entriesBelow}
 use Rattle.valid.proofs.Fits.{and-left, and-right}
-use Rattle.valid.proofs.Accepted.{in-range}
+use Rattle.valid.proofs.Lists.{in-range}
 
 -- a flag that is not the default stands in the list
 in-list : (bs : List Bool) (g : ℕ) → getD bs g true ≡ false → g < length bs

@@ -1,5 +1,7 @@
 -- What reading guarantees of a module: "No reference to nothing", an operand "below that of its expression; likewise types and called
--- functions", "a block's number is below its holder's", and the limits.
+-- functions", "a block's number is below its holder's, each held once", each statement in a block, "no expression in two emits, no call of
+-- an entry", "a switch has one default (65535), distinct values", and the limits. What a module cannot say is left out: the records' order,
+-- a result's binding without its type.
 use mathlib.Core.Path.{_≡_}
 use mathlib.Core.Bool.{Bool, true, false}
 use mathlib.Core.List.{List, map}
@@ -7,7 +9,7 @@ use mathlib.Core.Option.{Option, some, none as nothing}
 use Prim.Native.Nat.{ℕ, _+_, _<_, _≤_}
 use lib.ListN.{length, getD, take}
 use Rattle.field.specs.Limits.{absent, maxTypes, maxGlobals, maxFunctions, maxArguments, maxMembers, maxComponents, maxLocals, maxExpressions, maxStatements}
-use Rattle.module.specs.Module.{Member, TypeInner, Scalar, Vector, Matrix, Atomic, Pointer, Array, Struct, BindingArray, Opaque, SampleLevel, Auto, Zero, Exact, Bias, Gradient, GatherMode, BroadcastFirst, Broadcast, Expression, Literal, ZeroValue, WorkGroupUniformLoadResult, AccessIndex, Access, Constant, Splat, Swizzle, Compose, FunctionArgument, GlobalVariable, LocalVariable, Load, ImageSample, ImageLoad, ImageQuery, Unary, Binary, Select, Derivative, Relational, Math, As, CallResult, AtomicResult, ArrayLength, RayQueryProceedResult, RayQueryGetIntersection, Override, SubgroupBallotResult, SubgroupOperationResult, RayQueryVertexPositions, Statement, Emit, Block, If, Switch, Loop, Break, Continue, Return, Kill, ControlBarrier, MemoryBarrier, ImageAtomic, Store, AtomicStatement, Call, ImageStore, RayQuery, WorkGroupUniformLoad, SubgroupBallot, SubgroupGather, SubgroupCollectiveOperation, Typed, FunctionArg, FunctionResult, BlockRange, Function, Module}
+use Rattle.module.specs.Module.{Member, TypeInner, Scalar, Vector, Matrix, Atomic, Pointer, Array, Struct, BindingArray, Opaque, SampleLevel, Auto, Zero, Exact, Bias, Gradient, GatherMode, BroadcastFirst, Broadcast, Expression, Literal, ZeroValue, WorkGroupUniformLoadResult, AccessIndex, Access, Constant, Splat, Swizzle, Compose, FunctionArgument, GlobalVariable, LocalVariable, Load, ImageSample, ImageLoad, ImageQuery, Unary, Binary, Select, Derivative, Relational, Math, As, CallResult, AtomicResult, ArrayLength, RayQueryProceedResult, RayQueryGetIntersection, Override, SubgroupBallotResult, SubgroupOperationResult, RayQueryVertexPositions, SwitchCase, Statement, Emit, Block, If, Switch, Loop, Break, Continue, Return, Kill, ControlBarrier, MemoryBarrier, ImageAtomic, Store, AtomicStatement, Call, ImageStore, RayQuery, WorkGroupUniformLoad, SubgroupBallot, SubgroupGather, SubgroupCollectiveOperation, Typed, FunctionArg, FunctionResult, BlockRange, Function, Module}
 use Rattle.module.specs.Operands.{bindings}
 use Rattle.module.specs.Blocks.{blockRule}
 
@@ -161,13 +163,21 @@ NamesBelow globals arguments locals SubgroupBallotResult = Unit {0}
 NamesBelow globals arguments locals SubgroupOperationResult = Unit {0}
 NamesBelow globals arguments locals RayQueryVertexPositions = Unit {0}
 
+-- A switch has one default (65535) and distinct values; so it has a case, and no second default. That no case falls through into another is the
+-- block rule: each has a block of its own.
+pub record CasesFine (cases : List SwitchCase) : Type 0 where
+  pub distinct : (i j : ℕ) (d : SwitchCase) → i < j → j < length cases → getD cases i d .value ≡ getD cases j d .value → ⊥
+  pub default : ℕ
+  pub default-there : default < length cases
+  pub default-is : (d : SwitchCase) → getD cases default d .value ≡ absent
+
 -- A statement of a function with n expressions, where `entries` says of each lower function whether it is an entry: a called
 -- function is lower and is none. Of blocks the block rule speaks.
 abbrev pub UsesBelow : (n : ℕ) → (entries : List Bool) → Statement → Type 0
 UsesBelow n entries (Emit first last) = (first ≤ last) × (last < n)
 UsesBelow n entries (Block b) = Unit {0}
 UsesBelow n entries (If condition accept reject) = condition < n
-UsesBelow n entries (Switch selector cases) = selector < n
+UsesBelow n entries (Switch selector cases) = (selector < n) × CasesFine cases
 UsesBelow n entries (Loop body continuing breakIf) = MaybeBelow n breakIf
 UsesBelow n entries Break = Unit {0}
 UsesBelow n entries Continue = Unit {0}
@@ -213,6 +223,22 @@ ArgumentsWithin (SubgroupCollectiveOperation argument result) = Unit {0}
 abbrev pub All : {A : Type 0} → (ℕ → A → Type 0) → List A → Type 0
 All {A} P xs = (i : ℕ) (d : A) → i < length xs → P i (getD xs i d)
 
+-- the expression e stands in an emit
+pub data Emits (e : ℕ) : Statement → Type 0 where
+  emits : {first last : ℕ} → first ≤ e → e ≤ last → Emits e (Emit first last)
+
+-- no expression stands in two of them
+abbrev pub EmittedOnce : List Statement → Type 0
+EmittedOnce statements =
+    (e i j : ℕ) (d : Statement) → i < j → j < length statements → Emits e (getD statements i d) → Emits e (getD statements j d) → ⊥
+
+-- the statement s stands in one of these blocks
+pub record InBlock (blocks : List BlockRange) (s : ℕ) : Type 0 where
+  pub block : ℕ
+  pub there : block < length blocks
+  pub from : (d : BlockRange) → getD blocks block d .first ≤ s
+  pub to : (d : BlockRange) → s < getD blocks block d .first + getD blocks block d .count
+
 pub record ExpressionValid (types globals arguments locals e : ℕ) (x : Typed) : Type 0 where
   pub type : x .type < types
   pub operands : OperandsBelow e (x .expression)
@@ -244,6 +270,8 @@ pub record FunctionValid (types globals : ℕ) (entries : List Bool) (f : Functi
   pub result : ResultBelow types (f .result)
   pub blocks : blockRule f ≡ true
   pub ranges : All (λ b x. x .first + x .count ≤ length (f .statements)) (f .blocks)
+  pub emits : EmittedOnce (f .statements)
+  pub in-blocks : (s : ℕ) → s < length (f .statements) → InBlock (f .blocks) s
   pub apart : (a b : ℕ) (d : BlockRange) → a < b → b < length (f .blocks) → getD (f .blocks) a d .first + getD (f .blocks) a d .count ≤ getD (f .blocks) b d .first
 
 pub record TypeValid (n : ℕ) (x : TypeInner) : Type 0 where
