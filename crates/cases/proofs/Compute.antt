@@ -5,8 +5,7 @@ use Rattle.module.specs.Module.{Module}
 use Rattle.request.specs.Request.{Request}
 use Rattle.walk.specs.Requests.{Report}
 use Rattle.clearance.specs.Verdict.{Answer}
-use Rattle.cases.specs.Cases.{printed}
-use Rattle.field.specs.Field.{fieldAt}
+use Rattle.field.specs.Field.{fieldAt, wordAt}
 use Rattle.part.specs.PartReq.{width}
 use Rattle.module.specs.Record.{fieldsTo, bodyAt, markOf}
 use Rattle.module.specs.Shape.{typeShapes, expressionShapes, statementShapes}
@@ -17,12 +16,13 @@ use Rattle.module.specs.Blocks.{held, heldFrom, allBelow, holdersAbove, heldInA
 use Rattle.module.specs.File.{placed, over, fine, ended, endedAt, bodyNext, markNext, recordNext, readFrom, start, readModule}
 use Rattle.request.specs.Fields.{fields, bytesOf, framed, whole}
 use Rattle.request.specs.Part.{readEntries, readLevel, byCode, readPart, readReturn, readVariables, withCode, writeEntries, writePart, writeReturn, writeVariables}
-use Rattle.request.specs.Context.{writeContextBody}
+use Rattle.request.specs.Context.{readLists, readContextBody, writeContextBody}
 use Rattle.request.specs.Request.{readBody, requestOf, known, judge}
 use Rattle.walk.proofs.Compute.{answers}
-use Rattle.pruner.specs.Form.{writeRecord, writeRecords, writeTotal, writeTotals, writePruner}
+use Rattle.pruner.specs.Form.{writeRecord, writeRecords, writeTotal, writeTotals, writePruner, readRecords}
 use Rattle.lines.specs.Text.{digits, number, textFrom, variablesText, retvalText, contextText, recordText, recordsText, nameOf, markText, marksText, statementsText, requiredText, reportText, refusedText}
 use Rattle.requests.specs.Answer.{answerBody, writeAnswer}
+use Rattle.requests.specs.ReadAnswer.{readAnswer}
 use Rattle.requests.specs.Serve.{finish}
 use Rattle.part.specs.PartReq.{getSubpart, has, within as inPart, contains, merge, onNone, add, entries, depth, over as overPart}
 use Rattle.part.specs.Count.{same as equal, among, eachOnce as eachPart}
@@ -68,7 +68,7 @@ unfolding tie knot member extent shapeAt leaf inside cov below under keep trim h
 check m q r = checkOf m q r
 
 -- what is printed; to unfold it is to unfold all that these compute with
-unfoldable pub print : (file bytes : List ℕ) → List ℕ
+unfoldable pub print : List ℕ → List ℕ
 unfolding fieldAt width fieldsTo bodyAt markOf typeShapes expressionShapes statementShapes tab optionOf memberOf typeInnerOf levelHandles
     modeHandles levelOf modeOf expressionOf caseOf statementOf typeOf resultOf argOf typedOf stOf one many counted pairs elem casesAfter
     unemitted rangeIn resultIn patternAfter codeAfter taken operands scopeOf emit emitBy opened grown stageOf typesWith globalsWith added
@@ -77,5 +77,5 @@ unfolding fieldAt width fieldsTo bodyAt markOf typeShapes expressionShapes state
     writeEntries writePart writeReturn writeVariables writeContextBody readBody requestOf Rattle.request.specs.Request.allBelow known judge
     answers writeRecord writeRecords writeTotal writeTotals Rattle.pruner.specs.Form.writeBody writePruner digits number textFrom variablesText
     retvalText contextText recordText recordsText nameOf markText marksText statementsText requiredText reportText refusedText answerBody
-    writeAnswer finish check checkText checkLine headsRequest moduleBytes answerText requestText moduleText reportInput
-print s bytes = printed s bytes
+    writeAnswer wordAt Rattle.request.specs.Part.asked readLists readContextBody readRecords Rattle.requests.specs.ReadAnswer.readBody readAnswer finish check checkText checkLine headsRequest moduleBytes answerText requestText moduleText reportInput
+print s = reportInput s

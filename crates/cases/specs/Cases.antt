@@ -1,5 +1,5 @@
 -- 01's "Cases to prove", a field each, under its letter. A part is written as its entries: `none` is {}, `more 1 all none` is {1:all}. Cases A, I and J begin with the bytes of a file and
--- of a request on it.
+-- of a request on it: `report` reads both, one behind the other.
 use Prim.Native.Nat.{ℕ, _≤_}
 use mathlib.Core.Path.{_≡_}
 use mathlib.Core.Bool.{true, false}
@@ -21,6 +21,7 @@ use Rattle.walk.specs.State.{atStatement}
 use Rattle.walk.specs.Requests.{Answer, Report, reported, fresh, requests}
 use Rattle.pruner.specs.Form.{minPruner}
 use Rattle.requests.specs.Answer.{minAnswer}
+use Rattle.requests.specs.ReadAnswer.{answeredOf, readAnswer}
 use Rattle.requests.specs.Serve.{visited, refusedAt, Lent, serve}
 use Rattle.clearance.specs.Verdict as verdict
 use Rattle.report_text.specs.Input.{judgedOf, reportInput}
@@ -74,10 +75,6 @@ reportJ =
       bytes = 1 ∷ 0 ∷ 1 ∷ 1 ∷ [];
     }
 
--- what `report` prints of a module's bytes with a request's behind them
-abbrev pub printed : (file bytes : List ℕ) → List ℕ
-printed s bytes = reportInput (s ++ bytes)
-
 -- buffers that are long enough, the pruner's with nothing asked yet
 pub record Ready (lent : Lent) : Type 0 where
   pub pruner-long : minPruner ≤ length (lent .pruner)
@@ -93,11 +90,12 @@ written lent totals marks answer =
 
 pub record Cases : Type 0 where
   -- Asked: return value all. It prints, whole:
-  pub A : printed fileA returnAll ≡ textA ++ lines ("check clear" ∷ [])
+  pub A : reportInput (fileA ++ returnAll) ≡ textA ++ lines ("check clear" ∷ [])
   -- the same where the file has a pointer to the three-vector.
-  pub A-pointer : printed pointerFileA returnAll ≡ textA ++ lines ("check clear" ∷ [])
-  -- The visits, and what is left in the buffers.
+  pub A-pointer : reportInput (pointerFileA ++ returnAll) ≡ textA ++ lines ("check clear" ∷ [])
+  -- The visits, and what is left in the buffers; a caller reads the answer as the report.
   pub A-buffers : (lent : Lent) → Ready lent → serve fileA returnAll lent ≡ (visited 8, written lent totalsA (1 ∷ 1 ∷ 1 ∷ 1 ∷ []) answerA)
+  pub A-read : readAnswer 4 answerA ≡ some (answeredOf reportA)
   -- Of the module that the file means, and of the report of its walk, the clearance by its definition: clear
   pub A-module : readModule fileA ≡ accepted moduleA
   pub A-walk : answerOf moduleA (asking 0 (some all) none) ≡ (reported reportA ∷ [])
@@ -120,11 +118,12 @@ pub record Cases : Type 0 where
   -- index 1, then 2, is {1:{2:all}}: a path is followed from its end, so its last index stands first.
   pub H : fromIndexes (2 ∷ 1 ∷ []) ≡ more 1 (more 2 all none) none
   -- loop body a=b; b=c, all locals, a returned: refusal 14, at the loop. The buffers stay.
-  pub I : printed fileI returnAll ≡ textI
+  pub I : reportInput (fileI ++ returnAll) ≡ textI
   pub I-buffers : (lent : Lent) → Ready lent → serve fileI returnAll lent ≡ (refusedAt 14 (atStatement 0 4), lent)
   -- global 0 asked, all: mark 1 is no, not clear at 1.
-  pub J : printed fileJ globalAll ≡ textJ ++ lines ("check stmt 1" ∷ [])
+  pub J : reportInput (fileJ ++ globalAll) ≡ textJ ++ lines ("check stmt 1" ∷ [])
   pub J-buffers : (lent : Lent) → Ready lent → serve fileJ globalAll lent ≡ (visited 7, written lent totalsJ (1 ∷ 0 ∷ 1 ∷ 1 ∷ []) answerJ)
+  pub J-read : readAnswer 4 answerJ ≡ some (answeredOf reportJ)
   -- The clearance by its definition: at 1.
   pub J-module : readModule fileJ ≡ accepted moduleJ
   pub J-walk : answerOf moduleJ (asking 0 nothing (more (variable 0) all none)) ≡ (reported reportJ ∷ [])

@@ -1,31 +1,29 @@
 -- What is written of a pruner is read back, whatever follows it in the buffer: field by field, each part by the law of its own form.
-use Prim.Native.Nat.{ℕ, suc, _+_, _*_, _/_, _%_, _≤_}
+use Prim.Native.Nat.{ℕ, suc, _+_, _*_, _≤_}
 use native.Mathlib.Omega.{arith}
-use native.Mathlib.Nat.{mod-add-div, zero-add}
+use native.Mathlib.Nat.{zero-add}
 use mathlib.Core.Path.{_≡_, refl, ap, sym, subst, _∙_}
 use mathlib.Core.Bool.{Bool, true, false}
 use mathlib.Core.List.{List, [], _∷_, _++_, append-assoc, append-nil}
 use mathlib.Core.Option.{Option, some, none as nothing}
-use lib.Dec.{leb, eqb}
-use borrow.Author.Tests.{le-leb, eq-eqb}
+use lib.Dec.{leb}
+use borrow.Author.Tests.{le-leb}
 use lib.ListN.{length, getD, drop}
-use lib.Seq.{take-at}
-use Rattle.field.specs.Field.{fieldAt, wordAt}
 use Rattle.field.specs.Limits.{maxPieces}
 use Rattle.part.specs.PartReq.{PartReq, spine}
 use Rattle.module.specs.Module.{FunctionHandle, Module}
 use Rattle.context.specs.RequiredContext.{variable}
-use Rattle.request.specs.Fields.{fields, bytesOf, framed, got, whole, accepted}
+use Rattle.request.specs.Fields.{fields, got, whole, accepted}
 use Rattle.request.specs.Part.{readReturn, writeVariables}
 use Rattle.request.specs.Request.{allBelow}
 use Rattle.request.specs.Context.{writeContextBody}
-use Rattle.request.proofs.Bytes.{fields-bytesOf, length-bytesOf}
 use Rattle.request.proofs.Back.{readPart-writePart, readVariables-writeVariables, return-part, context-body}
 use Rattle.walk.specs.State.{Records, FunctionReq}
 use Rattle.walk.specs.Requests.{Pruner, fresh}
 use Rattle.walk.specs.Proper.{FineRecord, EachRecord, EachMark, FineFunction, FinePruner}
 use Rattle.pruner.specs.Form.{minPruner, prunerPieces, writeRecord, writeRecords, writeTotal, writeTotals, writeBody, writePruner, only, readMarks, readRecords, knownIn, readKept, readTotal, readTotals, readBody, stated, isPruner, isFresh, readPruner}
 use Rattle.pruner.specs.Filed.{NamedRecord, NamedRecords, NamedFunction, NamedTotal, NamedTotals, NamedPruner}
+use Rattle.pruner.proofs.Framed.{wide-long, wide-word, wide-stated, wide-framed, wide-fields}
 use Rattle.pruner.proofs.Fine.{FineTotal, part-filed, variables-filed, all-below, context-filed, context-known}
 
 only-got : {A : Type 0} (holds : A → Bool) (a : A) (fs : List ℕ) → holds a ≡ true → only holds (got a fs) ≡ got a fs
@@ -42,7 +40,7 @@ unfolding readReturn writeRecord
 record-back nothing fs h u = refl
 record-back (some p) fs h u = return-part p fs ∙ rw (readPart-writePart p fs (part-filed p h u))
 
-records-back : (es : Records) (fs : List ℕ) → EachRecord es → NamedRecords es → readRecords (length es) (writeRecords es ++ fs) ≡ got es fs
+pub records-back : (es : Records) (fs : List ℕ) → EachRecord es → NamedRecords es → readRecords (length es) (writeRecords es ++ fs) ≡ got es fs
 unfolding readRecords writeRecords
 records-back [] fs h u = refl
 records-back (o ∷ es) fs h u =
@@ -90,43 +88,32 @@ module _ (m : Module) where
 two : (n : ℕ) → leb 2 (suc (suc n)) ≡ true
 two n = le-leb 2 (suc (suc n)) (omega arith)
 
--- the header that is written says how long the record is, whatever follows it
+-- the record that is written is found, whatever follows it
 module _ (pruner : Pruner) (rest : List ℕ) where
-  abbrev long : ℕ
-  long = 2 * length (writeBody pruner)
+  abbrev body : List ℕ
+  body = writeBody pruner
 
-  pub written-long : length (writePruner pruner) ≡ 6 + long
-  unfolding writePruner bytesOf
-  written-long = rw (length-bytesOf (writeBody pruner)) (omega arith)
-
-  word-back : wordAt (writePruner pruner ++ rest) 2 ≡ long
-  unfolding writePruner bytesOf fieldAt wordAt
-  word-back = rw (mod-add-div (long % 65536) 256, mod-add-div (long / 65536) 256, mod-add-div long 65536)
+  pub written-long : length (writePruner pruner) ≡ 6 + 2 * length (writeBody pruner)
+  unfolding writePruner
+  written-long = wide-long 80 78 body
 
   stated-back : stated (writePruner pruner ++ rest) ≡ writePruner pruner
-  stated-back = rw word-back (take-at (writePruner pruner) rest _ written-long)
-
-  framed-back : framed 80 78 6 long (writePruner pruner) ≡ true
-  unfolding framed writePruner bytesOf
-  framed-back =
-      let s = suc (suc (suc (suc (suc (suc long))))) in
-      let head : leb 6 s ≡ true = le-leb 6 s (omega arith) in
-      let same : eqb (6 + long) s ≡ true = eq-eqb (6 + long) s (omega arith) in
-      let even : eqb (long % 2) 0 ≡ true = eq-eqb (long % 2) 0 (omega arith) in
-      rw (length-bytesOf (writeBody pruner), head, same, even)
+  unfolding writePruner
+  stated-back = wide-stated 80 78 body rest
 
   pruner-back : length (writePruner pruner) ≤ minPruner → isPruner (writePruner pruner ++ rest) ≡ true
+  unfolding writePruner
   pruner-back h =
-      let fits : leb (6 + long) minPruner ≡ true = le-leb (6 + long) minPruner (omega (arith, written-long)) in
-      rw (stated-back, word-back, framed-back, fits)
+      let fits : leb (6 + 2 * length body) minPruner ≡ true = le-leb (6 + 2 * length body) minPruner (omega (arith, wide-long 80 78 body)) in
+      rw (wide-stated 80 78 body rest, wide-word 80 78 body rest, wide-framed 80 78 body, fits)
 
   not-fresh : isFresh (writePruner pruner ++ rest) ≡ false
   unfolding isFresh writePruner
   not-fresh = rw two
 
   fields-back : fields (drop 6 (writePruner pruner)) ≡ writeBody pruner
-  unfolding writePruner bytesOf
-  fields-back = fields-bytesOf (writeBody pruner)
+  unfolding writePruner
+  fields-back = wide-fields 80 78 body
 
 -- Totals that are written are read back, where they fit the least buffer and 16 allows them.
 pub readPruner-writePruner : (m : Module) (pruner : Pruner) (rest : List ℕ) → FinePruner m pruner → NamedPruner pruner → length (writePruner pruner) ≤ minPruner

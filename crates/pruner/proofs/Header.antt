@@ -23,7 +23,7 @@ fourth-fails true true false d e z = refl
 fourth-fails true true true d e z = rw z refl
 
 -- a record is as long as its header says
-other-length : (a b head long : ℕ) (s : List ℕ) → (head + long ≡ length s → ⊥) → framed a b head long s ≡ false
+pub other-length : (a b head long : ℕ) (s : List ℕ) → (head + long ≡ length s → ⊥) → framed a b head long s ≡ false
 unfolding framed
 other-length a b head long s h = fourth-fails (leb head (length s)) (eqb (getD s 0 0) a) (eqb (getD s 1 0) b) (eqb (head + long) (length s)) (eqb (long % 2) 0) (ne-eqb (head + long) (length s) h)
 

@@ -1,4 +1,5 @@
 pub mod Fine
+pub mod Framed
 pub mod Back
 pub mod Named
 pub mod Read

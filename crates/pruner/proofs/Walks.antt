@@ -25,13 +25,13 @@ use Rattle.walk.specs.State.{Records, FunctionReq, State, nowhere, Out, went, h
 use Rattle.walk.specs.Resolve.{functionAt, expressionAt, storeRequired}
 use Rattle.walk.specs.Expression.{joined}
 use Rattle.walk.specs.Statement.{needOf, retvalOf}
-use Rattle.walk.specs.Function.{latest, extend, addFunction}
+use Rattle.walk.specs.Function.{latest, extend, walked, addFunction}
 use Rattle.walk.specs.Requests as requests
 use Rattle.walk.specs.Requests.{Pruner, Report, reported, endCount, ended, begun, walkRequest, answered, request}
 use Rattle.walk.specs.Proper.{FinePruner}
 use Rattle.walk.proofs.Keeps.{Needs, Kept}
 use Rattle.walk.proofs.Ends.{ended as leaves}
-use Rattle.walk.proofs.Functions.{function-keeps, request-keeps}
+use Rattle.walk.proofs.Functions.{function-keeps, walk-keeps, request-keeps}
 use Rattle.sound.specs.Asked.{WasRead}
 use Rattle.sound.proofs.There.{function-valid, operands-below, names-below}
 use Rattle.sound.proofs.Sound.{letter-below, type-indexed}
@@ -290,6 +290,13 @@ unfolding named begun
 left-named m v pruner q h hq e =
     leaves (function-keeps (named m v) (q .function) nowhere 0 (q .globals) (requests.asked (q .retval)) (begun pruner) (base-named q hq) (record { globals = h .globals; functions = h .functions; visits = tt })) e .context
 
+-- nor do the records and the context that are reported
+report-named : (m : Module) → Valid m → (pruner : Pruner) (q : Request) → NamedPruner pruner → NamedRequest q → {st : State} {b : Bool} → walkRequest m pruner q ≡ went st b → NamedFunction (walked st)
+unfolding named
+report-named m v pruner q h hq e =
+    let good = leaves (walk-keeps (named m v) pruner q tt (record { globals = h .globals; functions = h .functions }) (base-named q hq)) e in
+    record { context = good .context; exprs = good .exprs }
+
 -- 16 at the request's end
 abbrev OnWent : (State → Type 0) → Out Bool → Type 0
 OnWent P (went st r) = P st
@@ -328,6 +335,9 @@ module _ (bytes : List ℕ) (m : Module) (read : file.readModule bytes ≡ file.
       → addFunction m (q .function) nowhere 0 (q .globals) (requests.asked (q .retval)) (begun pruner) ≡ went st b → NamedContext (st .context)
   walked-named s pruner q before asked e =
       left-named m (module-valid bytes m read) pruner q (read-named m s pruner before) (request-named m q asked) e
+
+  pub reported-named : (s : List ℕ) (pruner : Pruner) (q : Request) → readPruner m s ≡ accepted pruner → WasRead m q → {st : State} {b : Bool} → walkRequest m pruner q ≡ went st b → NamedFunction (walked st)
+  reported-named s pruner q before asked e = report-named m (module-valid bytes m read) pruner q (read-named m s pruner before) (request-named m q asked) e
 
   -- Any buffer s that is accepted, and any request over it that is reported: the totals that it leaves fit the least buffer, and the next request reads them.
   module _ (s : List ℕ) (pruner : Pruner) (q : Request) (r : Report) (before : readPruner m s ≡ accepted pruner) (asked : WasRead m q)

@@ -96,11 +96,11 @@ module _ (t s rs o : List ℕ) (f : FunctionHandle) (at : ℕ) (required : Bool)
         pub still-long : {w : List ℕ} → w ≡ setWord (set (set u 0 65) 1 78) 2 (end - 6) → length w ≡ length o
         still-long e = ap length (answer-written e) ∙ length-sets o 0 (answerIn t s rs f at required visits)
 
--- the most that an answer can have: a context of two times the pieces that 16 allows, records of four times as many, and a field for each expression
-pub answer-fits : (required : Bool) (visits : ℕ) (c : RequiredContext) (es : Records) → pieces c ≤ 2 * maxPieces → recordPieces es ≤ 4 * maxPieces → length es ≤ maxExpressions
+-- the most that an answer can have: a context and records of six times the pieces that 16 allows, and a field for each expression
+pub answer-fits : (required : Bool) (visits : ℕ) (c : RequiredContext) (es : Records) → pieces c + recordPieces es ≤ 6 * maxPieces → length es ≤ maxExpressions
     → length (writeAnswer required visits c es) ≤ minAnswer
 unfolding answerBody
-answer-fits required visits c es few recorded many =
+answer-fits required visits c es few many =
     omega (
       arith,
       answer-long required visits c es,

@@ -153,8 +153,8 @@ module _ {bytes t places s rs open-marks totals : List ℕ} {f : FunctionHandle}
   answer-few : length (answerIn t s rs f (base + 4) required visits) ≤ minAnswer
   answer-few =
       let S = F .ended .standing in
-      answer-fits required visits (contextAt (read s rs) (base + 4)) (recordsIn t exprsSlot f (read s rs)) (F .ended .few)
-      (omega (arith, S .ready .sums, F .ended .sum-few)) (few-records S)
+      answer-fits required visits (contextAt (read s rs) (base + 4)) (recordsIn t exprsSlot f (read s rs))
+      (omega (arith, F .ended .few, S .ready .sums, F .ended .sum-few)) (few-records S)
 
   pub finish-answer : Answering t s rs f (base + 4) × (((visits < 4294967296) × (length (answerIn t s rs f (base + 4) required visits) ≤ length answer)) × (length (answerIn t s rs f (base + 4) required visits) ≤ minAnswer))
   finish-answer =

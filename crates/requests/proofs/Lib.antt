@@ -8,3 +8,7 @@ pub mod Few
 pub mod Finishing
 pub mod Serving
 pub mod Numbers
+pub mod Back
+pub mod Falls
+pub mod Places
+pub mod Words

@@ -1,8 +1,8 @@
 -- A request from bytes to bytes: what it answers, and what is left of the three buffers that are lent. Refusals come in 01's order: of the module (1 to 5), of the request (12, 11, 18),
 -- of our own buffers (19, 20), and then those of the walk. A refusal leaves every buffer as it was.
-use Prim.Native.Nat.{ℕ, _+_, _*_, _%_}
+use Prim.Native.Nat.{ℕ, _+_, _*_, _/_, _%_}
 use mathlib.Core.Bool.{cond}
-use mathlib.Core.List.{List, [], _∷_}
+use mathlib.Core.List.{List}
 use lib.Dec.{ltb}
 use lib.ListN.{length}
 use lib.Seq.{sets}
@@ -62,14 +62,6 @@ onModule (file.accepted m) bytes lent = serveRead m bytes lent
 unfoldable pub serve : (file bytes : List ℕ) → Lent → Reply × Lent
 serve s bytes lent = onModule (file.readModule s) bytes lent
 
--- requests one after the other through the same buffers
-unfoldable pub serveAll : (file : List ℕ) → List (List ℕ) → Lent → List Reply × Lent
-serveAll s [] lent = ([], lent)
-serveAll s (bytes ∷ rest) lent =
-    let first = serve s bytes lent in
-    let others = serveAll s rest (first .1) in
-    (first .0 ∷ (others .0), others .1)
-
 -- A place as a number of 32 bits: 0, or 2^30 for an expression and 2^31 for a statement, with the function's number in the 15 bits from 2^15 on and the expression's or the
 -- statement's in those below.
 unfoldable pub placeWord : Place → ℕ
@@ -77,7 +69,18 @@ placeWord nowhere = 0
 placeWord (atExpression f e) = 1073741824 + (32768 * (f % 32768) + e % 32768)
 placeWord (atStatement f s) = 2147483648 + (32768 * (f % 32768) + s % 32768)
 
+-- the place that such a number means
+unfoldable pub placeOfWord : ℕ → Place
+placeOfWord w =
+    let f = w / 32768 % 32768 in
+    let n = w % 32768 in
+    cond (ltb w 1073741824) nowhere (cond (ltb w 2147483648) (atExpression f n) (atStatement f n))
+
 -- A reply as a number of 64 bits: the visits, which are below 2^32, or the refusal's number in the 16 bits from 2^32 on, and its place.
 unfoldable pub replyWord : Reply → ℕ
 replyWord (visited n) = n
 replyWord (refusedAt n at) = 4294967296 * (n % 65536) + placeWord at
+
+-- the reply that such a number means
+unfoldable pub replyOfWord : ℕ → Reply
+replyOfWord w = cond (ltb w 4294967296) (visited w) (refusedAt (w / 4294967296) (placeOfWord (w % 4294967296)))
