@@ -1,32 +1,29 @@
--- Cases A and J of 01: the definitions compute.
-use Prim.Native.Nat.{ℕ}
+-- Cases A and J of 01: what the definition of the clearance computes.
 use mathlib.Core.Path.{_≡_, refl}
-use mathlib.Core.Bool.{true}
 use mathlib.Core.List.{[], _∷_}
-use mathlib.Core.Option.{some as present, none as nothing}
 use Rattle.part.specs.PartReq.{all, exist, none, more, getSubpart, has, within, contains, merge, onNone, add, entries, width, depth}
 use Rattle.part.specs.PartReq.{over}
 use Rattle.module.specs.Knot.{tie, knot}
 use Rattle.programs.specs.Programs.{moduleA, functionA, pointerA, moduleJ, functionJ}
 use Rattle.clearance.specs.Shape.{member, extent, shapeAt, leaf, inside, cov, below, under, keep, trim, hit, members, split, alter, takeOut, sum}
 use Rattle.clearance.specs.Shape.{size}
 use Rattle.clearance.specs.Scope.{inner, memberTypes, vectorShape, elements, unfoldType, shapeOf, kind, bases, isKind, pairwise, alikeInner}
 use Rattle.clearance.specs.Scope.{alike, fits, slot, typed, typeOf, innerOf, argumentType, resultShape, slots, kindShape, frame, isPath, byPart}
 use Rattle.clearance.specs.Scope.{anyVector, optional, armOf, arm, sourceOf, source, further, stepFrom, pathOf, front, indexes, target}
 use Rattle.module.specs.Marks.{markCount, marksBefore}
 use Rattle.clearance.specs.Tree.{marked, markAt, byMark, emits, caseAt, statement, statementsFrom, blockTree, bodyTree}
 use Rattle.clearance.specs.Needs.{askOperand, askPicked, askComponents, askSteps, asks, gives, needAt, needFrom, need, needs, overlap, without}
 use Rattle.clearance.specs.Needs.{storing, giving, before, idle, wholly, upon, outBreak, outContinue, ofCase, ofContinuing, ofBody, each, union, concat, through, most}
 use Rattle.clearance.specs.Needs.{quiet, onlyNext, obeys, kept, turning, valued, afterContinuing, walk, afterBody, lacking, stable, sweep}
 use Rattle.clearance.specs.Needs.{around, amid, somewhere, loops, reentry, joinAt, round, settle, enough, smallest}
 use Rattle.clearance.specs.Judged.{every, presently, partType, elementType, pointeeType, pointee, same, samePart, isValue, holdsIn, holdsUnsized, pointeeHolds, holdsEither}
 use Rattle.clearance.specs.Judged.{fitsIndex, hasVectorSize, componentCount, countComponents, fitsCompose, fitsVariable, fitsExpression, judgedExpression}
 use Rattle.clearance.specs.Judged.{fitsReturn, fitsStatement, atTop, inCase, inBody, unless, strays, failing, lower, lowest, blamedExpression}
 use Rattle.clearance.specs.Judged.{blamedStatement}
 use Rattle.clearance.specs.Verdict.{ending, startNeeds, faults, needsExpression, starts, verdict, pieces, atPoint, limited, answerBy, judge, hasShape}
 use Rattle.clearance.specs.Verdict.{clearance}
 use Rattle.clearance.specs.Scope.{variable}
 use Rattle.clearance.specs.Verdict.{Request, Report, clear, atStatement}
 
 abbrev pub askedA : Request
 askedA = record { globals = none; value = all }

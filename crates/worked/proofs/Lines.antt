@@ -1,7 +1,7 @@
--- Cases A and J of 01: the lines that their reports (crate walk) come to, against 01's. Case I is refused.
+-- Cases A and J of 01: the lines that their reports (proofs/Walk) come to, against 01's. Case I is refused.
 use mathlib.Core.Path.{_≡_, refl}
 use mathlib.Core.Bool.{true}
-use mathlib.Core.List.{List, [], _∷_, _++_}
+use mathlib.Core.List.{[], _∷_, _++_}
 use mathlib.Core.Option.{some, none as nothing}
 use Rattle.part.specs.PartReq.{all, exist, none, more}
 use Rattle.programs.specs.Programs.{moduleA, moduleJ}
@@ -10,8 +10,8 @@ use Rattle.module.specs.Knot.{tie, knot}
 use Rattle.module.specs.Marks.{markCount}
 use Rattle.walk.specs.Resolve.{functionAt}
 use Rattle.walk.specs.Requests.{Report, reported, fresh, requests}
-use Rattle.walk.proofs.Cases.{caseA, caseJ}
+use Rattle.worked.proofs.Walk.{caseA, caseJ}
 use Rattle.lines.specs.Text.{digits, number, textFrom, variablesText, retvalText, contextText, recordText, recordsText, nameOf, markText, marksText, statementsText, requiredText, reportText, refusedText}
 
 abbrev reportA : Report
 reportA =

@@ -1,14 +1,13 @@
--- Cases A, I and J of 01 (crate programs): what the definition of the walk computes.
+-- Cases A and J of 01 (crate programs): what the definition of the walk computes. (Case I is the table's, crate cases; its loop is among walk's own examples.)
 use mathlib.Core.Path.{_≡_, refl}
-use mathlib.Core.Bool.{true, false}
+use mathlib.Core.Bool.{true}
 use mathlib.Core.List.{[], _∷_}
 use mathlib.Core.Option.{some, none as nothing}
 use Rattle.part.specs.PartReq.{all, exist, none, more}
-use Rattle.programs.specs.Programs.{moduleA, moduleI, moduleJ}
+use Rattle.programs.specs.Programs.{moduleA, moduleJ}
 use Rattle.context.specs.RequiredContext.{variable}
-use Rattle.walk.specs.State.{atStatement}
-use Rattle.walk.specs.Requests.{reported, refused, fresh, requests}
+use Rattle.walk.specs.Requests.{reported, fresh, requests}
 use Rattle.walk.proofs.Compute.{answers}
 
 -- asked: return value all. Every line of the report but `check` is in it.
 pub caseA : requests moduleA (fresh moduleA) (record { function = 0; retval = some all; globals = none } ∷ []) .0 ≡ (reported (record {
@@ -26,10 +25,6 @@ pub caseA : requests moduleA (fresh moduleA) (record { function = 0; retval = so
 }) ∷ [])
 unfolding answers
 caseA = refl
-
-pub caseI : requests moduleI (fresh moduleI) (record { function = 0; retval = some all; globals = none } ∷ []) .0 ≡ (refused 14 (atStatement 0 4) ∷ [])
-unfolding answers
-caseI = refl
 
 -- global 0 asked, all: the second mark, of statement 1, is no
 pub caseJ : requests moduleJ (fresh moduleJ) (record { function = 0; retval = nothing; globals = more (variable 0) all none } ∷ []) .0 ≡ (reported (record {
