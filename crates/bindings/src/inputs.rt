@@ -21,6 +21,7 @@ use crate::types::member_at;
 use crate::types::member_count;
 use crate::types::type_kind;
 use field::limits::ABSENT;
+use module::handles::TypeHandle;
 use part::limits::SPINE;
 use part::req::Found;
 use part::req::get;
@@ -71,9 +72,9 @@ fn member_bindings(cells: &[u32], types: &[u32], sets: &[u64], p: u32, t: u32, i
     if q == 1 {
         return 0;
     }
-    let m = member_at(types, t, i);
+    let m = member_at(types, TypeHandle(t), i);
     let own = own_binding(m.binding);
-    let below = walk(cells, types, sets, q, m.ty, t);
+    let below = walk(cells, types, sets, q, m.ty.0, t);
     own | below
 }
 
@@ -84,12 +85,12 @@ fn type_step(cells: &[u32], types: &[u32], sets: &[u64], p: u32, t: u32) -> u64
     requires { ⌜ p < top (now cells) ⌝ }
     ensures { λ r. ⌜ r ≡ stepBindings (typesOf (now (types .entry))) (lower (typesOf (now (types .entry))) (now (sets .entry)) t) t (part (now (cells .entry)) p) ⌝ }
 {
-    let kind = type_kind(types, t);
+    let kind = type_kind(types, TypeHandle(t));
     if is_base(kind) {
-        let base = first_word(types, t);
+        let base = first_word(types, TypeHandle(t));
         return walk(cells, types, sets, p, base, t);
     }
-    let mut i = member_count(types, t);
+    let mut i = member_count(types, TypeHandle(t));
     let mut r: u64 = 0;
     while 0 < i {
         i -= 1;

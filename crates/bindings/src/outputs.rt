@@ -22,6 +22,7 @@ use crate::types::member_at;
 use crate::types::member_count;
 use field::limits::ABSENT;
 use field::limits::MAX_PIECES;
+use module::handles::TypeHandle;
 use part::limits::SPINE;
 use part::req::join;
 use part::store::entries;
@@ -62,12 +63,12 @@ fn from_type(cells: &mut [u32], types: &[u32], parts: &[u32], required: u64, t: 
     requires { ⌜ Held (now cells) (now parts) t × Room (now cells) maxMembers ⌝ }
     ensures { λ r. ⌜ From (now (cells .entry)) (now (cells .exit)) (stepFrom (typesOf (now (types .entry))) required (lowerPart (now (cells .entry)) (now (parts .entry)) t) t) maxMembers r ⌝ }
 {
-    let mut i = member_count(types, t);
+    let mut i = member_count(types, TypeHandle(t));
     let mut r: u32 = 2;
     while 0 < i {
         i -= 1;
-        let m = member_at(types, t, i);
-        let q = from_binding(parts, required, m.binding, m.ty, t);
+        let m = member_at(types, TypeHandle(t), i);
+        let q = from_binding(parts, required, m.binding, m.ty.0, t);
         if q != 2 {
             r = make(cells, i, q, r);
         }

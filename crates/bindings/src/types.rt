@@ -5,10 +5,11 @@ ghost use lib.ListN.{getD};
 ghost use Rattle.context.specs.Types.{typesOf, typeKind, typeWord, typeCount};
 ghost use Rattle.bindings.specs.Rows.{memberCount, isBase, AllBound, MemberIs};
 use context::remove::TYPE_WORDS;
+use module::handles::TypeHandle;
 
 // A member of a struct, as its row has it.
 pub struct Member {
-    pub ty: u32,
+    pub ty: TypeHandle,
     pub binding: u32,
 }
 
@@ -23,20 +24,20 @@ pub fn word(types: &[u32], i: usize) -> u32
 }
 
 // The first word after the kind: what a pointer or an array is of, or how many members there are.
-pub fn first_word(types: &[u32], t: u32) -> u32
-    ensures { λ r. ⌜ r ≡ typeWord (now (types .entry)) t 1 ⌝ }
+pub fn first_word(types: &[u32], t: TypeHandle) -> u32
+    ensures { λ r. ⌜ r ≡ typeWord (now (types .entry)) (t .0) 1 ⌝ }
 {
-    word(types, TYPE_WORDS * (t as usize) + 1)
+    word(types, TYPE_WORDS * (t.0 as usize) + 1)
 }
 
 // The kind of the type t; opaque, where there is none.
-pub fn type_kind(types: &[u32], t: u32) -> u32
-    ensures { λ r. ⌜ r ≡ typeKind (now (types .entry)) t ⌝ }
+pub fn type_kind(types: &[u32], t: TypeHandle) -> u32
+    ensures { λ r. ⌜ r ≡ typeKind (now (types .entry)) (t .0) ⌝ }
 {
-    if types.len() / TYPE_WORDS <= t as usize {
+    if types.len() / TYPE_WORDS <= t.0 as usize {
         return 8;
     }
-    word(types, TYPE_WORDS * (t as usize) + 0)
+    word(types, TYPE_WORDS * (t.0 as usize) + 0)
 }
 
 // Whether a kind is of a pointer, an array or a binding array.
@@ -53,8 +54,8 @@ pub fn is_base(kind: u32) -> bool
 }
 
 // How many members the type t has.
-pub fn member_count(types: &[u32], t: u32) -> u32
-    ensures { λ r. ⌜ r ≡ memberCount (now (types .entry)) t ⌝ }
+pub fn member_count(types: &[u32], t: TypeHandle) -> u32
+    ensures { λ r. ⌜ r ≡ memberCount (now (types .entry)) (t .0) ⌝ }
 {
     if type_kind(types, t) == 6 {
         return first_word(types, t);
@@ -63,14 +64,14 @@ pub fn member_count(types: &[u32], t: u32) -> u32
 }
 
 // The member i of the type t.
-pub fn member_at(types: &[u32], t: u32, i: u32) -> Member
+pub fn member_at(types: &[u32], t: TypeHandle, i: u32) -> Member
     requires { ⌜ AllBound (typesOf (now types)) ⌝ }
-    requires { ⌜ i < memberCount (now types) t ⌝ }
-    ensures { λ r. ⌜ MemberIs (now (types .entry)) t i (r .ty) (r .binding) ⌝ }
+    requires { ⌜ i < memberCount (now types) (t .0) ⌝ }
+    ensures { λ r. ⌜ MemberIs (now (types .entry)) (t .0) i (r .ty .0) (r .binding) ⌝ }
 {
-    let at = TYPE_WORDS * (t as usize) + (2 + 2 * (i as usize));
+    let at = TYPE_WORDS * (t.0 as usize) + (2 + 2 * (i as usize));
     Member {
-        ty: word(types, at),
+        ty: TypeHandle(word(types, at)),
         binding: word(types, at + 1),
     }
 }

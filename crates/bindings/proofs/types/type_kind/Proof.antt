@@ -9,8 +9,14 @@ use Rattle.bindings.proofs.types.type_kind.Reads as reads
 use Rattle.bindings.proofs.types.type_kind.Lts as lts
 use Rattle.bindings.proofs.types.word.Reads as word-reads
 
+cast-if1 : tie.Need-cast-if1
+cast-if1 c = search needs
+
 returns : tie.Need-returns
 returns c = sym (kind-past _ _ (c .if1 .taken))
+
+cast-word : tie.Need-cast-word
+cast-word c = search needs
 
 mul-word : tie.Need-mul-word
 mul-word c = search needs
@@ -22,7 +28,8 @@ word-requires : tie.Need-word-requires
 word-requires c κs = search needs
 
 returns-2 : tie.Need-returns-2
-returns-2 c = c .word .ensures ∙ sym (kind-there _ _ (omega (arith, c .before .if1 .left)))
+returns-2 c = c .word .ensures ∙ sym (kind-there _ _ (omega (arith, c .before .before .if1 .left)))
 
 pub type-kind-spec : {M : Type 1} → statement M
-type-kind-spec = tie.close (tie.spec returns mul-word add-word word-requires returns-2)
+type-kind-spec =
+    tie.close (tie.spec cast-if1 returns cast-word mul-word add-word word-requires returns-2)
