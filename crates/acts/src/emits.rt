@@ -162,14 +162,14 @@ fn pass_emit(
 }
 
 // How many expressions an emit has.
-fn count(first: u32, last: u32) -> u32
-    requires { ⌜ last < 65536 ⌝ }
-    ensures { λ r. ⌜ r ≡ (last + 1) - first ⌝ }
+fn count(first: ExpressionHandle, last: ExpressionHandle) -> u32
+    requires { ⌜ last .0 < 65536 ⌝ }
+    ensures { λ r. ⌜ r ≡ (last .0 + 1) - first .0 ⌝ }
 {
-    if last < first {
+    if last.0 < first.0 {
         return 0;
     }
-    last - first + 1
+    last.0 - first.0 + 1
 }
 
 // The statement l, an emit of the expressions from the first to the last, whose marks begin at `begin`, in a pass.
@@ -188,13 +188,13 @@ pub fn pass_emits(
     p: Passing,
     l: u16,
     begin: u32,
-    first: u32,
-    last: u32,
+    first: ExpressionHandle,
+    last: ExpressionHandle,
 ) -> Passing
     requires { ⌜ PassGiven (now bytes) (now t) (f .0) (now types) (now alike) (now paths) (now cells) (now roots) (now path) n p l ⌝ }
     requires { ⌜ begin ≡ marksBefore (functionOf (now bytes) (now t) (f .0) .statements) l ⌝ }
-    requires { ⌜ last < length (functionOf (now bytes) (now t) (f .0) .expressions) ⌝ }
-    ensures { λ r. ⌜ EmitsPassed (scopeAt (now (bytes .entry)) (now (t .entry)) (f .0)) (now (marks .entry)) l first last (now (cells .entry)) (now (roots .entry)) n p (now (cells .exit)) (now (roots .exit)) (now (path .entry)) (now (path .exit)) r ⌝ }
+    requires { ⌜ last .0 < length (functionOf (now bytes) (now t) (f .0) .expressions) ⌝ }
+    ensures { λ r. ⌜ EmitsPassed (scopeAt (now (bytes .entry)) (now (t .entry)) (f .0)) (now (marks .entry)) l (first .0) (last .0) (now (cells .entry)) (now (roots .entry)) n p (now (cells .exit)) (now (roots .exit)) (now (path .entry)) (now (path .exit)) r ⌝ }
 {
     let mut q = p;
     let mut i = count(first, last);
@@ -202,7 +202,7 @@ pub fn pass_emits(
         let k = i - 1;
         let at = note(cells, roots, n, q);
         let marked = mark_at(marks, (begin as usize) + (k as usize));
-        let e = ExpressionHandle(first + k);
+        let e = ExpressionHandle(first.0 + k);
         q = pass_emit(
             bytes,
             t,

@@ -12,6 +12,7 @@ use borrow.Author.Tests.{ne-eqb}
 use Rattle.field.specs.Limits.{absent}
 use Rattle.part.specs.PartReq.{PartReq, all}
 use Rattle.module.specs.Decode.{optionOf, levelOf, levelHandles, expressionOf}
+use Rattle.module.proofs.Each.{past, each}
 use Rattle.walk.specs.Expression.{Ask, ofOperand, optional, leveled, armAsks}
 use Rattle.asks.specs.Ways.{asksBy, partBy, fieldAsks, fields, pack, kindWays, sampleWays, waysOf, Plain}
 
@@ -23,20 +24,6 @@ maybe-is x rest = go (eqb x absent)
     go : (b : Bool) → optional (cond b nothing (some x)) rest ≡ cond (not b) (ofOperand x all ∷ rest) rest
     go true = refl
     go false = refl
-
--- something of each number: of those below n one by one, and of those from n on
-abbrev past : ℕ → ℕ → ℕ
-past zero k = k
-past (suc n) k = suc (past n k)
-
-abbrev Each : (ℕ → Type 0) → ℕ → Type 0
-Each P zero = Unit {0}
-Each P (suc n) = P 0 × Each (λ k. P (suc k)) n
-
-each : (P : ℕ → Type 0) (n : ℕ) → Each P n → ((k : ℕ) → P (past n k)) → (k : ℕ) → P k
-each P zero h z k = z k
-each P (suc n) h z zero = h .0
-each P (suc n) h z (suc k) = each (λ j. P (suc j)) n (h .1) z k
 
 no-kind : (k code : ℕ) → waysOf (past 32 k) code ≡ 0
 unfolding waysOf kindWays

@@ -18,6 +18,8 @@ use crate::slots::in_body;
 use crate::slots::in_switch;
 use access::function::block;
 use access::kinded::Kinded;
+use access::kinded::block_operand;
+use access::kinded::expression_operand;
 use access::kinded::operand;
 use access::kinded::statement;
 use acts::marks::mark_at;
@@ -36,7 +38,6 @@ use quiet::blocks::obeys;
 use standing::passing::Exits;
 use standing::passing::Passing;
 use standing::passing::filled;
-use strays::blocks::held;
 
 const BLOCK: u16 = 1;
 
@@ -76,7 +77,7 @@ fn pass_cases(
     let mut i: u32 = 0;
     while i < count {
         copy(roots, x.broke, n);
-        let case = held(bytes, row, 3 + 2 * i);
+        let case = block_operand(bytes, row, 3 + 2 * i);
         q = pass_around(
             bytes,
             t,
@@ -154,7 +155,7 @@ fn pass_switch(
     if q.full {
         return q;
     }
-    let selector = ExpressionHandle(operand(bytes, row, 0) as u32);
+    let selector = expression_operand(bytes, row, 0);
     if end_switch(bytes, t, f, cells, roots, n, selector) {
         return q;
     }
@@ -188,7 +189,7 @@ fn pass_if(
 {
     let last = n - 1;
     copy(roots, last, n);
-    let reject = held(bytes, row, 2);
+    let reject = block_operand(bytes, row, 2);
     let q = pass_around(
         bytes,
         t,
@@ -210,7 +211,7 @@ fn pass_if(
         return q;
     }
     exchange(roots, n);
-    let accept = held(bytes, row, 1);
+    let accept = block_operand(bytes, row, 1);
     let o = pass_around(
         bytes,
         t,
@@ -231,7 +232,7 @@ fn pass_if(
     if o.full {
         return o;
     }
-    let condition = ExpressionHandle(operand(bytes, row, 0) as u32);
+    let condition = expression_operand(bytes, row, 0);
     if end_if(bytes, t, f, cells, roots, n, condition) {
         return o;
     }
@@ -264,12 +265,12 @@ fn pass_loop(
     ensures { λ r. ⌜ Passes (scopeAt (now (bytes .entry)) (now (t .entry)) (f .0)) (inside (loopTree (blocksUnder (functionOf (now (bytes .entry)) (now (t .entry)) (f .0)) (now (marks .entry)) (b .0)) s (operandAt (now (bytes .entry)) row))) (now (cells .entry)) (now (roots .entry)) n x p (now (cells .exit)) (now (roots .exit)) (now (path .entry)) (now (path .exit)) r ⌝ }
 {
     let l = s as usize;
-    let break_if = operand(bytes, row, 2);
+    let break_if = expression_operand(bytes, row, 2);
     if !begin_loop(bytes, t, f, cells, roots, n, l, break_if) {
         return filled();
     }
     let y = in_switch(n, x);
-    let continuing = held(bytes, row, 1);
+    let continuing = block_operand(bytes, row, 1);
     let q = pass_around(
         bytes,
         t,
@@ -293,7 +294,7 @@ fn pass_loop(
     let above = n + 1;
     copy(roots, n, above);
     let z = in_body(n, x);
-    let body = held(bytes, row, 0);
+    let body = block_operand(bytes, row, 0);
     let o = pass_around(
         bytes,
         t,
@@ -517,7 +518,7 @@ fn pass_statement(
     let row = statement(bytes, t, f, s);
     let kind = row.kind;
     if kind == BLOCK {
-        let inner = held(bytes, row, 0);
+        let inner = block_operand(bytes, row, 0);
         return pass_block(
             bytes,
             t,

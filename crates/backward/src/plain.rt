@@ -8,7 +8,7 @@ ghost use Rattle.quiet.specs.Places.{statementTree};
 ghost use Rattle.standing.specs.Standing.{inside};
 ghost use Rattle.backward.specs.Course.{Course, Passes, RowIn};
 use access::kinded::Kinded;
-use access::kinded::operand;
+use access::kinded::expression_operand;
 use acts::emits::pass_emits;
 use acts::marks::mark_at;
 use acts::stores::pass_store;
@@ -52,8 +52,8 @@ pub fn pass_plain(
     let begin = firsts[s as usize];
     let kind = row.kind;
     if kind == EMIT {
-        let first = operand(bytes, row, 0) as u32;
-        let last = operand(bytes, row, 1) as u32;
+        let first = expression_operand(bytes, row, 0);
+        let last = expression_operand(bytes, row, 1);
         return pass_emits(
             bytes,
             t,
@@ -75,8 +75,8 @@ pub fn pass_plain(
     }
     if kind == STORE {
         let marked = mark_at(marks, begin as usize);
-        let pointer = ExpressionHandle(operand(bytes, row, 0) as u32);
-        let value = ExpressionHandle(operand(bytes, row, 1) as u32);
+        let pointer = expression_operand(bytes, row, 0);
+        let value = expression_operand(bytes, row, 1);
         return pass_store(
             bytes,
             t,

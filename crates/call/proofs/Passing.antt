@@ -15,12 +15,12 @@ use Rattle.module.proofs.Tab.{length-tab}
 use Rattle.access.specs.Access.{operandAt}
 use Rattle.access.specs.declared.kinded.Kinded.{Kinded}
 use Rattle.context.specs.RequiredContext.{RequiredContext, variable}
-use Rattle.walk.specs.State.{State, Out, went, halt, Walk, _>>_, totalPieces}
+use Rattle.walk.specs.State.{State, Out, went, _>>_, totalPieces}
 use Rattle.walk.specs.Expression.{addExpression}
 use Rattle.walk.specs.Statement.{askNeeded, askArguments}
 use Rattle.walk.specs.Statement as walk
 use Rattle.walk.specs.Proper.{Fine}
-use Rattle.walk.proofs.Bind.{next-went, next-halt}
+use Rattle.walk.proofs.Bind.{next-went, next-halt, next-next, next-self, next-same}
 use Rattle.walk.proofs.Keeps.{Needs}
 use Rattle.walk.proofs.Parts.{variables-subpart}
 use Rattle.memory.specs.Layout.{ask, result, returned, totalsSlot, functionsSlot, stackSlot}
@@ -107,14 +107,6 @@ module _ (m : Module) (fr : walk.Frame) (e : ℕ) (st : State) where
   unfolding askNeeded
   needed-there p q h = rw h
 
-next-next : (x : Out (Unit {0})) (k l : Walk (Unit {0})) → ((x >> k) >> l) ≡ (x >> λ st. k st >> l)
-next-next (went st a) k l = refl
-next-next (halt n at) k l = refl
-
-next-ext : (x : Out (Unit {0})) (k l : Walk (Unit {0})) → ((st : State) → k st ≡ l st) → (x >> k) ≡ (x >> l)
-next-ext (went st a) k l h = h st
-next-ext (halt n at) k l h = refl
-
 -- the arguments with one more
 arguments-more : (m : Module) (fr : walk.Frame) (args : PartReq) (es : List ℕ) (e i j : ℕ) (st : State) → j ≡ i + length es
     → askArguments m fr (es ++ (e ∷ [])) i args st ≡ (askArguments m fr es i args st >> askNeeded m fr e (getSubpart args (variable j)))
@@ -122,12 +114,8 @@ unfolding askArguments
 arguments-more m fr args [] e i j st h =
     let same : j ≡ i = omega arith in
     rw same (next-self (askNeeded m fr e (getSubpart args (variable i)) st))
-  where
-    next-self : (x : Out (Unit {0})) → (x >> λ left. went left tt) ≡ x
-    next-self (went st a) = refl
-    next-self (halt n at) = refl
 arguments-more m fr args (d ∷ es) e i j st h =
-    next-ext (askNeeded m fr d (getSubpart args (variable i)) st) (askArguments m fr (es ++ (e ∷ [])) (suc i) args)
+    next-same (askNeeded m fr d (getSubpart args (variable i)) st) (askArguments m fr (es ++ (e ∷ [])) (suc i) args)
     (λ left. askArguments m fr es (suc i) args left >> askNeeded m fr e (getSubpart args (variable j)))
     (λ left. arguments-more m fr args es e (suc i) j left (omega arith))
     ∙ sym (next-next (askNeeded m fr d (getSubpart args (variable i)) st) (askArguments m fr es (suc i) args) (askNeeded m fr e (getSubpart args (variable j))))

@@ -13,10 +13,10 @@ use Rattle.context.specs.RequiredContext.{variable}
 use Rattle.request.specs.Request.{asking}
 use Rattle.programs.specs.Files.{fileA, fileI, fileJ, returnAll, globalAll}
 use Rattle.programs.specs.Programs.{moduleA, moduleI, moduleJ}
-use Rattle.walk.proofs.Cases as walk
+use Rattle.worked.proofs.Walk as walk
 use Rattle.pruner.specs.Form.{minPruner}
 use Rattle.requests.specs.Answer.{minAnswer}
-use Rattle.clearance.proofs.Cases as clearance
+use Rattle.worked.proofs.Clearance as clearance
 use Rattle.cases.specs.Cases.{Cases, Ready, Is, ScalarOrArray, scalar, array}
 use Rattle.cases.proofs.Compute.{print}
 use Rattle.cases.proofs.Served.{served}

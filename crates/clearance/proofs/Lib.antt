@@ -31,4 +31,3 @@ pub mod Slots
 pub mod Main
 pub mod Fuel
 pub mod Top
-pub mod Cases

@@ -13,6 +13,7 @@ use Rattle.module.specs.Module.{Literal, ZeroValue, WorkGroupUniformLoadResult,
 use Rattle.module.specs.Module.{FunctionArgument, GlobalVariable, LocalVariable, Load, ImageSample, ImageLoad, ImageQuery, Unary, Binary, Select}
 use Rattle.module.specs.Module.{Derivative, Relational, Math, As, CallResult, AtomicResult, ArrayLength, RayQueryProceedResult}
 use Rattle.module.specs.Module.{RayQueryGetIntersection, Override, SubgroupBallotResult, SubgroupOperationResult, RayQueryVertexPositions}
+use Rattle.module.specs.Way.{Way, constantly, dynamically, toGlobal, toLocal, noWay, wayOf}
 use Rattle.module.specs.Knot.{knot}
 use Rattle.clearance.specs.Shape.{Shape, number, void, struct, array}
 
@@ -189,39 +190,16 @@ nowhere = record { root = 0 ∷ []; steps = [] }
 unfoldable pub further : Path → Step → Path
 further p x = record { root = p .root; steps = p .steps ++ (x ∷ []) }
 
+-- a path by its expression's way, with `path` what lower ones give
+abbrev pub stepWay : (ExpressionHandle → Path) → Way → Path
+stepWay path (constantly base index) = further (path base) (at index)
+stepWay path (dynamically base index) = further (path base) (by index)
+stepWay path (toGlobal g) = record { root = slot (global g); steps = [] }
+stepWay path (toLocal l) = record { root = slot (local l); steps = [] }
+stepWay path noWay = nowhere
+
 unfoldable pub stepFrom : (ExpressionHandle → Path) → Expression → Path
-stepFrom path Literal = nowhere
-stepFrom path ZeroValue = nowhere
-stepFrom path WorkGroupUniformLoadResult = nowhere
-stepFrom path (AccessIndex base index) = further (path base) (at index)
-stepFrom path (Access base index) = further (path base) (by index)
-stepFrom path Constant = nowhere
-stepFrom path (Splat value) = nowhere
-stepFrom path (Swizzle vector pattern) = nowhere
-stepFrom path (Compose components) = nowhere
-stepFrom path (FunctionArgument index) = nowhere
-stepFrom path (GlobalVariable g) = record { root = slot (global g); steps = [] }
-stepFrom path (LocalVariable l) = record { root = slot (local l); steps = [] }
-stepFrom path (Load pointer) = nowhere
-stepFrom path (ImageSample image sampler coordinate arrayIndex level depthRef) = nowhere
-stepFrom path (ImageLoad image coordinate arrayIndex sample level) = nowhere
-stepFrom path (ImageQuery image level) = nowhere
-stepFrom path (Unary x) = nowhere
-stepFrom path (Binary left right) = nowhere
-stepFrom path (Select condition accept reject) = nowhere
-stepFrom path (Derivative x) = nowhere
-stepFrom path (Relational x) = nowhere
-stepFrom path (Math x x1 x2 x3) = nowhere
-stepFrom path (As x) = nowhere
-stepFrom path CallResult = nowhere
-stepFrom path AtomicResult = nowhere
-stepFrom path (ArrayLength x) = nowhere
-stepFrom path RayQueryProceedResult = nowhere
-stepFrom path (RayQueryGetIntersection query) = nowhere
-stepFrom path Override = nowhere
-stepFrom path SubgroupBallotResult = nowhere
-stepFrom path SubgroupOperationResult = nowhere
-stepFrom path RayQueryVertexPositions = nowhere
+stepFrom path x = stepWay path (wayOf x)
 
 -- the path that a pointer is
 unfoldable pub pathOf : Scope → ExpressionHandle → Path

@@ -14,6 +14,7 @@ use Rattle.part.proofs.Equations.{never}
 use Rattle.part.proofs.Making.{kept-trans}
 use Rattle.part.proofs.Write.{kept-self}
 use Rattle.module.specs.Module.{TypeInner, Opaque}
+use Rattle.module.specs.declared.handles.TypeHandle.{TypeHandle}
 use Rattle.context.specs.Remove.{each, typeToParts, split, subtypesOf}
 use Rattle.context.specs.Types.{typeWord, typeKind, typesOf, AllSized, splitMost}
 use Rattle.context.specs.Reduced.{typed, subtypeAt}
@@ -101,7 +102,7 @@ module _ (types : List TypeInner) {s : List ℕ} (x : Typed) where
   pub split-known : (p : ℕ) → 0 < p → Good s → p < top s → Made s s (split types (typed x) (part s p)) splitMost p
   split-known p o g h = stays g h (not-all-split types (typed x) (part s p) (not-all s p (omega arith)))
 
-  pub split-all : {t : List ℕ} {p h r : ℕ} → x ≡ Is h → p ≡ 0 → Made s t (typeToParts (getD types h Opaque)) splitMost r
+  pub split-all : {t : List ℕ} {p r : ℕ} {h : TypeHandle} → x ≡ Is h → p ≡ 0 → Made s t (typeToParts (getD types (h .0) Opaque)) splitMost r
       → Made s t (split types (typed x) (part s p)) splitMost r
   split-all e z m = rw (e, z, part-0) (unfold split in m)
 
@@ -110,13 +111,13 @@ module _ (table : List ℕ) (i : ℕ) {x : Typed} where
   pub no-subtype : x ≡ Unknown → some nothing ≡ subtypeAt (subtypesOf (typesOf table) (typed x)) i
   no-subtype e = rw e (unfold subtypesOf in refl)
 
-  module _ {h k : ℕ} (e : x ≡ Is h) (f : k ≡ typeKind table h) where
+  module _ {h : TypeHandle} {k : ℕ} (e : x ≡ Is h) (f : k ≡ typeKind table (h .0)) where
     pub not-struct-subtype : (k ≡ 6 → ⊥) → some nothing ≡ subtypeAt (subtypesOf (typesOf table) (typed x)) i
-    not-struct-subtype n = rw e (no-members table h i f n)
+    not-struct-subtype n = rw e (no-members table (h .0) i f n)
 
-    pub gone-subtype : {n : ℕ} → k ≡ 6 → n ≡ typeWord table h 1 → n ≤ i → nothing ≡ subtypeAt (subtypesOf (typesOf table) (typed x)) i
-    gone-subtype g w l = rw e (member-gone table h f g (omega arith))
+    pub gone-subtype : {n : ℕ} → k ≡ 6 → n ≡ typeWord table (h .0) 1 → n ≤ i → nothing ≡ subtypeAt (subtypesOf (typesOf table) (typed x)) i
+    gone-subtype g w l = rw e (member-gone table (h .0) f g (omega arith))
 
-    pub member-subtype : {n m : ℕ} → k ≡ 6 → n ≡ typeWord table h 1 → i < n → m ≡ typeWord table h (2 + 2 * i)
+    pub member-subtype : {n m : ℕ} → k ≡ 6 → n ≡ typeWord table (h .0) 1 → i < n → m ≡ typeWord table (h .0) (2 + 2 * i)
         → some (some m) ≡ subtypeAt (subtypesOf (typesOf table) (typed x)) i
-    member-subtype g w l v = rw (e, v) (member-there table h f g (omega arith))
+    member-subtype g w l v = rw (e, v) (member-there table (h .0) f g (omega arith))

@@ -45,7 +45,7 @@ abbrev pub variableOf : Variable → VarRef
 variableOf (variables.Global g) = Global (g .0)
 variableOf (variables.Local l) = Local (l .0)
 
--- what is left, in the store s
+-- what is left, in the store s; or 13 (`refusalContext`)
 abbrev pub removed : List ℕ → Removed → RemovedContext
 removed s (Left c) = leftContext (contextOf s c)
 removed s Panic = panicContext

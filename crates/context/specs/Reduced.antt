@@ -18,7 +18,7 @@ use Rattle.context.specs.declared.remove.Reduced.the-variants.{Left, Pan
 -- the type, where it is known
 abbrev pub typed : Typed → Option TypeHandle
 typed Unknown = nothing
-typed (Is t) = some t
+typed (Is t) = some (t .0)
 
 -- the type of the subpart i, where there may be one: nothing is the panic at a member that is not there
 abbrev pub memberType : Option TypeHandle → Option (Option TypeHandle)
@@ -33,7 +33,7 @@ abbrev pub subtyped : Subtype → Option (Option TypeHandle)
 subtyped Gone = nothing
 subtyped (There t) = some (typed t)
 
--- what is left, in the store s
+-- what is left, in the store s; or 13 (`refusal`)
 abbrev pub reduced : List ℕ → Reduced → Removed
 reduced s (Left n) = left (part s n)
 reduced s Panic = panic

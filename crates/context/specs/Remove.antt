@@ -42,6 +42,11 @@ pub data Removed : Type 0 where
   left : PartReq → Removed
   panic : Removed
 
+-- 01's number of each: 0 where something is left
+abbrev pub refusal : Removed → ℕ
+refusal (left p) = 0
+refusal panic = 13
+
 abbrev pub _>>=_ : Removed → (PartReq → Removed) → Removed
 _>>=_ (left p) k = k p
 _>>=_ panic k = panic

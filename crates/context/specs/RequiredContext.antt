@@ -8,7 +8,7 @@ use lib.Dec.{ltb}
 use lib.ListN.{getD}
 use Rattle.part.specs.PartReq.{PartReq, all, exist, none, more, Subpart, getSubpart, add, contains, entries, over, spine}
 use Rattle.module.specs.Module.{TypeHandle, TypeInner, GlobalHandle, LocalHandle, Function, Module}
-use Rattle.context.specs.Remove.{Removed, left, panic, _>>=_, remove}
+use Rattle.context.specs.Remove.{Removed, left, panic, refusal, _>>=_, remove}
 
 -- the index of the entry of a global, a local or an argument
 abbrev pub variable : ℕ → ℕ
@@ -85,6 +85,11 @@ alter i f (more j p r) =
 pub data RemovedContext : Type 0 where
   leftContext : RequiredContext → RemovedContext
   panicContext : RemovedContext
+
+-- 01's number of each: 0 where a context is left
+abbrev pub refusalContext : RemovedContext → ℕ
+refusalContext (leftContext c) = 0
+refusalContext panicContext = refusal panic
 
 unfoldable pub withGlobals : RequiredContext → Removed → RemovedContext
 withGlobals c (left p) = leftContext (record { globals = p; locals = c .locals; args = c .args; retval = c .retval })

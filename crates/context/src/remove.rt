@@ -9,6 +9,7 @@ ghost use Rattle.context.specs.Remove.{each, typeToParts, split, subtype
 ghost use Rattle.context.specs.Types.{typeWords, typeWord, typeCount, typeKind, typesOf, AllSized, splitMost};
 ghost use Rattle.context.specs.Reduced.{typed, subtypeAt, subtyped, Took, entriesRoom, removeRoom};
 use field::limits::MAX_MEMBERS;
+use module::handles::TypeHandle;
 use part::store::look;
 use part::store::make;
 use part::store::remake;
@@ -19,7 +20,7 @@ pub const TYPE_WORDS: usize = 2 + 2 * MAX_MEMBERS;
 // The type of a requirement, where it is known.
 pub enum Typed {
     Unknown,
-    Is(u32),
+    Is(TypeHandle),
 }
 
 // The type of a subpart, or that the struct has no such member.
@@ -35,19 +36,19 @@ pub enum Reduced {
 }
 
 // The word k of the row t.
-fn type_word(types: &[u32], t: u32, k: usize) -> u32
-    requires { ⌜ (t < typeCount (now types)) × (k < typeWords) ⌝ }
-    ensures { λ r. ⌜ r ≡ typeWord (now (types .entry)) t k ⌝ }
+fn type_word(types: &[u32], t: TypeHandle, k: usize) -> u32
+    requires { ⌜ (t .0 < typeCount (now types)) × (k < typeWords) ⌝ }
+    ensures { λ r. ⌜ r ≡ typeWord (now (types .entry)) (t .0) k ⌝ }
 {
-    let at = TYPE_WORDS * (t as usize) + k;
+    let at = TYPE_WORDS * (t.0 as usize) + k;
     types[at]
 }
 
 // The kind of the type t; opaque, where there is none.
-fn type_kind(types: &[u32], t: u32) -> u32
-    ensures { λ r. ⌜ r ≡ typeKind (now (types .entry)) t ⌝ }
+fn type_kind(types: &[u32], t: TypeHandle) -> u32
+    ensures { λ r. ⌜ r ≡ typeKind (now (types .entry)) (t .0) ⌝ }
 {
-    if types.len() / TYPE_WORDS <= t as usize {
+    if types.len() / TYPE_WORDS <= t.0 as usize {
         return 8;
     }
     type_word(types, t, 0)
@@ -69,11 +70,11 @@ fn each(cells: &mut [u32], n: u32, child: u32) -> u32
 }
 
 // `type_to_parts`: the first of its pair.
-fn type_to_parts(cells: &mut [u32], types: &[u32], t: u32) -> u32
+fn type_to_parts(cells: &mut [u32], types: &[u32], t: TypeHandle) -> u32
     requires { ⌜ Good (now cells) ⌝ }
     requires { ⌜ AllSized (typesOf (now types)) ⌝ }
     requires { ⌜ Room (now cells) splitMost ⌝ }
-    ensures { λ r. ⌜ Made (now (cells .entry)) (now (cells .exit)) (typeToParts (getD (typesOf (now (types .entry))) t Opaque)) splitMost r ⌝ }
+    ensures { λ r. ⌜ Made (now (cells .entry)) (now (cells .exit)) (typeToParts (getD (typesOf (now (types .entry))) (t .0) Opaque)) splitMost r ⌝ }
 {
     let kind = type_kind(types, t);
     if kind == 1 {
@@ -124,7 +125,7 @@ fn subtype_at(types: &[u32], t: Typed, i: u32) -> Subtype
         return Subtype::Gone;
     }
     let member = type_word(types, h, 2 + 2 * (i as usize));
-    Subtype::There(Typed::Is(member))
+    Subtype::There(Typed::Is(TypeHandle(member)))
 }
 
 // The entries of q taken out of those of p, which is of the type t and not to be split.

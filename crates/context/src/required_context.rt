@@ -69,7 +69,7 @@ fn alter(cells: &mut [u32], types: &[u32], m: u32, i: u32, t: TypeHandle, q: u32
         let n = remake(cells, m, x, x.child, r);
         return Reduced::Left(n);
     }
-    let Reduced::Left(c) = remove(cells, types, x.child, q, Typed::Is(t.0)) else {
+    let Reduced::Left(c) = remove(cells, types, x.child, q, Typed::Is(t)) else {
         return Reduced::Panic;
     };
     let n = remake(cells, m, x, c, x.rest);

@@ -8,7 +8,7 @@ use mathlib.Core.Option.{Option, some, none as nothing}
 use lib.Dec.{leb, ltb}
 use borrow.Author.Tests.{lt-ltb, le-ltb}
 use Rattle.field.specs.Limits.{absent}
-use Rattle.part.specs.PartReq.{PartReq, all, exist, none, more, contains, isExist}
+use Rattle.part.specs.PartReq.{PartReq, all, exist, none, more, contains, isAll, isExist}
 use Rattle.part.proofs.Equations.{way, before, after as behind, at, contains-exist, contains-all, contains-none, contains-lt, contains-gt, contains-eq}
 use Rattle.request.specs.Fields.{Read, malformed, got, _>>=_}
 use Rattle.request.specs.Part.{readEntries}
@@ -47,20 +47,24 @@ ask-is (more k q s) j p r h =
       | at e ↦ rw (asks-at j k q s e) (contains-eq j k p q r s e)
     ]
 
--- a list that was read is not `exist`
-more-list : (y : Read PartReq) (j : ℕ) (p : PartReq) {r : PartReq} {gs : List ℕ} → (y >>= λ q hs. got (more j p q) hs) ≡ got r gs → isExist r ≡ false
+-- a list that was read is neither `all` nor `exist`
+IsList : PartReq → Type 0
+IsList r = (isAll r ≡ false) × (isExist r ≡ false)
+
+more-list : (y : Read PartReq) (j : ℕ) (p : PartReq) {r : PartReq} {gs : List ℕ} → (y >>= λ q hs. got (more j p q) hs) ≡ got r gs → IsList r
+unfolding IsList
 more-list malformed j p e = let z : _≡_ {A = ℕ} 0 1 = cc in absurd (omega arith)
-more-list (got q hs) j p {r} e = let z : more j p q ≡ r = cc in sym (ap isExist z)
+more-list (got q hs) j p {r} e = let z : more j p q ≡ r = cc in (sym (ap isAll z), sym (ap isExist z))
 
 entry-list : (c : Bool) (x : Read PartReq) (y : List ℕ → Read PartReq) (j : ℕ) {r : PartReq} {gs : List ℕ}
-    → cond c (x >>= λ p fs. y fs >>= λ q hs. got (more j p q) hs) malformed ≡ got r gs → isExist r ≡ false
+    → cond c (x >>= λ p fs. y fs >>= λ q hs. got (more j p q) hs) malformed ≡ got r gs → IsList r
 entry-list false x y j e = let z : _≡_ {A = ℕ} 0 1 = cc in absurd (omega arith)
 entry-list true malformed y j e = let z : _≡_ {A = ℕ} 0 1 = cc in absurd (omega arith)
 entry-list true (got p fs) y j e = more-list (y fs) j p e
 
-pub read-list : (part′ : List ℕ → Read PartReq) (base low n : ℕ) (fs : List ℕ) {r : PartReq} {gs : List ℕ} → readEntries part′ base low n fs ≡ got r gs → isExist r ≡ false
-unfolding readEntries
-read-list part′ base low zero fs {r} e = let z : none ≡ r = cc in sym (ap isExist z)
+pub read-list : (part′ : List ℕ → Read PartReq) (base low n : ℕ) (fs : List ℕ) {r : PartReq} {gs : List ℕ} → readEntries part′ base low n fs ≡ got r gs → (isAll r ≡ false) × (isExist r ≡ false)
+unfolding readEntries IsList
+read-list part′ base low zero fs {r} e = let z : none ≡ r = cc in (sym (ap isAll z), sym (ap isExist z))
 read-list part′ base low (suc n) [] e = let z : _≡_ {A = ℕ} 0 1 = cc in absurd (omega arith)
 read-list part′ base low (suc n) (i ∷ fs) e = entry-list (leb low i && ltb i absent) (part′ fs) (readEntries part′ base (suc i) n) (base + i) e
 
@@ -124,7 +128,7 @@ module _ (q : PartReq) (j : ℕ) (x : Read PartReq) (part′ : List ℕ → Read
   entry = x >>= λ p gs. readEntries part′ base low n gs >>= λ r hs. got (more j p r) hs
 
   stepped : covers q entry ≡ step (asks q j) x (readEntries part′ base low n)
-  stepped = step-is q j x (readEntries part′ base low n) (λ fs r gs e. read-list part′ base low n fs e)
+  stepped = step-is q j x (readEntries part′ base low n) (λ fs r gs e. read-list part′ base low n fs e .1)
 
   pub covers-other : asks q j ≡ other → covers q entry ≡ nothing
   unfolding step

@@ -3,5 +3,8 @@ pub mod Checked
 pub mod Lists
 pub mod Asking
 pub mod Covered
+pub mod Accepted
 pub mod Starting
+pub mod Counted
+pub mod Found
 pub mod Status

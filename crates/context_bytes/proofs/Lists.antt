@@ -46,7 +46,7 @@ module _ {b : List ℕ} {at i : ℕ} (f : Field b at i) where
         placed = (omega arith, f .inside);
       }
 
-  return-is : (i ≡ 3 → ⊥) → readReturn (from b at) ≡ (readPart maxDepth (from b at) >>= λ p gs. got (some p) gs)
+  pub return-is : (i ≡ 3 → ⊥) → readReturn (from b at) ≡ (readPart maxDepth (from b at) >>= λ p gs. got (some p) gs)
   unfolding readReturn
   return-is h = rw (from-cons b at (f .inside), ne-eqb (fieldAt b at) 3 (λ e. h (f .is ∙ e)))
 
@@ -75,17 +75,17 @@ variables-read {b} {at} {n} {limit} {a} f was =
     record { is = k .is ∙ sym (ap (checked (variable limit)) e); placed = sooner b at a (k .placed) }
 
 -- of a list that was read, whether every index is below the limit
-record Listed (limit : ℕ) (v : Read PartReq) (known : Bool) (gs : List ℕ) : Type 0 where
-  list : PartReq
-  is : v ≡ got list gs
-  below : allBelow (variable limit) list ≡ known
+pub record Listed (limit : ℕ) (v : Read PartReq) (known : Bool) (gs : List ℕ) : Type 0 where
+  pub list : PartReq
+  pub is : v ≡ got list gs
+  pub below : allBelow (variable limit) list ≡ known
 
-listed : (limit : ℕ) (v : Read PartReq) {known : Bool} {gs : List ℕ} → checked (variable limit) v ≡ got known gs → Listed limit v known gs
+pub listed : (limit : ℕ) (v : Read PartReq) {known : Bool} {gs : List ℕ} → checked (variable limit) v ≡ got known gs → Listed limit v known gs
 unfolding checked
 listed limit malformed e = let z : _≡_ {A = ℕ} 0 1 = cc in absurd (omega arith)
 listed limit (got q hs) e = record { list = q; is = cc; below = cc }
 
-unlisted : (limit : ℕ) (v : Read PartReq) → checked (variable limit) v ≡ malformed → v ≡ malformed
+pub unlisted : (limit : ℕ) (v : Read PartReq) → checked (variable limit) v ≡ malformed → v ≡ malformed
 unfolding checked
 unlisted limit malformed e = refl
 unlisted limit (got q hs) e = let z : _≡_ {A = ℕ} 0 1 = cc in absurd (omega arith)

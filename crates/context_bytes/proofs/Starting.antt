@@ -16,9 +16,8 @@ use Rattle.clearance.specs.Shape.{below}
 use Rattle.clearance.specs.Scope.{variable}
 use Rattle.clearance.specs.Verdict.{needsExpression, starts}
 use Rattle.needs.specs.Path.{Piece}
-use Rattle.request.specs.Fields.{Read, malformed, got, _>>=_, whole}
 use Rattle.request.specs.Part.{readReturn, readVariables}
-use Rattle.request.specs.Context.{readLists, readContextBody, isContext, contextOf}
+use Rattle.request.specs.Context.{isContext, contextOf}
 use Rattle.request.specs.Answers.{from}
 use Rattle.context_bytes.specs.declared.check.Skipped.{Skipped}
 use Rattle.context_bytes.specs.declared.check.Skipped.the-variants as skips
@@ -26,6 +25,7 @@ use Rattle.context_bytes.specs.declared.cover.Covered.{Covered}
 use Rattle.context_bytes.specs.declared.cover.Covered.the-variants.{No, Next}
 use Rattle.context_bytes.specs.Checked.{Skips}
 use Rattle.context_bytes.specs.Covered.{covers, Covers, after, isSome, listsCover, CoversContext}
+use Rattle.context_bytes.proofs.Accepted.{Accepted, accepted}
 use Rattle.context_bytes.proofs.Checked.{skip-refused, skip-passed}
 use Rattle.context_bytes.proofs.Covered.{not-covered, is-covered}
 
@@ -80,59 +80,6 @@ module _ (g a : PartReq) {b : List ℕ} {at : ℕ} {x : Covered} (first : Covers
     pub lists-both : {end : ℕ} → y ≡ Next end → true ≡ listsCover g a (from b at)
     unfolding listsCover
     lists-both f = rw (is-covered first e, is-covered second f)
-
--- what came before a reading that went through
-record Bound {A B : Type 0} (x : Read A) (f : A → List ℕ → Read B) (v : B) (gs : List ℕ) : Type 0 where
-  value : A
-  left : List ℕ
-  is : x ≡ got value left
-  then : f value left ≡ got v gs
-
-bound : {A B : Type 0} (x : Read A) (f : A → List ℕ → Read B) {v : B} {gs : List ℕ} → (x >>= f) ≡ got v gs → Bound x f v gs
-bound malformed f e = let z : _≡_ {A = ℕ} 0 1 = cc in absurd (omega arith)
-bound (got a fs) f e = record { value = a; left = fs; is = refl; then = e }
-
-whole-some : {A : Type 0} (x : Read A) {v : A} → whole x ≡ some v → x ≡ got v []
-unfolding whole
-whole-some malformed e = let z : _≡_ {A = ℕ} 0 1 = cc in absurd (omega arith)
-whole-some (got a []) e = cc
-whole-some (got a (f ∷ fs)) e = let z : _≡_ {A = ℕ} 0 1 = cc in absurd (omega arith)
-
-cond-some : {A : Type 0} (b : Bool) (x : Option A) {v : A} → cond b x nothing ≡ some v → (b ≡ true) × (x ≡ some v)
-cond-some true x e = (refl, e)
-cond-some false x e = let z : _≡_ {A = ℕ} 0 1 = cc in absurd (omega arith)
-
--- an accepted context's return part and first two lists
-record Accepted (b : List ℕ) (c : RequiredContext) : Type 0 where
-  retval : Option PartReq
-  lists : List ℕ
-  args : List ℕ
-  locals : List ℕ
-  framed : isContext b ≡ true
-  return-is : readReturn (from b 6) ≡ got retval lists
-  globals-is : readVariables lists ≡ got (c .globals) args
-  args-is : readVariables args ≡ got (c .args) locals
-
-accepted : {b : List ℕ} {c : RequiredContext} → contextOf b ≡ some c → Accepted b c
-unfolding contextOf readContextBody readLists
-accepted {b} {c} e =
-    let t = cond-some (isContext b) (whole (readReturn (from b 6) >>= readLists)) e in
-    let r = bound (readReturn (from b 6)) readLists (whole-some (readReturn (from b 6) >>= readLists) (t .1)) in
-    let g = bound (readVariables (r .left)) _ (r .then) in
-    let a = bound (readVariables (g .left)) _ (g .then) in
-    let l = bound (readVariables (a .left)) _ (a .then) in
-    let globals : g .value ≡ c .globals = cc in
-    let args : a .value ≡ c .args = cc in
-    record {
-      retval = r .value;
-      lists = r .left;
-      args = g .left;
-      locals = a .left;
-      framed = t .0;
-      return-is = r .is;
-      globals-is = g .is ∙ rw globals;
-      args-is = a .is ∙ rw args;
-    }
 
 both-some : (x : Bool) (gs : List ℕ) (f : List ℕ → Option (List ℕ)) → isSome (after (cond x (some gs) nothing) f) ≡ x && isSome (f gs)
 both-some true gs f = refl

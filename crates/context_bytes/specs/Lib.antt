@@ -1,3 +1,5 @@
 pub mod Codes
 pub mod Checked
 pub mod Covered
+pub mod Counted
+pub mod Found

@@ -97,7 +97,7 @@ pub fn skip_return(bytes: &[u8], at: usize) -> Skipped
 }
 
 // A list of variables: whether each is below `limit`.
-fn check_variables(bytes: &[u8], at: usize, limit: u32) -> Checked
+pub fn check_variables(bytes: &[u8], at: usize, limit: u32) -> Checked
     requires { ⌜ at ≤ length (now bytes) ⌝ }
     ensures { λ r. ⌜ Checks (now (bytes .entry)) at (checked (variable limit) (readVariables (from (now (bytes .entry)) at))) r ⌝ }
 {

@@ -12,8 +12,7 @@ use hold::hold::copy;
 use hold::hold::push_sum;
 use module::handles::ExpressionHandle;
 use module::handles::FunctionHandle;
-
-const ABSENT: u16 = 65535;
+use module::handles::NO_HANDLE;
 
 // The needs of both blocks are joined, and the condition is needed.
 pub fn end_if(
@@ -60,17 +59,17 @@ pub fn begin_loop(
     roots: &mut [u32],
     n: usize,
     l: usize,
-    e: u16,
+    e: ExpressionHandle,
 ) -> bool
-    requires { ⌜ BeginGiven (scopeAt (now bytes) (now t) (f .0)) l (now cells) (now roots) n e ⌝ }
-    ensures { λ r. ⌜ Begun (scopeAt (now (bytes .entry)) (now (t .entry)) (f .0)) l (optionOf e) (now (cells .entry)) (now (roots .entry)) n (now (cells .exit)) (now (roots .exit)) r ⌝ }
+    requires { ⌜ BeginGiven (scopeAt (now bytes) (now t) (f .0)) l (now cells) (now roots) n (e .0) ⌝ }
+    ensures { λ r. ⌜ Begun (scopeAt (now (bytes .entry)) (now (t .entry)) (f .0)) l (optionOf (e .0)) (now (cells .entry)) (now (roots .entry)) n (now (cells .exit)) (now (roots .exit)) r ⌝ }
 {
-    if e == ABSENT {
+    if e.0 == NO_HANDLE {
         copy(roots, l, n);
         return true;
     }
     if !push_sum(cells, roots, n, n - 1, l) {
         return false;
     }
-    ask_whole(bytes, t, f, cells, roots, n + 1, ExpressionHandle(e as u32))
+    ask_whole(bytes, t, f, cells, roots, n + 1, e)
 }

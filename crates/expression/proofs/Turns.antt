@@ -1,38 +1,27 @@
 -- The turns of a visit: what is left of the asks gives the whole (`Left`), and each way through a turn keeps that, or ends it. First the definition, one ask at
 -- a time.
 use Prim.Native.Nat.{ℕ, suc, _<_, _≤_}
-use mathlib.Core.Path.{_≡_, refl, sym, ap, _∙_}
-use mathlib.Core.Bool.{true}
+use mathlib.Core.Path.{_≡_, sym, ap, _∙_}
 use mathlib.Core.List.{List, []}
 use mathlib.Core.Option.{some, none as nothing}
 use lib.ListN.{getElem?, drop}
 use Rattle.field.specs.Limits.{maxPieces, maxVisits}
 use Rattle.part.specs.PartReq.{PartReq, getSubpart}
 use Rattle.module.specs.Module.{Module, FunctionHandle, ExpressionHandle}
-use Rattle.module.specs.Blocks.{allBelow}
 use Rattle.valid.specs.Valid.{ComponentsWithin}
 use Rattle.context.specs.RequiredContext.{variable}
-use Rattle.walk.specs.State.{State, Out, Walk, atExpression, went, halt, _>>_, _>>=_, visited, count, counted}
+use Rattle.walk.specs.State.{State, Out, atExpression, went, halt, _>>_, _>>=_, visited, count, counted}
 use Rattle.walk.specs.Resolve.{expressionAt}
-use Rattle.walk.specs.Lower.{operandsOf}
+use Rattle.walk.specs.Lower.{LowerExpression}
 use Rattle.walk.specs.Expression.{Ask, ofOperand, ofArgument, ofGlobal, ofLocal, refuse, armAsks, askArgument, askGlobal, askLocal, addAsk, addAsks, recorded, addExpression}
-use Rattle.walk.proofs.Bind.{next-then, next-same, counted-over, counted-under, visit-late, visit-begins}
+use Rattle.walk.proofs.Bind.{next-then, next-next, next-self, next-same, counted-over, counted-under, visit-late, visit-begins}
 use Rattle.walk.proofs.Equations.{addExpression-is, asks-next, asks-done}
 use Rattle.expression.specs.Walks.{closing, endingArgument, endingLocal, endingGlobal, asksFrom}
 use Rattle.expression.proofs.Arms.{arm}
 
--- sequences
-next-next : {B : Type 0} (x : Out (Unit {0})) (k : Walk (Unit {0})) (l : Walk B) → ((x >> k) >> l) ≡ (x >> λ st. k st >> l)
-next-next (went st a) k l = refl
-next-next (halt n at) k l = refl
-
-next-self : (x : Out (Unit {0})) → (x >> λ st. went st tt) ≡ x
-next-self (went st tt) = refl
-next-self (halt n at) = refl
-
 module _ (m : Module) (f : FunctionHandle) (held : ℕ) (e : ExpressionHandle) (p : PartReq) where
   -- a visit, by its asks
-  module _ (low : allBelow e (operandsOf (expressionAt m f e)) ≡ true) (st : State) where
+  module _ (low : LowerExpression m f e) (st : State) where
     pub visit-17 : maxVisits ≤ st .visits → halt 17 (atExpression f e) ≡ addExpression m f held e p st
     visit-17 h = sym (addExpression-is m f held e p st low ∙ visit-late held (atExpression f e) _ st h)
 

@@ -11,7 +11,6 @@ use lib.ListN.{length, getElem?, replicate}
 use Rattle.field.specs.Limits.{maxPieces, maxVisits, maxDepth, maxComponents}
 use Rattle.part.specs.PartReq.{PartReq, all, none, entries, spine}
 use Rattle.module.specs.Module.{Function}
-use Rattle.module.specs.Blocks.{allBelow}
 use Rattle.module.specs.Tables.{rowAt, moduleOf}
 use Rattle.module.specs.declared.handles.ExpressionHandle.{ExpressionHandle}
 use Rattle.module.specs.declared.handles.FunctionHandle.{FunctionHandle}
@@ -25,7 +24,7 @@ use Rattle.sound.proofs.Lower.{lower}
 use Rattle.context.specs.RequiredContext.{pieces}
 use Rattle.walk.specs.State.{State, Walk, _>>_, recordPieces, functionPieces, totalPieces}
 use Rattle.walk.specs.Resolve.{functionAt, expressionAt}
-use Rattle.walk.specs.Lower.{operandsOf}
+use Rattle.walk.specs.Lower.{LowerExpression}
 use Rattle.walk.specs.Expression.{Ask, armAsks, addExpression}
 use Rattle.walk.proofs.Bind.{next-went, next-halt}
 use Rattle.memory.specs.Memory.{read, contextAt, Memory, Tidied}
@@ -77,8 +76,8 @@ module _ {bytes t s rs : List ℕ} {f at held sum : ℕ} (r : Ready bytes t s rs
   is-valid : Valid (moduleOf bytes t)
   is-valid = valid bytes (moduleOf bytes t) (r .was-read .module-is)
 
-  low : allBelow e (operandsOf (expressionAt (moduleOf bytes t) f e)) ≡ true
-  low = lower (moduleOf bytes t) is-valid .operands f e
+  low : LowerExpression (moduleOf bytes t) f e
+  low = lower (moduleOf bytes t) is-valid .expressions f e
 
   module _ (there : e < length (functionAt (moduleOf bytes t) f .expressions)) where
     components : ComponentsWithin (expressionAt (moduleOf bytes t) f e)

@@ -19,6 +19,7 @@ use Rattle.module.specs.Tables.{functionOf, moduleOf}
 use Rattle.access.specs.Access.{globalAt, localAt}
 use Rattle.access.proofs.Access.{global-is, local-is}
 use Rattle.valid.proofs.Accepted.{valid}
+use Rattle.context.specs.Types.{typesOf}
 use Rattle.clearance.specs.Shape.{Shape, member, extent, isWhole, some}
 use Rattle.clearance.specs.Scope.{Scope, variable, typeOf, slots, kindShape, frame, shapeOf, expressionsOf}
 use Rattle.clearance.specs.IsNeed.{Tidy, IsNeed}
@@ -26,10 +27,9 @@ use Rattle.judge.specs.Given.{scopeAt}
 use Rattle.judge.proofs.PathSteps.{function-valid}
 use Rattle.needs.specs.Lean.{change, leaves}
 use Rattle.needs.specs.Framed.{Framed}
-use Rattle.forms.specs.ShapeBy.{shapeBy}
+use Rattle.forms.specs.ShapeBy.{shapeIn}
 use Rattle.forms.specs.Narrow.{levelCells, Narrow}
 use Rattle.forms.specs.Frames.{Framing, Rooted, placeCells}
-use Rattle.forms.specs.declared.form.Form.the-variants.{Of}
 use Rattle.forms.proofs.Shapes.{shape-is, struct-in}
 use Rattle.forms.proofs.Leaves.{leaves-gone, leaves-there, change-same, need-entry, gone-there, inside, struct-width, narrow-type}
 use Rattle.forms.proofs.Taking.{Left, EntryAsked, Changed, OutAsked, got-gone, got-there}
@@ -132,13 +132,13 @@ module _ {bytes t types : List ℕ} {f : ℕ} (F : Framing bytes t f types) wher
       rw z (sym (slot-at 32 v (λ e. shapeOf S (typeOf S (32 * k + e))) h))
 
   module _ {k v : ℕ} (l : v < extent (kindShape S k)) {h : ℕ} where
-    pub place-global : k ≡ 0 → h ≡ globalAt bytes t v → shapeBy types (Of h) ≡ member (kindShape S k) (variable v)
+    pub place-global : k ≡ 0 → h ≡ globalAt bytes t v → shapeIn (typesOf types) h ≡ member (kindShape S k) (variable v)
     place-global e w = rw (← shape-is types S (F .same) h, w, e) (global-shape v (rw e at l))
 
-    pub place-local : k ≡ 1 → h ≡ localAt bytes t f v → shapeBy types (Of h) ≡ member (kindShape S k) (variable v)
+    pub place-local : k ≡ 1 → h ≡ localAt bytes t f v → shapeIn (typesOf types) h ≡ member (kindShape S k) (variable v)
     place-local e w = rw (← shape-is types S (F .same) h, w, e) (local-shape v (rw e at l))
 
-    pub place-evaluated : (k ≡ 0 → ⊥) → (k ≡ 1 → ⊥) → (k ≡ 2 → ⊥) × (k ≡ 3 → ⊥) → h ≡ typeOf S (32 * (k - 4) + v) → shapeBy types (Of h) ≡ member (kindShape S k) (variable v)
+    pub place-evaluated : (k ≡ 0 → ⊥) → (k ≡ 1 → ⊥) → (k ≡ 2 → ⊥) × (k ≡ 3 → ⊥) → h ≡ typeOf S (32 * (k - 4) + v) → shapeIn (typesOf types) h ≡ member (kindShape S k) (variable v)
     place-evaluated a b c w = rw (← shape-is types S (F .same) h, w) (evaluated-shape k v a b c l)
 
 -- a path by its first two indexes

@@ -8,6 +8,7 @@ use lib.Dec.{eqb}
 use lib.ListN.{length, getD}
 use borrow.Author.Tests.{lt-ltb, le-ltb, eq-eqb, ne-eqb}
 use Rattle.part.specs.PartReq.{all, spine}
+use Rattle.module.specs.declared.handles.TypeHandle.{TypeHandle as Handle}
 use Rattle.module.specs.Module.{Member, TypeHandle, TypeInner, Scalar, Vector, Matrix, Atomic, Pointer, Array, Struct, BindingArray, Opaque}
 use Rattle.module.specs.Decode.{tab, memberOf, typeInnerOf}
 use Rattle.module.specs.Knot.{below}
@@ -26,7 +27,7 @@ use Rattle.forms.specs.declared.form.Split.{Split}
 use Rattle.forms.specs.declared.form.Split.the-variants.{Whole, Into}
 
 -- in every scope with these types it is the clearance's shape
-pub shape-is : (types : List ℕ) (S : Scope) → S .program .types ≡ typesOf types → (t : TypeHandle) → shapeOf S t ≡ shapeBy types (Of t)
+pub shape-is : (types : List ℕ) (S : Scope) → S .program .types ≡ typesOf types → (t : TypeHandle) → shapeOf S t ≡ shapeIn (typesOf types) t
 unfolding shapeOf shapeIn inner
 shape-is types S e t = rw e
 
@@ -333,15 +334,15 @@ module _ (types : List ℕ) (f : Form) where
     pub vector-split : Parted (shapeBy types f) (Into n)
     vector-split = rw e (record { part = λ j. number; is = unfold vectorShape in refl })
 
-  module _ {t : ℕ} (e : f ≡ Of t) where
-    pub type-member : (i : ℕ) (r : Form) → shapeBy types r ≡ member (shapeIn (typesOf types) t) i → shapeBy types r ≡ member (shapeBy types f) i
+  module _ {t : Handle} (e : f ≡ Of t) where
+    pub type-member : (i : ℕ) (r : Form) → shapeBy types r ≡ member (shapeIn (typesOf types) (t .0)) i → shapeBy types r ≡ member (shapeBy types f) i
     type-member i r h = rw e h
 
     pub of-void : false ≡ isVoid (shapeBy types f)
-    of-void = rw e (type-void types t)
+    of-void = rw e (type-void types (t .0))
 
-    pub type-whole : {b : Bool} → b ≡ isWhole (shapeIn (typesOf types) t) → b ≡ isWhole (shapeBy types f)
+    pub type-whole : {b : Bool} → b ≡ isWhole (shapeIn (typesOf types) (t .0)) → b ≡ isWhole (shapeBy types f)
     type-whole h = rw e h
 
-    pub type-split : (r : Split) → Parted (shapeIn (typesOf types) t) r → Parted (shapeBy types f) r
+    pub type-split : (r : Split) → Parted (shapeIn (typesOf types) (t .0)) r → Parted (shapeBy types f) r
     type-split r h = rw e h

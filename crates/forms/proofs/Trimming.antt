@@ -23,9 +23,8 @@ use Rattle.clearance.specs.Shape.{Shape, void, member, isVoid, under, keep, tri
 use Rattle.clearance.specs.Scope.{Scope, inner, variable, slots, kindShape, frame, resultShape, shapeOf}
 use Rattle.judge.specs.Alike.{Lower}
 use Rattle.judge.specs.Given.{scopeAt}
-use Rattle.forms.specs.ShapeBy.{shapeIn, shapeBy}
+use Rattle.forms.specs.ShapeBy.{shapeIn}
 use Rattle.forms.specs.Frames.{globalsShape, trimGlobals}
-use Rattle.forms.specs.declared.form.Form.the-variants.{Of}
 use Rattle.forms.proofs.Shapes.{shape-is, struct-in, struct-out, struct-before}
 use Rattle.forms.proofs.Places.{slot-at, frame-count, frame-is}
 
@@ -160,7 +159,7 @@ module _ (S : Scope) (b : Bound) {r : Option FunctionResult} (w : resultFrom b �
   unfolding resultShape
   result-void h = rw (← w, eq-eqb (b .ty .0) absent h)
 
-  pub result-type : (types : List ℕ) → S .program .types ≡ typesOf types → (b .ty .0 ≡ absent → ⊥) → shapeBy types (Of (b .ty .0)) ≡ resultShape S r
+  pub result-type : (types : List ℕ) → S .program .types ≡ typesOf types → (b .ty .0 ≡ absent → ⊥) → shapeIn (typesOf types) (b .ty .0) ≡ resultShape S r
   unfolding resultShape
   result-type types e h = rw (← w, ne-eqb (b .ty .0) absent h) (sym (shape-is types S e (b .ty .0)))
 

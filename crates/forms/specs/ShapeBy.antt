@@ -22,7 +22,7 @@ abbrev pub shapeBy : List ℕ → Form → Shape
 shapeBy types Void = void
 shapeBy types Number = number
 shapeBy types (Vector n) = vectorShape n
-shapeBy types (Of t) = shapeIn (typesOf types) t
+shapeBy types (Of t) = shapeIn (typesOf types) (t .0)
 
 -- the shape has n parts, with the indexes from 0 on
 pub record Members (t : Shape) (n : ℕ) : Type 0 where

@@ -20,7 +20,7 @@ pub enum Form {
     Void,
     Number,
     Vector(u32),
-    Of(u32),
+    Of(TypeHandle),
 }
 
 // How all of a value is split: not at all, or into so many parts.
@@ -30,14 +30,14 @@ pub enum Split {
 }
 
 // How many parts the type t has, one level down: of an array without a count as many as a file has indexes.
-fn type_extent(types: &[u32], t: u32) -> u32
-    ensures { λ r. ⌜ r ≡ extent (shapeIn (typesOf (now (types .entry))) t) ⌝ }
+fn type_extent(types: &[u32], t: TypeHandle) -> u32
+    ensures { λ r. ⌜ r ≡ extent (shapeIn (typesOf (now (types .entry))) (t .0)) ⌝ }
 {
     let k = kind_at(types, t);
     if k == 7 {
         return SPINE;
     }
-    let n = part_count(types, TypeHandle(t));
+    let n = part_count(types, t);
     if k != 5 {
         return n;
     }
@@ -48,9 +48,9 @@ fn type_extent(types: &[u32], t: u32) -> u32
 }
 
 // The shape of the part i of the type t.
-fn type_member(types: &[u32], t: u32, i: u32) -> Form
+fn type_member(types: &[u32], t: TypeHandle, i: u32) -> Form
     requires { ⌜ Lower (typesOf (now types)) ⌝ }
-    ensures { λ r. ⌜ shapeBy (now (types .entry)) r ≡ member (shapeIn (typesOf (now (types .entry))) t) i ⌝ }
+    ensures { λ r. ⌜ shapeBy (now (types .entry)) r ≡ member (shapeIn (typesOf (now (types .entry))) (t .0)) i ⌝ }
 {
     if type_extent(types, t) <= i {
         return Form::Void;
@@ -100,8 +100,8 @@ pub fn is_void(types: &[u32], form: Form) -> bool
 }
 
 // Whether the type t is an array's.
-fn whole_type(types: &[u32], t: u32) -> bool
-    ensures { λ r. ⌜ r ≡ isWhole (shapeIn (typesOf (now (types .entry))) t) ⌝ }
+fn whole_type(types: &[u32], t: TypeHandle) -> bool
+    ensures { λ r. ⌜ r ≡ isWhole (shapeIn (typesOf (now (types .entry))) (t .0)) ⌝ }
 {
     let k = kind_at(types, t);
     if k == 5 {
@@ -123,18 +123,18 @@ pub fn is_whole(types: &[u32], form: Form) -> bool
 }
 
 // How all of the type t is split.
-fn type_split(types: &[u32], t: u32) -> Split
-    ensures { λ r. ⌜ Parted (shapeIn (typesOf (now (types .entry))) t) r ⌝ }
+fn type_split(types: &[u32], t: TypeHandle) -> Split
+    ensures { λ r. ⌜ Parted (shapeIn (typesOf (now (types .entry))) (t .0)) r ⌝ }
 {
     let k = kind_at(types, t);
     if k == 1 {
-        return Split::Into(first_word(types, TypeHandle(t)));
+        return Split::Into(first_word(types, t));
     }
     if k == 2 {
-        return Split::Into(first_word(types, TypeHandle(t)));
+        return Split::Into(first_word(types, t));
     }
     if k == 6 {
-        return Split::Into(first_word(types, TypeHandle(t)));
+        return Split::Into(first_word(types, t));
     }
     Split::Whole
 }

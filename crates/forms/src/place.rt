@@ -33,14 +33,14 @@ fn place_form(bytes: &[u8], t: &[u32], f: FunctionHandle, types: &[u32], k: u32,
 {
     if k == 0 {
         let h = global(bytes, t, GlobalHandle(v));
-        return Form::Of(h.0);
+        return Form::Of(h);
     }
     if k == 1 {
         let h = local(bytes, t, f, LocalHandle(v));
-        return Form::Of(h.0);
+        return Form::Of(h);
     }
     let h = type_of(bytes, t, f, ExpressionHandle(32 * (k - 4) + v));
-    Form::Of(h.0)
+    Form::Of(h)
 }
 
 // The needs n without the part at the path, whose first two indexes say where its variable is.

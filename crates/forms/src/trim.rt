@@ -59,7 +59,7 @@ fn global_form(bytes: &[u8], t: &[u32], types: &[u32], i: u32) -> Form
         return Form::Void;
     }
     let h = global(bytes, t, GlobalHandle(g));
-    Form::Of(h.0)
+    Form::Of(h)
 }
 
 // What is left of p, a map of globals.
@@ -102,7 +102,7 @@ fn result_form(bytes: &[u8], t: &[u32], f: FunctionHandle, types: &[u32]) -> For
     if b.ty.0 == NO_HANDLE {
         return Form::Void;
     }
-    Form::Of(b.ty.0)
+    Form::Of(b.ty)
 }
 
 // What is left of p, asked of a function's result.

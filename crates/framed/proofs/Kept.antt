@@ -12,20 +12,16 @@ use Rattle.part.specs.PartReq.{PartReq, none, more, isAll, add}
 use Rattle.part.specs.Ascending.{Ascending}
 use Rattle.part.proofs.Equations.{never}
 use Rattle.module.specs.Module.{ExpressionHandle, Expression}
-use Rattle.module.specs.Module.{Literal, ZeroValue, WorkGroupUniformLoadResult, AccessIndex, Access, Constant, Splat, Swizzle, Compose}
-use Rattle.module.specs.Module.{FunctionArgument, GlobalVariable, LocalVariable, Load, ImageSample, ImageLoad, ImageQuery, Unary, Binary, Select}
-use Rattle.module.specs.Module.{Derivative, Relational, Math, As, CallResult, AtomicResult, ArrayLength, RayQueryProceedResult}
-use Rattle.module.specs.Module.{RayQueryGetIntersection, Override, SubgroupBallotResult, SubgroupOperationResult, RayQueryVertexPositions}
 use Rattle.module.proofs.Knot.{knot-all}
 use Rattle.clearance.specs.Shape.{under, some, trim, hit}
-use Rattle.clearance.specs.Scope.{Scope, variable, slot, typed, Path, nowhere, further, stepFrom, pathOf, front, indexes, target, frame, evaluated, Operand, whole, same}
+use Rattle.module.specs.Way.{Way, constantly, dynamically, toGlobal, toLocal, noWay, wayOf}
+use Rattle.clearance.specs.Scope.{Scope, variable, slot, typed, Path, nowhere, further, stepWay, stepFrom, pathOf, front, indexes, target, frame, evaluated, Operand, whole, same}
 use Rattle.clearance.specs.Scope.{Arm, fixed, argued, pointing, operator, accessIndex, access, swizzle, compose, joined, load, unjudged, arm, Source, given, from, sourceOf, source}
 use Rattle.clearance.specs.Tree.{Act, emit, store, Tree, nop, seq, act, branch, switch, loop, break, continue, return, unmarked}
 use Rattle.clearance.specs.Needs.{Ask, ofValue, ofPlace, askOperand, askWhole, askPicked, askComponents, askSteps, asks, gives, needAt, needFrom, need, needs, overlap, without, storing, giving, before, wholly}
 use Rattle.clearance.specs.Needs.{Exit, next, broke, continued, returned, upon, outBreak, outContinue, ofCase, ofContinuing, ofBody, union, obeys, kept, turning, valued, through, afterContinuing, Setting, Table, reentry, joinAt, walk, afterBody, sweep}
 use Rattle.clearance.specs.Verdict.{Request, ending}
 use Rattle.clearance.specs.IsNeed.{AscendingRequest}
-use Rattle.clearance.proofs.Small.{cases}
 use Rattle.clearance.proofs.Ascending.{under-ok, sub-ok, below-ok, trim-ok, out-ok, add-need, trim-need, none-need}
 use Rattle.pass.specs.Pass.{Carried, on, acting}
 use Rattle.pass.proofs.Pass.{Says, says-acting}
@@ -44,40 +40,17 @@ nowhere-deep : DeepRoot nowhere
 nowhere-deep [] = omega arith
 nowhere-deep (x ∷ xs) = tt
 
+way-deep : (path : ExpressionHandle → Path) (w : Way) → ((e : ExpressionHandle) → DeepRoot (path e)) → DeepRoot (stepWay path w)
+unfolding further slot
+way-deep path (constantly base index) h = h base
+way-deep path (dynamically base index) h = h base
+way-deep path (toGlobal g) h = λ xs. tt
+way-deep path (toLocal l) h = λ xs. tt
+way-deep path noWay h = nowhere-deep
+
 step-deep : (path : ExpressionHandle → Path) (x : Expression) → ((e : ExpressionHandle) → DeepRoot (path e)) → DeepRoot (stepFrom path x)
-unfolding stepFrom further slot
-step-deep path Literal h = nowhere-deep
-step-deep path ZeroValue h = nowhere-deep
-step-deep path WorkGroupUniformLoadResult h = nowhere-deep
-step-deep path (AccessIndex base index) h = h base
-step-deep path (Access base index) h = h base
-step-deep path Constant h = nowhere-deep
-step-deep path (Splat value) h = nowhere-deep
-step-deep path (Swizzle vector pattern) h = nowhere-deep
-step-deep path (Compose components) h = nowhere-deep
-step-deep path (FunctionArgument index) h = nowhere-deep
-step-deep path (GlobalVariable g) h = λ xs. tt
-step-deep path (LocalVariable l) h = λ xs. tt
-step-deep path (Load pointer) h = nowhere-deep
-step-deep path (ImageSample image sampler coordinate arrayIndex level depthRef) h = nowhere-deep
-step-deep path (ImageLoad image coordinate arrayIndex sample level) h = nowhere-deep
-step-deep path (ImageQuery image level) h = nowhere-deep
-step-deep path (Unary x) h = nowhere-deep
-step-deep path (Binary left right) h = nowhere-deep
-step-deep path (Select condition accept reject) h = nowhere-deep
-step-deep path (Derivative x) h = nowhere-deep
-step-deep path (Relational x) h = nowhere-deep
-step-deep path (Math x x1 x2 x3) h = nowhere-deep
-step-deep path (As x) h = nowhere-deep
-step-deep path CallResult h = nowhere-deep
-step-deep path AtomicResult h = nowhere-deep
-step-deep path (ArrayLength x) h = nowhere-deep
-step-deep path RayQueryProceedResult h = nowhere-deep
-step-deep path (RayQueryGetIntersection query) h = nowhere-deep
-step-deep path Override h = nowhere-deep
-step-deep path SubgroupBallotResult h = nowhere-deep
-step-deep path SubgroupOperationResult h = nowhere-deep
-step-deep path RayQueryVertexPositions h = nowhere-deep
+unfolding stepFrom
+step-deep path x h = way-deep path (wayOf x) h
 
 pub target-deep : (S : Scope) (e : ExpressionHandle) → Deep (target (pathOf S e))
 unfolding pathOf target

@@ -21,7 +21,7 @@ use Rattle.clearance.proofs.Small.{cases}
 use Rattle.judge.specs.Marked.{marked}
 use Rattle.judge.specs.Unsized.{UnsizedTable}
 use Rattle.judge.specs.Given.{scopeAt, Given, Row, Fits}
-use Rattle.judge.proofs.PathSteps.{past}
+use Rattle.module.proofs.Each.{past}
 use Rattle.judge.proofs.ValueRows.{Each}
 use Rattle.judge.proofs.Unsized.{held-either}
 use Rattle.judge.proofs.Operands.{S, type-low, G, o, by-kind}

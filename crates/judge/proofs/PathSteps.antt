@@ -1,6 +1,6 @@
 -- `isPath` is one step over its own answers for lower expressions: by the kind, a variable or an index of a path. So a table of the lower
 -- expressions gives the next entry.
-use Prim.Native.Nat.{ℕ, zero, suc, _<_, _≤_}
+use Prim.Native.Nat.{ℕ, _<_, _≤_}
 use native.Mathlib.Omega.{arith}
 use native.Mathlib.Decide.{decLt}
 use mathlib.Core.Path.{_≡_, refl, sym, ap, subst, _∙_}
@@ -10,98 +10,50 @@ use lib.Dec.{ltb, eqb}
 use lib.ListN.{length, getD, List·getD-eq-default}
 use Rattle.field.specs.Limits.{maxExpressions}
 use Rattle.module.specs.Module.{ExpressionHandle, Expression, Typed, Function}
-use Rattle.module.specs.Module.{Literal, ZeroValue, WorkGroupUniformLoadResult, AccessIndex, Access, Constant, Splat, Swizzle, Compose}
-use Rattle.module.specs.Module.{FunctionArgument, GlobalVariable, LocalVariable, Load, ImageSample, ImageLoad, ImageQuery, Unary, Binary, Select}
-use Rattle.module.specs.Module.{Derivative, Relational, Math, As, CallResult, AtomicResult, ArrayLength, RayQueryProceedResult}
-use Rattle.module.specs.Module.{RayQueryGetIntersection, Override, SubgroupBallotResult, SubgroupOperationResult, RayQueryVertexPositions}
 use Rattle.module.specs.Knot.{knot, below}
+use Rattle.module.specs.Way.{Way, constantly, dynamically, toGlobal, toLocal, noWay, wayOf}
 use Rattle.module.specs.Decode.{expressionOf}
 use Rattle.module.specs.File.{accepted, readModule}
 use Rattle.module.specs.Tables.{functionOf, moduleOf}
+use Rattle.module.proofs.Each.{each}
 use Rattle.module.proofs.Knot.{knot-is, below-lt}
 use Rattle.access.specs.declared.kinded.Kinded.{Kinded}
 use Rattle.access.specs.Access.{typedAt, operandAt, expressionRow}
 use Rattle.access.proofs.Access.{function-is, typed-is, expression-of}
 use Rattle.valid.specs.Valid.{OperandsBelow, FunctionValid, entriesBelow}
 use Rattle.valid.proofs.Accepted.{valid}
-use Rattle.clearance.specs.Scope.{Scope, Path, nowhere, further, stepFrom, slot, noExpression, typed, pathOf, isPath}
+use Rattle.valid.proofs.Ways.{WayBelow, way-below}
+use Rattle.clearance.specs.Scope.{Scope, Path, nowhere, further, stepWay, stepFrom, slot, noExpression, typed, pathOf, isPath}
 use Rattle.judge.specs.Marked.{marked}
-use Rattle.judge.specs.Paths.{pathBy, PathTable}
+use Rattle.judge.specs.Paths.{pathWay, pathBy, PathTable}
 use Rattle.judge.proofs.Marked.{Marks}
 
 -- whether a path leads somewhere
 abbrev rooted : Path → Bool
 rooted p = ltb 0 (getD (p .root) 0 0)
 
+rooted-way : (path : ℕ → Path) (w : Way) → rooted (stepWay path w) ≡ pathWay (λ b. rooted (path b)) w
+unfolding further slot
+rooted-way path (constantly base index) = refl
+rooted-way path (dynamically base index) = refl
+rooted-way path (toGlobal g) = refl
+rooted-way path (toLocal l) = refl
+rooted-way path noWay = refl
+
 rooted-by : (path : ℕ → Path) (x : Expression) → rooted (stepFrom path x) ≡ pathBy (λ b. rooted (path b)) x
-unfolding stepFrom further slot pathBy
-rooted-by path Literal = refl
-rooted-by path ZeroValue = refl
-rooted-by path WorkGroupUniformLoadResult = refl
-rooted-by path (AccessIndex base index) = refl
-rooted-by path (Access base index) = refl
-rooted-by path Constant = refl
-rooted-by path (Splat value) = refl
-rooted-by path (Swizzle vector pattern) = refl
-rooted-by path (Compose components) = refl
-rooted-by path (FunctionArgument index) = refl
-rooted-by path (GlobalVariable g) = refl
-rooted-by path (LocalVariable l) = refl
-rooted-by path (Load pointer) = refl
-rooted-by path (ImageSample image sampler coordinate arrayIndex level depthRef) = refl
-rooted-by path (ImageLoad image coordinate arrayIndex sample level) = refl
-rooted-by path (ImageQuery image level) = refl
-rooted-by path (Unary x) = refl
-rooted-by path (Binary left right) = refl
-rooted-by path (Select condition accept reject) = refl
-rooted-by path (Derivative x) = refl
-rooted-by path (Relational x) = refl
-rooted-by path (Math x x1 x2 x3) = refl
-rooted-by path (As x) = refl
-rooted-by path CallResult = refl
-rooted-by path AtomicResult = refl
-rooted-by path (ArrayLength x) = refl
-rooted-by path RayQueryProceedResult = refl
-rooted-by path (RayQueryGetIntersection query) = refl
-rooted-by path Override = refl
-rooted-by path SubgroupBallotResult = refl
-rooted-by path SubgroupOperationResult = refl
-rooted-by path RayQueryVertexPositions = refl
+unfolding stepFrom pathBy
+rooted-by path x = rooted-way path (wayOf x)
+
+ways-agree : (e : ℕ) (path other : ℕ → Bool) (w : Way) → WayBelow e w → ((b : ℕ) → b < e → path b ≡ other b) → pathWay path w ≡ pathWay other w
+ways-agree e path other (constantly base index) h f = f base h
+ways-agree e path other (dynamically base index) h f = f base h
+ways-agree e path other (toGlobal g) h f = refl
+ways-agree e path other (toLocal l) h f = refl
+ways-agree e path other noWay h f = refl
 
 paths-agree : (e : ℕ) (path other : ℕ → Bool) (x : Expression) → OperandsBelow e x → ((b : ℕ) → b < e → path b ≡ other b) → pathBy path x ≡ pathBy other x
 unfolding pathBy
-paths-agree e path other Literal h f = refl
-paths-agree e path other ZeroValue h f = refl
-paths-agree e path other WorkGroupUniformLoadResult h f = refl
-paths-agree e path other (AccessIndex base index) h f = f base (h .0)
-paths-agree e path other (Access base index) h f = f base (h .0)
-paths-agree e path other Constant h f = refl
-paths-agree e path other (Splat value) h f = refl
-paths-agree e path other (Swizzle vector pattern) h f = refl
-paths-agree e path other (Compose components) h f = refl
-paths-agree e path other (FunctionArgument index) h f = refl
-paths-agree e path other (GlobalVariable g) h f = refl
-paths-agree e path other (LocalVariable l) h f = refl
-paths-agree e path other (Load pointer) h f = refl
-paths-agree e path other (ImageSample image sampler coordinate arrayIndex level depthRef) h f = refl
-paths-agree e path other (ImageLoad image coordinate arrayIndex sample level) h f = refl
-paths-agree e path other (ImageQuery image level) h f = refl
-paths-agree e path other (Unary x) h f = refl
-paths-agree e path other (Binary left right) h f = refl
-paths-agree e path other (Select condition accept reject) h f = refl
-paths-agree e path other (Derivative x) h f = refl
-paths-agree e path other (Relational x) h f = refl
-paths-agree e path other (Math x x1 x2 x3) h f = refl
-paths-agree e path other (As x) h f = refl
-paths-agree e path other CallResult h f = refl
-paths-agree e path other AtomicResult h f = refl
-paths-agree e path other (ArrayLength x) h f = refl
-paths-agree e path other RayQueryProceedResult h f = refl
-paths-agree e path other (RayQueryGetIntersection query) h f = refl
-paths-agree e path other Override h f = refl
-paths-agree e path other SubgroupBallotResult h f = refl
-paths-agree e path other SubgroupOperationResult h f = refl
-paths-agree e path other RayQueryVertexPositions h f = refl
+paths-agree e path other x h f = ways-agree e path other (wayOf x) (way-below e x h) f
 
 -- `isPath`, which looks at a function's expressions alone
 unfoldable pub pathAmong : List Typed → ℕ → Bool
@@ -130,20 +82,6 @@ operands-lower F v e =
       | yes l ↦ v .parts .each-expression e noExpression l .operands
       | no l ↦ subst (λ (x : Typed). OperandsBelow e (x .expression)) (sym (List·getD-eq-default (F .expressions) noExpression {n = e} (omega arith))) tt
     ]
-
--- something of each number: of those below n one by one, and of those from n on
-abbrev pub past : ℕ → ℕ → ℕ
-past zero k = k
-past (suc n) k = suc (past n k)
-
-abbrev Each : (ℕ → Type 0) → ℕ → Type 0
-Each P zero = Unit {0}
-Each P (suc n) = P 0 × Each (λ k. P (suc k)) n
-
-each : (P : ℕ → Type 0) (n : ℕ) → Each P n → ((k : ℕ) → P (past n k)) → (k : ℕ) → P k
-each P zero h z k = z k
-each P (suc n) h z zero = h .0
-each P (suc n) h z (suc k) = each (λ j. P (suc j)) n (h .1) z k
 
 -- an entry, by the kind of the row
 record Other (kind : ℕ) : Type 0 where

@@ -21,7 +21,8 @@ use Rattle.clearance.specs.Scope.{Scope, alike as alikeIn, typeOf, innerOf, isP
 use Rattle.clearance.specs.Judged.{presently, same, pointee, isValue, fitsReturn, fitsStatement}
 use Rattle.judge.specs.Alike.{byTable}
 use Rattle.judge.specs.Given.{Given, FitsStatement}
-use Rattle.judge.proofs.PathSteps.{past, function-valid}
+use Rattle.module.proofs.Each.{past}
+use Rattle.judge.proofs.PathSteps.{function-valid}
 use Rattle.judge.proofs.Operands.{S, F, n, type-low}
 
 -- a returned value, by the declared result

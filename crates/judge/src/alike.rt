@@ -17,8 +17,8 @@ use bindings::types::word;
 use module::handles::TypeHandle;
 
 // Whether two types are of one kind and have the same sizes.
-fn same_kind(types: &[u32], a: u32, b: u32) -> bool
-    ensures { λ r. ⌜ r ≡ pairwise eqb (kind (getD (typesOf (now (types .entry))) a Opaque)) (kind (getD (typesOf (now (types .entry))) b Opaque)) ⌝ }
+fn same_kind(types: &[u32], a: TypeHandle, b: TypeHandle) -> bool
+    ensures { λ r. ⌜ r ≡ pairwise eqb (kind (getD (typesOf (now (types .entry))) (a .0) Opaque)) (kind (getD (typesOf (now (types .entry))) (b .0) Opaque)) ⌝ }
 {
     let k = kind_at(types, a);
     let l = kind_at(types, b);
@@ -26,10 +26,10 @@ fn same_kind(types: &[u32], a: u32, b: u32) -> bool
         return false;
     }
     if k == 1 {
-        return first_word(types, TypeHandle(a)) == first_word(types, TypeHandle(b));
+        return first_word(types, a) == first_word(types, b);
     }
     if k == 2 {
-        if first_word(types, TypeHandle(a)) != first_word(types, TypeHandle(b)) {
+        if first_word(types, a) != first_word(types, b) {
             return false;
         }
         return second_word(types, a) == second_word(types, b);
@@ -41,8 +41,8 @@ fn same_kind(types: &[u32], a: u32, b: u32) -> bool
 }
 
 // Whether two types are made of as many types, which the table says are alike.
-fn same_bases(types: &[u32], table: &[u32], a: u32, b: u32) -> bool
-    ensures { λ r. ⌜ r ≡ pairwise (byTable (now (table .entry))) (bases (getD (typesOf (now (types .entry))) a Opaque)) (bases (getD (typesOf (now (types .entry))) b Opaque)) ⌝ }
+fn same_bases(types: &[u32], table: &[u32], a: TypeHandle, b: TypeHandle) -> bool
+    ensures { λ r. ⌜ r ≡ pairwise (byTable (now (table .entry))) (bases (getD (typesOf (now (types .entry))) (a .0) Opaque)) (bases (getD (typesOf (now (types .entry))) (b .0) Opaque)) ⌝ }
 {
     let n = base_count(types, a);
     if n != base_count(types, b) {
@@ -52,7 +52,7 @@ fn same_bases(types: &[u32], table: &[u32], a: u32, b: u32) -> bool
     while i < n {
         let x = base_at(types, a, i);
         let y = base_at(types, b, i);
-        if word(table, x as usize) != word(table, y as usize) {
+        if word(table, x.0 as usize) != word(table, y.0 as usize) {
             return false;
         }
         i += 1;
@@ -61,8 +61,8 @@ fn same_bases(types: &[u32], table: &[u32], a: u32, b: u32) -> bool
 }
 
 // Whether two types are alike inside, by the table.
-fn same_inner(types: &[u32], table: &[u32], a: u32, b: u32) -> bool
-    ensures { λ r. ⌜ r ≡ alikeInner (byTable (now (table .entry))) (getD (typesOf (now (types .entry))) a Opaque) (getD (typesOf (now (types .entry))) b Opaque) ⌝ }
+fn same_inner(types: &[u32], table: &[u32], a: TypeHandle, b: TypeHandle) -> bool
+    ensures { λ r. ⌜ r ≡ alikeInner (byTable (now (table .entry))) (getD (typesOf (now (types .entry))) (a .0) Opaque) (getD (typesOf (now (types .entry))) (b .0) Opaque) ⌝ }
 {
     if same_kind(types, a, b) {
         return same_bases(types, table, a, b);
@@ -71,15 +71,15 @@ fn same_inner(types: &[u32], table: &[u32], a: u32, b: u32) -> bool
 }
 
 // The lowest type that is alike to the type k, where the table has the types below it.
-fn lowest(types: &[u32], table: &[u32], k: u32) -> u32
+fn lowest(types: &[u32], table: &[u32], k: TypeHandle) -> TypeHandle
     requires { ⌜ Lower (typesOf (now types)) ⌝ }
-    requires { ⌜ Upto (typesOf (now types)) (now table) k ⌝ }
-    ensures { λ r. ⌜ Lowest (typesOf (now (types .entry))) k r ⌝ }
+    requires { ⌜ Upto (typesOf (now types)) (now table) (k .0) ⌝ }
+    ensures { λ r. ⌜ Lowest (typesOf (now (types .entry))) (k .0) (r .0) ⌝ }
 {
     let mut j: u32 = 0;
-    while j < k {
-        if same_inner(types, table, j, k) {
-            return j;
+    while j < k.0 {
+        if same_inner(types, table, TypeHandle(j), k) {
+            return TypeHandle(j);
         }
         j += 1;
     }
@@ -95,9 +95,9 @@ pub fn fill_alike(types: &[u32], table: &mut [u32])
 {
     let mut k: u32 = 0;
     while (k as usize) < table.len() {
-        let r = lowest(types, table, k);
+        let r = lowest(types, table, TypeHandle(k));
         let at = k as usize;
-        table[at] = r;
+        table[at] = r.0;
         k += 1;
     }
 }

@@ -89,7 +89,7 @@ pub fn judged_expression(
     ensures { λ r. ⌜ r ≡ judgedExpression (scopeAt (now (bytes .entry)) (now (t .entry)) (f .0)) (e .0) ⌝ }
 {
     let own = type_of(bytes, t, f, e);
-    if holds_either(types, held, own.0) {
+    if holds_either(types, held, own) {
         return false;
     }
     fits_expression(bytes, t, f, types, alike, paths, e)

@@ -15,6 +15,7 @@ use crate::values::is_path;
 use crate::values::is_value;
 use crate::values::type_of;
 use access::kinded::Kinded;
+use access::kinded::expression_operand;
 use access::kinded::operand;
 use module::handles::ExpressionHandle;
 use module::handles::FunctionHandle;
@@ -51,7 +52,7 @@ fn fits_base(
     requires { ⌜ row .kind ≤ 4 ⌝ }
     ensures { λ r. ⌜ r ≡ fitsBase (scopeAt (now (bytes .entry)) (now (t .entry)) (f .0)) (now (bytes .entry)) row (e .0) ⌝ }
 {
-    let base = ExpressionHandle(operand(bytes, row, 0) as u32);
+    let base = expression_operand(bytes, row, 0);
     let i = operand(bytes, row, 1) as u32;
     let a = type_of(bytes, t, f, base);
     let b = type_of(bytes, t, f, e);
@@ -90,7 +91,7 @@ pub fn fits_index(
 {
     let fits = fits_base(bytes, t, f, types, alike, paths, row, e);
     if row.kind == ACCESS {
-        let index = ExpressionHandle(operand(bytes, row, 1) as u32);
+        let index = expression_operand(bytes, row, 1);
         return both(is_value(bytes, t, f, types, paths, index), fits);
     }
     fits

@@ -21,6 +21,7 @@ use crate::values::both;
 use crate::values::is_value;
 use crate::values::type_of;
 use access::kinded::Kinded;
+use access::kinded::expression_operand;
 use access::kinded::operand;
 use bindings::types::first_word;
 use module::handles::ExpressionHandle;
@@ -63,9 +64,9 @@ fn fits_swizzle(
     requires { ⌜ row .kind ≡ 7 ⌝ }
     ensures { λ r. ⌜ Fits (now (bytes .entry)) (now (t .entry)) (f .0) (e .0) r ⌝ }
 {
-    let vector = ExpressionHandle(operand(bytes, row, 0) as u32);
+    let vector = expression_operand(bytes, row, 0);
     let a = type_of(bytes, t, f, vector);
-    if kind_at(types, a.0) != 1 {
+    if kind_at(types, a) != 1 {
         return false;
     }
     let within = letters_below(bytes, row, first_word(types, a));
@@ -84,7 +85,7 @@ fn fits_swizzle(
 fn component_count(types: &[u32], a: TypeHandle) -> u32
     ensures { λ r. ⌜ r ≡ componentCount (getD (typesOf (now (types .entry))) (a .0) Opaque) ⌝ }
 {
-    let k = kind_at(types, a.0);
+    let k = kind_at(types, a);
     if k == 0 {
         return 1;
     }
@@ -103,9 +104,8 @@ fn joins(bytes: &[u8], t: &[u32], f: FunctionHandle, types: &[u32], row: Kinded,
     let mut total: usize = 0;
     let mut i: u16 = 0;
     while i < count {
-        let c = operand(bytes, row, 1 + i);
-        let a = type_of(bytes, t, f, ExpressionHandle(c as u32));
-        if 1 < kind_at(types, a.0) {
+        let a = type_of(bytes, t, f, expression_operand(bytes, row, 1 + i));
+        if 1 < kind_at(types, a) {
             return false;
         }
         total += component_count(types, a) as usize;
@@ -134,8 +134,7 @@ fn parts_fit(
     let count = operand(bytes, row, 0);
     let mut i: u16 = 0;
     while i < count {
-        let c = operand(bytes, row, 1 + i);
-        let b = type_of(bytes, t, f, ExpressionHandle(c as u32));
+        let b = type_of(bytes, t, f, expression_operand(bytes, row, 1 + i));
         if !same_part(types, alike, a, i as u32, b) {
             return false;
         }
@@ -161,12 +160,9 @@ fn fits_compose(
 {
     let values = all_values(bytes, t, f, types, paths, row);
     let a = type_of(bytes, t, f, e);
-    let k = kind_at(types, a.0);
+    let k = kind_at(types, a);
     if k == 1 {
-        return both(
-            values,
-            joins(bytes, t, f, types, row, first_word(types, a)),
-        );
+        return both(values, joins(bytes, t, f, types, row, first_word(types, a)));
     }
     if part_count(types, a) != operand(bytes, row, 0) as u32 {
         return false;
@@ -207,10 +203,10 @@ pub fn fits_made(
         return fits_swizzle(bytes, t, f, types, alike, paths, row, e);
     }
     if row.kind == SPLAT {
-        let value = ExpressionHandle(operand(bytes, row, 0) as u32);
+        let value = expression_operand(bytes, row, 0);
         let a = type_of(bytes, t, f, value);
         let b = type_of(bytes, t, f, e);
-        let sized = both(kind_at(types, a.0) == 0, kind_at(types, b.0) == 1);
+        let sized = both(kind_at(types, a) == 0, kind_at(types, b) == 1);
         return both(is_value(bytes, t, f, types, paths, value), sized);
     }
     fits_compose(bytes, t, f, types, alike, paths, row, e)

@@ -19,12 +19,13 @@ use crate::values::type_of;
 use access::function::argument;
 use access::function::local;
 use access::kinded::Kinded;
+use access::kinded::expression_operand;
+use access::kinded::global_operand;
+use access::kinded::local_operand;
 use access::kinded::operand;
 use access::whole::global;
 use module::handles::ExpressionHandle;
 use module::handles::FunctionHandle;
-use module::handles::GlobalHandle;
-use module::handles::LocalHandle;
 use module::handles::TypeHandle;
 
 const FUNCTION_ARGUMENT: u16 = 9;
@@ -40,7 +41,7 @@ fn fits_variable(types: &[u32], alike: &[u32], a: TypeHandle, b: TypeHandle) -> 
     requires { ⌜ b .0 < length (typesOf (now types)) ⌝ }
     ensures { λ r. ⌜ InTypes (now (types .entry)) (λ S. not (isPointer (inner S (a .0))) && same S (inner S (a .0)) (pointeeType S (inner S (b .0)))) r ⌝ }
 {
-    if kind_at(types, a.0) == 4 {
+    if kind_at(types, a) == 4 {
         return false;
     }
     is_alike(alike, a, pointee(types, b))
@@ -86,20 +87,22 @@ pub fn fits_named(
     ensures { λ r. ⌜ Fits (now (bytes .entry)) (now (t .entry)) (f .0) (e .0) r ⌝ }
 {
     let own = type_of(bytes, t, f, e);
-    let n = operand(bytes, row, 0) as u32;
     if row.kind == GLOBAL_VARIABLE {
-        return fits_variable(types, alike, global(bytes, t, GlobalHandle(n)), own);
+        let a = global(bytes, t, global_operand(bytes, row, 0));
+        return fits_variable(types, alike, a, own);
     }
     if row.kind == LOCAL_VARIABLE {
-        return fits_variable(types, alike, local(bytes, t, f, LocalHandle(n)), own);
+        let a = local(bytes, t, f, local_operand(bytes, row, 0));
+        return fits_variable(types, alike, a, own);
     }
     let value = is_value(bytes, t, f, types, paths, e);
     if row.kind == FUNCTION_ARGUMENT {
-        let a = argument(bytes, t, f, n);
+        let a = argument(bytes, t, f, operand(bytes, row, 0) as u32);
         return both(value, is_alike(alike, a.ty, own));
     }
+    let pointer = expression_operand(bytes, row, 0);
     both(
         value,
-        leads_to(bytes, t, f, types, alike, paths, ExpressionHandle(n), e),
+        leads_to(bytes, t, f, types, alike, paths, pointer, e),
     )
 }

@@ -8,7 +8,7 @@ use crate::values::is_value;
 use crate::values::maybe_value;
 use crate::values::type_of;
 use access::kinded::Kinded;
-use access::kinded::operand;
+use access::kinded::expression_operand;
 use module::handles::ExpressionHandle;
 use module::handles::FunctionHandle;
 
@@ -39,9 +39,9 @@ fn fits_select(
     requires { ⌜ row .kind ≡ 18 ⌝ }
     ensures { λ r. ⌜ Fits (now (bytes .entry)) (now (t .entry)) (f .0) (e .0) r ⌝ }
 {
-    let condition = ExpressionHandle(operand(bytes, row, 0) as u32);
-    let accept = ExpressionHandle(operand(bytes, row, 1) as u32);
-    let reject = ExpressionHandle(operand(bytes, row, 2) as u32);
+    let condition = expression_operand(bytes, row, 0);
+    let accept = expression_operand(bytes, row, 1);
+    let reject = expression_operand(bytes, row, 2);
     let own = type_of(bytes, t, f, e);
     let first = is_alike(alike, type_of(bytes, t, f, accept), own);
     let second = is_alike(alike, type_of(bytes, t, f, reject), own);
@@ -71,10 +71,13 @@ fn fits_math(
     requires { ⌜ row .kind ≡ 21 ⌝ }
     ensures { λ r. ⌜ Fits (now (bytes .entry)) (now (t .entry)) (f .0) (e .0) r ⌝ }
 {
-    let x = ExpressionHandle(operand(bytes, row, 0) as u32);
-    let second = maybe_value(bytes, t, f, types, paths, operand(bytes, row, 1));
-    let third = maybe_value(bytes, t, f, types, paths, operand(bytes, row, 2));
-    let fourth = maybe_value(bytes, t, f, types, paths, operand(bytes, row, 3));
+    let x = expression_operand(bytes, row, 0);
+    let y = expression_operand(bytes, row, 1);
+    let z = expression_operand(bytes, row, 2);
+    let w = expression_operand(bytes, row, 3);
+    let second = maybe_value(bytes, t, f, types, paths, y);
+    let third = maybe_value(bytes, t, f, types, paths, z);
+    let fourth = maybe_value(bytes, t, f, types, paths, w);
     let first = is_value(bytes, t, f, types, paths, x);
     both(
         is_value(bytes, t, f, types, paths, e),
@@ -105,13 +108,13 @@ pub fn fits_operator(
         return fits_math(bytes, t, f, types, alike, paths, row, e);
     }
     let own = is_value(bytes, t, f, types, paths, e);
-    let x = ExpressionHandle(operand(bytes, row, 0) as u32);
+    let x = expression_operand(bytes, row, 0);
     let first = is_value(bytes, t, f, types, paths, x);
     if row.kind == RELATIONAL {
         return both(own, first);
     }
     if row.kind == BINARY {
-        let y = ExpressionHandle(operand(bytes, row, 1) as u32);
+        let y = expression_operand(bytes, row, 1);
         return both(own, both(first, is_value(bytes, t, f, types, paths, y)));
     }
     let same = is_alike(alike, type_of(bytes, t, f, x), type_of(bytes, t, f, e));

@@ -9,7 +9,7 @@ ghost use Rattle.access.specs.Access.{typedAt};
 ghost use Rattle.judge.specs.Marked.{marked};
 ghost use Rattle.judge.specs.Paths.{pathBy, PathTable};
 use access::kinded::expression;
-use access::kinded::operand;
+use access::kinded::expression_operand;
 use bindings::types::word;
 use module::handles::ExpressionHandle;
 use module::handles::FunctionHandle;
@@ -23,22 +23,22 @@ const GLOBAL_VARIABLE: u16 = 10;
 const LOCAL_VARIABLE: u16 = 11;
 
 // The expression e's entry: a variable is a path, and of an index it is its base's.
-fn path_entry(bytes: &[u8], t: &[u32], f: FunctionHandle, table: &[u32], e: u32) -> u32
-    ensures { λ r. ⌜ eqb r 1 ≡ pathBy (marked (now (table .entry))) (typedAt (now (bytes .entry)) (now (t .entry)) (f .0) e .expression) ⌝ }
+fn path_entry(bytes: &[u8], t: &[u32], f: FunctionHandle, table: &[u32], e: ExpressionHandle) -> u32
+    ensures { λ r. ⌜ eqb r 1 ≡ pathBy (marked (now (table .entry))) (typedAt (now (bytes .entry)) (now (t .entry)) (f .0) (e .0) .expression) ⌝ }
 {
-    let row = expression(bytes, t, f, ExpressionHandle(e));
+    let row = expression(bytes, t, f, e);
     if row.kind == GLOBAL_VARIABLE {
         return 1;
     }
     if row.kind == LOCAL_VARIABLE {
         return 1;
     }
-    let base = operand(bytes, row, 0);
+    let base = expression_operand(bytes, row, 0);
     if row.kind == ACCESS_INDEX {
-        return word(table, base as usize);
+        return word(table, base.0 as usize);
     }
     if row.kind == ACCESS {
-        return word(table, base as usize);
+        return word(table, base.0 as usize);
     }
     0
 }
@@ -52,7 +52,7 @@ pub fn fill_paths(bytes: &[u8], t: &[u32], f: FunctionHandle, table: &mut [u32])
 {
     let mut e: u32 = 0;
     while (e as usize) < table.len() {
-        let r = path_entry(bytes, t, f, table, e);
+        let r = path_entry(bytes, t, f, table, ExpressionHandle(e));
         let at = e as usize;
         table[at] = r;
         e += 1;

@@ -13,10 +13,10 @@ use context::remove::TYPE_WORDS;
 use module::handles::TypeHandle;
 
 // The kind of the type t: a number that is no other kind's is an opaque type's.
-pub fn kind_at(types: &[u32], t: u32) -> u32
-    ensures { λ r. ⌜ r ≡ getD (kind (getD (typesOf (now (types .entry))) t Opaque)) 0 0 ⌝ }
+pub fn kind_at(types: &[u32], t: TypeHandle) -> u32
+    ensures { λ r. ⌜ r ≡ getD (kind (getD (typesOf (now (types .entry))) (t .0) Opaque)) 0 0 ⌝ }
 {
-    let k = type_kind(types, TypeHandle(t));
+    let k = type_kind(types, t);
     if 8 < k {
         return 8;
     }
@@ -24,19 +24,19 @@ pub fn kind_at(types: &[u32], t: u32) -> u32
 }
 
 // The second word after the kind: a matrix' rows, or an array's count.
-pub fn second_word(types: &[u32], t: u32) -> u32
-    ensures { λ r. ⌜ r ≡ typeWord (now (types .entry)) t 2 ⌝ }
+pub fn second_word(types: &[u32], t: TypeHandle) -> u32
+    ensures { λ r. ⌜ r ≡ typeWord (now (types .entry)) (t .0) 2 ⌝ }
 {
-    word(types, TYPE_WORDS * (t as usize) + 2)
+    word(types, TYPE_WORDS * (t.0 as usize) + 2)
 }
 
 // How many types the type t is made of.
-pub fn base_count(types: &[u32], t: u32) -> u32
-    ensures { λ r. ⌜ r ≡ length (bases (getD (typesOf (now (types .entry))) t Opaque)) ⌝ }
+pub fn base_count(types: &[u32], t: TypeHandle) -> u32
+    ensures { λ r. ⌜ r ≡ length (bases (getD (typesOf (now (types .entry))) (t .0) Opaque)) ⌝ }
 {
     let k = kind_at(types, t);
     if k == 6 {
-        return first_word(types, TypeHandle(t));
+        return first_word(types, t);
     }
     if is_base(k) {
         return 1;
@@ -45,12 +45,12 @@ pub fn base_count(types: &[u32], t: u32) -> u32
 }
 
 // The i-th of them.
-pub fn base_at(types: &[u32], t: u32, i: u32) -> u32
-    requires { ⌜ i < length (bases (getD (typesOf (now types)) t Opaque)) ⌝ }
-    ensures { λ r. ⌜ r ≡ getD (bases (getD (typesOf (now (types .entry))) t Opaque)) i 0 ⌝ }
+pub fn base_at(types: &[u32], t: TypeHandle, i: u32) -> TypeHandle
+    requires { ⌜ i < length (bases (getD (typesOf (now types)) (t .0) Opaque)) ⌝ }
+    ensures { λ r. ⌜ r .0 ≡ getD (bases (getD (typesOf (now (types .entry))) (t .0) Opaque)) i 0 ⌝ }
 {
     if kind_at(types, t) == 6 {
-        return word(types, TYPE_WORDS * (t as usize) + (2 + 2 * (i as usize)));
+        return TypeHandle(word(types, TYPE_WORDS * (t.0 as usize) + (2 + 2 * (i as usize))));
     }
-    first_word(types, TypeHandle(t))
+    TypeHandle(first_word(types, t))
 }

@@ -26,7 +26,7 @@ pub fn is_alike(alike: &[u32], a: TypeHandle, b: TypeHandle) -> bool
 pub fn is_vector_of(types: &[u32], n: u32, b: TypeHandle) -> bool
     ensures { λ r. ⌜ InTypes (now (types .entry)) (λ S. same S (Vector n) (inner S (b .0))) r ⌝ }
 {
-    if kind_at(types, b.0) != 1 {
+    if kind_at(types, b) != 1 {
         return false;
     }
     n == first_word(types, b)
@@ -39,12 +39,12 @@ pub fn same_element(types: &[u32], alike: &[u32], a: TypeHandle, b: TypeHandle) 
     requires { ⌜ b .0 < length (typesOf (now types)) ⌝ }
     ensures { λ r. ⌜ InTypes (now (types .entry)) (λ S. samePart S (elementType S (inner S (a .0))) (inner S (b .0))) r ⌝ }
 {
-    let k = kind_at(types, a.0);
+    let k = kind_at(types, a);
     if k == 1 {
-        return kind_at(types, b.0) == 0;
+        return kind_at(types, b) == 0;
     }
     if k == 2 {
-        return is_vector_of(types, second_word(types, a.0), b);
+        return is_vector_of(types, second_word(types, a), b);
     }
     if k == 5 {
         return is_alike(alike, TypeHandle(first_word(types, a)), b);
@@ -56,9 +56,9 @@ pub fn same_element(types: &[u32], alike: &[u32], a: TypeHandle, b: TypeHandle) 
 pub fn part_count(types: &[u32], a: TypeHandle) -> u32
     ensures { λ r. ⌜ r ≡ partCount (getD (typesOf (now (types .entry))) (a .0) Opaque) ⌝ }
 {
-    let k = kind_at(types, a.0);
+    let k = kind_at(types, a);
     if k == 5 {
-        return second_word(types, a.0);
+        return second_word(types, a);
     }
     if k == 1 {
         return first_word(types, a);
@@ -82,8 +82,8 @@ pub fn same_part(types: &[u32], alike: &[u32], a: TypeHandle, i: u32, b: TypeHan
     if part_count(types, a) <= i {
         return false;
     }
-    if kind_at(types, a.0) == 6 {
-        return is_alike(alike, TypeHandle(base_at(types, a.0, i)), b);
+    if kind_at(types, a) == 6 {
+        return is_alike(alike, base_at(types, a, i), b);
     }
     same_element(types, alike, a, b)
 }
@@ -93,7 +93,7 @@ pub fn pointee(types: &[u32], a: TypeHandle) -> TypeHandle
     requires { ⌜ Lower (typesOf (now types)) ⌝ }
     ensures { λ r. ⌜ Pointee (now (types .entry)) (a .0) (r .0) ⌝ }
 {
-    if kind_at(types, a.0) == 4 {
+    if kind_at(types, a) == 4 {
         return TypeHandle(first_word(types, a));
     }
     a

@@ -18,13 +18,11 @@ use crate::values::maybe_value;
 use crate::values::type_of;
 use access::function::result;
 use access::function::statements;
-use access::kinded::operand;
+use access::kinded::expression_operand;
 use access::kinded::statement;
 use module::handles::ExpressionHandle;
 use module::handles::FunctionHandle;
 use module::handles::NO_HANDLE;
-
-const ABSENT: u16 = 65535;
 
 const LOOP: u16 = 4;
 
@@ -40,22 +38,21 @@ fn fits_return(
     types: &[u32],
     alike: &[u32],
     paths: &[u32],
-    v: u16,
+    v: ExpressionHandle,
 ) -> bool
     requires { ⌜ Given (now bytes) (now t) (f .0) (now types) (now alike) (now paths) ⌝ }
-    requires { ⌜ MaybeBelow (length (functionOf (now bytes) (now t) (f .0) .expressions)) (optionOf v) ⌝ }
-    ensures { λ r. ⌜ r ≡ presently (λ v. isValue (scopeAt (now (bytes .entry)) (now (t .entry)) (f .0)) v && fitsReturn (scopeAt (now (bytes .entry)) (now (t .entry)) (f .0)) (functionOf (now (bytes .entry)) (now (t .entry)) (f .0) .result) v) (optionOf v) ⌝ }
+    requires { ⌜ MaybeBelow (length (functionOf (now bytes) (now t) (f .0) .expressions)) (optionOf (v .0)) ⌝ }
+    ensures { λ r. ⌜ r ≡ presently (λ v. isValue (scopeAt (now (bytes .entry)) (now (t .entry)) (f .0)) v && fitsReturn (scopeAt (now (bytes .entry)) (now (t .entry)) (f .0)) (functionOf (now (bytes .entry)) (now (t .entry)) (f .0) .result) v) (optionOf (v .0)) ⌝ }
 {
-    if v == ABSENT {
+    if v.0 == NO_HANDLE {
         return true;
     }
     let declared = result(bytes, t, f);
     if declared.ty.0 == NO_HANDLE {
         return false;
     }
-    let value = ExpressionHandle(v as u32);
-    let same = is_alike(alike, declared.ty, type_of(bytes, t, f, value));
-    both(is_value(bytes, t, f, types, paths, value), same)
+    let same = is_alike(alike, declared.ty, type_of(bytes, t, f, v));
+    both(is_value(bytes, t, f, types, paths, v), same)
 }
 
 // Whether the statement s fits, by its kind. A kind past the last is a break's.
@@ -76,26 +73,29 @@ pub fn fits_statement(
     if 20 < row.kind {
         return true;
     }
-    let first = ExpressionHandle(operand(bytes, row, 0) as u32);
     if row.kind == STORE {
-        let value = ExpressionHandle(operand(bytes, row, 1) as u32);
-        let led = leads_to(bytes, t, f, types, alike, paths, first, value);
+        let pointer = expression_operand(bytes, row, 0);
+        let value = expression_operand(bytes, row, 1);
+        let led = leads_to(bytes, t, f, types, alike, paths, pointer, value);
         return both(is_value(bytes, t, f, types, paths, value), led);
     }
     if row.kind == RETURN {
-        return fits_return(bytes, t, f, types, alike, paths, operand(bytes, row, 0));
+        let v = expression_operand(bytes, row, 0);
+        return fits_return(bytes, t, f, types, alike, paths, v);
     }
     if 7 < row.kind {
         return false;
     }
     if row.kind == LOOP {
-        return maybe_value(bytes, t, f, types, paths, operand(bytes, row, 2));
+        let break_if = expression_operand(bytes, row, 2);
+        return maybe_value(bytes, t, f, types, paths, break_if);
     }
     if 4 < row.kind {
         return true;
     }
     if 1 < row.kind {
-        return is_value(bytes, t, f, types, paths, first);
+        let condition = expression_operand(bytes, row, 0);
+        return is_value(bytes, t, f, types, paths, condition);
     }
     true
 }

@@ -21,8 +21,8 @@ use bindings::types::word;
 use module::handles::TypeHandle;
 
 // Whether the type t is itself an array of count 0 or a binding array.
-fn is_unsized(types: &[u32], t: u32) -> bool
-    ensures { λ r. ⌜ r ≡ holdsIn (λ b. false) (getD (typesOf (now (types .entry))) t Opaque) ⌝ }
+fn is_unsized(types: &[u32], t: TypeHandle) -> bool
+    ensures { λ r. ⌜ r ≡ holdsIn (λ b. false) (getD (typesOf (now (types .entry))) (t .0) Opaque) ⌝ }
 {
     let k = kind_at(types, t);
     if k == 5 {
@@ -32,14 +32,14 @@ fn is_unsized(types: &[u32], t: u32) -> bool
 }
 
 // Whether the table marks one of the types that the type t is made of.
-fn some_base(types: &[u32], table: &[u32], t: u32) -> bool
-    ensures { λ r. ⌜ r ≡ not (every (λ b. not (marked (now (table .entry)) b)) (bases (getD (typesOf (now (types .entry))) t Opaque))) ⌝ }
+fn some_base(types: &[u32], table: &[u32], t: TypeHandle) -> bool
+    ensures { λ r. ⌜ r ≡ not (every (λ b. not (marked (now (table .entry)) b)) (bases (getD (typesOf (now (types .entry))) (t .0) Opaque))) ⌝ }
 {
     let n = base_count(types, t);
     let mut i: u32 = 0;
     while i < n {
         let b = base_at(types, t, i);
-        if word(table, b as usize) == 1 {
+        if word(table, b.0 as usize) == 1 {
             return true;
         }
         i += 1;
@@ -48,8 +48,8 @@ fn some_base(types: &[u32], table: &[u32], t: u32) -> bool
 }
 
 // The type t's entry, from those of the types that it is made of. A pointer does not hold its pointee.
-fn unsized_entry(types: &[u32], table: &[u32], t: u32) -> u32
-    ensures { λ r. ⌜ eqb r 1 ≡ holdsIn (marked (now (table .entry))) (getD (typesOf (now (types .entry))) t Opaque) ⌝ }
+fn unsized_entry(types: &[u32], table: &[u32], t: TypeHandle) -> u32
+    ensures { λ r. ⌜ eqb r 1 ≡ holdsIn (marked (now (table .entry))) (getD (typesOf (now (types .entry))) (t .0) Opaque) ⌝ }
 {
     if kind_at(types, t) == 4 {
         return 0;
@@ -72,7 +72,7 @@ pub fn fill_unsized(types: &[u32], table: &mut [u32])
 {
     let mut k: u32 = 0;
     while (k as usize) < table.len() {
-        let r = unsized_entry(types, table, k);
+        let r = unsized_entry(types, table, TypeHandle(k));
         let at = k as usize;
         table[at] = r;
         k += 1;
@@ -80,14 +80,14 @@ pub fn fill_unsized(types: &[u32], table: &mut [u32])
 }
 
 // Whether the table marks the type t or, of a pointer, its pointee.
-pub fn holds_either(types: &[u32], table: &[u32], t: u32) -> bool
-    ensures { λ r. ⌜ r ≡ marked (now (table .entry)) t || pointeeHolds (marked (now (table .entry))) (getD (typesOf (now (types .entry))) t Opaque) ⌝ }
+pub fn holds_either(types: &[u32], table: &[u32], t: TypeHandle) -> bool
+    ensures { λ r. ⌜ r ≡ marked (now (table .entry)) (t .0) || pointeeHolds (marked (now (table .entry))) (getD (typesOf (now (types .entry))) (t .0) Opaque) ⌝ }
 {
-    if word(table, t as usize) == 1 {
+    if word(table, t.0 as usize) == 1 {
         return true;
     }
     if kind_at(types, t) == 4 {
-        return word(table, first_word(types, TypeHandle(t)) as usize) == 1;
+        return word(table, first_word(types, t) as usize) == 1;
     }
     false
 }

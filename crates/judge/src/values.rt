@@ -11,13 +11,13 @@ use crate::rows::kind_at;
 use access::function::expression_type;
 use access::function::expressions;
 use access::kinded::Kinded;
+use access::kinded::expression_operand;
 use access::kinded::operand;
 use bindings::types::word;
 use module::handles::ExpressionHandle;
 use module::handles::FunctionHandle;
+use module::handles::NO_HANDLE;
 use module::handles::TypeHandle;
-
-const ABSENT: u16 = 65535;
 
 // Both tests, where neither costs much.
 pub fn both(a: bool, b: bool) -> bool
@@ -70,7 +70,7 @@ pub fn is_value(
         return false;
     }
     let own = type_of(bytes, t, f, e);
-    kind_at(types, own.0) != 4
+    kind_at(types, own) != 4
 }
 
 // Whether the operand v is absent or a value.
@@ -80,15 +80,15 @@ pub fn maybe_value(
     f: FunctionHandle,
     types: &[u32],
     paths: &[u32],
-    v: u16,
+    v: ExpressionHandle,
 ) -> bool
     requires { ⌜ Values (now bytes) (now t) (f .0) (now types) (now paths) ⌝ }
-    ensures { λ r. ⌜ r ≡ presently (isValue (scopeAt (now (bytes .entry)) (now (t .entry)) (f .0))) (optionOf v) ⌝ }
+    ensures { λ r. ⌜ r ≡ presently (isValue (scopeAt (now (bytes .entry)) (now (t .entry)) (f .0))) (optionOf (v .0)) ⌝ }
 {
-    if v == ABSENT {
+    if v.0 == NO_HANDLE {
         return true;
     }
-    is_value(bytes, t, f, types, paths, ExpressionHandle(v as u32))
+    is_value(bytes, t, f, types, paths, v)
 }
 
 // Whether the operands after the first, which is their count, are values.
@@ -106,8 +106,8 @@ pub fn all_values(
     let n = operand(bytes, row, 0);
     let mut i: u16 = 0;
     while i < n {
-        let c = operand(bytes, row, 1 + i);
-        if !is_value(bytes, t, f, types, paths, ExpressionHandle(c as u32)) {
+        let c = expression_operand(bytes, row, 1 + i);
+        if !is_value(bytes, t, f, types, paths, c) {
             return false;
         }
         i += 1;

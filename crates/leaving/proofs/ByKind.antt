@@ -20,7 +20,8 @@ use Rattle.clearance.specs.Scope.{Scope}
 use Rattle.clearance.specs.Tree.{Tree, nop, break, continue, return, statement}
 use Rattle.clearance.specs.Judged.{fitsStatement}
 use Rattle.judge.specs.Given.{scopeAt}
-use Rattle.judge.proofs.PathSteps.{past, function-valid}
+use Rattle.module.proofs.Each.{past}
+use Rattle.judge.proofs.PathSteps.{function-valid}
 use Rattle.asking.specs.Asks.{StepGiven}
 use Rattle.standing.specs.Slots.{endSlot, Ready}
 use Rattle.standing.specs.Standing.{Targets, Valued, inside, Walked}

@@ -3,16 +3,14 @@ ghost use mathlib.Core.Path.{_≡_};
 ghost use Prim.Native.Nat.{_<_};
 ghost use Rattle.leaving.specs.Leaves.{LeaveGiven, Leaves};
 use access::kinded::Kinded;
-use access::kinded::operand;
+use access::kinded::expression_operand;
 use asking::ask::ask_returned;
 use hold::hold::copy;
-use module::handles::ExpressionHandle;
 use module::handles::FunctionHandle;
+use module::handles::NO_HANDLE;
 use standing::passing::Exits;
 use standing::passing::Passing;
 use standing::passing::filled;
-
-const ABSENT: u16 = 65535;
 
 const BREAK: u16 = 5;
 
@@ -44,11 +42,11 @@ fn pass_return(
 {
     let last = n - 1;
     copy(roots, x.returned, last);
-    let value = operand(bytes, row, 0);
-    if value == ABSENT {
+    let value = expression_operand(bytes, row, 0);
+    if value.0 == NO_HANDLE {
         return p;
     }
-    if ask_returned(bytes, t, f, cells, roots, n, ExpressionHandle(value as u32)) {
+    if ask_returned(bytes, t, f, cells, roots, n, value) {
         return p;
     }
     filled()

@@ -1,4 +1,3 @@
-pub mod Cases
 pub mod Writing
 pub mod Numbers
 pub mod Cells

@@ -13,5 +13,6 @@ pub mod Reading
 pub mod Record
 pub mod Scan
 pub mod Shape
+pub mod Short
 pub mod Tables
 pub mod Way

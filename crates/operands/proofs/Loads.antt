@@ -8,6 +8,7 @@ use lib.ListN.{length, getD, length-take, length-drop}
 use Rattle.part.specs.PartReq.{PartReq, all}
 use Rattle.part.specs.Store.{top, part as meaning}
 use Rattle.part.proofs.Pieces.{part-0}
+use Rattle.module.specs.declared.handles.ExpressionHandle.{ExpressionHandle}
 use Rattle.clearance.specs.Scope.{Scope, Path, pathOf, indexes, target}
 use Rattle.clearance.specs.Needs.{Ask, ofPlace, askWhole, askSteps}
 use Rattle.judge.specs.Given.{scopeAt}
@@ -45,37 +46,37 @@ module _ {bytes t : List ℕ} {f p : ℕ} (from : Pointer bytes t f p) {s rs : L
         let z : ix p ≡ l .done = l .is ∙ ap (λ (xs : List ℕ). xs ++ l .done) ((rw e at d) .indexes) in
         rw z (l .asked)
 
-    pub constant-less : {base : ℕ} → x ≡ Constant base → base < h
+    pub constant-less : {base : ExpressionHandle} → x ≡ Constant base → base .0 < h
     constant-less e = (rw e at d) .lower
 
-    pub left-constant : {base : ℕ} → x ≡ Constant base → Left bytes t f p base s rs n u us
+    pub left-constant : {base : ExpressionHandle} → x ≡ Constant base → Left bytes t f p (base .0) s rs n u us
     left-constant e =
         let z = rw e at d in
         record { pointer = z .pointer; done = l .done; is = l .is ∙ ap (λ (xs : List ℕ). xs ++ l .done) (z .indexes); asked = l .asked }
 
-    module _ {base index : ℕ} (e : x ≡ Dynamic base index) where
-      pub dynamic-less : base < h
+    module _ {base index : ExpressionHandle} (e : x ≡ Dynamic base index) where
+      pub dynamic-less : base .0 < h
       dynamic-less = (rw e at d) .lower
 
-      one-more : ix p ≡ ix base ++ (index ∷ l .done)
-      one-more = l .is ∙ ap (λ (xs : List ℕ). xs ++ l .done) ((rw e at d) .indexes) ∙ append-assoc (ix base) (index ∷ []) (l .done)
+      one-more : ix p ≡ ix (base .0) ++ (index .0 ∷ l .done)
+      one-more = l .is ∙ ap (λ (xs : List ℕ). xs ++ l .done) ((rw e at d) .indexes) ∙ append-assoc (ix (base .0)) (index .0 ∷ []) (l .done)
 
-      asks-more : map askWhole (ix p) ≡ map askWhole (ix base) ++ (askWhole index ∷ map askWhole (l .done))
-      asks-more = ap (map askWhole) one-more ∙ map-append askWhole (ix base) (index ∷ l .done)
+      asks-more : map askWhole (ix p) ≡ map askWhole (ix (base .0)) ++ (askWhole (index .0) ∷ map askWhole (l .done))
+      asks-more = ap (map askWhole) one-more ∙ map-append askWhole (ix (base .0)) (index .0 ∷ l .done)
 
-      pub left-given : ListGiven S (askWhole index ∷ []) u us n
-      left-given = list-next (l .asked) refl (map askWhole (ix base)) (subst (λ (xs : List Ask). ListGiven S xs s rs n) asks-more g)
+      pub left-given : ListGiven S (askWhole (index .0) ∷ []) u us n
+      left-given = list-next (l .asked) refl (map askWhole (ix (base .0))) (subst (λ (xs : List Ask). ListGiven S xs s rs n) asks-more g)
 
-      module _ {v vs : List ℕ} {r : Bool} (b : AsksAll S (askWhole index ∷ []) u us n v vs r) where
-        both : AsksAll S (askWhole index ∷ map askWhole (l .done)) s rs n v vs r
+      module _ {v vs : List ℕ} {r : Bool} (b : AsksAll S (askWhole (index .0) ∷ []) u us n v vs r) where
+        both : AsksAll S (askWhole (index .0) ∷ map askWhole (l .done)) s rs n v vs r
         both = list-then (l .asked) refl g b
 
         pub left-full : r ≡ false → AsksAll S (map askWhole (ix p)) s rs n v vs false
-        left-full i = subst (λ (xs : List Ask). AsksAll S xs s rs n v vs false) (sym asks-more) (all-full both (map askWhole (ix base)) i)
+        left-full i = subst (λ (xs : List Ask). AsksAll S xs s rs n v vs false) (sym asks-more) (all-full both (map askWhole (ix (base .0))) i)
 
-        pub left-dynamic : r ≡ true → Left bytes t f p base s rs n v vs
+        pub left-dynamic : r ≡ true → Left bytes t f p (base .0) s rs n v vs
         left-dynamic i =
-            record { pointer = (rw e at d) .pointer; done = index ∷ l .done; is = one-more; asked = subst (λ (b : Bool). AsksAll S (askWhole index ∷ map askWhole (l .done)) s rs n v vs b) i both }
+            record { pointer = (rw e at d) .pointer; done = index .0 ∷ l .done; is = one-more; asked = subst (λ (b : Bool). AsksAll S (askWhole (index .0) ∷ map askWhole (l .done)) s rs n v vs b) i both }
 
 -- all, if there is a dynamic index
 steps-are : (p : Path) (is : List ℕ) (a : PartReq) → askSteps p is a ≡ ofPlace (target p) (cond (any is) all a) ∷ map askWhole is

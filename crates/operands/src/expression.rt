@@ -17,7 +17,7 @@ use crate::tests::by_part;
 use crate::tests::is_joined;
 use access::kinded::Kinded;
 use access::kinded::expression;
-use access::kinded::operand;
+use access::kinded::expression_operand;
 use module::handles::ExpressionHandle;
 use module::handles::FunctionHandle;
 
@@ -157,7 +157,7 @@ fn ask_made(
     if row.kind == COMPOSE {
         return ask_compose(bytes, t, f, types, alike, paths, cells, roots, n, row, e);
     }
-    let p = ExpressionHandle(operand(bytes, row, 0) as u32);
+    let p = expression_operand(bytes, row, 0);
     ask_load(bytes, t, f, cells, roots, path, n, p)
 }
 

@@ -9,6 +9,7 @@ ghost use Rattle.judge.specs.Given.{scopeAt};
 ghost use Rattle.operands.specs.AsksAll.{ListGiven, AsksAll, wantedIn};
 ghost use Rattle.operands.specs.Lists.{memberOf};
 use access::kinded::Kinded;
+use access::kinded::expression_operand;
 use access::kinded::operand;
 use asking::ask::ask_place;
 use module::handles::ExpressionHandle;
@@ -65,7 +66,7 @@ pub fn ask_index(
     requires { ⌜ ListGiven (scopeAt (now bytes) (now t) (f .0)) (memberOf (operandAt (now bytes) row) (wantedIn (now cells) (now roots) n)) (now cells) (now roots) n ⌝ }
     ensures { λ r. ⌜ AsksAll (scopeAt (now (bytes .entry)) (now (t .entry)) (f .0)) (memberOf (operandAt (now (bytes .entry)) row) (wantedIn (now (cells .entry)) (now (roots .entry)) n)) (now (cells .entry)) (now (roots .entry)) n (now (cells .exit)) (now (roots .exit)) r ⌝ }
 {
-    let base = ExpressionHandle(operand(bytes, row, 0) as u32);
+    let base = expression_operand(bytes, row, 0);
     let index = operand(bytes, row, 1) as u32;
     let a = roots[n - 2];
     ask_member(bytes, t, f, cells, roots, n, base, index, a)

@@ -31,9 +31,9 @@ pub fn ask_indexes(
     requires { ⌜ Pointer (now bytes) (now t) (f .0) (p .0) ⌝ }
     ensures { λ r. ⌜ AsksAll (scopeAt (now (bytes .entry)) (now (t .entry)) (f .0)) (map askWhole (indexesOf (now (bytes .entry)) (now (t .entry)) (f .0) (p .0))) (now (cells .entry)) (now (roots .entry)) n (now (cells .exit)) (now (roots .exit)) r ⌝ }
 {
-    let mut h = p.0;
+    let mut h = p;
     loop {
-        let step = step_down(bytes, t, f, ExpressionHandle(h));
+        let step = step_down(bytes, t, f, h);
         match step {
             Step::Variable => {
                 return true;
@@ -43,8 +43,7 @@ pub fn ask_indexes(
                 continue;
             }
             Step::Dynamic(base, index) => {
-                let v = ExpressionHandle(index);
-                if !ask_value(bytes, t, f, cells, roots, n, v, 0) {
+                if !ask_value(bytes, t, f, cells, roots, n, index, 0) {
                     return false;
                 }
                 h = base;

@@ -10,6 +10,7 @@ ghost use Rattle.operands.specs.Lists.{letterOf, componentOf, letters, c
 use crate::indexes::ask_member;
 use crate::operators::ask_whole;
 use access::kinded::Kinded;
+use access::kinded::expression_operand;
 use access::kinded::operand;
 use asking::ask::ask_value;
 use module::handles::ExpressionHandle;
@@ -49,7 +50,7 @@ fn ask_letter(
     requires { ⌜ k < 4 ⌝ }
     ensures { λ r. ⌜ AsksAll (scopeAt (now (bytes .entry)) (now (t .entry)) (f .0)) (letterOf (operandAt (now (bytes .entry)) row) k (wantedIn (now (cells .entry)) (now (roots .entry)) n)) (now (cells .entry)) (now (roots .entry)) n (now (cells .exit)) (now (roots .exit)) r ⌝ }
 {
-    let vector = ExpressionHandle(operand(bytes, row, 0) as u32);
+    let vector = expression_operand(bytes, row, 0);
     let letter = operand(bytes, row, 2 + k) as u32;
     let c = subpart(cells, roots[n - 2], k as u32);
     ask_member(bytes, t, f, cells, roots, n, vector, letter, c)
@@ -70,7 +71,7 @@ fn ask_component(
     requires { ⌜ k < 65535 ⌝ }
     ensures { λ r. ⌜ AsksAll (scopeAt (now (bytes .entry)) (now (t .entry)) (f .0)) (componentOf (operandAt (now (bytes .entry)) row) k (wantedIn (now (cells .entry)) (now (roots .entry)) n)) (now (cells .entry)) (now (roots .entry)) n (now (cells .exit)) (now (roots .exit)) r ⌝ }
 {
-    let v = ExpressionHandle(operand(bytes, row, 1 + k) as u32);
+    let v = expression_operand(bytes, row, 1 + k);
     let c = subpart(cells, roots[n - 2], k as u32);
     ask_value(bytes, t, f, cells, roots, n, v, c)
 }

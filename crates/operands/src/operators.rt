@@ -5,12 +5,11 @@ ghost use Rattle.judge.specs.Given.{scopeAt};
 ghost use Rattle.operands.specs.AsksAll.{ListGiven, AsksAll, wantedIn};
 ghost use Rattle.operands.specs.Lists.{sameOf, wholeOf, presentOf, bothSame, bothWhole, selectOf, mathOf};
 use access::kinded::Kinded;
-use access::kinded::operand;
+use access::kinded::expression_operand;
 use asking::ask::ask_value;
 use module::handles::ExpressionHandle;
 use module::handles::FunctionHandle;
-
-const ABSENT: u16 = 65535;
+use module::handles::NO_HANDLE;
 
 // Of the operand j the same part.
 pub fn ask_same(
@@ -26,7 +25,7 @@ pub fn ask_same(
     requires { ⌜ ListGiven (scopeAt (now bytes) (now t) (f .0)) (sameOf (operandAt (now bytes) row) j (wantedIn (now cells) (now roots) n)) (now cells) (now roots) n ⌝ }
     ensures { λ r. ⌜ AsksAll (scopeAt (now (bytes .entry)) (now (t .entry)) (f .0)) (sameOf (operandAt (now (bytes .entry)) row) j (wantedIn (now (cells .entry)) (now (roots .entry)) n)) (now (cells .entry)) (now (roots .entry)) n (now (cells .exit)) (now (roots .exit)) r ⌝ }
 {
-    let v = ExpressionHandle(operand(bytes, row, j) as u32);
+    let v = expression_operand(bytes, row, j);
     let a = roots[n - 2];
     ask_value(bytes, t, f, cells, roots, n, v, a)
 }
@@ -45,7 +44,7 @@ pub fn ask_whole(
     requires { ⌜ ListGiven (scopeAt (now bytes) (now t) (f .0)) (wholeOf (operandAt (now bytes) row) j) (now cells) (now roots) n ⌝ }
     ensures { λ r. ⌜ AsksAll (scopeAt (now (bytes .entry)) (now (t .entry)) (f .0)) (wholeOf (operandAt (now (bytes .entry)) row) j) (now (cells .entry)) (now (roots .entry)) n (now (cells .exit)) (now (roots .exit)) r ⌝ }
 {
-    let v = ExpressionHandle(operand(bytes, row, j) as u32);
+    let v = expression_operand(bytes, row, j);
     ask_value(bytes, t, f, cells, roots, n, v, 0)
 }
 
@@ -63,7 +62,8 @@ fn ask_present(
     requires { ⌜ ListGiven (scopeAt (now bytes) (now t) (f .0)) (presentOf (operandAt (now bytes) row) j) (now cells) (now roots) n ⌝ }
     ensures { λ r. ⌜ AsksAll (scopeAt (now (bytes .entry)) (now (t .entry)) (f .0)) (presentOf (operandAt (now (bytes .entry)) row) j) (now (cells .entry)) (now (roots .entry)) n (now (cells .exit)) (now (roots .exit)) r ⌝ }
 {
-    if operand(bytes, row, j) == ABSENT {
+    let v = expression_operand(bytes, row, j);
+    if v.0 == NO_HANDLE {
         return true;
     }
     ask_whole(bytes, t, f, cells, roots, n, row, j)

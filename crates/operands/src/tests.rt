@@ -8,6 +8,7 @@ ghost use Rattle.clearance.specs.Scope.{innerOf, isVector, anyVector, byPart};
 ghost use Rattle.judge.specs.Given.{scopeAt, Row};
 ghost use Rattle.operands.specs.Lists.{components};
 use access::kinded::Kinded;
+use access::kinded::expression_operand;
 use access::kinded::operand;
 use judge::rows::kind_at;
 use judge::shapes::is_alike;
@@ -34,11 +35,11 @@ pub fn by_part(
     ensures { λ r. ⌜ r ≡ byPart (scopeAt (now (bytes .entry)) (now (t .entry)) (f .0)) (e .0) (operandAt (now (bytes .entry)) row 0) (operandAt (now (bytes .entry)) row 1) ⌝ }
 {
     let own = type_of(bytes, t, f, e);
-    if VECTOR < kind_at(types, own.0) {
+    if VECTOR < kind_at(types, own) {
         return false;
     }
-    let x = ExpressionHandle(operand(bytes, row, 0) as u32);
-    let y = ExpressionHandle(operand(bytes, row, 1) as u32);
+    let x = expression_operand(bytes, row, 0);
+    let y = expression_operand(bytes, row, 1);
     let first = is_alike(alike, type_of(bytes, t, f, x), own);
     let second = is_alike(alike, type_of(bytes, t, f, y), own);
     both(first, second)
@@ -52,9 +53,8 @@ fn any_vector(bytes: &[u8], t: &[u32], f: FunctionHandle, types: &[u32], row: Ki
     let count = operand(bytes, row, 0);
     let mut i: u16 = 0;
     while i < count {
-        let c = operand(bytes, row, 1 + i);
-        let a = type_of(bytes, t, f, ExpressionHandle(c as u32));
-        if kind_at(types, a.0) == VECTOR {
+        let a = type_of(bytes, t, f, expression_operand(bytes, row, 1 + i));
+        if kind_at(types, a) == VECTOR {
             return true;
         }
         i += 1;
@@ -75,7 +75,7 @@ pub fn is_joined(
     ensures { λ r. ⌜ r ≡ (isVector (innerOf (scopeAt (now (bytes .entry)) (now (t .entry)) (f .0)) (e .0)) && anyVector (scopeAt (now (bytes .entry)) (now (t .entry)) (f .0)) (components (operandAt (now (bytes .entry)) row))) ⌝ }
 {
     let own = type_of(bytes, t, f, e);
-    if kind_at(types, own.0) != VECTOR {
+    if kind_at(types, own) != VECTOR {
         return false;
     }
     any_vector(bytes, t, f, types, row)

@@ -1,4 +1,3 @@
-pub mod EachKind
 pub mod Paths
 pub mod Passing
 pub mod Stepping

@@ -20,7 +20,7 @@ use Rattle.clearance.specs.Scope.{Scope, Step, at, by, Path, Place, nowhere, fu
 use Rattle.judge.specs.Given.{scopeAt}
 use Rattle.judge.proofs.PathSteps.{function-valid}
 use Rattle.place.specs.Target.{At}
-use Rattle.place.proofs.EachKind.{each}
+use Rattle.module.proofs.Each.{each}
 
 -- indexes of one step more
 pub indexes-constant : (xs : List Step) (i : ℕ) → indexes (xs ++ (at i ∷ [])) ≡ indexes xs

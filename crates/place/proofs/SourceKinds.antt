@@ -9,6 +9,7 @@ use borrow.Author.Tests.{lt-ltb, le-ltb, ne-eqb}
 use Rattle.module.specs.Module.{Typed}
 use Rattle.module.specs.Decode.{tab, expressionOf}
 use Rattle.module.specs.Tables.{functionOf}
+use Rattle.module.proofs.Each.{past, each}
 use Rattle.access.specs.declared.kinded.Kinded.{Kinded}
 use Rattle.access.specs.Access.{operandAt, expressionRow}
 use Rattle.access.proofs.Access.{typed-is, expression-of}
@@ -16,9 +17,7 @@ use Rattle.clearance.specs.Scope.{Scope, noExpression, typed, innerOf, isVector
 use Rattle.clearance.specs.Scope.{Source, given, from, slot, argument, evaluated, sourceOf, source}
 use Rattle.clearance.specs.Needs.{gives}
 use Rattle.judge.specs.Given.{scopeAt}
-use Rattle.judge.proofs.PathSteps.{past}
 use Rattle.place.specs.Sources.{isFixed, givesKind}
-use Rattle.place.proofs.EachKind.{each}
 
 module _ (S : Scope) (e : ℕ) (o : ℕ → ℕ) where
   abbrev byKind : ℕ → Arm

@@ -30,5 +30,5 @@ pub record DynamicStep (bytes t : List ℕ) (f e base index : ℕ) : Type 0 wher
 
 abbrev pub StepDown : List ℕ → List ℕ → (f e : ℕ) → Step → Type 0
 StepDown bytes t f e Variable = VariableStep bytes t f e
-StepDown bytes t f e (Constant base) = ConstantStep bytes t f e base
-StepDown bytes t f e (Dynamic base index) = DynamicStep bytes t f e base index
+StepDown bytes t f e (Constant base) = ConstantStep bytes t f e (base .0)
+StepDown bytes t f e (Dynamic base index) = DynamicStep bytes t f e (base .0) (index .0)

@@ -62,6 +62,6 @@ pub record Passed (S : Scope) (e : ℕ) (path : List ℕ) (h from to : ℕ) (dyn
 
 -- all steps of e are passed, down to a variable
 pub record IndexesPassed (S : Scope) (e : ℕ) (before after : List ℕ) (r : Reached) : Type 0 where
-  pub passed : Passed S e after (r .variable) (r .from) (r .to) (r .dynamic)
-  pub variable : pathOf S (r .variable) .steps ≡ []
+  pub passed : Passed S e after (r .variable .0) (r .from) (r .to) (r .dynamic)
+  pub variable : pathOf S (r .variable .0) .steps ≡ []
   pub long : length after ≡ length before

@@ -2,7 +2,7 @@
 ghost use Rattle.place.specs.Target.{Pointer};
 ghost use Rattle.place.specs.Steps.{StepDown};
 use access::kinded::expression;
-use access::kinded::operand;
+use access::kinded::expression_operand;
 use module::handles::ExpressionHandle;
 use module::handles::FunctionHandle;
 
@@ -11,8 +11,8 @@ const ACCESS: u16 = 4;
 // What a pointer is: a variable, a constant index of a base, a dynamic index of a base.
 pub enum Step {
     Variable,
-    Constant(u32),
-    Dynamic(u32, u32),
+    Constant(ExpressionHandle),
+    Dynamic(ExpressionHandle, ExpressionHandle),
 }
 
 pub fn step_down(bytes: &[u8], t: &[u32], f: FunctionHandle, e: ExpressionHandle) -> Step
@@ -23,9 +23,9 @@ pub fn step_down(bytes: &[u8], t: &[u32], f: FunctionHandle, e: ExpressionHandle
     if ACCESS < row.kind {
         return Step::Variable;
     }
-    let base = operand(bytes, row, 0) as u32;
+    let base = expression_operand(bytes, row, 0);
     if row.kind == ACCESS {
-        return Step::Dynamic(base, operand(bytes, row, 1) as u32);
+        return Step::Dynamic(base, expression_operand(bytes, row, 1));
     }
     Step::Constant(base)
 }

@@ -9,6 +9,7 @@ ghost use Rattle.clearance.specs.Scope.{variable};
 ghost use Rattle.judge.specs.Given.{scopeAt};
 ghost use Rattle.place.specs.Target.{Pointer, IndexesPassed, TargetFound};
 use access::kinded::expression;
+use access::kinded::expression_operand;
 use access::kinded::operand;
 use module::handles::ExpressionHandle;
 use module::handles::FunctionHandle;
@@ -29,7 +30,7 @@ pub struct Target {
 
 // The variable at which a pointer's operands end, and what was written of the indexes on the way.
 pub struct Reached {
-    pub variable: u32,
+    pub variable: ExpressionHandle,
     pub from: usize,
     pub to: usize,
     pub dynamic: bool,
@@ -79,7 +80,7 @@ fn pass_indexes(
     let mut from = path.len();
     let mut to = path.len();
     let mut dynamic = false;
-    let mut h = e.0;
+    let mut h = e;
     let mut row = expression(bytes, t, f, e);
     while row.kind <= ACCESS {
         let next = from - 1;
@@ -87,8 +88,8 @@ fn pass_indexes(
         to = end_after(row.kind, next, to);
         dynamic = dynamic_after(row.kind, dynamic);
         from = next;
-        h = operand(bytes, row, 0) as u32;
-        row = expression(bytes, t, f, ExpressionHandle(h));
+        h = expression_operand(bytes, row, 0);
+        row = expression(bytes, t, f, h);
     }
     Reached {
         variable: h,
@@ -111,7 +112,7 @@ pub fn find_target(
     ensures { λ r. ⌜ TargetFound (scopeAt (now (bytes .entry)) (now (t .entry)) (f .0)) (e .0) (now (path .entry)) (now (path .exit)) r ⌝ }
 {
     let reached = pass_indexes(bytes, t, f, path, e);
-    let row = expression(bytes, t, f, ExpressionHandle(reached.variable));
+    let row = expression(bytes, t, f, reached.variable);
     let from = reached.from - 2;
     let number = from + 1;
     path[number] = SPINE + (operand(bytes, row, 0) as u32);

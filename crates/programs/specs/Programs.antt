@@ -1,20 +1,11 @@
 -- The modules of 01's cases A, I and J.
-use mathlib.Core.Bool.{Bool, true, false}
-use mathlib.Core.List.{List, [], _∷_}
+use mathlib.Core.Bool.{true, false}
+use mathlib.Core.List.{[], _∷_}
 use mathlib.Core.Option.{Option, some, none as nothing}
-use Prim.Native.Nat.{ℕ}
-use Rattle.module.specs.Module.{TypeHandle, TypeInner, Scalar, Vector, Pointer, FunctionArg, FunctionResult, BlockRange, Function, Module}
-use Rattle.module.specs.Module.{Typed, Expression, AccessIndex, FunctionArgument, GlobalVariable, LocalVariable, Load}
-use Rattle.module.specs.Module.{Statement, Emit, If, Loop, Return, Store}
-
-abbrev pub typed : TypeHandle → Expression → Typed
-typed t e = record { type = t; expression = e }
-
-abbrev pub range : ℕ → ℕ → BlockRange
-range first count = record { first = first; count = count }
-
-abbrev pub argumentOf : TypeHandle → FunctionArg
-argumentOf t = record { type = t; binding = nothing }
+use Rattle.module.specs.Module.{TypeHandle, Scalar, Vector, Pointer, FunctionResult, Function, Module}
+use Rattle.module.specs.Module.{AccessIndex, FunctionArgument, GlobalVariable, LocalVariable, Load}
+use Rattle.module.specs.Module.{Emit, If, Loop, Return, Store}
+use Rattle.module.specs.Short.{typed, range, argumentOf}
 
 -- a scalar is returned
 abbrev pub scalarResult : Option FunctionResult

@@ -19,7 +19,8 @@ use Rattle.clearance.specs.Needs.{idle, quiet}
 use Rattle.clearance.specs.Judged.{isValue, fitsStatement}
 use Rattle.clearance.proofs.Small.{both-true}
 use Rattle.judge.specs.Given.{scopeAt}
-use Rattle.judge.proofs.PathSteps.{past, function-valid}
+use Rattle.module.proofs.Each.{past}
+use Rattle.judge.proofs.PathSteps.{function-valid}
 use Rattle.standing.specs.World.{World}
 use Rattle.place.specs.Target.{Pointer}
 use Rattle.strays.specs.declared.exits.Exits.{Exits}

@@ -14,7 +14,7 @@ use Rattle.clearance.specs.Scope.{Scope}
 use Rattle.clearance.specs.Tree.{Tree, store, marked, byMark, emits, caseAt, statement}
 use Rattle.clearance.specs.Needs.{Exit, next, broke, continued, returned, upon, outBreak, outContinue, ofCase, ofContinuing, ofBody, each, idle, quiet}
 use Rattle.clearance.specs.Judged.{inCase, inBody}
-use Rattle.judge.proofs.PathSteps.{past}
+use Rattle.module.proofs.Each.{past}
 use Rattle.quiet.specs.Acts.{idleFrom}
 
 -- Exits: where the end is allowed, a case and a continuing block allow what has a target in a case, a loop's body what has one there

@@ -12,11 +12,11 @@ ghost use Rattle.quiet.specs.Places.{quietBlock, quietStatement, quietCa
 use crate::plain::quiet_plain;
 use access::function::block;
 use access::kinded::Kinded;
+use access::kinded::block_operand;
 use access::kinded::operand;
 use access::kinded::statement;
 use module::handles::BlockHandle;
 use module::handles::FunctionHandle;
-use strays::blocks::held;
 use strays::exits::Exits;
 use strays::exits::in_body;
 use strays::exits::in_case;
@@ -52,7 +52,7 @@ fn quiet_cases(
     let mut i = operand(bytes, row, 1) as u32;
     while 0 < i {
         i -= 1;
-        let case = held(bytes, row, 3 + 2 * i);
+        let case = block_operand(bytes, row, 3 + 2 * i);
         if !quiet_block(bytes, t, f, types, alike, paths, cells, path, m, case, e) {
             return false;
         }
@@ -83,15 +83,15 @@ fn quiet_statement(
     let row = statement(bytes, t, f, s);
     let kind = row.kind;
     if kind == BLOCK {
-        let inner = held(bytes, row, 0);
+        let inner = block_operand(bytes, row, 0);
         return quiet_block(bytes, t, f, types, alike, paths, cells, path, m, inner, e);
     }
     if kind == IF {
-        let accept = held(bytes, row, 1);
+        let accept = block_operand(bytes, row, 1);
         if !quiet_block(bytes, t, f, types, alike, paths, cells, path, m, accept, e) {
             return false;
         }
-        let reject = held(bytes, row, 2);
+        let reject = block_operand(bytes, row, 2);
         return quiet_block(bytes, t, f, types, alike, paths, cells, path, m, reject, e);
     }
     if kind == SWITCH {
@@ -99,13 +99,13 @@ fn quiet_statement(
         return quiet_cases(bytes, t, f, types, alike, paths, cells, path, m, b, row, x);
     }
     if kind == LOOP {
-        let body = held(bytes, row, 0);
+        let body = block_operand(bytes, row, 0);
         let x = in_body(e);
         if !quiet_block(bytes, t, f, types, alike, paths, cells, path, m, body, x) {
             return false;
         }
         // a continue that leaves a continuing block is one of the loop around
-        let last = held(bytes, row, 1);
+        let last = block_operand(bytes, row, 1);
         let y = in_case(e);
         return quiet_block(bytes, t, f, types, alike, paths, cells, path, m, last, y);
     }

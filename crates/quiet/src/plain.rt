@@ -19,7 +19,7 @@ ghost use Rattle.quiet.specs.Places.{quietStatement, Says};
 use crate::acts::emit_idle;
 use crate::acts::store_idle;
 use access::kinded::Kinded;
-use access::kinded::operand;
+use access::kinded::expression_operand;
 use module::handles::ExpressionHandle;
 use module::handles::FunctionHandle;
 use strays::exits::Exits;
@@ -45,16 +45,16 @@ fn quiet_emits(
     cells: &[u32],
     path: &mut [u32],
     m: u32,
-    first: u32,
-    last: u32,
+    first: ExpressionHandle,
+    last: ExpressionHandle,
 ) -> bool
     requires { ⌜ Needing (now bytes) (now t) (f .0) (now types) (now alike) (now paths) (now cells) m ⌝ }
-    requires { ⌜ last < length (functionOf (now bytes) (now t) (f .0) .expressions) ⌝ }
+    requires { ⌜ last .0 < length (functionOf (now bytes) (now t) (f .0) .expressions) ⌝ }
     requires { ⌜ 2 ≤ length (now path) ⌝ }
-    ensures { λ r. ⌜ IdleFrom (scopeAt (now (bytes .entry)) (now (t .entry)) (f .0)) (part (now (cells .entry)) m) first ((last + 1) - first) (now (path .entry)) (now (path .exit)) r ⌝ }
+    ensures { λ r. ⌜ IdleFrom (scopeAt (now (bytes .entry)) (now (t .entry)) (f .0)) (part (now (cells .entry)) m) (first .0) ((last .0 + 1) - first .0) (now (path .entry)) (now (path .exit)) r ⌝ }
 {
-    let mut e = first;
-    while e <= last {
+    let mut e = first.0;
+    while e <= last.0 {
         if !emit_idle(
             bytes,
             t,
@@ -118,9 +118,9 @@ pub fn quiet_plain(
     ensures { λ r. ⌜ ((b : ℕ) → Says (quietStatement (scopeAt (now (bytes .entry)) (now (t .entry)) (f .0)) (part (now (cells .entry)) m) b s (exitsOf e)) (now (path .entry)) (now (path .exit)) r) ⌝ }
 {
     let kind = row.kind;
-    let first = operand(bytes, row, 0) as u32;
     if kind == EMIT {
-        let last = operand(bytes, row, 1) as u32;
+        let first = expression_operand(bytes, row, 0);
+        let last = expression_operand(bytes, row, 1);
         return quiet_emits(
             bytes,
             t,
@@ -136,7 +136,7 @@ pub fn quiet_plain(
         );
     }
     if kind == STORE {
-        let p = ExpressionHandle(first);
+        let p = expression_operand(bytes, row, 0);
         return store_idle(bytes, t, f, types, alike, paths, cells, path, m, p);
     }
     quiet_leaving(kind, e)

@@ -1,13 +1,14 @@
--- What a statement holds is what its fields name: kind by kind, over the lists of all kinds.
-use mathlib.Core.Path.{_≡_, refl, sym, ap, _∙_}
+-- What a statement holds is what its fields name: kind by kind.
+use mathlib.Core.Path.{_≡_, refl, ap, _∙_}
 use mathlib.Core.Logic.{_≢_}
-use mathlib.Core.List.{List, [], _∷_, map}
+use mathlib.Core.List.{List, map}
 use Prim.Native.Nat.{ℕ, zero, suc, _+_, _*_, _<_, _≤_}
 use native.Mathlib.Omega.{arith}
-use lib.ListN.{length, getD}
-use Rattle.module.specs.Module.{BlockHandle, Statement, SwitchCase, Break, Continue, Return, Kill, ControlBarrier, MemoryBarrier, ImageAtomic, Store, AtomicStatement, Call, ImageStore, RayQuery, WorkGroupUniformLoad, SubgroupBallot, SubgroupGather, SubgroupCollectiveOperation}
-use Rattle.module.specs.Decode.{tab, optionOf, modeOf, modeHandles, caseOf, statementOf, stOf}
+use lib.ListN.{getD}
+use Rattle.module.specs.Module.{BlockHandle, SwitchCase, Break}
+use Rattle.module.specs.Decode.{tab, caseOf, statementOf, stOf}
 use Rattle.module.specs.Blocks.{held}
+use Rattle.module.proofs.Each.{each}
 use Rattle.module.proofs.Tab.{map-tab, tab-same, getD-tab, tab-past}
 use Rattle.reading.specs.declared.blocks.Holding.{Holding}
 use Rattle.reading.specs.Holding.{holdingOf, fieldOf, fieldsOf, kindOf, heldAt}
@@ -21,61 +22,18 @@ use lib.Dec.{ltb}
 abbrev pub named : List ℕ → Holding → List BlockHandle
 named fs h = tab (h .count) (λ i. getD fs (fieldOf h i) 0)
 
-getD-map : {A B : Type 0} (f : A → B) (xs : List A) (i : ℕ) (d : A) → f (getD xs i d) ≡ getD (map f xs) i (f d)
-getD-map f [] i d = refl
-getD-map f (x ∷ xs) zero d = refl
-getD-map f (x ∷ xs) (suc i) d = getD-map f xs i d
-
 switch : (fs : List ℕ) (n : ℕ) → map (λ (k : SwitchCase). k .body) (tab n (caseOf (λ j. getD fs (1 + j) 0))) ≡ tab n (λ i. getD fs (4 + 2 * i) 0)
 unfolding caseOf
 switch fs n =
     map-tab (λ (k : SwitchCase). k .body) n (caseOf (λ j. getD fs (1 + j) 0))
     ∙ tab-same n (λ i. getD fs (1 + (3 + 2 * i)) 0) (λ i. getD fs (4 + 2 * i) 0) (λ i l. ap (λ (k : ℕ). getD fs k 0) (omega arith))
 
--- n statements that hold nothing
-unfoldable rows : ℕ → List (List BlockHandle)
-rows zero = []
-rows (suc n) = [] ∷ rows n
-
-no-row : (n k : ℕ) → getD (rows n) k [] ≡ []
-unfolding rows
-no-row zero k = refl
-no-row (suc n) zero = refl
-no-row (suc n) (suc k) = no-row n k
-
-none-held : (n : ℕ) (xs : List Statement) (k : ℕ) → map held xs ≡ rows n → held (getD xs k Break) ≡ []
-unfolding held
-none-held n xs k e = getD-map held xs k Break ∙ rw e (no-row n k)
-
--- the statements from kind 5 on
-abbrev others : (ℕ → ℕ) → List Statement
-others o =
-    Break
-    ∷ Continue
-    ∷ Return (optionOf (o 0))
-    ∷ Kill
-    ∷ ControlBarrier
-    ∷ MemoryBarrier
-    ∷ ImageAtomic
-    ∷ Store (o 0) (o 1)
-    ∷ AtomicStatement (o 0) (o 1) (optionOf (o 2))
-    ∷ Call (o 0) (tab (o 1) (λ i. o (2 + i))) (optionOf (o (2 + o 1)))
-    ∷ ImageStore (o 0) (o 1) (optionOf (o 2)) (o 3)
-    ∷ RayQuery (o 0)
-    ∷ WorkGroupUniformLoad (o 0) (o 1)
-    ∷ SubgroupBallot (o 0) (optionOf (o 1))
-    ∷ SubgroupGather (modeOf (o 0) (o 1)) (o (1 + getD modeHandles (o 0) 0)) (o (2 + getD modeHandles (o 0) 0))
-    ∷ SubgroupCollectiveOperation (o 0) (o 1)
-    ∷ []
-
 by-kind : (fs : List ℕ) (kind : ℕ) → held (statementOf kind (λ j. getD fs (1 + j) 0)) ≡ named fs (holdingOf kind (getD fs 2 0))
-unfolding statementOf held holdingOf tab rows
-by-kind fs zero = refl
-by-kind fs (suc zero) = refl
-by-kind fs (suc (suc zero)) = refl
-by-kind fs (suc (suc (suc zero))) = switch fs (getD fs 2 0)
-by-kind fs (suc (suc (suc (suc zero)))) = refl
-by-kind fs (suc (suc (suc (suc (suc kind))))) = none-held 16 (others (λ j. getD fs (1 + j) 0)) kind refl
+unfolding statementOf held holdingOf tab
+by-kind fs =
+    each (λ k. held (statementOf k (λ j. getD fs (1 + j) 0)) ≡ named fs (holdingOf k (getD fs 2 0))) 21
+    (refl, (refl, (refl, (switch fs (getD fs 2 0), (refl, (refl, (refl, (refl, (refl, (refl, (refl, (refl, (refl, (refl, (refl, (refl, (refl, (refl, (refl, (refl, (refl, tt)))))))))))))))))))))
+    (λ k. refl)
 
 pub held-is : (fs : List ℕ) → held (stOf fs) ≡ named fs (holdingOf (getD fs 0 0) (getD fs 2 0))
 unfolding stOf

@@ -1,13 +1,13 @@
 -- The block rule of the function that a row stands for, from what was counted.
-use mathlib.Core.Path.{_≡_, refl, sym, ap, _∙_}
-use mathlib.Core.Bool.{Bool, true, false, _&&_}
-use mathlib.Core.List.{List, [], _∷_}
-use Prim.Native.Nat.{ℕ, zero, suc, _+_, _-_, _<_, _≤_}
+use mathlib.Core.Path.{_≡_, _∙_}
+use mathlib.Core.Bool.{Bool, false, _&&_}
+use mathlib.Core.List.{List}
+use Prim.Native.Nat.{ℕ, _+_, _-_, _<_, _≤_}
 use native.Mathlib.Omega.{arith}
 use lib.Dec.{ltb}
-use lib.ListN.{length, getD}
+use lib.ListN.{length}
 use borrow.Author.Tests.{lt-ltb, le-ltb}
-use Rattle.module.specs.Decode.{tab, stOf}
+use Rattle.module.specs.Decode.{stOf}
 use Rattle.module.specs.declared.tables.Row.{Row}
 use Rattle.module.specs.Blocks.{holdersAbove, heldInAll, eachOnce, blockRule}
 use Rattle.module.specs.Reading.{closed, rangeOf}

@@ -44,7 +44,7 @@ module _ (bytes : List ℕ) (m : Module) (read : readModule bytes ≡ accepted m
 
   -- `add_expression`, `add_block` and `add_function`
   pub expression-is : (f : FunctionHandle) (held : ℕ) (e : ExpressionHandle) (p : PartReq) (st : State) → addExpression m f held e p st ≡ visit held (atExpression f e) (λ begun. addAsks (addExpression m f held) (atExpression f e) (armAsks (expressionAt m f e) p) begun >> λ ended. went (recorded e p ended) tt) st
-  expression-is f held e p st = addExpression-is m f held e p st (module-lower .operands f e)
+  expression-is f held e p st = addExpression-is m f held e p st (module-lower .expressions f e)
 
   pub block-is : (call : FunctionWalk) (f : FunctionHandle) (b : BlockHandle) (outside : ℕ) (base : RequiredContext) (r : Bool) (st : State) → addBlock m call f b outside base r st ≡ stepBlock m call f (addBlock m call f) b outside base r st
   block-is call f b outside base r st = lowered.block-is m call f b (module-lower .blocks f b) outside base r st

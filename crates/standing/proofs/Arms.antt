@@ -70,9 +70,6 @@ abbrev pub ending : Scope → ExpressionHandle → List PartReq → PartReq → 
 ending S x aside m a c = joining aside a m c >>= λ g u. asking S aside (askWhole x) u g
 
 module _ {S : Scope} {s rs : List ℕ} {n : ℕ} {x : Exits} (d : Ready S s rs n) (y : Targets n x) (room : n < length rs) where
-  opened : List ℕ
-  opened = set rs n (getD rs (n - 1) 0)
-
   -- a copy of the needs at hand above them
   pub copied-ready : Ready S s (set rs n (getD rs (n - 1) 0)) (n + 1)
   copied-ready =

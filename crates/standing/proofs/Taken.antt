@@ -37,9 +37,6 @@ within-fits {s} {rs} {n} {m} l {c} d h = rw (← reach-cells h, live-within d)
 module _ {S : Scope} {s rs : List ℕ} {n : ℕ} {x : Exits} (d : Ready S s rs n) (y : Targets n x) where
   -- the needs at hand become those of a slot that is kept aside
   module _ (e : ℕ) (low : endSlot ≤ e) (below : e + 1 < n) where
-    taken : List ℕ
-    taken = set rs (n - 1) (getD rs e 0)
-
     pub taken-ready : Ready S s (set rs (n - 1) (getD rs e 0)) n
     taken-ready =
         let h = d .high in

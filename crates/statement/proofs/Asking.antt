@@ -18,7 +18,7 @@ use Rattle.walk.specs.State.{Records, State, Out, went, halt, Walk, _>>_, recor
 use Rattle.walk.specs.Expression.{addExpression}
 use Rattle.walk.specs.Statement.{askOptional}
 use Rattle.walk.specs.Statement as walk
-use Rattle.walk.proofs.Bind.{next-went, next-halt}
+use Rattle.walk.proofs.Bind.{next-went, next-halt, next-self}
 use Rattle.memory.specs.Layout.{ask, returned}
 use Rattle.memory.specs.Memory.{read, Memory}
 use Rattle.memory.specs.Want.{asked, Wants, wantOf}
@@ -35,10 +35,6 @@ use Rattle.state.proofs.Others.{others-same, others-trans, others-still, others
 use Rattle.expression.specs.Walks.{Walks}
 use Rattle.statement.specs.Asks.{Opening, Open, Going, Goes, Asked, maybeAsk, answerOf}
 use Rattle.statement.proofs.Placed.{others-apart, apart-trans}
-
-pub next-self : (x : Out (Unit {0})) → (x >> λ st. went st tt) ≡ x
-next-self (went st a) = refl
-next-self (halt n at) = refl
 
 -- there are totals that count for any number
 abbrev ones : ℕ → Records

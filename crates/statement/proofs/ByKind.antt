@@ -1,5 +1,5 @@
 -- The leaves by kind: which arm each has, and the arms that ask nothing.
-use Prim.Native.Nat.{ℕ, zero, suc, _+_, _-_, _<_, _≤_}
+use Prim.Native.Nat.{ℕ, _+_, _-_, _<_, _≤_}
 use native.Mathlib.Omega.{arith}
 use native.Mathlib.Decide.{decLt, ℕ-discrete}
 use mathlib.Core.Path.{_≡_, refl, sym, subst}
@@ -8,6 +8,7 @@ use mathlib.Core.List.{List}
 use lib.ListN.{getD}
 use Rattle.module.specs.Module.{Statement, Break}
 use Rattle.module.specs.Decode.{statementOf}
+use Rattle.module.proofs.Each.{past}
 use Rattle.access.specs.Access.{operandAt}
 use Rattle.access.specs.declared.kinded.Kinded.{Kinded}
 use Rattle.memory.specs.Stretches.{fourSet}
@@ -20,11 +21,6 @@ use Rattle.statement.specs.LeafKinds.{LeafKind, PlainKind}
 use Rattle.statement.specs.Fields.{StoreKind, plain, image}
 use Rattle.statement.specs.Rays.{RayKind, query, load, ballot, gather, collective}
 use Rattle.statement.proofs.Leaving.{kill-stays, control-stays, memory-stays, image-atomic-halts, break-leaves, continue-leaves}
-
--- a number past the first n
-abbrev past : ℕ → ℕ → ℕ
-past zero k = k
-past (suc n) k = suc (past n k)
 
 other-breaks : (o : ℕ → ℕ) (j : ℕ) → statementOf (past 21 j) o ≡ Break
 unfolding statementOf

@@ -19,12 +19,12 @@ use Rattle.access.specs.declared.kinded.Kinded.{Kinded}
 use Rattle.valid.specs.Valid.{MaybeBelow, UsesBelow}
 use Rattle.sound.proofs.There.{function-valid}
 use Rattle.sound.proofs.Walks.{module-valid}
-use Rattle.walk.specs.State.{State, Out, went, halt, Walk, _>>_, _>>=_}
+use Rattle.walk.specs.State.{State, Out, went, Walk, _>>_, _>>=_}
 use Rattle.walk.specs.Resolve.{functionAt}
 use Rattle.walk.specs.Expression.{addExpression}
 use Rattle.walk.specs.StatementReq.{StatementReq}
 use Rattle.walk.specs.Statement.{FunctionWalk, BlockWalk, Frame, ask, askOptional, store, addStatement}
-use Rattle.walk.proofs.Bind.{next-then, next-same, then-went, then-halt}
+use Rattle.walk.proofs.Bind.{next-then, next-next, next-same, then-went, then-halt}
 use Rattle.memory.specs.Layout as layout
 use Rattle.memory.specs.Memory.{read}
 use Rattle.state.specs.State.{stateOf}
@@ -60,11 +60,6 @@ unfolding optionOf maybeAsk
 there-asked m f held n e p st l h =
     let ne : e ≡ absent → ⊥ = λ z. omega arith in
     rw (ne-eqb e absent ne)
-
--- sequences
-pub next-next : {B : Type 0} (x : Out (Unit {0})) (k : Walk (Unit {0})) (l : Walk B) → ((x >> k) >> l) ≡ (x >> λ st. k st >> l)
-next-next (went st a) k l = refl
-next-next (halt n at) k l = refl
 
 -- the four asks
 module _ {bytes t s rs : List ℕ} {fr : declared.Frame} {x : declared-fields.Fields} {sum : ℕ} (q : Fielding bytes t s rs fr x sum) (visits : ℕ) where

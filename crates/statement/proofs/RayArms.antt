@@ -24,7 +24,7 @@ use Rattle.walk.specs.State.{State, Out, went, halt, Walk, _>>_}
 use Rattle.walk.specs.Resolve.{functionAt, storeRequired}
 use Rattle.walk.specs.StatementReq.{StatementReq}
 use Rattle.walk.specs.Statement.{FunctionWalk, BlockWalk, Frame, Target, here, ask, askOptional, askMode, target, whenNeeded, ray, addStatement}
-use Rattle.walk.proofs.Bind.{then-went, then-halt, next-same}
+use Rattle.walk.proofs.Bind.{then-went, then-halt, next-self, next-same}
 use Rattle.memory.specs.Layout as layout
 use Rattle.memory.specs.Memory.{read, contextAt}
 use Rattle.memory.proofs.Slots.{kept-read}
@@ -47,7 +47,7 @@ use Rattle.statement.specs.declared.aim.Aim.{Aim}
 use Rattle.statement.specs.declared.aim.Aim.the-variants as aims
 use Rattle.statement.specs.declared.rays.Ray.{Ray}
 use Rattle.statement.proofs.Placed.{others-apart}
-use Rattle.statement.proofs.Asking.{begins, began, ends, optional-is, next-self}
+use Rattle.statement.proofs.Asking.{begins, began, ends, optional-is}
 use Rattle.statement.proofs.Aiming.{kept-ready}
 use Rattle.statement.proofs.Uses.{arm-uses}
 use Rattle.statement.proofs.Fields.{there-maybe, there-asked, few}

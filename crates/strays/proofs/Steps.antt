@@ -21,7 +21,7 @@ use Rattle.clearance.specs.Needs.{Exit, broke, continued, returned, onlyNext, c
 use Rattle.clearance.specs.Judged.{atTop, inCase, inBody, unless, strays, lowest, failing, fitsStatement, blamedStatement}
 use Rattle.clearance.specs.Scope.{Scope}
 use Rattle.clearance.proofs.Markless.{strays-same}
-use Rattle.judge.proofs.PathSteps.{past}
+use Rattle.module.proofs.Each.{past}
 use Rattle.strays.specs.declared.exits.Exits.{Exits}
 use Rattle.strays.specs.Lower.{lowerOf}
 use Rattle.strays.specs.Exits.{exitsOf}

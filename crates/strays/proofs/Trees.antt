@@ -11,7 +11,7 @@ use Rattle.module.proofs.Tab.{length-tab, getD-tab, map-tab}
 use Rattle.clearance.specs.Tree.{Tree, marked, byMark, emits, caseAt, statement}
 use Rattle.clearance.specs.Needs.{Exit, broke, continued, returned, onlyNext, concat}
 use Rattle.clearance.specs.Judged.{inCase, inBody, unless, strays}
-use Rattle.judge.proofs.PathSteps.{past}
+use Rattle.module.proofs.Each.{past}
 
 pub concat-same : (n : ℕ) (f g : ℕ → List ℕ) → ((i : ℕ) → i < n → f i ≡ g i) → concat n f ≡ concat n g
 unfolding concat

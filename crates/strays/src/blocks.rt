@@ -23,12 +23,12 @@ use crate::lower::lower_unless;
 use access::function::block;
 use access::function::body_block;
 use access::kinded::Kinded;
+use access::kinded::block_operand;
 use access::kinded::operand;
 use access::kinded::statement;
 use judge::expressions::Blamed;
 use module::handles::BlockHandle;
 use module::handles::FunctionHandle;
-use module::record::body;
 
 const EMIT: u16 = 0;
 
@@ -66,14 +66,6 @@ fn stray_leaving(kind: u16, s: u32, e: Exits, low: Blamed) -> Blamed
     lower_unless(e.broke, s, low)
 }
 
-// The block that a statement holds in its operand j. A switch has two for each of fewer than 65536 cases.
-pub fn held(bytes: &[u8], row: Kinded, j: u32) -> BlockHandle
-    requires { ⌜ j < 200000 ⌝ }
-    ensures { λ r. ⌜ r .0 ≡ operandAt (now (bytes .entry)) row j ⌝ }
-{
-    BlockHandle(body(bytes, row.offset, (row.before as u32) + j) as u32)
-}
-
 fn stray_cases(
     bytes: &[u8],
     t: &[u32],
@@ -90,7 +82,7 @@ fn stray_cases(
     let mut low = low;
     let mut i: u32 = 0;
     while i < n {
-        low = stray_block(bytes, t, f, held(bytes, row, 3 + 2 * i), e, low);
+        low = stray_block(bytes, t, f, block_operand(bytes, row, 3 + 2 * i), e, low);
         i += 1;
     }
     low
@@ -118,17 +110,24 @@ fn stray_statement(
         return low;
     }
     if kind == BLOCK {
-        return stray_block(bytes, t, f, held(bytes, row, 0), e, low);
+        return stray_block(bytes, t, f, block_operand(bytes, row, 0), e, low);
     }
     if kind == IF {
-        let rejected = stray_block(bytes, t, f, held(bytes, row, 2), e, low);
-        return stray_block(bytes, t, f, held(bytes, row, 1), e, rejected);
+        let rejected = stray_block(bytes, t, f, block_operand(bytes, row, 2), e, low);
+        return stray_block(bytes, t, f, block_operand(bytes, row, 1), e, rejected);
     }
     if kind == SWITCH {
         return stray_cases(bytes, t, f, b, row, in_case(e), low);
     }
-    let continuing = stray_block(bytes, t, f, held(bytes, row, 1), none(), low);
-    stray_block(bytes, t, f, held(bytes, row, 0), in_body(e), continuing)
+    let continuing = stray_block(bytes, t, f, block_operand(bytes, row, 1), none(), low);
+    stray_block(
+        bytes,
+        t,
+        f,
+        block_operand(bytes, row, 0),
+        in_body(e),
+        continuing,
+    )
 }
 
 fn stray_block(

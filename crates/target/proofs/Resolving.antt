@@ -26,6 +26,7 @@ use Rattle.module.specs.declared.handles.LocalHandle.{LocalHandle}
 use Rattle.module.specs.Decode.{expressionOf}
 use Rattle.module.specs.File.{accepted, readModule}
 use Rattle.module.specs.Tables.{functionOf, moduleOf}
+use Rattle.module.proofs.Each.{each}
 use Rattle.access.specs.declared.kinded.Kinded.{Kinded}
 use Rattle.access.specs.Access.{operandAt, expressionRow}
 use Rattle.access.proofs.Access.{function-is, expression-at}
@@ -83,20 +84,6 @@ unfolding fromFirst
 one-more xs i =
     let long : length (xs ++ (i ∷ [])) ≡ suc (length xs) = length-append xs (i ∷ []) ∙ omega arith in
     rw (long, getD-at xs i [] 0 (length xs) refl, first-same xs (i ∷ []) (length xs) (omega arith))
-
--- something of each number: of those below n one by one, and of those from n on
-abbrev past : ℕ → ℕ → ℕ
-past zero k = k
-past (suc n) k = suc (past n k)
-
-abbrev Each : (ℕ → Type 0) → ℕ → Type 0
-Each P zero = Unit {0}
-Each P (suc n) = P 0 × Each (λ k. P (suc k)) n
-
-each : (P : ℕ → Type 0) (n : ℕ) → Each P n → ((k : ℕ) → P (past n k)) → (k : ℕ) → P k
-each P zero h z k = z k
-each P (suc n) h z zero = h .0
-each P (suc n) h z (suc k) = each (λ j. P (suc j)) n (h .1) z k
 
 -- a kind that is no access and no variable
 record Other (kind : ℕ) : Type 0 where

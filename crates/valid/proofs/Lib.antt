@@ -8,3 +8,4 @@ pub mod Lists
 pub mod Records
 pub mod Starts
 pub mod Uses
+pub mod Ways

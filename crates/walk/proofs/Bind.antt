@@ -27,6 +27,14 @@ pub next-then : {B C : Type 0} (x : Out (Unit {0})) (k : Walk B) (l : State → 
 next-then (went st a) k l = refl
 next-then (halt n at) k l = refl
 
+pub next-next : {B : Type 0} (x : Out (Unit {0})) (k : Walk (Unit {0})) (l : Walk B) → ((x >> k) >> l) ≡ (x >> λ st. k st >> l)
+next-next (went st a) k l = refl
+next-next (halt n at) k l = refl
+
+pub next-self : (x : Out (Unit {0})) → (x >> λ st. went st tt) ≡ x
+next-self (went st a) = refl
+next-self (halt n at) = refl
+
 -- 16 and 15, passed and not
 pub counted-over : (held : ℕ) (here : Place) (st : State) → maxPieces < count held st → counted held here st ≡ halt 16 here
 unfolding counted

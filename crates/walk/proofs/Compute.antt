@@ -1,10 +1,10 @@
--- The definition of the walk, opened whole, so that worked cases compute; and short forms for writing modules, requests and reports.
+-- The definition of the walk, opened whole, so that worked cases compute; and short forms for writing requests and reports.
 use mathlib.Core.Bool.{Bool}
 use mathlib.Core.List.{List}
-use mathlib.Core.Option.{Option, none as nothing}
+use mathlib.Core.Option.{Option}
 use Prim.Native.Nat.{ℕ}
 use Rattle.part.specs.PartReq.{PartReq, getSubpart, has, within, contains, merge, onNone, add, fromFirst, entries, width, depth, over}
-use Rattle.module.specs.Module.{Module, Typed, Expression, BlockRange, FunctionArg, SwitchCase}
+use Rattle.module.specs.Module.{Module}
 use Rattle.context.specs.RequiredContext.{RequiredContext, containsContext, mergeContext, pieces, alter, withGlobals, withLocals, removeVar}
 use Rattle.walk.specs.State.{Records, recordPieces, functionPieces, totalPieces, sumOf, count, counted, limited, overContext, limitedContext, visitWhen}
 use Rattle.request.specs.Request.{Request}
@@ -34,9 +34,6 @@ unfolding insert getSubpart has within contains merge onNone add fromFirst entri
     addReturn targetOf takenOut addStore addAtomic askArguments retvalOf endCall addCall whenNeeded askMode addStatement visitStatement addStatements
     stepBlock addBlock any required mark marksOf ownMarks
 answers m qs = requests m (fresh m) qs .0
-
-abbrev pub switchCase : ℕ → ℕ → SwitchCase
-switchCase value body = record { value = value; body = body }
 
 abbrev pub ask : ℕ → Option PartReq → PartReq → Request
 ask f retval globals = record { function = f; retval = retval; globals = globals }

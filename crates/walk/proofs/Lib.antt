@@ -1,5 +1,4 @@
 pub mod Compute
-pub mod Cases
 pub mod Oddities
 pub mod Counts
 pub mod Bind
@@ -11,6 +10,7 @@ pub mod Functions
 pub mod Numbers
 pub mod Parts
 pub mod Proper
+pub mod Reach
 pub mod Limits
 pub mod Lower
 pub mod Room

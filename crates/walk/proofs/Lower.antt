@@ -157,7 +157,7 @@ statement-same m call call′ block block′ fr f b ImageAtomic st hc hb c h = r
 statement-same m call call′ block block′ fr f b (Store pointer value) st hc hb c h = refl
 statement-same m call call′ block block′ fr f b (AtomicStatement pointer value result) st hc hb c h = refl
 statement-same m call call′ block block′ fr f b (Call function arguments result) st hc hb c h =
-    call-same m call call′ fr function arguments result st (hc function c)
+    call-same m call call′ fr function arguments result st (hc function (c function arguments result refl))
 statement-same m call call′ block block′ fr f b (ImageStore image coordinate arrayIndex value) st hc hb c h = refl
 statement-same m call call′ block block′ fr f b (RayQuery query) st hc hb c h = refl
 statement-same m call call′ block block′ fr f b (WorkGroupUniformLoad pointer result) st hc hb c h = refl

@@ -8,8 +8,8 @@ use Rattle.module.specs.Module.{Module, Scalar, Vector, Atomic, AccessIndex, Sw
 use Rattle.context.specs.RequiredContext.{variable}
 use Rattle.walk.specs.State.{atStatement}
 use Rattle.walk.specs.Requests.{refused, fresh, requests}
-use Rattle.programs.specs.Programs.{typed, range, argumentOf}
-use Rattle.walk.proofs.Compute.{answers, switchCase, ask, context, report}
+use Rattle.module.specs.Short.{typed, range, argumentOf, switchCase}
+use Rattle.walk.proofs.Compute.{answers, ask, context, report}
 
 -- The first visit of a global replaces the context's entry, so that store 0 is lost; once the total has the global, the context is left alone.
 abbrev module-firstVisit : Module
@@ -102,6 +102,30 @@ module-breakIf =
 pub breakIf : requests module-breakIf (fresh module-breakIf) ((ask 0 (some all) none) ∷ []) .0 ≡ ((report true (context none (more (variable 0) all none) (more (variable 0) all none) (more (variable 0) all none)) ((some all) ∷ (some all) ∷ (some exist) ∷ (some all) ∷ []) (1 ∷ 1 ∷ 1 ∷ 1 ∷ []) 12 (1 ∷ 1 ∷ 1 ∷ 1 ∷ [])) ∷ [])
 unfolding answers
 breakIf = refl
+
+-- The working context of a loop stays what it was before the first turn: the body a=b; b=c, with a returned, needs c from the second turn on, and so
+-- never settles.
+abbrev module-fixedWorking : Module
+module-fixedWorking =
+    record {
+      types = (Scalar ∷ []);
+      globals = [];
+      functions =
+          record {
+            entry = false;
+            result = (some (record { type = 0; binding = nothing }));
+            arguments = [];
+            locals = (0 ∷ 0 ∷ 0 ∷ []);
+            expressions = (typed 0 (LocalVariable 0) ∷ typed 0 (LocalVariable 1) ∷ typed 0 (LocalVariable 2) ∷ typed 0 (Load 1) ∷ typed 0 (Load 2) ∷ typed 0 (Load 0) ∷ []);
+            statements = ((Store 0 3) ∷ (Store 1 4) ∷ (Loop 0 1 nothing) ∷ (Return (some 5)) ∷ []);
+            blocks = (range 0 2 ∷ range 2 0 ∷ range 2 2 ∷ []);
+          }
+          ∷ [];
+    }
+
+pub fixedWorking : requests module-fixedWorking (fresh module-fixedWorking) ((ask 0 (some all) none) ∷ []) .0 ≡ ((refused 14 (atStatement 0 2)) ∷ [])
+unfolding answers
+fixedWorking = refl
 
 -- The last case of a switch is walked first: its visit of the global is the first, so that the context has {1:all}.
 abbrev module-lastCaseFirst : Module

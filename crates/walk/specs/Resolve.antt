@@ -5,7 +5,8 @@ use mathlib.Core.Option.{none as nothing}
 use mathlib.Core.List.{List, [], _∷_, _++_}
 use lib.ListN.{getD}
 use Rattle.part.specs.PartReq.{PartReq, all, exist, none, more, Subpart, gone, there, getSubpart, fromIndexes}
-use Rattle.module.specs.Module.{ExpressionHandle, FunctionHandle, Function, Module, Expression, Literal, ZeroValue, WorkGroupUniformLoadResult, AccessIndex, Access, Constant, Splat, Swizzle, Compose, FunctionArgument, GlobalVariable, LocalVariable, Load, ImageSample, ImageLoad, ImageQuery, Unary, Binary, Select, Derivative, Relational, Math, As, CallResult, AtomicResult, ArrayLength, RayQueryProceedResult, RayQueryGetIntersection, Override, SubgroupBallotResult, SubgroupOperationResult, RayQueryVertexPositions}
+use Rattle.module.specs.Module.{ExpressionHandle, FunctionHandle, Function, Module, Expression, Literal}
+use Rattle.module.specs.Way.{Way, constantly, dynamically, toGlobal, toLocal, noWay, wayOf}
 use Rattle.context.specs.RequiredContext.{RequiredContext, VarRef, Global, Local, variable}
 use Rattle.module.specs.Knot.{knot}
 
@@ -24,39 +25,15 @@ pub data VarRefPart : Type 0 where
   unresolved : VarRefPart
 
 -- with r what resolves a lower expression
+abbrev pub resolveWay : (ExpressionHandle → List ℕ → VarRefPart) → Way → List ℕ → VarRefPart
+resolveWay r (constantly base index) indexes = r base (indexes ++ (index ∷ []))
+resolveWay r (dynamically base index) indexes = r base []
+resolveWay r (toGlobal gv) indexes = resolved (Global gv) (fromIndexes indexes)
+resolveWay r (toLocal lv) indexes = resolved (Local lv) (fromIndexes indexes)
+resolveWay r noWay indexes = unresolved
+
 unfoldable pub resolveArm : (ExpressionHandle → List ℕ → VarRefPart) → Expression → List ℕ → VarRefPart
-resolveArm r Literal indexes = unresolved
-resolveArm r ZeroValue indexes = unresolved
-resolveArm r WorkGroupUniformLoadResult indexes = unresolved
-resolveArm r (AccessIndex base index) indexes = r base (indexes ++ (index ∷ []))
-resolveArm r (Access base index) indexes = r base []
-resolveArm r Constant indexes = unresolved
-resolveArm r (Splat value) indexes = unresolved
-resolveArm r (Swizzle vector pattern) indexes = unresolved
-resolveArm r (Compose components) indexes = unresolved
-resolveArm r (FunctionArgument index) indexes = unresolved
-resolveArm r (GlobalVariable gv) indexes = resolved (Global gv) (fromIndexes indexes)
-resolveArm r (LocalVariable lv) indexes = resolved (Local lv) (fromIndexes indexes)
-resolveArm r (Load pointer) indexes = unresolved
-resolveArm r (ImageSample image sampler coordinate arrayIndex level depthRef) indexes = unresolved
-resolveArm r (ImageLoad image coordinate arrayIndex sample level) indexes = unresolved
-resolveArm r (ImageQuery image level) indexes = unresolved
-resolveArm r (Unary expr) indexes = unresolved
-resolveArm r (Binary left right) indexes = unresolved
-resolveArm r (Select condition accept reject) indexes = unresolved
-resolveArm r (Derivative expr) indexes = unresolved
-resolveArm r (Relational argument) indexes = unresolved
-resolveArm r (Math arg arg1 arg2 arg3) indexes = unresolved
-resolveArm r (As expr) indexes = unresolved
-resolveArm r CallResult indexes = unresolved
-resolveArm r AtomicResult indexes = unresolved
-resolveArm r (ArrayLength array) indexes = unresolved
-resolveArm r RayQueryProceedResult indexes = unresolved
-resolveArm r (RayQueryGetIntersection query) indexes = unresolved
-resolveArm r Override indexes = unresolved
-resolveArm r SubgroupBallotResult indexes = unresolved
-resolveArm r SubgroupOperationResult indexes = unresolved
-resolveArm r RayQueryVertexPositions indexes = unresolved
+resolveArm r x indexes = resolveWay r (wayOf x) indexes
 
 -- `resolve_var`. (An operand is below its expression, so that the case of another number never shows.)
 unfoldable pub resolveVar : Module → FunctionHandle → ExpressionHandle → List ℕ → VarRefPart

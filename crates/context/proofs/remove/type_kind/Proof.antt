@@ -8,6 +8,9 @@ use Rattle.context.proofs.remove.type_kind.Reads as reads
 use Rattle.context.proofs.remove.type_kind.Lts as lts
 use Rattle.context.proofs.remove.type_word.Reads as type-word-reads
 
+cast-if1 : tie.Need-cast-if1
+cast-if1 c = search needs
+
 returns : tie.Need-returns
 returns c = sym (kind-past _ _ (c .if1 .taken))
 
@@ -18,4 +21,4 @@ returns-2 : tie.Need-returns-2
 returns-2 c = c .type-word .ensures ∙ sym (kind-there _ _ (search needs))
 
 pub type-kind-spec : {M : Type 1} → statement M
-type-kind-spec = tie.close (tie.spec returns type-word-requires returns-2)
+type-kind-spec = tie.close (tie.spec cast-if1 returns type-word-requires returns-2)

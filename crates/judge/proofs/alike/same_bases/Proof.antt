@@ -16,7 +16,7 @@ use Rattle.judge.proofs.rows.base_at.Reads as base-at-reads
 use Rattle.judge.proofs.rows.base_count.Reads as base-count-reads
 
 abbrev Inv-loop : tie.InvT-loop
-Inv-loop types table a b n i₀ i = Compared table (bases (getD (typesOf types) a Opaque)) (bases (getD (typesOf types) b Opaque)) i
+Inv-loop types table a b n i₀ i = Compared table (bases (getD (typesOf types) (a .0) Opaque)) (bases (getD (typesOf types) (b .0) Opaque)) i
 
 abbrev μ-loop : tie.MeasureT-loop
 μ-loop types table a b n i₀ i = n - i
@@ -52,16 +52,16 @@ word-requires-2 : tie.Need-word-requires-2 Inv-loop μ-loop
 word-requires-2 c κs = search needs
 
 returns-2 : tie.Need-returns-2 Inv-loop μ-loop
-returns-2 c = entries-differ _ _ _ (omega (arith, c .before .before .before .before .before .loop-test .taken, c .before .before .before .before .before .before .before .before .before .base-count .ensures)) (c .before .before .before .before .base-at .ensures) (c .before .before .before .base-at2 .ensures) (c .before .before .word .ensures) (c .before .word2 .ensures) (c .if2 .taken)
+returns-2 c = entries-differ _ _ _ (omega (arith, c .before .before .before .before .before .before .before .loop-test .taken, c .before .before .before .before .before .before .before .before .before .before .before .base-count .ensures)) (c .before .before .before .before .before .before .base-at .ensures) (c .before .before .before .before .before .base-at2 .ensures) (c .before .before .before .word .ensures) (c .before .word2 .ensures) (c .if2 .taken)
 
 add-i : tie.Need-add-i Inv-loop μ-loop
-add-i c = omega (arith, c .before .before .before .before .before .loop-test .taken)
+add-i c = omega (arith, c .before .before .before .before .before .before .before .loop-test .taken)
 
 loop-less : tie.Need-loop-less Inv-loop μ-loop
-loop-less c = omega (arith, c .before .before .before .before .before .loop-test .taken)
+loop-less c = omega (arith, c .before .before .before .before .before .before .before .loop-test .taken)
 
 loop-again : tie.Need-loop-again Inv-loop μ-loop
-loop-again c = compared-next _ _ _ (omega (arith, c .before .before .before .before .before .loop-test .taken, c .before .before .before .before .before .before .before .before .before .base-count .ensures)) (c .before .before .before .before .base-at .ensures) (c .before .before .before .base-at2 .ensures) (c .before .before .word .ensures) (c .before .word2 .ensures) (c .if2 .left) (c .before .before .before .before .before .before .loop .inv)
+loop-again c = compared-next _ _ _ (omega (arith, c .before .before .before .before .before .before .before .loop-test .taken, c .before .before .before .before .before .before .before .before .before .before .before .base-count .ensures)) (c .before .before .before .before .before .before .base-at .ensures) (c .before .before .before .before .before .base-at2 .ensures) (c .before .before .before .word .ensures) (c .before .word2 .ensures) (c .if2 .left) (c .before .before .before .before .before .before .before .before .loop .inv)
 
 returns-3 : tie.Need-returns-3 Inv-loop μ-loop
 returns-3 c = compared-all _ _ _ (c .before .before .before .before .base-count .ensures) (c .before .before .before .base-count2 .ensures) (c .before .before .if1 .left) (c .loop-test .left) (c .before .loop .inv)

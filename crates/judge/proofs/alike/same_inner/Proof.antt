@@ -21,4 +21,10 @@ returns-2 : tie.Need-returns-2
 returns-2 c = inner-differs _ _ _ (c .before .same-kind .ensures) (c .if1 .left)
 
 pub same-inner-spec : {M : Type 1} → statement M
-same-inner-spec = tie.close (tie.spec same-kind-requires same-bases-requires returns returns-2)
+same-inner-spec =
+    tie.close
+    (tie.spec
+    same-kind-requires
+    same-bases-requires
+    returns
+    returns-2)

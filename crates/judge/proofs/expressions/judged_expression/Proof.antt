@@ -27,4 +27,9 @@ returns-2 c = judged-fits (c .before .before .before .before .before .before .be
 pub judged-expression-spec : {M : Type 1} → statement M
 judged-expression-spec =
     tie.close
-    (tie.spec type-of-requires holds-either-requires returns fits-expression-requires returns-2)
+    (tie.spec
+    type-of-requires
+    holds-either-requires
+    returns
+    fits-expression-requires
+    returns-2)

@@ -1,6 +1,5 @@
 -- `judge::indexes::same_index` meets its contract: by the kind of index.
 use Rattle.judge.proofs.IndexRows.{index-dynamic, index-constant}
-use borrow.Author.Needs.{needs}
 use Rattle.judge.proofs.indexes.same_index.Statement.{statement}
 use Rattle.judge.proofs.indexes.same_index.Tie as tie
 use Rattle.judge.proofs.indexes.same_index.Reads as reads
@@ -21,4 +20,10 @@ returns-2 : tie.Need-returns-2
 returns-2 c = λ S p. index-constant S _ _ _ _ (c .before .if1 .left) (c .same-part .ensures S p)
 
 pub same-index-spec : {M : Type 1} → statement M
-same-index-spec = tie.close (tie.spec same-element-requires returns same-part-requires returns-2)
+same-index-spec =
+    tie.close
+    (tie.spec
+    same-element-requires
+    returns
+    same-part-requires
+    returns-2)

@@ -25,4 +25,10 @@ returns-3 c = count-none _ _ (c .before .before .kind-at .ensures) (c .before .i
 
 pub component-count-spec : {M : Type 1} → statement M
 component-count-spec =
-    tie.close (tie.spec kind-at-requires returns first-word-requires returns-2 returns-3)
+    tie.close
+    (tie.spec
+    kind-at-requires
+    returns
+    first-word-requires
+    returns-2
+    returns-3)

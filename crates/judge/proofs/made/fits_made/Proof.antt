@@ -5,7 +5,7 @@ use Rattle.judge.proofs.made.fits_made.Statement.{statement}
 use Rattle.judge.proofs.made.fits_made.Tie as tie
 use Rattle.judge.proofs.made.fits_made.Reads as reads
 use Rattle.judge.proofs.made.fits_made.Lts as lts
-use Rattle.access.proofs.kinded.operand.Reads as operand-reads
+use Rattle.access.proofs.kinded.expression_operand.Reads as expression-operand-reads
 use Rattle.judge.proofs.made.fits_compose.Reads as fits-compose-reads
 use Rattle.judge.proofs.made.fits_swizzle.Reads as fits-swizzle-reads
 use Rattle.judge.proofs.rows.kind_at.Reads as kind-at-reads
@@ -19,11 +19,8 @@ fits-swizzle-requires c κs = (c .before .before .before .before .before .before
 returns : tie.Need-returns
 returns c = c .fits-swizzle .ensures
 
-operand-requires : tie.Need-operand-requires
-operand-requires c κs = search needs
-
-cast-both : tie.Need-cast-both
-cast-both c = search needs
+expression-operand-requires : tie.Need-expression-operand-requires
+expression-operand-requires c κs = search needs
 
 type-of-requires : tie.Need-type-of-requires
 type-of-requires c κs = search needs
@@ -47,7 +44,7 @@ both-requires-2 : tie.Need-both-requires-2
 both-requires-2 c κs = search needs
 
 returns-2 : tie.Need-returns-2
-returns-2 c = fits-splat (c .before .before .before .before .before .before .before .before .before .before .before .before .before .before .before .before .before .pre .0) (c .before .before .before .before .before .before .before .before .if2 .taken) (c .before .before .before .before .before .before .before .operand .ensures) (c .before .before .before .before .before .before .type-of .ensures) (c .before .before .before .before .before .type-of2 .ensures) (c .before .before .before .before .kind-at .ensures) (c .before .before .before .kind-at2 .ensures) (c .before .before .both .ensures) (c .before .is-value .ensures) (c .both2 .ensures)
+returns-2 c = fits-splat (c .before .before .before .before .before .before .before .before .before .before .before .before .before .before .before .before .before .pre .0) (c .before .before .before .before .before .before .before .before .if2 .taken) (c .before .before .before .before .before .before .before .expression-operand .ensures) (c .before .before .before .before .before .before .type-of .ensures) (c .before .before .before .before .before .type-of2 .ensures) (c .before .before .before .before .kind-at .ensures) (c .before .before .before .kind-at2 .ensures) (c .before .before .both .ensures) (c .before .is-value .ensures) (c .both2 .ensures)
 
 fits-compose-requires : tie.Need-fits-compose-requires
 fits-compose-requires c κs = (c .before .before .before .before .before .before .before .before .before .pre .0, compose-left (c .before .before .before .before .before .before .before .before .before .pre .1 .0) (c .before .before .before .before .before .before .before .before .before .pre .1 .1) (c .before .before .if1 .left) (c .if2 .left))
@@ -61,8 +58,7 @@ fits-made-spec =
     (tie.spec
     fits-swizzle-requires
     returns
-    operand-requires
-    cast-both
+    expression-operand-requires
     type-of-requires
     type-of-requires-2
     kind-at-requires

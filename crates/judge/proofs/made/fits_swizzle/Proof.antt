@@ -5,6 +5,7 @@ use Rattle.judge.proofs.made.fits_swizzle.Statement.{statement}
 use Rattle.judge.proofs.made.fits_swizzle.Tie as tie
 use Rattle.judge.proofs.made.fits_swizzle.Reads as reads
 use Rattle.judge.proofs.made.fits_swizzle.Lts as lts
+use Rattle.access.proofs.kinded.expression_operand.Reads as expression-operand-reads
 use Rattle.access.proofs.kinded.operand.Reads as operand-reads
 use Rattle.bindings.proofs.types.first_word.Reads as first-word-reads
 use Rattle.judge.proofs.made.letters_below.Reads as letters-below-reads
@@ -14,11 +15,8 @@ use Rattle.judge.proofs.values.both.Reads as both-reads
 use Rattle.judge.proofs.values.is_value.Reads as is-value-reads
 use Rattle.judge.proofs.values.type_of.Reads as type-of-reads
 
-operand-requires : tie.Need-operand-requires
-operand-requires c κs = search needs
-
-cast-if1 : tie.Need-cast-if1
-cast-if1 c = search needs
+expression-operand-requires : tie.Need-expression-operand-requires
+expression-operand-requires c κs = search needs
 
 type-of-requires : tie.Need-type-of-requires
 type-of-requires c κs = search needs
@@ -27,7 +25,7 @@ kind-at-requires : tie.Need-kind-at-requires
 kind-at-requires c κs = search needs
 
 returns : tie.Need-returns
-returns c = swizzle-other (c .before .before .before .before .before .before .before .before .before .pre .0) (c .before .before .before .before .before .before .before .before .before .pre .1) (c .before .before .before .operand .ensures) (c .before .before .type-of .ensures) (c .before .kind-at .ensures) (c .if1 .taken)
+returns c = swizzle-other (c .before .before .before .before .before .before .before .before .before .pre .0) (c .before .before .before .before .before .before .before .before .before .pre .1) (c .before .before .before .expression-operand .ensures) (c .before .before .type-of .ensures) (c .before .kind-at .ensures) (c .if1 .taken)
 
 first-word-requires : tie.Need-first-word-requires
 first-word-requires c κs = search needs
@@ -35,8 +33,8 @@ first-word-requires c κs = search needs
 letters-below-requires : tie.Need-letters-below-requires
 letters-below-requires c κs = few-letters (c .before .before .before .before .before .before .before .before .before .before .pre .0) (c .before .before .before .before .before .before .before .before .before .before .pre .1)
 
-operand-requires-2 : tie.Need-operand-requires-2
-operand-requires-2 c κs = search needs
+operand-requires : tie.Need-operand-requires
+operand-requires c κs = search needs
 
 cast-is-vector-of : tie.Need-cast-is-vector-of
 cast-is-vector-of c = search needs
@@ -57,20 +55,19 @@ both-requires-2 : tie.Need-both-requires-2
 both-requires-2 c κs = search needs
 
 returns-2 : tie.Need-returns-2
-returns-2 c = fits-swizzle (c .before .before .before .before .before .before .before .before .before .before .before .before .before .before .before .before .before .pre .0) (c .before .before .before .before .before .before .before .before .before .before .before .before .before .before .before .before .before .pre .1) (c .before .before .before .before .before .before .before .before .before .before .before .operand .ensures) (c .before .before .before .before .before .before .before .before .before .before .type-of .ensures) (c .before .before .before .before .before .before .before .before .before .kind-at .ensures) (c .before .before .before .before .before .before .before .before .if1 .left) (c .before .before .before .before .before .before .before .first-word .ensures) (c .before .before .before .before .before .before .letters-below .ensures) (c .before .before .before .before .before .operand2 .ensures) (c .before .before .before .before .type-of2 .ensures) (c .before .before .before .is-vector-of .ensures _ (c .before .before .before .before .before .before .before .before .before .before .before .before .before .before .before .before .before .pre .0 .given .values .same)) (c .before .before .is-value .ensures) (c .before .both .ensures) (c .both2 .ensures)
+returns-2 c = fits-swizzle (c .before .before .before .before .before .before .before .before .before .before .before .before .before .before .before .before .before .pre .0) (c .before .before .before .before .before .before .before .before .before .before .before .before .before .before .before .before .before .pre .1) (c .before .before .before .before .before .before .before .before .before .before .before .expression-operand .ensures) (c .before .before .before .before .before .before .before .before .before .before .type-of .ensures) (c .before .before .before .before .before .before .before .before .before .kind-at .ensures) (c .before .before .before .before .before .before .before .before .if1 .left) (c .before .before .before .before .before .before .before .first-word .ensures) (c .before .before .before .before .before .before .letters-below .ensures) (c .before .before .before .before .before .operand .ensures) (c .before .before .before .before .type-of2 .ensures) (c .before .before .before .is-vector-of .ensures _ (c .before .before .before .before .before .before .before .before .before .before .before .before .before .before .before .before .before .pre .0 .given .values .same)) (c .before .before .is-value .ensures) (c .before .both .ensures) (c .both2 .ensures)
 
 pub fits-swizzle-spec : {M : Type 1} → statement M
 fits-swizzle-spec =
     tie.close
     (tie.spec
-    operand-requires
-    cast-if1
+    expression-operand-requires
     type-of-requires
     kind-at-requires
     returns
     first-word-requires
     letters-below-requires
-    operand-requires-2
+    operand-requires
     cast-is-vector-of
     type-of-requires-2
     is-vector-of-requires

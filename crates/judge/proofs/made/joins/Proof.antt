@@ -9,6 +9,7 @@ use Rattle.judge.proofs.made.joins.Statement.{statement}
 use Rattle.judge.proofs.made.joins.Tie as tie
 use Rattle.judge.proofs.made.joins.Reads as reads
 use Rattle.judge.proofs.made.joins.Lts as lts
+use Rattle.access.proofs.kinded.expression_operand.Reads as expression-operand-reads
 use Rattle.access.proofs.kinded.operand.Reads as operand-reads
 use Rattle.judge.proofs.made.component_count.Reads as component-count-reads
 use Rattle.judge.proofs.rows.kind_at.Reads as kind-at-reads
@@ -26,14 +27,11 @@ operand-requires c κs = search needs
 loop-holds : tie.Need-loop-holds Inv-loop μ-loop
 loop-holds c = (joined-none _ _, omega arith)
 
-add-operand : tie.Need-add-operand Inv-loop μ-loop
-add-operand c = search needs
+add-expression-operand : tie.Need-add-expression-operand Inv-loop μ-loop
+add-expression-operand c = search needs
 
-operand-requires-2 : tie.Need-operand-requires-2 Inv-loop μ-loop
-operand-requires-2 c κs = search needs
-
-cast-if1 : tie.Need-cast-if1 Inv-loop μ-loop
-cast-if1 c = search needs
+expression-operand-requires : tie.Need-expression-operand-requires Inv-loop μ-loop
+expression-operand-requires c κs = search needs
 
 type-of-requires : tie.Need-type-of-requires Inv-loop μ-loop
 type-of-requires c κs = search needs
@@ -42,7 +40,7 @@ kind-at-requires : tie.Need-kind-at-requires Inv-loop μ-loop
 kind-at-requires c κs = search needs
 
 returns : tie.Need-returns Inv-loop μ-loop
-returns c = joined-fails _ _ (c .before .before .before .before .before .before .before .before .before .before .pre) _ (c .before .before .before .operand2 .ensures) (c .before .before .type-of .ensures) (c .before .kind-at .ensures) _ _ (c .before .before .before .before .before .before .operand .ensures) (c .before .before .before .before .loop-test .taken) (c .if1 .taken)
+returns c = joined-fails _ _ (c .before .before .before .before .before .before .before .before .before .before .pre) _ (c .before .before .before .expression-operand .ensures) (c .before .before .type-of .ensures) (c .before .kind-at .ensures) _ _ (c .before .before .before .before .before .before .operand .ensures) (c .before .before .before .before .loop-test .taken) (c .if1 .taken)
 
 component-count-requires : tie.Need-component-count-requires Inv-loop μ-loop
 component-count-requires c κs = search needs
@@ -60,7 +58,7 @@ loop-less : tie.Need-loop-less Inv-loop μ-loop
 loop-less c = omega (arith, c .before .before .before .before .before .loop-test .taken)
 
 loop-again : tie.Need-loop-again Inv-loop μ-loop
-loop-again c = (joined-next _ _ (c .before .before .before .before .before .before .before .before .before .before .before .pre) _ (c .before .before .before .before .operand2 .ensures) (c .before .before .before .type-of .ensures) (c .before .before .kind-at .ensures) (c .before .if1 .left) (c .component-count .ensures) (omega arith) (c .before .before .before .before .before .before .loop .inv .0), omega (arith, c .before .before .before .before .before .loop-test .taken))
+loop-again c = (joined-next _ _ (c .before .before .before .before .before .before .before .before .before .before .before .pre) _ (c .before .before .before .before .expression-operand .ensures) (c .before .before .before .type-of .ensures) (c .before .before .kind-at .ensures) (c .before .if1 .left) (c .component-count .ensures) (omega arith) (c .before .before .before .before .before .before .loop .inv .0), omega (arith, c .before .before .before .before .before .loop-test .taken))
 
 returns-2 : tie.Need-returns-2 Inv-loop μ-loop
 returns-2 c = joined-all _ _ (c .before .before .before .before .before .before .pre) _ _ _ (c .before .before .operand .ensures) (c .loop-test .left) (c .before .loop .inv .1) (c .before .loop .inv .0)
@@ -73,9 +71,8 @@ joins-spec =
     μ-loop
     operand-requires
     loop-holds
-    add-operand
-    operand-requires-2
-    cast-if1
+    add-expression-operand
+    expression-operand-requires
     type-of-requires
     kind-at-requires
     returns

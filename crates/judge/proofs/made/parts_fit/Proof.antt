@@ -15,6 +15,7 @@ use Rattle.judge.proofs.made.parts_fit.Statement.{statement}
 use Rattle.judge.proofs.made.parts_fit.Tie as tie
 use Rattle.judge.proofs.made.parts_fit.Reads as reads
 use Rattle.judge.proofs.made.parts_fit.Lts as lts
+use Rattle.access.proofs.kinded.expression_operand.Reads as expression-operand-reads
 use Rattle.access.proofs.kinded.operand.Reads as operand-reads
 use Rattle.judge.proofs.shapes.same_part.Reads as same-part-reads
 use Rattle.judge.proofs.values.type_of.Reads as type-of-reads
@@ -31,26 +32,23 @@ operand-requires c κs = search needs
 loop-holds : tie.Need-loop-holds Inv-loop μ-loop
 loop-holds c = each-none _
 
-add-operand : tie.Need-add-operand Inv-loop μ-loop
-add-operand c = search needs
+add-expression-operand : tie.Need-add-expression-operand Inv-loop μ-loop
+add-expression-operand c = search needs
 
-operand-requires-2 : tie.Need-operand-requires-2 Inv-loop μ-loop
-operand-requires-2 c κs = search needs
-
-cast-same-part : tie.Need-cast-same-part Inv-loop μ-loop
-cast-same-part c = search needs
+expression-operand-requires : tie.Need-expression-operand-requires Inv-loop μ-loop
+expression-operand-requires c κs = search needs
 
 type-of-requires : tie.Need-type-of-requires Inv-loop μ-loop
 type-of-requires c κs = search needs
 
-cast-same-part-2 : tie.Need-cast-same-part-2 Inv-loop μ-loop
-cast-same-part-2 c = search needs
+cast-same-part : tie.Need-cast-same-part Inv-loop μ-loop
+cast-same-part c = search needs
 
 same-part-requires : tie.Need-same-part-requires Inv-loop μ-loop
-same-part-requires c κs = (c .before .before .before .before .before .before .before .before .before .before .pre .0 .given .shapes, (c .before .before .before .before .before .before .before .before .before .before .pre .1 .1, part-low (c .before .before .before .before .before .before .before .before .before .before .pre .0) (c .before .before .before .before .before .before .before .before .before .before .pre .1 .0) (c .before .before .before .before .operand .ensures) (c .before .before .loop-test .taken) (c .before .operand2 .ensures) (c .type-of .ensures)))
+same-part-requires c κs = (c .before .before .before .before .before .before .before .before .before .before .pre .0 .given .shapes, (c .before .before .before .before .before .before .before .before .before .before .pre .1 .1, part-low (c .before .before .before .before .before .before .before .before .before .before .pre .0) (c .before .before .before .before .before .before .before .before .before .before .pre .1 .0) (c .before .before .before .before .operand .ensures) (c .before .before .loop-test .taken) (c .before .expression-operand .ensures) (c .type-of .ensures)))
 
 returns : tie.Need-returns Inv-loop μ-loop
-returns c = each-fails _ _ (λ i. i) (c .before .before .before .before .before .before .operand .ensures) (c .before .before .before .before .loop-test .taken) (part-here (c .before .before .before .before .before .before .before .before .before .before .before .before .pre .0) _ _ (c .before .before .before .operand2 .ensures) (c .before .before .type-of .ensures) (c .before .same-part .ensures _ (c .before .before .before .before .before .before .before .before .before .before .before .before .pre .0 .given .values .same))) (not-true _ (c .if1 .taken))
+returns c = each-fails _ _ (λ i. i) (c .before .before .before .before .before .before .operand .ensures) (c .before .before .before .before .loop-test .taken) (part-here (c .before .before .before .before .before .before .before .before .before .before .before .before .pre .0) _ _ (c .before .before .before .expression-operand .ensures) (c .before .before .type-of .ensures) (c .before .same-part .ensures _ (c .before .before .before .before .before .before .before .before .before .before .before .before .pre .0 .given .values .same))) (not-true _ (c .if1 .taken))
 
 add-i : tie.Need-add-i Inv-loop μ-loop
 add-i c = omega (arith, c .before .before .before .before .loop-test .taken)
@@ -59,7 +57,7 @@ loop-less : tie.Need-loop-less Inv-loop μ-loop
 loop-less c = omega (arith, c .before .before .before .before .loop-test .taken)
 
 loop-again : tie.Need-loop-again Inv-loop μ-loop
-loop-again c = each-next _ (part-here (c .before .before .before .before .before .before .before .before .before .before .before .before .pre .0) _ _ (c .before .before .before .operand2 .ensures) (c .before .before .type-of .ensures) (c .before .same-part .ensures _ (c .before .before .before .before .before .before .before .before .before .before .before .before .pre .0 .given .values .same))) (not-false _ (c .if1 .left)) (c .before .before .before .before .before .loop .inv)
+loop-again c = each-next _ (part-here (c .before .before .before .before .before .before .before .before .before .before .before .before .pre .0) _ _ (c .before .before .before .expression-operand .ensures) (c .before .before .type-of .ensures) (c .before .same-part .ensures _ (c .before .before .before .before .before .before .before .before .before .before .before .before .pre .0 .given .values .same))) (not-false _ (c .if1 .left)) (c .before .before .before .before .before .loop .inv)
 
 returns-2 : tie.Need-returns-2 Inv-loop μ-loop
 returns-2 c = each-all _ _ (λ i. i) (c .before .before .operand .ensures) (c .loop-test .left) (c .before .loop .inv)
@@ -72,11 +70,10 @@ parts-fit-spec =
     μ-loop
     operand-requires
     loop-holds
-    add-operand
-    operand-requires-2
-    cast-same-part
+    add-expression-operand
+    expression-operand-requires
     type-of-requires
-    cast-same-part-2
+    cast-same-part
     same-part-requires
     returns
     add-i

@@ -26,4 +26,10 @@ returns-2 c = λ S p. variable-same _ S p _ _ (c .before .before .before .kind-a
 
 pub fits-variable-spec : {M : Type 1} → statement M
 fits-variable-spec =
-    tie.close (tie.spec kind-at-requires returns pointee-requires is-alike-requires returns-2)
+    tie.close
+    (tie.spec
+    kind-at-requires
+    returns
+    pointee-requires
+    is-alike-requires
+    returns-2)

@@ -5,34 +5,31 @@ use Rattle.judge.proofs.operators.fits_math.Statement.{statement}
 use Rattle.judge.proofs.operators.fits_math.Tie as tie
 use Rattle.judge.proofs.operators.fits_math.Reads as reads
 use Rattle.judge.proofs.operators.fits_math.Lts as lts
-use Rattle.access.proofs.kinded.operand.Reads as operand-reads
+use Rattle.access.proofs.kinded.expression_operand.Reads as expression-operand-reads
 use Rattle.judge.proofs.values.both.Reads as both-reads
 use Rattle.judge.proofs.values.is_value.Reads as is-value-reads
 use Rattle.judge.proofs.values.maybe_value.Reads as maybe-value-reads
 
-operand-requires : tie.Need-operand-requires
-operand-requires c κs = search needs
+expression-operand-requires : tie.Need-expression-operand-requires
+expression-operand-requires c κs = search needs
 
-cast-t15 : tie.Need-cast-t15
-cast-t15 c = search needs
+expression-operand-requires-2 : tie.Need-expression-operand-requires-2
+expression-operand-requires-2 c κs = search needs
 
-operand-requires-2 : tie.Need-operand-requires-2
-operand-requires-2 c κs = search needs
+expression-operand-requires-3 : tie.Need-expression-operand-requires-3
+expression-operand-requires-3 c κs = search needs
+
+expression-operand-requires-4 : tie.Need-expression-operand-requires-4
+expression-operand-requires-4 c κs = search needs
 
 maybe-value-requires : tie.Need-maybe-value-requires
-maybe-value-requires c κs = search needs
-
-operand-requires-3 : tie.Need-operand-requires-3
-operand-requires-3 c κs = search needs
+maybe-value-requires c κs = c .before .before .before .before .before .before .before .before .before .pre .0 .given .values
 
 maybe-value-requires-2 : tie.Need-maybe-value-requires-2
-maybe-value-requires-2 c κs = search needs
-
-operand-requires-4 : tie.Need-operand-requires-4
-operand-requires-4 c κs = search needs
+maybe-value-requires-2 c κs = c .before .before .before .before .before .before .before .before .before .before .pre .0 .given .values
 
 maybe-value-requires-3 : tie.Need-maybe-value-requires-3
-maybe-value-requires-3 c κs = search needs
+maybe-value-requires-3 c κs = c .before .before .before .before .before .before .before .before .before .before .before .pre .0 .given .values
 
 is-value-requires : tie.Need-is-value-requires
 is-value-requires c κs = c .before .before .before .before .before .before .before .before .before .before .before .before .pre .0 .given .values
@@ -53,19 +50,18 @@ both-requires-4 : tie.Need-both-requires-4
 both-requires-4 c κs = search needs
 
 returns : tie.Need-returns
-returns c = fits-math (c .before .before .before .before .before .before .before .before .before .before .before .before .before .before .before .before .before .before .pre .0) (c .before .before .before .before .before .before .before .before .before .before .before .before .before .before .before .before .before .before .pre .1) (c .before .before .before .before .before .before .before .before .before .before .before .before .operand .ensures) (c .before .before .before .before .before .before .before .before .before .before .before .operand2 .ensures) (c .before .before .before .before .before .before .before .before .before .operand3 .ensures) (c .before .before .before .before .before .before .before .operand4 .ensures) (c .before .before .before .before .before .before .before .before .before .before .maybe-value .ensures) (c .before .before .before .before .before .before .before .before .maybe-value2 .ensures) (c .before .before .before .before .before .before .maybe-value3 .ensures) (c .before .before .before .before .before .is-value .ensures) (c .before .before .before .before .is-value2 .ensures) (c .before .before .before .both .ensures) (c .before .before .both2 .ensures) (c .before .both3 .ensures) (c .both4 .ensures)
+returns c = fits-math (c .before .before .before .before .before .before .before .before .before .before .before .before .before .before .before .before .before .before .pre .0) (c .before .before .before .before .before .before .before .before .before .before .before .before .before .before .before .before .before .before .pre .1) (c .before .before .before .before .before .before .before .before .before .before .before .before .expression-operand .ensures) (c .before .before .before .before .before .before .before .before .before .before .before .expression-operand2 .ensures) (c .before .before .before .before .before .before .before .before .before .before .expression-operand3 .ensures) (c .before .before .before .before .before .before .before .before .before .expression-operand4 .ensures) (c .before .before .before .before .before .before .before .before .maybe-value .ensures) (c .before .before .before .before .before .before .before .maybe-value2 .ensures) (c .before .before .before .before .before .before .maybe-value3 .ensures) (c .before .before .before .before .before .is-value .ensures) (c .before .before .before .before .is-value2 .ensures) (c .before .before .before .both .ensures) (c .before .before .both2 .ensures) (c .before .both3 .ensures) (c .both4 .ensures)
 
 pub fits-math-spec : {M : Type 1} → statement M
 fits-math-spec =
     tie.close
     (tie.spec
-    operand-requires
-    cast-t15
-    operand-requires-2
+    expression-operand-requires
+    expression-operand-requires-2
+    expression-operand-requires-3
+    expression-operand-requires-4
     maybe-value-requires
-    operand-requires-3
     maybe-value-requires-2
-    operand-requires-4
     maybe-value-requires-3
     is-value-requires
     is-value-requires-2

@@ -5,7 +5,7 @@ use Rattle.judge.proofs.operators.fits_operator.Statement.{statement}
 use Rattle.judge.proofs.operators.fits_operator.Tie as tie
 use Rattle.judge.proofs.operators.fits_operator.Reads as reads
 use Rattle.judge.proofs.operators.fits_operator.Lts as lts
-use Rattle.access.proofs.kinded.operand.Reads as operand-reads
+use Rattle.access.proofs.kinded.expression_operand.Reads as expression-operand-reads
 use Rattle.judge.proofs.operators.fits_math.Reads as fits-math-reads
 use Rattle.judge.proofs.operators.fits_select.Reads as fits-select-reads
 use Rattle.judge.proofs.shapes.is_alike.Reads as is-alike-reads
@@ -26,28 +26,22 @@ returns-2 : tie.Need-returns-2
 returns-2 c = c .fits-math .ensures
 
 is-value-requires : tie.Need-is-value-requires
-is-value-requires c κs = search needs
+is-value-requires c κs = c .before .before .before .before .before .before .before .before .before .pre .0 .given .values
 
-operand-requires : tie.Need-operand-requires
-operand-requires c κs = search needs
-
-cast-t16 : tie.Need-cast-t16
-cast-t16 c = search needs
+expression-operand-requires : tie.Need-expression-operand-requires
+expression-operand-requires c κs = search needs
 
 is-value-requires-2 : tie.Need-is-value-requires-2
-is-value-requires-2 c κs = search needs
+is-value-requires-2 c κs = c .before .before .before .before .before .before .before .before .before .before .before .pre .0 .given .values
 
 both-requires : tie.Need-both-requires
 both-requires c κs = search needs
 
 returns-3 : tie.Need-returns-3
-returns-3 c = fits-relational (c .before .before .before .before .before .before .before .before .before .before .before .before .before .before .before .pre .0) (c .before .before .before .before .before .is-value .ensures) (c .before .before .before .before .operand .ensures) (c .before .before .before .is-value2 .ensures) (c .before .if3 .taken) (c .both .ensures)
+returns-3 c = fits-relational (c .before .before .before .before .before .before .before .before .before .before .before .before .before .before .before .pre .0) (c .before .before .before .before .before .is-value .ensures) (c .before .before .before .before .expression-operand .ensures) (c .before .before .before .is-value2 .ensures) (c .before .if3 .taken) (c .both .ensures)
 
-operand-requires-2 : tie.Need-operand-requires-2
-operand-requires-2 c κs = search needs
-
-cast-t18 : tie.Need-cast-t18
-cast-t18 c = search needs
+expression-operand-requires-2 : tie.Need-expression-operand-requires-2
+expression-operand-requires-2 c κs = search needs
 
 is-value-requires-3 : tie.Need-is-value-requires-3
 is-value-requires-3 c κs = c .before .before .before .before .before .before .before .before .before .before .before .before .before .before .before .before .before .pre .0 .given .values
@@ -59,7 +53,7 @@ both-requires-3 : tie.Need-both-requires-3
 both-requires-3 c κs = search needs
 
 returns-4 : tie.Need-returns-4
-returns-4 c = fits-binary (c .before .before .before .before .before .before .before .before .before .before .before .before .before .before .before .before .before .before .before .before .pre .0) (c .before .before .before .before .before .before .before .before .before .before .is-value .ensures) (c .before .before .before .before .before .before .before .before .before .operand .ensures) (c .before .before .before .before .before .before .before .before .is-value2 .ensures) (c .before .before .before .before .if4 .taken) (c .before .before .before .operand2 .ensures) (c .before .before .is-value3 .ensures) (c .before .both2 .ensures) (c .both3 .ensures)
+returns-4 c = fits-binary (c .before .before .before .before .before .before .before .before .before .before .before .before .before .before .before .before .before .before .before .before .pre .0) (c .before .before .before .before .before .before .before .before .before .before .is-value .ensures) (c .before .before .before .before .before .before .before .before .before .expression-operand .ensures) (c .before .before .before .before .before .before .before .before .is-value2 .ensures) (c .before .before .before .before .if4 .taken) (c .before .before .before .expression-operand2 .ensures) (c .before .before .is-value3 .ensures) (c .before .both2 .ensures) (c .both3 .ensures)
 
 type-of-requires : tie.Need-type-of-requires
 type-of-requires c κs = search needs
@@ -77,7 +71,7 @@ both-requires-5 : tie.Need-both-requires-5
 both-requires-5 c κs = search needs
 
 returns-5 : tie.Need-returns-5
-returns-5 c = fits-unary (c .before .before .before .before .before .before .before .before .before .before .before .before .before .before .before .before .before .before .before .before .before .before .before .pre .0) (c .before .before .before .before .before .before .before .before .before .before .before .before .before .is-value .ensures) (c .before .before .before .before .before .before .before .before .before .before .before .before .operand .ensures) (c .before .before .before .before .before .before .before .before .before .before .before .is-value2 .ensures) (c .before .before .before .before .before .before .type-of .ensures) (c .before .before .before .before .before .type-of2 .ensures) (c .before .before .before .before .is-alike .ensures) (c .before .both4 .ensures) (c .both5 .ensures) (c .before .before .if5 .taken)
+returns-5 c = fits-unary (c .before .before .before .before .before .before .before .before .before .before .before .before .before .before .before .before .before .before .before .before .before .before .before .pre .0) (c .before .before .before .before .before .before .before .before .before .before .before .before .before .is-value .ensures) (c .before .before .before .before .before .before .before .before .before .before .before .before .expression-operand .ensures) (c .before .before .before .before .before .before .before .before .before .before .before .is-value2 .ensures) (c .before .before .before .before .before .before .type-of .ensures) (c .before .before .before .before .before .type-of2 .ensures) (c .before .before .before .before .is-alike .ensures) (c .before .both4 .ensures) (c .both5 .ensures) (c .before .before .if5 .taken)
 
 both-requires-6 : tie.Need-both-requires-6
 both-requires-6 c κs = search needs
@@ -86,7 +80,7 @@ both-requires-7 : tie.Need-both-requires-7
 both-requires-7 c κs = search needs
 
 returns-6 : tie.Need-returns-6
-returns-6 c = fits-as (c .before .before .before .before .before .before .before .before .before .before .before .before .before .before .before .before .before .before .before .before .before .before .before .before .before .pre .0) (c .before .before .before .before .before .before .before .before .before .before .before .before .before .before .before .is-value .ensures) (c .before .before .before .before .before .before .before .before .before .before .before .before .before .before .operand .ensures) (c .before .before .before .before .before .before .before .before .before .before .before .before .before .is-value2 .ensures) (c .before .before .before .before .before .before .before .before .type-of .ensures) (c .before .before .before .before .before .before .before .type-of2 .ensures) (c .before .before .before .before .before .before .is-alike .ensures) (c .before .both6 .ensures) (c .both7 .ensures) (c .before .before .if6 .taken)
+returns-6 c = fits-as (c .before .before .before .before .before .before .before .before .before .before .before .before .before .before .before .before .before .before .before .before .before .before .before .before .before .pre .0) (c .before .before .before .before .before .before .before .before .before .before .before .before .before .before .before .is-value .ensures) (c .before .before .before .before .before .before .before .before .before .before .before .before .before .before .expression-operand .ensures) (c .before .before .before .before .before .before .before .before .before .before .before .before .before .is-value2 .ensures) (c .before .before .before .before .before .before .before .before .type-of .ensures) (c .before .before .before .before .before .before .before .type-of2 .ensures) (c .before .before .before .before .before .before .is-alike .ensures) (c .before .both6 .ensures) (c .both7 .ensures) (c .before .before .if6 .taken)
 
 returns-7 : tie.Need-returns-7
 returns-7 c = fits-derivative (c .before .before .before .before .before .before .before .before .before .before .before .before .before .before .before .before .before .before .before .before .before .before .before .pre .0) (derivative-left (c .before .before .before .before .before .before .before .before .before .before .before .before .before .before .before .before .before .before .before .before .before .before .before .pre .1 .0) (c .before .before .before .before .before .before .before .before .before .before .before .before .before .before .before .before .before .before .before .before .before .before .before .pre .1 .1) (c .before .before .before .before .before .before .before .before .before .before .before .before .before .before .before .before .if1 .left) (c .before .before .before .before .before .before .before .before .before .before .before .before .before .before .if2 .left) (c .before .before .before .before .before .before .before .before .before .if3 .left) (c .before .before .before .before .before .before .before .if4 .left) (c .before .before .if5 .left) (c .if6 .left))
@@ -100,13 +94,11 @@ fits-operator-spec =
     fits-math-requires
     returns-2
     is-value-requires
-    operand-requires
-    cast-t16
+    expression-operand-requires
     is-value-requires-2
     both-requires
     returns-3
-    operand-requires-2
-    cast-t18
+    expression-operand-requires-2
     is-value-requires-3
     both-requires-2
     both-requires-3

@@ -5,29 +5,20 @@ use Rattle.judge.proofs.operators.fits_select.Statement.{statement}
 use Rattle.judge.proofs.operators.fits_select.Tie as tie
 use Rattle.judge.proofs.operators.fits_select.Reads as reads
 use Rattle.judge.proofs.operators.fits_select.Lts as lts
-use Rattle.access.proofs.kinded.operand.Reads as operand-reads
+use Rattle.access.proofs.kinded.expression_operand.Reads as expression-operand-reads
 use Rattle.judge.proofs.shapes.is_alike.Reads as is-alike-reads
 use Rattle.judge.proofs.values.both.Reads as both-reads
 use Rattle.judge.proofs.values.is_value.Reads as is-value-reads
 use Rattle.judge.proofs.values.type_of.Reads as type-of-reads
 
-operand-requires : tie.Need-operand-requires
-operand-requires c κs = search needs
+expression-operand-requires : tie.Need-expression-operand-requires
+expression-operand-requires c κs = search needs
 
-cast-t18 : tie.Need-cast-t18
-cast-t18 c = search needs
+expression-operand-requires-2 : tie.Need-expression-operand-requires-2
+expression-operand-requires-2 c κs = search needs
 
-operand-requires-2 : tie.Need-operand-requires-2
-operand-requires-2 c κs = search needs
-
-cast-t18-2 : tie.Need-cast-t18-2
-cast-t18-2 c = search needs
-
-operand-requires-3 : tie.Need-operand-requires-3
-operand-requires-3 c κs = search needs
-
-cast-t18-3 : tie.Need-cast-t18-3
-cast-t18-3 c = search needs
+expression-operand-requires-3 : tie.Need-expression-operand-requires-3
+expression-operand-requires-3 c κs = search needs
 
 type-of-requires : tie.Need-type-of-requires
 type-of-requires c κs = search needs
@@ -72,18 +63,15 @@ both-requires-5 : tie.Need-both-requires-5
 both-requires-5 c κs = search needs
 
 returns : tie.Need-returns
-returns c = fits-select (c .before .before .before .before .before .before .before .before .before .before .before .before .before .before .before .before .before .before .before .before .before .before .pre .0) (c .before .before .before .before .before .before .before .before .before .before .before .before .before .before .before .before .before .before .before .before .before .before .pre .1) (c .before .before .before .before .before .before .before .before .before .before .before .before .before .before .before .before .operand .ensures) (c .before .before .before .before .before .before .before .before .before .before .before .before .before .before .before .operand2 .ensures) (c .before .before .before .before .before .before .before .before .before .before .before .before .before .before .operand3 .ensures) (c .before .before .before .before .before .before .before .before .before .before .before .before .before .type-of .ensures) (c .before .before .before .before .before .before .before .before .before .before .before .before .type-of2 .ensures) (c .before .before .before .before .before .before .before .before .before .before .before .is-alike .ensures) (c .before .before .before .before .before .before .before .before .before .before .type-of3 .ensures) (c .before .before .before .before .before .before .before .before .before .is-alike2 .ensures) (c .before .before .before .before .before .before .before .before .is-value .ensures) (c .before .before .before .before .before .before .before .is-value2 .ensures) (c .before .before .before .before .before .before .is-value3 .ensures) (c .before .before .before .before .before .both .ensures) (c .before .before .before .before .is-value4 .ensures) (c .before .before .before .both2 .ensures) (c .before .before .both3 .ensures) (c .before .both4 .ensures) (c .both5 .ensures)
+returns c = fits-select (c .before .before .before .before .before .before .before .before .before .before .before .before .before .before .before .before .before .before .before .before .before .before .pre .0) (c .before .before .before .before .before .before .before .before .before .before .before .before .before .before .before .before .before .before .before .before .before .before .pre .1) (c .before .before .before .before .before .before .before .before .before .before .before .before .before .before .before .before .expression-operand .ensures) (c .before .before .before .before .before .before .before .before .before .before .before .before .before .before .before .expression-operand2 .ensures) (c .before .before .before .before .before .before .before .before .before .before .before .before .before .before .expression-operand3 .ensures) (c .before .before .before .before .before .before .before .before .before .before .before .before .before .type-of .ensures) (c .before .before .before .before .before .before .before .before .before .before .before .before .type-of2 .ensures) (c .before .before .before .before .before .before .before .before .before .before .before .is-alike .ensures) (c .before .before .before .before .before .before .before .before .before .before .type-of3 .ensures) (c .before .before .before .before .before .before .before .before .before .is-alike2 .ensures) (c .before .before .before .before .before .before .before .before .is-value .ensures) (c .before .before .before .before .before .before .before .is-value2 .ensures) (c .before .before .before .before .before .before .is-value3 .ensures) (c .before .before .before .before .before .both .ensures) (c .before .before .before .before .is-value4 .ensures) (c .before .before .before .both2 .ensures) (c .before .before .both3 .ensures) (c .before .both4 .ensures) (c .both5 .ensures)
 
 pub fits-select-spec : {M : Type 1} → statement M
 fits-select-spec =
     tie.close
     (tie.spec
-    operand-requires
-    cast-t18
-    operand-requires-2
-    cast-t18-2
-    operand-requires-3
-    cast-t18-3
+    expression-operand-requires
+    expression-operand-requires-2
+    expression-operand-requires-3
     type-of-requires
     type-of-requires-2
     is-alike-requires

@@ -12,6 +12,9 @@ use Rattle.judge.proofs.rows.kind_at.Reads as kind-at-reads
 kind-at-requires : tie.Need-kind-at-requires
 kind-at-requires c κs = search needs
 
+cast-word : tie.Need-cast-word
+cast-word c = search needs
+
 mul-word : tie.Need-mul-word
 mul-word c = search needs
 
@@ -28,7 +31,7 @@ word-requires : tie.Need-word-requires
 word-requires c κs = search needs
 
 returns : tie.Need-returns
-returns c = base-member _ _ _ (c .before .before .kind-at .ensures) (c .before .if1 .taken) (c .before .before .before .before .pre) (c .word .ensures)
+returns c = base-member _ _ _ (c .before .before .before .kind-at .ensures) (c .before .before .if1 .taken) (c .before .before .before .before .before .pre) (c .word .ensures)
 
 first-word-requires : tie.Need-first-word-requires
 first-word-requires c κs = search needs
@@ -41,6 +44,7 @@ base-at-spec =
     tie.close
     (tie.spec
     kind-at-requires
+    cast-word
     mul-word
     mul-word-2
     add-word

@@ -31,4 +31,10 @@ returns-3 c = count-none _ _ (c .before .before .before .kind-at .ensures) (c .b
 pub base-count-spec : {M : Type 1} → statement M
 base-count-spec =
     tie.close
-    (tie.spec kind-at-requires first-word-requires returns is-base-requires returns-2 returns-3)
+    (tie.spec
+    kind-at-requires
+    first-word-requires
+    returns
+    is-base-requires
+    returns-2
+    returns-3)

@@ -17,4 +17,9 @@ returns-2 : tie.Need-returns-2
 returns-2 c = number-other _ _ (c .before .type-kind .ensures) (c .if1 .left)
 
 pub kind-at-spec : {M : Type 1} → statement M
-kind-at-spec = tie.close (tie.spec type-kind-requires returns returns-2)
+kind-at-spec =
+    tie.close
+    (tie.spec
+    type-kind-requires
+    returns
+    returns-2)

@@ -25,4 +25,11 @@ unfolding byTable
 returns c = rw (c .before .before .word .ensures, c .word2 .ensures)
 
 pub is-alike-spec : {M : Type 1} → statement M
-is-alike-spec = tie.close (tie.spec cast-word word-requires cast-word-2 word-requires-2 returns)
+is-alike-spec =
+    tie.close
+    (tie.spec
+    cast-word
+    word-requires
+    cast-word-2
+    word-requires-2
+    returns)

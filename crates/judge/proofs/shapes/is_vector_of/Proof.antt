@@ -21,4 +21,10 @@ returns-2 : tie.Need-returns-2
 returns-2 c = λ S p. vector-size _ S p _ (c .before .before .kind-at .ensures) _ (c .before .if1 .left) (c .first-word .ensures)
 
 pub is-vector-of-spec : {M : Type 1} → statement M
-is-vector-of-spec = tie.close (tie.spec kind-at-requires returns first-word-requires returns-2)
+is-vector-of-spec =
+    tie.close
+    (tie.spec
+    kind-at-requires
+    returns
+    first-word-requires
+    returns-2)

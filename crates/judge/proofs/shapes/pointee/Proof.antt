@@ -21,4 +21,10 @@ returns-2 : tie.Need-returns-2
 returns-2 c = pointee-self _ _ (c .before .kind-at .ensures) (c .if1 .left)
 
 pub pointee-spec : {M : Type 1} → statement M
-pointee-spec = tie.close (tie.spec kind-at-requires first-word-requires returns returns-2)
+pointee-spec =
+    tie.close
+    (tie.spec
+    kind-at-requires
+    first-word-requires
+    returns
+    returns-2)

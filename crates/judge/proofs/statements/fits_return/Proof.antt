@@ -12,16 +12,13 @@ use Rattle.judge.proofs.values.is_value.Reads as is-value-reads
 use Rattle.judge.proofs.values.type_of.Reads as type-of-reads
 
 returns : tie.Need-returns
-returns c = return-absent (c .before .before .before .before .before .before .pre .0) _ (c .if1 .taken)
+returns c = return-absent (c .before .before .before .before .before .before .before .pre .0) _ (c .if1 .taken)
 
 result-requires : tie.Need-result-requires
 result-requires c κs = search needs
 
 returns-2 : tie.Need-returns-2
-returns-2 c = return-none (c .before .before .before .before .before .before .before .before .before .pre .0) _ _ (c .before .before .before .if1 .left) (c .before .before .result .ensures) (c .if2 .taken)
-
-cast-t12 : tie.Need-cast-t12
-cast-t12 c = search needs
+returns-2 c = return-none (c .before .before .before .before .before .before .before .before .before .before .pre .0) _ _ (c .before .before .before .if1 .left) (c .before .before .result .ensures) (c .if2 .taken)
 
 type-of-requires : tie.Need-type-of-requires
 type-of-requires c κs = search needs
@@ -36,7 +33,7 @@ both-requires : tie.Need-both-requires
 both-requires c κs = search needs
 
 returns-3 : tie.Need-returns-3
-returns-3 c = return-some (c .before .before .before .before .before .before .before .before .before .before .before .before .before .before .pre .0) _ _ (c .before .before .before .before .before .before .before .before .before .before .before .before .before .before .pre .1) (c .before .before .before .before .before .before .before .before .if1 .left) (c .before .before .before .before .before .before .before .result .ensures) (c .before .before .before .before .before .if2 .left) (c .before .before .before .type-of .ensures) (c .before .before .is-alike .ensures) (c .before .is-value .ensures) (c .both .ensures)
+returns-3 c = return-some (c .before .before .before .before .before .before .before .before .before .before .before .before .before .before .pre .0) _ _ (c .before .before .before .before .before .before .before .before .before .before .before .before .before .before .pre .1) (c .before .before .before .before .before .before .before .if1 .left) (c .before .before .before .before .before .before .result .ensures) (c .before .before .before .before .if2 .left) (c .before .before .before .type-of .ensures) (c .before .before .is-alike .ensures) (c .before .is-value .ensures) (c .both .ensures)
 
 pub fits-return-spec : {M : Type 1} → statement M
 fits-return-spec =
@@ -45,7 +42,6 @@ fits-return-spec =
     returns
     result-requires
     returns-2
-    cast-t12
     type-of-requires
     is-alike-requires
     is-value-requires

@@ -9,6 +9,9 @@ use Rattle.bindings.proofs.types.first_word.Reads as first-word-reads
 use Rattle.bindings.proofs.types.word.Reads as word-reads
 use Rattle.judge.proofs.rows.kind_at.Reads as kind-at-reads
 
+cast-word : tie.Need-cast-word
+cast-word c = search needs
+
 word-requires : tie.Need-word-requires
 word-requires c κs = search needs
 
@@ -21,8 +24,8 @@ kind-at-requires c κs = search needs
 first-word-requires : tie.Need-first-word-requires
 first-word-requires c κs = search needs
 
-cast-word : tie.Need-cast-word
-cast-word c = search needs
+cast-word-2 : tie.Need-cast-word-2
+cast-word-2 c = search needs
 
 word-requires-2 : tie.Need-word-requires-2
 word-requires-2 c κs = search needs
@@ -37,11 +40,12 @@ pub holds-either-spec : {M : Type 1} → statement M
 holds-either-spec =
     tie.close
     (tie.spec
+    cast-word
     word-requires
     returns
     kind-at-requires
     first-word-requires
-    cast-word
+    cast-word-2
     word-requires-2
     returns-2
     returns-3)

@@ -21,4 +21,10 @@ returns-2 : tie.Need-returns-2
 returns-2 c = itself-other _ _ (c .before .kind-at .ensures) (c .if1 .left)
 
 pub is-unsized-spec : {M : Type 1} → statement M
-is-unsized-spec = tie.close (tie.spec kind-at-requires second-word-requires returns returns-2)
+is-unsized-spec =
+    tie.close
+    (tie.spec
+    kind-at-requires
+    second-word-requires
+    returns
+    returns-2)

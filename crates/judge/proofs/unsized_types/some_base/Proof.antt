@@ -16,7 +16,7 @@ use Rattle.judge.proofs.rows.base_at.Reads as base-at-reads
 use Rattle.judge.proofs.rows.base_count.Reads as base-count-reads
 
 abbrev Inv-loop : tie.InvT-loop
-Inv-loop types table t n i₀ i = Unmarked table (bases (getD (typesOf types) t Opaque)) i
+Inv-loop types table t n i₀ i = Unmarked table (bases (getD (typesOf types) (t .0) Opaque)) i
 
 abbrev μ-loop : tie.MeasureT-loop
 μ-loop types table t n i₀ i = n - i
@@ -37,16 +37,16 @@ word-requires : tie.Need-word-requires Inv-loop μ-loop
 word-requires c κs = search needs
 
 returns : tie.Need-returns Inv-loop μ-loop
-returns c = some-found _ _ (omega (arith, c .before .before .before .loop-test .taken, c .before .before .before .before .before .base-count .ensures)) (c .before .before .base-at .ensures) (c .before .word .ensures) (c .if1 .taken)
+returns c = some-found _ _ (omega (arith, c .before .before .before .before .loop-test .taken, c .before .before .before .before .before .before .base-count .ensures)) (c .before .before .before .base-at .ensures) (c .before .word .ensures) (c .if1 .taken)
 
 add-i : tie.Need-add-i Inv-loop μ-loop
-add-i c = omega (arith, c .before .before .before .loop-test .taken)
+add-i c = omega (arith, c .before .before .before .before .loop-test .taken)
 
 loop-less : tie.Need-loop-less Inv-loop μ-loop
-loop-less c = omega (arith, c .before .before .before .loop-test .taken)
+loop-less c = omega (arith, c .before .before .before .before .loop-test .taken)
 
 loop-again : tie.Need-loop-again Inv-loop μ-loop
-loop-again c = unmarked-next _ _ (omega (arith, c .before .before .before .loop-test .taken, c .before .before .before .before .before .base-count .ensures)) (c .before .before .base-at .ensures) (c .before .word .ensures) (c .if1 .left) (c .before .before .before .before .loop .inv)
+loop-again c = unmarked-next _ _ (omega (arith, c .before .before .before .before .loop-test .taken, c .before .before .before .before .before .before .base-count .ensures)) (c .before .before .before .base-at .ensures) (c .before .word .ensures) (c .if1 .left) (c .before .before .before .before .before .loop .inv)
 
 returns-2 : tie.Need-returns-2 Inv-loop μ-loop
 returns-2 c = unmarked-all _ _ (c .before .before .base-count .ensures) (c .loop-test .left) (c .before .loop .inv)

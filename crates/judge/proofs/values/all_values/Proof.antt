@@ -12,6 +12,7 @@ use Rattle.judge.proofs.values.all_values.Statement.{statement}
 use Rattle.judge.proofs.values.all_values.Tie as tie
 use Rattle.judge.proofs.values.all_values.Reads as reads
 use Rattle.judge.proofs.values.all_values.Lts as lts
+use Rattle.access.proofs.kinded.expression_operand.Reads as expression-operand-reads
 use Rattle.access.proofs.kinded.operand.Reads as operand-reads
 use Rattle.judge.proofs.values.is_value.Reads as is-value-reads
 
@@ -27,20 +28,17 @@ operand-requires c κs = search needs
 loop-holds : tie.Need-loop-holds Inv-loop μ-loop
 loop-holds c = each-none _
 
-add-operand : tie.Need-add-operand Inv-loop μ-loop
-add-operand c = search needs
+add-expression-operand : tie.Need-add-expression-operand Inv-loop μ-loop
+add-expression-operand c = search needs
 
-operand-requires-2 : tie.Need-operand-requires-2 Inv-loop μ-loop
-operand-requires-2 c κs = search needs
-
-cast-t12 : tie.Need-cast-t12 Inv-loop μ-loop
-cast-t12 c = search needs
+expression-operand-requires : tie.Need-expression-operand-requires Inv-loop μ-loop
+expression-operand-requires c κs = search needs
 
 is-value-requires : tie.Need-is-value-requires Inv-loop μ-loop
 is-value-requires c κs = c .before .before .before .before .before .before .before .before .pre
 
 returns : tie.Need-returns Inv-loop μ-loop
-returns c = each-fails _ _ _ (c .before .before .before .before .before .operand .ensures) (c .before .before .before .loop-test .taken) (c .before .is-value .ensures ∙ ap (isValue _) (c .before .before .operand2 .ensures)) (not-true _ (c .if1 .taken))
+returns c = each-fails _ _ _ (c .before .before .before .before .before .operand .ensures) (c .before .before .before .loop-test .taken) (c .before .is-value .ensures ∙ ap (isValue _) (c .before .before .expression-operand .ensures)) (not-true _ (c .if1 .taken))
 
 add-i : tie.Need-add-i Inv-loop μ-loop
 add-i c = omega (arith, c .before .before .before .loop-test .taken)
@@ -49,7 +47,7 @@ loop-less : tie.Need-loop-less Inv-loop μ-loop
 loop-less c = omega (arith, c .before .before .before .loop-test .taken)
 
 loop-again : tie.Need-loop-again Inv-loop μ-loop
-loop-again c = each-next _ (c .before .is-value .ensures ∙ ap (isValue _) (c .before .before .operand2 .ensures)) (not-false _ (c .if1 .left)) (c .before .before .before .before .loop .inv)
+loop-again c = each-next _ (c .before .is-value .ensures ∙ ap (isValue _) (c .before .before .expression-operand .ensures)) (not-false _ (c .if1 .left)) (c .before .before .before .before .loop .inv)
 
 returns-2 : tie.Need-returns-2 Inv-loop μ-loop
 returns-2 c = each-all _ _ _ (c .before .before .operand .ensures) (c .loop-test .left) (c .before .loop .inv)
@@ -62,9 +60,8 @@ all-values-spec =
     μ-loop
     operand-requires
     loop-holds
-    add-operand
-    operand-requires-2
-    cast-t12
+    add-expression-operand
+    expression-operand-requires
     is-value-requires
     returns
     add-i

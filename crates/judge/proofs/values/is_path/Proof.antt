@@ -17,4 +17,9 @@ returns : tie.Need-returns
 returns c = path-is _ _ _ (c .before .before .before .before .before .before .pre) _ (c .word .ensures)
 
 pub is-path-spec : {M : Type 1} → statement M
-is-path-spec = tie.close (tie.spec cast-word word-requires returns)
+is-path-spec =
+    tie.close
+    (tie.spec
+    cast-word
+    word-requires
+    returns)

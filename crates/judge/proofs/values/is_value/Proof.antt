@@ -26,4 +26,10 @@ returns-2 c = value-kind _ _ _ (c .before .before .before .before .before .befor
 
 pub is-value-spec : {M : Type 1} → statement M
 is-value-spec =
-    tie.close (tie.spec is-path-requires returns type-of-requires kind-at-requires returns-2)
+    tie.close
+    (tie.spec
+    is-path-requires
+    returns
+    type-of-requires
+    kind-at-requires
+    returns-2)

@@ -21,4 +21,10 @@ returns-2 : tie.Need-returns-2
 returns-2 c = type-none _ _ _ _ (c .before .before .expressions .ensures _) (c .if1 .left)
 
 pub type-of-spec : {M : Type 1} → statement M
-type-of-spec = tie.close (tie.spec expressions-requires expression-type-requires returns returns-2)
+type-of-spec =
+    tie.close
+    (tie.spec
+    expressions-requires
+    expression-type-requires
+    returns
+    returns-2)

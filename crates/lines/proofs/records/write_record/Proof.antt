@@ -21,13 +21,13 @@ slice-aggregate-write-line : tie.Need-slice-aggregate-write-line
 slice-aggregate-write-line c = search needs
 
 write-line-requires : tie.Need-write-line-requires
-write-line-requires c κs = (c .before .before .before .before .before .before .pre .0, (omega (arith, c .before .before .look .ensures .child-low, c .before .before .before .before .before .before .pre .1 .0), fits-as (record-line (c .before .before .before .before .before .before .args .e) (c .before .before .look .ensures)) (c .before .before .before .before .before .before .pre .1 .1)))
+write-line-requires c κs = (c .before .before .before .before .before .before .pre .0, (omega (arith, c .before .before .look .ensures .child-low, c .before .before .before .before .before .before .pre .1 .0), fits-as (record-line (c .before .before .before .before .before .before .args .e .0) (c .before .before .look .ensures)) (c .before .before .before .before .before .before .pre .1 .1)))
 
 same-length : tie.Need-same-length
 same-length c = search needs
 
 returns-2 : tie.Need-returns-2
-returns-2 c = wrote-as (sym (record-line (c .before .before .before .before .before .before .before .before .before .args .e) (c .before .before .before .before .before .look .ensures))) (c .before .before .write-line .ensures)
+returns-2 c = wrote-as (sym (record-line (c .before .before .before .before .before .before .before .before .before .args .e .0) (c .before .before .before .before .before .look .ensures))) (c .before .before .write-line .ensures)
 
 pub write-record-spec : {M : Type 1} → statement M
 write-record-spec =

@@ -20,8 +20,8 @@ abbrev μ-loop : tie.MeasureT-loop
 loop-holds : tie.Need-loop-holds Inv-loop μ-loop
 loop-holds c = (omega arith, along-none _ _ (records-all (c .before .before .before .args .cells .now) (c .before .before .before .args .slots .now) (c .before .before .before .args .base) (c .before .before .before .args .n)))
 
-cast-write-record : tie.Need-cast-write-record Inv-loop μ-loop
-cast-write-record c = omega (arith, c .before .before .before .before .before .before .pre .1 .1)
+cast-t12 : tie.Need-cast-t12 Inv-loop μ-loop
+cast-t12 c = omega (arith, c .before .before .before .before .before .before .pre .1 .1)
 
 add-write-record : tie.Need-add-write-record Inv-loop μ-loop
 add-write-record c = omega (arith, c .before .before .before .before .before .before .pre .1 .0)
@@ -57,7 +57,7 @@ write-records-spec =
     Inv-loop
     μ-loop
     loop-holds
-    cast-write-record
+    cast-t12
     add-write-record
     mul-write-record
     shared-slice-read-write-record

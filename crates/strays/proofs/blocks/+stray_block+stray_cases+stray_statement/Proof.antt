@@ -23,9 +23,9 @@ use Rattle.strays.proofs.blocks.stray_statement.Reads as stray-statemen
 use Rattle.strays.proofs.blocks.stray_statement.Kinds as stray-statement-kinds
 use Rattle.strays.proofs.blocks.+stray_block+stray_cases+stray_statement.Lts-stray_statement as stray-statement-lts
 use Rattle.access.proofs.function.block.Reads as block-reads
+use Rattle.access.proofs.kinded.block_operand.Reads as block-operand-reads
 use Rattle.access.proofs.kinded.operand.Reads as operand-reads
 use Rattle.access.proofs.kinded.statement.Reads as statement-reads
-use Rattle.strays.proofs.blocks.held.Reads as held-reads
 use Rattle.strays.proofs.blocks.stray_leaving.Reads as stray-leaving-reads
 use Rattle.strays.proofs.exits.in_body.Reads as in-body-reads
 use Rattle.strays.proofs.exits.in_case.Reads as in-case-reads
@@ -78,10 +78,10 @@ abbrev stray-block-called : ℕ → stray-block-lts.Claims
 stray-block-called t = (block-reads.Asked, block-reads.Learnt, stray-statement-below t, stray-statement.Post)
 
 abbrev stray-cases-called : ℕ → stray-cases-lts.Claims
-stray-cases-called t = (operand-reads.Asked, operand-reads.Learnt, held-reads.Asked, held-reads.Learnt, stray-block-below t, stray-block.Post)
+stray-cases-called t = (operand-reads.Asked, operand-reads.Learnt, block-operand-reads.Asked, block-operand-reads.Learnt, stray-block-below t, stray-block.Post)
 
 abbrev stray-statement-called : ℕ → stray-statement-lts.Claims
-stray-statement-called t = (statement-reads.Asked, statement-reads.Learnt, stray-leaving-reads.Asked, stray-leaving-reads.Learnt, held-reads.Asked, held-reads.Learnt, stray-block-below t, stray-block.Post, in-case-reads.Asked, in-case-reads.Learnt, stray-cases-below t, stray-cases.Post, none-reads.Asked, none-reads.Learnt, in-body-reads.Asked, in-body-reads.Learnt)
+stray-statement-called t = (statement-reads.Asked, statement-reads.Learnt, stray-leaving-reads.Asked, stray-leaving-reads.Learnt, block-operand-reads.Asked, block-operand-reads.Learnt, stray-block-below t, stray-block.Post, in-case-reads.Asked, in-case-reads.Learnt, stray-cases-below t, stray-cases.Post, none-reads.Asked, none-reads.Learnt, in-body-reads.Asked, in-body-reads.Learnt)
 
 abbrev stray-block-Inv-loop : stray-block-lts.InvT-loop
 stray-block-Inv-loop bytes t f b e first low₀ k₀ low k = (k ≤ k₀) × Lowers (later (functionOf bytes t (f .0)) (b .0) first k₀ (exitsOf e) k) (blamed low₀) (blamed low)
@@ -128,17 +128,17 @@ stray-cases-cast-n t c = search needs
 stray-cases-loop-holds : (t : ℕ) → stray-cases-lts.Need-loop-holds (stray-cases-called t) (stray-cases-at t) stray-cases.Post stray-cases-Inv-loop stray-cases-μ-loop
 stray-cases-loop-holds t c = (omega arith, no-case (c .before .before .before .pre .1) (exitsOf (c .before .before .before .args .e)) _)
 
-stray-cases-mul-held : (t : ℕ) → stray-cases-lts.Need-mul-held (stray-cases-called t) (stray-cases-at t) stray-cases.Post stray-cases-Inv-loop stray-cases-μ-loop
-stray-cases-mul-held t c = search needs
+stray-cases-mul-block-operand : (t : ℕ) → stray-cases-lts.Need-mul-block-operand (stray-cases-called t) (stray-cases-at t) stray-cases.Post stray-cases-Inv-loop stray-cases-μ-loop
+stray-cases-mul-block-operand t c = search needs
 
-stray-cases-add-held : (t : ℕ) → stray-cases-lts.Need-add-held (stray-cases-called t) (stray-cases-at t) stray-cases.Post stray-cases-Inv-loop stray-cases-μ-loop
-stray-cases-add-held t c = search needs
+stray-cases-add-block-operand : (t : ℕ) → stray-cases-lts.Need-add-block-operand (stray-cases-called t) (stray-cases-at t) stray-cases.Post stray-cases-Inv-loop stray-cases-μ-loop
+stray-cases-add-block-operand t c = search needs
 
-stray-cases-held-requires : (t : ℕ) → stray-cases-lts.Need-held-requires (stray-cases-called t) (stray-cases-at t) stray-cases.Post stray-cases-Inv-loop stray-cases-μ-loop
-stray-cases-held-requires t c κs = search needs
+stray-cases-block-operand-requires : (t : ℕ) → stray-cases-lts.Need-block-operand-requires (stray-cases-called t) (stray-cases-at t) stray-cases.Post stray-cases-Inv-loop stray-cases-μ-loop
+stray-cases-block-operand-requires t c κs = search needs
 
 stray-cases-stray-block-requires : (t : ℕ) → stray-cases-lts.Need-stray-block-requires (stray-cases-called t) (stray-cases-at t) stray-cases.Post stray-cases-Inv-loop stray-cases-μ-loop
-stray-cases-stray-block-requires t c κs = let h = case-there (c .before .before .before .before .before .before .pre .1) (c .before .before .loop .i) (omega (arith, c .before .before .before .operand .ensures, c .before .loop-test .taken)) (c .held .ensures) in (omega (arith, h .0, c .before .before .before .before .before .before .pre .0), h .1)
+stray-cases-stray-block-requires t c κs = let h = case-there (c .before .before .before .before .before .before .pre .1) (c .before .before .loop .i) (omega (arith, c .before .before .before .operand .ensures, c .before .loop-test .taken)) (c .block-operand .ensures) in (omega (arith, h .0, c .before .before .before .before .before .before .pre .0), h .1)
 
 stray-cases-add-i : (t : ℕ) → stray-cases-lts.Need-add-i (stray-cases-called t) (stray-cases-at t) stray-cases.Post stray-cases-Inv-loop stray-cases-μ-loop
 stray-cases-add-i t c = search needs
@@ -147,7 +147,7 @@ stray-cases-loop-less : (t : ℕ) → stray-cases-lts.Need-loop-less (stray-case
 stray-cases-loop-less t c = search needs
 
 stray-cases-loop-again : (t : ℕ) → stray-cases-lts.Need-loop-again (stray-cases-called t) (stray-cases-at t) stray-cases.Post stray-cases-Inv-loop stray-cases-μ-loop
-stray-cases-loop-again t c = (omega (arith, c .before .before .loop-test .taken), next-case (c .before .before .before .before .before .before .before .pre .1) (exitsOf (c .before .before .before .before .before .before .before .args .e)) _ (c .before .before .before .loop .i) _ _ (c .before .before .before .loop .inv .1) (c .before .held .ensures) (c .stray-block .ensures))
+stray-cases-loop-again t c = (omega (arith, c .before .before .loop-test .taken), next-case (c .before .before .before .before .before .before .before .pre .1) (exitsOf (c .before .before .before .before .before .before .before .args .e)) _ (c .before .before .before .loop .i) _ _ (c .before .before .before .loop .inv .1) (c .before .block-operand .ensures) (c .stray-block .ensures))
 
 stray-cases-returns : (t : ℕ) → stray-cases-lts.Need-returns (stray-cases-called t) (stray-cases-at t) stray-cases.Post stray-cases-Inv-loop stray-cases-μ-loop
 stray-cases-returns t c = all-cases (c .before .before .before .before .before .pre .1) (exitsOf (c .before .before .before .before .before .args .e)) _ _ (c .before .before .operand .ensures) (omega (arith, c .before .loop .inv .0, c .loop-test .left)) (c .before .loop .inv .1)
@@ -164,29 +164,29 @@ stray-statement-returns t c = stray-leaving (c .before .before .before .before .
 stray-statement-returns-2 : (t : ℕ) → stray-statement-lts.Need-returns-2 (stray-statement-called t) (stray-statement-at t) stray-statement.Post
 stray-statement-returns-2 t c = stray-emit (c .before .before .before .before .before .pre .1) (c .before .before .statement .ensures) _ _ _ (c .if2 .taken) refl
 
-stray-statement-held-requires : (t : ℕ) → stray-statement-lts.Need-held-requires (stray-statement-called t) (stray-statement-at t) stray-statement.Post
-stray-statement-held-requires t c κs = search needs
+stray-statement-block-operand-requires : (t : ℕ) → stray-statement-lts.Need-block-operand-requires (stray-statement-called t) (stray-statement-at t) stray-statement.Post
+stray-statement-block-operand-requires t c κs = search needs
 
 stray-statement-stray-block-requires : (t : ℕ) → stray-statement-lts.Need-stray-block-requires (stray-statement-called t) (stray-statement-at t) stray-statement.Post
-stray-statement-stray-block-requires t c κs = let h = there (c .before .before .before .before .before .before .before .pre .1) (c .before .before .before .before .statement .ensures) 0 (c .held .ensures) (block-low (c .before .before .before .before .before .before .before .pre .1) (c .before .before .before .before .statement .ensures) (c .before .if3 .taken)) in (omega (arith, h .0, c .before .before .before .before .before .before .before .pre .0), h .1)
+stray-statement-stray-block-requires t c κs = let h = there (c .before .before .before .before .before .before .before .pre .1) (c .before .before .before .before .statement .ensures) 0 (c .block-operand .ensures) (block-low (c .before .before .before .before .before .before .before .pre .1) (c .before .before .before .before .statement .ensures) (c .before .if3 .taken)) in (omega (arith, h .0, c .before .before .before .before .before .before .before .pre .0), h .1)
 
 stray-statement-returns-3 : (t : ℕ) → stray-statement-lts.Need-returns-3 (stray-statement-called t) (stray-statement-at t) stray-statement.Post
-stray-statement-returns-3 t c = stray-block (c .before .before .before .before .before .before .before .before .pre .1) (c .before .before .before .before .before .statement .ensures) _ _ _ (c .before .before .if3 .taken) (c .before .held .ensures) (c .stray-block .ensures)
+stray-statement-returns-3 t c = stray-block (c .before .before .before .before .before .before .before .before .pre .1) (c .before .before .before .before .before .statement .ensures) _ _ _ (c .before .before .if3 .taken) (c .before .block-operand .ensures) (c .stray-block .ensures)
 
-stray-statement-held-requires-2 : (t : ℕ) → stray-statement-lts.Need-held-requires-2 (stray-statement-called t) (stray-statement-at t) stray-statement.Post
-stray-statement-held-requires-2 t c κs = search needs
+stray-statement-block-operand-requires-2 : (t : ℕ) → stray-statement-lts.Need-block-operand-requires-2 (stray-statement-called t) (stray-statement-at t) stray-statement.Post
+stray-statement-block-operand-requires-2 t c κs = search needs
 
 stray-statement-stray-block-requires-2 : (t : ℕ) → stray-statement-lts.Need-stray-block-requires-2 (stray-statement-called t) (stray-statement-at t) stray-statement.Post
-stray-statement-stray-block-requires-2 t c κs = let h = there (c .before .before .before .before .before .before .before .before .pre .1) (c .before .before .before .before .before .statement .ensures) 2 (c .held2 .ensures) (reject-low (c .before .before .before .before .before .before .before .before .pre .1) (c .before .before .before .before .before .statement .ensures) (c .before .if4 .taken)) in (omega (arith, h .0, c .before .before .before .before .before .before .before .before .pre .0), h .1)
+stray-statement-stray-block-requires-2 t c κs = let h = there (c .before .before .before .before .before .before .before .before .pre .1) (c .before .before .before .before .before .statement .ensures) 2 (c .block-operand2 .ensures) (reject-low (c .before .before .before .before .before .before .before .before .pre .1) (c .before .before .before .before .before .statement .ensures) (c .before .if4 .taken)) in (omega (arith, h .0, c .before .before .before .before .before .before .before .before .pre .0), h .1)
 
-stray-statement-held-requires-3 : (t : ℕ) → stray-statement-lts.Need-held-requires-3 (stray-statement-called t) (stray-statement-at t) stray-statement.Post
-stray-statement-held-requires-3 t c κs = search needs
+stray-statement-block-operand-requires-3 : (t : ℕ) → stray-statement-lts.Need-block-operand-requires-3 (stray-statement-called t) (stray-statement-at t) stray-statement.Post
+stray-statement-block-operand-requires-3 t c κs = search needs
 
 stray-statement-stray-block-requires-3 : (t : ℕ) → stray-statement-lts.Need-stray-block-requires-3 (stray-statement-called t) (stray-statement-at t) stray-statement.Post
-stray-statement-stray-block-requires-3 t c κs = let h = there (c .before .before .before .before .before .before .before .before .before .before .pre .1) (c .before .before .before .before .before .before .before .statement .ensures) 1 (c .held3 .ensures) (accept-low (c .before .before .before .before .before .before .before .before .before .before .pre .1) (c .before .before .before .before .before .before .before .statement .ensures) (c .before .before .before .if4 .taken)) in (omega (arith, h .0, c .before .before .before .before .before .before .before .before .before .before .pre .0), h .1)
+stray-statement-stray-block-requires-3 t c κs = let h = there (c .before .before .before .before .before .before .before .before .before .before .pre .1) (c .before .before .before .before .before .before .before .statement .ensures) 1 (c .block-operand3 .ensures) (accept-low (c .before .before .before .before .before .before .before .before .before .before .pre .1) (c .before .before .before .before .before .before .before .statement .ensures) (c .before .before .before .if4 .taken)) in (omega (arith, h .0, c .before .before .before .before .before .before .before .before .before .before .pre .0), h .1)
 
 stray-statement-returns-4 : (t : ℕ) → stray-statement-lts.Need-returns-4 (stray-statement-called t) (stray-statement-at t) stray-statement.Post
-stray-statement-returns-4 t c = stray-if (c .before .before .before .before .before .before .before .before .before .before .before .pre .1) (c .before .before .before .before .before .before .before .before .statement .ensures) _ _ _ _ (c .before .before .before .before .if4 .taken) (c .before .before .before .held2 .ensures) (c .before .before .stray-block2 .ensures) (c .before .held3 .ensures) (c .stray-block3 .ensures)
+stray-statement-returns-4 t c = stray-if (c .before .before .before .before .before .before .before .before .before .before .before .pre .1) (c .before .before .before .before .before .before .before .before .statement .ensures) _ _ _ _ (c .before .before .before .before .if4 .taken) (c .before .before .before .block-operand2 .ensures) (c .before .before .stray-block2 .ensures) (c .before .block-operand3 .ensures) (c .stray-block3 .ensures)
 
 stray-statement-in-case-requires : (t : ℕ) → stray-statement-lts.Need-in-case-requires (stray-statement-called t) (stray-statement-at t) stray-statement.Post
 stray-statement-in-case-requires t c κs = search needs
@@ -197,26 +197,26 @@ stray-statement-stray-cases-requires t c κs = (omega (arith, c .before .before 
 stray-statement-returns-5 : (t : ℕ) → stray-statement-lts.Need-returns-5 (stray-statement-called t) (stray-statement-at t) stray-statement.Post
 stray-statement-returns-5 t c = stray-switch (c .before .before .before .before .before .before .before .before .before .before .pre .1) (c .before .before .before .before .before .before .before .statement .ensures) _ _ _ (c .before .before .if5 .taken) (c .before .in-case .ensures) (c .stray-cases .ensures)
 
-stray-statement-held-requires-4 : (t : ℕ) → stray-statement-lts.Need-held-requires-4 (stray-statement-called t) (stray-statement-at t) stray-statement.Post
-stray-statement-held-requires-4 t c κs = search needs
+stray-statement-block-operand-requires-4 : (t : ℕ) → stray-statement-lts.Need-block-operand-requires-4 (stray-statement-called t) (stray-statement-at t) stray-statement.Post
+stray-statement-block-operand-requires-4 t c κs = search needs
 
 stray-statement-none-requires : (t : ℕ) → stray-statement-lts.Need-none-requires (stray-statement-called t) (stray-statement-at t) stray-statement.Post
 stray-statement-none-requires t c κs = search needs
 
 stray-statement-stray-block-requires-4 : (t : ℕ) → stray-statement-lts.Need-stray-block-requires-4 (stray-statement-called t) (stray-statement-at t) stray-statement.Post
-stray-statement-stray-block-requires-4 t c κs = let h = there (c .before .before .before .before .before .before .before .before .before .before .pre .1) (c .before .before .before .before .before .before .before .statement .ensures) 1 (c .before .held4 .ensures) (continuing-low (c .before .before .before .before .before .before .before .before .before .before .pre .1) (c .before .before .before .before .before .before .before .statement .ensures) (loop-kind (c .before .before .before .before .before .before .if1 .left) (c .before .before .before .before .before .if2 .left) (c .before .before .before .before .if3 .left) (c .before .before .before .if4 .left) (c .before .before .if5 .left))) in (omega (arith, h .0, c .before .before .before .before .before .before .before .before .before .before .pre .0), h .1)
+stray-statement-stray-block-requires-4 t c κs = let h = there (c .before .before .before .before .before .before .before .before .before .before .pre .1) (c .before .before .before .before .before .before .before .statement .ensures) 1 (c .before .block-operand4 .ensures) (continuing-low (c .before .before .before .before .before .before .before .before .before .before .pre .1) (c .before .before .before .before .before .before .before .statement .ensures) (loop-kind (c .before .before .before .before .before .before .if1 .left) (c .before .before .before .before .before .if2 .left) (c .before .before .before .before .if3 .left) (c .before .before .before .if4 .left) (c .before .before .if5 .left))) in (omega (arith, h .0, c .before .before .before .before .before .before .before .before .before .before .pre .0), h .1)
 
-stray-statement-held-requires-5 : (t : ℕ) → stray-statement-lts.Need-held-requires-5 (stray-statement-called t) (stray-statement-at t) stray-statement.Post
-stray-statement-held-requires-5 t c κs = search needs
+stray-statement-block-operand-requires-5 : (t : ℕ) → stray-statement-lts.Need-block-operand-requires-5 (stray-statement-called t) (stray-statement-at t) stray-statement.Post
+stray-statement-block-operand-requires-5 t c κs = search needs
 
 stray-statement-in-body-requires : (t : ℕ) → stray-statement-lts.Need-in-body-requires (stray-statement-called t) (stray-statement-at t) stray-statement.Post
 stray-statement-in-body-requires t c κs = search needs
 
 stray-statement-stray-block-requires-5 : (t : ℕ) → stray-statement-lts.Need-stray-block-requires-5 (stray-statement-called t) (stray-statement-at t) stray-statement.Post
-stray-statement-stray-block-requires-5 t c κs = let h = there (c .before .before .before .before .before .before .before .before .before .before .before .before .before .pre .1) (c .before .before .before .before .before .before .before .before .before .before .statement .ensures) 0 (c .before .held5 .ensures) (body-low (c .before .before .before .before .before .before .before .before .before .before .before .before .before .pre .1) (c .before .before .before .before .before .before .before .before .before .before .statement .ensures) (loop-kind (c .before .before .before .before .before .before .before .before .before .if1 .left) (c .before .before .before .before .before .before .before .before .if2 .left) (c .before .before .before .before .before .before .before .if3 .left) (c .before .before .before .before .before .before .if4 .left) (c .before .before .before .before .before .if5 .left))) in (omega (arith, h .0, c .before .before .before .before .before .before .before .before .before .before .before .before .before .pre .0), h .1)
+stray-statement-stray-block-requires-5 t c κs = let h = there (c .before .before .before .before .before .before .before .before .before .before .before .before .before .pre .1) (c .before .before .before .before .before .before .before .before .before .before .statement .ensures) 0 (c .before .block-operand5 .ensures) (body-low (c .before .before .before .before .before .before .before .before .before .before .before .before .before .pre .1) (c .before .before .before .before .before .before .before .before .before .before .statement .ensures) (loop-kind (c .before .before .before .before .before .before .before .before .before .if1 .left) (c .before .before .before .before .before .before .before .before .if2 .left) (c .before .before .before .before .before .before .before .if3 .left) (c .before .before .before .before .before .before .if4 .left) (c .before .before .before .before .before .if5 .left))) in (omega (arith, h .0, c .before .before .before .before .before .before .before .before .before .before .before .before .before .pre .0), h .1)
 
 stray-statement-returns-6 : (t : ℕ) → stray-statement-lts.Need-returns-6 (stray-statement-called t) (stray-statement-at t) stray-statement.Post
-stray-statement-returns-6 t c = stray-loop (c .before .before .before .before .before .before .before .before .before .before .before .before .before .before .pre .1) (c .before .before .before .before .before .before .before .before .before .before .before .statement .ensures) _ _ _ _ (loop-kind (c .before .before .before .before .before .before .before .before .before .before .if1 .left) (c .before .before .before .before .before .before .before .before .before .if2 .left) (c .before .before .before .before .before .before .before .before .if3 .left) (c .before .before .before .before .before .before .before .if4 .left) (c .before .before .before .before .before .before .if5 .left)) (c .before .before .before .before .before .held4 .ensures) (c .before .before .before .before .none .ensures) (c .before .before .before .stray-block4 .ensures) (c .before .before .held5 .ensures) (c .before .in-body .ensures) (c .stray-block5 .ensures)
+stray-statement-returns-6 t c = stray-loop (c .before .before .before .before .before .before .before .before .before .before .before .before .before .before .pre .1) (c .before .before .before .before .before .before .before .before .before .before .before .statement .ensures) _ _ _ _ (loop-kind (c .before .before .before .before .before .before .before .before .before .before .if1 .left) (c .before .before .before .before .before .before .before .before .before .if2 .left) (c .before .before .before .before .before .before .before .before .if3 .left) (c .before .before .before .before .before .before .before .if4 .left) (c .before .before .before .before .before .before .if5 .left)) (c .before .before .before .before .before .block-operand4 .ensures) (c .before .before .before .before .none .ensures) (c .before .before .before .stray-block4 .ensures) (c .before .before .block-operand5 .ensures) (c .before .in-body .ensures) (c .stray-block5 .ensures)
 
 pub +stray-block+stray-cases+stray-statement-spec : {M : Type 1} → statement M
 +stray-block+stray-cases+stray-statement-spec =
@@ -241,9 +241,9 @@ pub +stray-block+stray-cases+stray-statement-spec : {M : Type 1} → statement M
     (stray-cases-operand-requires t)
     (stray-cases-cast-n t)
     (stray-cases-loop-holds t)
-    (stray-cases-mul-held t)
-    (stray-cases-add-held t)
-    (stray-cases-held-requires t)
+    (stray-cases-mul-block-operand t)
+    (stray-cases-add-block-operand t)
+    (stray-cases-block-operand-requires t)
     (stray-cases-stray-block-requires t)
     (stray-cases-add-i t)
     (stray-cases-loop-less t)
@@ -256,21 +256,21 @@ pub +stray-block+stray-cases+stray-statement-spec : {M : Type 1} → statement M
     (stray-statement-stray-leaving-requires t)
     (stray-statement-returns t)
     (stray-statement-returns-2 t)
-    (stray-statement-held-requires t)
+    (stray-statement-block-operand-requires t)
     (stray-statement-stray-block-requires t)
     (stray-statement-returns-3 t)
-    (stray-statement-held-requires-2 t)
+    (stray-statement-block-operand-requires-2 t)
     (stray-statement-stray-block-requires-2 t)
-    (stray-statement-held-requires-3 t)
+    (stray-statement-block-operand-requires-3 t)
     (stray-statement-stray-block-requires-3 t)
     (stray-statement-returns-4 t)
     (stray-statement-in-case-requires t)
     (stray-statement-stray-cases-requires t)
     (stray-statement-returns-5 t)
-    (stray-statement-held-requires-4 t)
+    (stray-statement-block-operand-requires-4 t)
     (stray-statement-none-requires t)
     (stray-statement-stray-block-requires-4 t)
-    (stray-statement-held-requires-5 t)
+    (stray-statement-block-operand-requires-5 t)
     (stray-statement-in-body-requires t)
     (stray-statement-stray-block-requires-5 t)
     (stray-statement-returns-6 t)
