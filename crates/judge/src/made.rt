@@ -163,10 +163,7 @@ fn fits_compose(
     let a = type_of(bytes, t, f, e);
     let k = kind_at(types, a.0);
     if k == 1 {
-        return both(
-            values,
-            joins(bytes, t, f, types, row, first_word(types, a)),
-        );
+        return both(values, joins(bytes, t, f, types, row, first_word(types, a)));
     }
     if part_count(types, a) != operand(bytes, row, 0) as u32 {
         return false;
