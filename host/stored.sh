@@ -41,6 +41,10 @@ $host stored requests "$oracle" ../tests/requests.list ../examples "$scripts/cas
 for profile in tiny small; do files $profile 24 report- 1; done
 $host stored report "$oracle" ../tests/report.list ../examples/case-a.txt ../examples/casting.txt "$work"/report-* "$work/damaged"/x0000[0-4]*
 
+# for bindings: small files; the oracle is exponential in the depth of types
+for profile in tiny small calls; do files $profile 12 bindings-; done
+$host stored bindings "$oracle" ../tests/bindings.list ../examples/casting.txt "$work"/bindings-*
+
 # for the check of reports: the second clearance's own answers
 $host stored clearance ../tests/clearance.list
 

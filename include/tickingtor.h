@@ -45,12 +45,13 @@ uint64_t tickingtor_check(const uint8_t *module, size_t module_length, const uin
  * number. `out` shares no byte with the other slices. A call takes at most 1.5 MB of stack.
  */
 
-/* The bindings that a context of the function f needs, a byte each, ascending: 12 (also of a context of more than 49,166 bytes), 11,
-   20 (`out` has fewer than 64 bytes), 13. */
+/* The bindings that a context of the function f needs, a byte each, ascending: 12, 11, 20 (`out` has fewer than 64 bytes), 13, 16 (the
+   context, which may have any number of bytes, has more than 8,192 pieces). */
 uint64_t tickingtor_input_to_bindings(const uint8_t *module, size_t module_length, uint32_t f, const uint8_t *context,
                                       size_t context_length, uint8_t *out, size_t out_length);
 
-/* The request that asks for these bindings, a byte each, of the function f: 12, 11, 20 (`out` has fewer than 65,536 bytes), 15, 16. */
+/* The request that asks for these bindings, a byte each, of the function f: 12 (also of a list that does not ascend strictly), 11, 20 (`out`
+   has fewer than 65,536 bytes), 15, 16. */
 uint64_t tickingtor_output_from_bindings(const uint8_t *module, size_t module_length, uint32_t f, const uint8_t *list,
                                          size_t list_length, uint8_t *out, size_t out_length);
 

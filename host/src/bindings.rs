@@ -13,7 +13,7 @@ use std::process::Command;
 pub type Reached = BTreeMap<String, usize>;
 
 /// The functions of a module, by the number of arguments of each.
-fn functions(module: &[u8]) -> Vec<usize> {
+pub fn functions(module: &[u8]) -> Vec<usize> {
     let mut found = Vec::new();
     for record in records(module).0 {
         match Mark::of_letters(record.letters) {
@@ -26,7 +26,7 @@ fn functions(module: &[u8]) -> Vec<usize> {
 }
 
 /// The last fields of results and arguments, and a type's, which have all bindings among them.
-fn likely_bindings(module: &[u8]) -> Vec<u16> {
+pub fn likely_bindings(module: &[u8]) -> Vec<u16> {
     let mut found = Vec::new();
     for record in records(module).0 {
         let fields = fields(record.body);
@@ -40,7 +40,7 @@ fn likely_bindings(module: &[u8]) -> Vec<u16> {
     found
 }
 
-fn part(random: &mut Random, depth: usize) -> Part {
+pub fn part(random: &mut Random, depth: usize) -> Part {
     if depth == 0 || random.chance(50) {
         return if random.chance(70) { Part::All } else { Part::Exist };
     }
@@ -50,10 +50,11 @@ fn part(random: &mut Random, depth: usize) -> Part {
     Part::Entries(indexes.into_iter().map(|i| (i, part(random, depth - 1))).collect())
 }
 
-/// One question: the oracle's words and the library's answer, in the oracle's text.
+/// One question: the oracle's words and the library's answer, in the oracle's text. The oracle takes a list in any order, where 01 says 12.
 struct Case {
     words: Vec<String>,
     answer: String,
+    malformed: bool,
 }
 
 fn refusal(answer: &Answer) -> Option<String> {
@@ -92,7 +93,7 @@ fn input(module: &[u8], f: usize, args: usize, random: &mut Random) -> Case {
     };
     let mut words = vec!["in".to_string(), String::new(), f.to_string()];
     words.extend(asked.iter().map(|(n, part)| format!("{n}={part}")));
-    Case { words, answer: text }
+    Case { words, answer: text, malformed: false }
 }
 
 /// Most often all: a part of an argument that has a binding is an assertion.
@@ -105,13 +106,18 @@ fn part_or_all(random: &mut Random) -> Part {
 }
 
 fn output(module: &[u8], f: usize, named: &[u16], random: &mut Random) -> Case {
-    let list: Vec<u16> = (0..random.below(6)).map(|_| binding(random, named)).collect();
+    let mut list: Vec<u16> = (0..random.below(6)).map(|_| binding(random, named)).collect();
+    if random.chance(80) {
+        list.sort_unstable();
+        list.dedup();
+    }
+    let malformed = list.windows(2).any(|w| w[0] >= w[1]);
     let bytes: Vec<u8> = list.iter().map(|b| *b as u8).collect();
     let mut out = vec![0; limits::REPORT];
     let answer = shown(&library::output_from_bindings(module, f as u32, &bytes, &mut out));
     let mut words = vec!["out".to_string(), String::new(), f.to_string()];
     words.extend(list.iter().map(u16::to_string));
-    Case { words, answer }
+    Case { words, answer, malformed }
 }
 
 fn add(module: &[u8], f: usize, named: &[u16], random: &mut Random) -> Case {
@@ -122,12 +128,20 @@ fn add(module: &[u8], f: usize, named: &[u16], random: &mut Random) -> Case {
     let bytes = record::write(*b"RQ", &request.fields()).expect("a short request");
     let mut out = vec![0; limits::REPORT];
     let answer = shown(&library::add_binding(module, &bytes, u32::from(b), &mut out));
-    Case { words, answer }
+    Case { words, answer, malformed: false }
 }
 
-/// What the oracle says, by the first line. It is exponential in the depth of types: the sources have shallow ones.
+/// What the oracle says. It is exponential in the depth of types: the sources have shallow ones.
 fn asked(program: &str, file: &str, case: &Case) -> Result<String, String> {
-    let mut words = case.words.clone();
+    if case.malformed {
+        return Ok("refused 12".into());
+    }
+    ask(program, file, &case.words)
+}
+
+/// The first line of the oracle's answer; the file's name goes in the place of the second word.
+pub fn ask(program: &str, file: &str, words: &[String]) -> Result<String, String> {
+    let mut words = words.to_vec();
     words[1] = file.to_string();
     let done = Command::new(program).arg("--bindings").args(words).output().map_err(|e| format!("{program}: {e}"))?;
     let text = String::from_utf8(done.stdout).map_err(|e| format!("{program}: {e}"))?;

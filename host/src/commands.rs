@@ -4,7 +4,7 @@ use crate::clearance::{campaign, show};
 use crate::lent::Lent;
 use crate::measured::{self, File};
 use crate::stored::{Reading, Requests, Source};
-use crate::{assemble, bench, bindings, check, compare, count, form, library, limits, list, model, requests, store};
+use crate::{assemble, bench, bindings, bindings_list, check, compare, count, form, library, limits, list, model, requests, store};
 use std::cell::RefCell;
 
 const USAGE: &str = "\
@@ -15,6 +15,7 @@ host generate N SEED                a casting model of N statements, as a listin
 host stored reading ORACLE OUT SOURCE...    stored lists, from files and folders of files (.bin) and listings (.txt);
 host stored requests ORACLE OUT SOURCE...   ORACLE is the oracle's program, or the folder that has it
 host stored report ORACLE OUT SOURCE...
+host stored bindings ORACLE OUT SOURCE...
 host stored clearance OUT                   reports and contexts with the answers of this program's own clearance
 host stored count READING REQUESTS          a table of what the two lists reach
 host compare reading ORACLE SEED COUNT SOURCE...    the library against the oracle: the sources' modules and damaged copies of them
@@ -38,6 +39,7 @@ pub fn run(words: &[&str]) -> Result<(), String> {
         ["stored", "reading", oracle, out, ref sources @ ..] => store_list(store::reading, oracle, out, sources),
         ["stored", "requests", oracle, out, ref sources @ ..] => store_list(store::requests, oracle, out, sources),
         ["stored", "report", oracle, out, ref sources @ ..] => store_list(store::report, oracle, out, sources),
+        ["stored", "bindings", oracle, out, ref sources @ ..] => store_list(bindings_list::list, oracle, out, sources),
         ["stored", "clearance", out] => write(out, &library::with_stack(listed::list)?),
         ["stored", "count", reading, requests] => count_lists(reading, requests),
         ["compare", "reading", oracle, seed, count, ref sources @ ..] => compare_reading(oracle, seed, count, sources),

@@ -3,6 +3,7 @@ pub mod asks;
 pub mod assemble;
 pub mod bench;
 pub mod bindings;
+pub mod bindings_list;
 pub mod check;
 pub mod checks;
 pub mod clearance;

@@ -107,6 +107,65 @@ impl Check {
     }
 }
 
+/// A module with questions of its bindings.
+#[derive(PartialEq, Eq, Debug)]
+pub struct Bindings {
+    pub module: Vec<u8>,
+    pub asked: Vec<Binding>,
+}
+
+/// An operation on bindings, the number and the bytes that it is given, how long a slice it is lent, the number that it answers and what it
+/// then has written.
+#[derive(PartialEq, Eq, Debug, Clone)]
+pub struct Binding {
+    pub operation: Operation,
+    pub number: u32,
+    pub given: Vec<u8>,
+    pub room: u32,
+    pub answer: u64,
+    pub written: Vec<u8>,
+}
+
+#[derive(PartialEq, Eq, PartialOrd, Ord, Debug, Clone, Copy)]
+pub enum Operation {
+    /// A function and a context.
+    Input,
+    /// A function and a list of bindings.
+    Output,
+    /// A binding and a request.
+    Add,
+}
+
+impl Bindings {
+    pub fn write(&self, out: &mut Vec<u8>) {
+        string(&self.module, out);
+        out.extend((self.asked.len() as u16).to_le_bytes());
+        for case in &self.asked {
+            out.extend((case.operation as u16).to_le_bytes());
+            out.extend(case.number.to_le_bytes());
+            string(&case.given, out);
+            out.extend(case.room.to_le_bytes());
+            out.extend(case.answer.to_le_bytes());
+            string(&case.written, out);
+        }
+    }
+
+    pub fn read(source: &mut Source) -> Option<Bindings> {
+        let (module, count) = (source.string()?, source.short()?);
+        let asked = (0..count).map(|_| Binding::read(source)).collect::<Option<_>>()?;
+        Some(Bindings { module, asked })
+    }
+}
+
+impl Binding {
+    fn read(source: &mut Source) -> Option<Binding> {
+        let operation = [Operation::Input, Operation::Output, Operation::Add].into_iter().nth(source.short()? as usize)?;
+        let (number, given, room) = (source.long()?, source.string()?, source.long()?);
+        let answer = u64::from(source.long()?) + (u64::from(source.long()?) << 32);
+        Some(Binding { operation, number, given, room, answer, written: source.string()? })
+    }
+}
+
 fn write_answer(a: &Answer, out: &mut Vec<u8>) {
     let place = a.place.map_or([0, 0, 0], |p| [1 + p.statement as u16, p.function, p.number]);
     for field in [a.refusal, place[0], place[1], place[2]] {
@@ -194,6 +253,16 @@ mod tests {
         let read = Source(&out).all(Requests::read).unwrap();
         assert_eq!(read, [Requests::read(&mut Source(&out)).unwrap(), case]);
         assert!(Source(&out[..out.len() - 1]).all(Requests::read).is_none());
+    }
+
+    #[test]
+    fn bindings_are_read_back() {
+        let asked = |operation, answer| Binding { operation, number: 3, given: vec![1], room: 64, answer, written: vec![5, 9] };
+        let case = Bindings { module: vec![7; 20], asked: vec![asked(Operation::Input, 2), asked(Operation::Add, 16 << 32)] };
+        let mut out = Vec::new();
+        case.write(&mut out);
+        assert_eq!(Source(&out).all(Bindings::read), Some(vec![case]));
+        assert!(Source(&out[..out.len() - 1]).all(Bindings::read).is_none());
     }
 
     #[test]

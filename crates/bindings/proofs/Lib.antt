@@ -1,9 +1,8 @@
 pub mod Linear
 pub mod Sets
+pub mod Ascending
 pub mod Requests
 pub mod Rows
-pub mod Walking
-pub mod Arguments
 pub mod Writing
 pub mod Members
 pub mod Sums

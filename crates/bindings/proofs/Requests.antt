@@ -2,7 +2,6 @@
 -- above 63 is 12, before anything else.
 use Prim.Native.Nat.{_≤_}
 use mathlib.Core.Path.{_≡_, refl, _∙_}
-use mathlib.Core.List.{List, _∷_}
 use mathlib.Core.Option.{Option, some, none as nothing}
 use Rattle.part.specs.PartReq.{PartReq, none, more, add}
 use Rattle.part.proofs.Equations.{none-add, add-none, add-eq}
@@ -12,7 +11,7 @@ use Rattle.context.specs.RequiredContext.{RequiredContext, variable}
 use Rattle.bindings.specs.Bindings.{Bindings}
 use Rattle.bindings.specs.TypeBindings.{fromBinding}
 use borrow.Author.Tests.{le-ltb}
-use Rattle.bindings.specs.ContextBindings.{returned, refused, areBindings, outputRequest, addRequest}
+use Rattle.bindings.specs.ContextBindings.{returned, refused, addRequest}
 
 pub add-returned : (existing new : PartReq) → add (returned (some existing)) (returned (some new)) ≡ returned (some (add existing new))
 unfolding returned
@@ -36,7 +35,3 @@ bound-not-entered from other required b t = refl
 pub add-above : (m : Module) (f : FunctionHandle) (b : Binding) (c : RequiredContext) → bindings ≤ b → addRequest m f b c ≡ refused 12
 unfolding addRequest
 add-above m f b c h = rw (le-ltb b bindings h)
-
-pub output-above : (m : Module) (f : FunctionHandle) (b : Binding) (bs : List Binding) → bindings ≤ b → outputRequest m f (b ∷ bs) ≡ refused 12
-unfolding outputRequest areBindings
-output-above m f b bs h = rw (le-ltb b bindings h)

@@ -87,7 +87,8 @@ unfoldable pub listed : Needed → Answer (List Binding)
 listed (needed s) = accepted (listOf s)
 listed (asserts i) = refusedAt 13 i
 
--- The bindings list of a context of the function f: 11, 13. It makes no part, so there is no 15 and no 16.
+-- The bindings list of a context of the function f: 11, 13. It makes no part, so there is no 15; 16 is of the context that was given
+-- (bindings_request's `withinPieces`).
 unfoldable pub inputList : Module → FunctionHandle → RequiredContext → Answer (List Binding)
 inputList m f c = ofFunction (m .functions) f (λ x. listed (inputToBindings (m .types) x c))
 
@@ -96,10 +97,15 @@ unfoldable pub asRequest : (new c : RequiredContext) → Answer RequiredContext
 asRequest new c =
     cond (over (new .retval) || over (c .retval)) (refused 15) (cond (ltb maxPieces (pieces c)) (refused 16) (accepted c))
 
--- whether each is 0 to 63
+-- what a binding is below that stands before these: the first of them, or 64
+unfoldable pub bindingAfter : List Binding → ℕ
+bindingAfter [] = bindings
+bindingAfter (b ∷ bs) = b
+
+-- whether they ascend strictly to at most 63 (`bindings-ascend`, `bindings-low`, `ascending-are`)
 unfoldable pub areBindings : List Binding → Bool
 areBindings [] = true
-areBindings (b ∷ bs) = ltb b bindings && areBindings bs
+areBindings (b ∷ bs) = ltb b (bindingAfter bs) && areBindings bs
 
 -- The request that asks for these bindings of the function f: 12, 11, 15, 16.
 unfoldable pub outputRequest : Module → FunctionHandle → List Binding → Answer RequiredContext

@@ -3,7 +3,5 @@ pub mod TypeBindings
 pub mod ContextBindings
 pub mod Linear
 pub mod Rows
-pub mod Walks
 pub mod Parts
-pub mod Inputs
 pub mod Outputs

@@ -1,5 +1,4 @@
 // Bindings: what a function's inputs and outputs are bound to, and which of them are needed.
-pub mod inputs;
 pub mod outputs;
 pub mod set;
 pub mod sum;

@@ -22,6 +22,7 @@ use crate::types::member_at;
 use crate::types::member_count;
 use field::limits::ABSENT;
 use field::limits::MAX_PIECES;
+use module::handles::NO_HANDLE;
 use module::handles::TypeHandle;
 use part::limits::SPINE;
 use part::req::join;
@@ -36,11 +37,11 @@ pub enum Asking {
     Retval(u32),
 }
 
-// The piece of what has this binding, or else this type, which is named by the type t.
-pub fn from_binding(parts: &[u32], required: u64, binding: u32, u: u32, t: u32) -> u32
+// The piece of what has this binding, or else this type, which is one of the first t types.
+pub fn from_binding(parts: &[u32], required: u64, binding: u32, u: TypeHandle, t: u32) -> u32
     requires { ⌜ Bound (optionOf binding) ⌝ }
     requires { ⌜ t ≤ length (now parts) ⌝ }
-    ensures { λ r. ⌜ Chosen (now (parts .entry)) required t binding u r ⌝ }
+    ensures { λ r. ⌜ Chosen (now (parts .entry)) required t binding (u .0) r ⌝ }
 {
     if binding != ABSENT as u32 {
         if contains(required, binding) {
@@ -48,27 +49,27 @@ pub fn from_binding(parts: &[u32], required: u64, binding: u32, u: u32, t: u32) 
         }
         return 2;
     }
-    if t <= u {
+    if t <= u.0 {
         return 2;
     }
-    let at = u as usize;
+    let at = u.0 as usize;
     parts[at]
 }
 
 // The piece of the type t, by those of lower types.
-fn from_type(cells: &mut [u32], types: &[u32], parts: &[u32], required: u64, t: u32) -> u32
+fn from_type(cells: &mut [u32], types: &[u32], parts: &[u32], required: u64, t: TypeHandle) -> u32
     requires { ⌜ Good (now cells) ⌝ }
     requires { ⌜ AllBound (typesOf (now types)) ⌝ }
     requires { ⌜ AllSized (typesOf (now types)) ⌝ }
-    requires { ⌜ Held (now cells) (now parts) t × Room (now cells) maxMembers ⌝ }
-    ensures { λ r. ⌜ From (now (cells .entry)) (now (cells .exit)) (stepFrom (typesOf (now (types .entry))) required (lowerPart (now (cells .entry)) (now (parts .entry)) t) t) maxMembers r ⌝ }
+    requires { ⌜ Held (now cells) (now parts) (t .0) × Room (now cells) maxMembers ⌝ }
+    ensures { λ r. ⌜ From (now (cells .entry)) (now (cells .exit)) (stepFrom (typesOf (now (types .entry))) required (lowerPart (now (cells .entry)) (now (parts .entry)) (t .0)) (t .0)) maxMembers r ⌝ }
 {
-    let mut i = member_count(types, TypeHandle(t));
+    let mut i = member_count(types, t);
     let mut r: u32 = 2;
     while 0 < i {
         i -= 1;
-        let m = member_at(types, TypeHandle(t), i);
-        let q = from_binding(parts, required, m.binding, m.ty.0, t);
+        let m = member_at(types, t, i);
+        let q = from_binding(parts, required, m.binding, m.ty, t.0);
         if q != 2 {
             r = make(cells, i, q, r);
         }
@@ -87,7 +88,7 @@ pub fn from_table(cells: &mut [u32], types: &[u32], required: u64, parts: &mut [
 {
     let mut t: u32 = 0;
     while (t as usize) < parts.len() {
-        let r = from_type(cells, types, parts, required, t);
+        let r = from_type(cells, types, parts, required, TypeHandle(t));
         let at = t as usize;
         parts[at] = r;
         t += 1;
@@ -99,7 +100,7 @@ fn returned_from(
     cells: &mut [u32],
     types: &[u32],
     required: u64,
-    ty: u32,
+    ty: TypeHandle,
     binding: u32,
     parts: &mut [u32],
 ) -> u32
@@ -107,10 +108,10 @@ fn returned_from(
     requires { ⌜ AllBound (typesOf (now types)) ⌝ }
     requires { ⌜ AllSized (typesOf (now types)) ⌝ }
     requires { ⌜ (length (now parts) ≡ typeCount (now types)) × (length (now parts) ≤ 4294967295) ⌝ }
-    requires { ⌜ BoundResult (resultBy ty binding) × Room (now cells) (outputCells (now parts)) ⌝ }
-    ensures { λ r. ⌜ Made (now (cells .entry)) (now (cells .exit)) (returned (resultFrom (typesOf (now (types .entry))) required (resultBy ty binding))) (outputCells (now (parts .entry))) r ⌝ }
+    requires { ⌜ BoundResult (resultBy (ty .0) binding) × Room (now cells) (outputCells (now parts)) ⌝ }
+    ensures { λ r. ⌜ Made (now (cells .entry)) (now (cells .exit)) (returned (resultFrom (typesOf (now (types .entry))) required (resultBy (ty .0) binding))) (outputCells (now (parts .entry))) r ⌝ }
 {
-    if ty == ABSENT as u32 {
+    if ty.0 == NO_HANDLE {
         return 2;
     }
     from_table(cells, types, required, parts);
@@ -126,7 +127,7 @@ pub fn output_from_bindings(
     cells: &mut [u32],
     types: &[u32],
     required: u64,
-    ty: u32,
+    ty: TypeHandle,
     binding: u32,
     parts: &mut [u32],
 ) -> Asking
@@ -134,8 +135,8 @@ pub fn output_from_bindings(
     requires { ⌜ AllBound (typesOf (now types)) ⌝ }
     requires { ⌜ AllSized (typesOf (now types)) ⌝ }
     requires { ⌜ (length (now parts) ≡ typeCount (now types)) × (length (now parts) ≤ 4294967295) ⌝ }
-    requires { ⌜ BoundResult (resultBy ty binding) × Room (now cells) (outputCells (now parts)) ⌝ }
-    ensures { λ r. ⌜ Asked (now (cells .entry)) (now (cells .exit)) ty binding none (λ f. asRequest (outputFromBindings (typesOf (now (types .entry))) required f) (outputFromBindings (typesOf (now (types .entry))) required f)) r ⌝ }
+    requires { ⌜ BoundResult (resultBy (ty .0) binding) × Room (now cells) (outputCells (now parts)) ⌝ }
+    ensures { λ r. ⌜ Asked (now (cells .entry)) (now (cells .exit)) (ty .0) binding none (λ f. asRequest (outputFromBindings (typesOf (now (types .entry))) required f) (outputFromBindings (typesOf (now (types .entry))) required f)) r ⌝ }
 {
     let new = returned_from(cells, types, required, ty, binding, parts);
     if over(cells, new) {
@@ -152,7 +153,7 @@ pub fn add_binding(
     cells: &mut [u32],
     types: &[u32],
     b: u32,
-    ty: u32,
+    ty: TypeHandle,
     binding: u32,
     parts: &mut [u32],
     globals: u32,
@@ -162,9 +163,9 @@ pub fn add_binding(
     requires { ⌜ AllBound (typesOf (now types)) ⌝ }
     requires { ⌜ AllSized (typesOf (now types)) ⌝ }
     requires { ⌜ (length (now parts) ≡ typeCount (now types)) × (length (now parts) ≤ 4294967295) ⌝ }
-    requires { ⌜ BoundResult (resultBy ty binding) × Room (now cells) (outputCells (now parts) + maxPieces) ⌝ }
+    requires { ⌜ BoundResult (resultBy (ty .0) binding) × Room (now cells) (outputCells (now parts) + maxPieces) ⌝ }
     requires { ⌜ (b < bindings) × ((globals < top (now cells)) × (retval < top (now cells))) ⌝ }
-    ensures { λ r. ⌜ Asked (now (cells .entry)) (now (cells .exit)) ty binding (part (now (cells .entry)) globals) (λ f. asRequest (outputFromBindings (typesOf (now (types .entry))) (single b) f) (addBinding (typesOf (now (types .entry))) b f (requestContext (part (now (cells .entry)) globals) (part (now (cells .entry)) retval)))) r ⌝ }
+    ensures { λ r. ⌜ Asked (now (cells .entry)) (now (cells .exit)) (ty .0) binding (part (now (cells .entry)) globals) (λ f. asRequest (outputFromBindings (typesOf (now (types .entry))) (single b) f) (addBinding (typesOf (now (types .entry))) b f (requestContext (part (now (cells .entry)) globals) (part (now (cells .entry)) retval)))) r ⌝ }
 {
     let new = returned_from(cells, types, own_binding(b), ty, binding, parts);
     if over(cells, new) {

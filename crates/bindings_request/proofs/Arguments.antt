@@ -11,25 +11,22 @@ use lib.Seq.{drop-cons}
 use borrow.Author.Tests.{eq-eqb}
 use Rattle.field.specs.Limits.{absent}
 use Rattle.part.specs.PartReq.{PartReq, all, exist, none, more, isAll, isExist, Subpart, gone, there, getSubpart}
-use Rattle.part.specs.Store.{part}
-use Rattle.part.proofs.Pieces.{part-0, part-1, not-all, not-exist}
 use Rattle.module.specs.Module.{TypeHandle, TypeInner, FunctionArg}
 use Rattle.module.specs.Decode.{tab, optionOf}
 use Rattle.module.proofs.Knot.{below-lt}
 use Rattle.context.specs.RequiredContext.{variable}
 use Rattle.context.proofs.Types.{length-tab, tab-at}
 use Rattle.bindings.specs.Bindings.{Bindings, empty, ownBinding}
 use Rattle.bindings.specs.TypeBindings.{stepBindings, getTypeBindings}
 use Rattle.bindings.specs.ContextBindings.{Needed as Answered, needed, asserts, boundPart, argBindings, both, argsBindings}
 use Rattle.bindings.specs.Linear.{allTable, walkBindings}
 use Rattle.bindings.specs.Rows.{argOf, argsOf}
-use Rattle.bindings.specs.Walks.{lower}
-use Rattle.bindings.specs.Inputs.{neededOf}
-use Rattle.bindings.specs.declared.inputs.Needed.{Needed}
-use Rattle.bindings.specs.declared.inputs.Needed.the-variants.{Bindings as Got, Asserts}
+use Rattle.bindings_request.specs.Walks.{lower, neededOf}
+use Rattle.bindings_request.specs.declared.needed.Needed.{Needed}
+use Rattle.bindings_request.specs.declared.needed.Needed.the-variants.{Bindings as Got, Asserts}
 use Rattle.bindings.proofs.Linear.{all-table-is, walk-is}
 use Rattle.bindings.proofs.Rows.{no-binding, present}
-use Rattle.bindings.proofs.Walking.{lower-step}
+use Rattle.bindings_request.proofs.Walking.{lower-step}
 
 -- below a type
 module _ (types : List TypeInner) (sets : List Bindings) (t : ℕ) where
@@ -37,13 +34,16 @@ module _ (types : List TypeInner) (sets : List Bindings) (t : ℕ) where
   unfolding lower
   lower-walk p = ap (λ (g : PartReq → ℕ). g p) (below-lt (λ v q. walkBindings types sets q v) (λ q. empty) (suc t) t (omega arith))
 
-module _ (types : List TypeInner) {sets : List Bindings} (t : ℕ) (s : List ℕ) {n : ℕ} (T : sets ≡ allTable types) where
-  pub found-all : n ≡ 0 → getD sets t 0 ≡ getTypeBindings types (part s n) t
-  found-all e = rw (T, e, part-0 s) (all-table-is types t)
+module _ (types : List TypeInner) {sets : List Bindings} (t : ℕ) (T : sets ≡ allTable types) where
+  pub found-all : (p : PartReq) → isAll p ≡ true → getD sets t 0 ≡ getTypeBindings types p t
+  found-all all e = rw T (all-table-is types t)
+  found-all exist e = absurd (false≢true e)
+  found-all none e = absurd (false≢true e)
+  found-all (more i p r) e = absurd (false≢true e)
 
-  pub found-step : (n ≡ 0 → ⊥) → stepBindings types (lower types sets t) t (part s n) ≡ getTypeBindings types (part s n) t
-  found-step e =
-      lower-step types sets (suc t) t s {n = n} (omega arith) e ∙ lower-walk types sets t (part s n) ∙ rw T (walk-is types (part s n) t)
+  pub found-step : (p : PartReq) → isAll p ≡ false → stepBindings types (lower types sets t) t p ≡ getTypeBindings types p t
+  found-step p e =
+      lower-step types sets (suc t) t p (omega arith) e ∙ lower-walk types sets t p ∙ rw T (walk-is types p t)
 
 -- both
 pub both-asserts : {a : Needed} (b : Answered) {i : ℕ} → a ≡ Asserts i → neededOf a ≡ both (neededOf a) b
@@ -67,6 +67,20 @@ module _ (types : List TypeInner) (i ty b : ℕ) where
   free none h f = rw f
   free (more j q r) h f = rw f
 
+  unneeded : (p : PartReq) → isExist p ≡ true → needed 0 ≡ argBindings types i (argOf ty b) (there p)
+  unfolding argBindings
+  unneeded all h = absurd (false≢true h)
+  unneeded exist h = refl
+  unneeded none h = absurd (false≢true h)
+  unneeded (more j q r) h = absurd (false≢true h)
+
+  wholly : (p : PartReq) → isAll p ≡ true → needed (bitOr (ownBinding (optionOf b)) (getTypeBindings types p ty)) ≡ argBindings types i (argOf ty b) (there p)
+  unfolding argBindings
+  wholly all h = refl
+  wholly exist h = absurd (false≢true h)
+  wholly none h = absurd (false≢true h)
+  wholly (more j q r) h = absurd (false≢true h)
+
   bound : (p : PartReq) → isExist p ≡ false → isAll p ≡ false → optionOf b ≡ some b → asserts i ≡ argBindings types i (argOf ty b) (there p)
   unfolding argBindings boundPart
   bound all h g f = absurd (false≢true (sym g))
@@ -79,19 +93,18 @@ module _ (types : List TypeInner) (i ty b : ℕ) {sub : Subpart} where
   unfolding argBindings
   arg-gone e = rw e
 
-  module _ (s : List ℕ) {n : ℕ} (e : sub ≡ there (part s n)) where
-    pub arg-exist : n ≡ 1 → needed 0 ≡ argBindings types i (argOf ty b) sub
-    unfolding argBindings
-    arg-exist h = rw (e, h, part-1 s)
+  module _ (p : PartReq) (e : sub ≡ there p) where
+    pub arg-exist : isExist p ≡ true → needed 0 ≡ argBindings types i (argOf ty b) sub
+    arg-exist h = rw e (unneeded types i ty b p h)
 
-    pub arg-free : {found : ℕ} → (n ≡ 1 → ⊥) → found ≡ getTypeBindings types (part s n) ty → b ≡ absent → needed found ≡ argBindings types i (argOf ty b) sub
-    arg-free h f g = rw (e, f) (free types i ty b (part s n) (not-exist s n h) (no-binding b g))
+    pub arg-free : {found : ℕ} → isExist p ≡ false → found ≡ getTypeBindings types p ty → b ≡ absent → needed found ≡ argBindings types i (argOf ty b) sub
+    arg-free h f g = rw (e, f) (free types i ty b p h (no-binding b g))
 
-    pub arg-part : (n ≡ 1 → ⊥) → (b ≡ absent → ⊥) → 0 < n → asserts i ≡ argBindings types i (argOf ty b) sub
-    arg-part h g l = rw e (bound types i ty b (part s n) (not-exist s n h) (not-all s n (omega arith)) (present b g))
+    pub arg-all : {own found : ℕ} → isAll p ≡ true → found ≡ getTypeBindings types p ty → own ≡ ownBinding (optionOf b) → needed (bitOr own found) ≡ argBindings types i (argOf ty b) sub
+    arg-all h f g = rw (e, f, g) (wholly types i ty b p h)
 
-    pub arg-all : {own found : ℕ} → n ≤ 0 → found ≡ getTypeBindings types (part s n) ty → own ≡ ownBinding (optionOf b) → needed (bitOr own found) ≡ argBindings types i (argOf ty b) sub
-    arg-all h f g = let z : n ≡ 0 = omega arith in rw (e, f, g, z, part-0 s) (unfold argBindings in refl)
+    pub arg-part : isExist p ≡ false → (b ≡ absent → ⊥) → isAll p ≡ false → asserts i ≡ argBindings types i (argOf ty b) sub
+    arg-part h g l = rw e (bound types i ty b p h l (present b g))
 
 -- the arguments from i on
 pub record ArgsLeft (types : List TypeInner) (args : PartReq) (arguments : List ℕ) (i : ℕ) (r : Needed) : Type 0 where

@@ -23,7 +23,7 @@ use Rattle.bindings.specs.declared.outputs.Asking.{Asking}
 use Rattle.bindings_request.specs.Boundary.{Tables, Lent, written, outputBytes, Gave}
 use Rattle.bindings_request.specs.Listed.{SetIs}
 use Rattle.bindings_request.specs.declared.listed.Set.{Set}
-use Rattle.bindings_request.specs.declared.listed.Set.the-variants.{Above, Of}
+use Rattle.bindings_request.specs.declared.listed.Set.the-variants.{Malformed, Of}
 use Rattle.bindings_request.specs.declared.answer.Bytes.{Bytes}
 use Rattle.bindings_request.specs.declared.answer.Bytes.the-variants.{Refused}
 use Rattle.bindings_request.proofs.Modules.{of-function, rows-sized, rows-bound, rows-few, result-bound}
@@ -31,9 +31,9 @@ use Rattle.bindings_request.proofs.Answers.{gave-refused}
 use Rattle.bindings_request.proofs.Adding.{result-by}
 
 module _ (bytes t bs : List ℕ) (room f : ℕ) where
-  pub output-above : {o : List ℕ} {r : Set} → SetIs bs r → r ≡ Above → Gave o o (outputBytes (moduleOf bytes t) room f bs) (Refused 12)
+  pub output-malformed : {o : List ℕ} {r : Set} → SetIs bs r → r ≡ Malformed → Gave o o (outputBytes (moduleOf bytes t) room f bs) (Refused 12)
   unfolding outputBytes
-  output-above {r = r} S e = let z : areBindings bs ≡ false = subst (SetIs bs) e S in gave-refused (rw z)
+  output-malformed {r = r} S e = let z : areBindings bs ≡ false = subst (SetIs bs) e S in gave-refused (rw z)
 
   module _ {r : Set} {s : ℕ} (S : SetIs bs r) (e : r ≡ Of s) {functions : ℕ} (F : functions ≡ length (moduleOf bytes t .functions)) where
     set-is : (areBindings bs ≡ true) × (s ≡ setOf bs)

@@ -16,8 +16,8 @@ use Rattle.request.specs.Context.{readLists, readContextBody, contextOf, knownC
 use Rattle.request.specs.Request.{readBody, requestOf, allBelow, known, judge, writeBody, writeRequest}
 use Rattle.bindings.specs.Bindings.{ownBinding, setOf, listBelow}
 use Rattle.bindings.specs.TypeBindings.{memberBindings, membersBindings, innerBindings, stepBindings, getTypeBindings, fromBinding, withEntry, membersFrom, unlessEmpty, innerFrom, stepFrom, fromTypeBindings}
-use Rattle.bindings.specs.ContextBindings.{boundPart, argBindings, both as bothNeeded, argsBindings, inputToBindings, listed, inputList, returned, resultFrom, outputFromBindings, addBinding, refused, refusedAt, accepted, ofFunction, asRequest, areBindings, outputRequest, addRequest}
-use Rattle.bindings_request.specs.Inputs.{inputsOf, inputFor, inputBytes}
+use Rattle.bindings.specs.ContextBindings.{boundPart, argBindings, both as bothNeeded, argsBindings, inputToBindings, listed, inputList, returned, resultFrom, outputFromBindings, addBinding, refused, refusedAt, accepted, ofFunction, asRequest, bindingAfter, areBindings, outputRequest, addRequest}
+use Rattle.bindings_request.specs.Inputs.{withinPieces, inputsOf, inputFor, inputBytes}
 use Rattle.bindings_request.specs.Boundary.{ownNumber, onRead, written, addBytes, outputBytes}
 
 abbrev taking : Option ℕ → Function
@@ -53,7 +53,7 @@ both = 82 ∷ 81 ∷ 16 ∷ 0 ∷ 0 ∷ 0 ∷ 2 ∷ 0 ∷ 2 ∷ 0 ∷ 0 ∷ 0 �
 
 -- the built-in is asked for
 asks-second : outputBytes model 65536 0 (33 ∷ []) ≡ accepted second
-unfolding outputBytes written outputRequest areBindings setOf ofFunction outputFromBindings resultFrom fromBinding fromTypeBindings knot tie stepFrom innerFrom membersFrom withEntry unlessEmpty returned asRequest over depth width entries pieces writeRequest writeBody writeReturn writePart withCode writeEntries writeVariables bytesOf
+unfolding outputBytes written outputRequest areBindings bindingAfter setOf ofFunction outputFromBindings resultFrom fromBinding fromTypeBindings knot tie stepFrom innerFrom membersFrom withEntry unlessEmpty returned asRequest over depth width entries pieces writeRequest writeBody writeReturn writePart withCode writeEntries writeVariables bytesOf
 asks-second = refl
 
 -- and then the location too
@@ -71,8 +71,17 @@ unfolding addBytes onRead ownNumber requestOf framed fieldAt fields readBody rea
 short = refl
 
 no-function : outputBytes model 65536 2 (33 ∷ []) ≡ refused 11
-unfolding outputBytes areBindings
+unfolding outputBytes areBindings bindingAfter
 no-function = refl
+
+-- a list that falls, one with a binding twice
+falls : outputBytes model 65536 0 (9 ∷ 7 ∷ []) ≡ refused 12
+unfolding outputBytes areBindings bindingAfter
+falls = refl
+
+twice : outputBytes model 65536 0 (7 ∷ 7 ∷ []) ≡ refused 12
+unfolding outputBytes areBindings bindingAfter
+twice = refl
 
 -- contexts that need argument 0 whole, and its entry 0 alone
 abbrev whole-argument : List ℕ
@@ -82,19 +91,19 @@ abbrev part-argument : List ℕ
 part-argument = 67 ∷ 88 ∷ 18 ∷ 0 ∷ 0 ∷ 0 ∷ 3 ∷ 0 ∷ 0 ∷ 0 ∷ 1 ∷ 0 ∷ 0 ∷ 0 ∷ 2 ∷ 0 ∷ 1 ∷ 0 ∷ 0 ∷ 0 ∷ 0 ∷ 0 ∷ 0 ∷ 0 ∷ []
 
 lists-both : inputBytes model 64 0 whole-argument ≡ accepted (0 ∷ 33 ∷ [])
-unfolding inputBytes inputFor contextOf framed wordAt fieldAt fields readContextBody readLists readReturn readVariables readEntries readPart readLevel byCode whole asked knownContext allBelow inputsOf inputList listed ofFunction inputToBindings argsBindings bothNeeded argBindings boundPart ownBinding getTypeBindings stepBindings innerBindings membersBindings memberBindings getSubpart knot tie listBelow
+unfolding inputBytes inputFor contextOf framed wordAt fieldAt fields readContextBody readLists readReturn readVariables readEntries readPart readLevel byCode whole asked knownContext allBelow inputsOf withinPieces pieces entries inputList listed ofFunction inputToBindings argsBindings bothNeeded argBindings boundPart ownBinding getTypeBindings stepBindings innerBindings membersBindings memberBindings getSubpart knot tie listBelow
 lists-both = refl
 
 lists-first : inputBytes model 64 0 part-argument ≡ accepted (0 ∷ [])
-unfolding inputBytes inputFor contextOf framed wordAt fieldAt fields readContextBody readLists readReturn readVariables readEntries readPart readLevel byCode whole asked knownContext allBelow inputsOf inputList listed ofFunction inputToBindings argsBindings bothNeeded argBindings boundPart ownBinding getTypeBindings stepBindings innerBindings membersBindings memberBindings getSubpart knot tie listBelow
+unfolding inputBytes inputFor contextOf framed wordAt fieldAt fields readContextBody readLists readReturn readVariables readEntries readPart readLevel byCode whole asked knownContext allBelow inputsOf withinPieces pieces entries inputList listed ofFunction inputToBindings argsBindings bothNeeded argBindings boundPart ownBinding getTypeBindings stepBindings innerBindings membersBindings memberBindings getSubpart knot tie listBelow
 lists-first = refl
 
 -- with its own binding
 lists-own : inputBytes model 64 1 whole-argument ≡ accepted (0 ∷ 5 ∷ 33 ∷ [])
-unfolding inputBytes inputFor contextOf framed wordAt fieldAt fields readContextBody readLists readReturn readVariables readEntries readPart readLevel byCode whole asked knownContext allBelow inputsOf inputList listed ofFunction inputToBindings argsBindings bothNeeded argBindings boundPart ownBinding getTypeBindings stepBindings innerBindings membersBindings memberBindings getSubpart knot tie listBelow
+unfolding inputBytes inputFor contextOf framed wordAt fieldAt fields readContextBody readLists readReturn readVariables readEntries readPart readLevel byCode whole asked knownContext allBelow inputsOf withinPieces pieces entries inputList listed ofFunction inputToBindings argsBindings bothNeeded argBindings boundPart ownBinding getTypeBindings stepBindings innerBindings membersBindings memberBindings getSubpart knot tie listBelow
 lists-own = refl
 
 -- what is bound and needed in part is the Rust's assertion, at argument 0
 asserted : inputBytes model 64 1 part-argument ≡ refusedAt 13 0
-unfolding inputBytes inputFor contextOf framed wordAt fieldAt fields readContextBody readLists readReturn readVariables readEntries readPart readLevel byCode whole asked knownContext allBelow inputsOf inputList listed ofFunction inputToBindings argsBindings bothNeeded argBindings boundPart ownBinding getTypeBindings stepBindings innerBindings membersBindings memberBindings getSubpart knot tie listBelow
+unfolding inputBytes inputFor contextOf framed wordAt fieldAt fields readContextBody readLists readReturn readVariables readEntries readPart readLevel byCode whole asked knownContext allBelow inputsOf withinPieces pieces entries inputList listed ofFunction inputToBindings argsBindings bothNeeded argBindings boundPart ownBinding getTypeBindings stepBindings innerBindings membersBindings memberBindings getSubpart knot tie listBelow
 asserted = refl

@@ -4,5 +4,7 @@ pub mod Adding
 pub mod Sets
 pub mod Asking
 pub mod Pairs
+pub mod Walking
+pub mod Arguments
 pub mod Needing
 pub mod Examples

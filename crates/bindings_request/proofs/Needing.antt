@@ -1,4 +1,4 @@
--- The bindings list of a context's bytes: what reading the context answers, and then what the store's function finds.
+-- The bindings list of a context's bytes: what checking the context answers, and then what is found in it.
 use Prim.Native.Nat.{ℕ, zero, suc, _+_, _*_, _≤_, _<_}
 use native.Mathlib.Omega.{arith}
 use mathlib.Core.Path.{_≡_, refl, sym, ap, subst, _∙_}
@@ -8,32 +8,31 @@ use mathlib.Core.Option.{Option, some, none as nothing}
 use lib.ListN.{length, drop, length-append}
 use lib.Seq.{sets, sets-eq}
 use borrow.Author.Tests.{lt-ltb, le-ltb}
-use Rattle.part.specs.StoreLimits.{cellWords, tableWords}
-use Rattle.part.specs.Store.{top, Good}
+use Rattle.field.specs.Limits.{maxPieces}
 use Rattle.module.specs.Module.{Function, Module}
 use Rattle.module.specs.Operands.{bindings}
 use Rattle.module.specs.Tables.{functionOf, moduleOf}
 use Rattle.access.proofs.Access.{function-is}
 use Rattle.context.specs.Types.{typesOf}
-use Rattle.context.specs.RequiredContext.{RequiredContext}
+use Rattle.context.specs.RequiredContext.{RequiredContext, pieces}
 use Rattle.request.specs.Fields as reading
-use Rattle.request.specs.Context.{contextOf, knownContext, judgeContext}
-use Rattle.context.specs.Contexts.{contextOf as heldContext, HasContext}
-use Rattle.context.specs.declared.required_context.RequiredContext.{RequiredContext as Pieces}
-use Rattle.request.specs.Answers.{Limits, contextAnswer, ContextHeld, ContextWasRead}
-use Rattle.request.specs.declared.contexts.ContextAnswer.{ContextAnswer}
-use Rattle.request.specs.declared.contexts.ContextAnswer.the-variants.{Malformed, NoSuch, Accepted}
+use Rattle.request.specs.Context.{contextOf, knownContext, judgeContext, readContext}
+use Rattle.context_bytes.specs.Checked.{statusOf}
+use Rattle.context_bytes.specs.Counted.{PiecesCounted}
+use Rattle.context_bytes.specs.Found.{listAt, ListAt, ArgsAt}
+use Rattle.context_bytes.proofs.Found.{list-there}
+use Rattle.context_bytes.proofs.Status.{Known, status-known, status-refused}
 use Rattle.bindings.specs.Bindings.{contains, listBelow, listOf}
 use Rattle.bindings.specs.Rows.{argsOf}
-use Rattle.bindings.specs.Inputs.{neededOf}
-use Rattle.bindings.specs.ContextBindings.{argsBindings, inputToBindings, Answer, refused, listed, inputList}
-use Rattle.bindings.specs.declared.inputs.Needed.{Needed}
-use Rattle.bindings.specs.declared.inputs.Needed.the-variants.{Bindings as Got, Asserts}
+use Rattle.bindings.specs.ContextBindings.{argsBindings, inputToBindings, Answer, refused, accepted, listed, inputList}
+use Rattle.bindings_request.specs.declared.needed.Needed.{Needed}
+use Rattle.bindings_request.specs.declared.needed.Needed.the-variants.{Bindings as Got, Asserts}
 use Rattle.bindings_request.specs.Boundary.{Tables, told, left, Gave}
-use Rattle.bindings_request.specs.Inputs.{LentContext, inputsOf, withoutFunction, inputFor, inputBytes}
+use Rattle.bindings_request.specs.Inputs.{withinPieces, inputsOf, withoutFunction, inputFor, inputBytes, Accepts, ListGiven}
+use Rattle.bindings_request.specs.Walks.{neededOf}
 use Rattle.bindings_request.specs.declared.answer.Bytes.{Bytes}
 use Rattle.bindings_request.specs.declared.answer.Bytes.the-variants.{Refused, RefusedAt, Written}
-use Rattle.bindings_request.proofs.Modules.{of-function, of-past, globals-few, arguments-few, locals-few}
+use Rattle.bindings_request.proofs.Modules.{of-function, of-past}
 use Rattle.bindings_request.proofs.Answers.{gave-refused}
 
 -- stores from the first place on
@@ -49,59 +48,41 @@ unfolding listBelow
 below-short zero s = omega arith
 below-short (suc n) s = one-more (contains s n) (listBelow n s) n n (below-short n s)
 
--- the list of a context of one function
-pub needing-short : (m : Module) {room : ℕ} (f : ℕ) (c : RequiredContext) {o : List ℕ} → room < bindings → Gave o o (inputsOf m room f c) (Refused 20)
-unfolding inputsOf
-needing-short m f c h = gave-refused (rw (lt-ltb _ bindings h))
+-- the list, by how many pieces the context has
+module _ (b : List ℕ) (s : ℕ) {k : ℕ} (C : PiecesCounted b k) where
+  pub given-many : {o : List ℕ} → maxPieces < k → ListGiven b s o o (Refused 16)
+  unfolding withinPieces
+  given-many h = record { is = λ c e. gave-refused (rw (← C .is c e, lt-ltb maxPieces k h)) }
 
-module _ {bytes t types : List ℕ} (T : Tables bytes t types) {room f : ℕ} (low : f < length (moduleOf bytes t .functions)) (c : RequiredContext) (pairs : List ℕ) (P : argsOf pairs ≡ functionOf bytes t f .arguments) (n : Needed) (N : neededOf n ≡ argsBindings (typesOf types) (c .args) 0 (argsOf pairs)) (long : bindings ≤ room) where
-  inputs-are : inputsOf (moduleOf bytes t) room f c ≡ listed (neededOf n)
-  unfolding inputsOf inputList inputToBindings
-  inputs-are =
-      rw (le-ltb room bindings long, of-function (moduleOf bytes t .functions) f (functionOf bytes t f) (λ x. listed (argsBindings (moduleOf bytes t .types) (c .args) 0 (x .arguments))) low, function-is bytes t f (functionOf bytes t f) low, N, T .rows, P)
+  within-is : (c : RequiredContext) → contextOf b ≡ some c → k ≤ maxPieces → withinPieces c (accepted (listOf s)) ≡ accepted (listOf s)
+  unfolding withinPieces
+  within-is c e h = rw (← C .is c e, le-ltb maxPieces k h)
 
-  pub needing-asserts : {o : List ℕ} {i : ℕ} → n ≡ Asserts i → Gave o o (inputsOf (moduleOf bytes t) room f c) (RefusedAt 13 i)
-  unfolding listed told left
-  needing-asserts e = rw (inputs-are, e) (record { is = refl; out = refl })
-
-  pub needing-list : {o p : List ℕ} {s r : ℕ} → n ≡ Got s → bindings ≤ length o → (r ≡ length (listOf s)) × (p ≡ listOf s ++ drop (length (listOf s)) o) → Gave o p (inputsOf (moduleOf bytes t) room f c) (Written r)
-  unfolding listed told left
-  needing-list {o} {p} {s} e fits w =
-      rw (inputs-are, e) (record { is = rw (w .0); out = w .1 ∙ sym (front (listOf s) o (omega (arith, below-short bindings s))) })
+  pub given-list : {o p : List ℕ} {r : ℕ} → k ≤ maxPieces → bindings ≤ length o → (r ≡ length (listOf s)) × (p ≡ listOf s ++ drop (length (listOf s)) o) → ListGiven b s o p (Written r)
+  unfolding told left
+  given-list {o} {p} h fits w =
+      record {
+        is =
+            λ c e.
+            rw (within-is c e h) (record { is = rw (w .0); out = w .1 ∙ sym (front (listOf s) o (omega (arith, below-short bindings s))) });
+      }
 
 -- a context of no function
-never : {A : Type 0} → _≡_ {A = ℕ} 0 1 → A
-never z = absurd (omega arith)
+known-not : (v : Bool) (c : RequiredContext) → 12 ≡ statusOf (cond v (reading.accepted c) (reading.refused 11)) → _≡_ {A = ℕ} 12 11
+unfolding statusOf
+known-not true c e = absurd (omega arith)
+known-not false c e = e
 
-twelve-not : (b : Bool) (c : RequiredContext) → reading.refused 12 ≡ cond b (reading.accepted c) (reading.refused 11) → _≡_ {A = ℕ} 12 11
-twelve-not true c e = never (cc)
-twelve-not false c e = cc
+withoutStatus : (o : Option RequiredContext) {n : ℕ} → n ≡ statusOf (judgeContext 0 0 0 o) → (n ≡ 12 → 12 ≡ withoutFunction o) × ((n ≡ 12 → ⊥) → 11 ≡ withoutFunction o)
+unfolding statusOf judgeContext withoutFunction
+withoutStatus nothing e = ((λ h. refl), λ h. absurd (h e))
+withoutStatus (some c) {n} e = ((λ h. known-not (knownContext 0 0 0 c) c (sym h ∙ e)), λ h. refl)
 
-module _ (g n l : ℕ) where
-  twelve : (o : Option RequiredContext) → reading.refused 12 ≡ judgeContext g n l o → 12 ≡ withoutFunction o
-  unfolding judgeContext withoutFunction
-  twelve nothing e = refl
-  twelve (some c) e = twelve-not (knownContext g n l c) c e
+pub without-malformed : (b : List ℕ) {n : ℕ} → n ≡ statusOf (judgeContext 0 0 0 (contextOf b)) → n ≡ 12 → 12 ≡ withoutFunction (contextOf b)
+without-malformed b e = withoutStatus (contextOf b) e .0
 
-  eleven : (o : Option RequiredContext) → reading.refused 11 ≡ judgeContext g n l o → 11 ≡ withoutFunction o
-  unfolding judgeContext withoutFunction
-  eleven nothing e = cc
-  eleven (some c) e = refl
-
-  eleven-known : (o : Option RequiredContext) {d : RequiredContext} → reading.accepted d ≡ judgeContext g n l o → 11 ≡ withoutFunction o
-  unfolding judgeContext withoutFunction
-  eleven-known nothing e = never (cc)
-  eleven-known (some c) e = refl
-
-module _ (b : List ℕ) {s u : List ℕ} {a : ContextAnswer} (A : ContextWasRead s u (judgeContext 0 0 0 (contextOf b)) a) where
-  pub without-malformed : a ≡ Malformed → 12 ≡ withoutFunction (contextOf b)
-  without-malformed e = twelve 0 0 0 (contextOf b) (sym (ap (contextAnswer u) e) ∙ A .is)
-
-  pub without-no-such : a ≡ NoSuch → 11 ≡ withoutFunction (contextOf b)
-  without-no-such e = eleven 0 0 0 (contextOf b) (sym (ap (contextAnswer u) e) ∙ A .is)
-
-  pub without-accepted : {c : Pieces} → a ≡ Accepted c → 11 ≡ withoutFunction (contextOf b)
-  without-accepted e = eleven-known 0 0 0 (contextOf b) (sym (ap (contextAnswer u) e) ∙ A .is)
+pub without-other : (b : List ℕ) {n : ℕ} → n ≡ statusOf (judgeContext 0 0 0 (contextOf b)) → (n ≡ 12 → ⊥) → 11 ≡ withoutFunction (contextOf b)
+without-other b e = withoutStatus (contextOf b) e .1
 
 past-is : (m : Module) (room f : ℕ) (o : Option RequiredContext) → length (m .functions) ≤ f → inputFor m room f o ≡ refused (withoutFunction o)
 unfolding inputFor withoutFunction
@@ -137,29 +118,49 @@ module _ {bytes t types : List ℕ} (T : Tables bytes t types) (room : ℕ) {f :
       rw (of-function (moduleOf bytes t .functions) f fn (λ x. cond (knownContext (length (moduleOf bytes t .globals)) (length (x .arguments)) (length (x .locals)) c) (inputsOf (moduleOf bytes t) room f c) (refused 11)) low, function-is bytes t f fn low)
       (on-cond (knownContext (length (moduleOf bytes t .globals)) (length (fn .arguments)) (length (fn .locals)) c) c list)
 
-  module _ {s : List ℕ} (b : List ℕ) {g n l : ℕ} (G : g ≡ length (moduleOf bytes t .globals)) (N : n ≡ length (fn .arguments)) (L : l ≡ length (fn .locals)) where
-    pub context-asks : {cells : List ℕ} → LentContext cells b → Good s → top s ≡ 3 → length s ≡ length cells → Good s × (Limits g n l × (cellWords * top s + tableWords + 2 * length b ≤ length s + 2 * 0))
-    context-asks X h th lh =
-        let big = X .room in
-        (h, (record { globals-fit = omega (arith, globals-few T); args-fit = omega (arith, arguments-few T f low); locals-fit = omega (arith, locals-few T f low) }, omega arith))
+  module _ (b : List ℕ) where
+    -- what checking answers
+    module _ {g n l status : ℕ} (G : g ≡ length (moduleOf bytes t .globals)) (N : n ≡ length (fn .arguments)) (L : l ≡ length (fn .locals)) (S : status ≡ statusOf (judgeContext g n l (contextOf b))) where
+      status-is : status ≡ statusOf (readContext (moduleOf bytes t) fn b)
+      status-is = S ∙ rw (G, N, L)
 
-    module _ {u : List ℕ} {a : ContextAnswer} (A : ContextWasRead s u (judgeContext g n l (contextOf b)) a) where
-      on-answer : inputBytes (moduleOf bytes t) room f b ≡ onContext (contextAnswer u a) list
-      unfolding inputBytes
-      on-answer = there-is (contextOf b) ∙ rw (← G, ← N, ← L, A .is)
+      pub needing-refused : {o : List ℕ} → 0 < status → Gave o o (inputBytes (moduleOf bytes t) room f b) (Refused status)
+      unfolding inputBytes onContext
+      needing-refused h = gave-refused (there-is (contextOf b) ∙ rw (status-refused (readContext (moduleOf bytes t) fn b) h status-is))
 
-      pub needing-malformed : {o : List ℕ} → a ≡ Malformed → Gave o o (inputBytes (moduleOf bytes t) room f b) (Refused 12)
-      unfolding onContext
-      needing-malformed e = gave-refused (on-answer ∙ rw e)
+      pub needing-accepts : status ≤ 0 → Accepts (moduleOf bytes t) fn b
+      needing-accepts h = let z : 0 ≡ status = omega arith in record { is = z ∙ status-is }
 
-      pub needing-no-such : {o : List ℕ} → a ≡ NoSuch → Gave o o (inputBytes (moduleOf bytes t) room f b) (Refused 11)
-      unfolding onContext
-      needing-no-such e = gave-refused (on-answer ∙ rw e)
+    -- what is found in a context that is accepted
+    module _ (A : Accepts (moduleOf bytes t) fn b) where
+      the-context : Known (length (moduleOf bytes t .globals)) (length (fn .arguments)) (length (fn .locals)) (contextOf b)
+      the-context = status-known _ _ _ (contextOf b) (A .is)
 
-      module _ {c : Pieces} (e : a ≡ Accepted c) where
-        pub needing-held : Good u × HasContext u c
-        needing-held = (A .kept .good, subst (ContextHeld u) e (A .held))
+      inputs-of : inputBytes (moduleOf bytes t) room f b ≡ inputsOf (moduleOf bytes t) room f (the-context .context)
+      unfolding inputBytes onContext
+      inputs-of = there-is (contextOf b) ∙ rw (the-context .judged)
 
-        pub needing-went : {o p : List ℕ} {r : Bytes} → Gave o p (inputsOf (moduleOf bytes t) room f (heldContext u c)) r → Gave o p (inputBytes (moduleOf bytes t) room f b) r
-        unfolding onContext
-        needing-went w = rw (on-answer, e) w
+      pub needing-short : {o : List ℕ} → room < bindings → Gave o o (inputBytes (moduleOf bytes t) room f b) (Refused 20)
+      needing-short h = gave-refused (inputs-of ∙ (unfold inputsOf in (rw (lt-ltb _ bindings h))))
+
+      module _ {at : ℕ} (a : ArgsAt b at) where
+        pub needing-args : ListAt b at (listAt b at)
+        needing-args = list-there (a .is (the-context .context) (the-context .is)) .0
+
+        args-are : listAt b at ≡ the-context .context .args
+        args-are = list-there (a .is (the-context .context) (the-context .is)) .1
+
+        module _ (pairs : List ℕ) (P : argsOf pairs ≡ fn .arguments) (n : Needed) (N : neededOf n ≡ argsBindings (typesOf types) (listAt b at) 0 (argsOf pairs)) (long : bindings ≤ room) where
+          inputs-are : inputBytes (moduleOf bytes t) room f b ≡ withinPieces (the-context .context) (listed (neededOf n))
+          unfolding inputsOf inputList inputToBindings
+          inputs-are =
+              inputs-of
+              ∙ rw (le-ltb room bindings long, of-function (moduleOf bytes t .functions) f fn (λ x. listed (argsBindings (moduleOf bytes t .types) (the-context .context .args) 0 (x .arguments))) low, function-is bytes t f fn low, N, args-are, T .rows, P)
+
+          pub needing-asserts : {o : List ℕ} {i : ℕ} → n ≡ Asserts i → Gave o o (inputBytes (moduleOf bytes t) room f b) (RefusedAt 13 i)
+          unfolding listed withinPieces told left
+          needing-asserts e = rw (inputs-are, e) (record { is = refl; out = refl })
+
+          pub needing-given : {o p : List ℕ} {s : ℕ} {r : Bytes} → n ≡ Got s → ListGiven b s o p r → Gave o p (inputBytes (moduleOf bytes t) room f b) r
+          unfolding listed
+          needing-given e w = rw (inputs-are, e) (w .is (the-context .context) (the-context .is))

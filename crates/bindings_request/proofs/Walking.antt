@@ -13,24 +13,22 @@ use lib.ListN.{length, getD, take, drop, set, drop-of-length-le, List·getD-appe
 use lib.Seq.{drop-cons, set-at}
 use borrow.Author.Tests.{le-ltb}
 use Rattle.part.specs.PartReq.{PartReq, all, exist, none, more, isAll, isExist, Subpart, gone, there, getSubpart}
-use Rattle.part.specs.Store.{part, top}
-use Rattle.part.specs.Found.{Got}
-use Rattle.part.proofs.Pieces.{part-0, part-1, not-all, not-exist}
 use Rattle.module.specs.Module.{TypeHandle, Member, TypeInner, Opaque}
 use Rattle.module.specs.Knot.{knot, below}
 use Rattle.module.specs.Decode.{optionOf}
 use Rattle.module.proofs.Knot.{knot-is, below-lt}
 use Rattle.context.specs.Types.{typeKind, typesOf, typeWord, typeCount, rowType}
 use Rattle.bindings.specs.Bindings.{Bindings, empty, union, ownBinding}
 use Rattle.bindings.specs.TypeBindings.{memberBindings, membersBindings, stepBindings}
 use Rattle.bindings.specs.Linear.{table, stepAll, allTable, stepWalk, walkBindings}
 use Rattle.bindings.specs.Rows.{rowMember, memberCount, membersOf, isBase, MemberIs}
-use Rattle.bindings.specs.Walks.{lower}
-use Rattle.part.specs.declared.req.Found.{Found}
-use Rattle.part.specs.declared.req.Found.the-variants.{Gone, There}
+use Rattle.bindings_request.specs.Walks.{lower}
 use Rattle.context.proofs.Types.{length-tab}
+use Rattle.request.specs.Fields.{fields}
+use Rattle.request.specs.Part.{byCode, readPart}
+use Rattle.context_bytes.specs.Found.{valueOf, partAt, Readable}
 use Rattle.bindings.proofs.Linear.{table-length, table-past, inner-all}
 use Rattle.bindings.proofs.Rows.{base-step, members-step, members-long, members-at}
 
 -- in a type that the type t names
 module _ (types : List TypeInner) (sets : List Bindings) (t u : ℕ) where
@@ -44,8 +42,11 @@ module _ (types : List TypeInner) (sets : List Bindings) (t u : ℕ) where
       ap (λ (g : PartReq → Bindings). g p)
       (below-lt (λ v q. walkBindings types sets q v) (λ q. empty) t u h ∙ knot-is (stepWalk types sets) (λ q. empty) u)
 
-  pub lower-all : (s : List ℕ) {n : ℕ} → u < t → n ≡ 0 → getD sets u 0 ≡ lower types sets t u (part s n)
-  lower-all s h e = rw (e, part-0 s) (sym (lower-is all h ∙ (unfold stepWalk in refl)))
+  pub lower-all : (p : PartReq) → u < t → isAll p ≡ true → getD sets u 0 ≡ lower types sets t u p
+  lower-all all h e = sym (lower-is all h ∙ (unfold stepWalk in refl))
+  lower-all exist h e = absurd (false≢true e)
+  lower-all none h e = absurd (false≢true e)
+  lower-all (more i p r) h e = absurd (false≢true e)
 
   step-other : (p : PartReq) → isAll p ≡ false → stepWalk types sets (lower types sets u) u p ≡ stepBindings types (lower types sets u) u p
   unfolding stepWalk
@@ -54,16 +55,8 @@ module _ (types : List TypeInner) (sets : List Bindings) (t u : ℕ) where
   step-other none h = refl
   step-other (more i p r) h = refl
 
-  pub lower-step : (s : List ℕ) {n : ℕ} → u < t → (n ≡ 0 → ⊥) → stepBindings types (lower types sets u) u (part s n) ≡ lower types sets t u (part s n)
-  lower-step s {n} h e = sym (lower-is (part s n) h ∙ step-other (part s n) (not-all s n e))
-
--- what `get` answered
-module _ (s : List ℕ) (sub : Subpart) (f : Found) (g : Got s sub f) where
-  pub got-gone : f ≡ Gone → sub ≡ gone
-  got-gone e = subst (Got s sub) e g
-
-  pub got-there : {n : ℕ} → f ≡ There n → (n < top s) × (sub ≡ there (part s n))
-  got-there e = subst (Got s sub) e g
+  pub lower-step : (p : PartReq) → u < t → isAll p ≡ false → stepBindings types (lower types sets u) u p ≡ lower types sets t u p
+  lower-step p h e = sym (lower-is p h ∙ step-other p e)
 
 -- in a member
 module _ (get : TypeHandle → PartReq → Bindings) (m : Member) where
@@ -71,9 +64,15 @@ module _ (get : TypeHandle → PartReq → Bindings) (m : Member) where
   unfolding memberBindings
   member-gone e = rw e
 
-  pub member-exist : (s : List ℕ) {n : ℕ} {sub : Subpart} → sub ≡ there (part s n) → n ≡ 1 → 0 ≡ memberBindings get m sub
+  exist-member : (p : PartReq) → isExist p ≡ true → 0 ≡ memberBindings get m (there p)
   unfolding memberBindings
-  member-exist s e h = rw (e, h, part-1 s)
+  exist-member all h = absurd (false≢true h)
+  exist-member exist h = refl
+  exist-member none h = absurd (false≢true h)
+  exist-member (more i p r) h = absurd (false≢true h)
+
+  pub member-exist : {p : PartReq} {sub : Subpart} → sub ≡ there p → isExist p ≡ true → 0 ≡ memberBindings get m sub
+  member-exist {p} e h = rw e (exist-member p h)
 
   needed-member : (p : PartReq) → isExist p ≡ false → bitOr (ownBinding (m .binding)) (get (m .type) p) ≡ memberBindings get m (there p)
   unfolding memberBindings
@@ -82,9 +81,9 @@ module _ (get : TypeHandle → PartReq → Bindings) (m : Member) where
   needed-member none h = refl
   needed-member (more i p r) h = refl
 
-pub member-needed : (get : TypeHandle → PartReq → Bindings) (s : List ℕ) {tbl : List ℕ} {t i n ty b own found : ℕ} {sub : Subpart} → sub ≡ there (part s n) → (n ≡ 1 → ⊥) → MemberIs tbl t i ty b → own ≡ ownBinding (optionOf b) → found ≡ get ty (part s n) → bitOr own found ≡ memberBindings get (rowMember tbl t i) sub
-member-needed get s {tbl} {t} {i} {n} e h M f g =
-    rw (e, f, g, M .binding-is, M .type-is) (needed-member get (rowMember tbl t i) (part s n) (not-exist s n h))
+pub member-needed : (get : TypeHandle → PartReq → Bindings) {tbl : List ℕ} {t i ty b own found : ℕ} {p : PartReq} {sub : Subpart} → sub ≡ there p → isExist p ≡ false → MemberIs tbl t i ty b → own ≡ ownBinding (optionOf b) → found ≡ get ty p → bitOr own found ≡ memberBindings get (rowMember tbl t i) sub
+member-needed get {tbl} {t} {i} {p = p} e h M f g =
+    rw (e, f, g, M .binding-is, M .type-is) (needed-member get (rowMember tbl t i) p h)
 
 -- in the members from the index i on
 pub record Left (get : TypeHandle → PartReq → Bindings) (tbl : List ℕ) (t : ℕ) (p : PartReq) (i r : ℕ) : Type 0 where
@@ -154,11 +153,11 @@ module _ (types : List TypeInner) (old : List Bindings) where
     unfolding stepBindings stepAll
     step-done = inner-all (lower types sets t) (getD types t Opaque) ∙ ap (λ (w : ℕ → ℕ). stepAll types w t) (fun-ext lower-done)
 
-    pub grown-more : (s : List ℕ) {r n : ℕ} → n ≡ 0 → t < length old → r ≡ stepBindings types (lower types sets t) t (part s n) → Grown types old (set sets t r) (t + 1)
-    grown-more s {r} {n} e h f =
+    pub grown-more : {r : ℕ} → t < length old → r ≡ stepBindings types (lower types sets t) t all → Grown types old (set sets t r) (t + 1)
+    grown-more {r} h f =
         let v = stepAll types (λ u. getD (done t) u empty) t in
         let rest = drop (suc t) old in
-        let new : r ≡ v = f ∙ rw (e, part-0 s) step-done in
+        let new : r ≡ v = f ∙ step-done in
         let here : sets ≡ done t ++ (getD old t 0 ∷ rest) = G .is ∙ (unfold done in (rw (drop-cons old t 0 h))) in
         let long : length (done t) ≡ t = unfold done in (table-length (stepAll types) empty t) in
         let last : done (suc t) ≡ done t ++ (v ∷ []) = unfold done table in refl in
@@ -174,3 +173,12 @@ module _ (types : List TypeInner) (old : List Bindings) where
         let many : length types ≡ typeCount tbl = rw e (unfold typesOf in (length-tab (rowType tbl) (typeCount tbl))) in
         let same : length types ≡ t = omega arith in
         G .is ∙ rw (drop-of-length-le old h) (append-nil (done t) ∙ rw same)
+
+-- the part of two bytes that are zero
+pub zeros-read : Readable (0 ∷ 0 ∷ []) 0 0
+unfolding valueOf readPart byCode fields
+zeros-read = record { inside = omega arith; rest = []; is = refl }
+
+pub zeros-all : partAt (0 ∷ 0 ∷ []) 0 0 ≡ all
+unfolding valueOf readPart byCode fields
+zeros-all = refl

@@ -1,3 +1,4 @@
 pub mod Boundary
 pub mod Listed
 pub mod Inputs
+pub mod Walks

@@ -33,7 +33,7 @@ fn add_to(
     types: &[u32],
     cells: &mut [u32],
     parts: &mut [u32],
-    f: u32,
+    f: FunctionHandle,
     retval: Optional,
     globals: u32,
     b: u32,
@@ -42,17 +42,17 @@ fn add_to(
     requires { ⌜ Tables (now bytes) (now t) (now types) ⌝ }
     requires { ⌜ Good (now cells) ⌝ }
     requires { ⌜ (length (now parts) ≡ typeCount (now types)) × Room (now cells) (1 + (outputCells (now parts) + maxPieces)) ⌝ }
-    requires { ⌜ (f < length (moduleOf (now bytes) (now t) .functions)) × (Held (now cells) retval × (globals < top (now cells))) ⌝ }
+    requires { ⌜ (f .0 < length (moduleOf (now bytes) (now t) .functions)) × (Held (now cells) retval × (globals < top (now cells))) ⌝ }
     requires { ⌜ (b < bindings) × (minReport ≤ length (now out)) ⌝ }
-    ensures { λ r. ⌜ Gave (now (out .entry)) (now (out .exit)) (written f (addRequest (moduleOf (now (bytes .entry)) (now (t .entry))) f b (requestContext (part (now (cells .entry)) globals) (asked (optional (now (cells .entry)) retval))))) r ⌝ }
+    ensures { λ r. ⌜ Gave (now (out .entry)) (now (out .exit)) (written (f .0) (addRequest (moduleOf (now (bytes .entry)) (now (t .entry))) (f .0) b (requestContext (part (now (cells .entry)) globals) (asked (optional (now (cells .entry)) retval))))) r ⌝ }
 {
     let entry = returned(cells, retval);
-    let x = result(bytes, t, FunctionHandle(f));
+    let x = result(bytes, t, f);
     let a = add_binding(
         cells,
         types,
         b,
-        x.ty.0,
+        x.ty,
         x.binding as u32,
         parts,
         globals,
@@ -93,7 +93,7 @@ pub fn add_binding_bytes(
                 types,
                 cells,
                 parts,
-                q.function,
+                FunctionHandle(q.function),
                 o,
                 q.globals,
                 b,

@@ -3,4 +3,5 @@ pub mod add;
 pub mod answer;
 pub mod input;
 pub mod listed;
+pub mod needed;
 pub mod output;

@@ -1,12 +1,12 @@
-// A list of bindings as the set of them.
+// A list of bindings as the set of them: each is below the one after it, and the last below 64.
 ghost use mathlib.Core.Path.{_≡_};
 ghost use Rattle.bindings_request.specs.Listed.{SetIs};
 use bindings::set::BINDINGS;
 use bindings::set::own_binding;
 
-// A binding above 63; or the set.
+// The list does not ascend, or has a binding above 63; or the set.
 pub enum Set {
-    Above,
+    Malformed,
     Of(u64),
 }
 
@@ -21,14 +21,16 @@ pub fn set_of(list: &[u8]) -> Set
 {
     let mut i = list.len();
     let mut s: u64 = 0;
+    let mut after = BINDINGS;
     while 0 < i {
         i -= 1;
         let b = wide(list[i]);
-        if BINDINGS <= b {
-            return Set::Above;
+        if after <= b {
+            return Set::Malformed;
         }
         let own = own_binding(b);
         s = own | s;
+        after = b;
     }
     Set::Of(s)
 }

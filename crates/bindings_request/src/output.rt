@@ -42,6 +42,6 @@ pub fn output_from_bindings_bytes(
     }
     init(cells);
     let x = result(bytes, t, FunctionHandle(f));
-    let a = output_from_bindings(cells, types, s, x.ty.0, x.binding as u32, parts);
-    write_asking(cells, f, 2, a, out)
+    let a = output_from_bindings(cells, types, s, x.ty, x.binding as u32, parts);
+    write_asking(cells, FunctionHandle(f), 2, a, out)
 }

@@ -1,11 +1,8 @@
 -- The numbers that a caller gets, and what is left of the slice that it lends.
 use Prim.Native.Nat.{ℕ, _+_, _*_}
 use mathlib.Core.Path.{_≡_}
-use mathlib.Core.Bool.{cond}
 use mathlib.Core.List.{List}
-use lib.Dec.{ltb}
 use lib.ListN.{length}
-use Rattle.field.specs.Limits.{maxPieces}
 use Rattle.module.specs.Module.{Binding, FunctionHandle, Module}
 use Rattle.module.specs.File.{Answer, accepted, refused, readModule}
 use Rattle.bindings.specs.ContextBindings as bindings
@@ -53,13 +50,6 @@ outputAnswer bytes room f list = ofModule (readModule bytes) (λ m. outputBytes 
 abbrev pub addAnswer : (bytes : List ℕ) (room : ℕ) → Binding → (request : List ℕ) → bindings.Answer (List ℕ)
 addAnswer bytes room b request = ofModule (readModule bytes) (λ m. addBytes m room b request)
 
--- the longest record of a context that is within a walk's pieces (request's `context-long`)
-abbrev pub maxContext : ℕ
-maxContext = 14 + 6 * maxPieces
-
--- `input_to_bindings` of the function f: a longer context is 12
-unfoldable pub contextBytes : Module → (room : ℕ) → FunctionHandle → (context : List ℕ) → bindings.Answer (List ℕ)
-contextBytes m room f context = cond (ltb maxContext (length context)) (bindings.refused 12) (inputBytes m room f context)
-
+-- `input_to_bindings` of the function f
 abbrev pub inputAnswer : (bytes : List ℕ) (room : ℕ) → FunctionHandle → (context : List ℕ) → bindings.Answer (List ℕ)
-inputAnswer bytes room f context = ofModule (readModule bytes) (λ m. contextBytes m room f context)
+inputAnswer bytes room f context = ofModule (readModule bytes) (λ m. inputBytes m room f context)

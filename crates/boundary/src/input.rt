@@ -1,37 +1,27 @@
 // `input_to_bindings` on a module file and a context.
 ghost use mathlib.Core.Path.{_≡_};
-ghost use Prim.Native.Nat.{_+_, _*_, _≤_};
+ghost use Prim.Native.Nat.{_*_, _≤_};
 ghost use lib.ListN.{length};
 ghost use Rattle.field.specs.Limits.{maxArguments, maxTypes};
-ghost use Rattle.part.specs.StoreLimits.{cellWords, storeWords, tableWords};
 ghost use Rattle.module.specs.File.{accepted, readModule};
 ghost use Rattle.module.specs.Scan.{values};
 ghost use Rattle.module.specs.Tables.{words, maxItems, moduleOf};
 ghost use Rattle.context.specs.Types.{typeWords};
-ghost use Rattle.bindings_request.specs.Inputs.{LentContext, inputBytes};
-ghost use Rattle.boundary.specs.Answers.{maxContext, Answers, inputAnswer};
+ghost use Rattle.bindings_request.specs.Inputs.{inputBytes};
+ghost use Rattle.boundary.specs.Answers.{Answers, inputAnswer};
 use crate::answer::word_of;
 use access::whole::types;
 use bindings_request::answer::Bytes;
 use bindings_request::input::input_to_bindings_bytes;
 use context::remove::TYPE_WORDS;
-use field::limits::MAX_PIECES;
-use part::limits::CELL_WORDS;
-use part::limits::TABLE_WORDS;
 use reading::read::read;
 use type_table::fill;
-
-// The longest record of a context that is within a walk's pieces, and the words of a store for it.
-pub const MAX_CONTEXT: usize = 14 + 6 * MAX_PIECES;
-
-pub const INPUT_WORDS: usize = CELL_WORDS * 3 + TABLE_WORDS + 2 * MAX_CONTEXT;
 
 // Of a module that was read, with a row and a set for each type.
 fn input_of(
     bytes: &[u8],
     t: &[u32],
     table: &mut [u32],
-    cells: &mut [u32],
     sets: &mut [u64],
     pairs: &mut [u32],
     f: u32,
@@ -41,11 +31,10 @@ fn input_of(
     requires { ⌜ readModule (now bytes) ≡ accepted (moduleOf (now bytes) (now t)) ⌝ }
     requires { ⌜ length (now table) ≡ typeWords * length (moduleOf (now bytes) (now t) .types) ⌝ }
     requires { ⌜ (length (now sets) ≡ length (moduleOf (now bytes) (now t) .types)) × (2 * maxArguments ≤ length (now pairs)) ⌝ }
-    requires { ⌜ LentContext (now cells) (now context) ⌝ }
     ensures { λ r. ⌜ Answers (now (out .entry)) (now (out .exit)) (inputBytes (moduleOf (now (bytes .entry)) (now (t .entry))) (length (now (out .entry))) f (now (context .entry))) r ⌝ }
 {
     fill(bytes, t, table);
-    let a = input_to_bindings_bytes(bytes, t, table, cells, sets, pairs, f, context, out);
+    let a = input_to_bindings_bytes(bytes, t, table, sets, pairs, f, context, out);
     word_of(a)
 }
 
@@ -56,7 +45,6 @@ pub fn input_in(
     seen: &mut [u32],
     held: &mut [u32],
     table: &mut [u32],
-    cells: &mut [u32],
     sets: &mut [u64],
     pairs: &mut [u32],
     f: u32,
@@ -65,15 +53,11 @@ pub fn input_in(
 ) -> u64
     requires { ⌜ (words ≤ length (now t)) × ((values ≤ length (now seen)) × (maxItems ≤ length (now held))) ⌝ }
     requires { ⌜ (typeWords * maxTypes ≤ length (now table)) × ((maxTypes ≤ length (now sets)) × (2 * maxArguments ≤ length (now pairs))) ⌝ }
-    requires { ⌜ (length (now cells) ≤ storeWords) × (cellWords * 3 + tableWords + 2 * maxContext ≤ length (now cells)) ⌝ }
     ensures { λ r. ⌜ Answers (now (out .entry)) (now (out .exit)) (inputAnswer (now (bytes .entry)) (length (now (out .entry))) f (now (context .entry))) r ⌝ }
 {
     let refusal = read(bytes, t, seen, held);
     if 0 < refusal {
         return word_of(Bytes::Refused(refusal));
-    }
-    if MAX_CONTEXT < context.len() {
-        return word_of(Bytes::Refused(12));
     }
     let n = types(t) as usize;
     let e = TYPE_WORDS * n;
@@ -81,7 +65,6 @@ pub fn input_in(
         bytes,
         t,
         &mut table[0..e],
-        cells,
         &mut sets[0..n],
         pairs,
         f,

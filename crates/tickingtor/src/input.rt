@@ -1,5 +1,4 @@
 // `input_to_bindings` on a module file and a context.
-use boundary::input::INPUT_WORDS;
 use boundary::input::input_in;
 use context::remove::TYPE_WORDS;
 use field::limits::MAX_ARGUMENTS;
@@ -24,7 +23,6 @@ pub extern "C" fn tickingtor_input_to_bindings(
     let mut seen: [u32; SEEN] = [0; SEEN];
     let mut held: [u32; HELD] = [0; HELD];
     let mut table: [u32; TYPE_WORDS * MAX_TYPES] = [0; TYPE_WORDS * MAX_TYPES];
-    let mut cells: [u32; INPUT_WORDS] = [0; INPUT_WORDS];
     let mut sets: [u64; MAX_TYPES] = [0; MAX_TYPES];
     let mut pairs: [u32; 2 * MAX_ARGUMENTS] = [0; 2 * MAX_ARGUMENTS];
     input_in(
@@ -33,7 +31,6 @@ pub extern "C" fn tickingtor_input_to_bindings(
         &mut seen,
         &mut held,
         &mut table,
-        &mut cells,
         &mut sets,
         &mut pairs,
         f,

@@ -25,14 +25,17 @@ returns-2 c = chosen-none _ _ _ _ _ (c .before .before .if1 .taken) (sym (c .bef
 returns-3 : tie.Need-returns-3
 returns-3 c = chosen-past _ _ _ _ _ (search needs) (c .if3 .taken)
 
+cast-at : tie.Need-cast-at
+cast-at c = search needs
+
 mul-result : tie.Need-mul-result
 mul-result c = search needs
 
 shared-slice-read-result : tie.Need-shared-slice-read-result
-shared-slice-read-result c = omega (arith, c .before .if3 .left, c .before .before .before .before .pre .1)
+shared-slice-read-result c = omega (arith, c .before .before .if3 .left, c .before .before .before .before .before .before .pre .1)
 
 returns-4 : tie.Need-returns-4
-returns-4 c = chosen-type _ _ _ _ _ (search needs) (omega (arith, c .before .if3 .left)) refl
+returns-4 c = chosen-type _ _ _ _ _ (search needs) (omega (arith, c .before .before .if3 .left)) refl
 
 pub from-binding-spec : {M : Type 1} → statement M
 from-binding-spec =
@@ -43,6 +46,7 @@ from-binding-spec =
     returns
     returns-2
     returns-3
+    cast-at
     mul-result
     shared-slice-read-result
     returns-4)

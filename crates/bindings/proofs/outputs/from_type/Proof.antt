@@ -13,7 +13,7 @@ use Rattle.bindings.proofs.types.member_count.Reads as member-count-rea
 use Rattle.part.proofs.store.make.Reads as make-reads
 
 abbrev Inv-loop : tie.InvT-loop
-Inv-loop cells₀ types parts required t i₀ r₀ cells i r = Making cells₀ cells types parts required t i r
+Inv-loop cells₀ types parts required t i₀ r₀ cells i r = Making cells₀ cells types parts required (t .0) i r
 
 abbrev μ-loop : tie.MeasureT-loop
 μ-loop cells₀ types parts required t i₀ r₀ cells i r = i

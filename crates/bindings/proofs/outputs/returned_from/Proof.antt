@@ -10,20 +10,17 @@ use Rattle.bindings.proofs.outputs.from_binding.Reads as from-binding-r
 use Rattle.bindings.proofs.outputs.from_table.Reads as from-table-reads
 use Rattle.part.proofs.store.make.Reads as make-reads
 
-cast-if1 : tie.Need-cast-if1
-cast-if1 c = search needs
-
 returns : tie.Need-returns
-returns c = no-result _ _ _ _ (c .before .before .before .before .pre .0) (c .if1 .taken)
+returns c = no-result _ _ _ _ (c .before .before .before .before .before .pre .0) (c .if1 .taken)
 
 from-table-requires : tie.Need-from-table-requires
-from-table-requires c κs = (c .before .before .before .before .before .before .pre .0, (c .before .before .before .before .before .before .pre .1 .0, (c .before .before .before .before .before .before .pre .1 .1 .0, (c .before .before .before .before .before .before .pre .1 .1 .1 .0 .0, (omega (arith, c .before .before .before .before .before .before .pre .1 .1 .1 .1 .1), c .before .before .before .before .before .before .pre .1 .1 .1 .0 .1)))))
+from-table-requires c κs = (c .before .before .before .before .before .before .before .pre .0, (c .before .before .before .before .before .before .before .pre .1 .0, (c .before .before .before .before .before .before .before .pre .1 .1 .0, (c .before .before .before .before .before .before .before .pre .1 .1 .1 .0 .0, (omega (arith, c .before .before .before .before .before .before .before .pre .1 .1 .1 .1 .1), c .before .before .before .before .before .before .before .pre .1 .1 .1 .0 .1)))))
 
 cast-from-binding : tie.Need-cast-from-binding
 cast-from-binding c = search needs
 
 from-binding-requires : tie.Need-from-binding-requires
-from-binding-requires c κs = (bound-result _ _ (c .before .before .before .before .before .before .before .before .if1 .left) (c .before .before .before .before .before .before .before .before .before .before .before .before .pre .1 .1 .1 .1 .0), search needs)
+from-binding-requires c κs = (bound-result _ _ (c .before .before .before .before .before .before .before .before .if1 .left) (c .before .before .before .before .before .before .before .before .before .before .before .before .before .pre .1 .1 .1 .1 .0), search needs)
 
 same-length : tie.Need-same-length
 same-length c = search needs
@@ -35,7 +32,7 @@ returns-2 : tie.Need-returns-2
 returns-2 c = entry-none _ _ (c .before .before .before .before .before .before .before .from-table .ensures) (c .before .from-binding .ensures) (search needs) (c .before .before .before .before .before .before .before .before .before .before .if1 .left) (search needs) (c .if2 .taken)
 
 make-requires : tie.Need-make-requires
-make-requires c κs = entry-asks _ _ (c .before .before .before .before .before .before .before .before .from-table .ensures) (c .before .before .from-binding .ensures) (search needs) (c .before .before .before .before .before .before .before .before .before .before .before .before .before .before .before .pre .1 .1 .1 .1 .1)
+make-requires c κs = entry-asks _ _ (c .before .before .before .before .before .before .before .before .from-table .ensures) (c .before .before .from-binding .ensures) (search needs) (c .before .before .before .before .before .before .before .before .before .before .before .before .before .before .before .before .pre .1 .1 .1 .1 .1)
 
 same-length-3 : tie.Need-same-length-3
 same-length-3 c = search needs
@@ -50,7 +47,6 @@ pub returned-from-spec : {M : Type 1} → statement M
 returned-from-spec =
     tie.close
     (tie.spec
-    cast-if1
     returns
     from-table-requires
     cast-from-binding

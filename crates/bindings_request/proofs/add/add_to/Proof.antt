@@ -19,14 +19,11 @@ result-requires c κs = search needs
 cast-add-binding : tie.Need-cast-add-binding
 cast-add-binding c = search needs
 
-cast-add-binding-2 : tie.Need-cast-add-binding-2
-cast-add-binding-2 c = search needs
-
 add-binding-requires : tie.Need-add-binding-requires
-add-binding-requires c κs = add-asks (c .before .before .before .before .before .before .before .before .before .before .before .before .before .before .before .pre .0) (c .before .before .before .before .before .before .before .before .before .before .before .before .before .before .before .pre .1 .1 .1 .0 .0) (c .before .before .before .before .before .before .before .before .before .before .before .before .before .before .before .pre .1 .1 .1 .1 .0) (c .before .before .before .before .result .result) (c .before .before .before .before .result .ensures) (c .before .before .before .before .before .before .before .before .before .before .before .before .before .before .before .args .retval) (c .before .before .before .before .before .before .before .returned .ensures) (c .before .before .before .before .before .before .before .before .before .before .before .before .before .before .before .pre .1 .1 .1 .0 .1 .1) (c .before .before .before .before .before .before .before .before .before .before .before .before .before .before .before .args .parts .now) (c .before .before .before .before .before .before .before .before .before .before .before .before .before .before .before .pre .1 .1 .0 .0) (c .before .before .before .before .before .before .before .before .before .before .before .before .before .before .before .pre .1 .1 .0 .1)
+add-binding-requires c κs = add-asks (c .before .before .before .before .before .before .before .before .before .before .before .before .before .before .pre .0) (c .before .before .before .before .before .before .before .before .before .before .before .before .before .before .pre .1 .1 .1 .0 .0) (c .before .before .before .before .before .before .before .before .before .before .before .before .before .before .pre .1 .1 .1 .1 .0) (c .before .before .before .result .result) (c .before .before .before .result .ensures) (c .before .before .before .before .before .before .before .before .before .before .before .before .before .before .args .retval) (c .before .before .before .before .before .before .returned .ensures) (c .before .before .before .before .before .before .before .before .before .before .before .before .before .before .pre .1 .1 .1 .0 .1 .1) (c .before .before .before .before .before .before .before .before .before .before .before .before .before .before .args .parts .now) (c .before .before .before .before .before .before .before .before .before .before .before .before .before .before .pre .1 .1 .0 .0) (c .before .before .before .before .before .before .before .before .before .before .before .before .before .before .pre .1 .1 .0 .1)
 
 write-asking-requires : tie.Need-write-asking-requires
-write-asking-requires c κs = write-asks (c .before .before .before .before .before .before .before .before .before .before .before .before .before .before .before .before .before .before .before .before .before .before .pre .0) (c .before .before .before .before .before .before .before .before .before .before .before .before .before .before .before .before .before .before .before .before .before .before .pre .1 .1 .1 .0 .0) (c .before .before .before .before .before .before .before .before .before .before .before .before .before .before .before .before .before .before .before .before .before .before .pre .1 .1 .1 .1 .0) (c .before .before .before .before .before .before .before .before .before .before .before .result .result) (c .before .before .before .before .before .before .before .before .before .before .before .result .ensures) (c .before .before .before .before .before .before .before .before .before .before .before .before .before .before .before .before .before .before .before .before .before .before .args .retval) (c .before .before .before .before .before .before .before .before .before .before .before .before .before .before .returned .ensures) (c .before .before .before .before .before .before .before .before .before .before .before .before .before .before .before .before .before .before .before .before .before .before .pre .1 .1 .1 .0 .1 .1) (c .before .before .before .before .before .before .add-binding .ensures) (c .before .before .before .before .before .before .before .before .before .before .before .before .before .before .before .before .before .before .before .before .before .before .pre .1 .1 .1 .1 .1)
+write-asking-requires c κs = write-asks (c .before .before .before .before .before .before .before .before .before .before .before .before .before .before .before .before .before .before .before .before .before .pre .0) (c .before .before .before .before .before .before .before .before .before .before .before .before .before .before .before .before .before .before .before .before .before .pre .1 .1 .1 .0 .0) (c .before .before .before .before .before .before .before .before .before .before .before .before .before .before .before .before .before .before .before .before .before .pre .1 .1 .1 .1 .0) (c .before .before .before .before .before .before .before .before .before .before .result .result) (c .before .before .before .before .before .before .before .before .before .before .result .ensures) (c .before .before .before .before .before .before .before .before .before .before .before .before .before .before .before .before .before .before .before .before .before .args .retval) (c .before .before .before .before .before .before .before .before .before .before .before .before .before .returned .ensures) (c .before .before .before .before .before .before .before .before .before .before .before .before .before .before .before .before .before .before .before .before .before .pre .1 .1 .1 .0 .1 .1) (c .before .before .before .before .before .before .add-binding .ensures) (c .before .before .before .before .before .before .before .before .before .before .before .before .before .before .before .before .before .before .before .before .before .pre .1 .1 .1 .1 .1)
 
 same-length : tie.Need-same-length
 same-length c = search needs
@@ -38,7 +35,7 @@ same-length-3 : tie.Need-same-length-3
 same-length-3 c = search needs
 
 returns : tie.Need-returns
-returns c = add-gave (c .before .before .before .before .before .before .before .before .before .before .before .before .before .before .before .before .before .before .before .before .before .before .before .before .before .pre .0) (c .before .before .before .before .before .before .before .before .before .before .before .before .before .before .before .before .before .before .before .before .before .before .before .before .before .pre .1 .1 .1 .0 .0) (c .before .before .before .before .before .before .before .before .before .before .before .before .before .before .before .before .before .before .before .before .before .before .before .before .before .pre .1 .1 .1 .1 .0) (c .before .before .before .before .before .before .before .before .before .before .before .before .before .before .result .result) (c .before .before .before .before .before .before .before .before .before .before .before .before .before .before .result .ensures) (c .before .before .before .before .before .before .before .before .before .before .before .before .before .before .before .before .before .before .before .before .before .before .before .before .before .args .retval) (c .before .before .before .before .before .before .before .before .before .before .before .before .before .before .before .before .before .returned .ensures) (c .before .before .before .before .before .before .before .before .before .before .before .before .before .before .before .before .before .before .before .before .before .before .before .before .before .pre .1 .1 .1 .0 .1 .1) (c .before .before .before .before .before .before .before .before .before .add-binding .ensures) (c .before .before .write-asking .ensures)
+returns c = add-gave (c .before .before .before .before .before .before .before .before .before .before .before .before .before .before .before .before .before .before .before .before .before .before .before .before .pre .0) (c .before .before .before .before .before .before .before .before .before .before .before .before .before .before .before .before .before .before .before .before .before .before .before .before .pre .1 .1 .1 .0 .0) (c .before .before .before .before .before .before .before .before .before .before .before .before .before .before .before .before .before .before .before .before .before .before .before .before .pre .1 .1 .1 .1 .0) (c .before .before .before .before .before .before .before .before .before .before .before .before .before .result .result) (c .before .before .before .before .before .before .before .before .before .before .before .before .before .result .ensures) (c .before .before .before .before .before .before .before .before .before .before .before .before .before .before .before .before .before .before .before .before .before .before .before .before .args .retval) (c .before .before .before .before .before .before .before .before .before .before .before .before .before .before .before .before .returned .ensures) (c .before .before .before .before .before .before .before .before .before .before .before .before .before .before .before .before .before .before .before .before .before .before .before .before .pre .1 .1 .1 .0 .1 .1) (c .before .before .before .before .before .before .before .before .before .add-binding .ensures) (c .before .before .write-asking .ensures)
 
 pub add-to-spec : {M : Type 1} → statement M
 add-to-spec =
@@ -47,7 +44,6 @@ add-to-spec =
     returned-requires
     result-requires
     cast-add-binding
-    cast-add-binding-2
     add-binding-requires
     write-asking-requires
     same-length

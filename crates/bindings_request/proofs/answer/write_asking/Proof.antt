@@ -18,19 +18,19 @@ enum-known-a : tie.Need-enum-known-a
 enum-known-a c = search needs
 
 write-request-requires : tie.Need-write-request-requires
-write-request-requires c κs = asking-fits (c .before .before .before .before .before .before .args .cells .now) (c .before .before .before .before .before .before .args .f) (c .before .before .before .before .before .before .args .globals) (c .before .before .a .given .1) (c .before .before .before .before .before .before .pre .0) (c .before .before .before .before .before .before .pre .1 .0 .0) (c .before .before .before .before .before .before .pre .1 .0 .1) (c .before .before .before .before .before .before .pre .1 .1)
+write-request-requires c κs = asking-fits (c .before .before .before .before .before .before .args .cells .now) (c .before .before .before .before .before .before .args .f .0) (c .before .before .before .before .before .before .args .globals) (c .before .before .a .given .1) (c .before .before .before .before .before .before .pre .0) (c .before .before .before .before .before .before .pre .1 .0 .0) (c .before .before .before .before .before .before .pre .1 .0 .1) (c .before .before .before .before .before .before .pre .1 .1)
 
 returns : tie.Need-returns
-returns c = asking-limits (c .before .before .before .before .args .cells .now) (c .before .before .before .before .args .f) (part (c .before .before .before .before .args .cells .now) (c .before .before .before .before .args .globals)) (c .enum-told .given .1)
+returns c = asking-limits (c .before .before .before .before .args .cells .now) (c .before .before .before .before .args .f .0) (part (c .before .before .before .before .args .cells .now) (c .before .before .before .before .args .globals)) (c .enum-told .given .1)
 
 returns-2 : tie.Need-returns-2
-returns-2 c = asking-pieces (c .before .before .before .before .args .cells .now) (c .before .before .before .before .args .f) (part (c .before .before .before .before .args .cells .now) (c .before .before .before .before .args .globals)) (c .enum-told2 .given .1)
+returns-2 c = asking-pieces (c .before .before .before .before .args .cells .now) (c .before .before .before .before .args .f .0) (part (c .before .before .before .before .args .cells .now) (c .before .before .before .before .args .globals)) (c .enum-told2 .given .1)
 
 same-length : tie.Need-same-length
 same-length c = search needs
 
 returns-3 : tie.Need-returns-3
-returns-3 c = asking-written (c .before .before .before .before .before .before .before .before .before .args .cells .now) (c .before .before .before .before .before .before .before .before .before .args .f) (c .before .before .before .before .before .before .before .before .before .args .globals) (c .before .before .before .before .before .a .given .1) (c .before .before .write-request .ensures)
+returns-3 c = asking-written (c .before .before .before .before .before .before .before .before .before .args .cells .now) (c .before .before .before .before .before .before .before .before .before .args .f .0) (c .before .before .before .before .before .before .before .before .before .args .globals) (c .before .before .before .before .before .a .given .1) (c .before .before .write-request .ensures)
 
 pub write-asking-spec : {M : Type 1} → statement M
 write-asking-spec =

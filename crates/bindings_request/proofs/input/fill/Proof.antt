@@ -12,7 +12,7 @@ use Rattle.bindings_request.proofs.input.fill.Lts as lts
 use Rattle.access.proofs.function.argument.Reads as argument-reads
 
 abbrev Inv-loop : tie.InvT-loop
-Inv-loop bytes t f pairs₀ i₀ pairs i = Filled bytes t f pairs₀ pairs i
+Inv-loop bytes t f pairs₀ i₀ pairs i = Filled bytes t (f .0) pairs₀ pairs i
 
 abbrev μ-loop : tie.MeasureT-loop
 μ-loop bytes t f pairs₀ i₀ pairs i = length pairs₀ - i
@@ -32,38 +32,35 @@ cast-argument c = omega (arith, c .before .loop .inv .low, c .before .before .be
 argument-requires : tie.Need-argument-requires Inv-loop μ-loop
 argument-requires c κs = search needs
 
+mul-pairs : tie.Need-mul-pairs Inv-loop μ-loop
+mul-pairs c = omega (arith, c .before .before .loop .inv .low, c .before .before .before .before .before .before .pre .1)
+
+mul-pairs-2 : tie.Need-mul-pairs-2 Inv-loop μ-loop
+mul-pairs-2 c = omega (arith, c .before .before .loop .inv .low, c .before .before .before .before .before .before .pre .1)
+
+slice-write-pairs : tie.Need-slice-write-pairs Inv-loop μ-loop
+slice-write-pairs c = omega (arith, c .before .loop-test .taken)
+
 cast-pairs : tie.Need-cast-pairs Inv-loop μ-loop
 cast-pairs c = search needs
 
-mul-pairs : tie.Need-mul-pairs Inv-loop μ-loop
-mul-pairs c = omega (arith, c .before .before .before .loop .inv .low, c .before .before .before .before .before .before .before .pre .1)
-
-mul-pairs-2 : tie.Need-mul-pairs-2 Inv-loop μ-loop
-mul-pairs-2 c = omega (arith, c .before .before .before .loop .inv .low, c .before .before .before .before .before .before .before .pre .1)
-
-slice-write-pairs : tie.Need-slice-write-pairs Inv-loop μ-loop
-slice-write-pairs c = omega (arith, c .before .before .loop-test .taken)
-
-cast-pairs-2 : tie.Need-cast-pairs-2 Inv-loop μ-loop
-cast-pairs-2 c = search needs
-
 mul-pairs-3 : tie.Need-mul-pairs-3 Inv-loop μ-loop
-mul-pairs-3 c = omega (arith, c .before .before .before .before .loop .inv .low, c .before .before .before .before .before .before .before .before .pre .1)
+mul-pairs-3 c = omega (arith, c .before .before .before .loop .inv .low, c .before .before .before .before .before .before .before .pre .1)
 
 add-pairs : tie.Need-add-pairs Inv-loop μ-loop
-add-pairs c = omega (arith, c .before .before .before .before .loop .inv .low, c .before .before .before .before .before .before .before .before .pre .1)
+add-pairs c = omega (arith, c .before .before .before .loop .inv .low, c .before .before .before .before .before .before .before .pre .1)
 
 mul-pairs-4 : tie.Need-mul-pairs-4 Inv-loop μ-loop
-mul-pairs-4 c = omega (arith, c .before .before .before .before .loop .inv .low, c .before .before .before .before .before .before .before .before .pre .1)
+mul-pairs-4 c = omega (arith, c .before .before .before .loop .inv .low, c .before .before .before .before .before .before .before .pre .1)
 
 slice-write-pairs-2 : tie.Need-slice-write-pairs-2 Inv-loop μ-loop
-slice-write-pairs-2 c = simp length-set (omega (arith, filled-second (length (functionOf (c .before .before .before .before .before .before .before .before .args .bytes .now) (c .before .before .before .before .before .before .before .before .args .t .now) (c .before .before .before .before .before .before .before .before .args .f) .arguments)) (c .before .before .before .before .loop .inv) (c .before .before .before .before .before .before .before .before .pre .0) (c .before .before .before .loop-test .taken)))
+slice-write-pairs-2 c = simp length-set (omega (arith, filled-second (length (functionOf (c .before .before .before .before .before .before .before .args .bytes .now) (c .before .before .before .before .before .before .before .args .t .now) (c .before .before .before .before .before .before .before .args .f .0) .arguments)) (c .before .before .before .loop .inv) (c .before .before .before .before .before .before .before .pre .0) (c .before .before .loop-test .taken)))
 
 loop-less : tie.Need-loop-less Inv-loop μ-loop
-loop-less c = omega (arith, c .before .before .before .loop-test .taken, c .before .before .before .before .loop .inv .long)
+loop-less c = omega (arith, c .before .before .loop-test .taken, c .before .before .before .loop .inv .long)
 
 loop-again : tie.Need-loop-again Inv-loop μ-loop
-loop-again c = filled-more (length (functionOf (c .before .before .before .before .before .before .before .before .args .bytes .now) (c .before .before .before .before .before .before .before .before .args .t .now) (c .before .before .before .before .before .before .before .before .args .f) .arguments)) (c .before .before .before .before .loop .inv) (c .before .before .before .before .before .before .before .before .pre .0) (c .before .before .before .loop-test .taken) (c .before .before .argument .result) (c .before .before .argument .ensures)
+loop-again c = filled-more (length (functionOf (c .before .before .before .before .before .before .before .args .bytes .now) (c .before .before .before .before .before .before .before .args .t .now) (c .before .before .before .before .before .before .before .args .f .0) .arguments)) (c .before .before .before .loop .inv) (c .before .before .before .before .before .before .before .pre .0) (c .before .before .loop-test .taken) (c .before .argument .result) (c .before .argument .ensures)
 
 same-length : tie.Need-same-length Inv-loop μ-loop
 same-length c = c .before .loop .inv .long
@@ -82,11 +79,10 @@ fill-spec =
     add-k
     cast-argument
     argument-requires
-    cast-pairs
     mul-pairs
     mul-pairs-2
     slice-write-pairs
-    cast-pairs-2
+    cast-pairs
     mul-pairs-3
     add-pairs
     mul-pairs-4

@@ -2,7 +2,7 @@
 use native.Mathlib.Omega.{arith}
 use mathlib.Core.Path.{refl}
 use Rattle.bindings.proofs.Returning.{binding-bound}
-use Rattle.bindings_request.proofs.Sets.{Reading, above-at, reading-none, reading-inside, reading-more, reading-all}
+use Rattle.bindings_request.proofs.Sets.{Reading, reading-none, reading-inside, reading-malformed, reading-more, reading-all}
 use borrow.Author.Needs.{needs}
 use Rattle.bindings_request.proofs.listed.set_of.Statement.{statement}
 use Rattle.bindings_request.proofs.listed.set_of.Tie as tie
@@ -12,10 +12,10 @@ use Rattle.bindings.proofs.set.own_binding.Reads as own-binding-reads
 use Rattle.bindings_request.proofs.listed.wide.Reads as wide-reads
 
 abbrev Inv-loop : tie.InvT-loop
-Inv-loop list i₀ s₀ i s = Reading list i s
+Inv-loop list i₀ s₀ after₀ i s after = Reading list i after s
 
 abbrev μ-loop : tie.MeasureT-loop
-μ-loop list i₀ s₀ i s = i
+μ-loop list i₀ s₀ after₀ i s after = i
 
 loop-holds : tie.Need-loop-holds Inv-loop μ-loop
 loop-holds c = reading-none _ refl
@@ -30,10 +30,10 @@ wide-requires : tie.Need-wide-requires Inv-loop μ-loop
 wide-requires c κs = search needs
 
 returns : tie.Need-returns Inv-loop μ-loop
-returns c = above-at _ _ (reading-inside _ (c .before .before .before .before .loop .inv) (c .before .before .before .loop-test .taken)) (c .before .wide .ensures) (c .if1 .taken)
+returns c = reading-malformed _ (c .before .before .before .before .loop .inv) (c .before .before .before .loop-test .taken) (c .before .wide .ensures) (c .if1 .taken)
 
 own-binding-requires : tie.Need-own-binding-requires Inv-loop μ-loop
-own-binding-requires c κs = binding-bound _ (c .if1 .left)
+own-binding-requires c κs = binding-bound _ (omega (arith, c .if1 .left, c .before .before .before .before .loop .inv .few))
 
 loop-less : tie.Need-loop-less Inv-loop μ-loop
 loop-less c = omega (arith, c .before .before .before .before .loop-test .taken)
