@@ -23,6 +23,11 @@ pub data VarRefPart : Type 0 where
   resolved : VarRef → PartReq → VarRefPart
   unresolved : VarRefPart
 
+-- 01's number of each: 0 where a variable is named
+abbrev pub refusal : VarRefPart → ℕ
+refusal (resolved var part) = 0
+refusal unresolved = 13
+
 -- with r what resolves a lower expression
 unfoldable pub resolveArm : (ExpressionHandle → List ℕ → VarRefPart) → Expression → List ℕ → VarRefPart
 resolveArm r Literal indexes = unresolved
