@@ -12,9 +12,9 @@ use Rattle.part.specs.StoreLimits.{entriesCap}
 use Rattle.module.specs.Module.{Module, BlockHandle}
 use Rattle.module.specs.Tables.{moduleOf}
 use Rattle.context.specs.RequiredContext.{RequiredContext, emptyContext, mergeContext, containsContext, pieces}
-use Rattle.walk.specs.State.{State, Out, went, halt, withContext}
+use Rattle.walk.specs.State.{State, Out, went, halt, withContext, limitedContext}
 use Rattle.walk.specs.StatementReq.{StatementReq}
-use Rattle.walk.specs.Statement.{here, endTurn}
+use Rattle.walk.specs.Statement.{here, merged, endTurn}
 use Rattle.memory.specs.Layout.{stackSlot}
 use Rattle.memory.specs.Memory.{read, sumFrom, contextAt, Memory}
 use Rattle.memory.specs.Memory as memory
@@ -36,7 +36,7 @@ use Rattle.block.proofs.Tops.{up, up-state, up-empty, put-below, popped-context
 use Rattle.block.proofs.Steps.{beside-same, beside-then, beside-context, beside-popped}
 use Rattle.block.proofs.Joining.{join-room, join-state, join-standing, join-beside}
 use Rattle.block.proofs.Unroll.{turns-none, turn-settled, turn-again}
-use Rattle.arms.specs.Loops.{Turning, turnsIn, TurnsLeft, TurnWalked, TurnSettled, TurnAgain, TurnEnding, TurnEnds}
+use Rattle.arms.specs.Loops.{Turning, turnsIn, TurnsLeft, TurnWalked, TurnSettled, TurnAgain, turnOut, TurnEnding, TurnEnds}
 use Rattle.arms.specs.declared.loops.Turn.{Turn}
 use Rattle.arms.specs.declared.loops.Turn.the-variants.{Over, Settled, Again}
 use Rattle.arms.proofs.Tidies.{tidied-state, tidied-standing}
@@ -311,9 +311,12 @@ module _ {bytes t types places s rs open-marks totals : List ℕ} {fr : Frame} {
 
               pub turn-limits : q ≡ Over
                   → StatementEnds bytes t types places s rs open-marks totals fr Total StatementReq.Loop (Halt 15 (place.Statement (fr .function) (fr .statement))) x xs open-2 totals-2
-              turn-limits e = record {
-                by = sym (turn-over (blockIn bytes t f) (frameOf s rs fr) Held body continuing working (n - 1) start (walked .is ∙ pair-is) (ended e)) ∙ rest;
-              }
+              unfolding merged
+              turn-limits e =
+                  let at-loop = here (frameOf s rs fr) in
+                  let told : halt 15 at-loop ≡ limitedContext at-loop joint (withContext joint continued) =
+                  subst (λ (p : Turn). turnOut p at-loop (withContext joint continued) ≡ limitedContext at-loop joint (withContext joint continued)) e (K .is at-loop (withContext joint continued)) in
+                  record { by = sym (turn-over (blockIn bytes t f) (frameOf s rs fr) Held body continuing working (n - 1) start (walked .is ∙ pair-is) told) ∙ rest }
 
               pub turn-settles : q ≡ Settled
                   → StatementEnds bytes t types places s rs open-marks totals fr Total StatementReq.Loop (Went (record { visits = tally .visits; sum = tally .sum }) true) x xs open-2 totals-2

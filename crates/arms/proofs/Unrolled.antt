@@ -58,8 +58,8 @@ module _ (block : BlockWalk) (fr : Frame) (held : ℕ) (body continuing : BlockH
     turn-went : turns block fr held body continuing working (suc n) st ≡ after continued walked
     turn-went = turn-pair ∙ rw (← e)
 
-    pub turn-over : true ≡ context.overContext (mergeContext walked (continued .context)) → turns block fr held body continuing working (suc n) st ≡ halt 15 (here fr)
-    turn-over o = turn-went ∙ rw (← merged-over fr walked (continued .context) continued o)
+    pub turn-over : halt 15 (here fr) ≡ merged fr walked (continued .context) continued → turns block fr held body continuing working (suc n) st ≡ halt 15 (here fr)
+    turn-over o = turn-went ∙ rw (← o)
 
     pub turn-ends : {r : Bool} → false ≡ context.overContext (mergeContext walked (continued .context)) → r ≡ containsContext working (mergeContext walked (continued .context))
         → turns block fr held body continuing working (suc n) st

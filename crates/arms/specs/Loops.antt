@@ -11,9 +11,9 @@ use Rattle.part.specs.Store.{Room}
 use Rattle.module.specs.Module.{Module, ExpressionHandle, BlockHandle}
 use Rattle.module.specs.Decode.{optionOf}
 use Rattle.module.specs.Tables.{rowAt, moduleOf}
-use Rattle.context.specs.RequiredContext.{RequiredContext, mergeContext, containsContext, overContext, pieces}
+use Rattle.context.specs.RequiredContext.{RequiredContext, mergeContext, containsContext, pieces}
 use Rattle.valid.specs.Valid.{MaybeBelow}
-use Rattle.walk.specs.State.{Out, went, halt, Walk, _>>_, withContext}
+use Rattle.walk.specs.State.{State, Place, Out, went, halt, Walk, _>>_, withContext, limitedContext}
 use Rattle.walk.specs.StatementReq.{StatementReq}
 use Rattle.walk.specs.Resolve.{functionAt}
 use Rattle.walk.specs.Statement.{holding, askOptional, merged, turns}
@@ -141,10 +141,21 @@ pub record TurnAgain (s rs : List ℕ) (at : ℕ) (u us : List ℕ) : Type 0 whe
   pub dropped : Dropped between (at + 4) alone
   pub tidied : Tidied store alone u us
 
+-- the join of the turn's two contexts
+abbrev pub turnJoint : (s rs : List ℕ) (at : ℕ) → RequiredContext
+turnJoint s rs at = mergeContext (contextAt (read s rs) (at + 4 + 4)) (contextAt (read s rs) (at + 4 + 4 + 4))
+
+-- the answer as the walk has it: 15, or it goes on
+abbrev pub turnOut : Turn → Place → State → Out (Unit {0})
+turnOut Over here st = halt 15 here
+turnOut Settled here st = went st tt
+turnOut Again here st = went st tt
+
 abbrev pub TurnEnding : (s rs : List ℕ) (at : ℕ) → Turn → (u us : List ℕ) → Type 0
-TurnEnding s rs at Over u us = true ≡ overContext (mergeContext (contextAt (read s rs) (at + 4 + 4)) (contextAt (read s rs) (at + 4 + 4 + 4)))
+TurnEnding s rs at Over u us = Unit {0}
 TurnEnding s rs at Settled u us = TurnSettled s rs at u us
 TurnEnding s rs at Again u us = TurnAgain s rs at u us
 
 pub record TurnEnds (s rs : List ℕ) (at : ℕ) (r : Turn) (u us : List ℕ) : Type 0 where
+  pub is : (here : Place) (st : State) → turnOut r here st ≡ limitedContext here (turnJoint s rs at) st
   pub by : TurnEnding s rs at r u us

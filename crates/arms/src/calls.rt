@@ -1,5 +1,7 @@
 // The statement Call, but for the walk of the called function: its beginning, the end of that function, and its own end.
 use access::kinded::Kinded;
+use access::kinded::expression_operand;
+use access::kinded::function_operand;
 use access::kinded::operand;
 use block::call::enter;
 use call::ends::end_call;
@@ -61,9 +63,9 @@ pub fn begin_call(
 {
     let f = fr.function;
     let at = fr.at;
-    let g = FunctionHandle(operand(bytes, row, 0) as u32);
+    let g = function_operand(bytes, row, 0);
     let n = operand(bytes, row, 1);
-    let result = operand(bytes, row, 2 + n);
+    let result = expression_operand(bytes, row, 2 + n);
     let own = own_pieces(t, cells, slots, f);
     let held = fr.held + weigh(cells, slots, at, 4) + own;
     let found = record_of(bytes, t, cells, slots, fr, result);
@@ -151,7 +153,7 @@ pub fn return_call(
         );
     }
     let n = operand(bytes, row, 1);
-    let result = operand(bytes, row, 2 + n);
+    let result = expression_operand(bytes, row, 2 + n);
     let found = record_of(bytes, t, cells, slots, fr, result);
     let there = hold_result(slots, found);
     let r = end_call(bytes, t, cells, slots, fr, row, there, visits, sum);

@@ -1,11 +1,10 @@
 // The statement Emit.
 use access::kinded::Kinded;
 use access::kinded::expression_number;
-use access::kinded::operand;
+use access::kinded::expression_operand;
 use marks::places::place;
 use marks::set::set_emit;
 use memory::layout::EXPRS;
-use module::handles::ExpressionHandle;
 use state::answer::Answered;
 use state::answer::Tally;
 use state::frame::Frame;
@@ -28,10 +27,10 @@ pub fn add_emit(
     ensures { λ r. ⌜ EmitEnds (now (bytes .entry)) (now (t .entry)) (now (places .entry)) (now (cells .entry)) (now (slots .entry)) (now («open» .entry)) fr row sum visits r (now («open» .exit)) ⌝ }
 {
     let f = fr.function;
-    let first = operand(bytes, row, 0);
-    let last = operand(bytes, row, 1);
-    let n = (last as usize) + 1 - (first as usize);
-    let from = EXPRS + expression_number(t, f, ExpressionHandle(first as u32));
+    let first = expression_operand(bytes, row, 0);
+    let last = expression_operand(bytes, row, 1);
+    let n = (last.0 as usize) + 1 - (first.0 as usize);
+    let from = EXPRS + expression_number(t, f, first);
     let at = place(t, places, f, fr.statement);
     let any = set_emit(open, at, slots, from, n);
     Answered::Went(

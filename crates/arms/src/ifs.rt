@@ -23,14 +23,14 @@ pub fn end_if(
     cells: &mut [u32],
     slots: &mut [u32],
     fr: Frame,
-    condition: u16,
+    condition: ExpressionHandle,
     required: bool,
     visits: usize,
     sum: usize,
 ) -> Answered
     requires { ⌜ IfAsked (now bytes) (now t) (now cells) (now slots) fr sum visits ⌝ }
-    requires { ⌜ condition < length (functionAt (moduleOf (now bytes) (now t)) (fr .function .0) .expressions) ⌝ }
-    ensures { λ r. ⌜ IfEnds (now (bytes .entry)) (now (t .entry)) (now (cells .entry)) (now (slots .entry)) fr condition required sum visits r (now (cells .exit)) (now (slots .exit)) ⌝ }
+    requires { ⌜ condition .0 < length (functionAt (moduleOf (now bytes) (now t)) (fr .function .0) .expressions) ⌝ }
+    ensures { λ r. ⌜ IfEnds (now (bytes .entry)) (now (t .entry)) (now (cells .entry)) (now (slots .entry)) fr (condition .0) required sum visits r (now (cells .exit)) (now (slots .exit)) ⌝ }
 {
     let f = fr.function;
     let at = fr.at;
@@ -48,7 +48,18 @@ pub fn end_if(
         return Answered::Halt(15, Place::Statement(f, fr.statement));
     }
     let w = want_of(ALL);
-    let e = ExpressionHandle(condition as u32);
-    let r = add_expression(bytes, t, cells, slots, f, at, fr.held, e, w, visits, sum);
+    let r = add_expression(
+        bytes,
+        t,
+        cells,
+        slots,
+        f,
+        at,
+        fr.held,
+        condition,
+        w,
+        visits,
+        sum,
+    );
     answer(r, true)
 }

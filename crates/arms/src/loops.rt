@@ -4,12 +4,12 @@ use block::stack::join;
 use block::stack::lower;
 use block::stack::settled;
 use expression::add::add_expression;
-use field::limits::ABSENT;
 use memory::layout::ALL;
 use memory::memory::tidy;
 use memory::memory::weigh;
 use memory::want::want_of;
 use module::handles::ExpressionHandle;
+use module::handles::NO_HANDLE;
 use state::answer::Place;
 use state::answer::Tally;
 use state::answer::Walked;
@@ -30,14 +30,14 @@ fn ask_break_if(
     cells: &mut [u32],
     slots: &mut [u32],
     fr: Frame,
-    break_if: u16,
+    break_if: ExpressionHandle,
     visits: usize,
     sum: usize,
 ) -> Walked
-    requires { ⌜ Passing (now bytes) (now t) (now cells) (now slots) fr «break_if» sum visits ⌝ }
-    ensures { λ r. ⌜ BreakEnds (now (bytes .entry)) (now (t .entry)) (now (cells .entry)) (now (slots .entry)) fr «break_if» sum visits r (now (cells .exit)) (now (slots .exit)) ⌝ }
+    requires { ⌜ Passing (now bytes) (now t) (now cells) (now slots) fr («break_if» .0) sum visits ⌝ }
+    ensures { λ r. ⌜ BreakEnds (now (bytes .entry)) (now (t .entry)) (now (cells .entry)) (now (slots .entry)) fr («break_if» .0) sum visits r (now (cells .exit)) (now (slots .exit)) ⌝ }
 {
-    if break_if == ABSENT {
+    if break_if.0 == NO_HANDLE {
         return Walked::Went(Tally {
             visits: visits,
             sum: sum,
@@ -49,9 +49,20 @@ fn ask_break_if(
     let first = weigh(cells, slots, k, 4);
     let second = weigh(cells, slots, k + 4, 4);
     let held = fr.held + (first + second);
-    let e = ExpressionHandle(break_if as u32);
     let w = want_of(ALL);
-    add_expression(bytes, t, cells, slots, f, at, held, e, w, visits, sum)
+    add_expression(
+        bytes,
+        t,
+        cells,
+        slots,
+        f,
+        at,
+        held,
+        break_if,
+        w,
+        visits,
+        sum,
+    )
 }
 
 // A first pass that is required ends: `break_if`, and the join of both blocks' contexts, which is the working context then.
@@ -61,12 +72,12 @@ pub fn end_pass(
     cells: &mut [u32],
     slots: &mut [u32],
     fr: Frame,
-    break_if: u16,
+    break_if: ExpressionHandle,
     visits: usize,
     sum: usize,
 ) -> Walked
-    requires { ⌜ Passing (now bytes) (now t) (now cells) (now slots) fr «break_if» sum visits ⌝ }
-    ensures { λ r. ⌜ PassEnds (now (bytes .entry)) (now (t .entry)) (now (cells .entry)) (now (slots .entry)) fr «break_if» sum visits r (now (cells .exit)) (now (slots .exit)) ⌝ }
+    requires { ⌜ Passing (now bytes) (now t) (now cells) (now slots) fr («break_if» .0) sum visits ⌝ }
+    ensures { λ r. ⌜ PassEnds (now (bytes .entry)) (now (t .entry)) (now (cells .entry)) (now (slots .entry)) fr («break_if» .0) sum visits r (now (cells .exit)) (now (slots .exit)) ⌝ }
 {
     let f = fr.function;
     let at = fr.at;

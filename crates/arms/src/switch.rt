@@ -1,5 +1,6 @@
 // The statement Switch: the block of a case, its join to the cases before it, and the end once all are walked.
 use access::kinded::Kinded;
+use access::kinded::block_operand;
 use block::aside::put_aside;
 use block::aside::take_back;
 use block::stack::drop;
@@ -10,7 +11,6 @@ use memory::memory::tidy;
 use memory::want::want_of;
 use module::handles::BlockHandle;
 use module::handles::ExpressionHandle;
-use module::record::body;
 use state::answer::Answered;
 use state::answer::Tally;
 use state::answer::Walked;
@@ -24,8 +24,7 @@ ghost use Rattle.arms.specs.Switches.{Casing, CaseEnds, EndingSwitch, Sw
 pub fn case_body(bytes: &[u8], row: Kinded, k: u16) -> BlockHandle
     ensures { λ r. ⌜ r .0 ≡ operandAt (now (bytes .entry)) row (3 + 2 * k) ⌝ }
 {
-    let j = 3 + 2 * (k as u32);
-    BlockHandle(body(bytes, row.offset, (row.before as u32) + j) as u32)
+    block_operand(bytes, row, 3 + 2 * (k as u32))
 }
 
 // A case was walked: its context, behind the one at k, is joined to that. Whether that passes a limit.
@@ -47,13 +46,13 @@ pub fn end_switch(
     cells: &mut [u32],
     slots: &mut [u32],
     fr: Frame,
-    selector: u16,
+    selector: ExpressionHandle,
     required: bool,
     visits: usize,
     sum: usize,
 ) -> Answered
-    requires { ⌜ EndingSwitch (now bytes) (now t) (now cells) (now slots) fr selector sum visits ⌝ }
-    ensures { λ r. ⌜ SwitchEnds (now (bytes .entry)) (now (t .entry)) (now (cells .entry)) (now (slots .entry)) fr selector required sum visits r (now (cells .exit)) (now (slots .exit)) ⌝ }
+    requires { ⌜ EndingSwitch (now bytes) (now t) (now cells) (now slots) fr (selector .0) sum visits ⌝ }
+    ensures { λ r. ⌜ SwitchEnds (now (bytes .entry)) (now (t .entry)) (now (cells .entry)) (now (slots .entry)) fr (selector .0) required sum visits r (now (cells .exit)) (now (slots .exit)) ⌝ }
 {
     let at = fr.at;
     if !required {
@@ -70,8 +69,19 @@ pub fn end_switch(
     drop(slots, at);
     let f = fr.function;
     let w = want_of(ALL);
-    let h = ExpressionHandle(selector as u32);
-    let r = add_expression(bytes, t, cells, slots, f, at, fr.held, h, w, visits, sum);
+    let r = add_expression(
+        bytes,
+        t,
+        cells,
+        slots,
+        f,
+        at,
+        fr.held,
+        selector,
+        w,
+        visits,
+        sum,
+    );
     match r {
         Walked::Halt(n, place) => Answered::Halt(n, place),
         Walked::Went(tally) => {

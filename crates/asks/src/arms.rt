@@ -2,6 +2,7 @@
 use crate::what::Ask;
 use crate::what::What;
 use access::kinded::Kinded;
+use access::kinded::expression_operand;
 use access::kinded::operand;
 use memory::layout::ALL;
 use memory::want::Want;
@@ -43,10 +44,10 @@ pub fn access_index(bytes: &[u8], cells: &[u32], slots: &[u32], row: Kinded, w: 
             want: w,
         };
     }
-    let base = operand(bytes, row, 0) as u32;
+    let base = expression_operand(bytes, row, 0);
     let want = w.wrap(i);
     Ask {
-        what: What::Operand(ExpressionHandle(base)),
+        what: What::Operand(base),
         want: want,
     }
 }
@@ -116,10 +117,10 @@ pub fn swizzle_ask(bytes: &[u8], cells: &[u32], slots: &[u32], row: Kinded, w: W
             want: w,
         };
     }
-    let vector = operand(bytes, row, 0) as u32;
+    let vector = expression_operand(bytes, row, 0);
     let want = want_of(a.slot);
     Ask {
-        what: What::Operand(ExpressionHandle(vector)),
+        what: What::Operand(vector),
         want: want,
     }
 }
@@ -131,7 +132,7 @@ fn component(bytes: &[u8], row: Kinded, i: u32) -> ExpressionHandle
     ensures { λ r. ⌜ r .0 ≡ operandAt (now (bytes .entry)) row (1 + i) ⌝ }
 {
     let k = 1 + (i as u16);
-    ExpressionHandle(operand(bytes, row, k) as u32)
+    expression_operand(bytes, row, k)
 }
 
 // All of each component; or what each entry has, of the component with its index.

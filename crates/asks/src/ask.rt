@@ -7,12 +7,12 @@ use crate::fields::field_ask;
 use crate::what::Ask;
 use crate::what::What;
 use access::kinded::expression;
+use access::kinded::global_operand;
+use access::kinded::local_operand;
 use access::kinded::operand;
 use memory::want::Want;
 use module::handles::ExpressionHandle;
 use module::handles::FunctionHandle;
-use module::handles::GlobalHandle;
-use module::handles::LocalHandle;
 ghost use Rattle.module.specs.Tables.{moduleOf};
 ghost use Rattle.memory.specs.Memory.{Memory};
 ghost use Rattle.memory.specs.Want.{Wants};
@@ -51,15 +51,14 @@ pub fn ask(
 {
     let row = expression(bytes, t, f, e);
     let kind = row.kind;
-    let x = operand(bytes, row, 0) as u32;
     match kind {
         3 => access_index(bytes, cells, slots, row, w, j),
         5 => constant(cells, slots, w, j),
         7 => swizzle_ask(bytes, cells, slots, row, w, j),
         8 => compose(bytes, cells, slots, row, w, j),
-        9 => only(What::Argument(x), w, j),
-        10 => only(What::Global(GlobalHandle(x)), w, j),
-        11 => only(What::Local(LocalHandle(x)), w, j),
+        9 => only(What::Argument(operand(bytes, row, 0) as u32), w, j),
+        10 => only(What::Global(global_operand(bytes, row, 0)), w, j),
+        11 => only(What::Local(local_operand(bytes, row, 0)), w, j),
         31 => only(What::Refuse(13), w, j),
         _ => field_ask(bytes, cells, slots, row, w, j),
     }

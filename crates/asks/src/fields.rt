@@ -2,13 +2,14 @@
 use crate::what::Ask;
 use crate::what::What;
 use access::kinded::Kinded;
+use access::kinded::expression_operand;
 use access::kinded::operand;
-use field::limits::ABSENT;
 use memory::layout::ALL;
 use memory::layout::EXIST;
 use memory::want::Want;
 use memory::want::want_of;
 use module::handles::ExpressionHandle;
+use module::handles::NO_HANDLE;
 ghost use mathlib.Core.Path.{_≡_};
 ghost use Rattle.access.specs.Access.{operandAt};
 ghost use Rattle.memory.specs.Memory.{Memory};
@@ -111,11 +112,11 @@ fn ways(bytes: &[u8], row: Kinded) -> u32
 }
 
 // Whether the field x is asked, by its way.
-fn asks_by(way: u32, x: u16) -> bool
-    ensures { λ r. ⌜ r ≡ asksBy way x ⌝ }
+fn asks_by(way: u32, x: ExpressionHandle) -> bool
+    ensures { λ r. ⌜ r ≡ asksBy way (x .0) ⌝ }
 {
     if way == O {
-        return x != ABSENT;
+        return x.0 != NO_HANDLE;
     }
     if O < way {
         return false;
@@ -154,12 +155,12 @@ pub fn field_ask(bytes: &[u8], cells: &[u32], slots: &[u32], row: Kinded, w: Wan
         }
         let i = k + 1;
         let way = rest % 8;
-        let x = operand(bytes, row, k);
+        let x = expression_operand(bytes, row, k);
         if asks_by(way, x) {
             if skip == 0 {
                 let want = want_by(cells, slots, w, way);
                 return Ask {
-                    what: What::Operand(ExpressionHandle(x as u32)),
+                    what: What::Operand(x),
                     want: want,
                 };
             }

@@ -16,6 +16,7 @@ use Rattle.state.specs.State.{recordsIn}
 use Rattle.block.specs.Total.{totalCount, TotalMade, TotalKept, TotalJoined, Weighing}
 use Rattle.block.specs.Adding.{Adding, keptMarks, joinedMarks, Added, FirstTotal, joint, IsLater}
 use Rattle.block.specs.declared.added.Joint.the-variants.{Sum, Over}
+use Rattle.block.proofs.Unroll.{limited-within, limited-over}
 
 module _ {t places s rs open-marks totals : List ℕ} {f : FunctionHandle} {at sum : ℕ} (A : Adding t places s rs open-marks totals f at sum) where
   -- what the total counts for afterwards
@@ -64,8 +65,11 @@ module _ {t places s rs open-marks totals : List ℕ} {f : FunctionHandle} {at s
 
   module _ {b : Bool} {u us : List ℕ} (J : TotalJoined t f at s rs b u us) where
     pub later-over : {after : List ℕ} → b ≡ true → IsLater t places s rs open-marks totals f at sum Over u us after
-    later-over e = record { by = sym (J .over) ∙ e }
+    later-over e = record { is = λ here st. limited-over here (joint s rs f at) st (sym e ∙ J .over); by = tt }
 
     pub later-is : {after : List ℕ} {less more : ℕ} → b ≡ false → less ≡ totalCount t f (read s rs) → more ≡ totalCount t f (read u us)
         → after ≡ joinedMarks places open-marks totals f → IsLater t places s rs open-marks totals f at sum (Sum (sum - less + more)) u us after
-    later-is z e g h = record { by = record { within = sym (J .over) ∙ z; added = added-is (J .made) later-small e g; marks = h; few = sum-few (J .made) later-small e g } }
+    later-is z e g h = record {
+      is = λ here st. limited-within here (joint s rs f at) st (sym z ∙ J .over);
+      by = record { within = sym (J .over) ∙ z; added = added-is (J .made) later-small e g; marks = h; few = sum-few (J .made) later-small e g };
+    }

@@ -9,6 +9,7 @@ use borrow.Author.Tests.{eq-eqb, ne-eqb}
 use Rattle.module.specs.declared.handles.FunctionHandle.{FunctionHandle as Handle}
 use Rattle.module.specs.Module.{FunctionHandle}
 use Rattle.module.specs.Tables.{moduleOf}
+use Rattle.walk.specs.State.{limitedContext}
 use Rattle.walk.specs.Marks.{bodyOf, firstRay}
 use Rattle.marks.specs.Report.{hasTotal}
 use Rattle.marks.specs.Ray.{rayIn}
@@ -18,7 +19,7 @@ use Rattle.state.specs.State.{placeOf}
 use Rattle.state.specs.declared.answer.Place.{Place}
 use Rattle.state.specs.declared.answer.Place.the-variants as position
 use Rattle.state.specs.declared.answer.Walked.the-variants.{Went, Halt}
-use Rattle.block.specs.Adding.{FirstTotal, IsLater, Later}
+use Rattle.block.specs.Adding.{FirstTotal, joint, jointOut, IsLater, Later}
 use Rattle.block.specs.AddTotal.{TotalEnds}
 use Rattle.block.specs.declared.added.Joint.{Joint}
 use Rattle.block.specs.declared.added.Joint.the-variants.{Sum, Over}
@@ -58,7 +59,8 @@ module _ {bytes t places s rs open-marks totals : List ℕ} {f : FunctionHandle}
       total-over z = record {
         by = λ types held S.
             let no-ray : nothing ≡ firstRay (moduleOf bytes t) f (bodyOf (moduleOf bytes t) f) = subst (λ (x : Ray). rayIn x ≡ firstRay (moduleOf bytes t) f (bodyOf (moduleOf bytes t) f)) e ray in
-            over-meets S (flag totals f ne) visits (placeOf here) no-ray (subst (λ (x : Joint). Later t places s rs open-marks totals f at sum x u us after) z (L .by));
+            over-meets S (flag totals f ne) visits (placeOf here) no-ray
+            (λ st. subst (λ (x : Joint). jointOut x (placeOf here) st ≡ limitedContext (placeOf here) (joint s rs f at) st) z (L .is (placeOf here) st));
       }
 
       pub total-later : {k : ℕ} → j ≡ Sum k → TotalEnds bytes t places s rs open-marks totals f at sum visits here (Went (record { visits = visits; sum = k })) u us after

@@ -144,10 +144,10 @@ module _ {bytes t types places s rs open-marks totals : List ℕ} {f at held sum
     ray-meets v here e = rw (old-is, ← e)
 
     module _ (v : ℕ) (here : Place) (no-ray : nothing ≡ firstRay m f (bodyOf m f)) where
-      pub over-meets : context.overContext (joint s rs f at) ≡ true
+      pub over-meets : ((st : State) → halt 15 here ≡ limitedContext here (joint s rs f at) st)
           → halt 15 here ≡ addTotal m f here (getD (functionsIn m t (read s rs) totals) f nothing) (stateIn bytes t s rs open-marks totals f at v)
-      unfolding addTotal joinTotal limitedContext
-      over-meets e = rw (old-is, ← no-ray, over-is (joint s rs f at), e)
+      unfolding addTotal joinTotal
+      over-meets e = rw (old-is, ← no-ray, ← e (stateIn bytes t s rs open-marks totals f at v))
 
       pub later-added : {u us after : List ℕ} {k : ℕ} → LaterTotal t places s rs open-marks totals f at sum k u us after
           → went (stateIn bytes t u us open-marks after f at v) tt ≡ addTotal m f here (getD (functionsIn m t (read s rs) totals) f nothing) (stateIn bytes t s rs open-marks totals f at v)

@@ -20,14 +20,23 @@ pub over-is : (c : RequiredContext) → overContext c ≡ context.overContext c
 unfolding overContext context.overContext
 over-is c = refl
 
+module _ (at : Place) (c : RequiredContext) (st : State) where
+  pub limited-within : false ≡ context.overContext c → went st tt ≡ limitedContext at c st
+  unfolding limitedContext
+  limited-within e = rw (over-is c, ← e)
+
+  pub limited-over : true ≡ context.overContext c → halt 15 at ≡ limitedContext at c st
+  unfolding limitedContext
+  limited-over e = rw (over-is c, ← e)
+
 module _ (fr : Frame) (c d : RequiredContext) (st : State) where
   pub merged-within : false ≡ context.overContext (mergeContext c d) → went (withContext (mergeContext c d) st) tt ≡ merged fr c d st
-  unfolding merged limitedContext
-  merged-within e = rw (over-is (mergeContext c d), ← e)
+  unfolding merged
+  merged-within e = limited-within (here fr) (mergeContext c d) (withContext (mergeContext c d) st) e
 
   pub merged-over : true ≡ context.overContext (mergeContext c d) → halt 15 (here fr) ≡ merged fr c d st
-  unfolding merged limitedContext
-  merged-over e = rw (over-is (mergeContext c d), ← e)
+  unfolding merged
+  merged-over e = limited-over (here fr) (mergeContext c d) (withContext (mergeContext c d) st) e
 
 -- the statements of a block
 module _ (visitOne : ℕ → Bool → Walk Bool) (first : ℕ) (breakRequired isRequired : Bool) (st : State) where

@@ -1,6 +1,6 @@
 -- The walk just done put into the totals: slots, marks, and what records and totals count for.
 use mathlib.Core.Path.{_≡_}
-use mathlib.Core.Bool.{true, false}
+use mathlib.Core.Bool.{false}
 use mathlib.Core.List.{List}
 use Prim.Native.Nat.{ℕ, _+_, _*_, _≤_}
 use lib.ListN.{set}
@@ -8,7 +8,7 @@ use Rattle.field.specs.Limits.{minReport}
 use Rattle.part.specs.StoreLimits.{entriesCap}
 use Rattle.module.specs.Module.{FunctionHandle}
 use Rattle.context.specs.RequiredContext.{RequiredContext, mergeContext, overContext, pieces}
-use Rattle.walk.specs.State.{recordPieces}
+use Rattle.walk.specs.State.{State, Place, Out, went, halt, recordPieces, limitedContext}
 use Rattle.walk.specs.Marks.{writeMarks, addMarks}
 use Rattle.memory.specs.Layout.{exprsSlot, functionsSlot}
 use Rattle.memory.specs.Memory.{read, contextAt}
@@ -60,9 +60,15 @@ pub record LaterTotal (t places s rs open-marks totals : List ℕ) (f : Function
   pub marks : after ≡ joinedMarks places open-marks totals f
   pub few : m ≤ sum + (recordPieces (recordsIn t exprsSlot f (read s rs)) + pieces (contextAt (read s rs) at))
 
+-- the answer as the walk has it: it goes on, or 15
+abbrev pub jointOut : Joint → Place → State → Out (Unit {0})
+jointOut (Sum m) here st = went st tt
+jointOut Over here st = halt 15 here
+
 abbrev pub Later : (t places s rs open-marks totals : List ℕ) → FunctionHandle → (at sum : ℕ) → Joint → (u us after : List ℕ) → Type 0
 Later t places s rs open-marks totals f at sum (Sum m) u us after = LaterTotal t places s rs open-marks totals f at sum m u us after
-Later t places s rs open-marks totals f at sum Over u us after = overContext (joint s rs f at) ≡ true
+Later t places s rs open-marks totals f at sum Over u us after = Unit {0}
 
 pub record IsLater (t places s rs open-marks totals : List ℕ) (f : FunctionHandle) (at sum : ℕ) (r : Joint) (u us after : List ℕ) : Type 0 where
+  pub is : (here : Place) (st : State) → jointOut r here st ≡ limitedContext here (joint s rs f at) st
   pub by : Later t places s rs open-marks totals f at sum r u us after

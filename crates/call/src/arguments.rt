@@ -1,8 +1,10 @@
 // The arguments of a call, once the called function was walked.
 use access::kinded::Kinded;
+use access::kinded::expression_operand;
 use access::kinded::operand;
 use memory::layout::ASK;
 use memory::layout::RETURNED;
+use module::handles::ExpressionHandle;
 use part::limits::SPINE;
 use part::req::Found;
 use part::req::get;
@@ -25,12 +27,12 @@ fn then_argument(
     slots: &mut [u32],
     fr: Frame,
     before: Walked,
-    e: u16,
+    e: ExpressionHandle,
     i: u16,
 ) -> Walked
     requires { ⌜ Passable (now bytes) (now t) (now cells) (now slots) fr before ⌝ }
-    requires { ⌜ e < length (functionAt (moduleOf (now bytes) (now t)) (fr .function .0) .expressions) ⌝ }
-    ensures { λ r. ⌜ Argued (now (bytes .entry)) (now (t .entry)) (now (cells .entry)) (now (slots .entry)) fr before e i r (now (cells .exit)) (now (slots .exit)) ⌝ }
+    requires { ⌜ e .0 < length (functionAt (moduleOf (now bytes) (now t)) (fr .function .0) .expressions) ⌝ }
+    ensures { λ r. ⌜ Argued (now (bytes .entry)) (now (t .entry)) (now (cells .entry)) (now (slots .entry)) fr before (e .0) i r (now (cells .exit)) (now (slots .exit)) ⌝ }
 {
     match before {
         Walked::Went(tally) => {
@@ -69,7 +71,7 @@ pub fn ask_arguments(
     });
     let mut i: u16 = 0;
     while i < n {
-        let e = operand(bytes, row, 2 + i);
+        let e = expression_operand(bytes, row, 2 + i);
         walked = then_argument(bytes, t, cells, slots, fr, walked, e, i);
         i = i + 1;
     }

@@ -1,6 +1,7 @@
 // A call whose function was walked and is required.
 use crate::arguments::ask_arguments;
 use access::kinded::Kinded;
+use access::kinded::expression_operand;
 use access::kinded::operand;
 use memory::layout::RESULT;
 use state::answer::Answered;
@@ -27,7 +28,7 @@ pub fn end_call(
     let passed = ask_arguments(bytes, t, cells, slots, fr, row, visits, sum);
     if there {
         let n = operand(bytes, row, 1);
-        let result = operand(bytes, row, 2 + n);
+        let result = expression_operand(bytes, row, 2 + n);
         let r = then_maybe(bytes, t, cells, slots, fr, passed, result, RESULT);
         return answer(r, true);
     }

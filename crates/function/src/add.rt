@@ -2,6 +2,9 @@
 use access::function::block;
 use access::function::body_block;
 use access::kinded::Kinded;
+use access::kinded::block_operand;
+use access::kinded::expression_operand;
+use access::kinded::function_operand;
 use access::kinded::operand;
 use access::kinded::statement;
 use arms::calls::begin_call;
@@ -501,7 +504,7 @@ pub fn add_nested(
 {
     let f = fr.function;
     let at = fr.at;
-    let inner = BlockHandle(operand(bytes, row, 0) as u32);
+    let inner = block_operand(bytes, row, 0);
     let held = fr.held + weigh(cells, slots, at, 4);
     let r = add_block(
         bytes,
@@ -552,8 +555,8 @@ pub fn add_if(
 {
     let f = fr.function;
     let at = fr.at;
-    let accept = BlockHandle(operand(bytes, row, 1) as u32);
-    let reject = BlockHandle(operand(bytes, row, 2) as u32);
+    let accept = block_operand(bytes, row, 1);
+    let reject = block_operand(bytes, row, 2);
     let held = fr.held + weigh(cells, slots, at, 4);
     let r = add_pair(
         bytes,
@@ -578,7 +581,7 @@ pub fn add_if(
     match r {
         Answered::Halt(n, place) => Answered::Halt(n, place),
         Answered::Went(tally, required) => {
-            let condition = operand(bytes, row, 0);
+            let condition = expression_operand(bytes, row, 0);
             end_if(
                 bytes,
                 t,
@@ -658,7 +661,7 @@ pub fn add_switch(
         }
         n = k;
     }
-    let selector = operand(bytes, row, 0);
+    let selector = expression_operand(bytes, row, 0);
     end_switch(bytes, t, cells, slots, fr, selector, any, v, m)
 }
 
@@ -684,8 +687,8 @@ pub fn add_loop(
 {
     let f = fr.function;
     let at = fr.at;
-    let body = BlockHandle(operand(bytes, row, 0) as u32);
-    let continuing = BlockHandle(operand(bytes, row, 1) as u32);
+    let body = block_operand(bytes, row, 0);
+    let continuing = block_operand(bytes, row, 1);
     let held = fr.held + weigh(cells, slots, at, 4);
     let r = add_pair(
         bytes,
@@ -714,7 +717,7 @@ pub fn add_loop(
                 drop_both(slots, at);
                 return Answered::Went(tally, false);
             }
-            let break_if = operand(bytes, row, 2);
+            let break_if = expression_operand(bytes, row, 2);
             match end_pass(
                 bytes,
                 t,
@@ -839,7 +842,7 @@ pub fn add_call(
 {
     let f = fr.function;
     let at = fr.at;
-    let g = FunctionHandle(operand(bytes, row, 0) as u32);
+    let g = function_operand(bytes, row, 0);
     let begun = begin_call(bytes, t, places, cells, slots, open, fr, row, sum);
     let own = begun.own;
     let r = add_function(

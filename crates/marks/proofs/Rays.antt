@@ -12,7 +12,6 @@ use Rattle.module.specs.Module.{BlockRange, SwitchCase, Statement, Break, Kill,
 use Rattle.module.specs.Knot.{below}
 use Rattle.module.specs.Decode.{tab, caseOf, statementOf}
 use Rattle.module.specs.Blocks.{held}
-use Rattle.module.specs.Record.{bodyAt}
 use Rattle.module.specs.Tables.{functionOf, moduleOf}
 use Rattle.module.proofs.Knot.{knot-is, below-lt}
 use Rattle.module.proofs.Tab.{length-tab, getD-tab, map-tab}
@@ -115,12 +114,6 @@ count-last k o j a b c h =
       | yes e ↦ (e, unfold heldCount in rw e at h)
       | no d ↦ absurd (omega (arith, count-none k o a b c d))
     ]
-
-pub block-held : (bytes : List ℕ) (r : Kinded) (j x : ℕ) → r .kind ≡ 1 → x ≡ getD (bodyAt bytes (r .offset)) (r .before) 0 → x ≡ heldNumber (r .kind) (operandAt bytes r) j
-unfolding heldNumber
-block-held bytes r j x k e =
-    let z : r .before ≡ r .before + 0 = omega arith in
-    rw k (e ∙ ap (λ (i : ℕ). getD (bodyAt bytes (r .offset)) i 0) z)
 
 -- what a call has found
 pub found-is : {r : Ray} {i : ℕ} {x : Option ℕ} → r ≡ At i → rayIn r ≡ x → some i ≡ x

@@ -80,7 +80,7 @@ fn count_by_kind(kind: u16) -> u32
     1
 }
 
-// An emit has a mark for each expression from its first to its last.
+// How many numbers there are from first to last.
 fn range_count(first: u16, last: u16) -> u32
     ensures { λ r. ⌜ r ≡ suc last - first ⌝ }
 {
@@ -92,6 +92,7 @@ fn range_count(first: u16, last: u16) -> u32
     end - from
 }
 
+// An emit has a mark for each expression from its first to its last.
 pub fn mark_count(bytes: &[u8], t: &[u32], f: FunctionHandle, s: u32) -> u32
     ensures { λ r. ⌜ r ≡ markCount (statementAt (now (bytes .entry)) (now (t .entry)) (f .0) s) ⌝ }
 {

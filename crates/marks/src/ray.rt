@@ -2,11 +2,11 @@
 use access::function::block;
 use access::function::body_block;
 use access::kinded::Kinded;
+use access::kinded::block_operand;
 use access::kinded::operand;
 use access::kinded::statement;
 use module::handles::BlockHandle;
 use module::handles::FunctionHandle;
-use module::record::body;
 ghost use mathlib.Core.Path.{_≡_};
 ghost use mathlib.Core.Option.{Option, none};
 ghost use Prim.Native.Nat.{ℕ, _<_, _≤_};
@@ -48,17 +48,16 @@ fn held_number(bytes: &[u8], row: Kinded, j: u32) -> BlockHandle
     ensures { λ r. ⌜ r .0 ≡ heldNumber (row .kind) (operandAt (now (bytes .entry)) row) j ⌝ }
 {
     let kind = row.kind;
-    let before = row.before as u32;
     if kind == 1 {
-        return BlockHandle(body(bytes, row.offset, before) as u32);
+        return block_operand(bytes, row, 0);
     }
     if kind == 2 {
-        return BlockHandle(body(bytes, row.offset, before + (2 - j)) as u32);
+        return block_operand(bytes, row, 2 - j);
     }
     if kind == 3 {
-        return BlockHandle(body(bytes, row.offset, before + (3 + 2 * j)) as u32);
+        return block_operand(bytes, row, 3 + 2 * j);
     }
-    BlockHandle(body(bytes, row.offset, before + (1 - j)) as u32)
+    block_operand(bytes, row, 1 - j)
 }
 
 // Of the kinds from 16 on, those up to 20 are joined as a RayQuery.

@@ -39,10 +39,9 @@ use Rattle.statement.specs.Leaf.{leafReq, Arm, Leaves}
 use Rattle.statement.specs.Asks.{Open, Asked, maybeAsk, answerOf}
 use Rattle.statement.specs.Aim.{Aiming}
 use Rattle.statement.specs.Stores.{StoreIs, Stores}
-use Rattle.statement.specs.Fields.{StoreKind, plain, image, storeFields, FieldsBelow, Fielding, Fielded}
+use Rattle.statement.specs.Fields.{StoreKind, plain, image, Fields, storeFields, FieldsBelow, Fielding, Fielded}
 use Rattle.statement.specs.declared.store.Need.{Need}
 use Rattle.statement.specs.declared.store.Need.the-variants.{Refuse, Nothing, Part}
-use Rattle.statement.specs.declared.stores.Fields as declared-fields
 use Rattle.statement.proofs.Asking.{begins, began, ends, optional-is}
 use Rattle.statement.proofs.Uses.{arm-uses}
 
@@ -62,7 +61,7 @@ there-asked m f held n e p st l h =
     rw (ne-eqb e absent ne)
 
 -- the four asks
-module _ {bytes t s rs : List ℕ} {fr : declared.Frame} {x : declared-fields.Fields} {sum : ℕ} (q : Fielding bytes t s rs fr x sum) (visits : ℕ) where
+module _ {bytes t s rs : List ℕ} {fr : declared.Frame} {x : Fields} {sum : ℕ} (q : Fielding bytes t s rs fr x sum) (visits : ℕ) where
   pub fields-begin : Open bytes t s rs fr (Went (record { visits = visits; sum = sum }))
   fields-begin = begins (q .ready)
 
@@ -82,17 +81,17 @@ module _ {bytes t s rs : List ℕ} {fr : declared.Frame} {x : declared-fields.Fi
 
 -- the fields as they are read
 pub image-fields : (k : ℕ) (o : ℕ → ℕ) {a b c d : ℕ} → k ≡ 15 → a ≡ o 0 → b ≡ o 1 → c ≡ o 2 → d ≡ o 3
-    → _≡_ {A = declared-fields.Fields} (record { pointer = a; coordinate = b; index = c; value = d }) (storeFields k o)
+    → _≡_ {A = Fields} (record { pointer = a; coordinate = b; index = c; value = d }) (storeFields k o)
 unfolding storeFields
 image-fields k o e p q r z = rw (eq-eqb k 15 e, p, q, r, z)
 
 pub plain-fields : (k : ℕ) (o : ℕ → ℕ) {a b : ℕ} → (k ≡ 15 → ⊥) → a ≡ o 0 → b ≡ o 1
-    → _≡_ {A = declared-fields.Fields} (record { pointer = a; coordinate = absent; index = absent; value = b }) (storeFields k o)
+    → _≡_ {A = Fields} (record { pointer = a; coordinate = absent; index = absent; value = b }) (storeFields k o)
 unfolding storeFields
 plain-fields k o e p q = rw (ne-eqb k 15 e, p, q)
 
 -- what the arm of x has in common with a plain store: its fields, what is asked between pointer and value, and what is said of it
-record AsStore (m : Module) (fr : Frame) (x : Statement) (y : declared-fields.Fields) : Type 0 where
+record AsStore (m : Module) (fr : Frame) (x : Statement) (y : Fields) : Type 0 where
   accessors : Walk (Unit {0})
   between : (st : State) → (maybeAsk m (fr .function) (fr .held) (optionOf (y .coordinate)) all st >> maybeAsk m (fr .function) (fr .held) (optionOf (y .index)) exist) ≡ accessors st
   is : (call : FunctionWalk) (block : BlockWalk) (st : State) → (store m fr (y .pointer) accessors (y .value) st >>= λ left b. went left (leafReq x b)) ≡ addStatement m call block fr x st
@@ -140,7 +139,7 @@ pub few : {bytes t s rs : List ℕ} {fr : declared.Frame} {row : Kinded} {sum : 
 few {bytes} {t} {s} {rs} {fr} a =
     function-valid (moduleOf bytes t) (module-valid bytes (moduleOf bytes t) (a .begun .ready .was-read .module-is)) (fr .function .0) (a .begun .ready .function) .parts .few-expressions
 
-module _ {bytes t s rs : List ℕ} {fr : declared.Frame} {row : Kinded} {sum : ℕ} (a : Arm bytes t s rs fr row sum) (kind : StoreKind (row .kind)) (visits : ℕ) {x : declared-fields.Fields} (fields : x ≡ storeFields (row .kind) (operandAt bytes row)) where
+module _ {bytes t s rs : List ℕ} {fr : declared.Frame} {row : Kinded} {sum : ℕ} (a : Arm bytes t s rs fr row sum) (kind : StoreKind (row .kind)) (visits : ℕ) {x : Fields} (fields : x ≡ storeFields (row .kind) (operandAt bytes row)) where
   below : FieldsBelow (length (functionAt (moduleOf bytes t) (fr .function .0) .expressions)) x
   below = rw fields (fields-below (operandAt bytes row) _ _ (row .kind) kind (arm-uses a _ refl))
 

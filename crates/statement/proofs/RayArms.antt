@@ -42,10 +42,9 @@ use Rattle.target.specs.declared.resolve.Target as resolve
 use Rattle.statement.specs.Leaf.{leafReq, Arm, Leaves}
 use Rattle.statement.specs.Asks.{Open, Asked, maybeAsk, answerOf}
 use Rattle.statement.specs.Aim.{Aiming, Aimed, AimIs, Aims}
-use Rattle.statement.specs.Rays.{RayKind, query, load, ballot, gather, collective, gatherFields, rayFields, RayBelow}
+use Rattle.statement.specs.Rays.{RayKind, query, load, ballot, gather, collective, Ray, gatherFields, rayFields, RayBelow}
 use Rattle.statement.specs.declared.aim.Aim.{Aim}
 use Rattle.statement.specs.declared.aim.Aim.the-variants as aims
-use Rattle.statement.specs.declared.rays.Ray.{Ray}
 use Rattle.statement.proofs.Placed.{others-apart}
 use Rattle.statement.proofs.Asking.{begins, began, ends, optional-is}
 use Rattle.statement.proofs.Aiming.{kept-ready}

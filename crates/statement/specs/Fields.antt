@@ -1,4 +1,4 @@
--- The fields that the arms of stores and of ray queries ask, by kind: an expression that a kind does not have is absent.
+-- The fields that the arms of stores ask, by kind, as numbers: an expression that a kind does not have is absent.
 use mathlib.Core.Path.{_≡_}
 use mathlib.Core.Bool.{cond}
 use mathlib.Core.List.{List}
@@ -21,12 +21,22 @@ use Rattle.state.specs.Ready.{Ready}
 use Rattle.state.specs.declared.answer.Walked.{Walked}
 use Rattle.state.specs.declared.frame.Frame.{Frame}
 use Rattle.statement.specs.Asks.{Goes, maybeAsk}
-use Rattle.statement.specs.declared.stores.Fields.{Fields}
+use Rattle.statement.specs.declared.stores.Fields as declared
 
 -- a store, and one into an image
 pub data StoreKind (kind : ℕ) : Type 0 where
   plain : kind ≡ 12 → StoreKind kind
   image : kind ≡ 15 → StoreKind kind
+
+-- the numbers of the fields
+pub record Fields : Type 0 where
+  pub pointer : ℕ
+  pub coordinate : ℕ
+  pub index : ℕ
+  pub value : ℕ
+
+abbrev pub fieldsOf : declared.Fields → Fields
+fieldsOf x = record { pointer = x .pointer .0; coordinate = x .coordinate .0; index = x .index .0; value = x .value .0 }
 
 unfoldable pub storeFields : ℕ → (ℕ → ℕ) → Fields
 storeFields kind o =

@@ -1,4 +1,4 @@
--- The statements that are required where anything is needed of their target: its field, and the fields that are asked then, by kind.
+-- The statements that are required where anything is needed of their target: its field, and the fields that are asked then, by kind, as numbers.
 use mathlib.Core.Path.{_≡_}
 use mathlib.Core.Bool.{cond}
 use Prim.Native.Nat.{ℕ, _<_}
@@ -6,7 +6,7 @@ use lib.Dec.{eqb}
 use Rattle.field.specs.Limits.{absent}
 use Rattle.module.specs.Decode.{optionOf}
 use Rattle.valid.specs.Valid.{MaybeBelow}
-use Rattle.statement.specs.declared.rays.Ray.{Ray}
+use Rattle.statement.specs.declared.rays.Ray as declared
 
 pub data RayKind (kind : ℕ) : Type 0 where
   query : kind ≡ 16 → RayKind kind
@@ -14,6 +14,15 @@ pub data RayKind (kind : ℕ) : Type 0 where
   ballot : kind ≡ 18 → RayKind kind
   gather : kind ≡ 19 → RayKind kind
   collective : kind ≡ 20 → RayKind kind
+
+-- the numbers of the fields
+pub record Ray : Type 0 where
+  pub target : ℕ
+  pub first : ℕ
+  pub second : ℕ
+
+abbrev pub rayOf : declared.Ray → Ray
+rayOf x = record { target = x .target .0; first = x .first .0; second = x .second .0 }
 
 -- a gather, by its mode: 1 names an expression
 unfoldable pub gatherFields : (mode : ℕ) → (ℕ → ℕ) → Ray

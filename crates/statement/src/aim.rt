@@ -39,14 +39,14 @@ pub fn target_of(
     cells: &mut [u32],
     slots: &[u32],
     fr: Frame,
-    e: u16,
+    e: ExpressionHandle,
 ) -> Aim
-    requires { ⌜ Aiming (now bytes) (now t) (now cells) (now slots) fr e ⌝ }
-    ensures { λ r. ⌜ Aims (now (bytes .entry)) (now (t .entry)) (now (cells .entry)) (now (slots .entry)) fr e r (now (cells .exit)) ⌝ }
+    requires { ⌜ Aiming (now bytes) (now t) (now cells) (now slots) fr (e .0) ⌝ }
+    ensures { λ r. ⌜ Aims (now (bytes .entry)) (now (t .entry)) (now (cells .entry)) (now (slots .entry)) fr (e .0) r (now (cells .exit)) ⌝ }
 {
     let f = fr.function;
     let c = load_context(slots, fr.at);
-    let found = resolve_var(bytes, t, cells, f, ExpressionHandle(e as u32));
+    let found = resolve_var(bytes, t, cells, f, e);
     match found {
         VarRefPart::Resolved(target) => {
             if over(cells, target.part) {

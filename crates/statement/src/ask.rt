@@ -2,6 +2,7 @@
 use expression::add::add_expression;
 use memory::want::want_of;
 use module::handles::ExpressionHandle;
+use module::handles::NO_HANDLE;
 use state::answer::Answered;
 use state::answer::Walked;
 use state::frame::Frame;
@@ -24,18 +25,17 @@ pub fn then_ask(
     slots: &mut [u32],
     fr: Frame,
     before: Walked,
-    e: u16,
+    e: ExpressionHandle,
     k: usize,
 ) -> Walked
     requires { ⌜ Open (now bytes) (now t) (now cells) (now slots) fr before ⌝ }
-    requires { ⌜ (e < length (functionAt (moduleOf (now bytes) (now t)) (fr .function .0) .expressions)) × (k ≤ returned) ⌝ }
-    ensures { λ r. ⌜ Asked (now (bytes .entry)) (now (t .entry)) (now (cells .entry)) (now (slots .entry)) fr before (addExpression (moduleOf (now (bytes .entry)) (now (t .entry))) (fr .function .0) (fr .held) e) k r (now (cells .exit)) (now (slots .exit)) ⌝ }
+    requires { ⌜ (e .0 < length (functionAt (moduleOf (now bytes) (now t)) (fr .function .0) .expressions)) × (k ≤ returned) ⌝ }
+    ensures { λ r. ⌜ Asked (now (bytes .entry)) (now (t .entry)) (now (cells .entry)) (now (slots .entry)) fr before (addExpression (moduleOf (now (bytes .entry)) (now (t .entry))) (fr .function .0) (fr .held) (e .0)) k r (now (cells .exit)) (now (slots .exit)) ⌝ }
 {
     match before {
         Walked::Went(tally) => {
             let f = fr.function;
             let w = want_of(k);
-            let h = ExpressionHandle(e as u32);
             add_expression(
                 bytes,
                 t,
@@ -44,7 +44,7 @@ pub fn then_ask(
                 f,
                 fr.at,
                 fr.held,
-                h,
+                e,
                 w,
                 tally.visits,
                 tally.sum,
@@ -62,14 +62,14 @@ pub fn then_maybe(
     slots: &mut [u32],
     fr: Frame,
     before: Walked,
-    e: u16,
+    e: ExpressionHandle,
     k: usize,
 ) -> Walked
     requires { ⌜ Open (now bytes) (now t) (now cells) (now slots) fr before ⌝ }
-    requires { ⌜ MaybeBelow (length (functionAt (moduleOf (now bytes) (now t)) (fr .function .0) .expressions)) (optionOf e) × (k ≤ returned) ⌝ }
-    ensures { λ r. ⌜ Asked (now (bytes .entry)) (now (t .entry)) (now (cells .entry)) (now (slots .entry)) fr before (maybeAsk (moduleOf (now (bytes .entry)) (now (t .entry))) (fr .function .0) (fr .held) (optionOf e)) k r (now (cells .exit)) (now (slots .exit)) ⌝ }
+    requires { ⌜ MaybeBelow (length (functionAt (moduleOf (now bytes) (now t)) (fr .function .0) .expressions)) (optionOf (e .0)) × (k ≤ returned) ⌝ }
+    ensures { λ r. ⌜ Asked (now (bytes .entry)) (now (t .entry)) (now (cells .entry)) (now (slots .entry)) fr before (maybeAsk (moduleOf (now (bytes .entry)) (now (t .entry))) (fr .function .0) (fr .held) (optionOf (e .0))) k r (now (cells .exit)) (now (slots .exit)) ⌝ }
 {
-    if e == 65535 {
+    if e.0 == NO_HANDLE {
         return before;
     }
     then_ask(bytes, t, cells, slots, fr, before, e, k)

@@ -5,13 +5,13 @@ use crate::ask::answer;
 use crate::ask::then_maybe;
 use access::kinded::Kinded;
 use access::kinded::expression_number;
-use access::kinded::operand;
-use field::limits::ABSENT;
+use access::kinded::expression_operand;
 use memory::layout::ASK;
 use memory::layout::EXPRS;
 use memory::layout::RESULT;
 use memory::want::kid;
 use module::handles::ExpressionHandle;
+use module::handles::NO_HANDLE;
 use part::req::Found;
 use state::answer::Answered;
 use state::answer::Place;
@@ -38,16 +38,16 @@ pub fn record_of(
     cells: &[u32],
     slots: &[u32],
     fr: Frame,
-    result: u16,
+    result: ExpressionHandle,
 ) -> Found
-    requires { ⌜ Loading (now bytes) (now t) (now cells) (now slots) fr result ⌝ }
-    ensures { λ r. ⌜ Got (now (cells .entry)) (recordOf (recordsIn (now (t .entry)) exprsSlot (fr .function .0) (read (now (cells .entry)) (now (slots .entry)))) (optionOf result)) r ⌝ }
+    requires { ⌜ Loading (now bytes) (now t) (now cells) (now slots) fr (result .0) ⌝ }
+    ensures { λ r. ⌜ Got (now (cells .entry)) (recordOf (recordsIn (now (t .entry)) exprsSlot (fr .function .0) (read (now (cells .entry)) (now (slots .entry)))) (optionOf (result .0))) r ⌝ }
 {
-    if result == ABSENT {
+    if result.0 == NO_HANDLE {
         return Found::Gone;
     }
     let f = fr.function;
-    let number = expression_number(t, f, ExpressionHandle(result as u32));
+    let number = expression_number(t, f, result);
     let n = slots[EXPRS + number];
     if n < 3 {
         return Found::Gone;
@@ -55,13 +55,13 @@ pub fn record_of(
     Found::There(kid(cells, n))
 }
 
-// What was found is put into the slot k. The field e, where it is to be asked.
-fn put_aside(slots: &mut [u32], k: usize, found: Found, e: u16) -> u16
+// What was found is put into the slot k. The expression e, where it is to be asked.
+fn put_aside(slots: &mut [u32], k: usize, found: Found, e: ExpressionHandle) -> ExpressionHandle
     requires { ⌜ k < length (now slots) ⌝ }
-    ensures { λ r. ⌜ (r ≡ asideField found e) × (now (slots .exit) ≡ asideSlots (now (slots .entry)) k found) ⌝ }
+    ensures { λ r. ⌜ (r .0 ≡ asideField found (e .0)) × (now (slots .exit) ≡ asideSlots (now (slots .entry)) k found) ⌝ }
 {
     match found {
-        Found::Gone => ABSENT,
+        Found::Gone => ExpressionHandle(NO_HANDLE),
         Found::There(n) => {
             slots[k] = n;
             e
@@ -69,13 +69,13 @@ fn put_aside(slots: &mut [u32], k: usize, found: Found, e: u16) -> u16
     }
 }
 
-fn some_field(a: u16, b: u16) -> bool
-    ensures { λ r. ⌜ r ≡ someField a b ⌝ }
+fn some_field(a: ExpressionHandle, b: ExpressionHandle) -> bool
+    ensures { λ r. ⌜ r ≡ someField (a .0) (b .0) ⌝ }
 {
-    if a != ABSENT {
+    if a.0 != NO_HANDLE {
         return true;
     }
-    b != ABSENT
+    b.0 != NO_HANDLE
 }
 
 pub fn add_atomic(
@@ -92,9 +92,9 @@ pub fn add_atomic(
     requires { ⌜ row .kind ≡ 13 ⌝ }
     ensures { λ r. ⌜ Leaves (now (bytes .entry)) (now (t .entry)) (now (cells .entry)) (now (slots .entry)) fr (statementOf (row .kind) (operandAt (now (bytes .entry)) row)) visits r (now (cells .exit)) (now (slots .exit)) ⌝ }
 {
-    let pointer = operand(bytes, row, 0);
-    let value = operand(bytes, row, 1);
-    let result = operand(bytes, row, 2);
+    let pointer = expression_operand(bytes, row, 0);
+    let value = expression_operand(bytes, row, 1);
+    let result = expression_operand(bytes, row, 2);
     let aimed = target_of(bytes, t, cells, slots, fr, pointer);
     match aimed {
         Aim::Refuse(n) => {

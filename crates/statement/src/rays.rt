@@ -5,9 +5,11 @@ use crate::aim::target_of;
 use crate::ask::answer;
 use crate::ask::then_maybe;
 use access::kinded::Kinded;
+use access::kinded::expression_operand;
 use access::kinded::operand;
-use field::limits::ABSENT;
 use memory::layout::ALL;
+use module::handles::ExpressionHandle;
+use module::handles::NO_HANDLE;
 use part::req::Found;
 use state::answer::Answered;
 use state::answer::Place;
@@ -18,13 +20,13 @@ ghost use mathlib.Core.Path.{_≡_};
 ghost use Rattle.module.specs.Decode.{statementOf};
 ghost use Rattle.access.specs.Access.{operandAt};
 ghost use Rattle.statement.specs.Leaf.{Arm, Leaves};
-ghost use Rattle.statement.specs.Rays.{RayKind, gatherFields, rayFields};
+ghost use Rattle.statement.specs.Rays.{RayKind, rayOf, gatherFields, rayFields};
 
 // The target, and what is asked of where it is needed, absent where a kind has no such field.
 pub struct Ray {
-    pub target: u16,
-    pub first: u16,
-    pub second: u16,
+    pub target: ExpressionHandle,
+    pub first: ExpressionHandle,
+    pub second: ExpressionHandle,
 }
 
 const RAY_QUERY: u16 = 16;
@@ -35,42 +37,42 @@ const SUBGROUP_GATHER: u16 = 19;
 
 // Those of a gather: a mode that names an expression has it before the argument.
 fn gather_fields(bytes: &[u8], row: Kinded) -> Ray
-    ensures { λ r. ⌜ r ≡ gatherFields (operandAt (now (bytes .entry)) row 0) (operandAt (now (bytes .entry)) row) ⌝ }
+    ensures { λ r. ⌜ rayOf r ≡ gatherFields (operandAt (now (bytes .entry)) row 0) (operandAt (now (bytes .entry)) row) ⌝ }
 {
     let mode = operand(bytes, row, 0);
-    let first = operand(bytes, row, 1);
-    let second = operand(bytes, row, 2);
+    let first = expression_operand(bytes, row, 1);
+    let second = expression_operand(bytes, row, 2);
     if mode == 1 {
         return Ray {
-            target: operand(bytes, row, 3),
+            target: expression_operand(bytes, row, 3),
             first: first,
             second: second,
         };
     }
     Ray {
         target: second,
-        first: ABSENT,
+        first: ExpressionHandle(NO_HANDLE),
         second: first,
     }
 }
 
 fn ray_fields(bytes: &[u8], row: Kinded) -> Ray
-    ensures { λ r. ⌜ r ≡ rayFields (row .kind) (operandAt (now (bytes .entry)) row) ⌝ }
+    ensures { λ r. ⌜ rayOf r ≡ rayFields (row .kind) (operandAt (now (bytes .entry)) row) ⌝ }
 {
-    let a = operand(bytes, row, 0);
-    let b = operand(bytes, row, 1);
+    let a = expression_operand(bytes, row, 0);
+    let b = expression_operand(bytes, row, 1);
     if row.kind == RAY_QUERY {
         return Ray {
             target: a,
-            first: ABSENT,
-            second: ABSENT,
+            first: ExpressionHandle(NO_HANDLE),
+            second: ExpressionHandle(NO_HANDLE),
         };
     }
     if row.kind == SUBGROUP_BALLOT {
         return Ray {
             target: a,
             first: b,
-            second: ABSENT,
+            second: ExpressionHandle(NO_HANDLE),
         };
     }
     if row.kind == SUBGROUP_GATHER {
@@ -79,7 +81,7 @@ fn ray_fields(bytes: &[u8], row: Kinded) -> Ray
     Ray {
         target: b,
         first: a,
-        second: ABSENT,
+        second: ExpressionHandle(NO_HANDLE),
     }
 }
 

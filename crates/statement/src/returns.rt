@@ -3,9 +3,9 @@ use crate::ask::answer;
 use crate::ask::then_ask;
 use crate::leave::leave;
 use access::kinded::Kinded;
-use access::kinded::operand;
-use field::limits::ABSENT;
+use access::kinded::expression_operand;
 use memory::layout::ASK;
+use module::handles::NO_HANDLE;
 use part::limits::SPINE;
 use part::req::Found;
 use part::req::get;
@@ -33,8 +33,8 @@ pub fn add_return(
     requires { ⌜ row .kind ≡ 7 ⌝ }
     ensures { λ r. ⌜ Leaves (now (bytes .entry)) (now (t .entry)) (now (cells .entry)) (now (slots .entry)) fr (statementOf (row .kind) (operandAt (now (bytes .entry)) row)) visits r (now (cells .exit)) (now (slots .exit)) ⌝ }
 {
-    let value = operand(bytes, row, 0);
-    if value == ABSENT {
+    let value = expression_operand(bytes, row, 0);
+    if value.0 == NO_HANDLE {
         return leave(slots, fr, visits, sum);
     }
     let at = fr.at;

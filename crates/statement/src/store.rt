@@ -5,6 +5,7 @@ use crate::aim::target_of;
 use context::required_context::Removed;
 use memory::layout::ASK;
 use memory::stretches::save_context;
+use module::handles::ExpressionHandle;
 use part::req::Found;
 use state::frame::Frame;
 use target::resolve::Target;
@@ -60,11 +61,11 @@ pub fn store(
     cells: &mut [u32],
     slots: &mut [u32],
     fr: Frame,
-    e: u16,
+    e: ExpressionHandle,
 ) -> Need
-    requires { ⌜ Aiming (now bytes) (now t) (now cells) (now slots) fr e ⌝ }
+    requires { ⌜ Aiming (now bytes) (now t) (now cells) (now slots) fr (e .0) ⌝ }
     requires { ⌜ typesOf (now types) ≡ moduleOf (now bytes) (now t) .types ⌝ }
-    ensures { λ r. ⌜ Stores (now (bytes .entry)) (now (t .entry)) (now (cells .entry)) (now (slots .entry)) fr e r (now (cells .exit)) (now (slots .exit)) ⌝ }
+    ensures { λ r. ⌜ Stores (now (bytes .entry)) (now (t .entry)) (now (cells .entry)) (now (slots .entry)) fr (e .0) r (now (cells .exit)) (now (slots .exit)) ⌝ }
 {
     let aimed = target_of(bytes, t, cells, slots, fr, e);
     match aimed {

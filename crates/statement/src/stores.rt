@@ -5,11 +5,12 @@ use crate::ask::then_maybe;
 use crate::store::Need;
 use crate::store::store;
 use access::kinded::Kinded;
-use access::kinded::operand;
-use field::limits::ABSENT;
+use access::kinded::expression_operand;
 use memory::layout::ALL;
 use memory::layout::ASK;
 use memory::layout::EXIST;
+use module::handles::ExpressionHandle;
+use module::handles::NO_HANDLE;
 use state::answer::Answered;
 use state::answer::Place;
 use state::answer::Tally;
@@ -21,35 +22,35 @@ ghost use Rattle.module.specs.Tables.{moduleOf};
 ghost use Rattle.access.specs.Access.{operandAt};
 ghost use Rattle.context.specs.Types.{typesOf};
 ghost use Rattle.statement.specs.Leaf.{Arm, Leaves};
-ghost use Rattle.statement.specs.Fields.{StoreKind, storeFields, Fielding, Fielded};
+ghost use Rattle.statement.specs.Fields.{StoreKind, fieldsOf, storeFields, Fielding, Fielded};
 
 // The fields of a store: coordinate and array index are an image's, absent where it is none.
 pub struct Fields {
-    pub pointer: u16,
-    pub coordinate: u16,
-    pub index: u16,
-    pub value: u16,
+    pub pointer: ExpressionHandle,
+    pub coordinate: ExpressionHandle,
+    pub index: ExpressionHandle,
+    pub value: ExpressionHandle,
 }
 
 const IMAGE_STORE: u16 = 15;
 
 fn store_fields(bytes: &[u8], row: Kinded) -> Fields
-    ensures { λ r. ⌜ r ≡ storeFields (row .kind) (operandAt (now (bytes .entry)) row) ⌝ }
+    ensures { λ r. ⌜ fieldsOf r ≡ storeFields (row .kind) (operandAt (now (bytes .entry)) row) ⌝ }
 {
-    let pointer = operand(bytes, row, 0);
-    let next = operand(bytes, row, 1);
+    let pointer = expression_operand(bytes, row, 0);
+    let next = expression_operand(bytes, row, 1);
     if row.kind == IMAGE_STORE {
         return Fields {
             pointer: pointer,
             coordinate: next,
-            index: operand(bytes, row, 2),
-            value: operand(bytes, row, 3),
+            index: expression_operand(bytes, row, 2),
+            value: expression_operand(bytes, row, 3),
         };
     }
     Fields {
         pointer: pointer,
-        coordinate: ABSENT,
-        index: ABSENT,
+        coordinate: ExpressionHandle(NO_HANDLE),
+        index: ExpressionHandle(NO_HANDLE),
         value: next,
     }
 }
@@ -65,8 +66,8 @@ fn ask_fields(
     visits: usize,
     sum: usize,
 ) -> Walked
-    requires { ⌜ Fielding (now bytes) (now t) (now cells) (now slots) fr x sum ⌝ }
-    ensures { λ r. ⌜ Fielded (now (bytes .entry)) (now (t .entry)) (now (cells .entry)) (now (slots .entry)) fr x visits r (now (cells .exit)) (now (slots .exit)) ⌝ }
+    requires { ⌜ Fielding (now bytes) (now t) (now cells) (now slots) fr (fieldsOf x) sum ⌝ }
+    ensures { λ r. ⌜ Fielded (now (bytes .entry)) (now (t .entry)) (now (cells .entry)) (now (slots .entry)) fr (fieldsOf x) visits r (now (cells .exit)) (now (slots .exit)) ⌝ }
 {
     let began = Walked::Went(Tally {
         visits: visits,

@@ -43,7 +43,7 @@ abbrev pub HasResolved : Module → FunctionHandle → List ℕ → declared.Var
 HasResolved m f s (Resolved x) = HasTarget m f s x
 HasResolved m f s Unresolved = Unit {0}
 
--- what a pointer names, in the store s
+-- what a pointer names, in the store s; or 13 (`refusal` of crate `walk`)
 abbrev pub varRefPart : List ℕ → declared.VarRefPart → VarRefPart
 varRefPart s (Resolved x) = resolved (variableOf (x .var)) (part s (x .part))
 varRefPart s Unresolved = unresolved

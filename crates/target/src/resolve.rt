@@ -1,12 +1,13 @@
 // `resolve_var`: from a store's pointer down to the variable. The part grows on the way, a piece for each index.
 use access::kinded::Kinded;
 use access::kinded::expression;
+use access::kinded::expression_operand;
+use access::kinded::global_operand;
+use access::kinded::local_operand;
 use access::kinded::operand;
 use context::required_context::VarRef;
 use module::handles::ExpressionHandle;
 use module::handles::FunctionHandle;
-use module::handles::GlobalHandle;
-use module::handles::LocalHandle;
 use part::store::make;
 ghost use mathlib.Core.Path.{_≡_};
 ghost use Prim.Native.Nat.{_<_};
@@ -76,27 +77,26 @@ pub fn resolve_var(
     requires { ⌜ Room (now cells) maxExpressions ⌝ }
     ensures { λ r. ⌜ Resolves (moduleOf (now (bytes .entry)) (now (t .entry))) (f .0) (e .0) (now (cells .entry)) (now (cells .exit)) r ⌝ }
 {
-    let mut x = e.0;
+    let mut x = e;
     let mut p = 0;
     loop {
-        let row = expression(bytes, t, f, ExpressionHandle(x));
-        let number = operand(bytes, row, 0) as u32;
+        let row = expression(bytes, t, f, x);
         if row.kind == GLOBAL_VARIABLE {
             return VarRefPart::Resolved(Target {
-                var: VarRef::Global(GlobalHandle(number)),
+                var: VarRef::Global(global_operand(bytes, row, 0)),
                 part: p,
             });
         }
         if row.kind == LOCAL_VARIABLE {
             return VarRefPart::Resolved(Target {
-                var: VarRef::Local(LocalHandle(number)),
+                var: VarRef::Local(local_operand(bytes, row, 0)),
                 part: p,
             });
         }
         if !follows(row.kind) {
             return VarRefPart::Unresolved;
         }
+        x = expression_operand(bytes, row, 0);
         p = base_part(bytes, cells, row, p);
-        x = number;
     }
 }

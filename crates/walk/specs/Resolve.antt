@@ -24,6 +24,11 @@ pub data VarRefPart : Type 0 where
   resolved : VarRef → PartReq → VarRefPart
   unresolved : VarRefPart
 
+-- 01's number of each: 0 where a variable is named
+abbrev pub refusal : VarRefPart → ℕ
+refusal (resolved var part) = 0
+refusal unresolved = 13
+
 -- with r what resolves a lower expression
 abbrev pub resolveWay : (ExpressionHandle → List ℕ → VarRefPart) → Way → List ℕ → VarRefPart
 resolveWay r (constantly base index) indexes = r base (indexes ++ (index ∷ []))

@@ -7,10 +7,10 @@ use lib.ListN.{length, getD}
 use Rattle.field.specs.Limits.{maxTurns}
 use Rattle.part.specs.PartReq.{PartReq, all, exist, none, more, Subpart, gone, there, getSubpart}
 use Rattle.module.specs.Module.{ExpressionHandle, FunctionHandle, BlockHandle, Module, GatherMode, BroadcastFirst, Broadcast, SwitchCase, Statement, Emit, Block, If, Switch, Loop, Break, Continue, Return, Kill, ControlBarrier, MemoryBarrier, ImageAtomic, Store, AtomicStatement, Call, ImageStore, RayQuery, WorkGroupUniformLoad, SubgroupBallot, SubgroupGather, SubgroupCollectiveOperation}
-use Rattle.context.specs.RequiredContext.{RequiredContext, mergeContext, containsContext, pieces, variable, VarRef, RemovedContext, leftContext, panicContext, removeVar}
+use Rattle.context.specs.RequiredContext.{RequiredContext, mergeContext, containsContext, pieces, variable, VarRef, RemovedContext, leftContext, panicContext, refusalContext, removeVar}
 use Rattle.module.specs.Knot.{knot}
 use Rattle.walk.specs.State.{Records, State, Place, atStatement, nowhere, went, halt, Walk, _>>=_, _>>_, withContext, withMarks, recordPieces, limited, limitedContext, visit}
-use Rattle.walk.specs.Resolve.{VarRefPart, resolved, unresolved, resolveVar, storeRequired, functionAt, isThere}
+use Rattle.walk.specs.Resolve.{VarRefPart, resolved, unresolved, refusal, resolveVar, storeRequired, functionAt, isThere}
 use Rattle.walk.specs.Expression.{addExpression}
 use Rattle.walk.specs.StatementReq.{StatementReq, required, ownMarks}
 use Rattle.module.specs.Marks.{marksBefore}
@@ -171,7 +171,7 @@ pub record Target : Type 0 where
   pub needed : Subpart
 
 unfoldable pub targetOf : Frame → VarRefPart → Walk Target
-targetOf fr unresolved st = halt 13 (here fr)
+targetOf fr unresolved st = halt (refusal unresolved) (here fr)
 targetOf fr (resolved var part) st =
     limited (here fr) part st >> λ left. went left (record { var = var; part = part; needed = storeRequired (left .context) var part })
 
@@ -180,7 +180,7 @@ target m fr e st = targetOf fr (resolveVar m (fr .function) e []) st
 
 -- the target's part taken out of the context: 13, 15
 unfoldable pub takenOut : Frame → RemovedContext → Walk (Unit {0})
-takenOut fr panicContext st = halt 13 (here fr)
+takenOut fr panicContext st = halt (refusalContext panicContext) (here fr)
 takenOut fr (leftContext c) st = limitedContext (here fr) c (withContext c st)
 
 -- a store into a target of which p is needed, if anything is; `accessors` is what is asked beside pointer and value

@@ -6,6 +6,8 @@ use Rattle.arms.proofs.calls.begin_call.Statement.{statement}
 use Rattle.arms.proofs.calls.begin_call.Tie as tie
 use Rattle.arms.proofs.calls.begin_call.Reads as reads
 use Rattle.arms.proofs.calls.begin_call.Lts as lts
+use Rattle.access.proofs.kinded.expression_operand.Reads as expression-operand-reads
+use Rattle.access.proofs.kinded.function_operand.Reads as function-operand-reads
 use Rattle.access.proofs.kinded.operand.Reads as operand-reads
 use Rattle.arms.proofs.calls.asked_of.Reads as asked-of-reads
 use Rattle.block.proofs.call.enter.Reads as enter-reads
@@ -14,20 +16,17 @@ use Rattle.memory.proofs.memory.tidy.Reads as tidy-reads
 use Rattle.memory.proofs.memory.weigh.Reads as weigh-reads
 use Rattle.statement.proofs.atomic.record_of.Reads as record-of-reads
 
+function-operand-requires : tie.Need-function-operand-requires
+function-operand-requires c κs = search needs
+
 operand-requires : tie.Need-operand-requires
 operand-requires c κs = search needs
 
-cast-t20 : tie.Need-cast-t20
-cast-t20 c = search needs
+add-expression-operand : tie.Need-add-expression-operand
+add-expression-operand c = omega (arith, begin-few (c .before .before .before .before .before .before .before .before .before .pre), c .operand .ensures)
 
-operand-requires-2 : tie.Need-operand-requires-2
-operand-requires-2 c κs = search needs
-
-add-operand : tie.Need-add-operand
-add-operand c = omega (arith, begin-few (c .before .before .before .before .before .before .before .before .before .pre), c .operand2 .ensures)
-
-operand-requires-3 : tie.Need-operand-requires-3
-operand-requires-3 c κs = search needs
+expression-operand-requires : tie.Need-expression-operand-requires
+expression-operand-requires c κs = search needs
 
 own-pieces-requires : tie.Need-own-pieces-requires
 own-pieces-requires c κs = begin-own (c .before .before .before .before .before .before .before .before .before .before .before .before .pre)
@@ -42,16 +41,16 @@ add-held-2 : tie.Need-add-held-2
 add-held-2 c = omega (arith, begin-held (c .before .before .before .before .before .before .before .before .before .before .before .before .before .before .before .before .before .pre), c .before .weigh .ensures, c .before .before .before .before .own-pieces .ensures)
 
 record-of-requires : tie.Need-record-of-requires
-record-of-requires c κs = begin-loads (c .before .before .before .before .before .before .before .before .before .before .before .before .before .before .before .before .before .before .before .pre) (c .before .before .before .before .before .before .before .before .before .before .operand2 .ensures) (c .before .before .before .before .before .before .before .before .before .operand3 .ensures)
+record-of-requires c κs = begin-loads (c .before .before .before .before .before .before .before .before .before .before .before .before .before .before .before .before .before .before .before .pre) (c .before .before .before .before .before .before .before .before .before .before .operand .ensures) (c .before .before .before .before .before .before .before .before .before .expression-operand .ensures)
 
 asked-of-requires : tie.Need-asked-of-requires
-asked-of-requires c κs = begin-asks (c .before .before .before .before .before .before .before .before .before .before .before .before .before .before .before .before .before .before .before .before .before .pre) (c .before .before .before .before .before .before .before .before .before .before .before .before .operand2 .ensures) (c .before .before .before .before .before .before .before .before .before .before .before .operand3 .ensures) (c .before .record-of .result) (c .before .record-of .ensures)
+asked-of-requires c κs = begin-asks (c .before .before .before .before .before .before .before .before .before .before .before .before .before .before .before .before .before .before .before .before .before .pre) (c .before .before .before .before .before .before .before .before .before .before .before .before .operand .ensures) (c .before .before .before .before .before .before .before .before .before .before .before .expression-operand .ensures) (c .before .record-of .result) (c .before .record-of .ensures)
 
 enter-requires : tie.Need-enter-requires
-enter-requires c κs = begin-enters (c .before .before .before .before .before .before .before .before .before .before .before .before .before .before .before .before .before .before .before .before .before .before .before .before .before .before .pre) (c .before .before .before .before .before .before .before .before .before .before .before .before .before .before .before .before .before .operand2 .ensures) (c .before .before .before .before .before .before .before .before .before .before .before .before .before .before .before .before .operand3 .ensures) (c .before .before .before .before .before .before .record-of .result) (c .before .before .before .before .before .before .record-of .ensures) (c .before .before .before .before .before .before .before .before .before .before .before .before .before .before .before .before .before .before .operand .ensures)
+enter-requires c κs = begin-enters (c .before .before .before .before .before .before .before .before .before .before .before .before .before .before .before .before .before .before .before .before .before .before .before .before .before .before .pre) (c .before .before .before .before .before .before .before .before .before .before .before .before .before .before .before .before .before .operand .ensures) (c .before .before .before .before .before .before .before .before .before .before .before .before .before .before .before .before .expression-operand .ensures) (c .before .before .before .before .before .before .record-of .result) (c .before .before .before .before .before .before .record-of .ensures) (c .before .before .before .before .before .before .before .before .before .before .before .before .before .before .before .before .before .before .function-operand .ensures)
 
 tidy-requires : tie.Need-tidy-requires
-tidy-requires c κs = begin-tidies (c .before .before .before .before .before .before .before .before .before .before .before .before .before .before .before .before .before .before .before .before .before .before .before .before .before .before .before .before .before .before .before .before .before .pre) (c .before .before .before .before .before .before .before .before .before .before .before .before .before .before .before .before .before .before .before .before .before .before .before .before .operand2 .ensures) (c .before .before .before .before .before .before .before .before .before .before .before .before .before .before .before .before .before .before .before .before .before .before .before .operand3 .ensures) (c .before .before .before .before .before .before .before .before .before .before .before .before .before .record-of .result) (c .before .before .before .before .before .before .before .before .before .before .before .before .before .record-of .ensures) (c .before .before .before .before .before .before .before .before .before .before .before .before .before .before .before .before .before .before .before .before .before .before .before .before .before .operand .ensures) (c .before .before .before .before .before .before .before .before .before .before .before .asked-of .ensures) (c .before .before .before .before .before .before .enter .ensures .0)
+tidy-requires c κs = begin-tidies (c .before .before .before .before .before .before .before .before .before .before .before .before .before .before .before .before .before .before .before .before .before .before .before .before .before .before .before .before .before .before .before .before .before .pre) (c .before .before .before .before .before .before .before .before .before .before .before .before .before .before .before .before .before .before .before .before .before .before .before .before .operand .ensures) (c .before .before .before .before .before .before .before .before .before .before .before .before .before .before .before .before .before .before .before .before .before .before .before .expression-operand .ensures) (c .before .before .before .before .before .before .before .before .before .before .before .before .before .record-of .result) (c .before .before .before .before .before .before .before .before .before .before .before .before .before .record-of .ensures) (c .before .before .before .before .before .before .before .before .before .before .before .before .before .before .before .before .before .before .before .before .before .before .before .before .before .function-operand .ensures) (c .before .before .before .before .before .before .before .before .before .before .before .asked-of .ensures) (c .before .before .before .before .before .before .enter .ensures .0)
 
 same-length : tie.Need-same-length
 same-length c = search needs
@@ -63,17 +62,16 @@ same-length-3 : tie.Need-same-length-3
 same-length-3 c = search needs
 
 returns : tie.Need-returns
-returns c = call-begun (c .before .before .before .before .before .before .before .before .before .before .before .before .before .before .before .before .before .before .before .before .before .before .before .before .before .before .before .before .before .before .before .before .before .before .before .before .before .before .pre) (c .before .before .before .before .before .before .before .before .before .before .before .before .before .before .before .before .before .before .before .before .before .before .before .before .before .before .before .before .before .operand2 .ensures) (c .before .before .before .before .before .before .before .before .before .before .before .before .before .before .before .before .before .before .before .before .before .before .before .before .before .before .before .before .operand3 .ensures) (c .before .before .before .before .before .before .before .before .before .before .before .before .before .before .before .before .before .before .record-of .result) (c .before .before .before .before .before .before .before .before .before .before .before .before .before .before .before .before .before .before .record-of .ensures) (c .before .before .before .before .before .before .before .before .before .before .before .before .before .before .before .before .before .before .before .before .before .before .before .before .before .before .before .before .before .before .operand .ensures) (c .before .before .before .before .before .before .before .before .before .before .before .before .before .before .before .before .asked-of .ensures) (c .before .before .before .before .before .before .before .before .before .before .before .enter .ensures .0) (c .before .before .before .before .before .before .before .before .before .before .before .before .before .before .before .before .before .before .before .before .before .before .before .before .before .own-pieces .ensures) (c .before .before .before .before .before .before .before .before .before .before .before .before .before .before .before .before .before .before .before .before .before .before .weigh .ensures) (c .before .before .before .before .before .before .before .before .before .before .before .enter .ensures .1) (c .before .before .before .before .tidy .ensures)
+returns c = call-begun (c .before .before .before .before .before .before .before .before .before .before .before .before .before .before .before .before .before .before .before .before .before .before .before .before .before .before .before .before .before .before .before .before .before .before .before .before .before .before .pre) (c .before .before .before .before .before .before .before .before .before .before .before .before .before .before .before .before .before .before .before .before .before .before .before .before .before .before .before .before .before .operand .ensures) (c .before .before .before .before .before .before .before .before .before .before .before .before .before .before .before .before .before .before .before .before .before .before .before .before .before .before .before .before .expression-operand .ensures) (c .before .before .before .before .before .before .before .before .before .before .before .before .before .before .before .before .before .before .record-of .result) (c .before .before .before .before .before .before .before .before .before .before .before .before .before .before .before .before .before .before .record-of .ensures) (c .before .before .before .before .before .before .before .before .before .before .before .before .before .before .before .before .before .before .before .before .before .before .before .before .before .before .before .before .before .before .function-operand .ensures) (c .before .before .before .before .before .before .before .before .before .before .before .before .before .before .before .before .asked-of .ensures) (c .before .before .before .before .before .before .before .before .before .before .before .enter .ensures .0) (c .before .before .before .before .before .before .before .before .before .before .before .before .before .before .before .before .before .before .before .before .before .before .before .before .before .own-pieces .ensures) (c .before .before .before .before .before .before .before .before .before .before .before .before .before .before .before .before .before .before .before .before .before .before .weigh .ensures) (c .before .before .before .before .before .before .before .before .before .before .before .enter .ensures .1) (c .before .before .before .before .tidy .ensures)
 
 pub begin-call-spec : {M : Type 1} → statement M
 begin-call-spec =
     tie.close
     (tie.spec
+    function-operand-requires
     operand-requires
-    cast-t20
-    operand-requires-2
-    add-operand
-    operand-requires-3
+    add-expression-operand
+    expression-operand-requires
     own-pieces-requires
     weigh-requires
     add-held

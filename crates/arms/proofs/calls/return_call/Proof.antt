@@ -6,6 +6,7 @@ use Rattle.arms.proofs.calls.return_call.Statement.{statement}
 use Rattle.arms.proofs.calls.return_call.Tie as tie
 use Rattle.arms.proofs.calls.return_call.Reads as reads
 use Rattle.arms.proofs.calls.return_call.Lts as lts
+use Rattle.access.proofs.kinded.expression_operand.Reads as expression-operand-reads
 use Rattle.access.proofs.kinded.operand.Reads as operand-reads
 use Rattle.arms.proofs.calls.hold_result.Reads as hold-result-reads
 use Rattle.arms.proofs.calls.mark_call.Reads as mark-call-reads
@@ -29,20 +30,20 @@ returns c = not-returned (c .before .before .before .before .before .before .bef
 operand-requires : tie.Need-operand-requires
 operand-requires c κs = search needs
 
-add-operand : tie.Need-add-operand
-add-operand c = omega (arith, return-few (c .before .before .before .before .before .before .before .before .before .before .pre), c .operand .ensures)
+add-expression-operand : tie.Need-add-expression-operand
+add-expression-operand c = omega (arith, return-few (c .before .before .before .before .before .before .before .before .before .before .pre), c .operand .ensures)
 
-operand-requires-2 : tie.Need-operand-requires-2
-operand-requires-2 c κs = search needs
+expression-operand-requires : tie.Need-expression-operand-requires
+expression-operand-requires c κs = search needs
 
 record-of-requires : tie.Need-record-of-requires
-record-of-requires c κs = return-loads (c .before .before .before .before .before .before .before .before .before .before .before .before .before .pre) (c .before .before .before .before .before .place .ensures) (c .before .before .before .operand .ensures) (c .before .before .operand2 .ensures)
+record-of-requires c κs = return-loads (c .before .before .before .before .before .before .before .before .before .before .before .before .before .pre) (c .before .before .before .before .before .place .ensures) (c .before .before .before .operand .ensures) (c .before .before .expression-operand .ensures)
 
 hold-result-requires : tie.Need-hold-result-requires
 hold-result-requires c κs = search needs
 
 end-call-requires : tie.Need-end-call-requires
-end-call-requires c κs = return-calls (c .before .before .before .before .before .before .before .before .before .before .before .before .before .before .before .before .before .before .before .before .pre) (c .before .before .before .before .before .before .before .before .before .before .before .before .place .ensures) (c .before .before .before .before .before .before .before .before .before .before .operand .ensures) (c .before .before .before .before .before .before .before .before .before .operand2 .ensures) (c .before .before .before .before .before .before .record-of .result) (c .before .before .before .before .before .before .record-of .ensures) (c .before .before .before .before .hold-result .ensures .1)
+end-call-requires c κs = return-calls (c .before .before .before .before .before .before .before .before .before .before .before .before .before .before .before .before .before .before .before .before .pre) (c .before .before .before .before .before .before .before .before .before .before .before .before .place .ensures) (c .before .before .before .before .before .before .before .before .before .before .operand .ensures) (c .before .before .before .before .before .before .before .before .before .expression-operand .ensures) (c .before .before .before .before .before .before .record-of .result) (c .before .before .before .before .before .before .record-of .ensures) (c .before .before .before .before .hold-result .ensures .1)
 
 mark-call-requires : tie.Need-mark-call-requires
 mark-call-requires c κs = return-marks (c .before .before .before .before .before .before .before .before .before .before .before .before .before .before .before .before .before .before .before .before .before .before .before .before .before .before .pre) (c .before .before .before .before .before .before .before .before .before .before .before .before .before .before .before .before .before .before .place .ensures)
@@ -57,7 +58,7 @@ same-length-4 : tie.Need-same-length-4
 same-length-4 c = search needs
 
 returns-2 : tie.Need-returns-2
-returns-2 c = call-returned (c .before .before .before .before .before .before .before .before .before .before .before .before .before .before .before .before .before .before .before .before .before .before .before .before .before .before .before .before .before .pre) (c .before .before .before .before .before .before .before .before .before .before .before .before .before .before .before .before .before .before .before .before .before .place .ensures) (c .before .before .before .before .before .before .before .before .before .before .before .before .before .before .before .before .before .before .before .operand .ensures) (c .before .before .before .before .before .before .before .before .before .before .before .before .before .before .before .before .before .before .operand2 .ensures) (c .before .before .before .before .before .before .before .before .before .before .before .before .before .before .before .record-of .result) (c .before .before .before .before .before .before .before .before .before .before .before .before .before .before .before .record-of .ensures) (c .before .before .before .before .before .before .before .before .before .before .before .before .before .hold-result .ensures .1) (c .before .before .before .before .before .before .before .before .before .before .before .before .before .before .before .before .before .before .before .before .before .before .before .before .before .before .before .before .before .args .required) (c .before .before .before .before .before .before .before .before .before .before .before .before .before .before .before .before .before .before .before .before .if1 .left) (c .before .before .before .before .before .before .before .before .before .before .before .before .before .hold-result .ensures .0) (c .before .before .before .before .before .before .before .before .end-call .ensures) (c .before .before .mark-call .ensures)
+returns-2 c = call-returned (c .before .before .before .before .before .before .before .before .before .before .before .before .before .before .before .before .before .before .before .before .before .before .before .before .before .before .before .before .before .pre) (c .before .before .before .before .before .before .before .before .before .before .before .before .before .before .before .before .before .before .before .before .before .place .ensures) (c .before .before .before .before .before .before .before .before .before .before .before .before .before .before .before .before .before .before .before .operand .ensures) (c .before .before .before .before .before .before .before .before .before .before .before .before .before .before .before .before .before .before .expression-operand .ensures) (c .before .before .before .before .before .before .before .before .before .before .before .before .before .before .before .record-of .result) (c .before .before .before .before .before .before .before .before .before .before .before .before .before .before .before .record-of .ensures) (c .before .before .before .before .before .before .before .before .before .before .before .before .before .hold-result .ensures .1) (c .before .before .before .before .before .before .before .before .before .before .before .before .before .before .before .before .before .before .before .before .before .before .before .before .before .before .before .before .before .args .required) (c .before .before .before .before .before .before .before .before .before .before .before .before .before .before .before .before .before .before .before .before .if1 .left) (c .before .before .before .before .before .before .before .before .before .before .before .before .before .hold-result .ensures .0) (c .before .before .before .before .before .before .before .before .end-call .ensures) (c .before .before .mark-call .ensures)
 
 pub return-call-spec : {M : Type 1} → statement M
 return-call-spec =
@@ -68,8 +69,8 @@ return-call-spec =
     same-length
     returns
     operand-requires
-    add-operand
-    operand-requires-2
+    add-expression-operand
+    expression-operand-requires
     record-of-requires
     hold-result-requires
     end-call-requires

@@ -11,31 +11,31 @@ use Rattle.memory.proofs.memory.weigh.Reads as weigh-reads
 use Rattle.memory.proofs.want.want_of.Reads as want-of-reads
 
 returns : tie.Need-returns
-returns c = break-absent (c .before .before .before .before .before .pre) (c .if1 .taken)
+returns c = break-absent (c .before .before .before .before .before .before .pre) (c .if1 .taken)
 
 add-k : tie.Need-add-k
 add-k c = search needs
 
 weigh-requires : tie.Need-weigh-requires
-weigh-requires c κs = first-weighs (c .before .before .before .before .before .before .before .before .pre)
+weigh-requires c κs = first-weighs (c .before .before .before .before .before .before .before .before .before .pre)
 
 add-weigh : tie.Need-add-weigh
 add-weigh c = search needs
 
 weigh-requires-2 : tie.Need-weigh-requires-2
-weigh-requires-2 c κs = second-weighs (c .before .before .before .before .before .before .before .before .before .before .before .pre)
+weigh-requires-2 c κs = second-weighs (c .before .before .before .before .before .before .before .before .before .before .before .before .pre)
 
 add-held : tie.Need-add-held
-add-held c = let h = break-fits (c .before .before .before .before .before .before .before .before .before .before .before .before .pre) (c .before .before .before .weigh .ensures) (c .weigh2 .ensures) in omega (arith, h .0)
+add-held c = let h = break-fits (c .before .before .before .before .before .before .before .before .before .before .before .before .before .pre) (c .before .before .before .weigh .ensures) (c .weigh2 .ensures) in omega (arith, h .0)
 
 add-held-2 : tie.Need-add-held-2
-add-held-2 c = let h = break-fits (c .before .before .before .before .before .before .before .before .before .before .before .before .before .pre) (c .before .before .before .before .weigh .ensures) (c .before .weigh2 .ensures) in omega (arith, h .1)
+add-held-2 c = let h = break-fits (c .before .before .before .before .before .before .before .before .before .before .before .before .before .before .pre) (c .before .before .before .before .weigh .ensures) (c .before .weigh2 .ensures) in omega (arith, h .1)
 
 want-of-requires : tie.Need-want-of-requires
 want-of-requires c κs = search needs
 
 add-expression-requires : tie.Need-add-expression-requires
-add-expression-requires c κs = break-asks (c .before .before .before .before .before .before .before .before .before .before .before .before .before .before .before .before .pre) (c .before .before .before .before .before .before .before .weigh .ensures) (c .before .before .before .before .weigh2 .ensures) (c .before .before .before .before .before .before .before .before .before .before .before .if1 .left) (c .before .before .want-of .ensures)
+add-expression-requires c κs = break-asks (c .before .before .before .before .before .before .before .before .before .before .before .before .before .before .before .before .before .pre) (c .before .before .before .before .before .before .before .weigh .ensures) (c .before .before .before .before .weigh2 .ensures) (c .before .before .before .before .before .before .before .before .before .before .before .if1 .left) (c .before .before .want-of .ensures)
 
 same-length : tie.Need-same-length
 same-length c = search needs
@@ -44,7 +44,7 @@ same-length-2 : tie.Need-same-length-2
 same-length-2 c = search needs
 
 returns-2 : tie.Need-returns-2
-returns-2 c = break-asked (c .before .before .before .before .before .before .before .before .before .before .before .before .before .before .before .before .before .before .before .before .before .pre) (c .before .before .before .before .before .before .before .before .before .before .before .before .weigh .ensures) (c .before .before .before .before .before .before .before .before .before .weigh2 .ensures) (c .before .before .before .before .before .before .before .before .before .before .before .before .before .before .before .before .if1 .left) (c .before .before .before .before .before .before .before .want-of .ensures) (c .before .before .before .before .add-expression .ensures)
+returns-2 c = break-asked (c .before .before .before .before .before .before .before .before .before .before .before .before .before .before .before .before .before .before .before .before .before .before .pre) (c .before .before .before .before .before .before .before .before .before .before .before .before .weigh .ensures) (c .before .before .before .before .before .before .before .before .before .weigh2 .ensures) (c .before .before .before .before .before .before .before .before .before .before .before .before .before .before .before .before .if1 .left) (c .before .before .before .before .before .before .before .want-of .ensures) (c .before .before .before .before .add-expression .ensures)
 
 pub ask-break-if-spec : {M : Type 1} → statement M
 ask-break-if-spec =

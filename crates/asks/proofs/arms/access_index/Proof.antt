@@ -6,6 +6,7 @@ use Rattle.asks.proofs.arms.access_index.Statement.{statement}
 use Rattle.asks.proofs.arms.access_index.Tie as tie
 use Rattle.asks.proofs.arms.access_index.Reads as reads
 use Rattle.asks.proofs.arms.access_index.Lts as lts
+use Rattle.access.proofs.kinded.expression_operand.Reads as expression-operand-reads
 use Rattle.access.proofs.kinded.operand.Reads as operand-reads
 use Rattle.memory.proofs.want.Want.wrap.Reads as wrap-reads
 use Rattle.memory.proofs.want.wrap_over.Reads as wrap-over-reads
@@ -25,17 +26,14 @@ wrap-over-requires c κs = search needs
 returns-2 : tie.Need-returns-2
 returns-2 c = index-over (c .before .before .before .before .before .before .before .pre .1) _ (c .before .before .before .if1 .left) (c .before .before .operand .ensures) (c .before .wrap-over .ensures) _ (c .if2 .taken)
 
-operand-requires-2 : tie.Need-operand-requires-2
-operand-requires-2 c κs = search needs
-
-cast-base : tie.Need-cast-base
-cast-base c = search needs
+expression-operand-requires : tie.Need-expression-operand-requires
+expression-operand-requires c κs = search needs
 
 wrap-requires : tie.Need-wrap-requires
 wrap-requires c κs = index-room (c .before .before .before .before .before .before .before .before .args .cells .now) (c .before .before .before .before .before .before .before .before .args .slots .now) (c .before .before .before .before .before .before .before .before .pre .1) (c .before .before .wrap-over .ensures) (omega arith) (c .before .if2 .left)
 
 returns-3 : tie.Need-returns-3
-returns-3 c = index-asked (c .before .before .before .before .before .before .before .before .before .pre .1) _ (c .before .before .before .before .before .if1 .left) (c .before .before .before .before .operand .ensures) (c .before .before .before .wrap-over .ensures) (omega arith) (c .before .before .if2 .left) (c .before .operand2 .ensures) (c .wrap .ensures)
+returns-3 c = index-asked (c .before .before .before .before .before .before .before .before .before .pre .1) _ (c .before .before .before .before .before .if1 .left) (c .before .before .before .before .operand .ensures) (c .before .before .before .wrap-over .ensures) (omega arith) (c .before .before .if2 .left) (c .before .expression-operand .ensures) (c .wrap .ensures)
 
 pub access-index-spec : {M : Type 1} → statement M
 access-index-spec =
@@ -46,7 +44,6 @@ access-index-spec =
     cast-i
     wrap-over-requires
     returns-2
-    operand-requires-2
-    cast-base
+    expression-operand-requires
     wrap-requires
     returns-3)

@@ -6,7 +6,7 @@ use Rattle.asks.proofs.fields.asks_by.Reads as reads
 use Rattle.asks.proofs.fields.asks_by.Lts as lts
 
 returns : tie.Need-returns
-returns c = asks-maybe _ _ (c .if1 .taken)
+returns c = asks-maybe _ _ (c .before .if1 .taken)
 
 returns-2 : tie.Need-returns-2
 returns-2 c = asks-past _ _ (c .if2 .taken)

@@ -12,7 +12,7 @@ use Rattle.asks.proofs.fields.field_ask.Statement.{statement}
 use Rattle.asks.proofs.fields.field_ask.Tie as tie
 use Rattle.asks.proofs.fields.field_ask.Reads as reads
 use Rattle.asks.proofs.fields.field_ask.Lts as lts
-use Rattle.access.proofs.kinded.operand.Reads as operand-reads
+use Rattle.access.proofs.kinded.expression_operand.Reads as expression-operand-reads
 use Rattle.asks.proofs.fields.asks_by.Reads as asks-by-reads
 use Rattle.asks.proofs.fields.want_by.Reads as want-by-reads
 use Rattle.asks.proofs.fields.ways.Reads as ways-reads
@@ -35,8 +35,8 @@ returns c = told-end (c .before .before .before .before .before .before .before 
 add-i : tie.Need-add-i Inv-loop μ-loop
 add-i c = search needs
 
-operand-requires : tie.Need-operand-requires Inv-loop μ-loop
-operand-requires c κs = search needs
+expression-operand-requires : tie.Need-expression-operand-requires Inv-loop μ-loop
+expression-operand-requires c κs = search needs
 
 asks-by-requires : tie.Need-asks-by-requires Inv-loop μ-loop
 asks-by-requires c κs = search needs
@@ -44,11 +44,8 @@ asks-by-requires c κs = search needs
 want-by-requires : tie.Need-want-by-requires Inv-loop μ-loop
 want-by-requires c κs = c .before .before .before .before .before .before .before .before .before .before .before .pre
 
-cast-t18 : tie.Need-cast-t18 Inv-loop μ-loop
-cast-t18 c = search needs
-
 returns-2 : tie.Need-returns-2 Inv-loop μ-loop
-returns-2 c = told-operand _ (c .want-by .ensures) (fields-found (c .before .before .before .before .before .before .before .loop .inv) (c .before .before .before .before .before .before .loop-test .taken) (c .before .before .before .before .operand .ensures) refl (c .before .before .before .asks-by .ensures) (c .before .before .if2 .taken) (c .before .if3 .taken))
+returns-2 c = told-operand _ (c .want-by .ensures) (fields-found (c .before .before .before .before .before .before .before .loop .inv) (c .before .before .before .before .before .before .loop-test .taken) (c .before .before .before .before .expression-operand .ensures) refl (c .before .before .before .asks-by .ensures) (c .before .before .if2 .taken) (c .before .if3 .taken))
 
 sub-skip : tie.Need-sub-skip Inv-loop μ-loop
 sub-skip c = search needs
@@ -57,7 +54,7 @@ loop-less : tie.Need-loop-less Inv-loop μ-loop
 loop-less c = search needs
 
 loop-again : tie.Need-loop-again Inv-loop μ-loop
-loop-again c = ⊎-elim (λ w. fields-later (c .before .before .before .before .before .loop .inv) (c .before .before .before .before .loop-test .taken) (c .before .before .operand .ensures) refl (c .before .asks-by .ensures) (w .0 .taken) (w .1 .left) (w .2)) (λ w. fields-skip (c .before .before .before .before .before .loop .inv) (c .before .before .before .before .loop-test .taken) (c .before .before .operand .ensures) refl (c .before .asks-by .ensures) (w .0 .left) (w .1)) (c .if2 .came)
+loop-again c = ⊎-elim (λ w. fields-later (c .before .before .before .before .before .loop .inv) (c .before .before .before .before .loop-test .taken) (c .before .before .expression-operand .ensures) refl (c .before .asks-by .ensures) (w .0 .taken) (w .1 .left) (w .2)) (λ w. fields-skip (c .before .before .before .before .before .loop .inv) (c .before .before .before .before .loop-test .taken) (c .before .before .expression-operand .ensures) refl (c .before .asks-by .ensures) (w .0 .left) (w .1)) (c .if2 .came)
 
 returns-3 : tie.Need-returns-3 Inv-loop μ-loop
 returns-3 c = told-end (c .before .before .before .before .before .before .pre .1) (fields-end (c .before .loop .inv) (c .loop-test .left))
@@ -72,10 +69,9 @@ field-ask-spec =
     loop-holds
     returns
     add-i
-    operand-requires
+    expression-operand-requires
     asks-by-requires
     want-by-requires
-    cast-t18
     returns-2
     sub-skip
     loop-less

@@ -11,6 +11,7 @@ use Rattle.call.proofs.arguments.ask_arguments.Statement.{statement}
 use Rattle.call.proofs.arguments.ask_arguments.Tie as tie
 use Rattle.call.proofs.arguments.ask_arguments.Reads as reads
 use Rattle.call.proofs.arguments.ask_arguments.Lts as lts
+use Rattle.access.proofs.kinded.expression_operand.Reads as expression-operand-reads
 use Rattle.access.proofs.kinded.operand.Reads as operand-reads
 use Rattle.call.proofs.arguments.then_argument.Reads as then-argument-reads
 
@@ -26,14 +27,14 @@ operand-requires c κs = search needs
 loop-holds : tie.Need-loop-holds Inv-loop μ-loop
 loop-holds c = (omega arith, (arguments-none (c .before .before .before .before .before .pre), (refl, refl)))
 
-add-operand : tie.Need-add-operand Inv-loop μ-loop
-add-operand c = omega (arith, few-arguments (c .before .before .before .before .before .before .before .pre), c .before .before .operand .ensures, c .loop-test .taken)
+add-expression-operand : tie.Need-add-expression-operand Inv-loop μ-loop
+add-expression-operand c = omega (arith, few-arguments (c .before .before .before .before .before .before .before .pre), c .before .before .operand .ensures, c .loop-test .taken)
 
-operand-requires-2 : tie.Need-operand-requires-2 Inv-loop μ-loop
-operand-requires-2 c κs = search needs
+expression-operand-requires : tie.Need-expression-operand-requires Inv-loop μ-loop
+expression-operand-requires c κs = search needs
 
 then-argument-requires : tie.Need-then-argument-requires Inv-loop μ-loop
-then-argument-requires c κs = (c .before .before .before .before .loop .inv .1 .0 .opens, rw (c .before .before .operand2 .ensures) (argument-there (c .before .before .before .before .before .before .before .before .before .before .pre) (c .before .before .before .before .loop .i) (omega (arith, c .before .before .before .before .before .operand .ensures, c .before .before .before .loop-test .taken))))
+then-argument-requires c κs = (c .before .before .before .before .loop .inv .1 .0 .opens, rw (c .before .before .expression-operand .ensures) (argument-there (c .before .before .before .before .before .before .before .before .before .before .pre) (c .before .before .before .before .loop .i) (omega (arith, c .before .before .before .before .before .operand .ensures, c .before .before .before .loop-test .taken))))
 
 add-i : tie.Need-add-i Inv-loop μ-loop
 add-i c = omega (arith, few-arguments (c .before .before .before .before .before .before .before .before .before .before .before .before .before .before .before .pre), c .before .before .before .before .before .before .before .before .before .before .operand .ensures, c .before .before .before .before .before .before .before .before .loop-test .taken)
@@ -42,7 +43,7 @@ loop-less : tie.Need-loop-less Inv-loop μ-loop
 loop-less c = omega (arith, c .before .before .before .before .before .before .before .before .loop-test .taken)
 
 loop-again : tie.Need-loop-again Inv-loop μ-loop
-loop-again c = (omega (arith, c .before .before .before .before .before .before .before .before .loop-test .taken), (arguments-next (c .before .before .before .before .before .before .before .before .before .loop .inv .1 .0) (omega arith) (c .before .before .before .before .before .before .before .operand2 .ensures) (c .before .before .before .before .then-argument .ensures), (c .before .before .before .before .then-argument .kept .1 .1 .0 ∙ c .before .before .before .before .before .before .before .before .before .loop .inv .1 .1 .0, c .before .before .before .before .then-argument .kept .1 .1 .1 .0 ∙ c .before .before .before .before .before .before .before .before .before .loop .inv .1 .1 .1)))
+loop-again c = (omega (arith, c .before .before .before .before .before .before .before .before .loop-test .taken), (arguments-next (c .before .before .before .before .before .before .before .before .before .loop .inv .1 .0) (omega arith) (c .before .before .before .before .before .before .before .expression-operand .ensures) (c .before .before .before .before .then-argument .ensures), (c .before .before .before .before .then-argument .kept .1 .1 .0 ∙ c .before .before .before .before .before .before .before .before .before .loop .inv .1 .1 .0, c .before .before .before .before .then-argument .kept .1 .1 .1 .0 ∙ c .before .before .before .before .before .before .before .before .before .loop .inv .1 .1 .1)))
 
 same-length : tie.Need-same-length Inv-loop μ-loop
 same-length c = c .before .loop .inv .1 .1 .0
@@ -61,8 +62,8 @@ ask-arguments-spec =
     μ-loop
     operand-requires
     loop-holds
-    add-operand
-    operand-requires-2
+    add-expression-operand
+    expression-operand-requires
     then-argument-requires
     add-i
     loop-less

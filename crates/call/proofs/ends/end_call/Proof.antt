@@ -7,6 +7,7 @@ use Rattle.call.proofs.ends.end_call.Statement.{statement}
 use Rattle.call.proofs.ends.end_call.Tie as tie
 use Rattle.call.proofs.ends.end_call.Reads as reads
 use Rattle.call.proofs.ends.end_call.Lts as lts
+use Rattle.access.proofs.kinded.expression_operand.Reads as expression-operand-reads
 use Rattle.access.proofs.kinded.operand.Reads as operand-reads
 use Rattle.call.proofs.arguments.ask_arguments.Reads as ask-arguments-reads
 use Rattle.statement.proofs.ask.answer.Reads as answer-reads
@@ -18,14 +19,14 @@ ask-arguments-requires c κs = search needs
 operand-requires : tie.Need-operand-requires
 operand-requires c κs = search needs
 
-add-operand : tie.Need-add-operand
-add-operand c = omega (arith, few-arguments (c .before .before .before .before .before .before .before .before .before .before .before .before .before .pre), c .operand .ensures)
+add-expression-operand : tie.Need-add-expression-operand
+add-expression-operand c = omega (arith, few-arguments (c .before .before .before .before .before .before .before .before .before .before .before .before .before .pre), c .operand .ensures)
 
-operand-requires-2 : tie.Need-operand-requires-2
-operand-requires-2 c κs = search needs
+expression-operand-requires : tie.Need-expression-operand-requires
+expression-operand-requires c κs = search needs
 
 then-maybe-requires : tie.Need-then-maybe-requires
-then-maybe-requires c κs = (passable-open _ (c .before .before .before .before .before .before .before .before .before .ask-arguments .ensures .opens), (rw (c .before .before .operand2 .ensures, c .before .before .before .operand .ensures) (result-there (c .before .before .before .before .before .before .before .before .before .before .before .before .before .before .before .before .pre)), omega arith))
+then-maybe-requires c κs = (passable-open _ (c .before .before .before .before .before .before .before .before .before .ask-arguments .ensures .opens), (rw (c .before .before .expression-operand .ensures, c .before .before .before .operand .ensures) (result-there (c .before .before .before .before .before .before .before .before .before .before .before .before .before .before .before .before .pre)), omega arith))
 
 answer-requires : tie.Need-answer-requires
 answer-requires c κs = search needs
@@ -37,7 +38,7 @@ same-length-2 : tie.Need-same-length-2
 same-length-2 c = search needs
 
 returns : tie.Need-returns
-returns c = end-asked (c .before .before .before .before .before .before .before .before .before .before .before .before .before .before .before .before .before .before .before .before .before .before .pre) (c .before .before .before .before .before .before .before .before .before .before .before .before .before .before .before .ask-arguments .ensures) (c .before .before .before .before .before .before .before .before .before .before .if1 .taken) (rw (c .before .before .before .before .before .before .before .before .before .operand .ensures) at (c .before .before .before .before .before .before .before .before .operand2 .ensures)) (c .before .before .before .before .before .then-maybe .ensures) (c .answer .ensures)
+returns c = end-asked (c .before .before .before .before .before .before .before .before .before .before .before .before .before .before .before .before .before .before .before .before .before .before .pre) (c .before .before .before .before .before .before .before .before .before .before .before .before .before .before .before .ask-arguments .ensures) (c .before .before .before .before .before .before .before .before .before .before .if1 .taken) (rw (c .before .before .before .before .before .before .before .before .before .operand .ensures) at (c .before .before .before .before .before .before .before .before .expression-operand .ensures)) (c .before .before .before .before .before .then-maybe .ensures) (c .answer .ensures)
 
 answer-requires-2 : tie.Need-answer-requires-2
 answer-requires-2 c κs = search needs
@@ -57,8 +58,8 @@ end-call-spec =
     (tie.spec
     ask-arguments-requires
     operand-requires
-    add-operand
-    operand-requires-2
+    add-expression-operand
+    expression-operand-requires
     then-maybe-requires
     answer-requires
     same-length

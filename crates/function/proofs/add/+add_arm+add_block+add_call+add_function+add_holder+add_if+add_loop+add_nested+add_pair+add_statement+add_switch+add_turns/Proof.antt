@@ -62,6 +62,9 @@ use Rattle.function.proofs.add.add_turns.Kinds as add-turns-kinds
 use Rattle.function.proofs.add.+add_arm+add_block+add_call+add_function+add_holder+add_if+add_loop+add_nested+add_pair+add_statement+add_switch+add_turns.Lts-add_turns as add-turns-lts
 use Rattle.access.proofs.function.block.Reads as block-reads
 use Rattle.access.proofs.function.body_block.Reads as body-block-reads
+use Rattle.access.proofs.kinded.block_operand.Reads as block-operand-reads
+use Rattle.access.proofs.kinded.expression_operand.Reads as expression-operand-reads
+use Rattle.access.proofs.kinded.function_operand.Reads as function-operand-reads
 use Rattle.access.proofs.kinded.operand.Reads as operand-reads
 use Rattle.access.proofs.kinded.statement.Reads as statement-reads
 use Rattle.arms.proofs.calls.begin_call.Reads as begin-call-reads
@@ -229,7 +232,7 @@ abbrev add-block-called : ℕ → add-block-lts.Claims
 add-block-called t = (block-reads.Asked, block-reads.Learnt, weigh-reads.Asked, weigh-reads.Learnt, copy-context-reads.Asked, copy-context-reads.Learnt, add-statement-below t, add-statement.Post, or-reads.Asked, or-reads.Learnt)
 
 abbrev add-call-called : ℕ → add-call-lts.Claims
-add-call-called t = (operand-reads.Asked, operand-reads.Learnt, begin-call-reads.Asked, begin-call-reads.Learnt, add-function-below t, add-function.Post, leave-call-reads.Asked, leave-call-reads.Learnt, return-call-reads.Asked, return-call-reads.Learnt)
+add-call-called t = (function-operand-reads.Asked, function-operand-reads.Learnt, begin-call-reads.Asked, begin-call-reads.Learnt, add-function-below t, add-function.Post, leave-call-reads.Asked, leave-call-reads.Learnt, return-call-reads.Asked, return-call-reads.Learnt)
 
 abbrev add-function-called : ℕ → add-function-lts.Claims
 add-function-called t = (body-block-reads.Asked, body-block-reads.Learnt, add-block-below t, add-block.Post, add-total-reads.Asked, add-total-reads.Learnt)
@@ -238,13 +241,13 @@ abbrev add-holder-called : ℕ → add-holder-lts.Claims
 add-holder-called t = (add-nested-below t, add-nested.Post, mark-statement-reads.Asked, mark-statement-reads.Learnt, add-if-below t, add-if.Post, add-switch-below t, add-switch.Post, add-loop-below t, add-loop.Post)
 
 abbrev add-if-called : ℕ → add-if-lts.Claims
-add-if-called t = (operand-reads.Asked, operand-reads.Learnt, weigh-reads.Asked, weigh-reads.Learnt, add-pair-below t, add-pair.Post, end-if-reads.Asked, end-if-reads.Learnt)
+add-if-called t = (block-operand-reads.Asked, block-operand-reads.Learnt, weigh-reads.Asked, weigh-reads.Learnt, add-pair-below t, add-pair.Post, expression-operand-reads.Asked, expression-operand-reads.Learnt, end-if-reads.Asked, end-if-reads.Learnt)
 
 abbrev add-loop-called : ℕ → add-loop-lts.Claims
-add-loop-called t = (operand-reads.Asked, operand-reads.Learnt, weigh-reads.Asked, weigh-reads.Learnt, add-pair-below t, add-pair.Post, drop-both-reads.Asked, drop-both-reads.Learnt, end-pass-reads.Asked, end-pass-reads.Learnt, add-turns-below t, add-turns.Post)
+add-loop-called t = (block-operand-reads.Asked, block-operand-reads.Learnt, weigh-reads.Asked, weigh-reads.Learnt, add-pair-below t, add-pair.Post, drop-both-reads.Asked, drop-both-reads.Learnt, expression-operand-reads.Asked, expression-operand-reads.Learnt, end-pass-reads.Asked, end-pass-reads.Learnt, add-turns-below t, add-turns.Post)
 
 abbrev add-nested-called : ℕ → add-nested-lts.Claims
-add-nested-called t = (operand-reads.Asked, operand-reads.Learnt, weigh-reads.Asked, weigh-reads.Learnt, add-block-below t, add-block.Post, lower-reads.Asked, lower-reads.Learnt)
+add-nested-called t = (block-operand-reads.Asked, block-operand-reads.Learnt, weigh-reads.Asked, weigh-reads.Learnt, add-block-below t, add-block.Post, lower-reads.Asked, lower-reads.Learnt)
 
 abbrev add-pair-called : ℕ → add-pair-lts.Claims
 add-pair-called t = (add-block-below t, add-block.Post, weigh-reads.Asked, weigh-reads.Learnt, or-reads.Asked, or-reads.Learnt)
@@ -253,7 +256,7 @@ abbrev add-statement-called : ℕ → add-statement-lts.Claims
 add-statement-called t = (allowed-reads.Asked, allowed-reads.Learnt, statement-reads.Asked, statement-reads.Learnt, add-arm-below t, add-arm.Post, end-statement-reads.Asked, end-statement-reads.Learnt)
 
 abbrev add-switch-called : ℕ → add-switch-lts.Claims
-add-switch-called t = (weigh-reads.Asked, weigh-reads.Learnt, copy-context-reads.Asked, copy-context-reads.Learnt, operand-reads.Asked, operand-reads.Learnt, case-body-reads.Asked, case-body-reads.Learnt, add-block-below t, add-block.Post, end-case-reads.Asked, end-case-reads.Learnt, or-reads.Asked, or-reads.Learnt, end-switch-reads.Asked, end-switch-reads.Learnt)
+add-switch-called t = (weigh-reads.Asked, weigh-reads.Learnt, copy-context-reads.Asked, copy-context-reads.Learnt, operand-reads.Asked, operand-reads.Learnt, case-body-reads.Asked, case-body-reads.Learnt, add-block-below t, add-block.Post, end-case-reads.Asked, end-case-reads.Learnt, or-reads.Asked, or-reads.Learnt, expression-operand-reads.Asked, expression-operand-reads.Learnt, end-switch-reads.Asked, end-switch-reads.Learnt)
 
 abbrev add-turns-called : ℕ → add-turns-lts.Claims
 add-turns-called t = (weigh-reads.Asked, weigh-reads.Learnt, add-pair-below t, add-pair.Post, end-turn-reads.Asked, end-turn-reads.Learnt)
@@ -339,11 +342,8 @@ add-block-loop-again t c = statements-next (c .before .before .before .before .b
 add-block-returns-2 : (t : ℕ) → add-block-lts.Need-returns-2 (add-block-called t) (add-block-at t) add-block.Post add-block-Inv-loop add-block-μ-loop
 add-block-returns-2 t c = none-left (c .before .before .before .before .before .before .before .before .before .before .before .before .before .args .f) (c .before .before .before .before .before .before .before .before .before .before .before .before .before .pre .1) (c .before .before .before .before .before .before .before .before .before .before .before .before .before .args .break-required) (c .before .before .copy-context .ensures) (c .before .loop .inv) (omega (arith, c .loop-test .left))
 
-add-call-operand-requires : (t : ℕ) → add-call-lts.Need-operand-requires (add-call-called t) (add-call-at t) add-call.Post
-add-call-operand-requires t c κs = search needs
-
-add-call-cast-t26 : (t : ℕ) → add-call-lts.Need-cast-t26 (add-call-called t) (add-call-at t) add-call.Post
-add-call-cast-t26 t c = search needs
+add-call-function-operand-requires : (t : ℕ) → add-call-lts.Need-function-operand-requires (add-call-called t) (add-call-at t) add-call.Post
+add-call-function-operand-requires t c κs = search needs
 
 add-call-begin-call-requires : (t : ℕ) → add-call-lts.Need-begin-call-requires (add-call-called t) (add-call-at t) add-call.Post
 add-call-begin-call-requires t c κs = call-begins (c .before .before .before .before .before .before .before .before .before .pre .1 .0) (c .before .before .before .before .before .before .before .before .before .pre .1 .1)
@@ -352,10 +352,10 @@ add-call-add-add-function : (t : ℕ) → add-call-lts.Need-add-add-function (ad
 add-call-add-add-function t c = omega (arith, call-high (c .before .before .before .before .before .before .before .before .before .before .before .before .before .before .pre .1 .0) (c .before .before .before .before .before .before .before .before .before .before .before .before .before .before .pre .1 .1), c .before .before .before .before .before .before .begin-call-arg4 .given .0 .1)
 
 add-call-sub-add-function : (t : ℕ) → add-call-lts.Need-sub-add-function (add-call-called t) (add-call-at t) add-call.Post
-add-call-sub-add-function t c = omega (arith, call-own (c .before .before .before .before .before .before .before .before .before .before .before .before .before .before .pre .1 .0) (c .before .before .before .before .before .before .before .before .before .before .before .before .before .before .pre .1 .1) (c .before .before .before .before .before .before .before .before .before .before .operand .ensures) (c .before .before .before .before .begin-call .ensures))
+add-call-sub-add-function t c = omega (arith, call-own (c .before .before .before .before .before .before .before .before .before .before .before .before .before .before .pre .1 .0) (c .before .before .before .before .before .before .before .before .before .before .before .before .before .before .pre .1 .1) (c .before .before .before .before .before .before .before .before .before .before .function-operand .ensures) (c .before .before .before .before .begin-call .ensures))
 
 add-call-add-function-requires : (t : ℕ) → add-call-lts.Need-add-function-requires (add-call-called t) (add-call-at t) add-call.Post
-add-call-add-function-requires t c κs = (omega (arith, c .before .before .before .before .before .before .before .before .before .before .before .before .before .before .pre .0, callee-below (c .before .before .before .before .before .before .before .before .before .before .before .before .before .before .pre .1 .0) (c .before .before .before .before .before .before .before .before .before .before .before .before .before .before .pre .1 .1), c .before .before .before .before .before .before .before .before .before .before .operand .ensures), (function-enters (c .before .before .before .before .before .before .before .before .before .before .before .before .before .before .pre .1 .0) (c .before .before .before .before .before .before .before .before .before .before .before .before .before .before .pre .1 .1) (c .before .before .before .before .before .before .before .before .before .before .operand .ensures) (c .before .before .before .before .begin-call .ensures), omega (arith, call-high (c .before .before .before .before .before .before .before .before .before .before .before .before .before .before .pre .1 .0) (c .before .before .before .before .before .before .before .before .before .before .before .before .before .before .pre .1 .1), c .before .before .before .before .before .before .begin-call-arg4 .given .0 .1)))
+add-call-add-function-requires t c κs = (omega (arith, c .before .before .before .before .before .before .before .before .before .before .before .before .before .before .pre .0, callee-below (c .before .before .before .before .before .before .before .before .before .before .before .before .before .before .pre .1 .0) (c .before .before .before .before .before .before .before .before .before .before .before .before .before .before .pre .1 .1), c .before .before .before .before .before .before .before .before .before .before .function-operand .ensures), (function-enters (c .before .before .before .before .before .before .before .before .before .before .before .before .before .before .pre .1 .0) (c .before .before .before .before .before .before .before .before .before .before .before .before .before .before .pre .1 .1) (c .before .before .before .before .before .before .before .before .before .before .function-operand .ensures) (c .before .before .before .before .begin-call .ensures), omega (arith, call-high (c .before .before .before .before .before .before .before .before .before .before .before .before .before .before .pre .1 .0) (c .before .before .before .before .before .before .before .before .before .before .before .before .before .before .pre .1 .1), c .before .before .before .before .before .before .begin-call-arg4 .given .0 .1)))
 
 add-call-enum-known-r : (t : ℕ) → add-call-lts.Need-enum-known-r (add-call-called t) (add-call-at t) add-call.Post
 add-call-enum-known-r t c = search needs
@@ -364,19 +364,19 @@ add-call-enum-known-r-2 : (t : ℕ) → add-call-lts.Need-enum-known-r-2 (add-ca
 add-call-enum-known-r-2 t c = search needs
 
 add-call-add-leave-call : (t : ℕ) → add-call-lts.Need-add-leave-call (add-call-called t) (add-call-at t) add-call.Post
-add-call-add-leave-call t c = omega (arith, call-sum (c .before .before .before .before .before .before .before .before .before .before .before .before .before .before .before .before .before .before .before .before .before .before .before .pre .1 .0) (c .before .before .before .before .before .before .before .before .before .before .before .before .before .before .before .before .before .before .before .before .before .before .before .pre .1 .1) (c .before .before .before .before .before .before .before .before .before .before .before .before .before .before .before .before .before .before .before .operand .ensures) (c .before .before .before .before .before .before .before .before .before .before .before .before .before .begin-call .ensures) (c .before .before .before .before .before .before .before .before .add-function .ensures) (c .before .before .before .before .before .before .r2 .given .1))
+add-call-add-leave-call t c = omega (arith, call-sum (c .before .before .before .before .before .before .before .before .before .before .before .before .before .before .before .before .before .before .before .before .before .before .before .pre .1 .0) (c .before .before .before .before .before .before .before .before .before .before .before .before .before .before .before .before .before .before .before .before .before .before .before .pre .1 .1) (c .before .before .before .before .before .before .before .before .before .before .before .before .before .before .before .before .before .before .before .function-operand .ensures) (c .before .before .before .before .before .before .before .before .before .before .before .before .before .begin-call .ensures) (c .before .before .before .before .before .before .before .before .add-function .ensures) (c .before .before .before .before .before .before .r2 .given .1))
 
 add-call-leave-call-requires : (t : ℕ) → add-call-lts.Need-leave-call-requires (add-call-called t) (add-call-at t) add-call.Post
-add-call-leave-call-requires t c κs = call-leaves (c .before .before .before .before .before .before .before .before .before .before .before .before .before .before .before .before .before .before .before .before .before .before .before .pre .1 .0) (c .before .before .before .before .before .before .before .before .before .before .before .before .before .before .before .before .before .before .before .before .before .before .before .pre .1 .1) (c .before .before .before .before .before .before .before .before .before .before .before .before .before .before .before .before .before .before .before .operand .ensures) (c .before .before .before .before .before .before .before .before .before .before .before .before .before .begin-call .ensures) (c .before .before .before .before .before .before .before .before .add-function .ensures) (c .before .before .before .before .before .before .r2 .given .1)
+add-call-leave-call-requires t c κs = call-leaves (c .before .before .before .before .before .before .before .before .before .before .before .before .before .before .before .before .before .before .before .before .before .before .before .pre .1 .0) (c .before .before .before .before .before .before .before .before .before .before .before .before .before .before .before .before .before .before .before .before .before .before .before .pre .1 .1) (c .before .before .before .before .before .before .before .before .before .before .before .before .before .before .before .before .before .before .before .function-operand .ensures) (c .before .before .before .before .before .before .before .before .before .before .before .before .before .begin-call .ensures) (c .before .before .before .before .before .before .before .before .add-function .ensures) (c .before .before .before .before .before .before .r2 .given .1)
 
 add-call-return-call-requires : (t : ℕ) → add-call-lts.Need-return-call-requires (add-call-called t) (add-call-at t) add-call.Post
-add-call-return-call-requires t c κs = call-returns (c .before .before .before .before .before .before .before .before .before .before .before .before .before .before .before .before .before .before .before .before .before .before .before .before .before .before .before .before .before .pre .1 .0) (c .before .before .before .before .before .before .before .before .before .before .before .before .before .before .before .before .before .before .before .before .before .before .before .before .before .before .before .before .before .pre .1 .1) (c .before .before .before .before .before .before .before .before .before .before .before .before .before .before .before .before .before .before .before .before .before .before .before .before .before .operand .ensures) (c .before .before .before .before .before .before .before .before .before .before .before .before .before .before .before .before .before .before .before .begin-call .ensures) (c .before .before .before .before .before .before .before .before .before .before .before .before .before .before .add-function .ensures) (c .before .before .before .before .before .before .before .before .before .before .before .before .r2 .given .1) (c .before .before .before .before .before .leave-call .ensures)
+add-call-return-call-requires t c κs = call-returns (c .before .before .before .before .before .before .before .before .before .before .before .before .before .before .before .before .before .before .before .before .before .before .before .before .before .before .before .before .before .pre .1 .0) (c .before .before .before .before .before .before .before .before .before .before .before .before .before .before .before .before .before .before .before .before .before .before .before .before .before .before .before .before .before .pre .1 .1) (c .before .before .before .before .before .before .before .before .before .before .before .before .before .before .before .before .before .before .before .before .before .before .before .before .before .function-operand .ensures) (c .before .before .before .before .before .before .before .before .before .before .before .before .before .before .before .before .before .before .before .begin-call .ensures) (c .before .before .before .before .before .before .before .before .before .before .before .before .before .before .add-function .ensures) (c .before .before .before .before .before .before .before .before .before .before .before .before .r2 .given .1) (c .before .before .before .before .before .leave-call .ensures)
 
 add-call-returns : (t : ℕ) → add-call-lts.Need-returns (add-call-called t) (add-call-at t) add-call.Post
-add-call-returns t c = call-stops (c .before .before .before .before .before .before .before .before .before .before .before .before .before .before .before .before .before .before .pre .1 .0) (c .before .before .before .before .before .before .before .before .before .before .before .before .before .before .before .before .before .before .pre .1 .1) (c .before .before .before .before .before .before .before .before .before .before .before .before .before .before .operand .ensures) (c .before .before .before .before .before .before .before .before .begin-call .ensures) (c .before .before .before .add-function .ensures) (c .before .r .given .1)
+add-call-returns t c = call-stops (c .before .before .before .before .before .before .before .before .before .before .before .before .before .before .before .before .before .before .pre .1 .0) (c .before .before .before .before .before .before .before .before .before .before .before .before .before .before .before .before .before .before .pre .1 .1) (c .before .before .before .before .before .before .before .before .before .before .before .before .before .before .function-operand .ensures) (c .before .before .before .before .before .before .before .before .begin-call .ensures) (c .before .before .before .add-function .ensures) (c .before .r .given .1)
 
 add-call-returns-2 : (t : ℕ) → add-call-lts.Need-returns-2 (add-call-called t) (add-call-at t) add-call.Post
-add-call-returns-2 t c = call-ended (c .before .before .before .before .before .before .before .before .before .before .before .before .before .before .before .before .before .before .before .before .before .before .before .before .before .before .before .before .before .before .pre .1 .0) (c .before .before .before .before .before .before .before .before .before .before .before .before .before .before .before .before .before .before .before .before .before .before .before .before .before .before .before .before .before .before .pre .1 .1) (c .before .before .before .before .before .before .before .before .before .before .before .before .before .before .before .before .before .before .before .before .before .before .before .before .before .before .operand .ensures) (c .before .before .before .before .before .before .before .before .before .before .before .before .before .before .before .before .before .before .before .before .begin-call .ensures) (c .before .before .before .before .before .before .before .before .before .before .before .before .before .before .before .add-function .ensures) (c .before .before .before .before .before .before .before .before .before .before .before .before .before .r2 .given .1) (c .before .before .before .before .before .before .leave-call .ensures) (c .return-call .ensures)
+add-call-returns-2 t c = call-ended (c .before .before .before .before .before .before .before .before .before .before .before .before .before .before .before .before .before .before .before .before .before .before .before .before .before .before .before .before .before .before .pre .1 .0) (c .before .before .before .before .before .before .before .before .before .before .before .before .before .before .before .before .before .before .before .before .before .before .before .before .before .before .before .before .before .before .pre .1 .1) (c .before .before .before .before .before .before .before .before .before .before .before .before .before .before .before .before .before .before .before .before .before .before .before .before .before .before .function-operand .ensures) (c .before .before .before .before .before .before .before .before .before .before .before .before .before .before .before .before .before .before .before .before .begin-call .ensures) (c .before .before .before .before .before .before .before .before .before .before .before .before .before .before .before .add-function .ensures) (c .before .before .before .before .before .before .before .before .before .before .before .before .before .r2 .given .1) (c .before .before .before .before .before .before .leave-call .ensures) (c .return-call .ensures)
 
 add-function-body-block-requires : (t : ℕ) → add-function-lts.Need-body-block-requires (add-function-called t) (add-function-at t) add-function.Post
 add-function-body-block-requires t c κs = search needs
@@ -447,17 +447,11 @@ add-holder-mark-statement-requires-4 t c κs = mark-asks (c .before .before .bef
 add-holder-returns-4 : (t : ℕ) → add-holder-lts.Need-returns-4 (add-holder-called t) (add-holder-at t) add-holder.Post
 add-holder-returns-4 t c = mark-ends (c .before .before .before .before .before .before .before .before .before .before .before .before .before .before .pre .1 .0) (c .mark-statement4 .ensures) (loop-arm (c .before .before .before .before .before .before .before .before .before .before .before .before .before .before .pre .1 .0) (loop-kind _ (c .before .before .before .before .before .before .before .before .before .before .before .before .before .before .pre .1 .1) (c .before .before .before .before .before .before .before .before .before .before .before .if1 .left) (c .before .before .before .before .before .before .before .before .before .before .if2 .left) (c .before .before .before .before .before .before .before .before .before .if3 .left)) (c .before .before .before .before .add-loop .ensures))
 
-add-if-operand-requires : (t : ℕ) → add-if-lts.Need-operand-requires (add-if-called t) (add-if-at t) add-if.Post
-add-if-operand-requires t c κs = search needs
+add-if-block-operand-requires : (t : ℕ) → add-if-lts.Need-block-operand-requires (add-if-called t) (add-if-at t) add-if.Post
+add-if-block-operand-requires t c κs = search needs
 
-add-if-cast-t26 : (t : ℕ) → add-if-lts.Need-cast-t26 (add-if-called t) (add-if-at t) add-if.Post
-add-if-cast-t26 t c = search needs
-
-add-if-operand-requires-2 : (t : ℕ) → add-if-lts.Need-operand-requires-2 (add-if-called t) (add-if-at t) add-if.Post
-add-if-operand-requires-2 t c κs = search needs
-
-add-if-cast-t26-2 : (t : ℕ) → add-if-lts.Need-cast-t26-2 (add-if-called t) (add-if-at t) add-if.Post
-add-if-cast-t26-2 t c = search needs
+add-if-block-operand-requires-2 : (t : ℕ) → add-if-lts.Need-block-operand-requires-2 (add-if-called t) (add-if-at t) add-if.Post
+add-if-block-operand-requires-2 t c κs = search needs
 
 add-if-weigh-requires : (t : ℕ) → add-if-lts.Need-weigh-requires (add-if-called t) (add-if-at t) add-if.Post
 add-if-weigh-requires t c κs = if-weighs (c .before .before .before .before .before .before .before .before .before .pre .1 .0) (c .before .before .before .before .before .before .before .before .before .pre .1 .1)
@@ -469,7 +463,7 @@ add-if-add-add-pair : (t : ℕ) → add-if-lts.Need-add-add-pair (add-if-called 
 add-if-add-add-pair t c = omega (arith, c .before .before .before .before .before .before .before .before .before .before .before .before .before .before .before .pre .1 .0 .begins .standing .ready .high, c .before .before .before .before .before .before .weigh-arg4 .given .0)
 
 add-if-add-pair-requires : (t : ℕ) → add-if-lts.Need-add-pair-requires (add-if-called t) (add-if-at t) add-if.Post
-add-if-add-pair-requires t c κs = (omega (arith, c .before .before .before .before .before .before .before .before .before .before .before .before .before .before .before .pre .0), if-paired (c .before .before .before .before .before .before .before .before .before .before .before .before .before .before .before .pre .1 .0) (c .before .before .before .before .before .before .before .before .before .before .before .before .before .before .before .pre .1 .1) (c .before .before .before .before .before .weigh .ensures) (c .before .before .before .before .before .before .before .before .before .before .before .operand .ensures) (c .before .before .before .before .before .before .before .before .before .before .operand2 .ensures))
+add-if-add-pair-requires t c κs = (omega (arith, c .before .before .before .before .before .before .before .before .before .before .before .before .before .before .before .pre .0), if-paired (c .before .before .before .before .before .before .before .before .before .before .before .before .before .before .before .pre .1 .0) (c .before .before .before .before .before .before .before .before .before .before .before .before .before .before .before .pre .1 .1) (c .before .before .before .before .before .weigh .ensures) (c .before .before .before .before .before .before .before .before .before .before .before .block-operand .ensures) (c .before .before .before .before .before .before .before .before .before .before .block-operand2 .ensures))
 
 add-if-enum-known-r : (t : ℕ) → add-if-lts.Need-enum-known-r (add-if-called t) (add-if-at t) add-if.Post
 add-if-enum-known-r t c = search needs
@@ -477,29 +471,23 @@ add-if-enum-known-r t c = search needs
 add-if-enum-known-r-2 : (t : ℕ) → add-if-lts.Need-enum-known-r-2 (add-if-called t) (add-if-at t) add-if.Post
 add-if-enum-known-r-2 t c = search needs
 
-add-if-operand-requires-3 : (t : ℕ) → add-if-lts.Need-operand-requires-3 (add-if-called t) (add-if-at t) add-if.Post
-add-if-operand-requires-3 t c κs = search needs
+add-if-expression-operand-requires : (t : ℕ) → add-if-lts.Need-expression-operand-requires (add-if-called t) (add-if-at t) add-if.Post
+add-if-expression-operand-requires t c κs = search needs
 
 add-if-end-if-requires : (t : ℕ) → add-if-lts.Need-end-if-requires (add-if-called t) (add-if-at t) add-if.Post
-add-if-end-if-requires t c κs = if-asked (c .before .before .before .before .before .before .before .before .before .before .before .before .before .before .before .before .before .before .before .before .before .before .before .pre .1 .0) (c .before .before .before .before .before .before .before .before .before .before .before .before .before .before .before .before .before .before .before .before .before .before .before .pre .1 .1) (c .before .before .before .before .before .before .before .before .before .before .before .before .before .weigh .ensures) (c .before .before .before .before .before .before .before .before .before .before .before .before .before .before .before .before .before .before .before .operand .ensures) (c .before .before .before .before .before .before .before .before .before .before .before .before .before .before .before .before .before .before .operand2 .ensures) (c .before .before .before .before .before .before .before .add-pair .ensures) (c .before .before .before .before .before .r2 .given .1) (c .before .before .before .operand3 .ensures)
+add-if-end-if-requires t c κs = if-asked (c .before .before .before .before .before .before .before .before .before .before .before .before .before .before .before .before .before .before .before .before .before .before .before .pre .1 .0) (c .before .before .before .before .before .before .before .before .before .before .before .before .before .before .before .before .before .before .before .before .before .before .before .pre .1 .1) (c .before .before .before .before .before .before .before .before .before .before .before .before .before .weigh .ensures) (c .before .before .before .before .before .before .before .before .before .before .before .before .before .before .before .before .before .before .before .block-operand .ensures) (c .before .before .before .before .before .before .before .before .before .before .before .before .before .before .before .before .before .before .block-operand2 .ensures) (c .before .before .before .before .before .before .before .add-pair .ensures) (c .before .before .before .before .before .r2 .given .1) (c .before .before .before .expression-operand .ensures)
 
 add-if-returns : (t : ℕ) → add-if-lts.Need-returns (add-if-called t) (add-if-at t) add-if.Post
-add-if-returns t c = if-halts (c .before .before .before .before .before .before .before .before .before .before .before .before .before .before .before .before .before .before .before .pre .1 .0) (c .before .before .before .before .before .before .before .before .before .before .before .before .before .before .before .before .before .before .before .pre .1 .1) (c .before .before .before .before .before .before .before .before .before .weigh .ensures) (c .before .before .before .before .before .before .before .before .before .before .before .before .before .before .before .operand .ensures) (c .before .before .before .before .before .before .before .before .before .before .before .before .before .before .operand2 .ensures) (c .before .before .before .add-pair .ensures) (c .before .r .given .1)
+add-if-returns t c = if-halts (c .before .before .before .before .before .before .before .before .before .before .before .before .before .before .before .before .before .before .before .pre .1 .0) (c .before .before .before .before .before .before .before .before .before .before .before .before .before .before .before .before .before .before .before .pre .1 .1) (c .before .before .before .before .before .before .before .before .before .weigh .ensures) (c .before .before .before .before .before .before .before .before .before .before .before .before .before .before .before .block-operand .ensures) (c .before .before .before .before .before .before .before .before .before .before .before .before .before .before .block-operand2 .ensures) (c .before .before .before .add-pair .ensures) (c .before .r .given .1)
 
 add-if-returns-2 : (t : ℕ) → add-if-lts.Need-returns-2 (add-if-called t) (add-if-at t) add-if.Post
-add-if-returns-2 t c = if-ends (c .before .before .before .before .before .before .before .before .before .before .before .before .before .before .before .before .before .before .before .before .before .before .before .before .pre .1 .0) (c .before .before .before .before .before .before .before .before .before .before .before .before .before .before .before .before .before .before .before .before .before .before .before .before .pre .1 .1) (c .before .before .before .before .before .before .before .before .before .before .before .before .before .before .weigh .ensures) (c .before .before .before .before .before .before .before .before .before .before .before .before .before .before .before .before .before .before .before .before .operand .ensures) (c .before .before .before .before .before .before .before .before .before .before .before .before .before .before .before .before .before .before .before .operand2 .ensures) (c .before .before .before .before .before .before .before .before .add-pair .ensures) (c .before .before .before .before .before .before .r2 .given .1) (c .before .before .before .before .operand3 .ensures) _ (c .end-if .ensures)
+add-if-returns-2 t c = if-ends (c .before .before .before .before .before .before .before .before .before .before .before .before .before .before .before .before .before .before .before .before .before .before .before .before .pre .1 .0) (c .before .before .before .before .before .before .before .before .before .before .before .before .before .before .before .before .before .before .before .before .before .before .before .before .pre .1 .1) (c .before .before .before .before .before .before .before .before .before .before .before .before .before .before .weigh .ensures) (c .before .before .before .before .before .before .before .before .before .before .before .before .before .before .before .before .before .before .before .before .block-operand .ensures) (c .before .before .before .before .before .before .before .before .before .before .before .before .before .before .before .before .before .before .before .block-operand2 .ensures) (c .before .before .before .before .before .before .before .before .add-pair .ensures) (c .before .before .before .before .before .before .r2 .given .1) (c .before .before .before .before .expression-operand .ensures) _ (c .end-if .ensures)
 
-add-loop-operand-requires : (t : ℕ) → add-loop-lts.Need-operand-requires (add-loop-called t) (add-loop-at t) add-loop.Post
-add-loop-operand-requires t c κs = search needs
+add-loop-block-operand-requires : (t : ℕ) → add-loop-lts.Need-block-operand-requires (add-loop-called t) (add-loop-at t) add-loop.Post
+add-loop-block-operand-requires t c κs = search needs
 
-add-loop-cast-t29 : (t : ℕ) → add-loop-lts.Need-cast-t29 (add-loop-called t) (add-loop-at t) add-loop.Post
-add-loop-cast-t29 t c = search needs
-
-add-loop-operand-requires-2 : (t : ℕ) → add-loop-lts.Need-operand-requires-2 (add-loop-called t) (add-loop-at t) add-loop.Post
-add-loop-operand-requires-2 t c κs = search needs
-
-add-loop-cast-t29-2 : (t : ℕ) → add-loop-lts.Need-cast-t29-2 (add-loop-called t) (add-loop-at t) add-loop.Post
-add-loop-cast-t29-2 t c = search needs
+add-loop-block-operand-requires-2 : (t : ℕ) → add-loop-lts.Need-block-operand-requires-2 (add-loop-called t) (add-loop-at t) add-loop.Post
+add-loop-block-operand-requires-2 t c κs = search needs
 
 add-loop-weigh-requires : (t : ℕ) → add-loop-lts.Need-weigh-requires (add-loop-called t) (add-loop-at t) add-loop.Post
 add-loop-weigh-requires t c κs = loop-weighs (c .before .before .before .before .before .before .before .before .before .pre .1 .0) (c .before .before .before .before .before .before .before .before .before .pre .1 .1)
@@ -511,7 +499,7 @@ add-loop-add-add-pair : (t : ℕ) → add-loop-lts.Need-add-add-pair (add-loop-c
 add-loop-add-add-pair t c = omega (arith, loop-weighs (c .before .before .before .before .before .before .before .before .before .before .before .before .before .before .before .pre .1 .0) (c .before .before .before .before .before .before .before .before .before .before .before .before .before .before .before .pre .1 .1) .1 .0, c .before .before .before .before .before .before .weigh-arg4 .given .0)
 
 add-loop-add-pair-requires : (t : ℕ) → add-loop-lts.Need-add-pair-requires (add-loop-called t) (add-loop-at t) add-loop.Post
-add-loop-add-pair-requires t c κs = (omega (arith, c .before .before .before .before .before .before .before .before .before .before .before .before .before .before .before .pre .0), loop-paired (c .before .before .before .before .before .before .before .before .before .before .before .before .before .before .before .pre .1 .0) (c .before .before .before .before .before .before .before .before .before .before .before .before .before .before .before .pre .1 .1) (c .before .before .before .before .before .weigh .ensures) (c .before .before .before .before .before .before .before .before .before .before .before .operand .ensures) (c .before .before .before .before .before .before .before .before .before .before .operand2 .ensures))
+add-loop-add-pair-requires t c κs = (omega (arith, c .before .before .before .before .before .before .before .before .before .before .before .before .before .before .before .pre .0), loop-paired (c .before .before .before .before .before .before .before .before .before .before .before .before .before .before .before .pre .1 .0) (c .before .before .before .before .before .before .before .before .before .before .before .before .before .before .before .pre .1 .1) (c .before .before .before .before .before .weigh .ensures) (c .before .before .before .before .before .before .before .before .before .before .before .block-operand .ensures) (c .before .before .before .before .before .before .before .before .before .before .block-operand2 .ensures))
 
 add-loop-enum-known-r : (t : ℕ) → add-loop-lts.Need-enum-known-r (add-loop-called t) (add-loop-at t) add-loop.Post
 add-loop-enum-known-r t c = search needs
@@ -520,16 +508,16 @@ add-loop-enum-known-r-2 : (t : ℕ) → add-loop-lts.Need-enum-known-r-2 (add-lo
 add-loop-enum-known-r-2 t c = search needs
 
 add-loop-drop-both-requires : (t : ℕ) → add-loop-lts.Need-drop-both-requires (add-loop-called t) (add-loop-at t) add-loop.Post
-add-loop-drop-both-requires t c κs = loop-drops (c .before .before .before .before .before .before .before .before .before .before .before .before .before .before .before .before .before .before .before .before .before .pre .1 .0) (c .before .before .before .before .before .before .before .before .before .before .before .before .before .before .before .before .before .before .before .before .before .pre .1 .1) (c .before .before .before .before .before .before .before .before .before .before .before .weigh .ensures) (c .before .before .before .before .before .before .before .before .before .before .before .before .before .before .before .before .before .operand .ensures) (c .before .before .before .before .before .before .before .before .before .before .before .before .before .before .before .before .operand2 .ensures) (c .before .before .before .before .before .add-pair .ensures) (c .before .before .before .r2 .given .1)
+add-loop-drop-both-requires t c κs = loop-drops (c .before .before .before .before .before .before .before .before .before .before .before .before .before .before .before .before .before .before .before .before .before .pre .1 .0) (c .before .before .before .before .before .before .before .before .before .before .before .before .before .before .before .before .before .before .before .before .before .pre .1 .1) (c .before .before .before .before .before .before .before .before .before .before .before .weigh .ensures) (c .before .before .before .before .before .before .before .before .before .before .before .before .before .before .before .before .before .block-operand .ensures) (c .before .before .before .before .before .before .before .before .before .before .before .before .before .before .before .before .block-operand2 .ensures) (c .before .before .before .before .before .add-pair .ensures) (c .before .before .before .r2 .given .1)
 
 add-loop-returns : (t : ℕ) → add-loop-lts.Need-returns (add-loop-called t) (add-loop-at t) add-loop.Post
-add-loop-returns t c = loop-dropped (c .before .before .before .before .before .before .before .before .before .before .before .before .before .before .before .before .before .before .before .before .before .before .pre .1 .0) (c .before .before .before .before .before .before .before .before .before .before .before .before .before .before .before .before .before .before .before .before .before .before .pre .1 .1) (c .before .before .before .before .before .before .before .before .before .before .before .before .weigh .ensures) (c .before .before .before .before .before .before .before .before .before .before .before .before .before .before .before .before .before .before .operand .ensures) (c .before .before .before .before .before .before .before .before .before .before .before .before .before .before .before .before .before .operand2 .ensures) (c .before .before .before .before .before .before .add-pair .ensures) (c .before .before .before .before .r2 .given .1) (not-true _ (c .before .before .if1 .taken)) (c .drop-both .ensures)
+add-loop-returns t c = loop-dropped (c .before .before .before .before .before .before .before .before .before .before .before .before .before .before .before .before .before .before .before .before .before .before .pre .1 .0) (c .before .before .before .before .before .before .before .before .before .before .before .before .before .before .before .before .before .before .before .before .before .before .pre .1 .1) (c .before .before .before .before .before .before .before .before .before .before .before .before .weigh .ensures) (c .before .before .before .before .before .before .before .before .before .before .before .before .before .before .before .before .before .before .block-operand .ensures) (c .before .before .before .before .before .before .before .before .before .before .before .before .before .before .before .before .before .block-operand2 .ensures) (c .before .before .before .before .before .before .add-pair .ensures) (c .before .before .before .before .r2 .given .1) (not-true _ (c .before .before .if1 .taken)) (c .drop-both .ensures)
 
-add-loop-operand-requires-3 : (t : ℕ) → add-loop-lts.Need-operand-requires-3 (add-loop-called t) (add-loop-at t) add-loop.Post
-add-loop-operand-requires-3 t c κs = search needs
+add-loop-expression-operand-requires : (t : ℕ) → add-loop-lts.Need-expression-operand-requires (add-loop-called t) (add-loop-at t) add-loop.Post
+add-loop-expression-operand-requires t c κs = search needs
 
 add-loop-end-pass-requires : (t : ℕ) → add-loop-lts.Need-end-pass-requires (add-loop-called t) (add-loop-at t) add-loop.Post
-add-loop-end-pass-requires t c κs = loop-passing (c .before .before .before .before .before .before .before .before .before .before .before .before .before .before .before .before .before .before .before .before .before .before .before .before .pre .1 .0) (c .before .before .before .before .before .before .before .before .before .before .before .before .before .before .before .before .before .before .before .before .before .before .before .before .pre .1 .1) (c .before .before .before .before .before .before .before .before .before .before .before .before .before .before .weigh .ensures) (c .before .before .before .before .before .before .before .before .before .before .before .before .before .before .before .before .before .before .before .before .operand .ensures) (c .before .before .before .before .before .before .before .before .before .before .before .before .before .before .before .before .before .before .before .operand2 .ensures) (c .before .before .before .before .before .before .before .before .add-pair .ensures) (c .before .before .before .before .before .before .r2 .given .1) (c .before .before .before .operand3 .ensures)
+add-loop-end-pass-requires t c κs = loop-passing (c .before .before .before .before .before .before .before .before .before .before .before .before .before .before .before .before .before .before .before .before .before .before .before .before .pre .1 .0) (c .before .before .before .before .before .before .before .before .before .before .before .before .before .before .before .before .before .before .before .before .before .before .before .before .pre .1 .1) (c .before .before .before .before .before .before .before .before .before .before .before .before .before .before .weigh .ensures) (c .before .before .before .before .before .before .before .before .before .before .before .before .before .before .before .before .before .before .before .before .block-operand .ensures) (c .before .before .before .before .before .before .before .before .before .before .before .before .before .before .before .before .before .before .before .block-operand2 .ensures) (c .before .before .before .before .before .before .before .before .add-pair .ensures) (c .before .before .before .before .before .before .r2 .given .1) (c .before .before .before .expression-operand .ensures)
 
 add-loop-enum-known-n : (t : ℕ) → add-loop-lts.Need-enum-known-n (add-loop-called t) (add-loop-at t) add-loop.Post
 add-loop-enum-known-n t c = search needs
@@ -538,22 +526,19 @@ add-loop-enum-known-left : (t : ℕ) → add-loop-lts.Need-enum-known-left (add-
 add-loop-enum-known-left t c = search needs
 
 add-loop-add-turns-requires : (t : ℕ) → add-loop-lts.Need-add-turns-requires (add-loop-called t) (add-loop-at t) add-loop.Post
-add-loop-add-turns-requires t c κs = (omega (arith, c .before .before .before .before .before .before .before .before .before .before .before .before .before .before .before .before .before .before .before .before .before .before .before .before .before .before .before .before .before .before .before .before .pre .0), loop-turning (c .before .before .before .before .before .before .before .before .before .before .before .before .before .before .before .before .before .before .before .before .before .before .before .before .before .before .before .before .before .before .before .before .pre .1 .0) (c .before .before .before .before .before .before .before .before .before .before .before .before .before .before .before .before .before .before .before .before .before .before .before .before .before .before .before .before .before .before .before .before .pre .1 .1) (c .before .before .before .before .before .before .before .before .before .before .before .before .before .before .before .before .before .before .before .before .before .before .weigh .ensures) (c .before .before .before .before .before .before .before .before .before .before .before .before .before .before .before .before .before .before .before .before .before .before .before .before .before .before .before .before .operand .ensures) (c .before .before .before .before .before .before .before .before .before .before .before .before .before .before .before .before .before .before .before .before .before .before .before .before .before .before .before .operand2 .ensures) (c .before .before .before .before .before .before .before .before .before .before .before .before .before .before .before .before .add-pair .ensures) (c .before .before .before .before .before .before .before .before .before .before .before .before .before .before .r2 .given .1) (c .before .before .before .before .before .before .before .before .before .before .before .operand3 .ensures) (not-false _ (c .before .before .before .before .before .before .before .before .before .before .before .before .if1 .left)) (c .before .before .before .before .before .before .before .end-pass .ensures) (c .before .before .before .before .before .left .given .1))
+add-loop-add-turns-requires t c κs = (omega (arith, c .before .before .before .before .before .before .before .before .before .before .before .before .before .before .before .before .before .before .before .before .before .before .before .before .before .before .before .before .before .before .before .before .pre .0), loop-turning (c .before .before .before .before .before .before .before .before .before .before .before .before .before .before .before .before .before .before .before .before .before .before .before .before .before .before .before .before .before .before .before .before .pre .1 .0) (c .before .before .before .before .before .before .before .before .before .before .before .before .before .before .before .before .before .before .before .before .before .before .before .before .before .before .before .before .before .before .before .before .pre .1 .1) (c .before .before .before .before .before .before .before .before .before .before .before .before .before .before .before .before .before .before .before .before .before .before .weigh .ensures) (c .before .before .before .before .before .before .before .before .before .before .before .before .before .before .before .before .before .before .before .before .before .before .before .before .before .before .before .before .block-operand .ensures) (c .before .before .before .before .before .before .before .before .before .before .before .before .before .before .before .before .before .before .before .before .before .before .before .before .before .before .before .block-operand2 .ensures) (c .before .before .before .before .before .before .before .before .before .before .before .before .before .before .before .before .add-pair .ensures) (c .before .before .before .before .before .before .before .before .before .before .before .before .before .before .r2 .given .1) (c .before .before .before .before .before .before .before .before .before .before .before .expression-operand .ensures) (not-false _ (c .before .before .before .before .before .before .before .before .before .before .before .before .if1 .left)) (c .before .before .before .before .before .before .before .end-pass .ensures) (c .before .before .before .before .before .left .given .1))
 
 add-loop-returns-2 : (t : ℕ) → add-loop-lts.Need-returns-2 (add-loop-called t) (add-loop-at t) add-loop.Post
-add-loop-returns-2 t c = loop-halts (c .before .before .before .before .before .before .before .before .before .before .before .before .before .before .before .before .before .before .before .pre .1 .0) (c .before .before .before .before .before .before .before .before .before .before .before .before .before .before .before .before .before .before .before .pre .1 .1) (c .before .before .before .before .before .before .before .before .before .weigh .ensures) (c .before .before .before .before .before .before .before .before .before .before .before .before .before .before .before .operand .ensures) (c .before .before .before .before .before .before .before .before .before .before .before .before .before .before .operand2 .ensures) (c .before .before .before .add-pair .ensures) (c .before .r .given .1)
+add-loop-returns-2 t c = loop-halts (c .before .before .before .before .before .before .before .before .before .before .before .before .before .before .before .before .before .before .before .pre .1 .0) (c .before .before .before .before .before .before .before .before .before .before .before .before .before .before .before .before .before .before .before .pre .1 .1) (c .before .before .before .before .before .before .before .before .before .weigh .ensures) (c .before .before .before .before .before .before .before .before .before .before .before .before .before .before .before .block-operand .ensures) (c .before .before .before .before .before .before .before .before .before .before .before .before .before .before .block-operand2 .ensures) (c .before .before .before .add-pair .ensures) (c .before .r .given .1)
 
 add-loop-returns-3 : (t : ℕ) → add-loop-lts.Need-returns-3 (add-loop-called t) (add-loop-at t) add-loop.Post
-add-loop-returns-3 t c = loop-pass-halts (c .before .before .before .before .before .before .before .before .before .before .before .before .before .before .before .before .before .before .before .before .before .before .before .before .before .before .before .before .pre .1 .0) (c .before .before .before .before .before .before .before .before .before .before .before .before .before .before .before .before .before .before .before .before .before .before .before .before .before .before .before .before .pre .1 .1) (c .before .before .before .before .before .before .before .before .before .before .before .before .before .before .before .before .before .before .weigh .ensures) (c .before .before .before .before .before .before .before .before .before .before .before .before .before .before .before .before .before .before .before .before .before .before .before .before .operand .ensures) (c .before .before .before .before .before .before .before .before .before .before .before .before .before .before .before .before .before .before .before .before .before .before .before .operand2 .ensures) (c .before .before .before .before .before .before .before .before .before .before .before .before .add-pair .ensures) (c .before .before .before .before .before .before .before .before .before .before .r2 .given .1) (c .before .before .before .before .before .before .before .operand3 .ensures) (not-false _ (c .before .before .before .before .before .before .before .before .if1 .left)) (c .before .before .before .end-pass .ensures) (c .before .n .given .1)
+add-loop-returns-3 t c = loop-pass-halts (c .before .before .before .before .before .before .before .before .before .before .before .before .before .before .before .before .before .before .before .before .before .before .before .before .before .before .before .before .pre .1 .0) (c .before .before .before .before .before .before .before .before .before .before .before .before .before .before .before .before .before .before .before .before .before .before .before .before .before .before .before .before .pre .1 .1) (c .before .before .before .before .before .before .before .before .before .before .before .before .before .before .before .before .before .before .weigh .ensures) (c .before .before .before .before .before .before .before .before .before .before .before .before .before .before .before .before .before .before .before .before .before .before .before .before .block-operand .ensures) (c .before .before .before .before .before .before .before .before .before .before .before .before .before .before .before .before .before .before .before .before .before .before .before .block-operand2 .ensures) (c .before .before .before .before .before .before .before .before .before .before .before .before .add-pair .ensures) (c .before .before .before .before .before .before .before .before .before .before .r2 .given .1) (c .before .before .before .before .before .before .before .expression-operand .ensures) (not-false _ (c .before .before .before .before .before .before .before .before .if1 .left)) (c .before .before .before .end-pass .ensures) (c .before .n .given .1)
 
 add-loop-returns-4 : (t : ℕ) → add-loop-lts.Need-returns-4 (add-loop-called t) (add-loop-at t) add-loop.Post
-add-loop-returns-4 t c = loop-ends (c .before .before .before .before .before .before .before .before .before .before .before .before .before .before .before .before .before .before .before .before .before .before .before .before .before .before .before .before .before .before .before .before .before .pre .1 .0) (c .before .before .before .before .before .before .before .before .before .before .before .before .before .before .before .before .before .before .before .before .before .before .before .before .before .before .before .before .before .before .before .before .before .pre .1 .1) (c .before .before .before .before .before .before .before .before .before .before .before .before .before .before .before .before .before .before .before .before .before .before .before .weigh .ensures) (c .before .before .before .before .before .before .before .before .before .before .before .before .before .before .before .before .before .before .before .before .before .before .before .before .before .before .before .before .before .operand .ensures) (c .before .before .before .before .before .before .before .before .before .before .before .before .before .before .before .before .before .before .before .before .before .before .before .before .before .before .before .before .operand2 .ensures) (c .before .before .before .before .before .before .before .before .before .before .before .before .before .before .before .before .before .add-pair .ensures) (c .before .before .before .before .before .before .before .before .before .before .before .before .before .before .before .r2 .given .1) (c .before .before .before .before .before .before .before .before .before .before .before .before .operand3 .ensures) (not-false _ (c .before .before .before .before .before .before .before .before .before .before .before .before .before .if1 .left)) (c .before .before .before .before .before .before .before .before .end-pass .ensures) (c .before .before .before .before .before .before .left .given .1) _ (c .add-turns .ensures)
+add-loop-returns-4 t c = loop-ends (c .before .before .before .before .before .before .before .before .before .before .before .before .before .before .before .before .before .before .before .before .before .before .before .before .before .before .before .before .before .before .before .before .before .pre .1 .0) (c .before .before .before .before .before .before .before .before .before .before .before .before .before .before .before .before .before .before .before .before .before .before .before .before .before .before .before .before .before .before .before .before .before .pre .1 .1) (c .before .before .before .before .before .before .before .before .before .before .before .before .before .before .before .before .before .before .before .before .before .before .before .weigh .ensures) (c .before .before .before .before .before .before .before .before .before .before .before .before .before .before .before .before .before .before .before .before .before .before .before .before .before .before .before .before .before .block-operand .ensures) (c .before .before .before .before .before .before .before .before .before .before .before .before .before .before .before .before .before .before .before .before .before .before .before .before .before .before .before .before .block-operand2 .ensures) (c .before .before .before .before .before .before .before .before .before .before .before .before .before .before .before .before .before .add-pair .ensures) (c .before .before .before .before .before .before .before .before .before .before .before .before .before .before .before .r2 .given .1) (c .before .before .before .before .before .before .before .before .before .before .before .before .expression-operand .ensures) (not-false _ (c .before .before .before .before .before .before .before .before .before .before .before .before .before .if1 .left)) (c .before .before .before .before .before .before .before .before .end-pass .ensures) (c .before .before .before .before .before .before .left .given .1) _ (c .add-turns .ensures)
 
-add-nested-operand-requires : (t : ℕ) → add-nested-lts.Need-operand-requires (add-nested-called t) (add-nested-at t) add-nested.Post
-add-nested-operand-requires t c κs = search needs
-
-add-nested-cast-t24 : (t : ℕ) → add-nested-lts.Need-cast-t24 (add-nested-called t) (add-nested-at t) add-nested.Post
-add-nested-cast-t24 t c = search needs
+add-nested-block-operand-requires : (t : ℕ) → add-nested-lts.Need-block-operand-requires (add-nested-called t) (add-nested-at t) add-nested.Post
+add-nested-block-operand-requires t c κs = search needs
 
 add-nested-weigh-requires : (t : ℕ) → add-nested-lts.Need-weigh-requires (add-nested-called t) (add-nested-at t) add-nested.Post
 add-nested-weigh-requires t c κs = arm-weighs (c .before .before .before .before .before .before .before .before .pre .1 .0)
@@ -565,7 +550,7 @@ add-nested-add-add-block : (t : ℕ) → add-nested-lts.Need-add-add-block (add-
 add-nested-add-add-block t c = omega (arith, arm-high (c .before .before .before .before .before .before .before .before .before .before .before .before .before .before .pre .1 .0), c .before .before .before .before .before .before .weigh-arg4 .given .0)
 
 add-nested-add-block-requires : (t : ℕ) → add-nested-lts.Need-add-block-requires (add-nested-called t) (add-nested-at t) add-nested.Post
-add-nested-add-block-requires t c κs = (omega (arith, c .before .before .before .before .before .before .before .before .before .before .before .before .before .before .pre .0, nested-lower (c .before .before .before .before .before .before .before .before .before .before .before .before .before .before .pre .1 .0) (c .before .before .before .before .before .before .before .before .before .before .before .before .before .before .pre .1 .1), c .before .before .before .before .before .before .before .before .before .before .operand .ensures), nested-enters (c .before .before .before .before .before .before .before .before .before .before .before .before .before .before .pre .1 .0) (c .before .before .before .before .before .before .before .before .before .before .before .before .before .before .pre .1 .1) (c .before .before .before .before .before .before .before .before .before .before .operand .ensures) (c .before .before .before .before .before .weigh .ensures))
+add-nested-add-block-requires t c κs = (omega (arith, c .before .before .before .before .before .before .before .before .before .before .before .before .before .before .pre .0, nested-lower (c .before .before .before .before .before .before .before .before .before .before .before .before .before .before .pre .1 .0) (c .before .before .before .before .before .before .before .before .before .before .before .before .before .before .pre .1 .1), c .before .before .before .before .before .before .before .before .before .before .block-operand .ensures), nested-enters (c .before .before .before .before .before .before .before .before .before .before .before .before .before .before .pre .1 .0) (c .before .before .before .before .before .before .before .before .before .before .before .before .before .before .pre .1 .1) (c .before .before .before .before .before .before .before .before .before .before .block-operand .ensures) (c .before .before .before .before .before .weigh .ensures))
 
 add-nested-enum-known-r : (t : ℕ) → add-nested-lts.Need-enum-known-r (add-nested-called t) (add-nested-at t) add-nested.Post
 add-nested-enum-known-r t c = search needs
@@ -574,13 +559,13 @@ add-nested-enum-known-r-2 : (t : ℕ) → add-nested-lts.Need-enum-known-r-2 (ad
 add-nested-enum-known-r-2 t c = search needs
 
 add-nested-lower-requires : (t : ℕ) → add-nested-lts.Need-lower-requires (add-nested-called t) (add-nested-at t) add-nested.Post
-add-nested-lower-requires t c κs = nested-lowers (c .before .before .before .before .before .before .before .before .before .before .before .before .before .before .before .before .before .before .before .pre .1 .0) (c .before .before .before .before .before .before .before .before .before .before .before .before .before .before .before .before .before .before .before .pre .1 .1) (c .before .before .before .before .before .before .before .before .before .before .before .before .before .before .before .operand .ensures) (c .before .before .before .before .before .before .before .before .before .before .weigh .ensures) (c .before .before .before .before .add-block .ensures) (c .before .before .r2 .given .1)
+add-nested-lower-requires t c κs = nested-lowers (c .before .before .before .before .before .before .before .before .before .before .before .before .before .before .before .before .before .before .before .pre .1 .0) (c .before .before .before .before .before .before .before .before .before .before .before .before .before .before .before .before .before .before .before .pre .1 .1) (c .before .before .before .before .before .before .before .before .before .before .before .before .before .before .before .block-operand .ensures) (c .before .before .before .before .before .before .before .before .before .before .weigh .ensures) (c .before .before .before .before .add-block .ensures) (c .before .before .r2 .given .1)
 
 add-nested-returns : (t : ℕ) → add-nested-lts.Need-returns (add-nested-called t) (add-nested-at t) add-nested.Post
-add-nested-returns t c = nested-stops (c .before .before .before .before .before .before .before .before .before .before .before .before .before .before .before .before .before .before .pre .1 .0) (c .before .before .before .before .before .before .before .before .before .before .before .before .before .before .before .before .before .before .pre .1 .1) (c .before .before .before .before .before .before .before .before .before .before .before .before .before .before .operand .ensures) (c .before .before .before .before .before .before .before .before .before .weigh .ensures) (c .before .before .before .add-block .ensures) (c .before .r .given .1)
+add-nested-returns t c = nested-stops (c .before .before .before .before .before .before .before .before .before .before .before .before .before .before .before .before .before .before .pre .1 .0) (c .before .before .before .before .before .before .before .before .before .before .before .before .before .before .before .before .before .before .pre .1 .1) (c .before .before .before .before .before .before .before .before .before .before .before .before .before .before .block-operand .ensures) (c .before .before .before .before .before .before .before .before .before .weigh .ensures) (c .before .before .before .add-block .ensures) (c .before .r .given .1)
 
 add-nested-returns-2 : (t : ℕ) → add-nested-lts.Need-returns-2 (add-nested-called t) (add-nested-at t) add-nested.Post
-add-nested-returns-2 t c = nested-ends (c .before .before .before .before .before .before .before .before .before .before .before .before .before .before .before .before .before .before .before .before .pre .1 .0) (c .before .before .before .before .before .before .before .before .before .before .before .before .before .before .before .before .before .before .before .before .pre .1 .1) (c .before .before .before .before .before .before .before .before .before .before .before .before .before .before .before .before .operand .ensures) (c .before .before .before .before .before .before .before .before .before .before .before .weigh .ensures) (c .before .before .before .before .before .add-block .ensures) (c .before .before .before .r2 .given .1) (c .lower .ensures)
+add-nested-returns-2 t c = nested-ends (c .before .before .before .before .before .before .before .before .before .before .before .before .before .before .before .before .before .before .before .before .pre .1 .0) (c .before .before .before .before .before .before .before .before .before .before .before .before .before .before .before .before .before .before .before .before .pre .1 .1) (c .before .before .before .before .before .before .before .before .before .before .before .before .before .before .before .before .block-operand .ensures) (c .before .before .before .before .before .before .before .before .before .before .before .weigh .ensures) (c .before .before .before .before .before .add-block .ensures) (c .before .before .before .r2 .given .1) (c .lower .ensures)
 
 add-pair-add-block-requires : (t : ℕ) → add-pair-lts.Need-add-block-requires (add-pair-called t) (add-pair-at t) add-pair.Post
 add-pair-add-block-requires t c κs = (omega (arith, c .before .before .before .before .before .before .pre .0, c .before .before .before .before .before .before .pre .1 .first-lower), pair-first (c .before .before .before .before .before .before .pre .1))
@@ -717,14 +702,14 @@ add-switch-loop-less t c = omega (arith, c .before .before .before .before .befo
 add-switch-loop-again : (t : ℕ) → add-switch-lts.Need-loop-again (add-switch-called t) (add-switch-at t) add-switch.Post add-switch-Inv-loop add-switch-μ-loop
 add-switch-loop-again t c = cases-next (c .before .before .before .before .before .before .before .before .before .before .before .before .before .before .before .before .before .before .before .before .loop .inv) (c .before .before .before .before .before .before .before .before .before .before .before .before .before .weigh2 .ensures) (c .before .before .before .before .before .before .before .before .before .before .before .before .before .before .before .before .before .before .case-body .ensures) (omega (arith, c .before .before .before .before .before .before .before .before .before .before .before .before .before .before .before .before .before .before .before .loop-test .taken)) (c .before .before .before .before .before .before .before .before .add-block .ensures) (c .before .before .before .before .before .before .tally .given .1) (c .before .before .end-case .ensures) (c .before .if1 .left) (c .or .ensures)
 
-add-switch-operand-requires-2 : (t : ℕ) → add-switch-lts.Need-operand-requires-2 (add-switch-called t) (add-switch-at t) add-switch.Post add-switch-Inv-loop add-switch-μ-loop
-add-switch-operand-requires-2 t c κs = search needs
+add-switch-expression-operand-requires : (t : ℕ) → add-switch-lts.Need-expression-operand-requires (add-switch-called t) (add-switch-at t) add-switch.Post add-switch-Inv-loop add-switch-μ-loop
+add-switch-expression-operand-requires t c κs = search needs
 
 add-switch-end-switch-requires : (t : ℕ) → add-switch-lts.Need-end-switch-requires (add-switch-called t) (add-switch-at t) add-switch.Post add-switch-Inv-loop add-switch-μ-loop
-add-switch-end-switch-requires t c κs = let G = began (c .before .before .before .before .before .before .before .before .before .before .before .before .before .before .before .before .before .before .pre .1 .0) (c .before .before .before .before .before .before .before .before .before .before .before .before .before .before .before .before .before .before .pre .1 .1) (c .before .before .before .before .before .before .before .copy-context .ensures) (c .before .before .before .before .before .before .before .before .before .before .weigh .ensures) in switch-asks (c .before .before .before .before .before .before .before .before .before .before .before .before .before .before .before .before .before .before .pre .1 .0) (c .before .before .before .before .before .loop .inv .by _ _ G) (c .before .before .before .before .before .before .before .before .before .before .before .before .before .before .before .before .before .before .pre .1 .1) (c .before .before .before .operand2 .ensures)
+add-switch-end-switch-requires t c κs = let G = began (c .before .before .before .before .before .before .before .before .before .before .before .before .before .before .before .before .before .before .pre .1 .0) (c .before .before .before .before .before .before .before .before .before .before .before .before .before .before .before .before .before .before .pre .1 .1) (c .before .before .before .before .before .before .before .copy-context .ensures) (c .before .before .before .before .before .before .before .before .before .before .weigh .ensures) in switch-asks (c .before .before .before .before .before .before .before .before .before .before .before .before .before .before .before .before .before .before .pre .1 .0) (c .before .before .before .before .before .loop .inv .by _ _ G) (c .before .before .before .before .before .before .before .before .before .before .before .before .before .before .before .before .before .before .pre .1 .1) (c .before .before .before .expression-operand .ensures)
 
 add-switch-returns-3 : (t : ℕ) → add-switch-lts.Need-returns-3 (add-switch-called t) (add-switch-at t) add-switch.Post add-switch-Inv-loop add-switch-μ-loop
-add-switch-returns-3 t c = let G = began (c .before .before .before .before .before .before .before .before .before .before .before .before .before .before .before .before .before .before .before .pre .1 .0) (c .before .before .before .before .before .before .before .before .before .before .before .before .before .before .before .before .before .before .before .pre .1 .1) (c .before .before .before .before .before .before .before .before .copy-context .ensures) (c .before .before .before .before .before .before .before .before .before .before .before .weigh .ensures) in switch-whole (c .before .before .before .before .before .before .before .before .before .before .before .before .before .before .before .before .before .before .before .pre .1 .0) (c .before .before .before .before .before .before .loop .inv .by _ _ G) (omega (arith, c .before .before .before .before .before .loop-test .left)) (c .before .before .before .before .operand2 .ensures) (c .end-switch .ensures)
+add-switch-returns-3 t c = let G = began (c .before .before .before .before .before .before .before .before .before .before .before .before .before .before .before .before .before .before .before .pre .1 .0) (c .before .before .before .before .before .before .before .before .before .before .before .before .before .before .before .before .before .before .before .pre .1 .1) (c .before .before .before .before .before .before .before .before .copy-context .ensures) (c .before .before .before .before .before .before .before .before .before .before .before .weigh .ensures) in switch-whole (c .before .before .before .before .before .before .before .before .before .before .before .before .before .before .before .before .before .before .before .pre .1 .0) (c .before .before .before .before .before .before .loop .inv .by _ _ G) (omega (arith, c .before .before .before .before .before .loop-test .left)) (c .before .before .before .before .expression-operand .ensures) (c .end-switch .ensures)
 
 abbrev add-turns-Inv-loop : add-turns-lts.InvT-loop
 add-turns-Inv-loop bytes t types places cells₀ slots₀ open₀ totals₀ fr b body continuing visits sum f at held v₀ m₀ left₀ cells slots «open» totals v m left = TurnsLeft bytes t types places cells₀ slots₀ open₀ totals₀ fr (b .0) (body .0) (continuing .0) visits left v m cells slots «open» totals
@@ -850,8 +835,7 @@ pub +add-arm+add-block+add-call+add-function+add-holder+add-if+add-loop+add-nest
     (λ t. add-call-lts.spec (add-call-called t)
     (add-call-at t)
     add-call.Post
-    (add-call-operand-requires t)
-    (add-call-cast-t26 t)
+    (add-call-function-operand-requires t)
     (add-call-begin-call-requires t)
     (add-call-add-add-function t)
     (add-call-sub-add-function t)
@@ -895,27 +879,23 @@ pub +add-arm+add-block+add-call+add-function+add-holder+add-if+add-loop+add-nest
     (λ t. add-if-lts.spec (add-if-called t)
     (add-if-at t)
     add-if.Post
-    (add-if-operand-requires t)
-    (add-if-cast-t26 t)
-    (add-if-operand-requires-2 t)
-    (add-if-cast-t26-2 t)
+    (add-if-block-operand-requires t)
+    (add-if-block-operand-requires-2 t)
     (add-if-weigh-requires t)
     (add-if-add-held t)
     (add-if-add-add-pair t)
     (add-if-add-pair-requires t)
     (add-if-enum-known-r t)
     (add-if-enum-known-r-2 t)
-    (add-if-operand-requires-3 t)
+    (add-if-expression-operand-requires t)
     (add-if-end-if-requires t)
     (add-if-returns t)
     (add-if-returns-2 t))
     (λ t. add-loop-lts.spec (add-loop-called t)
     (add-loop-at t)
     add-loop.Post
-    (add-loop-operand-requires t)
-    (add-loop-cast-t29 t)
-    (add-loop-operand-requires-2 t)
-    (add-loop-cast-t29-2 t)
+    (add-loop-block-operand-requires t)
+    (add-loop-block-operand-requires-2 t)
     (add-loop-weigh-requires t)
     (add-loop-add-held t)
     (add-loop-add-add-pair t)
@@ -924,7 +904,7 @@ pub +add-arm+add-block+add-call+add-function+add-holder+add-if+add-loop+add-nest
     (add-loop-enum-known-r-2 t)
     (add-loop-drop-both-requires t)
     (add-loop-returns t)
-    (add-loop-operand-requires-3 t)
+    (add-loop-expression-operand-requires t)
     (add-loop-end-pass-requires t)
     (add-loop-enum-known-n t)
     (add-loop-enum-known-left t)
@@ -935,8 +915,7 @@ pub +add-arm+add-block+add-call+add-function+add-holder+add-if+add-loop+add-nest
     (λ t. add-nested-lts.spec (add-nested-called t)
     (add-nested-at t)
     add-nested.Post
-    (add-nested-operand-requires t)
-    (add-nested-cast-t24 t)
+    (add-nested-block-operand-requires t)
     (add-nested-weigh-requires t)
     (add-nested-add-held t)
     (add-nested-add-add-block t)
@@ -1000,7 +979,7 @@ pub +add-arm+add-block+add-call+add-function+add-holder+add-if+add-loop+add-nest
     (add-switch-or-requires t)
     (add-switch-loop-less t)
     (add-switch-loop-again t)
-    (add-switch-operand-requires-2 t)
+    (add-switch-expression-operand-requires t)
     (add-switch-end-switch-requires t)
     (add-switch-returns-3 t))
     λ t. add-turns-lts.spec (add-turns-called t)

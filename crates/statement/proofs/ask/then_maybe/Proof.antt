@@ -8,10 +8,10 @@ use Rattle.statement.proofs.ask.then_maybe.Lts as lts
 use Rattle.statement.proofs.ask.then_ask.Reads as then-ask-reads
 
 returns : tie.Need-returns
-returns c = maybe-absent _ _ (c .if1 .taken) (c .before .before .before .before .before .pre .0)
+returns c = maybe-absent _ _ (c .if1 .taken) (c .before .before .before .before .before .before .pre .0)
 
 then-ask-requires : tie.Need-then-ask-requires
-then-ask-requires c κs = (c .before .before .before .before .before .before .before .pre .0, (below-there _ _ (c .before .before .if1 .left) (c .before .before .before .before .before .before .before .pre .1 .0), c .before .before .before .before .before .before .before .pre .1 .1))
+then-ask-requires c κs = (c .before .before .before .before .before .before .before .before .pre .0, (below-there _ _ (c .before .before .if1 .left) (c .before .before .before .before .before .before .before .before .pre .1 .0), c .before .before .before .before .before .before .before .before .pre .1 .1))
 
 same-length : tie.Need-same-length
 same-length c = search needs

@@ -7,7 +7,7 @@ use Rattle.statement.proofs.atomic.add_atomic.Statement.{statement}
 use Rattle.statement.proofs.atomic.add_atomic.Tie as tie
 use Rattle.statement.proofs.atomic.add_atomic.Reads as reads
 use Rattle.statement.proofs.atomic.add_atomic.Lts as lts
-use Rattle.access.proofs.kinded.operand.Reads as operand-reads
+use Rattle.access.proofs.kinded.expression_operand.Reads as expression-operand-reads
 use Rattle.statement.proofs.aim.target_of.Reads as target-of-reads
 use Rattle.statement.proofs.ask.answer.Reads as answer-reads
 use Rattle.statement.proofs.ask.then_maybe.Reads as then-maybe-reads
@@ -15,17 +15,17 @@ use Rattle.statement.proofs.atomic.put_aside.Reads as put-aside-reads
 use Rattle.statement.proofs.atomic.record_of.Reads as record-of-reads
 use Rattle.statement.proofs.atomic.some_field.Reads as some-field-reads
 
-operand-requires : tie.Need-operand-requires
-operand-requires c κs = search needs
+expression-operand-requires : tie.Need-expression-operand-requires
+expression-operand-requires c κs = search needs
 
-operand-requires-2 : tie.Need-operand-requires-2
-operand-requires-2 c κs = search needs
+expression-operand-requires-2 : tie.Need-expression-operand-requires-2
+expression-operand-requires-2 c κs = search needs
 
-operand-requires-3 : tie.Need-operand-requires-3
-operand-requires-3 c κs = search needs
+expression-operand-requires-3 : tie.Need-expression-operand-requires-3
+expression-operand-requires-3 c κs = search needs
 
 target-of-requires : tie.Need-target-of-requires
-target-of-requires c κs = rw (c .before .before .before .before .operand .ensures) (atomic-aims (c .before .before .before .before .before .before .before .before .before .pre .0) (c .before .before .before .before .before .before .before .before .before .pre .1) 0)
+target-of-requires c κs = rw (c .before .before .before .before .expression-operand .ensures) (atomic-aims (c .before .before .before .before .before .before .before .before .before .pre .0) (c .before .before .before .before .before .before .before .before .before .pre .1) 0)
 
 enum-known-aimed : tie.Need-enum-known-aimed
 enum-known-aimed c = search needs
@@ -34,19 +34,19 @@ enum-known-aimed-2 : tie.Need-enum-known-aimed-2
 enum-known-aimed-2 c = search needs
 
 record-of-requires : tie.Need-record-of-requires
-record-of-requires c κs = rw (c .before .before .before .before .before .before .before .before .before .before .operand3 .ensures) (atomic-loads (c .before .before .before .before .before .before .before .before .before .before .before .before .before .before .before .before .before .pre .0) (c .before .before .before .before .before .before .before .before .before .before .before .before .before .before .before .before .before .pre .1) 0 (rw (c .before .before .before .before .before .before .before .before .before .before .before .before .operand .ensures) at (c .before .before .before .before .before .before .before .target-of .ensures)))
+record-of-requires c κs = rw (c .before .before .before .before .before .before .before .before .before .before .expression-operand3 .ensures) (atomic-loads (c .before .before .before .before .before .before .before .before .before .before .before .before .before .before .before .before .before .pre .0) (c .before .before .before .before .before .before .before .before .before .before .before .before .before .before .before .before .before .pre .1) 0 (rw (c .before .before .before .before .before .before .before .before .before .before .before .before .expression-operand .ensures) at (c .before .before .before .before .before .before .before .target-of .ensures)))
 
 put-aside-requires : tie.Need-put-aside-requires
-put-aside-requires c κs = atomic-first (c .before .before .before .before .before .before .before .before .before .before .before .before .before .before .before .before .before .before .before .pre .0) (c .before .before .before .before .before .before .before .before .before .before .before .before .before .before .before .before .before .before .before .pre .1) 0 (rw (c .before .before .before .before .before .before .before .before .before .before .before .before .before .before .operand .ensures) at (c .before .before .before .before .before .before .before .before .before .target-of .ensures)) (c .before .record-of .result) (c .before .before .before .before .before .aimed2 .given .1) (rw (c .before .before .before .before .before .before .before .before .before .before .before .before .operand3 .ensures) at (c .before .record-of .ensures))
+put-aside-requires c κs = atomic-first (c .before .before .before .before .before .before .before .before .before .before .before .before .before .before .before .before .before .before .before .pre .0) (c .before .before .before .before .before .before .before .before .before .before .before .before .before .before .before .before .before .before .before .pre .1) 0 (rw (c .before .before .before .before .before .before .before .before .before .before .before .before .before .before .expression-operand .ensures) at (c .before .before .before .before .before .before .before .before .before .target-of .ensures)) (c .before .record-of .result) (c .before .before .before .before .before .aimed2 .given .1) (rw (c .before .before .before .before .before .before .before .before .before .before .before .before .expression-operand3 .ensures) at (c .before .record-of .ensures))
 
 put-aside-requires-2 : tie.Need-put-aside-requires-2
-put-aside-requires-2 c κs = rw (c .before .before .before .put-aside .ensures .1) (atomic-second (c .before .before .before .before .before .before .before .before .before .before .before .before .before .before .before .before .before .before .before .before .before .before .before .pre .0) (c .before .before .before .before .before .before .before .before .before .before .before .before .before .before .before .before .before .before .before .before .before .before .before .pre .1) 0 (rw (c .before .before .before .before .before .before .before .before .before .before .before .before .before .before .before .before .before .before .operand .ensures) at (c .before .before .before .before .before .before .before .before .before .before .before .before .before .target-of .ensures)) (c .before .before .before .before .before .record-of .result) (c .before .before .before .before .before .before .before .before .before .aimed2 .given .1) (rw (c .before .before .before .before .before .before .before .before .before .before .before .before .before .before .before .before .operand3 .ensures) at (c .before .before .before .before .before .record-of .ensures)))
+put-aside-requires-2 c κs = rw (c .before .before .before .put-aside .ensures .1) (atomic-second (c .before .before .before .before .before .before .before .before .before .before .before .before .before .before .before .before .before .before .before .before .before .before .before .pre .0) (c .before .before .before .before .before .before .before .before .before .before .before .before .before .before .before .before .before .before .before .before .before .before .before .pre .1) 0 (rw (c .before .before .before .before .before .before .before .before .before .before .before .before .before .before .before .before .before .before .expression-operand .ensures) at (c .before .before .before .before .before .before .before .before .before .before .before .before .before .target-of .ensures)) (c .before .before .before .before .before .record-of .result) (c .before .before .before .before .before .before .before .before .before .aimed2 .given .1) (rw (c .before .before .before .before .before .before .before .before .before .before .before .before .before .before .before .before .expression-operand3 .ensures) at (c .before .before .before .before .before .record-of .ensures)))
 
 then-maybe-requires : tie.Need-then-maybe-requires
-then-maybe-requires c κs = (rw (c .before .before .before .before .put-aside2 .ensures .1, c .before .before .before .before .before .before .before .before .put-aside .ensures .1) (atomic-begins (c .before .before .before .before .before .before .before .before .before .before .before .before .before .before .before .before .before .before .before .before .before .before .before .before .before .before .before .before .pre .0) (c .before .before .before .before .before .before .before .before .before .before .before .before .before .before .before .before .before .before .before .before .before .before .before .before .before .before .before .before .pre .1) _ (rw (c .before .before .before .before .before .before .before .before .before .before .before .before .before .before .before .before .before .before .before .before .before .before .before .operand .ensures) at (c .before .before .before .before .before .before .before .before .before .before .before .before .before .before .before .before .before .before .target-of .ensures)) (c .before .before .before .before .before .before .before .before .before .before .record-of .result) (c .before .before .before .before .before .before .before .before .before .before .before .before .before .before .aimed2 .given .1) (rw (c .before .before .before .before .before .before .before .before .before .before .before .before .before .before .before .before .before .before .before .before .before .operand3 .ensures) at (c .before .before .before .before .before .before .before .before .before .before .record-of .ensures))), (rw (c .before .before .before .before .before .before .before .before .put-aside .ensures .0, c .before .before .before .before .before .before .before .before .before .before .before .before .before .before .before .before .before .before .before .before .before .operand3 .ensures) (atomic-below (c .before .before .before .before .before .before .before .before .before .before .before .before .before .before .before .before .before .before .before .before .before .before .before .before .before .before .before .before .pre .0) (c .before .before .before .before .before .before .before .before .before .before .before .before .before .before .before .before .before .before .before .before .before .before .before .before .before .before .before .before .pre .1) 0 (rw (c .before .before .before .before .before .before .before .before .before .before .before .before .before .before .before .before .before .before .before .before .before .before .before .operand .ensures) at (c .before .before .before .before .before .before .before .before .before .before .before .before .before .before .before .before .before .before .target-of .ensures)) (c .before .before .before .before .before .before .before .before .before .before .record-of .result) (c .before .before .before .before .before .before .before .before .before .before .before .before .before .before .aimed2 .given .1) (rw (c .before .before .before .before .before .before .before .before .before .before .before .before .before .before .before .before .before .before .before .before .before .operand3 .ensures) at (c .before .before .before .before .before .before .before .before .before .before .record-of .ensures)) .0), omega arith))
+then-maybe-requires c κs = (rw (c .before .before .before .before .put-aside2 .ensures .1, c .before .before .before .before .before .before .before .before .put-aside .ensures .1) (atomic-begins (c .before .before .before .before .before .before .before .before .before .before .before .before .before .before .before .before .before .before .before .before .before .before .before .before .before .before .before .before .pre .0) (c .before .before .before .before .before .before .before .before .before .before .before .before .before .before .before .before .before .before .before .before .before .before .before .before .before .before .before .before .pre .1) _ (rw (c .before .before .before .before .before .before .before .before .before .before .before .before .before .before .before .before .before .before .before .before .before .before .before .expression-operand .ensures) at (c .before .before .before .before .before .before .before .before .before .before .before .before .before .before .before .before .before .before .target-of .ensures)) (c .before .before .before .before .before .before .before .before .before .before .record-of .result) (c .before .before .before .before .before .before .before .before .before .before .before .before .before .before .aimed2 .given .1) (rw (c .before .before .before .before .before .before .before .before .before .before .before .before .before .before .before .before .before .before .before .before .before .expression-operand3 .ensures) at (c .before .before .before .before .before .before .before .before .before .before .record-of .ensures))), (rw (c .before .before .before .before .before .before .before .before .put-aside .ensures .0, c .before .before .before .before .before .before .before .before .before .before .before .before .before .before .before .before .before .before .before .before .before .expression-operand3 .ensures) (atomic-below (c .before .before .before .before .before .before .before .before .before .before .before .before .before .before .before .before .before .before .before .before .before .before .before .before .before .before .before .before .pre .0) (c .before .before .before .before .before .before .before .before .before .before .before .before .before .before .before .before .before .before .before .before .before .before .before .before .before .before .before .before .pre .1) 0 (rw (c .before .before .before .before .before .before .before .before .before .before .before .before .before .before .before .before .before .before .before .before .before .before .before .expression-operand .ensures) at (c .before .before .before .before .before .before .before .before .before .before .before .before .before .before .before .before .before .before .target-of .ensures)) (c .before .before .before .before .before .before .before .before .before .before .record-of .result) (c .before .before .before .before .before .before .before .before .before .before .before .before .before .before .aimed2 .given .1) (rw (c .before .before .before .before .before .before .before .before .before .before .before .before .before .before .before .before .before .before .before .before .before .expression-operand3 .ensures) at (c .before .before .before .before .before .before .before .before .before .before .record-of .ensures)) .0), omega arith))
 
 then-maybe-requires-2 : tie.Need-then-maybe-requires-2
-then-maybe-requires-2 c κs = (c .before .before .before .before .before .before .then-maybe .ensures .opens, (rw (c .before .before .before .before .before .before .before .before .before .before .before .put-aside2 .ensures .0, c .before .before .before .before .before .before .before .before .before .before .before .before .before .before .before .before .before .before .before .before .before .before .before .before .before .before .before .before .before .operand2 .ensures) (atomic-below (c .before .before .before .before .before .before .before .before .before .before .before .before .before .before .before .before .before .before .before .before .before .before .before .before .before .before .before .before .before .before .before .before .before .before .before .pre .0) (c .before .before .before .before .before .before .before .before .before .before .before .before .before .before .before .before .before .before .before .before .before .before .before .before .before .before .before .before .before .before .before .before .before .before .before .pre .1) 0 (rw (c .before .before .before .before .before .before .before .before .before .before .before .before .before .before .before .before .before .before .before .before .before .before .before .before .before .before .before .before .before .before .operand .ensures) at (c .before .before .before .before .before .before .before .before .before .before .before .before .before .before .before .before .before .before .before .before .before .before .before .before .before .target-of .ensures)) (c .before .before .before .before .before .before .before .before .before .before .before .before .before .before .before .before .before .record-of .result) (c .before .before .before .before .before .before .before .before .before .before .before .before .before .before .before .before .before .before .before .before .before .aimed2 .given .1) (rw (c .before .before .before .before .before .before .before .before .before .before .before .before .before .before .before .before .before .before .before .before .before .before .before .before .before .before .before .before .operand3 .ensures) at (c .before .before .before .before .before .before .before .before .before .before .before .before .before .before .before .before .before .record-of .ensures)) .1), omega arith))
+then-maybe-requires-2 c κs = (c .before .before .before .before .before .before .then-maybe .ensures .opens, (rw (c .before .before .before .before .before .before .before .before .before .before .before .put-aside2 .ensures .0, c .before .before .before .before .before .before .before .before .before .before .before .before .before .before .before .before .before .before .before .before .before .before .before .before .before .before .before .before .before .expression-operand2 .ensures) (atomic-below (c .before .before .before .before .before .before .before .before .before .before .before .before .before .before .before .before .before .before .before .before .before .before .before .before .before .before .before .before .before .before .before .before .before .before .before .pre .0) (c .before .before .before .before .before .before .before .before .before .before .before .before .before .before .before .before .before .before .before .before .before .before .before .before .before .before .before .before .before .before .before .before .before .before .before .pre .1) 0 (rw (c .before .before .before .before .before .before .before .before .before .before .before .before .before .before .before .before .before .before .before .before .before .before .before .before .before .before .before .before .before .before .expression-operand .ensures) at (c .before .before .before .before .before .before .before .before .before .before .before .before .before .before .before .before .before .before .before .before .before .before .before .before .before .target-of .ensures)) (c .before .before .before .before .before .before .before .before .before .before .before .before .before .before .before .before .before .record-of .result) (c .before .before .before .before .before .before .before .before .before .before .before .before .before .before .before .before .before .before .before .before .before .aimed2 .given .1) (rw (c .before .before .before .before .before .before .before .before .before .before .before .before .before .before .before .before .before .before .before .before .before .before .before .before .before .before .before .before .expression-operand3 .ensures) at (c .before .before .before .before .before .before .before .before .before .before .before .before .before .before .before .before .before .record-of .ensures)) .1), omega arith))
 
 some-field-requires : tie.Need-some-field-requires
 some-field-requires c κs = search needs
@@ -61,7 +61,7 @@ same-length-2 : tie.Need-same-length-2
 same-length-2 c = search needs
 
 returns : tie.Need-returns
-returns c = atomic-refuses (c .before .before .before .before .before .before .before .before .before .before .before .before .before .before .before .before .pre .0) (c .before .before .before .before .before .before .before .before .before .before .before .before .before .before .before .before .pre .1) _ (rw (c .before .before .before .before .before .before .before .before .before .before .before .operand .ensures) at (c .before .before .before .before .before .before .target-of .ensures)) (c .before .before .aimed .given .1)
+returns c = atomic-refuses (c .before .before .before .before .before .before .before .before .before .before .before .before .before .before .before .before .pre .0) (c .before .before .before .before .before .before .before .before .before .before .before .before .before .before .before .before .pre .1) _ (rw (c .before .before .before .before .before .before .before .before .before .before .before .expression-operand .ensures) at (c .before .before .before .before .before .before .target-of .ensures)) (c .before .before .aimed .given .1)
 
 same-length-3 : tie.Need-same-length-3
 same-length-3 c = c .before .before .before .before .before .before .then-maybe2 .kept .1 .1 .0 ∙ c .before .before .before .before .before .before .before .before .before .before .before .before .before .then-maybe .kept .1 .1 .0 ∙ c .before .before .before .before .before .before .before .before .before .before .before .before .before .before .before .before .before .before .before .before .before .before .before .before .before .before .before .before .before .before .before .before .target-of .kept .1 .1 .0
@@ -70,15 +70,15 @@ same-length-4 : tie.Need-same-length-4
 same-length-4 c = search needs
 
 returns-2 : tie.Need-returns-2
-returns-2 c = atomic-asks (c .before .before .before .before .before .before .before .before .before .before .before .before .before .before .before .before .before .before .before .before .before .before .before .before .before .before .before .before .before .before .before .before .before .before .before .before .before .before .before .before .before .before .pre .0) (c .before .before .before .before .before .before .before .before .before .before .before .before .before .before .before .before .before .before .before .before .before .before .before .before .before .before .before .before .before .before .before .before .before .before .before .before .before .before .before .before .before .before .pre .1) _ (rw (c .before .before .before .before .before .before .before .before .before .before .before .before .before .before .before .before .before .before .before .before .before .before .before .before .before .before .before .before .before .before .before .before .before .before .before .before .before .operand .ensures) at (c .before .before .before .before .before .before .before .before .before .before .before .before .before .before .before .before .before .before .before .before .before .before .before .before .before .before .before .before .before .before .before .before .target-of .ensures)) (c .before .before .before .before .before .before .before .before .before .before .before .before .before .before .before .before .before .before .before .before .before .before .before .before .record-of .result) (c .before .before .before .before .before .before .before .before .before .before .before .before .before .before .before .before .before .before .before .before .before .before .before .before .before .before .before .before .aimed2 .given .1) (rw (c .before .before .before .before .before .before .before .before .before .before .before .before .before .before .before .before .before .before .before .before .before .before .before .before .before .before .before .before .before .before .before .before .before .before .before .operand3 .ensures) at (c .before .before .before .before .before .before .before .before .before .before .before .before .before .before .before .before .before .before .before .before .before .before .before .before .record-of .ensures)) (rw (c .before .before .before .before .before .before .before .before .before .before .before .before .before .before .before .before .before .before .put-aside2 .ensures .1, c .before .before .before .before .before .before .before .before .before .before .before .before .before .before .before .before .before .before .before .before .before .before .put-aside .ensures .1, c .before .before .before .before .before .before .before .before .before .before .before .before .before .before .before .before .before .before .before .before .before .before .put-aside .ensures .0, c .before .before .before .before .before .before .before .before .before .before .before .before .before .before .before .before .before .before .before .before .before .before .before .before .before .before .before .before .before .before .before .before .before .before .before .operand3 .ensures) at (c .before .before .before .before .before .before .before .before .before .before .before .before .before .then-maybe .ensures)) (rw (c .before .before .before .before .before .before .before .before .before .before .before .before .before .before .before .before .before .before .put-aside2 .ensures .0, c .before .before .before .before .before .before .before .before .before .before .before .before .before .before .before .before .before .before .before .before .before .before .before .before .before .before .before .before .before .before .before .before .before .before .before .before .operand2 .ensures) at (c .before .before .before .before .before .before .then-maybe2 .ensures)) (rw (c .before .before .before .before .before .before .before .before .before .before .before .before .before .before .before .before .before .before .before .before .before .before .put-aside .ensures .0, c .before .before .before .before .before .before .before .before .before .before .before .before .before .before .before .before .before .before .put-aside2 .ensures .0, c .before .before .before .before .before .before .before .before .before .before .before .before .before .before .before .before .before .before .before .before .before .before .before .before .before .before .before .before .before .before .before .before .before .before .before .operand3 .ensures, c .before .before .before .before .before .before .before .before .before .before .before .before .before .before .before .before .before .before .before .before .before .before .before .before .before .before .before .before .before .before .before .before .before .before .before .before .operand2 .ensures) at (c .before .some-field .ensures)) (c .answer .ensures)
+returns-2 c = atomic-asks (c .before .before .before .before .before .before .before .before .before .before .before .before .before .before .before .before .before .before .before .before .before .before .before .before .before .before .before .before .before .before .before .before .before .before .before .before .before .before .before .before .before .before .pre .0) (c .before .before .before .before .before .before .before .before .before .before .before .before .before .before .before .before .before .before .before .before .before .before .before .before .before .before .before .before .before .before .before .before .before .before .before .before .before .before .before .before .before .before .pre .1) _ (rw (c .before .before .before .before .before .before .before .before .before .before .before .before .before .before .before .before .before .before .before .before .before .before .before .before .before .before .before .before .before .before .before .before .before .before .before .before .before .expression-operand .ensures) at (c .before .before .before .before .before .before .before .before .before .before .before .before .before .before .before .before .before .before .before .before .before .before .before .before .before .before .before .before .before .before .before .before .target-of .ensures)) (c .before .before .before .before .before .before .before .before .before .before .before .before .before .before .before .before .before .before .before .before .before .before .before .before .record-of .result) (c .before .before .before .before .before .before .before .before .before .before .before .before .before .before .before .before .before .before .before .before .before .before .before .before .before .before .before .before .aimed2 .given .1) (rw (c .before .before .before .before .before .before .before .before .before .before .before .before .before .before .before .before .before .before .before .before .before .before .before .before .before .before .before .before .before .before .before .before .before .before .before .expression-operand3 .ensures) at (c .before .before .before .before .before .before .before .before .before .before .before .before .before .before .before .before .before .before .before .before .before .before .before .before .record-of .ensures)) (rw (c .before .before .before .before .before .before .before .before .before .before .before .before .before .before .before .before .before .before .put-aside2 .ensures .1, c .before .before .before .before .before .before .before .before .before .before .before .before .before .before .before .before .before .before .before .before .before .before .put-aside .ensures .1, c .before .before .before .before .before .before .before .before .before .before .before .before .before .before .before .before .before .before .before .before .before .before .put-aside .ensures .0, c .before .before .before .before .before .before .before .before .before .before .before .before .before .before .before .before .before .before .before .before .before .before .before .before .before .before .before .before .before .before .before .before .before .before .before .expression-operand3 .ensures) at (c .before .before .before .before .before .before .before .before .before .before .before .before .before .then-maybe .ensures)) (rw (c .before .before .before .before .before .before .before .before .before .before .before .before .before .before .before .before .before .before .put-aside2 .ensures .0, c .before .before .before .before .before .before .before .before .before .before .before .before .before .before .before .before .before .before .before .before .before .before .before .before .before .before .before .before .before .before .before .before .before .before .before .before .expression-operand2 .ensures) at (c .before .before .before .before .before .before .then-maybe2 .ensures)) (rw (c .before .before .before .before .before .before .before .before .before .before .before .before .before .before .before .before .before .before .before .before .before .before .put-aside .ensures .0, c .before .before .before .before .before .before .before .before .before .before .before .before .before .before .before .before .before .before .put-aside2 .ensures .0, c .before .before .before .before .before .before .before .before .before .before .before .before .before .before .before .before .before .before .before .before .before .before .before .before .before .before .before .before .before .before .before .before .before .before .before .expression-operand3 .ensures, c .before .before .before .before .before .before .before .before .before .before .before .before .before .before .before .before .before .before .before .before .before .before .before .before .before .before .before .before .before .before .before .before .before .before .before .before .expression-operand2 .ensures) at (c .before .some-field .ensures)) (c .answer .ensures)
 
 pub add-atomic-spec : {M : Type 1} → statement M
 add-atomic-spec =
     tie.close
     (tie.spec
-    operand-requires
-    operand-requires-2
-    operand-requires-3
+    expression-operand-requires
+    expression-operand-requires-2
+    expression-operand-requires-3
     target-of-requires
     enum-known-aimed
     enum-known-aimed-2

@@ -9,7 +9,7 @@ returns : tie.Need-returns
 returns c = some-first _ (c .if1 .taken)
 
 returns-2 : tie.Need-returns-2
-returns-2 c = some-second _ (c .if1 .left)
+returns-2 c = some-second _ (c .before .if1 .left)
 
 pub some-field-spec : {M : Type 1} → statement M
 some-field-spec = tie.close (tie.spec returns returns-2)
