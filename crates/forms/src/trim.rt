@@ -99,10 +99,11 @@ fn result_form(bytes: &[u8], t: &[u32], f: FunctionHandle, types: &[u32]) -> For
     ensures { λ r. ⌜ shapeBy (now (types .entry)) r ≡ resultShape (scopeAt (now (bytes .entry)) (now (t .entry)) (f .0)) (functionOf (now (bytes .entry)) (now (t .entry)) (f .0) .result) ⌝ }
 {
     let b = result(bytes, t, f);
-    if b.ty.0 == NO_HANDLE {
+    let ty = b.ty;
+    if ty.0 == NO_HANDLE {
         return Form::Void;
     }
-    Form::Of(b.ty)
+    Form::Of(ty)
 }
 
 // What is left of p, asked of a function's result.

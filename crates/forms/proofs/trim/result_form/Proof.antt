@@ -11,13 +11,10 @@ result-requires : tie.Need-result-requires
 result-requires c κs = search needs
 
 returns : tie.Need-returns
-returns c = result-void _ (c .before .before .result .result) (c .before .before .result .ensures) (c .if1 .taken)
-
-cast-t7 : tie.Need-cast-t7
-cast-t7 c = search needs
+returns c = result-void _ (c .before .before .before .result .result) (c .before .before .before .result .ensures) (c .if1 .taken)
 
 returns-2 : tie.Need-returns-2
-returns-2 c = result-type _ (c .before .before .before .result .result) (c .before .before .before .result .ensures) _ (c .before .before .before .before .before .before .before .pre) (c .before .if1 .left)
+returns-2 c = result-type _ (c .before .before .before .result .result) (c .before .before .before .result .ensures) _ (c .before .before .before .before .before .before .before .pre) (c .if1 .left)
 
 pub result-form-spec : {M : Type 1} → statement M
-result-form-spec = tie.close (tie.spec result-requires returns cast-t7 returns-2)
+result-form-spec = tie.close (tie.spec result-requires returns returns-2)

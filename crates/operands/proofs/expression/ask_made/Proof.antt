@@ -5,7 +5,7 @@ use Rattle.operands.proofs.expression.ask_made.Statement.{statement}
 use Rattle.operands.proofs.expression.ask_made.Tie as tie
 use Rattle.operands.proofs.expression.ask_made.Reads as reads
 use Rattle.operands.proofs.expression.ask_made.Lts as lts
-use Rattle.access.proofs.kinded.operand.Reads as operand-reads
+use Rattle.access.proofs.kinded.expression_operand.Reads as expression-operand-reads
 use Rattle.operands.proofs.expression.ask_compose.Reads as ask-compose-reads
 use Rattle.operands.proofs.indexes.ask_index.Reads as ask-index-reads
 use Rattle.operands.proofs.load.ask_load.Reads as ask-load-reads
@@ -73,14 +73,11 @@ same-length-10 c = search needs
 returns-5 : tie.Need-returns-5
 returns-5 c = c .before .before .before .before .ask-compose .ensures
 
-operand-requires : tie.Need-operand-requires
-operand-requires c κs = search needs
-
-cast-t36 : tie.Need-cast-t36
-cast-t36 c = search needs
+expression-operand-requires : tie.Need-expression-operand-requires
+expression-operand-requires c κs = search needs
 
 ask-load-requires : tie.Need-ask-load-requires
-ask-load-requires c κs = (given-as (c .before .before .before .before .before .before .before .before .before .before .before .before .before .before .before .before .before .before .before .before .before .before .pre .0) (load-list (c .before .before .before .before .before .before .before .before .before .before .before .before .before .before .before .before .before .before .before .before .before .before .pre .0) (load-kind (c .before .before .before .before .before .before .before .before .before .before .before .before .before .before .before .before .before .before .before .before .before .before .pre .0) (c .before .before .before .before .before .before .before .before .before .before .before .before .before .before .before .before .before .before .before .before .before .before .pre .1 .0) (c .before .before .before .before .before .before .before .before .before .before .before .before .if1 .left) (c .before .before .before .before .before .before .before .before .before .before .if2 .left) (c .before .before .before .before .before .before .before .before .if3 .left) (c .before .before .before .before .before .before .if4 .left) (c .before .before .before .before .if5 .left)) (c .before .before .before .operand .ensures)), (load-pointer (c .before .before .before .before .before .before .before .before .before .before .before .before .before .before .before .before .before .before .before .before .before .before .pre .0) (load-kind (c .before .before .before .before .before .before .before .before .before .before .before .before .before .before .before .before .before .before .before .before .before .before .pre .0) (c .before .before .before .before .before .before .before .before .before .before .before .before .before .before .before .before .before .before .before .before .before .before .pre .1 .0) (c .before .before .before .before .before .before .before .before .before .before .before .before .if1 .left) (c .before .before .before .before .before .before .before .before .before .before .if2 .left) (c .before .before .before .before .before .before .before .before .if3 .left) (c .before .before .before .before .before .before .if4 .left) (c .before .before .before .before .if5 .left)) (c .before .before .before .operand .ensures), c .before .before .before .before .before .before .before .before .before .before .before .before .before .before .before .before .before .before .before .before .before .before .pre .1 .1))
+ask-load-requires c κs = (given-as (c .before .before .before .before .before .before .before .before .before .before .before .before .before .before .before .before .before .before .before .before .before .before .pre .0) (load-list (c .before .before .before .before .before .before .before .before .before .before .before .before .before .before .before .before .before .before .before .before .before .before .pre .0) (load-kind (c .before .before .before .before .before .before .before .before .before .before .before .before .before .before .before .before .before .before .before .before .before .before .pre .0) (c .before .before .before .before .before .before .before .before .before .before .before .before .before .before .before .before .before .before .before .before .before .before .pre .1 .0) (c .before .before .before .before .before .before .before .before .before .before .before .before .if1 .left) (c .before .before .before .before .before .before .before .before .before .before .if2 .left) (c .before .before .before .before .before .before .before .before .if3 .left) (c .before .before .before .before .before .before .if4 .left) (c .before .before .before .before .if5 .left)) (c .before .before .before .expression-operand .ensures)), (load-pointer (c .before .before .before .before .before .before .before .before .before .before .before .before .before .before .before .before .before .before .before .before .before .before .pre .0) (load-kind (c .before .before .before .before .before .before .before .before .before .before .before .before .before .before .before .before .before .before .before .before .before .before .pre .0) (c .before .before .before .before .before .before .before .before .before .before .before .before .before .before .before .before .before .before .before .before .before .before .pre .1 .0) (c .before .before .before .before .before .before .before .before .before .before .before .before .if1 .left) (c .before .before .before .before .before .before .before .before .before .before .if2 .left) (c .before .before .before .before .before .before .before .before .if3 .left) (c .before .before .before .before .before .before .if4 .left) (c .before .before .before .before .if5 .left)) (c .before .before .before .expression-operand .ensures), c .before .before .before .before .before .before .before .before .before .before .before .before .before .before .before .before .before .before .before .before .before .before .pre .1 .1))
 
 same-length-11 : tie.Need-same-length-11
 same-length-11 c = search needs
@@ -92,7 +89,7 @@ same-length-13 : tie.Need-same-length-13
 same-length-13 c = search needs
 
 returns-6 : tie.Need-returns-6
-returns-6 c = all-as (c .before .before .before .before .before .before .before .before .before .before .before .before .before .before .before .before .before .before .before .before .before .before .before .before .before .before .before .before .before .pre .0) (load-list (c .before .before .before .before .before .before .before .before .before .before .before .before .before .before .before .before .before .before .before .before .before .before .before .before .before .before .before .before .before .pre .0) (load-kind (c .before .before .before .before .before .before .before .before .before .before .before .before .before .before .before .before .before .before .before .before .before .before .before .before .before .before .before .before .before .pre .0) (c .before .before .before .before .before .before .before .before .before .before .before .before .before .before .before .before .before .before .before .before .before .before .before .before .before .before .before .before .before .pre .1 .0) (c .before .before .before .before .before .before .before .before .before .before .before .before .before .before .before .before .before .before .before .if1 .left) (c .before .before .before .before .before .before .before .before .before .before .before .before .before .before .before .before .before .if2 .left) (c .before .before .before .before .before .before .before .before .before .before .before .before .before .before .before .if3 .left) (c .before .before .before .before .before .before .before .before .before .before .before .before .before .if4 .left) (c .before .before .before .before .before .before .before .before .before .before .before .if5 .left)) (c .before .before .before .before .before .before .before .before .before .before .operand .ensures)) (c .before .before .before .before .before .before .ask-load .ensures)
+returns-6 c = all-as (c .before .before .before .before .before .before .before .before .before .before .before .before .before .before .before .before .before .before .before .before .before .before .before .before .before .before .before .before .before .pre .0) (load-list (c .before .before .before .before .before .before .before .before .before .before .before .before .before .before .before .before .before .before .before .before .before .before .before .before .before .before .before .before .before .pre .0) (load-kind (c .before .before .before .before .before .before .before .before .before .before .before .before .before .before .before .before .before .before .before .before .before .before .before .before .before .before .before .before .before .pre .0) (c .before .before .before .before .before .before .before .before .before .before .before .before .before .before .before .before .before .before .before .before .before .before .before .before .before .before .before .before .before .pre .1 .0) (c .before .before .before .before .before .before .before .before .before .before .before .before .before .before .before .before .before .before .before .if1 .left) (c .before .before .before .before .before .before .before .before .before .before .before .before .before .before .before .before .before .if2 .left) (c .before .before .before .before .before .before .before .before .before .before .before .before .before .before .before .if3 .left) (c .before .before .before .before .before .before .before .before .before .before .before .before .before .if4 .left) (c .before .before .before .before .before .before .before .before .before .before .before .if5 .left)) (c .before .before .before .before .before .before .before .before .before .before .expression-operand .ensures)) (c .before .before .before .before .before .before .ask-load .ensures)
 
 pub ask-made-spec : {M : Type 1} → statement M
 ask-made-spec =
@@ -118,8 +115,7 @@ ask-made-spec =
     same-length-9
     same-length-10
     returns-5
-    operand-requires
-    cast-t36
+    expression-operand-requires
     ask-load-requires
     same-length-11
     same-length-12

@@ -13,10 +13,10 @@ use Rattle.asking.proofs.ask.ask_value.Reads as ask-value-reads
 use Rattle.place.proofs.steps.step_down.Reads as step-down-reads
 
 abbrev Inv-loop : tie.InvT-loop
-Inv-loop bytes t f cells₀ roots₀ n h₀ cells roots h = Left bytes t (f .0) h₀ h cells₀ roots₀ n cells roots
+Inv-loop bytes t f cells₀ roots₀ n h₀ cells roots h = Left bytes t (f .0) (h₀ .0) (h .0) cells₀ roots₀ n cells roots
 
 abbrev μ-loop : tie.MeasureT-loop
-μ-loop bytes t f cells₀ roots₀ n h₀ cells roots h = h
+μ-loop bytes t f cells₀ roots₀ n h₀ cells roots h = h .0
 
 loop-holds : tie.Need-loop-holds Inv-loop μ-loop
 loop-holds c = left-start (c .before .before .before .before .pre .1) (c .before .before .before .before .pre .0)

@@ -6,21 +6,19 @@ use Rattle.operands.proofs.made.ask_letter.Statement.{statement}
 use Rattle.operands.proofs.made.ask_letter.Tie as tie
 use Rattle.operands.proofs.made.ask_letter.Reads as reads
 use Rattle.operands.proofs.made.ask_letter.Lts as lts
+use Rattle.access.proofs.kinded.expression_operand.Reads as expression-operand-reads
 use Rattle.access.proofs.kinded.operand.Reads as operand-reads
 use Rattle.operands.proofs.indexes.ask_member.Reads as ask-member-reads
 use Rattle.operands.proofs.made.subpart.Reads as subpart-reads
 
-operand-requires : tie.Need-operand-requires
-operand-requires c κs = search needs
-
-cast-subpart : tie.Need-cast-subpart
-cast-subpart c = search needs
+expression-operand-requires : tie.Need-expression-operand-requires
+expression-operand-requires c κs = search needs
 
 add-operand : tie.Need-add-operand
 add-operand c = search needs
 
-operand-requires-2 : tie.Need-operand-requires-2
-operand-requires-2 c κs = search needs
+operand-requires : tie.Need-operand-requires
+operand-requires c κs = search needs
 
 cast-letter : tie.Need-cast-letter
 cast-letter c = search needs
@@ -38,7 +36,7 @@ subpart-requires : tie.Need-subpart-requires
 subpart-requires c κs = (c .before .before .before .before .before .before .before .before .pre .0 .live .loose .good, wanted-piece (c .before .before .before .before .before .before .before .before .pre .0))
 
 ask-member-requires : tie.Need-ask-member-requires
-ask-member-requires c κs = (member-as (c .before .before .before .before .before .before .operand .ensures) (c .before .before .before .before .before .operand2 .ensures) (c .before .before .subpart .ensures .is) (c .before .before .before .before .before .before .before .before .before .before .before .pre .0), c .before .before .subpart .ensures .piece)
+ask-member-requires c κs = (member-as (c .before .before .before .before .before .before .expression-operand .ensures) (c .before .before .before .before .before .operand .ensures) (c .before .before .subpart .ensures .is) (c .before .before .before .before .before .before .before .before .before .before .before .pre .0), c .before .before .subpart .ensures .piece)
 
 same-length : tie.Need-same-length
 same-length c = search needs
@@ -47,16 +45,15 @@ same-length-2 : tie.Need-same-length-2
 same-length-2 c = search needs
 
 returns : tie.Need-returns
-returns c = member-is (c .before .before .before .before .before .before .before .before .before .before .before .operand .ensures) (c .before .before .before .before .before .before .before .before .before .before .operand2 .ensures) (c .before .before .before .before .before .before .before .subpart .ensures .is) (c .before .before .before .before .ask-member .ensures)
+returns c = member-is (c .before .before .before .before .before .before .before .before .before .before .before .expression-operand .ensures) (c .before .before .before .before .before .before .before .before .before .before .operand .ensures) (c .before .before .before .before .before .before .before .subpart .ensures .is) (c .before .before .before .before .ask-member .ensures)
 
 pub ask-letter-spec : {M : Type 1} → statement M
 ask-letter-spec =
     tie.close
     (tie.spec
-    operand-requires
-    cast-subpart
+    expression-operand-requires
     add-operand
-    operand-requires-2
+    operand-requires
     cast-letter
     sub-subpart
     mul-subpart

@@ -6,14 +6,11 @@ use Rattle.operands.proofs.operators.ask_same.Statement.{statement}
 use Rattle.operands.proofs.operators.ask_same.Tie as tie
 use Rattle.operands.proofs.operators.ask_same.Reads as reads
 use Rattle.operands.proofs.operators.ask_same.Lts as lts
-use Rattle.access.proofs.kinded.operand.Reads as operand-reads
+use Rattle.access.proofs.kinded.expression_operand.Reads as expression-operand-reads
 use Rattle.asking.proofs.ask.ask_value.Reads as ask-value-reads
 
-operand-requires : tie.Need-operand-requires
-operand-requires c κs = search needs
-
-cast-a : tie.Need-cast-a
-cast-a c = search needs
+expression-operand-requires : tie.Need-expression-operand-requires
+expression-operand-requires c κs = search needs
 
 sub-a : tie.Need-sub-a
 sub-a c = search needs
@@ -25,7 +22,7 @@ slice-read-a : tie.Need-slice-read-a
 slice-read-a c = search needs
 
 ask-value-requires : tie.Need-ask-value-requires
-ask-value-requires c κs = value-given (c .before .before .before .before .before .before .before .before .pre) (c .before .before .before .operand .ensures) _ refl (wanted-piece (c .before .before .before .before .before .before .before .before .pre))
+ask-value-requires c κs = value-given (c .before .before .before .before .before .before .before .before .pre) (c .before .before .before .expression-operand .ensures) _ refl (wanted-piece (c .before .before .before .before .before .before .before .before .pre))
 
 same-length : tie.Need-same-length
 same-length c = search needs
@@ -34,14 +31,13 @@ same-length-2 : tie.Need-same-length-2
 same-length-2 c = search needs
 
 returns : tie.Need-returns
-returns c = value-all (c .before .before .before .before .before .before .before .before .before .before .before .before .before .pre) (c .before .before .before .before .before .before .before .before .operand .ensures) _ refl (c .before .before .before .before .ask-value .ensures)
+returns c = value-all (c .before .before .before .before .before .before .before .before .before .before .before .before .before .pre) (c .before .before .before .before .before .before .before .before .expression-operand .ensures) _ refl (c .before .before .before .before .ask-value .ensures)
 
 pub ask-same-spec : {M : Type 1} → statement M
 ask-same-spec =
     tie.close
     (tie.spec
-    operand-requires
-    cast-a
+    expression-operand-requires
     sub-a
     mul-a
     slice-read-a

@@ -9,6 +9,7 @@ use Rattle.operands.proofs.tests.any_vector.Statement.{statement}
 use Rattle.operands.proofs.tests.any_vector.Tie as tie
 use Rattle.operands.proofs.tests.any_vector.Reads as reads
 use Rattle.operands.proofs.tests.any_vector.Lts as lts
+use Rattle.access.proofs.kinded.expression_operand.Reads as expression-operand-reads
 use Rattle.access.proofs.kinded.operand.Reads as operand-reads
 use Rattle.judge.proofs.rows.kind_at.Reads as kind-at-reads
 use Rattle.judge.proofs.values.type_of.Reads as type-of-reads
@@ -25,14 +26,11 @@ operand-requires c κs = search needs
 loop-holds : tie.Need-loop-holds Inv-loop μ-loop
 loop-holds c = (no-vector-start _ _, omega arith)
 
-add-operand : tie.Need-add-operand Inv-loop μ-loop
-add-operand c = omega (arith, c .loop-test .taken)
+add-expression-operand : tie.Need-add-expression-operand Inv-loop μ-loop
+add-expression-operand c = omega (arith, c .loop-test .taken)
 
-operand-requires-2 : tie.Need-operand-requires-2 Inv-loop μ-loop
-operand-requires-2 c κs = search needs
-
-cast-if1 : tie.Need-cast-if1 Inv-loop μ-loop
-cast-if1 c = search needs
+expression-operand-requires : tie.Need-expression-operand-requires Inv-loop μ-loop
+expression-operand-requires c κs = search needs
 
 type-of-requires : tie.Need-type-of-requires Inv-loop μ-loop
 type-of-requires c κs = search needs
@@ -41,7 +39,7 @@ kind-at-requires : tie.Need-kind-at-requires Inv-loop μ-loop
 kind-at-requires c κs = search needs
 
 returns : tie.Need-returns Inv-loop μ-loop
-returns c = vector-found _ (operandAt (c .before .before .before .before .before .before .before .before .before .before .args .bytes .now) (c .before .before .before .before .before .before .before .before .before .before .args .row)) _ (c .before .before .before .before .before .before .before .before .before .before .pre) (c .before .before .before .before .before .before .operand .ensures) (c .before .before .before .before .loop-test .taken) (c .before .before .before .operand2 .ensures) (c .before .before .type-of .ensures) (c .before .kind-at .ensures) (c .if1 .taken)
+returns c = vector-found _ (operandAt (c .before .before .before .before .before .before .before .before .before .before .args .bytes .now) (c .before .before .before .before .before .before .before .before .before .before .args .row)) _ (c .before .before .before .before .before .before .before .before .before .before .pre) (c .before .before .before .before .before .before .operand .ensures) (c .before .before .before .before .loop-test .taken) (c .before .before .before .expression-operand .ensures) (c .before .before .type-of .ensures) (c .before .kind-at .ensures) (c .if1 .taken)
 
 add-i : tie.Need-add-i Inv-loop μ-loop
 add-i c = omega (arith, c .before .before .before .before .loop-test .taken)
@@ -50,7 +48,7 @@ loop-less : tie.Need-loop-less Inv-loop μ-loop
 loop-less c = omega (arith, c .before .before .before .before .loop-test .taken)
 
 loop-again : tie.Need-loop-again Inv-loop μ-loop
-loop-again c = (no-vector-next _ (operandAt (c .before .before .before .before .before .before .before .before .before .before .args .bytes .now) (c .before .before .before .before .before .before .before .before .before .before .args .row)) _ (c .before .before .before .before .before .before .before .before .before .before .pre) (c .before .before .before .before .before .before .operand .ensures) (c .before .before .before .before .loop-test .taken) (c .before .before .before .operand2 .ensures) (c .before .before .type-of .ensures) (c .before .kind-at .ensures) (c .if1 .left) (c .before .before .before .before .before .loop .inv .0), omega (arith, c .before .before .before .before .loop-test .taken))
+loop-again c = (no-vector-next _ (operandAt (c .before .before .before .before .before .before .before .before .before .before .args .bytes .now) (c .before .before .before .before .before .before .before .before .before .before .args .row)) _ (c .before .before .before .before .before .before .before .before .before .before .pre) (c .before .before .before .before .before .before .operand .ensures) (c .before .before .before .before .loop-test .taken) (c .before .before .before .expression-operand .ensures) (c .before .before .type-of .ensures) (c .before .kind-at .ensures) (c .if1 .left) (c .before .before .before .before .before .loop .inv .0), omega (arith, c .before .before .before .before .loop-test .taken))
 
 returns-2 : tie.Need-returns-2 Inv-loop μ-loop
 returns-2 c = no-vector-all _ (operandAt (c .before .before .before .before .before .before .args .bytes .now) (c .before .before .before .before .before .before .args .row)) (c .before .before .operand .ensures) (c .loop-test .left) (c .before .loop .inv .0)
@@ -63,9 +61,8 @@ any-vector-spec =
     μ-loop
     operand-requires
     loop-holds
-    add-operand
-    operand-requires-2
-    cast-if1
+    add-expression-operand
+    expression-operand-requires
     type-of-requires
     kind-at-requires
     returns

@@ -5,7 +5,7 @@ use Rattle.operands.proofs.tests.by_part.Statement.{statement}
 use Rattle.operands.proofs.tests.by_part.Tie as tie
 use Rattle.operands.proofs.tests.by_part.Reads as reads
 use Rattle.operands.proofs.tests.by_part.Lts as lts
-use Rattle.access.proofs.kinded.operand.Reads as operand-reads
+use Rattle.access.proofs.kinded.expression_operand.Reads as expression-operand-reads
 use Rattle.judge.proofs.rows.kind_at.Reads as kind-at-reads
 use Rattle.judge.proofs.shapes.is_alike.Reads as is-alike-reads
 use Rattle.judge.proofs.values.both.Reads as both-reads
@@ -20,17 +20,11 @@ kind-at-requires c κs = search needs
 returns : tie.Need-returns
 returns c = part-not (c .before .before .before .before .before .before .before .before .pre .0) (c .before .before .before .before .before .before .before .before .pre .1) (c .before .before .type-of .ensures) (c .before .kind-at .ensures) (c .if1 .taken)
 
-operand-requires : tie.Need-operand-requires
-operand-requires c κs = search needs
+expression-operand-requires : tie.Need-expression-operand-requires
+expression-operand-requires c κs = search needs
 
-cast-t14 : tie.Need-cast-t14
-cast-t14 c = search needs
-
-operand-requires-2 : tie.Need-operand-requires-2
-operand-requires-2 c κs = search needs
-
-cast-t14-2 : tie.Need-cast-t14-2
-cast-t14-2 c = search needs
+expression-operand-requires-2 : tie.Need-expression-operand-requires-2
+expression-operand-requires-2 c κs = search needs
 
 type-of-requires-2 : tie.Need-type-of-requires-2
 type-of-requires-2 c κs = search needs
@@ -48,7 +42,7 @@ both-requires : tie.Need-both-requires
 both-requires c κs = search needs
 
 returns-2 : tie.Need-returns-2
-returns-2 c = part-is (c .before .before .before .before .before .before .before .before .before .before .before .before .before .before .before .pre .0) (c .before .before .before .before .before .before .before .before .before .before .before .before .before .before .before .pre .1) (c .before .before .before .before .before .before .before .before .before .type-of .ensures) (c .before .before .before .before .before .before .before .before .kind-at .ensures) (c .before .before .before .before .before .before .before .if1 .left) (c .before .before .before .before .before .before .operand .ensures) (c .before .before .before .before .before .operand2 .ensures) (c .before .before .before .before .type-of2 .ensures) (c .before .before .before .is-alike .ensures) (c .before .before .type-of3 .ensures) (c .before .is-alike2 .ensures) (c .both .ensures)
+returns-2 c = part-is (c .before .before .before .before .before .before .before .before .before .before .before .before .before .before .before .pre .0) (c .before .before .before .before .before .before .before .before .before .before .before .before .before .before .before .pre .1) (c .before .before .before .before .before .before .before .before .before .type-of .ensures) (c .before .before .before .before .before .before .before .before .kind-at .ensures) (c .before .before .before .before .before .before .before .if1 .left) (c .before .before .before .before .before .before .expression-operand .ensures) (c .before .before .before .before .before .expression-operand2 .ensures) (c .before .before .before .before .type-of2 .ensures) (c .before .before .before .is-alike .ensures) (c .before .before .type-of3 .ensures) (c .before .is-alike2 .ensures) (c .both .ensures)
 
 pub by-part-spec : {M : Type 1} → statement M
 by-part-spec =
@@ -57,10 +51,8 @@ by-part-spec =
     type-of-requires
     kind-at-requires
     returns
-    operand-requires
-    cast-t14
-    operand-requires-2
-    cast-t14-2
+    expression-operand-requires
+    expression-operand-requires-2
     type-of-requires-2
     is-alike-requires
     type-of-requires-3

@@ -6,7 +6,7 @@ use Rattle.place.proofs.steps.step_down.Tie as tie
 use Rattle.place.proofs.steps.step_down.Reads as reads
 use Rattle.place.proofs.steps.step_down.Lts as lts
 use Rattle.access.proofs.kinded.expression.Reads as expression-reads
-use Rattle.access.proofs.kinded.operand.Reads as operand-reads
+use Rattle.access.proofs.kinded.expression_operand.Reads as expression-operand-reads
 
 expression-requires : tie.Need-expression-requires
 expression-requires c κs = search needs
@@ -14,23 +14,17 @@ expression-requires c κs = search needs
 returns : tie.Need-returns
 returns c = step-variable (c .before .before .before .before .before .pre) (c .before .before .expression .ensures) (c .if1 .taken)
 
-operand-requires : tie.Need-operand-requires
-operand-requires c κs = search needs
+expression-operand-requires : tie.Need-expression-operand-requires
+expression-operand-requires c κs = search needs
 
-cast-base : tie.Need-cast-base
-cast-base c = search needs
-
-operand-requires-2 : tie.Need-operand-requires-2
-operand-requires-2 c κs = search needs
-
-cast-t10 : tie.Need-cast-t10
-cast-t10 c = search needs
+expression-operand-requires-2 : tie.Need-expression-operand-requires-2
+expression-operand-requires-2 c κs = search needs
 
 returns-2 : tie.Need-returns-2
-returns-2 c = step-dynamic (c .before .before .before .before .before .before .before .before .before .pre) (c .before .before .before .before .before .before .expression .ensures) (c .before .before .before .operand .ensures) (c .operand2 .ensures) (c .before .if2 .taken)
+returns-2 c = step-dynamic (c .before .before .before .before .before .before .before .before .before .pre) (c .before .before .before .before .before .before .expression .ensures) (c .before .before .before .expression-operand .ensures) (c .expression-operand2 .ensures) (c .before .if2 .taken)
 
 returns-3 : tie.Need-returns-3
-returns-3 c = step-constant (c .before .before .before .before .before .before .before .before .pre) (c .before .before .before .before .before .expression .ensures) (c .before .before .operand .ensures) (c .before .before .before .if1 .left) (c .if2 .left)
+returns-3 c = step-constant (c .before .before .before .before .before .before .before .before .pre) (c .before .before .before .before .before .expression .ensures) (c .before .before .expression-operand .ensures) (c .before .before .before .if1 .left) (c .if2 .left)
 
 pub step-down-spec : {M : Type 1} → statement M
 step-down-spec =
@@ -38,9 +32,7 @@ step-down-spec =
     (tie.spec
     expression-requires
     returns
-    operand-requires
-    cast-base
-    operand-requires-2
-    cast-t10
+    expression-operand-requires
+    expression-operand-requires-2
     returns-2
     returns-3)

@@ -13,15 +13,16 @@ use Rattle.place.proofs.target.pass_indexes.Tie as tie
 use Rattle.place.proofs.target.pass_indexes.Reads as reads
 use Rattle.place.proofs.target.pass_indexes.Lts as lts
 use Rattle.access.proofs.kinded.expression.Reads as expression-reads
+use Rattle.access.proofs.kinded.expression_operand.Reads as expression-operand-reads
 use Rattle.access.proofs.kinded.operand.Reads as operand-reads
 use Rattle.place.proofs.target.dynamic_after.Reads as dynamic-after-reads
 use Rattle.place.proofs.target.end_after.Reads as end-after-reads
 
 abbrev Inv-loop : tie.InvT-loop
-Inv-loop bytes t f path₀ from₀ to₀ dynamic₀ h₀ row₀ path from to dynamic h row = Passed (scopeAt bytes t (f .0)) h₀ path h from to dynamic × (row ≡ expressionRow bytes t (f .0) h) × (length path ≡ length path₀)
+Inv-loop bytes t f path₀ from₀ to₀ dynamic₀ h₀ row₀ path from to dynamic h row = Passed (scopeAt bytes t (f .0)) (h₀ .0) path (h .0) from to dynamic × (row ≡ expressionRow bytes t (f .0) (h .0)) × (length path ≡ length path₀)
 
 abbrev μ-loop : tie.MeasureT-loop
-μ-loop bytes t f path₀ from₀ to₀ dynamic₀ h₀ row₀ path from to dynamic h row = h
+μ-loop bytes t f path₀ from₀ to₀ dynamic₀ h₀ row₀ path from to dynamic h row = h .0
 
 expression-requires : tie.Need-expression-requires Inv-loop μ-loop
 expression-requires c κs = search needs
@@ -50,20 +51,17 @@ end-after-requires c κs = search needs
 dynamic-after-requires : tie.Need-dynamic-after-requires Inv-loop μ-loop
 dynamic-after-requires c κs = search needs
 
-operand-requires-2 : tie.Need-operand-requires-2 Inv-loop μ-loop
-operand-requires-2 c κs = search needs
-
-cast-h : tie.Need-cast-h Inv-loop μ-loop
-cast-h c = search needs
+expression-operand-requires : tie.Need-expression-operand-requires Inv-loop μ-loop
+expression-operand-requires c κs = search needs
 
 expression-requires-2 : tie.Need-expression-requires-2 Inv-loop μ-loop
 expression-requires-2 c κs = search needs
 
 loop-less : tie.Need-loop-less Inv-loop μ-loop
-loop-less c = passed-lower (record { read = c .before .before .before .before .before .before .before .before .before .before .before .before .pre .0 .read; function = c .before .before .before .before .before .before .before .before .before .before .before .before .pre .0 .function; there = c .before .before .before .before .before .before .before .loop .inv .0 .there; is = c .before .before .before .before .before .before .before .loop .inv .1 }) (c .before .before .before .before .before .before .before .loop .inv .0) (c .before .before .before .before .before .if1 .taken) (c .before .operand2 .ensures)
+loop-less c = passed-lower (record { read = c .before .before .before .before .before .before .before .before .before .before .before .before .pre .0 .read; function = c .before .before .before .before .before .before .before .before .before .before .before .before .pre .0 .function; there = c .before .before .before .before .before .before .before .loop .inv .0 .there; is = c .before .before .before .before .before .before .before .loop .inv .1 }) (c .before .before .before .before .before .before .before .loop .inv .0) (c .before .before .before .before .before .if1 .taken) (c .before .expression-operand .ensures)
 
 loop-again : tie.Need-loop-again Inv-loop μ-loop
-loop-again c = (passed-next (record { read = c .before .before .before .before .before .before .before .before .before .before .before .before .pre .0 .read; function = c .before .before .before .before .before .before .before .before .before .before .before .before .pre .0 .function; there = c .before .before .before .before .before .before .before .loop .inv .0 .there; is = c .before .before .before .before .before .before .before .loop .inv .1 }) (c .before .before .before .before .before .before .before .loop .inv .0) (c .before .before .before .before .before .if1 .taken) (c .before .operand2 .ensures) (c .before .before .before .before .operand .ensures) refl (c .before .before .before .end-after .ensures) (c .before .before .dynamic-after .ensures), c .expression2 .ensures, simp length-set (c .before .before .before .before .before .before .before .loop .inv .2))
+loop-again c = (passed-next (record { read = c .before .before .before .before .before .before .before .before .before .before .before .before .pre .0 .read; function = c .before .before .before .before .before .before .before .before .before .before .before .before .pre .0 .function; there = c .before .before .before .before .before .before .before .loop .inv .0 .there; is = c .before .before .before .before .before .before .before .loop .inv .1 }) (c .before .before .before .before .before .before .before .loop .inv .0) (c .before .before .before .before .before .if1 .taken) (c .before .expression-operand .ensures) (c .before .before .before .before .operand .ensures) refl (c .before .before .before .end-after .ensures) (c .before .before .dynamic-after .ensures), c .expression2 .ensures, simp length-set (c .before .before .before .before .before .before .before .loop .inv .2))
 
 same-length : tie.Need-same-length Inv-loop μ-loop
 same-length c = search needs
@@ -86,8 +84,7 @@ pass-indexes-spec =
     slice-write-path
     end-after-requires
     dynamic-after-requires
-    operand-requires-2
-    cast-h
+    expression-operand-requires
     expression-requires-2
     loop-less
     loop-again

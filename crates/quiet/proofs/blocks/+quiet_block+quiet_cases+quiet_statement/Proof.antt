@@ -24,10 +24,10 @@ use Rattle.quiet.proofs.blocks.quiet_statement.Reads as quiet-statement
 use Rattle.quiet.proofs.blocks.quiet_statement.Kinds as quiet-statement-kinds
 use Rattle.quiet.proofs.blocks.+quiet_block+quiet_cases+quiet_statement.Lts-quiet_statement as quiet-statement-lts
 use Rattle.access.proofs.function.block.Reads as block-reads
+use Rattle.access.proofs.kinded.block_operand.Reads as block-operand-reads
 use Rattle.access.proofs.kinded.operand.Reads as operand-reads
 use Rattle.access.proofs.kinded.statement.Reads as statement-reads
 use Rattle.quiet.proofs.plain.quiet_plain.Reads as quiet-plain-reads
-use Rattle.strays.proofs.blocks.held.Reads as held-reads
 use Rattle.strays.proofs.exits.in_body.Reads as in-body-reads
 use Rattle.strays.proofs.exits.in_case.Reads as in-case-reads
 use Rattle.quiet.proofs.blocks.+quiet_block+quiet_cases+quiet_statement.{statement}
@@ -78,10 +78,10 @@ abbrev quiet-block-called : ℕ → quiet-block-lts.Claims
 quiet-block-called t = (block-reads.Asked, block-reads.Learnt, quiet-statement-below t, quiet-statement.Post)
 
 abbrev quiet-cases-called : ℕ → quiet-cases-lts.Claims
-quiet-cases-called t = (operand-reads.Asked, operand-reads.Learnt, held-reads.Asked, held-reads.Learnt, quiet-block-below t, quiet-block.Post)
+quiet-cases-called t = (operand-reads.Asked, operand-reads.Learnt, block-operand-reads.Asked, block-operand-reads.Learnt, quiet-block-below t, quiet-block.Post)
 
 abbrev quiet-statement-called : ℕ → quiet-statement-lts.Claims
-quiet-statement-called t = (statement-reads.Asked, statement-reads.Learnt, held-reads.Asked, held-reads.Learnt, quiet-block-below t, quiet-block.Post, in-case-reads.Asked, in-case-reads.Learnt, quiet-cases-below t, quiet-cases.Post, in-body-reads.Asked, in-body-reads.Learnt, quiet-plain-reads.Asked, quiet-plain-reads.Learnt)
+quiet-statement-called t = (statement-reads.Asked, statement-reads.Learnt, block-operand-reads.Asked, block-operand-reads.Learnt, quiet-block-below t, quiet-block.Post, in-case-reads.Asked, in-case-reads.Learnt, quiet-cases-below t, quiet-cases.Post, in-body-reads.Asked, in-body-reads.Learnt, quiet-plain-reads.Asked, quiet-plain-reads.Learnt)
 
 abbrev quiet-block-Inv-loop : quiet-block-lts.InvT-loop
 quiet-block-Inv-loop bytes t f types alike paths cells path₀ m b e first count k₀ path k = Left (quietBlock (scopeAt bytes t (f .0)) (part cells m) (b .0) (exitsOf e)) (later (scopeAt bytes t (f .0)) (part cells m) (b .0) first count (exitsOf e) k) path₀ path
@@ -140,29 +140,29 @@ quiet-cases-loop-holds t c = (omega (arith, c .operand .ensures), all-cases (c .
 quiet-cases-sub-i : (t : ℕ) → quiet-cases-lts.Need-sub-i (quiet-cases-called t) (quiet-cases-at t) quiet-cases.Post quiet-cases-Inv-loop quiet-cases-μ-loop
 quiet-cases-sub-i t c = omega (arith, c .loop-test .taken)
 
-quiet-cases-mul-held : (t : ℕ) → quiet-cases-lts.Need-mul-held (quiet-cases-called t) (quiet-cases-at t) quiet-cases.Post quiet-cases-Inv-loop quiet-cases-μ-loop
-quiet-cases-mul-held t c = search needs
+quiet-cases-mul-block-operand : (t : ℕ) → quiet-cases-lts.Need-mul-block-operand (quiet-cases-called t) (quiet-cases-at t) quiet-cases.Post quiet-cases-Inv-loop quiet-cases-μ-loop
+quiet-cases-mul-block-operand t c = search needs
 
-quiet-cases-add-held : (t : ℕ) → quiet-cases-lts.Need-add-held (quiet-cases-called t) (quiet-cases-at t) quiet-cases.Post quiet-cases-Inv-loop quiet-cases-μ-loop
-quiet-cases-add-held t c = search needs
+quiet-cases-add-block-operand : (t : ℕ) → quiet-cases-lts.Need-add-block-operand (quiet-cases-called t) (quiet-cases-at t) quiet-cases.Post quiet-cases-Inv-loop quiet-cases-μ-loop
+quiet-cases-add-block-operand t c = search needs
 
-quiet-cases-held-requires : (t : ℕ) → quiet-cases-lts.Need-held-requires (quiet-cases-called t) (quiet-cases-at t) quiet-cases.Post quiet-cases-Inv-loop quiet-cases-μ-loop
-quiet-cases-held-requires t c κs = search needs
+quiet-cases-block-operand-requires : (t : ℕ) → quiet-cases-lts.Need-block-operand-requires (quiet-cases-called t) (quiet-cases-at t) quiet-cases.Post quiet-cases-Inv-loop quiet-cases-μ-loop
+quiet-cases-block-operand-requires t c κs = search needs
 
 quiet-cases-quiet-block-requires : (t : ℕ) → quiet-cases-lts.Need-quiet-block-requires (quiet-cases-called t) (quiet-cases-at t) quiet-cases.Post quiet-cases-Inv-loop quiet-cases-μ-loop
-quiet-cases-quiet-block-requires t c κs = let h = case-there (c .before .before .before .before .before .before .before .before .before .before .before .before .pre .1 .1 .1) (c .before .before .before .loop .i - 1) (omega (arith, c .before .before .before .loop .inv .0, c .before .before .loop-test .taken)) (c .before .held .ensures) in (omega (arith, h .0, c .before .before .before .before .before .before .before .before .before .before .before .before .pre .0), (c .before .before .before .before .before .before .before .before .before .before .before .before .pre .1 .0, (omega (arith, c .before .before .before .loop .inv .1 .long, c .before .before .before .before .before .before .before .before .before .before .before .before .pre .1 .1 .0), h .1)))
+quiet-cases-quiet-block-requires t c κs = let h = case-there (c .before .before .before .before .before .before .before .before .before .before .before .before .pre .1 .1 .1) (c .before .before .before .loop .i - 1) (omega (arith, c .before .before .before .loop .inv .0, c .before .before .loop-test .taken)) (c .before .block-operand .ensures) in (omega (arith, h .0, c .before .before .before .before .before .before .before .before .before .before .before .before .pre .0), (c .before .before .before .before .before .before .before .before .before .before .before .before .pre .1 .0, (omega (arith, c .before .before .before .loop .inv .1 .long, c .before .before .before .before .before .before .before .before .before .before .before .before .pre .1 .1 .0), h .1)))
 
 quiet-cases-same-length : (t : ℕ) → quiet-cases-lts.Need-same-length (quiet-cases-called t) (quiet-cases-at t) quiet-cases.Post quiet-cases-Inv-loop quiet-cases-μ-loop
 quiet-cases-same-length t c = c .before .before .before .quiet-block .ensures .long ∙ c .before .before .before .before .before .before .before .loop .inv .1 .long
 
 quiet-cases-returns : (t : ℕ) → quiet-cases-lts.Need-returns (quiet-cases-called t) (quiet-cases-at t) quiet-cases.Post quiet-cases-Inv-loop quiet-cases-μ-loop
-quiet-cases-returns t c = stops (c .before .before .before .before .before .before .before .loop .inv .1) (case-first (c .before .before .before .before .before .before .before .before .before .before .before .before .before .before .before .before .pre .1 .1 .1) (part (c .before .before .before .before .before .before .before .before .before .before .before .before .before .before .before .before .args .cells .now) (c .before .before .before .before .before .before .before .before .before .before .before .before .before .before .before .before .args .m)) (exitsOf (c .before .before .before .before .before .before .before .before .before .before .before .before .before .before .before .before .args .e)) (c .before .before .before .before .before .before .loop-test .taken) (c .before .before .before .before .before .held .ensures)) (c .before .before .before .quiet-block .ensures) (not-true _ (c .if1 .taken))
+quiet-cases-returns t c = stops (c .before .before .before .before .before .before .before .loop .inv .1) (case-first (c .before .before .before .before .before .before .before .before .before .before .before .before .before .before .before .before .pre .1 .1 .1) (part (c .before .before .before .before .before .before .before .before .before .before .before .before .before .before .before .before .args .cells .now) (c .before .before .before .before .before .before .before .before .before .before .before .before .before .before .before .before .args .m)) (exitsOf (c .before .before .before .before .before .before .before .before .before .before .before .before .before .before .before .before .args .e)) (c .before .before .before .before .before .before .loop-test .taken) (c .before .before .before .before .before .block-operand .ensures)) (c .before .before .before .quiet-block .ensures) (not-true _ (c .if1 .taken))
 
 quiet-cases-loop-less : (t : ℕ) → quiet-cases-lts.Need-loop-less (quiet-cases-called t) (quiet-cases-at t) quiet-cases.Post quiet-cases-Inv-loop quiet-cases-μ-loop
 quiet-cases-loop-less t c = omega (arith, c .before .before .before .before .before .before .loop-test .taken)
 
 quiet-cases-loop-again : (t : ℕ) → quiet-cases-lts.Need-loop-again (quiet-cases-called t) (quiet-cases-at t) quiet-cases.Post quiet-cases-Inv-loop quiet-cases-μ-loop
-quiet-cases-loop-again t c = (omega (arith, c .before .before .before .before .before .before .before .loop .inv .0), goes-on (c .before .before .before .before .before .before .before .loop .inv .1) (case-first (c .before .before .before .before .before .before .before .before .before .before .before .before .before .before .before .before .pre .1 .1 .1) (part (c .before .before .before .before .before .before .before .before .before .before .before .before .before .before .before .before .args .cells .now) (c .before .before .before .before .before .before .before .before .before .before .before .before .before .before .before .before .args .m)) (exitsOf (c .before .before .before .before .before .before .before .before .before .before .before .before .before .before .before .before .args .e)) (c .before .before .before .before .before .before .loop-test .taken) (c .before .before .before .before .before .held .ensures)) (c .before .before .before .quiet-block .ensures) (not-false _ (c .if1 .left)))
+quiet-cases-loop-again t c = (omega (arith, c .before .before .before .before .before .before .before .loop .inv .0), goes-on (c .before .before .before .before .before .before .before .loop .inv .1) (case-first (c .before .before .before .before .before .before .before .before .before .before .before .before .before .before .before .before .pre .1 .1 .1) (part (c .before .before .before .before .before .before .before .before .before .before .before .before .before .before .before .before .args .cells .now) (c .before .before .before .before .before .before .before .before .before .before .before .before .before .before .before .before .args .m)) (exitsOf (c .before .before .before .before .before .before .before .before .before .before .before .before .before .before .before .before .args .e)) (c .before .before .before .before .before .before .loop-test .taken) (c .before .before .before .before .before .block-operand .ensures)) (c .before .before .before .quiet-block .ensures) (not-false _ (c .if1 .left)))
 
 quiet-cases-same-length-2 : (t : ℕ) → quiet-cases-lts.Need-same-length-2 (quiet-cases-called t) (quiet-cases-at t) quiet-cases.Post quiet-cases-Inv-loop quiet-cases-μ-loop
 quiet-cases-same-length-2 t c = c .before .loop .inv .1 .long
@@ -173,41 +173,41 @@ quiet-cases-returns-2 t c = ends (c .before .loop .inv .1) (no-case (c .before .
 quiet-statement-statement-requires : (t : ℕ) → quiet-statement-lts.Need-statement-requires (quiet-statement-called t) (quiet-statement-at t) quiet-statement.Post
 quiet-statement-statement-requires t c κs = search needs
 
-quiet-statement-held-requires : (t : ℕ) → quiet-statement-lts.Need-held-requires (quiet-statement-called t) (quiet-statement-at t) quiet-statement.Post
-quiet-statement-held-requires t c κs = search needs
+quiet-statement-block-operand-requires : (t : ℕ) → quiet-statement-lts.Need-block-operand-requires (quiet-statement-called t) (quiet-statement-at t) quiet-statement.Post
+quiet-statement-block-operand-requires t c κs = search needs
 
 quiet-statement-quiet-block-requires : (t : ℕ) → quiet-statement-lts.Need-quiet-block-requires (quiet-statement-called t) (quiet-statement-at t) quiet-statement.Post
-quiet-statement-quiet-block-requires t c κs = let h = there (c .before .before .before .before .before .before .before .before .before .before .before .pre .1 .1 .1) (c .before .before .before .statement .ensures) 0 (c .before .held .ensures) (block-low (c .before .before .before .before .before .before .before .before .before .before .before .pre .1 .1 .1) (c .before .before .before .statement .ensures) (c .before .before .if1 .taken)) in (omega (arith, h .0, c .before .before .before .before .before .before .before .before .before .before .before .pre .0), (c .before .before .before .before .before .before .before .before .before .before .before .pre .1 .0, (c .before .before .before .before .before .before .before .before .before .before .before .pre .1 .1 .0, h .1)))
+quiet-statement-quiet-block-requires t c κs = let h = there (c .before .before .before .before .before .before .before .before .before .before .before .pre .1 .1 .1) (c .before .before .before .statement .ensures) 0 (c .before .block-operand .ensures) (block-low (c .before .before .before .before .before .before .before .before .before .before .before .pre .1 .1 .1) (c .before .before .before .statement .ensures) (c .before .before .if1 .taken)) in (omega (arith, h .0, c .before .before .before .before .before .before .before .before .before .before .before .pre .0), (c .before .before .before .before .before .before .before .before .before .before .before .pre .1 .0, (c .before .before .before .before .before .before .before .before .before .before .before .pre .1 .1 .0, h .1)))
 
 quiet-statement-same-length : (t : ℕ) → quiet-statement-lts.Need-same-length (quiet-statement-called t) (quiet-statement-at t) quiet-statement.Post
 quiet-statement-same-length t c = c .before .before .quiet-block .ensures .long
 
 quiet-statement-returns : (t : ℕ) → quiet-statement-lts.Need-returns (quiet-statement-called t) (quiet-statement-at t) quiet-statement.Post
-quiet-statement-returns t c = is-last (quiet-inner (c .before .before .before .before .before .before .before .before .before .before .before .before .before .before .pre .1 .1 .1) (c .before .before .before .before .before .before .statement .ensures) _ _ (c .before .before .before .before .before .if1 .taken) (c .before .before .before .before .held .ensures) _) (c .before .before .quiet-block .ensures)
+quiet-statement-returns t c = is-last (quiet-inner (c .before .before .before .before .before .before .before .before .before .before .before .before .before .before .pre .1 .1 .1) (c .before .before .before .before .before .before .statement .ensures) _ _ (c .before .before .before .before .before .if1 .taken) (c .before .before .before .before .block-operand .ensures) _) (c .before .before .quiet-block .ensures)
 
-quiet-statement-held-requires-2 : (t : ℕ) → quiet-statement-lts.Need-held-requires-2 (quiet-statement-called t) (quiet-statement-at t) quiet-statement.Post
-quiet-statement-held-requires-2 t c κs = search needs
+quiet-statement-block-operand-requires-2 : (t : ℕ) → quiet-statement-lts.Need-block-operand-requires-2 (quiet-statement-called t) (quiet-statement-at t) quiet-statement.Post
+quiet-statement-block-operand-requires-2 t c κs = search needs
 
 quiet-statement-quiet-block-requires-2 : (t : ℕ) → quiet-statement-lts.Need-quiet-block-requires-2 (quiet-statement-called t) (quiet-statement-at t) quiet-statement.Post
-quiet-statement-quiet-block-requires-2 t c κs = let h = there (c .before .before .before .before .before .before .before .before .before .before .before .before .pre .1 .1 .1) (c .before .before .before .before .statement .ensures) 1 (c .before .held2 .ensures) (accept-low (c .before .before .before .before .before .before .before .before .before .before .before .before .pre .1 .1 .1) (c .before .before .before .before .statement .ensures) (c .before .before .if2 .taken)) in (omega (arith, h .0, c .before .before .before .before .before .before .before .before .before .before .before .before .pre .0), (c .before .before .before .before .before .before .before .before .before .before .before .before .pre .1 .0, (c .before .before .before .before .before .before .before .before .before .before .before .before .pre .1 .1 .0, h .1)))
+quiet-statement-quiet-block-requires-2 t c κs = let h = there (c .before .before .before .before .before .before .before .before .before .before .before .before .pre .1 .1 .1) (c .before .before .before .before .statement .ensures) 1 (c .before .block-operand2 .ensures) (accept-low (c .before .before .before .before .before .before .before .before .before .before .before .before .pre .1 .1 .1) (c .before .before .before .before .statement .ensures) (c .before .before .if2 .taken)) in (omega (arith, h .0, c .before .before .before .before .before .before .before .before .before .before .before .before .pre .0), (c .before .before .before .before .before .before .before .before .before .before .before .before .pre .1 .0, (c .before .before .before .before .before .before .before .before .before .before .before .before .pre .1 .1 .0, h .1)))
 
 quiet-statement-same-length-2 : (t : ℕ) → quiet-statement-lts.Need-same-length-2 (quiet-statement-called t) (quiet-statement-at t) quiet-statement.Post
 quiet-statement-same-length-2 t c = c .before .before .before .quiet-block2 .ensures .long
 
 quiet-statement-returns-2 : (t : ℕ) → quiet-statement-lts.Need-returns-2 (quiet-statement-called t) (quiet-statement-at t) quiet-statement.Post
-quiet-statement-returns-2 t c = stops (at-first _ _) (quiet-if (c .before .before .before .before .before .before .before .before .before .before .before .before .before .before .before .before .pre .1 .1 .1) (c .before .before .before .before .before .before .before .before .statement .ensures) _ _ (c .before .before .before .before .before .before .if2 .taken) (c .before .before .before .before .before .held2 .ensures) refl) (c .before .before .before .quiet-block2 .ensures) (not-true _ (c .if3 .taken))
+quiet-statement-returns-2 t c = stops (at-first _ _) (quiet-if (c .before .before .before .before .before .before .before .before .before .before .before .before .before .before .before .before .pre .1 .1 .1) (c .before .before .before .before .before .before .before .before .statement .ensures) _ _ (c .before .before .before .before .before .before .if2 .taken) (c .before .before .before .before .before .block-operand2 .ensures) refl) (c .before .before .before .quiet-block2 .ensures) (not-true _ (c .if3 .taken))
 
-quiet-statement-held-requires-3 : (t : ℕ) → quiet-statement-lts.Need-held-requires-3 (quiet-statement-called t) (quiet-statement-at t) quiet-statement.Post
-quiet-statement-held-requires-3 t c κs = search needs
+quiet-statement-block-operand-requires-3 : (t : ℕ) → quiet-statement-lts.Need-block-operand-requires-3 (quiet-statement-called t) (quiet-statement-at t) quiet-statement.Post
+quiet-statement-block-operand-requires-3 t c κs = search needs
 
 quiet-statement-quiet-block-requires-3 : (t : ℕ) → quiet-statement-lts.Need-quiet-block-requires-3 (quiet-statement-called t) (quiet-statement-at t) quiet-statement.Post
-quiet-statement-quiet-block-requires-3 t c κs = let h = there (c .before .before .before .before .before .before .before .before .before .before .before .before .before .before .before .before .before .before .pre .1 .1 .1) (c .before .before .before .before .before .before .before .before .before .before .statement .ensures) 2 (c .before .held3 .ensures) (reject-low (c .before .before .before .before .before .before .before .before .before .before .before .before .before .before .before .before .before .before .pre .1 .1 .1) (c .before .before .before .before .before .before .before .before .before .before .statement .ensures) (c .before .before .before .before .before .before .before .before .if2 .taken)) in (omega (arith, h .0, c .before .before .before .before .before .before .before .before .before .before .before .before .before .before .before .before .before .before .pre .0), (c .before .before .before .before .before .before .before .before .before .before .before .before .before .before .before .before .before .before .pre .1 .0, (omega (arith, c .before .before .before .before .before .quiet-block2 .ensures .long, c .before .before .before .before .before .before .before .before .before .before .before .before .before .before .before .before .before .before .pre .1 .1 .0), h .1)))
+quiet-statement-quiet-block-requires-3 t c κs = let h = there (c .before .before .before .before .before .before .before .before .before .before .before .before .before .before .before .before .before .before .pre .1 .1 .1) (c .before .before .before .before .before .before .before .before .before .before .statement .ensures) 2 (c .before .block-operand3 .ensures) (reject-low (c .before .before .before .before .before .before .before .before .before .before .before .before .before .before .before .before .before .before .pre .1 .1 .1) (c .before .before .before .before .before .before .before .before .before .before .statement .ensures) (c .before .before .before .before .before .before .before .before .if2 .taken)) in (omega (arith, h .0, c .before .before .before .before .before .before .before .before .before .before .before .before .before .before .before .before .before .before .pre .0), (c .before .before .before .before .before .before .before .before .before .before .before .before .before .before .before .before .before .before .pre .1 .0, (omega (arith, c .before .before .before .before .before .quiet-block2 .ensures .long, c .before .before .before .before .before .before .before .before .before .before .before .before .before .before .before .before .before .before .pre .1 .1 .0), h .1)))
 
 quiet-statement-same-length-3 : (t : ℕ) → quiet-statement-lts.Need-same-length-3 (quiet-statement-called t) (quiet-statement-at t) quiet-statement.Post
 quiet-statement-same-length-3 t c = c .before .before .quiet-block3 .ensures .long ∙ c .before .before .before .before .before .before .before .before .quiet-block2 .ensures .long
 
 quiet-statement-returns-3 : (t : ℕ) → quiet-statement-lts.Need-returns-3 (quiet-statement-called t) (quiet-statement-at t) quiet-statement.Post
-quiet-statement-returns-3 t c = is-last (goes-on (at-first _ _) (quiet-if (c .before .before .before .before .before .before .before .before .before .before .before .before .before .before .before .before .before .before .before .before .before .pre .1 .1 .1) (c .before .before .before .before .before .before .before .before .before .before .before .before .before .statement .ensures) _ _ (c .before .before .before .before .before .before .before .before .before .before .before .if2 .taken) (c .before .before .before .before .before .before .before .before .before .before .held2 .ensures) (c .before .before .before .before .held3 .ensures)) (c .before .before .before .before .before .before .before .before .quiet-block2 .ensures) (not-false _ (c .before .before .before .before .before .if3 .left))) (c .before .before .quiet-block3 .ensures)
+quiet-statement-returns-3 t c = is-last (goes-on (at-first _ _) (quiet-if (c .before .before .before .before .before .before .before .before .before .before .before .before .before .before .before .before .before .before .before .before .before .pre .1 .1 .1) (c .before .before .before .before .before .before .before .before .before .before .before .before .before .statement .ensures) _ _ (c .before .before .before .before .before .before .before .before .before .before .before .if2 .taken) (c .before .before .before .before .before .before .before .before .before .before .block-operand2 .ensures) (c .before .before .before .before .block-operand3 .ensures)) (c .before .before .before .before .before .before .before .before .quiet-block2 .ensures) (not-false _ (c .before .before .before .before .before .if3 .left))) (c .before .before .quiet-block3 .ensures)
 
 quiet-statement-in-case-requires : (t : ℕ) → quiet-statement-lts.Need-in-case-requires (quiet-statement-called t) (quiet-statement-at t) quiet-statement.Post
 quiet-statement-in-case-requires t c κs = search needs
@@ -221,35 +221,35 @@ quiet-statement-same-length-4 t c = c .before .before .quiet-cases .ensures .lon
 quiet-statement-returns-4 : (t : ℕ) → quiet-statement-lts.Need-returns-4 (quiet-statement-called t) (quiet-statement-at t) quiet-statement.Post
 quiet-statement-returns-4 t c = is-last (quiet-switch (c .before .before .before .before .before .before .before .before .before .before .before .before .before .before .before .before .pre .1 .1 .1) (c .before .before .before .before .before .before .before .before .statement .ensures) _ _ (c .before .before .before .before .before .if4 .taken) (c .before .before .before .before .in-case .ensures) _) (c .before .before .quiet-cases .ensures)
 
-quiet-statement-held-requires-4 : (t : ℕ) → quiet-statement-lts.Need-held-requires-4 (quiet-statement-called t) (quiet-statement-at t) quiet-statement.Post
-quiet-statement-held-requires-4 t c κs = search needs
+quiet-statement-block-operand-requires-4 : (t : ℕ) → quiet-statement-lts.Need-block-operand-requires-4 (quiet-statement-called t) (quiet-statement-at t) quiet-statement.Post
+quiet-statement-block-operand-requires-4 t c κs = search needs
 
 quiet-statement-in-body-requires : (t : ℕ) → quiet-statement-lts.Need-in-body-requires (quiet-statement-called t) (quiet-statement-at t) quiet-statement.Post
 quiet-statement-in-body-requires t c κs = search needs
 
 quiet-statement-quiet-block-requires-4 : (t : ℕ) → quiet-statement-lts.Need-quiet-block-requires-4 (quiet-statement-called t) (quiet-statement-at t) quiet-statement.Post
-quiet-statement-quiet-block-requires-4 t c κs = let h = there (c .before .before .before .before .before .before .before .before .before .before .before .before .before .before .before .pre .1 .1 .1) (c .before .before .before .before .before .before .before .statement .ensures) 0 (c .before .before .held4 .ensures) (body-low (c .before .before .before .before .before .before .before .before .before .before .before .before .before .before .before .pre .1 .1 .1) (c .before .before .before .before .before .before .before .statement .ensures) (c .before .before .before .if5 .taken)) in (omega (arith, h .0, c .before .before .before .before .before .before .before .before .before .before .before .before .before .before .before .pre .0), (c .before .before .before .before .before .before .before .before .before .before .before .before .before .before .before .pre .1 .0, (c .before .before .before .before .before .before .before .before .before .before .before .before .before .before .before .pre .1 .1 .0, h .1)))
+quiet-statement-quiet-block-requires-4 t c κs = let h = there (c .before .before .before .before .before .before .before .before .before .before .before .before .before .before .before .pre .1 .1 .1) (c .before .before .before .before .before .before .before .statement .ensures) 0 (c .before .before .block-operand4 .ensures) (body-low (c .before .before .before .before .before .before .before .before .before .before .before .before .before .before .before .pre .1 .1 .1) (c .before .before .before .before .before .before .before .statement .ensures) (c .before .before .before .if5 .taken)) in (omega (arith, h .0, c .before .before .before .before .before .before .before .before .before .before .before .before .before .before .before .pre .0), (c .before .before .before .before .before .before .before .before .before .before .before .before .before .before .before .pre .1 .0, (c .before .before .before .before .before .before .before .before .before .before .before .before .before .before .before .pre .1 .1 .0, h .1)))
 
 quiet-statement-same-length-5 : (t : ℕ) → quiet-statement-lts.Need-same-length-5 (quiet-statement-called t) (quiet-statement-at t) quiet-statement.Post
 quiet-statement-same-length-5 t c = c .before .before .before .quiet-block4 .ensures .long
 
 quiet-statement-returns-5 : (t : ℕ) → quiet-statement-lts.Need-returns-5 (quiet-statement-called t) (quiet-statement-at t) quiet-statement.Post
-quiet-statement-returns-5 t c = stops (at-first _ _) (quiet-loop (c .before .before .before .before .before .before .before .before .before .before .before .before .before .before .before .before .before .before .before .pre .1 .1 .1) (c .before .before .before .before .before .before .before .before .before .before .before .statement .ensures) _ _ (c .before .before .before .before .before .before .before .if5 .taken) (c .before .before .before .before .before .before .held4 .ensures) (c .before .before .before .before .before .in-body .ensures) refl refl) (c .before .before .before .quiet-block4 .ensures) (not-true _ (c .if6 .taken))
+quiet-statement-returns-5 t c = stops (at-first _ _) (quiet-loop (c .before .before .before .before .before .before .before .before .before .before .before .before .before .before .before .before .before .before .before .pre .1 .1 .1) (c .before .before .before .before .before .before .before .before .before .before .before .statement .ensures) _ _ (c .before .before .before .before .before .before .before .if5 .taken) (c .before .before .before .before .before .before .block-operand4 .ensures) (c .before .before .before .before .before .in-body .ensures) refl refl) (c .before .before .before .quiet-block4 .ensures) (not-true _ (c .if6 .taken))
 
-quiet-statement-held-requires-5 : (t : ℕ) → quiet-statement-lts.Need-held-requires-5 (quiet-statement-called t) (quiet-statement-at t) quiet-statement.Post
-quiet-statement-held-requires-5 t c κs = search needs
+quiet-statement-block-operand-requires-5 : (t : ℕ) → quiet-statement-lts.Need-block-operand-requires-5 (quiet-statement-called t) (quiet-statement-at t) quiet-statement.Post
+quiet-statement-block-operand-requires-5 t c κs = search needs
 
 quiet-statement-in-case-requires-2 : (t : ℕ) → quiet-statement-lts.Need-in-case-requires-2 (quiet-statement-called t) (quiet-statement-at t) quiet-statement.Post
 quiet-statement-in-case-requires-2 t c κs = search needs
 
 quiet-statement-quiet-block-requires-5 : (t : ℕ) → quiet-statement-lts.Need-quiet-block-requires-5 (quiet-statement-called t) (quiet-statement-at t) quiet-statement.Post
-quiet-statement-quiet-block-requires-5 t c κs = let h = there (c .before .before .before .before .before .before .before .before .before .before .before .before .before .before .before .before .before .before .before .before .before .before .pre .1 .1 .1) (c .before .before .before .before .before .before .before .before .before .before .before .before .before .before .statement .ensures) 1 (c .before .before .held5 .ensures) (continuing-low (c .before .before .before .before .before .before .before .before .before .before .before .before .before .before .before .before .before .before .before .before .before .before .pre .1 .1 .1) (c .before .before .before .before .before .before .before .before .before .before .before .before .before .before .statement .ensures) (c .before .before .before .before .before .before .before .before .before .before .if5 .taken)) in (omega (arith, h .0, c .before .before .before .before .before .before .before .before .before .before .before .before .before .before .before .before .before .before .before .before .before .before .pre .0), (c .before .before .before .before .before .before .before .before .before .before .before .before .before .before .before .before .before .before .before .before .before .before .pre .1 .0, (omega (arith, c .before .before .before .before .before .before .quiet-block4 .ensures .long, c .before .before .before .before .before .before .before .before .before .before .before .before .before .before .before .before .before .before .before .before .before .before .pre .1 .1 .0), h .1)))
+quiet-statement-quiet-block-requires-5 t c κs = let h = there (c .before .before .before .before .before .before .before .before .before .before .before .before .before .before .before .before .before .before .before .before .before .before .pre .1 .1 .1) (c .before .before .before .before .before .before .before .before .before .before .before .before .before .before .statement .ensures) 1 (c .before .before .block-operand5 .ensures) (continuing-low (c .before .before .before .before .before .before .before .before .before .before .before .before .before .before .before .before .before .before .before .before .before .before .pre .1 .1 .1) (c .before .before .before .before .before .before .before .before .before .before .before .before .before .before .statement .ensures) (c .before .before .before .before .before .before .before .before .before .before .if5 .taken)) in (omega (arith, h .0, c .before .before .before .before .before .before .before .before .before .before .before .before .before .before .before .before .before .before .before .before .before .before .pre .0), (c .before .before .before .before .before .before .before .before .before .before .before .before .before .before .before .before .before .before .before .before .before .before .pre .1 .0, (omega (arith, c .before .before .before .before .before .before .quiet-block4 .ensures .long, c .before .before .before .before .before .before .before .before .before .before .before .before .before .before .before .before .before .before .before .before .before .before .pre .1 .1 .0), h .1)))
 
 quiet-statement-same-length-6 : (t : ℕ) → quiet-statement-lts.Need-same-length-6 (quiet-statement-called t) (quiet-statement-at t) quiet-statement.Post
 quiet-statement-same-length-6 t c = c .before .before .quiet-block5 .ensures .long ∙ c .before .before .before .before .before .before .before .before .before .quiet-block4 .ensures .long
 
 quiet-statement-returns-6 : (t : ℕ) → quiet-statement-lts.Need-returns-6 (quiet-statement-called t) (quiet-statement-at t) quiet-statement.Post
-quiet-statement-returns-6 t c = is-last (goes-on (at-first _ _) (quiet-loop (c .before .before .before .before .before .before .before .before .before .before .before .before .before .before .before .before .before .before .before .before .before .before .before .before .before .pre .1 .1 .1) (c .before .before .before .before .before .before .before .before .before .before .before .before .before .before .before .before .before .statement .ensures) _ _ (c .before .before .before .before .before .before .before .before .before .before .before .before .before .if5 .taken) (c .before .before .before .before .before .before .before .before .before .before .before .before .held4 .ensures) (c .before .before .before .before .before .before .before .before .before .before .before .in-body .ensures) (c .before .before .before .before .before .held5 .ensures) (c .before .before .before .before .in-case2 .ensures)) (c .before .before .before .before .before .before .before .before .before .quiet-block4 .ensures) (not-false _ (c .before .before .before .before .before .before .if6 .left))) (c .before .before .quiet-block5 .ensures)
+quiet-statement-returns-6 t c = is-last (goes-on (at-first _ _) (quiet-loop (c .before .before .before .before .before .before .before .before .before .before .before .before .before .before .before .before .before .before .before .before .before .before .before .before .before .pre .1 .1 .1) (c .before .before .before .before .before .before .before .before .before .before .before .before .before .before .before .before .before .statement .ensures) _ _ (c .before .before .before .before .before .before .before .before .before .before .before .before .before .if5 .taken) (c .before .before .before .before .before .before .before .before .before .before .before .before .block-operand4 .ensures) (c .before .before .before .before .before .before .before .before .before .before .before .in-body .ensures) (c .before .before .before .before .before .block-operand5 .ensures) (c .before .before .before .before .in-case2 .ensures)) (c .before .before .before .before .before .before .before .before .before .quiet-block4 .ensures) (not-false _ (c .before .before .before .before .before .before .if6 .left))) (c .before .before .quiet-block5 .ensures)
 
 quiet-statement-quiet-plain-requires : (t : ℕ) → quiet-statement-lts.Need-quiet-plain-requires (quiet-statement-called t) (quiet-statement-at t) quiet-statement.Post
 quiet-statement-quiet-plain-requires t c κs = (c .before .before .before .before .before .before .before .before .before .before .before .before .before .pre .1 .0, (c .before .before .before .before .before .before .before .before .before .before .before .before .before .pre .1 .1 .0, (in-function (c .before .before .before .before .before .before .before .before .before .before .before .before .before .pre .1 .1 .1), (c .before .before .before .before .before .statement .ensures, plain-kind (c .before .before .before .before .if1 .left) (c .before .before .before .if2 .left) (c .before .before .if4 .left) (c .before .if5 .left)))))
@@ -287,9 +287,9 @@ pub +quiet-block+quiet-cases+quiet-statement-spec : {M : Type 1} → statement M
     (quiet-cases-cast-i t)
     (quiet-cases-loop-holds t)
     (quiet-cases-sub-i t)
-    (quiet-cases-mul-held t)
-    (quiet-cases-add-held t)
-    (quiet-cases-held-requires t)
+    (quiet-cases-mul-block-operand t)
+    (quiet-cases-add-block-operand t)
+    (quiet-cases-block-operand-requires t)
     (quiet-cases-quiet-block-requires t)
     (quiet-cases-same-length t)
     (quiet-cases-returns t)
@@ -301,15 +301,15 @@ pub +quiet-block+quiet-cases+quiet-statement-spec : {M : Type 1} → statement M
     (quiet-statement-at t)
     quiet-statement.Post
     (quiet-statement-statement-requires t)
-    (quiet-statement-held-requires t)
+    (quiet-statement-block-operand-requires t)
     (quiet-statement-quiet-block-requires t)
     (quiet-statement-same-length t)
     (quiet-statement-returns t)
-    (quiet-statement-held-requires-2 t)
+    (quiet-statement-block-operand-requires-2 t)
     (quiet-statement-quiet-block-requires-2 t)
     (quiet-statement-same-length-2 t)
     (quiet-statement-returns-2 t)
-    (quiet-statement-held-requires-3 t)
+    (quiet-statement-block-operand-requires-3 t)
     (quiet-statement-quiet-block-requires-3 t)
     (quiet-statement-same-length-3 t)
     (quiet-statement-returns-3 t)
@@ -317,12 +317,12 @@ pub +quiet-block+quiet-cases+quiet-statement-spec : {M : Type 1} → statement M
     (quiet-statement-quiet-cases-requires t)
     (quiet-statement-same-length-4 t)
     (quiet-statement-returns-4 t)
-    (quiet-statement-held-requires-4 t)
+    (quiet-statement-block-operand-requires-4 t)
     (quiet-statement-in-body-requires t)
     (quiet-statement-quiet-block-requires-4 t)
     (quiet-statement-same-length-5 t)
     (quiet-statement-returns-5 t)
-    (quiet-statement-held-requires-5 t)
+    (quiet-statement-block-operand-requires-5 t)
     (quiet-statement-in-case-requires-2 t)
     (quiet-statement-quiet-block-requires-5 t)
     (quiet-statement-same-length-6 t)
