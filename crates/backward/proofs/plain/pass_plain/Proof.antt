@@ -8,7 +8,7 @@ use Rattle.backward.proofs.plain.pass_plain.Statement.{statement}
 use Rattle.backward.proofs.plain.pass_plain.Tie as tie
 use Rattle.backward.proofs.plain.pass_plain.Reads as reads
 use Rattle.backward.proofs.plain.pass_plain.Lts as lts
-use Rattle.access.proofs.kinded.operand.Reads as operand-reads
+use Rattle.access.proofs.kinded.expression_operand.Reads as expression-operand-reads
 use Rattle.acts.proofs.emits.pass_emits.Reads as pass-emits-reads
 use Rattle.acts.proofs.marks.mark_at.Reads as mark-at-reads
 use Rattle.acts.proofs.stores.pass_store.Reads as pass-store-reads
@@ -20,23 +20,17 @@ mul-begin c = search needs
 shared-slice-read-begin : tie.Need-shared-slice-read-begin
 shared-slice-read-begin c = begin-there (c .before .before .before .before .before .before .before .before .before .before .before .pre .0) (c .before .before .before .before .before .before .before .before .before .before .before .pre .1 .1 .0)
 
-operand-requires : tie.Need-operand-requires
-operand-requires c κs = search needs
+expression-operand-requires : tie.Need-expression-operand-requires
+expression-operand-requires c κs = search needs
 
-cast-first : tie.Need-cast-first
-cast-first c = search needs
-
-operand-requires-2 : tie.Need-operand-requires-2
-operand-requires-2 c κs = search needs
-
-cast-last : tie.Need-cast-last
-cast-last c = search needs
+expression-operand-requires-2 : tie.Need-expression-operand-requires-2
+expression-operand-requires-2 c κs = search needs
 
 cast-pass-emits : tie.Need-cast-pass-emits
 cast-pass-emits c = omega (arith, statement-small (c .before .before .before .before .before .before .before .before .before .before .before .before .before .before .before .before .before .pre .1 .1 .0 .statement))
 
 pass-emits-requires : tie.Need-pass-emits-requires
-pass-emits-requires c κs = (act-given (c .before .before .before .before .before .before .before .before .before .before .before .before .before .before .before .before .before .pre .0) (c .before .before .before .before .before .before .before .before .before .before .before .before .before .before .before .before .before .pre .1 .1 .0) (c .before .before .before .before .before .before .before .before .before .before .before .before .before .before .before .before .before .pre .1 .0), (begin-is (c .before .before .before .before .before .before .before .before .before .before .before .before .before .before .before .before .before .pre .0) (c .before .before .before .before .before .before .before .before .before .before .before .before .before .before .before .before .before .pre .1 .1 .0), last-there (c .before .before .before .before .before .before .before .before .before .before .before .before .before .before .before .before .before .pre .0 .world) (in-function (c .before .before .before .before .before .before .before .before .before .before .before .before .before .before .before .before .before .pre .1 .1 .0 .statement)) (c .before .before .before .before .before .before .before .before .before .before .before .before .before .before .before .before .before .pre .1 .1 .0 .is) (c .before .before .before .before .before .if1 .taken) (c .before .before .before .operand2 .ensures)))
+pass-emits-requires c κs = (act-given (c .before .before .before .before .before .before .before .before .before .before .before .before .before .before .before .before .before .pre .0) (c .before .before .before .before .before .before .before .before .before .before .before .before .before .before .before .before .before .pre .1 .1 .0) (c .before .before .before .before .before .before .before .before .before .before .before .before .before .before .before .before .before .pre .1 .0), (begin-is (c .before .before .before .before .before .before .before .before .before .before .before .before .before .before .before .before .before .pre .0) (c .before .before .before .before .before .before .before .before .before .before .before .before .before .before .before .before .before .pre .1 .1 .0), last-there (c .before .before .before .before .before .before .before .before .before .before .before .before .before .before .before .before .before .pre .0 .world) (in-function (c .before .before .before .before .before .before .before .before .before .before .before .before .before .before .before .before .before .pre .1 .1 .0 .statement)) (c .before .before .before .before .before .before .before .before .before .before .before .before .before .before .before .before .before .pre .1 .1 .0 .is) (c .before .before .before .before .before .if1 .taken) (c .before .before .before .expression-operand2 .ensures)))
 
 same-length : tie.Need-same-length
 same-length c = search needs
@@ -48,7 +42,7 @@ same-length-3 : tie.Need-same-length-3
 same-length-3 c = search needs
 
 returns : tie.Need-returns
-returns c = passes-emit (c .before .before .before .before .before .before .before .before .before .before .before .before .before .before .before .before .before .before .before .before .before .before .before .before .pre .0) (c .before .before .before .before .before .before .before .before .before .before .before .before .before .before .before .before .before .before .before .before .before .before .before .before .pre .1 .1 .0) _ (c .before .before .before .before .before .before .before .before .before .before .before .before .if1 .taken) (c .before .before .before .before .before .before .before .before .before .before .before .operand .ensures) (c .before .before .before .before .before .before .before .before .before .before .operand2 .ensures) (c .before .before .before .before .before .before .pass-emits .ensures)
+returns c = passes-emit (c .before .before .before .before .before .before .before .before .before .before .before .before .before .before .before .before .before .before .before .before .before .before .before .before .pre .0) (c .before .before .before .before .before .before .before .before .before .before .before .before .before .before .before .before .before .before .before .before .before .before .before .before .pre .1 .1 .0) _ (c .before .before .before .before .before .before .before .before .before .before .before .before .if1 .taken) (c .before .before .before .before .before .before .before .before .before .before .before .expression-operand .ensures) (c .before .before .before .before .before .before .before .before .before .before .expression-operand2 .ensures) (c .before .before .before .before .before .before .pass-emits .ensures)
 
 cast-mark-at : tie.Need-cast-mark-at
 cast-mark-at c = omega (arith, c .before .before .before .before .before .before .shared-slice-known7 .given (c .before .before .before .before .before .before .before .before .before .before .before .before .before .args .s))
@@ -56,23 +50,17 @@ cast-mark-at c = omega (arith, c .before .before .before .before .before .before
 mark-at-requires : tie.Need-mark-at-requires
 mark-at-requires c κs = search needs
 
-operand-requires-3 : tie.Need-operand-requires-3
-operand-requires-3 c κs = search needs
+expression-operand-requires-3 : tie.Need-expression-operand-requires-3
+expression-operand-requires-3 c κs = search needs
 
-cast-t39 : tie.Need-cast-t39
-cast-t39 c = search needs
-
-operand-requires-4 : tie.Need-operand-requires-4
-operand-requires-4 c κs = search needs
-
-cast-t39-2 : tie.Need-cast-t39-2
-cast-t39-2 c = search needs
+expression-operand-requires-4 : tie.Need-expression-operand-requires-4
+expression-operand-requires-4 c κs = search needs
 
 cast-pass-store : tie.Need-cast-pass-store
 cast-pass-store c = omega (arith, statement-small (c .before .before .before .before .before .before .before .before .before .before .before .before .before .before .before .before .before .before .before .pre .1 .1 .0 .statement))
 
 pass-store-requires : tie.Need-pass-store-requires
-pass-store-requires c κs = (act-given (c .before .before .before .before .before .before .before .before .before .before .before .before .before .before .before .before .before .before .before .pre .0) (c .before .before .before .before .before .before .before .before .before .before .before .before .before .before .before .before .before .before .before .pre .1 .1 .0) (c .before .before .before .before .before .before .before .before .before .before .before .before .before .before .before .before .before .before .before .pre .1 .0), store-given (c .before .before .before .before .before .before .before .before .before .before .before .before .before .before .before .before .before .before .before .pre .0) (c .before .before .before .before .before .before .before .before .before .before .before .before .before .before .before .before .before .before .before .pre .1 .1 .0) (c .before .before .before .before .before .before .if2 .taken) (c .before .before .before .before .operand3 .ensures) (c .before .before .before .operand4 .ensures))
+pass-store-requires c κs = (act-given (c .before .before .before .before .before .before .before .before .before .before .before .before .before .before .before .before .before .before .before .pre .0) (c .before .before .before .before .before .before .before .before .before .before .before .before .before .before .before .before .before .before .before .pre .1 .1 .0) (c .before .before .before .before .before .before .before .before .before .before .before .before .before .before .before .before .before .before .before .pre .1 .0), store-given (c .before .before .before .before .before .before .before .before .before .before .before .before .before .before .before .before .before .before .before .pre .0) (c .before .before .before .before .before .before .before .before .before .before .before .before .before .before .before .before .before .before .before .pre .1 .1 .0) (c .before .before .before .before .before .before .if2 .taken) (c .before .before .before .before .expression-operand3 .ensures) (c .before .before .before .expression-operand4 .ensures))
 
 same-length-4 : tie.Need-same-length-4
 same-length-4 c = search needs
@@ -84,7 +72,7 @@ same-length-6 : tie.Need-same-length-6
 same-length-6 c = search needs
 
 returns-2 : tie.Need-returns-2
-returns-2 c = passes-store (c .before .before .before .before .before .before .before .before .before .before .before .before .before .before .before .before .before .before .before .before .before .before .before .before .before .before .pre .0) (c .before .before .before .before .before .before .before .before .before .before .before .before .before .before .before .before .before .before .before .before .before .before .before .before .before .before .pre .1 .1 .0) _ (c .before .before .before .before .before .before .before .before .before .before .before .before .before .if2 .taken) (c .before .before .before .before .before .before .before .before .before .before .before .operand3 .ensures) (c .before .before .before .before .before .before .before .before .before .before .operand4 .ensures) (c .before .before .before .before .before .before .before .before .before .before .before .before .mark-at .ensures) (c .before .before .before .before .before .before .pass-store .ensures)
+returns-2 c = passes-store (c .before .before .before .before .before .before .before .before .before .before .before .before .before .before .before .before .before .before .before .before .before .before .before .before .before .before .pre .0) (c .before .before .before .before .before .before .before .before .before .before .before .before .before .before .before .before .before .before .before .before .before .before .before .before .before .before .pre .1 .1 .0) _ (c .before .before .before .before .before .before .before .before .before .before .before .before .before .if2 .taken) (c .before .before .before .before .before .before .before .before .before .before .before .expression-operand3 .ensures) (c .before .before .before .before .before .before .before .before .before .before .expression-operand4 .ensures) (c .before .before .before .before .before .before .before .before .before .before .before .before .mark-at .ensures) (c .before .before .before .before .before .before .pass-store .ensures)
 
 pass-leaving-requires : tie.Need-pass-leaving-requires
 pass-leaving-requires c κs = (leave-given (c .before .before .before .before .before .before .before .before .before .before .before .before .before .before .before .pre .0) (c .before .before .before .before .before .before .before .before .before .before .before .before .before .before .before .pre .1 .1 .0) (c .before .before .before .before .before .before .before .before .before .before .before .before .before .before .before .pre .1 .0), (c .before .before .before .before .before .before .before .before .before .before .before .before .before .before .before .pre .1 .1 .1 (c .before .before .before .if1 .left), c .before .before .if2 .left))
@@ -104,10 +92,8 @@ pass-plain-spec =
     (tie.spec
     mul-begin
     shared-slice-read-begin
-    operand-requires
-    cast-first
-    operand-requires-2
-    cast-last
+    expression-operand-requires
+    expression-operand-requires-2
     cast-pass-emits
     pass-emits-requires
     same-length
@@ -116,10 +102,8 @@ pass-plain-spec =
     returns
     cast-mark-at
     mark-at-requires
-    operand-requires-3
-    cast-t39
-    operand-requires-4
-    cast-t39-2
+    expression-operand-requires-3
+    expression-operand-requires-4
     cast-pass-store
     pass-store-requires
     same-length-4
