@@ -11,10 +11,10 @@ use Rattle.boundary.proofs.answer.word_of.Reads as word-of-reads
 use Rattle.type_table.proofs.fill.Reads as fill-reads
 
 fill-requires : tie.Need-fill-requires
-fill-requires c κs = fill-asks (c .before .before .before .before .before .before .before .before .before .args .bytes .now) (c .before .before .before .before .before .before .before .before .before .args .t .now) (c .before .before .before .before .before .before .before .before .before .pre .0) (c .before .before .before .before .before .before .before .before .before .pre .1 .0)
+fill-requires c κs = fill-asks (c .before .before .before .before .before .before .before .before .args .bytes .now) (c .before .before .before .before .before .before .before .before .args .t .now) (c .before .before .before .before .before .before .before .before .pre .0) (c .before .before .before .before .before .before .before .before .pre .1 .0)
 
 input-to-bindings-bytes-requires : tie.Need-input-to-bindings-bytes-requires
-input-to-bindings-bytes-requires c κs = (tables (c .before .before .before .before .before .before .before .before .before .before .before .before .before .before .before .before .before .args .bytes .now) (c .before .before .before .before .before .before .before .before .before .before .before .before .before .before .before .before .before .args .t .now) (c .before .before .before .before .before .before .before .before .before .before .before .before .before .before .before .before .before .pre .0) _ (c .before .before .before .before .before .before .before .fill .ensures), ((as-many (c .before .before .before .before .before .before .before .before .before .before .before .before .before .before .before .before .before .args .bytes .now) (c .before .before .before .before .before .before .before .before .before .before .before .before .before .before .before .before .before .args .t .now) (c .before .before .before .before .before .before .before .before .before .before .before .before .before .before .before .before .before .pre .0) _ (c .before .before .before .before .before .before .before .fill .ensures) (c .before .before .before .before .before .before .before .before .before .before .before .before .before .before .before .before .before .pre .1 .1 .0 .0), c .before .before .before .before .before .before .before .before .before .before .before .before .before .before .before .before .before .pre .1 .1 .0 .1), c .before .before .before .before .before .before .before .before .before .before .before .before .before .before .before .before .before .pre .1 .1 .1))
+input-to-bindings-bytes-requires c κs = (tables (c .before .before .before .before .before .before .before .before .before .before .before .before .before .before .before .args .bytes .now) (c .before .before .before .before .before .before .before .before .before .before .before .before .before .before .before .args .t .now) (c .before .before .before .before .before .before .before .before .before .before .before .before .before .before .before .pre .0) _ (c .before .before .before .before .before .before .fill .ensures), (as-many (c .before .before .before .before .before .before .before .before .before .before .before .before .before .before .before .args .bytes .now) (c .before .before .before .before .before .before .before .before .before .before .before .before .before .before .before .args .t .now) (c .before .before .before .before .before .before .before .before .before .before .before .before .before .before .before .pre .0) _ (c .before .before .before .before .before .before .fill .ensures) (c .before .before .before .before .before .before .before .before .before .before .before .before .before .before .before .pre .1 .1 .0), c .before .before .before .before .before .before .before .before .before .before .before .before .before .before .before .pre .1 .1 .1))
 
 word-of-requires : tie.Need-word-of-requires
 word-of-requires c κs = search needs
@@ -31,11 +31,8 @@ same-length-3 c = search needs
 same-length-4 : tie.Need-same-length-4
 same-length-4 c = search needs
 
-same-length-5 : tie.Need-same-length-5
-same-length-5 c = search needs
-
 returns : tie.Need-returns
-returns c = answers (c .before .before .before .before .before .before .before .before .before .input-to-bindings-bytes .ensures) (c .word-of .ensures)
+returns c = answers (c .before .before .before .before .before .before .before .input-to-bindings-bytes .ensures) (c .word-of .ensures)
 
 pub input-of-spec : {M : Type 1} → statement M
 input-of-spec =
@@ -48,5 +45,4 @@ input-of-spec =
     same-length-2
     same-length-3
     same-length-4
-    same-length-5
     returns)

@@ -24,11 +24,8 @@ slice-aggregate-input-in-5 c = search needs
 slice-aggregate-input-in-6 : tie.Need-slice-aggregate-input-in-6
 slice-aggregate-input-in-6 c = search needs
 
-slice-aggregate-input-in-7 : tie.Need-slice-aggregate-input-in-7
-slice-aggregate-input-in-7 c = search needs
-
 input-in-requires : tie.Need-input-in-requires
-input-in-requires c κs = ((search needs, (search needs, search needs)), ((search needs, (search needs, search needs)), (search needs, search needs)))
+input-in-requires c κs = ((search needs, (search needs, search needs)), (search needs, (search needs, search needs)))
 
 same-length : tie.Need-same-length
 same-length c = search needs
@@ -46,7 +43,6 @@ tickingtor-input-to-bindings-spec =
     slice-aggregate-input-in-4
     slice-aggregate-input-in-5
     slice-aggregate-input-in-6
-    slice-aggregate-input-in-7
     input-in-requires
     same-length
     returns)
