@@ -17,16 +17,16 @@ use Rattle.acts.proofs.marks.mark_at.Reads as mark-at-reads
 use Rattle.ends.proofs.notes.note.Reads as note-reads
 
 abbrev Inv-loop : tie.InvT-loop
-Inv-loop bytes t f types alike paths marks cells₀ roots₀ path₀ n l begin first last q₀ i₀ cells roots path q i = Emitted (scopeAt bytes t (f .0)) marks l first ((last + 1) - first) i cells₀ roots₀ n q₀ cells roots q × (length path ≡ length path₀)
+Inv-loop bytes t f types alike paths marks cells₀ roots₀ path₀ n l begin first q₀ i₀ cells roots path q i = Emitted (scopeAt bytes t (f .0)) marks l (first .0) i₀ i cells₀ roots₀ n q₀ cells roots q × (length path ≡ length path₀)
 
 abbrev μ-loop : tie.MeasureT-loop
-μ-loop bytes t f types alike paths marks cells₀ roots₀ path₀ n l begin first last q₀ i₀ cells roots path q i = i
+μ-loop bytes t f types alike paths marks cells₀ roots₀ path₀ n l begin first q₀ i₀ cells roots path q i = i
 
 count-requires : tie.Need-count-requires Inv-loop μ-loop
 count-requires c κs = omega (arith, c .before .before .before .before .before .before .before .before .before .pre .1 .1, world-few (c .before .before .before .before .before .before .before .before .before .pre .0 .world))
 
 loop-holds : tie.Need-loop-holds Inv-loop μ-loop
-loop-holds c = (rw (c .count .ensures) (emitted-none _ _ _ _ _ (c .before .before .before .before .before .before .before .before .before .before .pre .0 .ready) (c .before .before .before .before .before .before .before .before .before .before .pre .0 .going)), refl)
+loop-holds c = (emitted-none _ _ _ _ _ (c .before .before .before .before .before .before .before .before .before .before .pre .0 .ready) (c .before .before .before .before .before .before .before .before .before .before .pre .0 .going), refl)
 
 sub-k : tie.Need-sub-k Inv-loop μ-loop
 sub-k c = search needs
@@ -35,37 +35,37 @@ note-requires : tie.Need-note-requires Inv-loop μ-loop
 note-requires c κs = (c .before .before .before .loop .inv .0 .ready .live, omega (arith, c .before .before .before .before .before .before .before .before .before .before .before .before .before .before .pre .0 .ready .high))
 
 cast-mark-at : tie.Need-cast-mark-at Inv-loop μ-loop
-cast-mark-at c = omega (arith, c .before .before .before .before .loop .inv .0 .low, c .before .before .before .before .before .before .before .before .before .before .before .before .before .before .before .pre .1 .1, world-few (c .before .before .before .before .before .before .before .before .before .before .before .before .before .before .before .pre .0 .world))
+cast-mark-at c = omega (arith, c .before .before .before .before .before .count .ensures, c .before .before .before .before .loop .inv .0 .low, c .before .before .before .before .before .before .before .before .before .before .before .before .before .before .before .pre .1 .1, world-few (c .before .before .before .before .before .before .before .before .before .before .before .before .before .before .before .pre .0 .world))
 
 add-mark-at : tie.Need-add-mark-at Inv-loop μ-loop
-add-mark-at c = omega (arith, c .before .before .before .before .loop .inv .0 .low, c .before .before .before .before .before .before .before .before .before .before .before .before .before .before .before .pre .1 .1, world-few (c .before .before .before .before .before .before .before .before .before .before .before .before .before .before .before .pre .0 .world), c .before .before .before .before .before .before .before .before .before .before .before .before .before .before .before .fits)
+add-mark-at c = omega (arith, c .before .before .before .before .before .count .ensures, c .before .before .before .before .loop .inv .0 .low, c .before .before .before .before .before .before .before .before .before .before .before .before .before .before .before .pre .1 .1, world-few (c .before .before .before .before .before .before .before .before .before .before .before .before .before .before .before .pre .0 .world), c .before .before .before .before .before .before .before .before .before .before .before .before .before .before .before .fits)
 
 mark-at-requires : tie.Need-mark-at-requires Inv-loop μ-loop
 mark-at-requires c κs = search needs
 
 add-t31 : tie.Need-add-t31 Inv-loop μ-loop
-add-t31 c = omega (arith, c .before .before .before .before .before .loop .inv .0 .low, c .before .before .before .before .before .before .before .before .before .before .before .before .before .before .before .before .pre .1 .1, world-few (c .before .before .before .before .before .before .before .before .before .before .before .before .before .before .before .before .pre .0 .world))
+add-t31 c = omega (arith, c .before .before .before .before .before .before .before .count .ensures, c .before .before .before .before .before .before .loop .inv .0 .low, c .before .before .before .before .before .before .before .before .before .before .before .before .before .before .before .before .before .pre .1 .1, world-few (c .before .before .before .before .before .before .before .before .before .before .before .before .before .before .before .before .before .pre .0 .world))
 
 pass-emit-requires : tie.Need-pass-emit-requires Inv-loop μ-loop
-pass-emit-requires c κs = (next-given (c .before .before .before .before .before .before .before .before .before .before .before .before .before .before .before .before .before .before .before .pre .0) (c .before .before .before .before .before .before .before .before .loop .inv .0) (c .before .before .before .before .note .ensures) (c .before .before .before .before .before .before .before .before .loop .inv .1), omega (arith, c .before .before .before .before .before .before .before .before .loop .inv .0 .low, c .before .before .before .before .before .before .before .before .before .before .before .before .before .before .before .before .before .before .before .pre .1 .1))
+pass-emit-requires c κs = (next-given (c .before .before .before .before .before .before .before .before .before .before .before .before .before .before .before .before .before .before .before .before .pre .0) (c .before .before .before .before .before .before .before .before .before .loop .inv .0) (c .before .before .before .before .before .note .ensures) (c .before .before .before .before .before .before .before .before .before .loop .inv .1), omega (arith, c .before .before .before .before .before .before .before .before .before .before .count .ensures, c .before .before .before .before .before .before .before .before .before .loop .inv .0 .low, c .before .before .before .before .before .before .before .before .before .before .before .before .before .before .before .before .before .before .before .before .pre .1 .1))
 
 same-length : tie.Need-same-length Inv-loop μ-loop
-same-length c = c .before .before .before .before .before .before .before .pass-emit .ensures .cells ∙ c .before .before .before .before .before .before .before .before .before .before .before .before .before .before .before .before .loop .inv .0 .cells
+same-length c = c .before .before .before .before .before .before .before .pass-emit .ensures .cells ∙ c .before .before .before .before .before .before .before .before .before .before .before .before .before .before .before .before .before .loop .inv .0 .cells
 
 same-length-2 : tie.Need-same-length-2 Inv-loop μ-loop
-same-length-2 c = c .before .before .before .before .before .before .before .pass-emit .ensures .slots ∙ c .before .before .before .before .before .before .before .before .before .before .before .before .before .before .before .before .loop .inv .0 .slots
+same-length-2 c = c .before .before .before .before .before .before .before .pass-emit .ensures .slots ∙ c .before .before .before .before .before .before .before .before .before .before .before .before .before .before .before .before .before .loop .inv .0 .slots
 
 same-length-3 : tie.Need-same-length-3 Inv-loop μ-loop
-same-length-3 c = c .before .before .before .before .before .before .before .pass-emit .ensures .long ∙ c .before .before .before .before .before .before .before .before .before .before .before .before .before .before .before .before .loop .inv .1
+same-length-3 c = c .before .before .before .before .before .before .before .pass-emit .ensures .long ∙ c .before .before .before .before .before .before .before .before .before .before .before .before .before .before .before .before .before .loop .inv .1
 
 returns : tie.Need-returns Inv-loop μ-loop
-returns c = emitted-full _ _ _ _ _ (back (c .before .before .before .before .before .before .before .before .before .before .before .before .before .before .before .loop-test .taken) (c .before .before .before .before .before .before .before .before .before .before .before .before .before .before .before .before .loop .inv .0)) (c .before .before .before .before .before .before .before .before .before .before .before .before .note .ensures) (mark-is _ _ _ _ _ (c .before .before .before .before .before .before .before .before .before .before .before .before .before .before .before .before .before .before .before .before .before .before .before .before .before .before .before .pre .1 .0) (c .before .before .before .before .before .before .before .before .before .before .before .mark-at .ensures)) (c .before .before .before .before .before .before .before .pass-emit .ensures) refl (c .before .before .before .before .before .before .before .before .before .before .before .before .before .before .before .before .loop .inv .1) (c .if1 .taken)
+returns c = emitted-full _ _ _ _ _ (back (c .before .before .before .before .before .before .before .before .before .before .before .before .before .before .before .before .loop-test .taken) (c .before .before .before .before .before .before .before .before .before .before .before .before .before .before .before .before .before .loop .inv .0)) (c .before .before .before .before .before .before .before .before .before .before .before .before .before .note .ensures) (mark-is _ _ _ _ _ (c .before .before .before .before .before .before .before .before .before .before .before .before .before .before .before .before .before .before .before .before .before .before .before .before .before .before .before .before .pre .1 .0) (c .before .before .before .before .before .before .before .before .before .before .before .before .mark-at .ensures)) (c .before .before .before .before .before .before .before .pass-emit .ensures) (c .before .before .before .before .before .before .before .before .before .before .before .before .before .before .before .before .before .before .count .ensures) (c .before .before .before .before .before .before .before .before .before .before .before .before .before .before .before .before .before .loop .inv .1) (c .if1 .taken)
 
 loop-less : tie.Need-loop-less Inv-loop μ-loop
 loop-less c = omega arith
 
 loop-again : tie.Need-loop-again Inv-loop μ-loop
-loop-again c = (emitted-on _ _ _ _ _ (back (c .before .before .before .before .before .before .before .before .before .before .before .before .before .before .before .loop-test .taken) (c .before .before .before .before .before .before .before .before .before .before .before .before .before .before .before .before .loop .inv .0)) (c .before .before .before .before .before .before .before .before .before .before .before .before .note .ensures) (mark-is _ _ _ _ _ (c .before .before .before .before .before .before .before .before .before .before .before .before .before .before .before .before .before .before .before .before .before .before .before .before .before .before .before .pre .1 .0) (c .before .before .before .before .before .before .before .before .before .before .before .mark-at .ensures)) (c .before .before .before .before .before .before .before .pass-emit .ensures) (c .if1 .left), c .before .before .before .before .before .before .before .pass-emit .ensures .long ∙ c .before .before .before .before .before .before .before .before .before .before .before .before .before .before .before .before .loop .inv .1)
+loop-again c = (emitted-on _ _ _ _ _ (back (c .before .before .before .before .before .before .before .before .before .before .before .before .before .before .before .before .loop-test .taken) (c .before .before .before .before .before .before .before .before .before .before .before .before .before .before .before .before .before .loop .inv .0)) (c .before .before .before .before .before .before .before .before .before .before .before .before .before .note .ensures) (mark-is _ _ _ _ _ (c .before .before .before .before .before .before .before .before .before .before .before .before .before .before .before .before .before .before .before .before .before .before .before .before .before .before .before .before .pre .1 .0) (c .before .before .before .before .before .before .before .before .before .before .before .before .mark-at .ensures)) (c .before .before .before .before .before .before .before .pass-emit .ensures) (c .if1 .left), c .before .before .before .before .before .before .before .pass-emit .ensures .long ∙ c .before .before .before .before .before .before .before .before .before .before .before .before .before .before .before .before .before .loop .inv .1)
 
 same-length-4 : tie.Need-same-length-4 Inv-loop μ-loop
 same-length-4 c = c .before .loop .inv .0 .cells
@@ -77,7 +77,7 @@ same-length-6 : tie.Need-same-length-6 Inv-loop μ-loop
 same-length-6 c = c .before .loop .inv .1
 
 returns-2 : tie.Need-returns-2 Inv-loop μ-loop
-returns-2 c = emitted-all _ _ _ _ _ refl (c .loop-test .left) (c .before .loop .inv .0) (c .before .loop .inv .1)
+returns-2 c = emitted-all _ _ _ _ _ (c .before .before .count .ensures) (c .loop-test .left) (c .before .loop .inv .0) (c .before .loop .inv .1)
 
 pub pass-emits-spec : {M : Type 1} → statement M
 pass-emits-spec =
