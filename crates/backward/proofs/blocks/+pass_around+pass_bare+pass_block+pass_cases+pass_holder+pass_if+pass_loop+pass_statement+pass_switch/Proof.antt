@@ -778,7 +778,8 @@ pass-switch-same-length-3 t c = (switch-passes (c .before .before .before .befor
 pass-switch-returns : (t : ℕ) → pass-switch-lts.Need-returns (pass-switch-called t) (pass-switch-at t) pass-switch.Post
 pass-switch-returns t c = switch-passes (c .before .before .before .before .before .before .before .before .before .before .before .before .before .before .before .before .before .before .before .before .before .before .pre .1 .0) (c .before .before .before .before .before .before .before .before .before .before .before .before .before .before .before .before .before .before .before .before .before .before .pre .1 .1 .1 .0) (c .before .before .before .before .before .before .before .before .before .before .before .before .before .before .before .before .before .before .before .before .before .before .pre .1 .1 .1 .1) (c .before .before .before .before .before .before .before .before .before .before .before .before .before .before .before .before .before .before .before .before .before .before .args .marks .now) (c .before .before .before .before .before .before .before .before .before .before .before .before .before .before .before .before .before .before .before .before .before .before .pre .1 .1 .0) refl (c .before .before .before .before .before .before .before .before .before .before .before .in-switch .ensures) (c .before .before .before .before .before .before .before .pass-cases .ensures) (c .if1 .taken)
 
-pass-switch-expression-operand-requires : (t : ℕ) → pass-switch-lts.Need-expression-operand-requires (pass-switch-called t) (pass-switch-at t) pass-switch.Post
+pass-switch-expression-operand-requires :
+    (t : ℕ) → pass-switch-lts.Need-expression-operand-requires (pass-switch-called t) (pass-switch-at t) pass-switch.Post
 pass-switch-expression-operand-requires t c κs = search needs
 
 pass-switch-end-switch-requires : (t : ℕ) → pass-switch-lts.Need-end-switch-requires (pass-switch-called t) (pass-switch-at t) pass-switch.Post
@@ -968,7 +969,6 @@ pub +pass-around+pass-bare+pass-block+pass-cases+pass-holder+pass-if+pass-loop+p
     (pass-if-same-length-6 t)
     (pass-if-returns-2 t)
     (pass-if-expression-operand-requires t)
-    (t)
     (pass-if-end-if-requires t)
     (pass-if-same-length-7 t)
     (pass-if-same-length-8 t)
@@ -1045,7 +1045,6 @@ pub +pass-around+pass-bare+pass-block+pass-cases+pass-holder+pass-if+pass-loop+p
     (pass-switch-same-length-3 t)
     (pass-switch-returns t)
     (pass-switch-expression-operand-requires t)
-    (t)
     (pass-switch-end-switch-requires t)
     (pass-switch-same-length-4 t)
     (pass-switch-same-length-5 t)
