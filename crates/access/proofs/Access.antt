@@ -10,9 +10,9 @@ use lib.Dec.{eqb}
 use lib.ListN.{length, getD}
 use Rattle.field.specs.Limits.{absent}
 use Rattle.module.specs.declared.tables.Row.{Row}
-use Rattle.module.specs.Module.{TypeInner, Statement, Typed, BlockRange, FunctionArg, FunctionResult, Function}
+use Rattle.module.specs.Module.{Statement, Typed, BlockRange, FunctionArg, FunctionResult, Function}
 use Rattle.module.specs.Record.{bodyAt}
-use Rattle.module.specs.Decode.{tab, optionOf, typeInnerOf, expressionOf, statementOf, typeOf, resultOf, argOf, typedOf, stOf}
+use Rattle.module.specs.Decode.{optionOf, expressionOf, statementOf, resultOf, argOf, typedOf, stOf}
 use Rattle.module.specs.Reading.{rangeOf, closed}
 use Rattle.module.specs.Tables.{word, rowAt, headAt, itemsAt, localsFrom, expressionsFrom, openOf, functionOf, moduleOf}
 use Rattle.module.proofs.Tab.{length-tab, getD-tab}

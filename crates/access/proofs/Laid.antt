@@ -7,16 +7,11 @@ use Prim.Native.Nat.{ℕ, zero, suc, _+_, _<_, _≤_}
 use native.Mathlib.Nat.{eq-or-lt-of-le, le-of-suc-le-suc}
 use native.Mathlib.Decide.{decLt}
 use native.Mathlib.Omega.{arith}
-use Rattle.module.specs.Tables.{word, rowAt, headAt, itemsTo, maxItems}
+use Rattle.module.specs.Tables.{word, rowAt, headAt, itemsTo}
 use Rattle.access.specs.Access.{expressionNumber}
 use Rattle.access.specs.Laid.{Laid}
 
 module _ (t : List ℕ) (v : Laid t) where
-  pub number-within : (f e : ℕ) → f < word t (headAt + 2) → e < rowAt t f .expressions → expressionNumber t f e < maxItems
-  number-within f e hf he =
-      let h = v .within f hf in
-      omega arith
-
   earlier : (f g : ℕ) → f < g → g < word t (headAt + 2) → itemsTo (rowAt t f) ≤ rowAt t g .items
   earlier f zero l h = absurd (omega arith)
   earlier f (suc g) l h =

@@ -8,11 +8,11 @@ use lib.Dec.{eqb}
 use lib.ListN.{getD}
 use Rattle.field.specs.Limits.{absent}
 use Rattle.module.specs.declared.tables.Row.{Row}
-use Rattle.module.specs.Module.{TypeHandle, GlobalHandle, LocalHandle, FunctionHandle, ExpressionHandle, BlockHandle, Member, TypeInner, Statement, Typed, BlockRange, FunctionArg, FunctionResult}
+use Rattle.module.specs.Module.{TypeHandle, GlobalHandle, LocalHandle, FunctionHandle, ExpressionHandle, BlockHandle, Statement, Typed, BlockRange, FunctionArg, FunctionResult}
 use Rattle.module.specs.Record.{bodyAt}
-use Rattle.module.specs.Decode.{tab, optionOf, typeOf, argOf, typedOf, stOf}
+use Rattle.module.specs.Decode.{tab, optionOf, argOf, typedOf, stOf}
 use Rattle.module.specs.Reading.{rangeOf}
-use Rattle.module.specs.Tables.{word, rowAt, typesAt, itemsAt, blocksAt, localsFrom, expressionsFrom, statementsFrom, typeBody, globalBody, itemBody}
+use Rattle.module.specs.Tables.{word, rowAt, itemsAt, blocksAt, localsFrom, expressionsFrom, statementsFrom, globalBody, itemBody}
 use Rattle.access.specs.declared.kinded.Kinded.{Kinded}
 use Rattle.access.specs.declared.whole.Bound.{Bound}
 use Rattle.access.specs.declared.function.BlockRange as declared

@@ -15,7 +15,6 @@ ghost use mathlib.Core.Path.{_≡_};
 ghost use mathlib.Core.List.{List};
 ghost use Prim.Native.Nat.{ℕ, pred};
 ghost use lib.ListN.{length, getD};
-ghost use Rattle.field.specs.Limits.{absent};
 ghost use Rattle.module.specs.Tables.{functionOf};
 ghost use Rattle.access.specs.Access.{argumentAt, localAt, typedAt, rangeAt, startsOf, argFrom, resultFrom, rangeFrom};
 

@@ -9,8 +9,8 @@ use module::tables::ITEMS;
 use module::tables::row_at;
 use module::tables::word;
 ghost use mathlib.Core.Path.{_≡_};
-ghost use Prim.Native.Nat.{ℕ, _<_};
-ghost use Rattle.access.specs.Access.{operandAt, expressionNumber, statementNumber, expressionRow, statementRow};
+ghost use Prim.Native.Nat.{_<_};
+ghost use Rattle.access.specs.Access.{operandAt, expressionNumber, expressionRow, statementRow};
 
 // The kind of a record, its place, and how many fields stand before its operands.
 pub struct Kinded {

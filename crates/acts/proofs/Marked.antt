@@ -10,7 +10,7 @@ use Rattle.module.specs.Module.{Function}
 use Rattle.module.specs.Marks.{marksBefore}
 use Rattle.clearance.specs.Scope.{Scope}
 use Rattle.clearance.specs.Tree.{Act, act, marked, markAt, byMark}
-use Rattle.clearance.specs.Needs.{idle, quiet, obeys}
+use Rattle.clearance.specs.Needs.{quiet, obeys}
 use Rattle.pass.specs.Pass.{passInside}
 use Rattle.hold.specs.Hold.{inSlot}
 use Rattle.quiet.specs.Acts.{Needing, Idle}

@@ -10,7 +10,7 @@ use Rattle.part.specs.Store.{part}
 use Rattle.part.proofs.Pieces.{part-0}
 use Rattle.module.specs.Module.{ExpressionHandle}
 use Rattle.clearance.specs.Shape.{some, below}
-use Rattle.clearance.specs.Scope.{Scope, Place, Path, pathOf, indexes, target, isPath}
+use Rattle.clearance.specs.Scope.{Scope, Place, Path, pathOf, target, isPath}
 use Rattle.clearance.specs.Tree.{store}
 use Rattle.clearance.specs.Needs.{ofValue, askWhole, overlap, without}
 use Rattle.clearance.specs.Judged.{isValue, fitsStatement}

@@ -9,8 +9,7 @@ use lib.ListN.{length, getD}
 use Rattle.field.specs.Limits.{maxPieces, maxTurns}
 use Rattle.part.specs.PartReq.{PartReq, none}
 use Rattle.part.specs.StoreLimits.{entriesCap}
-use Rattle.module.specs.Module.{Module, BlockHandle}
-use Rattle.module.specs.Tables.{moduleOf}
+use Rattle.module.specs.Module.{BlockHandle}
 use Rattle.context.specs.RequiredContext.{RequiredContext, emptyContext, mergeContext, containsContext, pieces}
 use Rattle.walk.specs.State.{State, Out, went, halt, withContext, limitedContext}
 use Rattle.walk.specs.StatementReq.{StatementReq}
@@ -60,9 +59,6 @@ beside-dropped {k = k} {s = s} {rs = rs} {u = u} {us = us} low d = record {
 
 module _ {bytes t types places s rs open-marks totals : List ℕ} {fr : Frame} {b body continuing : BlockHandle} {sum visits : ℕ}
     (T : Turning bytes t types places s rs open-marks totals fr b body continuing sum visits) where
-  abbrev m : Module
-  m = moduleOf bytes t
-
   abbrev f : ℕ
   f = fr .function .0
 

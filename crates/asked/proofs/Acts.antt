@@ -60,9 +60,6 @@ module _ (S : Scope) (R : Read S) (J : Judged S) where
   evaluated-there : (e : ExpressionHandle) → e < count → isVoid (shapeAt (frame S) (slot (evaluated e))) ≡ false
   evaluated-there e l = ap isVoid (evaluated-shape S e l) ∙ shape-there S (typeOf S e)
 
-  pub emit-tidy : (e : ExpressionHandle) → e < count → (n : PartReq) → Tidy n (frame S) → Tidy (below n (slot (evaluated e))) (shapeOf S (typeOf S e))
-  emit-tidy e l n t = rw (evaluated-shape S e l) at (below-tidy (slot (evaluated e)) n (frame S) t (evaluated-there e l))
-
   pub emit-overlap : (e : ExpressionHandle) → e < count → (n : PartReq) → Tidy n (frame S) → overlap S (emit e) n ≡ cond (gives (arm S e)) (below n (slot (evaluated e))) none
   unfolding overlap
   emit-overlap e l n t = rw (hit-below (frame S) n (slot (evaluated e)) t (evaluated-there e l))

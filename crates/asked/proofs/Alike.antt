@@ -11,7 +11,7 @@ use Rattle.part.specs.PartReq.{spine}
 use Rattle.module.specs.Module.{TypeHandle, TypeInner, Scalar, Vector, Matrix, Atomic, Pointer, Array, Struct, BindingArray, Opaque, Member}
 use Rattle.module.specs.Knot.{below}
 use Rattle.module.proofs.Knot.{knot-is, below-lt}
-use Rattle.clearance.specs.Shape.{Shape, number, void, struct, array, isVoid}
+use Rattle.clearance.specs.Shape.{Shape, number, struct, array, isVoid}
 use Rattle.clearance.specs.Scope.{Scope, inner, memberTypes, vectorShape, elements, unfoldType, shapeOf, kind, bases, alikeInner, alike}
 use Rattle.judge.specs.Alike.{alikeIn, Lower}
 use Rattle.judge.proofs.Pairwise.{pairwise-long, pairwise-at, equal-lists}

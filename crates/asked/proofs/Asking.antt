@@ -24,7 +24,7 @@ use Rattle.clearance.proofs.Ascending.{trim-tidy}
 use Rattle.pass.specs.Pass.{workBound, Carried, on, tooLarge, within, partFrom, partOf, asking}
 use Rattle.pass.specs.Checked.{askedOf}
 use Rattle.asked.specs.Same.{SameShape}
-use Rattle.asked.specs.Within.{Read, Judged, nothing, wanted, Within, placed, plainPart}
+use Rattle.asked.specs.Within.{Read, Judged, wanted, Within, placed, plainPart}
 use Rattle.asked.proofs.Same.{same-flip, same-then, same-tidy, same-trim}
 use Rattle.asked.proofs.Alike.{alike-same}
 use Rattle.asked.proofs.Asks.{part-asked}

@@ -16,7 +16,7 @@ use Rattle.module.specs.Module.{Derivative, Relational, Math, As, CallResult, A
 use Rattle.module.specs.Module.{RayQueryGetIntersection, Override, SubgroupBallotResult, SubgroupOperationResult, RayQueryVertexPositions}
 use Rattle.valid.specs.Valid.{EachBelow, MaybeBelow, OperandsBelow}
 use Rattle.clearance.specs.Shape.{Shape, number, member, isVoid, shapeAt, orNone, below, some}
-use Rattle.clearance.specs.Scope.{Scope, memberTypes, vectorShape, unfoldType, shapeOf, isKind, kind, isScalar, isVector, alike, expressionsOf, typed, typeOf, innerOf, frame, Path, indexes, target, isPath}
+use Rattle.clearance.specs.Scope.{Scope, memberTypes, vectorShape, unfoldType, shapeOf, isKind, kind, isScalar, isVector, alike, expressionsOf, typed, typeOf, innerOf, frame, Path, target, isPath}
 use Rattle.clearance.specs.Scope.{Operand, whole, same, pointing, accessIndex, access, compose, joined, load, byPart, anyVector, optional, armOf, arm}
 use Rattle.clearance.specs.Needs.{Ask, ofValue, askOperand, askWhole, askPicked, askComponents, askSteps, asks}
 use Rattle.clearance.specs.Judged.{same as sameInner, partType, isValue, fitsIndex, fitsExpression, judgedExpression}

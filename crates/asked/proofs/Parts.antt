@@ -6,11 +6,11 @@ use mathlib.Core.Option.{some}
 use lib.ListN.{length}
 use borrow.Author.Tests.{ne-eqb}
 use Rattle.module.specs.Module.{TypeInner}
-use Rattle.clearance.specs.Shape.{Shape, number, array, member, extent}
+use Rattle.clearance.specs.Shape.{Shape, number, array, member}
 use Rattle.clearance.specs.Scope.{Scope, vectorShape, elements, unfoldType, shapeOf, memberTypes}
-use Rattle.clearance.specs.Judged.{partType, elementType}
-use Rattle.clearance.specs.IsJudged.{Part, component, column, element, member as inStruct, Parts, components, columns, elements as ofArray}
-use Rattle.clearance.proofs.Relations.{part-of, parts-of}
+use Rattle.clearance.specs.Judged.{partType}
+use Rattle.clearance.specs.IsJudged.{Part, component, column, element, member as inStruct, columns}
+use Rattle.clearance.proofs.Relations.{part-of}
 use Rattle.judge.specs.Alike.{Lower}
 use Rattle.asked.specs.Same.{SameShape}
 use Rattle.asked.proofs.Same.{same-is, same-then, struct-member, array-member}
@@ -39,14 +39,3 @@ module _ (S : Scope) (L : Lower (S .program .types)) where
   -- what an index gives
   pub part-same : (i : TypeInner) (j : ℕ) (p : TypeInner) → partType S i j ≡ some p → SameShape (member (unfoldType (shapeOf S) i) j) (unfoldType (shapeOf S) p)
   part-same i j p h = by-part i j p (part-of S i j p h)
-
-  by-parts : (i : TypeInner) (j : ℕ) (p : TypeInner) → Parts S i p → j < extent (unfoldType (shapeOf S) i) → SameShape (member (unfoldType (shapeOf S) i) j) (unfoldType (shapeOf S) p)
-  unfolding unfoldType extent vectorShape
-  by-parts i j p (components {n = n}) l = same-is _ _ (vector-member n j l)
-  by-parts i j p (columns {c = c}) l = same-is _ _ (struct-member c _ j l)
-  by-parts i j p (ofArray {base = b} {n = n}) l = same-then (same-is _ _ (array-member (elements n) (shapeOf S b) j l)) (shape-is S L b)
-
-  -- what a dynamic index gives
-  pub element-same : (i : TypeInner) (j : ℕ) (p : TypeInner) → elementType S i ≡ some p → j < extent (unfoldType (shapeOf S) i) →
-      SameShape (member (unfoldType (shapeOf S) i) j) (unfoldType (shapeOf S) p)
-  element-same i j p h l = by-parts i j p (parts-of S i p h) l

@@ -1,30 +1,28 @@
 -- What is asked within a type is put where the value stands as it is: `partOf` trims nothing of it. By recursion along the place, and by cases of where the value stands.
 use Prim.Native.Nat.{ℕ, _<_}
-use native.Mathlib.Omega.{arith}
 use mathlib.Core.Path.{_≡_, refl, sym, ap, subst, _∙_}
 use mathlib.Core.Bool.{Bool, true, false, cond, _&&_}
 use mathlib.Core.List.{List, [], _∷_}
 use mathlib.Core.Logic.{_⊎_, inl, inr}
 use lib.ListN.{length}
-use borrow.Author.Tests.{lt-ltb, le-ltb}
-use Rattle.part.specs.PartReq.{PartReq, all, exist, none, more, getSubpart}
-use Rattle.part.proofs.Equations.{never, way, before as less, after as greater, at as equal}
+use Rattle.part.specs.PartReq.{PartReq, all, exist, none, more}
+use Rattle.part.proofs.Equations.{never}
 use Rattle.module.specs.Module.{ExpressionHandle, Expression}
 use Rattle.module.specs.Module.{Literal, ZeroValue, WorkGroupUniformLoadResult, AccessIndex, Access, Constant, Splat, Swizzle, Compose}
 use Rattle.module.specs.Module.{FunctionArgument, GlobalVariable, LocalVariable, Load, ImageSample, ImageLoad, ImageQuery, Unary, Binary, Select}
 use Rattle.module.specs.Module.{Derivative, Relational, Math, As, CallResult, AtomicResult, ArrayLength, RayQueryProceedResult}
 use Rattle.module.specs.Module.{RayQueryGetIntersection, Override, SubgroupBallotResult, SubgroupOperationResult, RayQueryVertexPositions}
 use Rattle.valid.specs.Valid.{NamesBelow}
-use Rattle.clearance.specs.Shape.{Shape, member, shapeAt, orNone, some, under, keep, trim}
+use Rattle.clearance.specs.Shape.{Shape, member, shapeAt, some, under, keep, trim}
 use Rattle.clearance.specs.Scope.{Scope, shapeOf, isVector, expressionsOf, typed, typeOf, innerOf, frame, Place, slot, argument, evaluated, isPath, anyVector}
 use Rattle.clearance.specs.Scope.{Arm, pointing, accessIndex, access, compose, joined, armOf, arm, Source, given, from, sourceOf, source}
-use Rattle.clearance.specs.Needs.{Ask, ofValue, ofPlace, need}
+use Rattle.clearance.specs.Needs.{Ask, ofValue, ofPlace}
 use Rattle.clearance.specs.IsNeed.{Tidy}
 use Rattle.clearance.specs.IsJudged.{JudgedExpression}
 use Rattle.clearance.proofs.Ascending.{trim-tidy}
 use Rattle.clearance.proofs.JudgedExpressions.{expression-exactly}
 use Rattle.needs.proofs.Lean.{trim-same}
-use Rattle.pass.specs.Pass.{within, partFrom, partOf}
+use Rattle.pass.specs.Pass.{partFrom, partOf}
 use Rattle.asked.specs.Same.{SameShape}
 use Rattle.asked.specs.Within.{Read, Judged, Asked, something, nothing, emptied, wanted, Within, placed, plainPart}
 use Rattle.asked.proofs.Same.{same-is, same-flip, same-then, same-tidy}
@@ -67,19 +65,6 @@ tidy-wanted all t h = refl
 tidy-wanted exist t h = absurd h
 tidy-wanted none t h = refl
 tidy-wanted (more i p r) t h = h .0
-
--- a part of a trimmed need is none, or something is asked
-pub sub-cases : (a : PartReq) (t : Shape) (k : ℕ) → Tidy a t → (orNone (getSubpart a k) ≡ none) ⊎ ((some (orNone (getSubpart a k)) ≡ true) × (wanted (orNone (getSubpart a k)) ≡ true))
-unfolding getSubpart
-sub-cases all t k h = inr (refl, refl)
-sub-cases exist t k h = absurd h
-sub-cases none t k h = inl refl
-sub-cases (more i p r) t k h =
-    elim (way i k) [
-      | less l ↦ rw (lt-ltb i k l) (sub-cases r t k (h .1 .1))
-      | greater l ↦ rw (le-ltb i k (omega arith), lt-ltb k i l) (inl refl)
-      | equal e ↦ rw (le-ltb i k (omega arith), le-ltb k i (omega arith)) (inr (h .0, tidy-wanted p _ (h .1 .0) ∙ h .0))
-    ]
 
 asked-same : (p : PartReq) {t u : Shape} → SameShape t u → Asked t p → Asked u p
 asked-same p s (something h k) = something h (same-tidy p s k)

@@ -1,5 +1,5 @@
 -- A course goes on: in memory that is ready, with exits below it; and what a block, an if, a switch or a loop asks for on its way.
-use Prim.Native.Nat.{ℕ, _+_, _-_, _*_, _<_, _≤_}
+use Prim.Native.Nat.{ℕ, _+_, _*_, _<_, _≤_}
 use native.Mathlib.Omega.{arith}
 use mathlib.Core.Path.{_≡_}
 use mathlib.Core.Bool.{false}

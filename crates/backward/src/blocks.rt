@@ -32,7 +32,6 @@ use ends::notes::blame;
 use ends::notes::note;
 use hold::hold::copy;
 use module::handles::BlockHandle;
-use module::handles::ExpressionHandle;
 use module::handles::FunctionHandle;
 use quiet::blocks::obeys;
 use standing::passing::Exits;

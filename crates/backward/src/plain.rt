@@ -14,7 +14,6 @@ use acts::marks::mark_at;
 use acts::stores::pass_store;
 use leaving::leave::pass_leaving;
 use module::handles::BlockHandle;
-use module::handles::ExpressionHandle;
 use module::handles::FunctionHandle;
 use standing::passing::Exits;
 use standing::passing::Passing;

@@ -1,7 +1,6 @@
 pub mod Linear
 pub mod Sets
 pub mod Ascending
-pub mod Requests
 pub mod Rows
 pub mod Writing
 pub mod Members

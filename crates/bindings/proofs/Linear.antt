@@ -1,20 +1,20 @@
 -- The work by tables is the plain recursion: a table has what the recursion gives at each number below its length, by one induction over
 -- that length; and what is asked of all of a type needs nothing but what is asked of all of the types it names.
-use Prim.Native.Nat.{ℕ, zero, suc, _+_, _<_, _≤_}
+use Prim.Native.Nat.{ℕ, zero, suc, _<_, _≤_}
 use native.Mathlib.Omega.{arith}
 use native.Mathlib.Decide.{decLt, ℕ-discrete}
 use mathlib.Core.Path.{_≡_, refl, sym, ap, _∙_, fun-ext}
-use mathlib.Core.List.{List, [], _∷_, _++_}
-use mathlib.Core.Option.{Option, some, none as nothing}
+use mathlib.Core.List.{List, [], _∷_}
+use mathlib.Core.Option.{Option, none as nothing}
 use lib.ListN.{length, getD, length-append, List·getD-append, List·getD-eq-default}
 use lib.Seq.{getD-append-seam}
 use borrow.Author.Tests.{le-ltb}
-use Rattle.part.specs.PartReq.{PartReq, all, exist, none, more, gone, there, getSubpart}
+use Rattle.part.specs.PartReq.{PartReq, all, exist, none, more}
 use Rattle.part.proofs.Equations.{getSubpart-all}
 use Rattle.module.specs.Module.{TypeHandle, Member, TypeInner, Scalar, Vector, Matrix, Atomic, Pointer, Array, Struct, BindingArray, Opaque}
 use Rattle.module.specs.Knot.{knot, below}
 use Rattle.module.proofs.Knot.{knot-is, below-lt}
-use Rattle.bindings.specs.Bindings.{Bindings, empty, union, ownBinding}
+use Rattle.bindings.specs.Bindings.{Bindings, empty}
 use Rattle.bindings.specs.TypeBindings.{memberBindings, membersBindings, innerBindings, stepBindings, getTypeBindings, innerFrom, stepFrom, fromTypeBindings}
 use Rattle.bindings.specs.Linear.{table, stepAll, allTable, stepWalk, walkBindings, fromTable}
 

@@ -1,25 +1,23 @@
 -- The piece of each type as it is made: of one member by its binding or its type, of the members from the last to the first, of the types lowest first.
 use Prim.Native.Nat.{ℕ, zero, suc, _+_, _-_, _*_, _<_, _≤_}
 use native.Mathlib.Omega.{arith}
-use native.Mathlib.Numerals.{add-one}
 use native.Mathlib.Decide.{decLt, ℕ-discrete}
-use mathlib.Core.Path.{_≡_, refl, sym, ap, subst, _∙_, fun-ext}
+use mathlib.Core.Path.{_≡_, refl, sym, ap, _∙_, fun-ext}
 use mathlib.Core.Bool.{Bool, true, false, cond}
-use mathlib.Core.List.{List, [], _∷_}
+use mathlib.Core.List.{List}
 use mathlib.Core.Option.{Option, some, none as nothing}
-use lib.Dec.{ltb, eqb}
 use lib.ListN.{length, getD, drop, set, length-set, drop-of-length-le}
 use lib.Seq.{drop-cons, getD-set-same, getD-set-other}
-use borrow.Author.Tests.{eq-eqb, ne-eqb, lt-ltb, le-ltb}
+use borrow.Author.Tests.{lt-ltb, le-ltb}
 use Rattle.field.specs.Limits.{absent, maxMembers}
-use Rattle.part.specs.PartReq.{PartReq, all, exist, none, more}
+use Rattle.part.specs.PartReq.{PartReq, all, more}
 use Rattle.part.specs.Store.{top, part, means, Good, Room, Kept, Made}
 use Rattle.part.proofs.Pieces.{part-0, part-2}
 use Rattle.part.proofs.Making.{kept-trans}
 use Rattle.part.proofs.Write.{kept-self}
-use Rattle.module.specs.Module.{TypeHandle, Binding, Member, TypeInner}
+use Rattle.module.specs.Module.{TypeInner}
 use Rattle.module.specs.Decode.{optionOf}
-use Rattle.module.specs.Knot.{knot, below}
+use Rattle.module.specs.Knot.{below}
 use Rattle.module.proofs.Knot.{knot-is, below-lt}
 use Rattle.context.specs.Types.{typesOf}
 use Rattle.bindings.specs.Bindings.{Bindings, contains}

@@ -3,21 +3,21 @@ use Prim.Native.Nat.{ℕ, zero, suc, _+_, _*_, _^_, _%_, _<_, _≤_}
 use native.Mathlib.Omega.{arith}
 use native.Mathlib.Nat.{one-mul, mod-eq-of-lt, pow-le-pow-right, two-pow-succ, one-le-pow}
 use native.Mathlib.Decide.{ℕ-discrete}
-use mathlib.Core.Path.{_≡_, refl, sym, ap, subst, _∙_}
-use mathlib.Core.Bool.{Bool, true, false, cond, _||_, false≢true}
-use mathlib.Core.List.{List, [], _∷_, _++_}
+use mathlib.Core.Path.{_≡_, refl, sym, subst, _∙_}
+use mathlib.Core.Bool.{true, false, cond, false≢true}
+use mathlib.Core.List.{List, [], _∷_}
 use mathlib.Core.Option.{Option, some, none as nothing}
 use lib.Dec.{eqb}
-use lib.ListN.{length, getD, List·getD-eq-default}
-use borrow.Author.Tests.{eq-eqb, ne-eqb, eqb-true}
+use lib.ListN.{length, getD}
+use borrow.Author.Tests.{eq-eqb, ne-eqb}
 use Rattle.field.specs.Limits.{absent, maxMembers}
-use Rattle.part.specs.PartReq.{PartReq, none}
-use Rattle.module.specs.Module.{TypeHandle, Binding, Member, TypeInner, Scalar, Vector, Matrix, Atomic, Pointer, Array, Struct, BindingArray, Opaque}
+use Rattle.part.specs.PartReq.{PartReq}
+use Rattle.module.specs.Module.{TypeHandle, Member, Opaque}
 use Rattle.module.specs.Operands.{bindings}
 use Rattle.module.specs.Decode.{tab, optionOf, memberOf, typeInnerOf}
-use Rattle.context.specs.Types.{typeWords, typeWord, typeKind, typeCount, typesOf, AllSized}
-use Rattle.context.proofs.Types.{length-tab, tab-at, kind-there, kind-past, type-is, struct-size}
-use Rattle.bindings.specs.Bindings.{Bindings, single, ownBinding}
+use Rattle.context.specs.Types.{typeWords, typeWord, typeKind, typesOf, AllSized}
+use Rattle.context.proofs.Types.{length-tab, tab-at, type-is, struct-size}
+use Rattle.bindings.specs.Bindings.{Bindings, ownBinding}
 use Rattle.bindings.specs.TypeBindings.{membersBindings, innerBindings, stepBindings, membersFrom, unlessEmpty, innerFrom, stepFrom}
 use Rattle.bindings.specs.Rows.{rowMember, memberCount, membersOf, isBase, Bound, BoundMembers, BoundType, AllBound, MemberIs}
 

@@ -1,9 +1,9 @@
 -- A number is a set of bindings: what is in a union, in a set of one and in none, bit by bit from the lowest; and the list of a set
 -- ascends and has what is in the set, by induction over how far it goes.
-use Prim.Native.Nat.{ℕ, zero, suc, _+_, _*_, _^_, _/_, _%_, _<_, _≤_, max}
+use Prim.Native.Nat.{ℕ, zero, suc, _^_, _/_, _%_, _<_, _≤_, max}
 use native.Mathlib.Omega.{arith}
-use native.Mathlib.Nat.{div-one, div-div-eq-div-mul, pow-succ', pow-suc, mul-div-cancel, zero-div}
-use native.Mathlib.Decide.{decLt, ℕ-discrete}
+use native.Mathlib.Nat.{div-one, div-div-eq-div-mul, pow-succ', pow-suc, zero-div}
+use native.Mathlib.Decide.{ℕ-discrete}
 use mathlib.Core.Path.{_≡_, refl, sym, ap, _∙_}
 use mathlib.Core.Bool.{Bool, true, false, cond, _||_}
 use mathlib.Core.List.{List, [], _∷_, _++_}
@@ -12,7 +12,6 @@ use lib.Arith.{digits-div, digits-mod}
 use lib.Dec.{eqb}
 use lib.ListN.{length, getD, length-append, List·getD-append}
 use lib.Seq.{getD-append-seam}
-use borrow.Author.Tests.{eq-eqb, ne-eqb}
 use Rattle.module.specs.Module.{Binding}
 use Rattle.module.specs.Operands.{bindings}
 use Rattle.bindings.specs.Bindings.{Bindings, empty, single, union, contains, setOf, listBelow, listOf, Ascends}

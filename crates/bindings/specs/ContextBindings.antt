@@ -1,13 +1,12 @@
 -- `input_to_bindings`, `output_from_bindings` and `add_binding` of RequiredContext, and what each turns away.
 use Prim.Native.Nat.{ℕ, zero, suc}
-use mathlib.Core.Bool.{Bool, true, false, cond, _&&_, _||_}
+use mathlib.Core.Bool.{Bool, true, cond, _&&_, _||_}
 use mathlib.Core.List.{List, [], _∷_}
 use mathlib.Core.Option.{Option, some, none as nothing}
 use lib.Dec.{ltb}
-use lib.ListN.{length, getD}
 use Rattle.field.specs.Limits.{maxPieces}
 use Rattle.part.specs.PartReq.{PartReq, all, exist, none, more, Subpart, gone, there, getSubpart, add, over}
-use Rattle.module.specs.Module.{TypeHandle, Binding, TypeInner, FunctionArg, FunctionResult, FunctionHandle, Function, Module}
+use Rattle.module.specs.Module.{Binding, TypeInner, FunctionArg, FunctionResult, FunctionHandle, Function, Module}
 use Rattle.module.specs.Operands.{bindings}
 use Rattle.context.specs.RequiredContext.{RequiredContext, variable, pieces}
 use Rattle.bindings.specs.Bindings.{Bindings, empty, single, union, ownBinding, setOf, listOf}

@@ -1,7 +1,7 @@
 -- The same once per type, lowest first: a table has what lower types came to.
 use Prim.Native.Nat.{ℕ, zero, suc}
 use mathlib.Core.List.{List, [], _∷_, _++_}
-use mathlib.Core.Option.{Option, some, none as nothing}
+use mathlib.Core.Option.{Option, none as nothing}
 use lib.ListN.{length, getD}
 use Rattle.part.specs.PartReq.{PartReq, all, exist, none, more}
 use Rattle.module.specs.Module.{TypeHandle, TypeInner, Opaque}

@@ -1,8 +1,8 @@
 -- What the pieces of types stand for, as the code makes them: the empty part is nothing.
-use Prim.Native.Nat.{ℕ, _+_, _*_, _<_, _≤_}
+use Prim.Native.Nat.{ℕ, _+_, _<_, _≤_}
 use mathlib.Core.Path.{_≡_}
 use mathlib.Core.List.{List}
-use mathlib.Core.Option.{Option, some, none as nothing}
+use mathlib.Core.Option.{Option, none as nothing}
 use lib.ListN.{length, getD}
 use Rattle.part.specs.PartReq.{PartReq}
 use Rattle.part.specs.Store.{top, part, Kept}

@@ -1,6 +1,6 @@
 -- `get_type_bindings` and `from_type_bindings` of PartReq, beside the Rust: recursion over types, each of which names lower ones.
-use Prim.Native.Nat.{ℕ, zero, suc}
-use mathlib.Core.Bool.{Bool, true, false, cond}
+use Prim.Native.Nat.{ℕ, suc}
+use mathlib.Core.Bool.{cond}
 use mathlib.Core.List.{List, [], _∷_}
 use mathlib.Core.Option.{Option, some, none as nothing}
 use lib.ListN.{getD}

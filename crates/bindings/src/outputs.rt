@@ -1,7 +1,7 @@
 // `from_type_bindings`, once per type: a table has the piece of each type, lowest first. The empty part stands for none. Then
 // `output_from_bindings` and `add_binding`, with what each turns away.
 ghost use mathlib.Core.Path.{_≡_};
-ghost use Prim.Native.Nat.{ℕ, _+_, _*_, _≤_, _<_};
+ghost use Prim.Native.Nat.{_+_, _*_, _≤_, _<_};
 ghost use lib.ListN.{length};
 ghost use Rattle.field.specs.Limits.{maxMembers, maxPieces};
 ghost use Rattle.part.specs.PartReq.{none};

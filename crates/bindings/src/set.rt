@@ -1,6 +1,6 @@
 // Sets of bindings: a number, whose bit b says whether the binding b is in it.
 ghost use mathlib.Core.Path.{_≡_};
-ghost use Prim.Native.Nat.{ℕ, _≤_, _<_};
+ghost use Prim.Native.Nat.{_≤_, _<_};
 ghost use mathlib.Core.List.{_++_};
 ghost use lib.ListN.{length, drop};
 ghost use Rattle.module.specs.Operands.{bindings};

@@ -1,8 +1,8 @@
 // Rows of the table of types, and a function's arguments.
 ghost use mathlib.Core.Path.{_≡_};
-ghost use Prim.Native.Nat.{ℕ, _+_, _*_, _<_};
+ghost use Prim.Native.Nat.{_+_, _*_, _<_};
 ghost use lib.ListN.{getD};
-ghost use Rattle.context.specs.Types.{typesOf, typeKind, typeWord, typeCount};
+ghost use Rattle.context.specs.Types.{typesOf, typeKind, typeWord};
 ghost use Rattle.bindings.specs.Rows.{memberCount, isBase, AllBound, MemberIs};
 use context::remove::TYPE_WORDS;
 use module::handles::TypeHandle;

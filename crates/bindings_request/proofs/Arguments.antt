@@ -1,18 +1,17 @@
 -- What is needed of the arguments, as the code finds it: of one, by what is asked of it and whether it is bound; of all, from the last to the first.
 use Prim.Native.Nat.{ℕ, zero, suc, _+_, _-_, _*_, _/_, _<_, _≤_}
 use native.Mathlib.Omega.{arith}
-use mathlib.Core.Path.{_≡_, refl, sym, ap, subst, _∙_}
-use mathlib.Core.Bool.{Bool, true, false, false≢true}
-use mathlib.Core.List.{List, [], _∷_}
-use mathlib.Core.Option.{Option, some, none as nothing}
+use mathlib.Core.Path.{_≡_, refl, sym, ap, _∙_}
+use mathlib.Core.Bool.{true, false, false≢true}
+use mathlib.Core.List.{List}
+use mathlib.Core.Option.{some, none as nothing}
 use lib.Bits.{bitOr, or-zero-l}
 use lib.ListN.{length, getD, drop, drop-of-length-le}
 use lib.Seq.{drop-cons}
-use borrow.Author.Tests.{eq-eqb}
 use Rattle.field.specs.Limits.{absent}
 use Rattle.part.specs.PartReq.{PartReq, all, exist, none, more, isAll, isExist, Subpart, gone, there, getSubpart}
-use Rattle.module.specs.Module.{TypeHandle, TypeInner, FunctionArg}
-use Rattle.module.specs.Decode.{tab, optionOf}
+use Rattle.module.specs.Module.{TypeInner, FunctionArg}
+use Rattle.module.specs.Decode.{optionOf}
 use Rattle.module.proofs.Knot.{below-lt}
 use Rattle.context.specs.RequiredContext.{variable}
 use Rattle.context.proofs.Types.{length-tab, tab-at}

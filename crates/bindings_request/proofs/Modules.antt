@@ -6,7 +6,7 @@ use mathlib.Core.Path.{_≡_, refl, sym, subst}
 use mathlib.Core.List.{List, [], _∷_}
 use mathlib.Core.Option.{Option, some, none as nothing}
 use lib.ListN.{length, getD, List·getD-eq-default}
-use Rattle.field.specs.Limits.{maxTypes, maxGlobals, maxArguments, maxLocals}
+use Rattle.field.specs.Limits.{maxTypes, maxGlobals, maxArguments}
 use Rattle.module.specs.Module.{Member, TypeInner, Scalar, Vector, Matrix, Atomic, Pointer, Array, Struct, BindingArray, Opaque, FunctionArg, FunctionResult, Function, Module}
 use Rattle.module.specs.Operands.{bindings}
 use Rattle.module.specs.Tables.{functionOf, moduleOf}
@@ -93,9 +93,6 @@ module _ {bytes t types : List ℕ} (T : Tables bytes t types) where
 
   pub arguments-few : (f : ℕ) → f < length (moduleOf bytes t .functions) → length (functionOf bytes t f .arguments) ≤ maxArguments
   arguments-few f h = parts-valid f h .few-arguments
-
-  pub locals-few : (f : ℕ) → f < length (moduleOf bytes t .functions) → length (functionOf bytes t f .locals) ≤ maxLocals
-  locals-few f h = parts-valid f h .few-locals
 
   pub argument-bound : (f : ℕ) → f < length (moduleOf bytes t .functions) → (i : ℕ) (d : FunctionArg) → i < length (functionOf bytes t f .arguments) → Bound (getD (functionOf bytes t f .arguments) i d .binding)
   argument-bound f h i d l = maybe-bound (getD (functionOf bytes t f .arguments) i d .binding) (parts-valid f h .each-argument i d l .1)

@@ -1,7 +1,7 @@
 -- The bindings list of a context's bytes: what checking the context answers, and then what is found in it.
-use Prim.Native.Nat.{ℕ, zero, suc, _+_, _*_, _≤_, _<_}
+use Prim.Native.Nat.{ℕ, zero, suc, _+_, _≤_, _<_}
 use native.Mathlib.Omega.{arith}
-use mathlib.Core.Path.{_≡_, refl, sym, ap, subst, _∙_}
+use mathlib.Core.Path.{_≡_, refl, sym, _∙_}
 use mathlib.Core.Bool.{Bool, true, false, cond}
 use mathlib.Core.List.{List, [], _∷_, _++_}
 use mathlib.Core.Option.{Option, some, none as nothing}
@@ -14,7 +14,7 @@ use Rattle.module.specs.Operands.{bindings}
 use Rattle.module.specs.Tables.{functionOf, moduleOf}
 use Rattle.access.proofs.Access.{function-is}
 use Rattle.context.specs.Types.{typesOf}
-use Rattle.context.specs.RequiredContext.{RequiredContext, pieces}
+use Rattle.context.specs.RequiredContext.{RequiredContext}
 use Rattle.request.specs.Fields as reading
 use Rattle.request.specs.Context.{contextOf, knownContext, judgeContext, readContext}
 use Rattle.context_bytes.specs.Checked.{statusOf}

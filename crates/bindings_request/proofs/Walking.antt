@@ -4,21 +4,20 @@ use Prim.Native.Nat.{ℕ, zero, suc, _+_, _-_, _<_, _≤_}
 use native.Mathlib.Omega.{arith}
 use native.Mathlib.Decide.{decLt}
 use native.Mathlib.Numerals.{add-one}
-use mathlib.Core.Path.{_≡_, refl, sym, ap, subst, _∙_, fun-ext}
+use mathlib.Core.Path.{_≡_, refl, sym, ap, _∙_, fun-ext}
 use mathlib.Core.Bool.{Bool, true, false, false≢true}
 use mathlib.Core.List.{List, [], _∷_, _++_, append-assoc, append-nil}
-use mathlib.Core.Option.{Option, some, none as nothing}
 use lib.Bits.{bitOr}
-use lib.ListN.{length, getD, take, drop, set, drop-of-length-le, List·getD-append}
+use lib.ListN.{length, getD, drop, set, drop-of-length-le, List·getD-append}
 use lib.Seq.{drop-cons, set-at}
 use borrow.Author.Tests.{le-ltb}
 use Rattle.part.specs.PartReq.{PartReq, all, exist, none, more, isAll, isExist, Subpart, gone, there, getSubpart}
 use Rattle.module.specs.Module.{TypeHandle, Member, TypeInner, Opaque}
-use Rattle.module.specs.Knot.{knot, below}
+use Rattle.module.specs.Knot.{below}
 use Rattle.module.specs.Decode.{optionOf}
 use Rattle.module.proofs.Knot.{knot-is, below-lt}
 use Rattle.context.specs.Types.{typeKind, typesOf, typeWord, typeCount, rowType}
-use Rattle.bindings.specs.Bindings.{Bindings, empty, union, ownBinding}
+use Rattle.bindings.specs.Bindings.{Bindings, empty, ownBinding}
 use Rattle.bindings.specs.TypeBindings.{memberBindings, membersBindings, stepBindings}
 use Rattle.bindings.specs.Linear.{table, stepAll, allTable, stepWalk, walkBindings}
 use Rattle.bindings.specs.Rows.{rowMember, memberCount, membersOf, isBase, MemberIs}

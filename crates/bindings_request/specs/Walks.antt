@@ -1,5 +1,4 @@
 -- What the code's walk finds, and what it answers of a function's inputs.
-use Prim.Native.Nat.{ℕ}
 use mathlib.Core.List.{List}
 use Rattle.part.specs.PartReq.{PartReq}
 use Rattle.module.specs.Module.{TypeHandle, TypeInner}

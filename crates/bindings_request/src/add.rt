@@ -21,8 +21,8 @@ use bindings::outputs::add_binding;
 use bindings::set::BINDINGS;
 use module::handles::FunctionHandle;
 use part::store::init;
-use request::contexts::returned;
 use request::lists::Optional;
+use request::lists::returned;
 use request::requests::RequestAnswer;
 use request::requests::read_request;
 

@@ -1,10 +1,9 @@
 // `get_type_bindings` and `input_to_bindings`, once per type: a table has the bindings below each type, where all is needed. The context is
 // read where it stands: a part of it is where its first byte is, and how deep it may be.
 ghost use mathlib.Core.Path.{_≡_};
-ghost use mathlib.Core.List.{List};
-ghost use Prim.Native.Nat.{ℕ, _+_, _*_, _≤_, _<_};
-ghost use lib.ListN.{length, getD, take};
-ghost use Rattle.part.specs.PartReq.{PartReq, all, getSubpart};
+ghost use Prim.Native.Nat.{_+_, _*_, _≤_, _<_};
+ghost use lib.ListN.{length, getD};
+ghost use Rattle.part.specs.PartReq.{all, getSubpart};
 ghost use Rattle.module.specs.Decode.{optionOf};
 ghost use Rattle.context.specs.RequiredContext.{variable};
 ghost use Rattle.context.specs.Types.{typesOf, typeCount};

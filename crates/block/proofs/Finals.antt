@@ -10,7 +10,6 @@ use lib.ListN.{length, getD, set, length-set}
 use Rattle.module.specs.Module.{Module}
 use Rattle.module.specs.Tables.{rowAt, expressionsFrom, moduleOf}
 use Rattle.module.proofs.Tab.{getD-tab}
-use Rattle.context.specs.RequiredContext as context
 use Rattle.walk.specs.State.{Records, FunctionReq, State, Place, atStatement, went, halt, limitedContext, recordPieces}
 use Rattle.walk.specs.Marks.{stretch, addMarks, bodyOf, firstRay}
 use Rattle.walk.specs.Function.{latest, extend, walked, keep, joinTotal, addTotal}

@@ -15,7 +15,6 @@ use Rattle.module.specs.Tables.{rowAt, expressionsFrom}
 use Rattle.context.specs.RequiredContext.{RequiredContext, mergeContext, overContext, pieces}
 use Rattle.context.specs.Contexts.{contextOf, HasContext, MadeContext}
 use Rattle.context.specs.declared.required_context.RequiredContext.{RequiredContext as Pieces}
-use Rattle.walk.specs.Function.{extend}
 use Rattle.memory.specs.Layout.{exprsSlot, totalsSlot, functionsSlot}
 use Rattle.memory.specs.Memory.{read, recordsOf, contextAt, Memory}
 use Rattle.memory.specs.Stretches.{fourSet, copied}

@@ -1,6 +1,6 @@
 -- What the slots of a state have beside its own stays as it was while the state changes: the current context, the records and the totals count for all that changes. So a
 -- block that was entered with less to hold leaves a state that stands with as little.
-use Prim.Native.Nat.{ℕ, _+_, _-_, _*_, _<_, _≤_}
+use Prim.Native.Nat.{ℕ, _+_, _-_, _<_, _≤_}
 use native.Mathlib.Omega.{arith}
 use native.Mathlib.Decide.{decLt}
 use mathlib.Core.Path.{_≡_, sym, ap, _∙_}
@@ -10,7 +10,7 @@ use lib.ListN.{length, getD}
 use Rattle.part.specs.PartReq.{none}
 use Rattle.part.specs.StoreLimits.{entriesCap}
 use Rattle.module.specs.Module.{FunctionHandle, BlockHandle}
-use Rattle.module.specs.Tables.{rowAt, expressionsFrom, itemsTo, maxItems, moduleOf}
+use Rattle.module.specs.Tables.{rowAt, expressionsFrom, maxItems}
 use Rattle.context.specs.RequiredContext.{pieces}
 use Rattle.walk.specs.State.{Out}
 use Rattle.memory.specs.Layout.{exprsSlot, totalsSlot, stackSlot}

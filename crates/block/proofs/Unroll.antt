@@ -12,8 +12,8 @@ use Rattle.context.specs.RequiredContext.{RequiredContext, mergeContext, pieces
 use Rattle.context.specs.RequiredContext as context
 use Rattle.walk.specs.State.{State, Place, Out, went, halt, Walk, _>>_, withContext, recordPieces, limitedContext, overContext}
 use Rattle.walk.specs.StatementReq.{StatementReq}
-use Rattle.walk.specs.Statement.{BlockWalk, FunctionWalk, Frame, here, holding, ask, askOptional, recordOf, merged, addNested, endIf, addCases, endSwitch, addSwitch, endTurn, turns, startTurns, endLoop, addLoop, back, retvalOf, endCall, addCall, addStatements}
-use Rattle.walk.specs.Statement.{BlockWalk, FunctionWalk, Frame, here, ask, recordOf, merged, addNested, endIf, addIf, addCases, endSwitch, addSwitch, endTurn, turns, endLoop, back, retvalOf, endCall, addCall, addStatements}
+use Rattle.walk.specs.Statement.{BlockWalk, FunctionWalk, Frame, here, ask, recordOf, merged, addNested, endIf, addCases, endSwitch, addSwitch, endTurn, turns, endLoop, back, retvalOf, endCall, addCall, addStatements}
+use Rattle.walk.specs.Statement.{BlockWalk, FunctionWalk, Frame, here, ask, recordOf, merged, addNested, endIf, addCases, endSwitch, addSwitch, endTurn, turns, endLoop, back, retvalOf, endCall, addCall, addStatements}
 
 -- 15: the limit of a join
 pub over-is : (c : RequiredContext) → overContext c ≡ context.overContext c

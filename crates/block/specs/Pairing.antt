@@ -3,7 +3,6 @@ use mathlib.Core.Path.{_≡_}
 use mathlib.Core.Bool.{Bool, _||_}
 use mathlib.Core.List.{List}
 use Prim.Native.Nat.{ℕ, _+_, _*_, _<_, _≤_}
-use lib.ListN.{length}
 use Rattle.field.specs.Limits.{maxPieces}
 use Rattle.part.specs.Store.{Room}
 use Rattle.module.specs.Module.{FunctionHandle, BlockHandle}

@@ -6,7 +6,6 @@ use part::limits::SPINE;
 use part::req::Found;
 use part::req::get;
 use part::store::make;
-ghost use mathlib.Core.Path.{_≡_};
 ghost use Prim.Native.Nat.{_+_, _≤_, _<_};
 ghost use lib.ListN.{length, getD};
 ghost use Rattle.part.specs.PartReq.{getSubpart};

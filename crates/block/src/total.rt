@@ -10,7 +10,7 @@ use memory::stretches::save_context;
 use module::handles::FunctionHandle;
 use module::tables::row_at;
 ghost use mathlib.Core.Path.{_≡_};
-ghost use Prim.Native.Nat.{_+_, _*_, _≤_};
+ghost use Prim.Native.Nat.{_+_, _*_};
 ghost use Rattle.part.specs.Store.{Room};
 ghost use Rattle.context.specs.RequiredContext.{pieces};
 ghost use Rattle.memory.specs.Layout.{functionsSlot};

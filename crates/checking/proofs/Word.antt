@@ -32,12 +32,3 @@ word-answer (atStatement s) h = names-statement (checkWord (atStatement s)) (ome
 word-answer (unjudgedExpression e) h = names-expression (checkWord (unjudgedExpression e)) (omega arith) (omega arith) ∙ ap unjudgedExpression (omega arith)
 word-answer (unjudgedStatement s) h = names-unjudged (checkWord (unjudgedStatement s)) (omega arith) (omega arith) ∙ ap unjudgedStatement (omega arith)
 word-answer (refused n) h = names-refusal (checkWord (refused n)) (omega (arith, h .0)) ∙ ap refused (omega arith)
-
-pub word-small : (a : Answer) → Roomy a → checkWord a < 281474976710656
-unfolding checkWord
-word-small clear h = omega arith
-word-small atStart h = omega arith
-word-small (atStatement s) h = omega arith
-word-small (unjudgedExpression e) h = omega arith
-word-small (unjudgedStatement s) h = omega arith
-word-small (refused n) h = omega (arith, h .1)

@@ -3,7 +3,7 @@
 use Prim.Native.Nat.{ℕ, zero, suc}
 use mathlib.Core.Path.{_≡_, refl}
 use mathlib.Core.Bool.{Bool, true, false}
-use mathlib.Core.List.{List, [], _∷_, _++_}
+use mathlib.Core.List.{List, [], _∷_}
 use mathlib.Core.Option.{Option}
 use lib.Dec.{eqb}
 use lib.ListN.{length}
@@ -11,7 +11,7 @@ use Rattle.module.specs.Module.{ExpressionHandle, BlockHandle, Statement, Switc
 use Rattle.module.specs.Module.{Emit, Block, If, Switch, Loop, Break, Continue, Return, Kill, ControlBarrier, MemoryBarrier, ImageAtomic, Store}
 use Rattle.module.specs.Module.{AtomicStatement, Call, ImageStore, RayQuery, WorkGroupUniformLoad, SubgroupBallot, SubgroupGather, SubgroupCollectiveOperation}
 use Rattle.module.specs.Knot.{tie, knot}
-use Rattle.clearance.specs.Tree.{Act, Tree, nop, seq, act, branch, switch, loop, break, continue, return, marked, byMark, emits, caseAt, statement, statementsFrom, blockTree, bodyTree}
+use Rattle.clearance.specs.Tree.{Tree, nop, seq, branch, switch, loop, marked, byMark, emits, caseAt, statement, statementsFrom, blockTree, bodyTree}
 use Rattle.clearance.specs.Needs.{Exit, concat}
 use Rattle.clearance.specs.Judged.{strays}
 

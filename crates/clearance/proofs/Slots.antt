@@ -8,9 +8,7 @@ use lib.Dec.{eqb}
 use borrow.Author.Tests.{eqb-true}
 use Rattle.clearance.specs.Shape.{begins}
 use Rattle.clearance.specs.Scope.{Slot, global, local, argument, result, evaluated, slot}
-use Rattle.clearance.specs.Run.{Value, State, put}
-use Rattle.clearance.proofs.Small.{cases, both-true}
-use Rattle.clearance.proofs.Acts.{begins-shorter, put-off}
+use Rattle.clearance.proofs.Small.{both-true}
 
 -- two paths that begin with the same two indexes
 two : (i j k l : ℕ) (q : List ℕ) → begins (i ∷ j ∷ []) (k ∷ l ∷ q) ≡ true → (i ≡ k) × (j ≡ l)
@@ -55,9 +53,3 @@ slots-apart (evaluated e) (argument h) q b = let z = one _ _ _ _ b in absurd (om
 slots-apart (evaluated e) result q b = let z = one _ _ _ _ b in absurd (omega (arith, z))
 slots-apart (evaluated e) (evaluated d) q b =
     let z = two _ _ _ _ q b in ap evaluated (same-expression e d (omega (arith, z .0)) (omega (arith, z .1)))
-
--- what is put into one slot's value leaves the others'
-pub put-other : (x y : Slot) → (x ≡ y → ⊥) → (p q : List ℕ) (v : Value) (s : State) → put (slot x ++ p) v s (slot y ++ q) ≡ s (slot y ++ q)
-put-other x y h p q v s =
-    put-off s v (slot x ++ p) (slot y ++ q)
-    (cases (begins (slot x ++ p) (slot y ++ q)) (λ e. absurd (h (slots-apart x y q (begins-shorter (slot x) p (slot y ++ q) e)))) (λ e. e))

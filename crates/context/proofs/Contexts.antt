@@ -1,22 +1,18 @@
 -- Contexts as four pieces: what each method finds and makes, map by map, and what a taking out leaves.
-use Prim.Native.Nat.{ℕ, zero, suc, _+_, _*_, _<_, _≤_}
+use Prim.Native.Nat.{ℕ, _+_, _*_, _<_, _≤_}
 use native.Mathlib.Omega.{arith}
-use mathlib.Core.Path.{_≡_, refl, ap, _∙_}
-use mathlib.Core.Bool.{_&&_}
+use mathlib.Core.Path.{_≡_, ap, _∙_}
 use mathlib.Core.List.{List}
 use mathlib.Core.Option.{some}
-use lib.Dec.{eqb}
-use borrow.Author.Tests.{lt-ltb, ne-eqb}
 use Rattle.part.specs.PartReq.{PartReq, add, entries}
-use Rattle.part.specs.Store.{top, part, means, Good, Kept, Room, Made}
-use Rattle.part.proofs.Pieces.{part-2}
+use Rattle.part.specs.Store.{top, part, Good, Kept, Room, Made}
 use Rattle.part.proofs.Making.{kept-trans}
 use Rattle.module.specs.Module.{TypeHandle, TypeInner}
 use Rattle.context.specs.Types.{AllSized, splitMost}
 use Rattle.context.specs.Remove.{Removed, left, panic, remove}
 use Rattle.context.specs.Reduced.{Took, removeRoom}
-use Rattle.context.specs.RequiredContext.{RequiredContext, emptyContext, isNone, isEmpty, mergeContext, pieces, variable, VarRef, Global, Local, alter, RemovedContext, leftContext, withGlobals, withLocals, removeTyped}
-use Rattle.context.specs.Contexts.{contextOf, HasContext, Always, Empty, MadeContext, variableOf, TookContext, takeRoom}
+use Rattle.context.specs.RequiredContext.{RequiredContext, mergeContext, pieces, variable, VarRef, Global, Local, alter, RemovedContext, leftContext, withGlobals, withLocals, removeTyped}
+use Rattle.context.specs.Contexts.{contextOf, HasContext, MadeContext, variableOf, TookContext, takeRoom}
 use Rattle.context.specs.declared.required_context.RequiredContext.{RequiredContext as Pieces}
 use Rattle.context.specs.declared.required_context.VarRef.{VarRef as Variable}
 use Rattle.context.specs.declared.required_context.VarRef.the-variants as variables
@@ -28,27 +24,6 @@ use Rattle.context.proofs.Cycle.{took-left, took-panic, entries-kept, R
 use Rattle.context.proofs.Removal.{left-of, entries-removed}
 use Rattle.context.proofs.Removal as removal
 use Rattle.context.proofs.Alter.{entries-altered}
-
--- the empty part is the number 2
-is-none : (s : List ℕ) (n : ℕ) → eqb n 2 ≡ isNone (part s n)
-unfolding isNone part means
-is-none s zero = refl
-is-none s (suc zero) = refl
-is-none s (suc (suc zero)) = refl
-is-none s (suc (suc (suc n))) =
-    let z : 2 < suc (suc (suc n)) = omega arith in
-    let e : suc (suc (suc n)) ≡ 2 → ⊥ = omega arith in
-    simp (lt-ltb _ _ z, ne-eqb _ _ e)
-
-pub empty-is : (c : Pieces) → Empty c (eqb (c .globals) 2 && eqb (c .locals) 2 && eqb (c .args) 2 && eqb (c .retval) 2)
-unfolding isEmpty
-empty-is c = record { is = λ s. rw (is-none s (c .globals), is-none s (c .locals), is-none s (c .args), is-none s (c .retval)) }
-
-pub new-is : Always emptyContext (record { globals = 2; locals = 2; args = 2; retval = 2 })
-new-is = record {
-  has = λ s h. record { globals = omega arith; locals = omega arith; args = omega arith; retval = omega arith };
-  is = λ s. rw (part-2 s);
-}
 
 -- what a sum of two pieces asks, and what it makes, where k cells were made before it
 abbrev AddAsked : List ℕ → ℕ → ℕ → Type 0

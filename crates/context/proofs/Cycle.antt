@@ -12,8 +12,8 @@ use Rattle.part.proofs.Pieces.{part-0, part-1, part-2, not-all, not-exist}
 use Rattle.part.proofs.Equations.{never}
 use Rattle.part.proofs.Making.{kept-trans, RemakeAsked}
 use Rattle.part.proofs.Write.{kept-self, holds-on}
-use Rattle.module.specs.Module.{TypeHandle, TypeInner, Opaque, Member}
-use Rattle.context.specs.Remove.{Removed, left, panic, _>>=_, memberAt, atMember, atSubtype, typeToParts, split, subtypesOf, takeOut, takeEntry, takeEntries, remove}
+use Rattle.module.specs.Module.{TypeHandle, TypeInner, Member}
+use Rattle.context.specs.Remove.{Removed, left, panic, _>>=_, memberAt, atMember, atSubtype, split, subtypesOf, takeOut, takeEntry, takeEntries, remove}
 use Rattle.context.specs.Types.{AllSized, splitMost}
 use Rattle.context.specs.Reduced.{typed, memberType, subtypeAt, subtyped, reduced, Stored, Took, entriesRoom, removeRoom}
 use Rattle.context.specs.declared.remove.Typed.{Typed}

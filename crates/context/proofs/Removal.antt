@@ -2,11 +2,10 @@
 use Prim.Native.Nat.{ℕ, zero, suc, _+_, _*_, _<_, _≤_, max}
 use native.Mathlib.Omega.{arith}
 use native.Mathlib.Nat.{mul-add}
-use mathlib.Core.Path.{_≡_, refl, sym, ap, subst, _∙_}
-use mathlib.Core.Bool.{Bool, true, false, cond, _&&_}
-use mathlib.Core.List.{List, [], _∷_}
+use mathlib.Core.Path.{_≡_, refl, subst}
+use mathlib.Core.Bool.{true}
+use mathlib.Core.List.{List}
 use mathlib.Core.Option.{Option, some, none as nothing}
-use lib.Dec.{ltb}
 use lib.ListN.{length, getD}
 use borrow.Author.Tests.{lt-ltb, le-ltb}
 use Rattle.part.specs.PartReq.{PartReq, all, exist, none, more, contains, entries, depth}
@@ -190,42 +189,6 @@ entries-removed types k f p q t e = left-is (λ r. entries r ≤ entries p + k *
 -- The depth of what is left: a type's parts go two deep, and stand where a part is taken out.
 Deep : PartReq → PartReq → PartReq → Type 0
 Deep q p r = depth r ≤ max (depth p) (depth q + 1)
-
-each-deep : (k n : ℕ) (p : PartReq) → depth (each k n p) ≤ suc (depth p)
-unfolding each depth
-each-deep k zero p = omega arith
-each-deep k (suc n) p = omega (arith, each-deep (suc k) n p)
-
-parts-deep : (t : TypeInner) → depth (typeToParts t) ≤ 2
-unfolding typeToParts depth
-parts-deep Scalar = omega arith
-parts-deep (Vector size) = omega (arith, each-deep 0 size all)
-parts-deep (Matrix columns rows) = omega (arith, each-deep 0 columns (each 0 rows all), each-deep 0 rows all)
-parts-deep Atomic = omega arith
-parts-deep (Pointer base) = omega arith
-parts-deep (Array base count) = omega arith
-parts-deep (Struct members) = omega (arith, each-deep 0 (length members) all)
-parts-deep (BindingArray base) = omega arith
-parts-deep Opaque = omega arith
-
-deep-steps : (types : List TypeInner) → Steps types Deep Deep
-unfolding Deep depth
-deep-steps types = record {
-  out-all = λ p. omega arith;
-  out-exist = λ p. omega arith;
-  out-none = λ p r h. h;
-  out-more = λ j q s p r h. h;
-  out-split = λ t r h. omega (arith, parts-deep (getD types t Opaque));
-  out-split-more = λ t j q s r h. omega (arith, parts-deep (getD types t Opaque));
-  in-same = λ q p. omega arith;
-  in-lt = λ i j p r q s x l h. omega arith;
-  in-gt = λ i j p r q s x l h. omega arith;
-  in-eq = λ i j p r q s x y e h l. omega arith;
-}
-
-pub depth-removed : (types : List TypeInner) (p q : PartReq) (t : Option TypeHandle) {r : PartReq} → remove types p q t ≡ left r → depth r ≤ max (depth p) (depth q + 1)
-unfolding Deep
-depth-removed types p q t e = left-is (λ r. depth r ≤ max (depth p) (depth q + 1)) e (removed types Deep Deep (deep-steps types) p q t)
 
 -- What ascends still ascends: the indexes stay, or are a type's own.
 Climbs : PartReq → PartReq → PartReq → Type 0

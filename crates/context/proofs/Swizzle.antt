@@ -3,18 +3,16 @@
 use Prim.Native.Nat.{ℕ, zero, suc, _+_, _<_, _≤_}
 use native.Mathlib.Omega.{arith}
 use native.Mathlib.Decide.{ℕ-discrete}
-use mathlib.Core.Path.{_≡_, refl, sym, ap, _∙_}
-use mathlib.Core.Bool.{true, false, cond, _&&_}
+use mathlib.Core.Path.{_≡_, refl, sym, _∙_}
 use mathlib.Core.Logic.{_⊎_, inl, inr}
 use mathlib.Core.List.{List, [], _∷_, map}
-use lib.Dec.{ltb}
 use lib.ListN.{length, getD}
 use borrow.Author.Tests.{lt-ltb, le-ltb}
 use Rattle.part.specs.PartReq.{PartReq, all, exist, none, more}
-use Rattle.part.specs.Ascending.{Ascending, From}
+use Rattle.part.specs.Ascending.{From}
 use Rattle.part.proofs.Equations.{way, before, after, at}
 use Rattle.context.specs.Wgsl.{Letter, named, x, y, z, w, r, g, b, a, Picks, first, later}
-use Rattle.context.specs.Swizzle.{Swizzled, asks, panics, insert, isFlat, collected, swizzled}
+use Rattle.context.specs.Swizzle.{asks, insert, isFlat, collected, swizzled}
 use Rattle.context.specs.Components.{times, Whole, Picked, Agrees}
 use Rattle.context.proofs.Wgsl.{times-at, times-off, times-none}
 

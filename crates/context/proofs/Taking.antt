@@ -1,15 +1,14 @@
 -- What the functions on types and pieces have made, step by step: each law takes what the calls have left and gives what is ensured.
 use Prim.Native.Nat.{ℕ, zero, suc, _+_, _-_, _*_, _<_, _≤_}
 use native.Mathlib.Omega.{arith}
-use native.Mathlib.Numerals.{add-one, sub-one}
-use mathlib.Core.Path.{_≡_, refl, sym, ap, subst, _∙_}
-use mathlib.Core.Bool.{true, false}
+use mathlib.Core.Path.{_≡_, refl, sym, _∙_}
+use mathlib.Core.Bool.{false}
 use mathlib.Core.List.{List}
 use mathlib.Core.Option.{Option, some, none as nothing}
-use lib.ListN.{length, getD}
-use Rattle.part.specs.PartReq.{PartReq, all, exist, none, more, isAll, entries}
-use Rattle.part.specs.Store.{top, part, Good, Kept, Room, Made, Seen}
-use Rattle.part.proofs.Pieces.{part-0, part-1, part-2, not-all}
+use lib.ListN.{getD}
+use Rattle.part.specs.PartReq.{PartReq, all, exist, none, more, isAll}
+use Rattle.part.specs.Store.{top, part, Good, Made}
+use Rattle.part.proofs.Pieces.{part-0, part-2, not-all}
 use Rattle.part.proofs.Equations.{never}
 use Rattle.part.proofs.Making.{kept-trans}
 use Rattle.part.proofs.Write.{kept-self}

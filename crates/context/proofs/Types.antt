@@ -2,21 +2,19 @@
 use Prim.Native.Nat.{ℕ, zero, suc, _+_, _*_, _<_, _≤_}
 use native.Mathlib.Omega.{arith}
 use native.Mathlib.Decide.{decLt, ℕ-discrete}
-use mathlib.Core.Path.{_≡_, refl, sym, ap, subst, _∙_}
-use mathlib.Core.Bool.{true, false, cond}
-use mathlib.Core.List.{List, [], _∷_, _++_}
-use mathlib.Core.Option.{Option, some, none as nothing}
-use lib.Dec.{ltb}
+use mathlib.Core.Path.{_≡_, refl, sym, subst, _∙_}
+use mathlib.Core.List.{List, [], _∷_}
+use mathlib.Core.Option.{some, none as nothing}
 use lib.ListN.{length, getD, length-append, List·getD-append, List·getD-eq-default}
 use lib.Seq.{getD-append-seam}
 use borrow.Author.Tests.{lt-ltb, le-ltb}
 use Rattle.field.specs.Limits.{maxMembers}
-use Rattle.part.specs.PartReq.{PartReq, all, exist, none, more, entries}
-use Rattle.module.specs.Module.{TypeHandle, TypeInner, Scalar, Vector, Matrix, Atomic, Pointer, Array, Struct, BindingArray, Opaque, Member}
+use Rattle.part.specs.PartReq.{PartReq, all, entries}
+use Rattle.module.specs.Module.{TypeInner, Scalar, Vector, Matrix, Atomic, Pointer, Array, Struct, BindingArray, Opaque, Member}
 use Rattle.module.specs.Decode.{tab, memberOf, typeInnerOf}
 use Rattle.context.specs.Remove.{each, typeToParts, subtypes, subtypesOf, memberAt}
-use Rattle.context.specs.Types.{typeWords, typeWord, typeCount, typeKind, rowType, typesOf, Sized, AllSized, splitMost}
-use Rattle.context.specs.Reduced.{memberType, subtypeAt}
+use Rattle.context.specs.Types.{typeWord, typeCount, typeKind, rowType, typesOf, Sized, AllSized, splitMost}
+use Rattle.context.specs.Reduced.{subtypeAt}
 use Rattle.context.proofs.Removal.{Splits}
 
 -- a list made by number

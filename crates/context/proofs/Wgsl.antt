@@ -3,11 +3,10 @@
 use Prim.Native.Nat.{ℕ, zero, suc, _+_, _<_, _≤_}
 use native.Mathlib.Omega.{arith}
 use native.Mathlib.Decide.{decLt, ℕ-discrete}
-use mathlib.Core.Path.{_≡_, refl, sym, ap, _∙_}
+use mathlib.Core.Path.{_≡_, refl, _∙_}
 use mathlib.Core.List.{List, [], _∷_}
-use lib.Dec.{eqb}
 use borrow.Author.Tests.{eq-eqb, ne-eqb}
-use Rattle.part.specs.PartReq.{PartReq, all, exist, none, more}
+use Rattle.part.specs.PartReq.{PartReq, all, none, more}
 use Rattle.context.specs.Remove.{each, typeToParts}
 use Rattle.context.specs.Wgsl.{Shape, scalar, vec, mat, Component, itself, component, column}
 use Rattle.context.specs.Components.{typeOf, times}

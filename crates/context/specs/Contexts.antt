@@ -1,12 +1,11 @@
 -- Contexts in a store: four pieces each, by value, and what the methods on them give.
 use Prim.Native.Nat.{ℕ, _+_, _*_, _<_, _≤_}
 use mathlib.Core.Path.{_≡_}
-use mathlib.Core.Bool.{Bool}
 use mathlib.Core.List.{List}
 use Rattle.part.specs.PartReq.{PartReq, entries}
 use Rattle.part.specs.Store.{top, part, Kept}
 use Rattle.context.specs.Types.{splitMost}
-use Rattle.context.specs.RequiredContext.{RequiredContext, isEmpty, pieces, VarRef, Global, Local, RemovedContext, leftContext, panicContext}
+use Rattle.context.specs.RequiredContext.{RequiredContext, pieces, VarRef, Global, Local, RemovedContext, leftContext, panicContext}
 use Rattle.context.specs.declared.required_context.RequiredContext.{RequiredContext as Pieces}
 use Rattle.context.specs.declared.required_context.VarRef.{VarRef as Variable}
 use Rattle.context.specs.declared.required_context.VarRef.the-variants as variables
@@ -28,10 +27,6 @@ pub record HasContext (s : List ℕ) (c : Pieces) : Type 0 where
 pub record Always (d : RequiredContext) (c : Pieces) : Type 0 where
   pub has : (s : List ℕ) → 3 ≤ top s → HasContext s c
   pub is : (s : List ℕ) → contextOf s c ≡ d
-
--- whether these pieces are the empty context is the same in every store
-pub record Empty (c : Pieces) (r : Bool) : Type 0 where
-  pub is : (s : List ℕ) → r ≡ isEmpty (contextOf s c)
 
 -- from s, t was left: the pieces c are the context d there, and at most k cells more are used
 pub record MadeContext (s t : List ℕ) (d : RequiredContext) (k : ℕ) (c : Pieces) : Type 0 where

@@ -1,6 +1,6 @@
 -- `type_to_parts` and `remove` of PartReq, beside the Rust: with its asymmetries, and its panic as an outcome.
 use Prim.Native.Nat.{ℕ, zero, suc}
-use mathlib.Core.Bool.{Bool, true, false, cond}
+use mathlib.Core.Bool.{cond}
 use mathlib.Core.List.{List, [], _∷_}
 use mathlib.Core.Option.{Option, some, none as nothing}
 use lib.Dec.{ltb}

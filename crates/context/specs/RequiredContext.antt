@@ -1,7 +1,7 @@
 -- What is needed at a point, beside `RequiredContext` of src/prune/mod.rs. 01 calls it a context.
 -- Each of the Rust's maps is a list of entries; the entry of the variable n has the index `variable n`.
 use Prim.Native.Nat.{ℕ, _+_}
-use mathlib.Core.Bool.{Bool, true, false, cond, _&&_, _||_}
+use mathlib.Core.Bool.{Bool, cond, _&&_, _||_}
 use mathlib.Core.List.{List}
 use mathlib.Core.Option.{some}
 use lib.Dec.{ltb}
@@ -24,16 +24,6 @@ pub record RequiredContext : Type 0 where
 -- the context in which nothing is needed
 abbrev pub emptyContext : RequiredContext
 emptyContext = record { globals = none; locals = none; args = none; retval = none }
-
-unfoldable pub isNone : PartReq → Bool
-isNone all = false
-isNone exist = false
-isNone none = true
-isNone (more i p r) = false
-
--- `is_empty`
-unfoldable pub isEmpty : RequiredContext → Bool
-isEmpty c = isNone (c .globals) && isNone (c .locals) && isNone (c .args) && isNone (c .retval)
 
 -- `contains`
 unfoldable pub containsContext : RequiredContext → RequiredContext → Bool

@@ -1,8 +1,7 @@
 // `type_to_parts` and `remove` of PartReq, on pieces and a table of types (specs/Types.antt).
 ghost use mathlib.Core.Path.{_≡_};
-ghost use Prim.Native.Nat.{ℕ, _+_, _*_, _≤_, _<_};
-ghost use lib.ListN.{length, getD};
-ghost use Rattle.part.specs.PartReq.{PartReq, entries};
+ghost use Prim.Native.Nat.{_+_, _*_, _<_};
+ghost use lib.ListN.{getD};
 ghost use Rattle.part.specs.Store.{top, part, Good, Room, Made};
 ghost use Rattle.module.specs.Module.{Opaque};
 ghost use Rattle.context.specs.Remove.{each, typeToParts, split, subtypesOf, takeEntries, remove};

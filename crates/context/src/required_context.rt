@@ -1,17 +1,16 @@
 // `RequiredContext`: what is needed at a point, by the pieces of its four maps. Its methods take the context by value and hand it back, or
 // the answer.
 ghost use mathlib.Core.Path.{_≡_};
-ghost use Prim.Native.Nat.{_+_, _≤_, _<_};
+ghost use Prim.Native.Nat.{_+_, _<_};
 ghost use mathlib.Core.Option.{some};
 ghost use Rattle.part.specs.PartReq.{spine};
 ghost use Rattle.part.specs.Store.{top, part, Good, Room};
-ghost use Rattle.part.specs.StoreLimits.{entriesCap};
 ghost use Rattle.part.specs.Found.{Got};
 ghost use Rattle.context.specs.Types.{typesOf, AllSized};
 ghost use Rattle.context.specs.Remove.{remove};
 ghost use Rattle.context.specs.Reduced.{Took, removeRoom};
-ghost use Rattle.context.specs.RequiredContext.{emptyContext, containsContext, mergeContext, pieces, overContext, handle, required, alter, removeTyped};
-ghost use Rattle.context.specs.Contexts.{contextOf, HasContext, Always, Empty, MadeContext, variableOf, TookContext, takeRoom};
+ghost use Rattle.context.specs.RequiredContext.{containsContext, mergeContext, pieces, overContext, handle, required, alter, removeTyped};
+ghost use Rattle.context.specs.Contexts.{contextOf, HasContext, MadeContext, variableOf, TookContext, takeRoom};
 use crate::remove::Reduced;
 use crate::remove::Typed;
 use crate::remove::remove;
@@ -23,7 +22,6 @@ use part::req::Found;
 use part::req::add;
 use part::req::contains;
 use part::req::get;
-use part::store::entries;
 use part::store::look;
 use part::store::over;
 use part::store::remake;
@@ -77,47 +75,6 @@ fn alter(cells: &mut [u32], types: &[u32], m: u32, i: u32, t: TypeHandle, q: u32
 }
 
 impl RequiredContext {
-    // The empty context.
-    pub fn new() -> RequiredContext
-        ensures { λ r. ⌜ Always emptyContext r ⌝ }
-    {
-        RequiredContext {
-            globals: 2,
-            locals: 2,
-            args: 2,
-            retval: 2,
-        }
-    }
-
-    // `is_empty`
-    pub fn is_empty(self) -> bool
-        ensures { λ r. ⌜ Empty self r ⌝ }
-    {
-        if self.globals != 2 {
-            return false;
-        }
-        if self.locals != 2 {
-            return false;
-        }
-        if self.args != 2 {
-            return false;
-        }
-        self.retval == 2
-    }
-
-    // What 16 counts of it.
-    pub fn pieces(self, cells: &[u32]) -> usize
-        requires { ⌜ Good (now cells) ⌝ }
-        requires { ⌜ HasContext (now cells) self × (pieces (contextOf (now cells) self) ≤ entriesCap) ⌝ }
-        ensures { λ r. ⌜ r ≡ pieces (contextOf (now (cells .entry)) self) ⌝ }
-    {
-        let globals = entries(cells, self.globals);
-        let locals = entries(cells, self.locals);
-        let args = entries(cells, self.args);
-        let retval = entries(cells, self.retval);
-        (globals + locals + args + retval) as usize
-    }
-
     // Whether a part of it passes a limit.
     pub fn over(self, cells: &[u32]) -> bool
         requires { ⌜ Good (now cells) ⌝ }

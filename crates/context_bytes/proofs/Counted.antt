@@ -3,18 +3,18 @@
 use Prim.Native.Nat.{ℕ, _+_, _-_, _*_, _≤_, _<_}
 use native.Mathlib.Omega.{arith}
 use mathlib.Core.Path.{_≡_, refl, ap, sym, subst, _∙_}
-use mathlib.Core.Bool.{Bool, true, false}
+use mathlib.Core.Bool.{Bool, false}
 use mathlib.Core.List.{List, []}
-use mathlib.Core.Option.{Option, some, none as nothing}
+use mathlib.Core.Option.{Option, some}
 use lib.ListN.{length}
-use borrow.Author.Tests.{eq-eqb, ne-eqb}
+use borrow.Author.Tests.{eq-eqb}
 use Rattle.field.specs.Field.{fieldAt}
 use Rattle.field.specs.Limits.{maxDepth}
 use Rattle.part.specs.PartReq.{PartReq, more, entries, spine}
 use Rattle.context.specs.RequiredContext.{RequiredContext, pieces}
 use Rattle.request.specs.Fields.{Read, malformed, got, _>>=_}
 use Rattle.request.specs.Part.{readPart, readEntries, readReturn, readVariables, asked}
-use Rattle.request.specs.Context.{isContext, contextOf}
+use Rattle.request.specs.Context.{isContext}
 use Rattle.request.specs.Answers.{from}
 use Rattle.request.proofs.Bytes.{from-cons, from-end}
 use Rattle.request.proofs.Entries.{Field, Index, index-no-part, entries-none}

@@ -2,17 +2,16 @@
 use Prim.Native.Nat.{ℕ, _+_, _-_, _≤_, _<_}
 use native.Mathlib.Omega.{arith}
 use mathlib.Core.Path.{_≡_, refl, ap, sym, subst, _∙_}
-use mathlib.Core.Bool.{Bool, true, false, cond}
+use mathlib.Core.Bool.{Bool, false}
 use mathlib.Core.List.{List}
-use mathlib.Core.Option.{some}
 use lib.ListN.{length}
 use borrow.Author.Tests.{lt-ltb, le-ltb}
 use Rattle.field.specs.Limits.{maxDepth}
 use Rattle.part.specs.PartReq.{PartReq, all, exist, none, more, isAll, isExist, Subpart, gone, there, getSubpart, spine}
 use Rattle.context.specs.RequiredContext.{RequiredContext, variable}
-use Rattle.request.specs.Fields.{Read, malformed, got, _>>=_}
+use Rattle.request.specs.Fields.{Read, malformed, got}
 use Rattle.request.specs.Part.{readPart, readEntries, readReturn, readVariables}
-use Rattle.request.specs.Context.{isContext, contextOf}
+use Rattle.request.specs.Context.{isContext}
 use Rattle.request.specs.Answers.{from}
 use Rattle.request.proofs.Bytes.{from-end}
 use Rattle.request.proofs.Entries.{Field, Index, index-next, entries-none}
@@ -30,7 +29,7 @@ use Rattle.context_bytes.specs.Found.{valueOf, partAt, Readable, Subpart
 use Rattle.context_bytes.proofs.Accepted.{Accepted, accepted, bound}
 use Rattle.context_bytes.proofs.Asking.{read-list}
 use Rattle.context_bytes.proofs.Checked.{skip-refused, skip-passed, skip-placed, check-refused, check-read, check-placed}
-use Rattle.context_bytes.proofs.Lists.{Listed, listed, unlisted, variables-are}
+use Rattle.context_bytes.proofs.Lists.{listed, unlisted, variables-are}
 
 -- what was read
 value-is : {r : Read PartReq} {p : PartReq} {fs : List ℕ} → r ≡ got p fs → valueOf r ≡ p

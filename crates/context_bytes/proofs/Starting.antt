@@ -17,7 +17,7 @@ use Rattle.clearance.specs.Scope.{variable}
 use Rattle.clearance.specs.Verdict.{needsExpression, starts}
 use Rattle.needs.specs.Path.{Piece}
 use Rattle.request.specs.Part.{readReturn, readVariables}
-use Rattle.request.specs.Context.{isContext, contextOf}
+use Rattle.request.specs.Context.{isContext}
 use Rattle.request.specs.Answers.{from}
 use Rattle.context_bytes.specs.declared.check.Skipped.{Skipped}
 use Rattle.context_bytes.specs.declared.check.Skipped.the-variants as skips

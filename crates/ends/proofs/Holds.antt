@@ -1,30 +1,28 @@
 -- The end of an if and of a switch, and the beginning of a loop, from their steps.
-use Prim.Native.Nat.{ℕ, _+_, _-_, _<_, _≤_}
+use Prim.Native.Nat.{ℕ, _+_, _-_, _<_}
 use native.Mathlib.Omega.{arith}
 use mathlib.Core.Path.{_≡_, refl, sym, ap, _∙_}
 use mathlib.Core.Bool.{Bool, true, false, not}
 use mathlib.Core.List.{List, _∷_, _++_}
-use mathlib.Core.Option.{Option, some as present, none as nothing}
-use lib.Dec.{ltb, eqb}
+use mathlib.Core.Option.{some as present, none as nothing}
+use lib.Dec.{ltb}
 use lib.ListN.{length, getD, set, length-set}
 use borrow.Author.Tests.{eq-eqb, ne-eqb}
 use Rattle.field.specs.Limits.{absent}
 use Rattle.part.specs.PartReq.{PartReq, add}
-use Rattle.part.specs.Collect.{cellsOf}
 use Rattle.part.proofs.Equations.{never}
-use Rattle.module.specs.Module.{ExpressionHandle}
 use Rattle.module.specs.Decode.{optionOf}
-use Rattle.clearance.specs.Scope.{Scope, expressionsOf}
+use Rattle.clearance.specs.Scope.{Scope}
 use Rattle.clearance.specs.Needs.{askWhole}
-use Rattle.pass.specs.Pass.{workBound, Carried, Passed, on, full, _>>=_, within, joining, asking, turningOn}
+use Rattle.pass.specs.Pass.{workBound, Carried, on, _>>=_, joining, asking, turningOn}
 use Rattle.framed.proofs.Kept.{kept-add}
 use Rattle.hold.specs.Hold.{heldBy, inSlot, Live, Pushed, Reach}
-use Rattle.hold.proofs.Reach.{reach-is, reach-sym, reach-trans, reach-cons, reach-exchange, reach-cells, reach-among}
-use Rattle.hold.proofs.Slots.{held-reach, held-same, slot-set, slot-other, slot-among, live-less}
-use Rattle.standing.specs.Slots.{tableSize, askedSlot, stackSlot, Ready}
+use Rattle.hold.proofs.Reach.{reach-is, reach-sym, reach-trans, reach-cons, reach-cells, reach-among}
+use Rattle.hold.proofs.Slots.{held-reach, held-same, slot-set, slot-other, slot-among}
+use Rattle.standing.specs.Slots.{Ready}
 use Rattle.standing.specs.Standing.{passedBy, Stepped, Closed, Begun}
 use Rattle.standing.proofs.Arms.{ending}
-use Rattle.standing.proofs.Cases.{caseEnds, switchEnds}
+use Rattle.standing.proofs.Cases.{switchEnds}
 use Rattle.standing.proofs.Readies.{ready-less, ready-set, ready-open, ready-pushed}
 use Rattle.standing.proofs.Taken.{within-fits}
 use Rattle.asking.specs.Asks.{stepOf, StepGiven}

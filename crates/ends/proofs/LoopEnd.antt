@@ -1,16 +1,15 @@
 -- The end of a loop, from the copies, the sum that was pushed and the comparison.
-use Prim.Native.Nat.{ℕ, _+_, _-_, _<_, _≤_}
+use Prim.Native.Nat.{ℕ, _+_, _-_, _<_}
 use native.Mathlib.Omega.{arith}
 use native.Mathlib.Decide.{ℕ-discrete}
-use mathlib.Core.Path.{_≡_, refl, sym, ap, _∙_}
+use mathlib.Core.Path.{_≡_, sym, ap, _∙_}
 use mathlib.Core.Bool.{Bool, true, false, not, _&&_}
 use mathlib.Core.List.{List, _∷_, _++_}
 use lib.Dec.{ltb}
 use lib.ListN.{length, getD, set, length-set}
 use Rattle.part.specs.PartReq.{PartReq, add, contains}
-use Rattle.part.specs.Store.{top, part, Good}
+use Rattle.part.specs.Store.{top, Good}
 use Rattle.part.specs.Summed.{Covered}
-use Rattle.part.specs.Collect.{cellsOf}
 use Rattle.part.proofs.Equations.{never}
 use Rattle.clearance.specs.Scope.{Scope}
 use Rattle.pass.specs.Pass.{workBound, Carried, within}
@@ -19,11 +18,10 @@ use Rattle.hold.proofs.Reach.{reach-trans, reach-cons, reach-append, reach-is, 
 use Rattle.hold.proofs.Slots.{live-less, live-set, slot-set, slot-other, loose-kept, slot-kept}
 use Rattle.framed.specs.Kept.{Kept}
 use Rattle.framed.proofs.Kept.{kept-add}
-use Rattle.standing.specs.Slots.{tableSize, askedSlot, stackSlot, asideOf, newOf, Ready}
-use Rattle.standing.specs.Standing.{TableIn, Keeps, passedBy, Entered}
+use Rattle.standing.specs.Slots.{tableSize, askedSlot, stackSlot, asideOf, Ready}
+use Rattle.standing.specs.Standing.{TableIn, passedBy}
 use Rattle.standing.specs.declared.passing.Passing.{Passing}
 use Rattle.standing.proofs.Aside.{held-last, aside-same, new-table}
-use Rattle.standing.proofs.Readies.{ready-less, ready-set, ready-pushed}
 use Rattle.ends.specs.Merged.{LoopEnds}
 use Rattle.ends.proofs.Merges.{by-test}
 

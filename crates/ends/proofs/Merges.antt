@@ -8,7 +8,6 @@ use mathlib.Core.List.{List, _∷_, _++_}
 use lib.Dec.{ltb}
 use lib.ListN.{length, getD, set, length-set}
 use Rattle.part.specs.PartReq.{PartReq, add}
-use Rattle.part.specs.Store.{top}
 use Rattle.part.specs.Collect.{cellsOf}
 use Rattle.part.specs.Count.{same, among}
 use Rattle.part.proofs.Distinct.{or-left}

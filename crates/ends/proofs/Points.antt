@@ -3,16 +3,16 @@ use Prim.Native.Nat.{ℕ, _+_, _-_, _<_, _≤_, min}
 use native.Mathlib.Omega.{arith}
 use native.Mathlib.Decide.{decLt, decLe}
 use mathlib.Core.Path.{_≡_, refl, sym, ap, _∙_}
-use mathlib.Core.Bool.{Bool, true, false, cond, _||_}
-use mathlib.Core.Option.{Option, some, none as nothing}
+use mathlib.Core.Bool.{Bool, true, false, cond}
+use mathlib.Core.Option.{some, none as nothing}
 use mathlib.Core.List.{List}
 use lib.Dec.{ltb, eqb}
 use lib.ListN.{getD}
-use borrow.Author.Tests.{lt-ltb, le-ltb, eq-eqb, ne-eqb}
+use borrow.Author.Tests.{lt-ltb, le-ltb, ne-eqb}
 use Rattle.field.specs.Limits.{absent, maxPieces}
 use Rattle.part.specs.PartReq.{PartReq, entries, width, over}
 use Rattle.part.specs.StoreLimits.{entriesCap}
-use Rattle.part.specs.Store.{top, part, flag, Measures}
+use Rattle.part.specs.Store.{flag, Measures}
 use Rattle.part.proofs.Pieces.{part-low-sizes}
 use Rattle.part.proofs.Counting.{entries-each}
 use Rattle.module.specs.Decode.{optionOf}

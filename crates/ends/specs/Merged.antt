@@ -5,7 +5,7 @@ use mathlib.Core.Bool.{Bool, true, not}
 use mathlib.Core.List.{List, _∷_}
 use lib.Dec.{ltb}
 use lib.ListN.{length}
-use Rattle.part.specs.PartReq.{PartReq, add}
+use Rattle.part.specs.PartReq.{add}
 use Rattle.part.specs.Collect.{cellsOf}
 use Rattle.module.specs.Decode.{optionOf}
 use Rattle.valid.specs.Valid.{MaybeBelow}

@@ -1,5 +1,5 @@
 // Two slots that become one, and the end of a loop.
-ghost use Prim.Native.Nat.{_+_, _<_, _≤_};
+ghost use Prim.Native.Nat.{_+_, _<_};
 ghost use lib.ListN.{length};
 ghost use Rattle.hold.specs.Hold.{Live};
 ghost use Rattle.standing.specs.Slots.{tableSize, stackSlot};

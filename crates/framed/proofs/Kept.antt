@@ -2,15 +2,13 @@
 -- expression, then along the tree.
 use Prim.Native.Nat.{ℕ, zero, suc}
 use native.Mathlib.Omega.{arith}
-use mathlib.Core.Path.{_≡_, subst}
+use mathlib.Core.Path.{_≡_}
 use mathlib.Core.Bool.{Bool, true, false, cond}
 use mathlib.Core.List.{List, [], _∷_, _++_, map}
 use mathlib.Core.Option.{Option, some as present, none as nothing}
-use mathlib.Core.Logic.{inl, inr}
 use lib.ListN.{length}
 use Rattle.part.specs.PartReq.{PartReq, none, more, isAll, add}
 use Rattle.part.specs.Ascending.{Ascending}
-use Rattle.part.proofs.Equations.{never}
 use Rattle.module.specs.Module.{ExpressionHandle, Expression}
 use Rattle.module.proofs.Knot.{knot-all}
 use Rattle.clearance.specs.Shape.{under, some, trim, hit}
@@ -19,16 +17,11 @@ use Rattle.clearance.specs.Scope.{Scope, variable, slot, typed, Path, nowhere, 
 use Rattle.clearance.specs.Scope.{Arm, fixed, argued, pointing, operator, accessIndex, access, swizzle, compose, joined, load, unjudged, arm, Source, given, from, sourceOf, source}
 use Rattle.clearance.specs.Tree.{Act, emit, store, Tree, nop, seq, act, branch, switch, loop, break, continue, return, unmarked}
 use Rattle.clearance.specs.Needs.{Ask, ofValue, ofPlace, askOperand, askWhole, askPicked, askComponents, askSteps, asks, gives, needAt, needFrom, need, needs, overlap, without, storing, giving, before, wholly}
-use Rattle.clearance.specs.Needs.{Exit, next, broke, continued, returned, upon, outBreak, outContinue, ofCase, ofContinuing, ofBody, union, obeys, kept, turning, valued, through, afterContinuing, Setting, Table, reentry, joinAt, walk, afterBody, sweep}
+use Rattle.clearance.specs.Needs.{Exit, next, broke, continued, returned, upon, outBreak, outContinue, ofCase, ofContinuing, ofBody, union, obeys, kept, turning, valued, afterContinuing, Setting, walk}
 use Rattle.clearance.specs.Verdict.{Request, ending}
 use Rattle.clearance.specs.IsNeed.{AscendingRequest}
 use Rattle.clearance.proofs.Ascending.{under-ok, sub-ok, below-ok, trim-ok, out-ok, add-need, trim-need, none-need}
-use Rattle.pass.specs.Pass.{Carried, on, acting}
-use Rattle.pass.proofs.Pass.{Says, says-acting}
-use Rattle.needs.specs.Lean.{leaves}
-use Rattle.framed.specs.Places.{Placed}
 use Rattle.framed.specs.Kept.{Kept, Deep, AskFine, AsksFine}
-use Rattle.framed.proofs.Takes.{without-leaves}
 use Rattle.framed.proofs.Framed.{add-framed, trim-framed, under-framed, without-framed}
 
 -- Places
@@ -136,10 +129,6 @@ module _ (S : Scope) where
     framed = without-framed S q n (f .need .ascends) (f .framed);
   }
 
-  -- the same as the code leaves it
-  pub kept-leaves : (q : List ℕ) (n : PartReq) → Placed S q → Kept S n → Kept S (leaves (frame S) n q)
-  kept-leaves q n d f = subst (Kept S) (without-leaves S q n d (f .need .tidy) (f .framed)) (kept-without q n f)
-
   kept-at : (q : List ℕ) (a n : PartReq) → Deep q → Ascending a → Kept S n → Kept S (needAt S q a n)
   unfolding needAt
   kept-at q a n d f g = kept-add _ n (kept-under q a d f) g
@@ -196,16 +185,7 @@ module _ (S : Scope) where
   unfolding before
   kept-before x n g = either-kept (some (overlap S x n)) _ n (kept-giving x _ n (overlap-ascends x n (g .need .ascends)) g) g
 
-  -- what a pass has before an act
-  pub kept-acting : (aside : List PartReq) (x : Act) (n : PartReq) (c d : Carried) (m : PartReq) → acting S aside x n c ≡ on d m → Kept S n → Kept S m
-  kept-acting aside x n c d m h g = go (says-acting S aside x n c)
-    where
-      go : Says (acting S aside x n c) c (before S x n) → Kept S m
-      go (inl e) = never cc
-      go (inr e) = let z : before S x n ≡ m = cc in subst (Kept S) z (kept-before x n g)
-
   -- Statements
-
   pub kept-union : (n : ℕ) (f : ℕ → PartReq) → ((i : ℕ) → Kept S (f i)) → Kept S (union n f)
   unfolding union
   kept-union zero f h = kept-none
@@ -263,35 +243,7 @@ module _ (S : Scope) where
     need = trim-need (frame S) _ (under-ok (variable 0 ∷ []) (R .globals) (o .globals));
     framed = trim-framed (more (variable 0) (R .globals) none) (frame S) (o .globals, tt) (h, tt);
   }
-
   -- Tables
-
-  abbrev pub TableKept : Table → Type 0
-  TableKept t = (j : ℕ) → Kept S (reentry t j)
-
-  pub kept-empty : TableKept []
-  unfolding reentry
-  kept-empty j = kept-none
-
-  pub kept-join : (n : ℕ) (m : PartReq) (t : Table) → Kept S m → TableKept t → TableKept (joinAt n m t)
-  unfolding reentry joinAt
-  kept-join zero m [] f h zero = kept-add m none f kept-none
-  kept-join zero m [] f h (suc j) = kept-none
-  kept-join (suc n) m [] f h zero = kept-none
-  kept-join (suc n) m [] f h (suc j) = kept-join n m [] f h j
-  kept-join zero m (x ∷ t) f h zero = kept-add m x f (h 0)
-  kept-join zero m (x ∷ t) f h (suc j) = h (suc j)
-  kept-join (suc n) m (x ∷ t) f h zero = h 0
-  kept-join (suc n) m (x ∷ t) f h (suc j) = kept-join n m t f (λ i. h (suc i)) j
-
-  kept-through : (n : ℕ) (f : ℕ → Table → Table) (t : Table) → ((i : ℕ) (u : Table) → TableKept u → TableKept (f i u)) → TableKept t → TableKept (through n f t)
-  unfolding through
-  kept-through zero f t h g = g
-  kept-through (suc n) f t h g = h n (through n f t) (kept-through n f t h g)
-
-  either-table : (b : Bool) (t u : Table) → TableKept t → TableKept u → TableKept (cond b t u)
-  either-table true t u f g = f
-  either-table false t u f g = g
 
 module _ (W : Setting) (fine : Ascending (W .asked)) (r : ℕ → PartReq) (again : (j : ℕ) → Kept (W .scope) (r j)) where
   pub kept-walk : (a : Tree) (k : Exit → PartReq) → AllKept (W .scope) k → Kept (W .scope) (walk W r a k)
@@ -309,20 +261,3 @@ module _ (W : Setting) (fine : Ascending (W .asked)) (r : ℕ → PartReq) (agai
   kept-walk (return n v) k h = kept-valued (W .scope) (W .asked) v (k returned) fine (h returned)
   kept-walk (unmarked n mark a) k h =
       either-kept (W .scope) (obeys (W .scope) (k next) a) (k next) _ (h next) (kept-kept (W .scope) a (k next) _ (h next) (kept-walk a k h))
-
-  pub kept-sweep : (a : Tree) (k : Exit → PartReq) (t : Table) → AllKept (W .scope) k → TableKept (W .scope) t → TableKept (W .scope) (sweep W r a k t)
-  unfolding sweep afterBody
-  kept-sweep nop k t h g = g
-  kept-sweep (seq a b) k t h g = kept-sweep a _ _ (kept-upon (W .scope) _ k (kept-walk b k h) h) (kept-sweep b k t h g)
-  kept-sweep (act x) k t h g = g
-  kept-sweep (branch c a b) k t h g = kept-sweep a k _ h (kept-sweep b k t h g)
-  kept-sweep (switch c vs f) k t h g =
-      kept-through (W .scope) (length vs) (λ i. sweep W r (f i) (ofCase k)) t (λ i u e. kept-sweep (f i) (ofCase k) u (kept-case (W .scope) k h) e) g
-  kept-sweep (loop n a b c) k t h g =
-      let m = kept-continuing (W .scope) (r n) c k (again n) h in
-      let l = kept-body (W .scope) _ k (kept-walk b _ m) h in
-      kept-join (W .scope) n _ _ (kept-walk a _ l) (kept-sweep a _ _ l (kept-sweep b _ t m g))
-  kept-sweep (break n) k t h g = g
-  kept-sweep (continue n) k t h g = g
-  kept-sweep (return n v) k t h g = g
-  kept-sweep (unmarked n mark a) k t h g = either-table (W .scope) (obeys (W .scope) (k next) a) t _ g (kept-sweep a k t h g)

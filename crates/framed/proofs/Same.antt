@@ -9,14 +9,13 @@ use mathlib.Core.List.{List, [], _∷_, map}
 use lib.Dec.{ltb}
 use lib.ListN.{length, getD}
 use borrow.Author.Tests.{lt-ltb, le-ltb}
-use Rattle.part.specs.PartReq.{PartReq, all, exist, none, more, spine}
+use Rattle.part.specs.PartReq.{spine}
 use Rattle.module.specs.Module.{TypeHandle, TypeInner, Scalar, Vector, Matrix, Atomic, Pointer, Array, Struct, BindingArray, Opaque, Member}
 use Rattle.module.specs.Knot.{below}
 use Rattle.module.proofs.Knot.{knot-is, below-lt}
 use Rattle.clearance.specs.Shape.{Shape, number, void, struct, array, member, isVoid, shapeAt}
 use Rattle.clearance.specs.Scope.{Scope, inner, memberTypes, vectorShape, elements, unfoldType, shapeOf, kind, bases, alike}
 use Rattle.clearance.specs.Judged.{same}
-use Rattle.clearance.specs.IsNeed.{Tidy}
 use Rattle.judge.specs.Alike.{Lower}
 use Rattle.judge.proofs.Pairwise.{pairwise-long, pairwise-at, equal-lists}
 use Rattle.judge.proofs.Equivalence.{inner-parts}
@@ -63,15 +62,7 @@ pub same-void : {s t : Shape} → SameShape s t → isVoid s ≡ isVoid t
 unfolding shapeAt
 same-void {s} {t} h = void-head s ∙ ap isVoidHead (h .each []) ∙ sym (void-head t)
 
--- what is trimmed to one is trimmed to the other
-pub same-tidy : (p : PartReq) {s t : Shape} → SameShape s t → Tidy p s → Tidy p t
-same-tidy all h f = sym (same-void h) ∙ f
-same-tidy exist h f = f
-same-tidy none h f = f
-same-tidy (more i p r) h f = (f .0, (same-tidy p (same-member i h) (f .1 .0), same-tidy r h (f .1 .1)))
-
 -- Types
-
 unfold-head : (w v : TypeHandle → Shape) (x : TypeInner) → head (unfoldType w x) ≡ head (unfoldType v x)
 unfolding unfoldType vectorShape
 unfold-head w v Scalar = refl

@@ -57,7 +57,3 @@ module _ (S : Scope) where
   -- a slot is a place
   pub slot-placed : (x : Slot) → There S x → Placed S (slot x)
   slot-placed x l = record { home = x; path = []; there = l; is = sym (nil-right (slot x)); within = slot-fills x l }
-
-  -- a place within a slot has the shape that its path has in the slot's type
-  pub place-shape : (x : Slot) → There S x → (q : List ℕ) → shapeAt (frame S) (slot x ++ q) ≡ shapeAt (shapeOf S (slotType S x)) q
-  place-shape x l q = shape-on (slot x) q (frame S) ∙ ap (λ (s : Shape). shapeAt s q) (slot-shape x l)

@@ -1,38 +1,23 @@
 -- What an act takes from needs that are trimmed it takes as it stands, and what it leaves is what `leaves` has: at a place within a slot the clearance's trims change nothing.
 -- All of the frame is never needed (Framed), so its own void, where a function has no result, is never split; below it every slot's shape is solid.
-use Prim.Native.Nat.{ℕ, _+_, _/_, _<_}
+use Prim.Native.Nat.{ℕ, _+_, _/_}
 use native.Mathlib.Omega.{arith}
-use mathlib.Core.Path.{_≡_, refl, sym, ap, subst, _∙_}
-use mathlib.Core.Bool.{true, false, cond}
+use mathlib.Core.Path.{_≡_, refl, sym, subst, _∙_}
+use mathlib.Core.Bool.{false}
 use mathlib.Core.List.{List, _∷_, _++_}
-use lib.ListN.{length}
 use Rattle.part.specs.PartReq.{PartReq, all, exist, none, more}
-use Rattle.module.specs.Module.{ExpressionHandle}
-use Rattle.clearance.specs.Shape.{member, isVoid, isWhole, shapeAt, below, split, takeOut}
-use Rattle.clearance.specs.Scope.{Scope, Slot, global, local, argument, result, evaluated, variable, slot, slots, kindShape, frame, Place, pathOf, target, isPath, arm}
-use Rattle.clearance.specs.Tree.{emit, store}
-use Rattle.clearance.specs.Needs.{gives, overlap, without}
+use Rattle.clearance.specs.Shape.{member, isVoid, isWhole, shapeAt, split, takeOut}
+use Rattle.clearance.specs.Scope.{Scope, Slot, global, local, argument, result, evaluated, variable, slot, slots, kindShape, frame, Place}
+use Rattle.clearance.specs.Needs.{without}
 use Rattle.clearance.specs.IsNeed.{Tidy}
 use Rattle.needs.specs.Lean.{leaves, Solid}
 use Rattle.needs.specs.Framed.{Framed}
-use Rattle.needs.proofs.Lean.{hit-below, change-is, leaves-is}
-use Rattle.framed.specs.Given.{Lowered, Judged}
+use Rattle.needs.proofs.Lean.{change-is, leaves-is}
 use Rattle.framed.specs.Places.{There, Placed}
 use Rattle.framed.proofs.Solid.{solid, slots-solid}
-use Rattle.framed.proofs.Slots.{frame-member, kind-evaluated, slot-fills}
-use Rattle.framed.proofs.Paths.{landed}
+use Rattle.framed.proofs.Slots.{frame-member, kind-evaluated}
 
 module _ (S : Scope) where
-  pub emit-takes : (e : ExpressionHandle) (n : PartReq) → e < length (S .function .expressions) → Tidy n (frame S) →
-      overlap S (emit e) n ≡ cond (gives (arm S e)) (below n (slot (evaluated e))) none
-  unfolding overlap
-  emit-takes e n l h = ap (λ (p : PartReq). cond (gives (arm S e)) p none) (hit-below (frame S) n (slot (evaluated e)) h (slot-fills S (evaluated e) l))
-
-  pub store-takes : Lowered S → Judged S → (p v : ExpressionHandle) (n : PartReq) → p < length (S .function .expressions) → isPath S p ≡ true → Tidy n (frame S) →
-      overlap S (store p v) n ≡ below n (target (pathOf S p))
-  unfolding overlap
-  store-takes R J p v n l h f = hit-below (frame S) n (target (pathOf S p)) f (landed S R J p l h .place .within)
-
   -- the map of a slot's kind is solid
   home : Slot → ℕ
   home (global g) = 0

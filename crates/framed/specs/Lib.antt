@@ -2,4 +2,3 @@ pub mod Given
 pub mod Same
 pub mod Places
 pub mod Kept
-pub mod Narrow

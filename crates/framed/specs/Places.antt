@@ -4,7 +4,7 @@ use mathlib.Core.Path.{_≡_}
 use mathlib.Core.Bool.{false}
 use mathlib.Core.List.{List, [], _++_}
 use lib.ListN.{length, getD}
-use Rattle.module.specs.Module.{TypeHandle, TypeInner, ExpressionHandle}
+use Rattle.module.specs.Module.{TypeHandle, TypeInner}
 use Rattle.clearance.specs.Shape.{isVoid, shapeAt}
 use Rattle.clearance.specs.Scope.{Scope, shapeOf, unfoldType, Slot, global, local, argument, result, evaluated, slot, typeOf, argumentType, frame, Place, Path, indexes, target}
 use Rattle.framed.specs.Same.{SameShape}

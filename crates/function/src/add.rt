@@ -56,7 +56,6 @@ ghost use Rattle.block.specs.Functions.{FunctionEntered, FunctionEnds};
 ghost use Rattle.block.specs.Blocks.{contextIn, Entered, BlockEnds, StatementEnds};
 ghost use Rattle.block.specs.Visiting.{blockIn, marked, Visits, Arms, VisitEnds};
 ghost use mathlib.Core.Path.{_≡_};
-ghost use mathlib.Core.Bool.{Bool};
 ghost use Rattle.module.specs.Decode.{statementOf, tab, caseOf, optionOf};
 ghost use Rattle.access.specs.Access.{operandAt};
 ghost use Rattle.walk.specs.Statement.{addStatement, visitStatement, addNested, addIf, addSwitch, addLoop, turns};

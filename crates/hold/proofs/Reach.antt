@@ -109,17 +109,9 @@ reach-swap l m = record { into = both-in l m (m ++ l) (right-in m l) (left-in m 
 pub reach-exchange : (p q : PartReq) (l : List PartReq) → Reach (p ∷ q ∷ l) (q ∷ p ∷ l)
 reach-exchange p q l = reach-right (reach-swap (p ∷ []) (q ∷ [])) l
 
--- the need p goes behind the list k
-pub reach-behind : (p : PartReq) (k l : List PartReq) → Reach (p ∷ (k ++ l)) (k ++ (p ∷ l))
-reach-behind p [] l = reach-refl (p ∷ l)
-reach-behind p (q ∷ k) l = reach-trans (reach-exchange p q (k ++ l)) (reach-cons q (reach-behind p k l))
-
 -- a need whose cells are reached already adds nothing
 pub reach-again : (p : PartReq) (l : List PartReq) → Among (cellsIn p) (reached l) → Reach (p ∷ l) l
 reach-again p l h = record { into = cons-in p l l h (λ q z. z); back = tail-in p l }
-
-pub reach-none : (l : List PartReq) → Reach (none ∷ l) l
-reach-none l = reach-again none l (none-in (reached l))
 
 pub reach-sub : (p q : PartReq) (l : List PartReq) → sub p q ≡ true → among q l ≡ true → Reach (p ∷ l) l
 reach-sub p q l h e = reach-again p l (λ o z. one-in q l e o (sub-cells p q h o z))

@@ -1,5 +1,5 @@
 -- What the slots hold: the list of needs slot by slot, as slots are set, copied or dropped, and as the store grows.
-use Prim.Native.Nat.{ℕ, zero, suc, _+_, _*_, _<_, _≤_}
+use Prim.Native.Nat.{ℕ, zero, suc, _+_, _<_, _≤_}
 use native.Mathlib.Omega.{arith}
 use native.Mathlib.Numerals.{add-one}
 use native.Mathlib.Decide.{ℕ-discrete}
@@ -11,8 +11,7 @@ use lib.ListN.{length, getD, take, set, length-set, length-map}
 use lib.Seq.{length-take-le, take-suc, getD-set-same, getD-set-other, take-set-le, ext-getD}
 use borrow.Author.Tests.{le-ltb}
 use Rattle.part.specs.PartReq.{PartReq, none}
-use Rattle.part.specs.StoreLimits.{cellWords, tableWords}
-use Rattle.part.specs.Store.{top, part, Good, Kept, Room}
+use Rattle.part.specs.Store.{top, part, Kept, Room}
 use Rattle.part.specs.Count.{same, among}
 use Rattle.part.specs.Collect.{cellsOf}
 use Rattle.part.proofs.Counting.{same-refl, Stands}
@@ -20,7 +19,7 @@ use Rattle.part.proofs.Distinct.{or-left, or-right-true}
 use Rattle.clearance.specs.Shape.{below}
 use Rattle.pass.specs.Pass.{workBound}
 use Rattle.hold.specs.Hold.{slack, heldBy, inSlot, Loose, Live, Pushed, Reach}
-use Rattle.hold.proofs.Reach.{reach-is, reach-trans, reach-swap, reach-among, reach-below}
+use Rattle.hold.proofs.Reach.{reach-is, reach-trans, reach-swap, reach-below}
 use Rattle.hold.proofs.Count.{cells-below}
 
 -- the list, slot by slot
@@ -58,9 +57,6 @@ slot-among s (r ∷ rs) (suc n) zero h l = or-left _ _ (same-refl (part s r))
 slot-among s (r ∷ rs) (suc n) (suc i) h l = or-right-true (same (inSlot s rs i) (part s r)) _ (slot-among s rs n i (omega arith) (omega arith))
 
 module _ (s rs : List ℕ) (n i : ℕ) (h : i < n) (l : n ≤ length rs) where
-  pub slot-reach : Reach (inSlot s rs i ∷ heldBy s rs n) (heldBy s rs n)
-  slot-reach = reach-among (inSlot s rs i) (heldBy s rs n) (slot-among s rs n i h l)
-
   pub slot-below : (path : List ℕ) → Reach (below (inSlot s rs i) path ∷ heldBy s rs n) (heldBy s rs n)
   slot-below path = reach-below (inSlot s rs i) path (heldBy s rs n) (slot-among s rs n i h l)
 
@@ -81,9 +77,6 @@ module _ {s rs : List ℕ} {n : ℕ} (l : Loose s rs n) where
 
   pub slot-kept : {t : List ℕ} → Kept s t → (j : ℕ) → j < n → inSlot t rs j ≡ inSlot s rs j
   slot-kept k j h = k .same (getD rs j 0) (l .pieces j h)
-
-  pub held-kept : {t : List ℕ} → Kept s t → heldBy t rs n ≡ heldBy s rs n
-  held-kept {t} k = held-same s rs t rs n (l .few) (l .few) (slot-kept k)
 
   -- fewer slots
   pub loose-less : {m : ℕ} → m ≤ n → Loose s rs m
@@ -129,11 +122,6 @@ module _ (s rs : List ℕ) (j p : ℕ) where
 pub held-push : (s rs : List ℕ) (n p : ℕ) → n < length rs → Reach (heldBy s (set rs n p) (n + 1)) (part s p ∷ heldBy s rs n)
 held-push s rs n p h =
     rw (slot-set s rs n p h, take-set-le n rs n p (omega arith)) at (held-reach s (set rs n p) n (omega (arith, length-set rs n p)))
-
--- a new store, and no slot
-pub live-start : {s : List ℕ} (rs : List ℕ) → Good s → top s ≡ 3 → cellWords * (3 + (workBound + slack)) + tableWords ≤ length s → Live s rs 0
-live-start rs g e h =
-    record { loose = record { good = g; few = omega arith; pieces = λ j z. absurd (omega arith); long = h }; slim = omega arith }
 
 module _ {s rs : List ℕ} {n : ℕ} (l : Live s rs n) where
   pub live-within : ltb workBound (cellsOf (heldBy s rs n)) ≡ false

@@ -5,7 +5,6 @@ use mathlib.Core.Path.{_≡_, refl, sym, ap, subst, _∙_}
 use mathlib.Core.Bool.{Bool, true, false}
 use mathlib.Core.List.{List}
 use mathlib.Core.Option.{Option, some as present, none as nothing}
-use lib.Dec.{eqb}
 use lib.ListN.{length, getD, set, length-set}
 use borrow.Author.Tests.{eq-eqb, ne-eqb}
 use Rattle.field.specs.Limits.{absent}
@@ -13,9 +12,9 @@ use Rattle.module.specs.Module.{BlockHandle, Statement, Return, Function, Kill}
 use Rattle.module.specs.Decode.{optionOf, statementOf}
 use Rattle.module.specs.Tables.{functionOf, moduleOf}
 use Rattle.access.specs.declared.kinded.Kinded.{Kinded}
-use Rattle.access.specs.Access.{operandAt, statementRow, statementAt}
+use Rattle.access.specs.Access.{operandAt}
 use Rattle.access.proofs.Access.{statement-is, statement-of}
-use Rattle.valid.specs.Valid.{MaybeBelow, UsesBelow, entriesBelow}
+use Rattle.valid.specs.Valid.{UsesBelow, entriesBelow}
 use Rattle.clearance.specs.Scope.{Scope}
 use Rattle.clearance.specs.Tree.{Tree, nop, break, continue, return, statement}
 use Rattle.clearance.specs.Judged.{fitsStatement}
@@ -23,8 +22,7 @@ use Rattle.judge.specs.Given.{scopeAt}
 use Rattle.module.proofs.Each.{past}
 use Rattle.judge.proofs.PathSteps.{function-valid}
 use Rattle.asking.specs.Asks.{StepGiven}
-use Rattle.standing.specs.Slots.{endSlot, Ready}
-use Rattle.standing.specs.Standing.{Targets, Valued, inside, Walked}
+use Rattle.standing.specs.Standing.{Valued, inside, Walked}
 use Rattle.standing.specs.declared.passing.Passing.{Passing}
 use Rattle.standing.specs.declared.passing.Exits.{Exits}
 use Rattle.standing.proofs.Walks.{walked-nop}

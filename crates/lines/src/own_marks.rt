@@ -1,6 +1,5 @@
 // A statement's own marks, as its line has them.
 use crate::text::write_word;
-ghost use mathlib.Core.Path.{_≡_};
 ghost use Prim.Native.Nat.{_+_, _≤_};
 ghost use lib.ListN.{length, take, drop};
 ghost use Rattle.lines.specs.Text.{markText, marksText};

@@ -2,7 +2,6 @@
 use crate::contexts::write_line;
 use module::handles::ExpressionHandle;
 use part::store::look;
-ghost use mathlib.Core.Path.{_≡_};
 ghost use Prim.Native.Nat.{_+_, _<_, _≤_};
 ghost use lib.ListN.{length};
 ghost use Rattle.part.specs.Store.{Good, top, part, Below};

@@ -2,7 +2,6 @@
 ghost use mathlib.Core.Path.{_≡_};
 ghost use mathlib.Core.List.{[], _∷_};
 ghost use Prim.Native.Nat.{_+_, _<_};
-ghost use lib.ListN.{length};
 ghost use Rattle.lines.specs.Text.{number};
 ghost use Rattle.lines.specs.Wrote.{Fits, Wrote};
 

@@ -54,11 +54,6 @@ slice-other m xs ys base at f g i ne e h =
           rw z (slice-before xs (base + startOf m g) (stretch m g) (startOf m f + i - startOf m g) ys (omega arith))
     ]
 
-pub other-kept : (m : Module) (xs ys : List ℕ) (at f g i : ℕ) → (g ≡ f → ⊥) → at ≡ startOf m f + i → i + length ys ≤ stretch m f → slice (writeMarks xs at ys) (startOf m g) (stretch m g) ≡ slice xs (startOf m g) (stretch m g)
-other-kept m xs ys at f g i ne e h =
-    let z : 0 + startOf m g ≡ startOf m g = omega arith in
-    rw z at (slice-other m xs ys 0 at f g i ne (omega arith) h)
-
 -- a statement's marks lie in the stretch
 pub statement-inside : (m : Module) (f s : ℕ) → s < length (functionAt m f .statements) → marksBefore (functionAt m f .statements) s + markCount (statementAt m f s) ≤ stretch m f
 unfolding stretch statementAt
@@ -122,9 +117,6 @@ module _ (bytes t places : List ℕ) (was : WasRead bytes t) (p : Places bytes t
     pub own-written : slice (writeMarks xs at ys) (startOf m f) (stretch m f) ≡ writeMarks (slice xs (startOf m f) (stretch m f)) (marksBefore (functionAt m f .statements) s) ys
     own-written = rw at-place (slice-inside xs (startOf m f) (stretch m f) (marksBefore (functionAt m f .statements) s) ys within)
 
-    pub own-other : (g : ℕ) → (g ≡ f → ⊥) → slice (writeMarks xs at ys) (startOf m g) (stretch m g) ≡ slice xs (startOf m g) (stretch m g)
-    own-other g ne = other-kept m xs ys at f g (marksBefore (functionAt m f .statements) s) ne at-place within
-
   -- all marks of f cleared
   module _ (xs : List ℕ) (f : ℕ) (hf : f < count) where
     pub cleared-own : minReport ≤ length xs → slice (writeMarks xs (startIn places f) (replicate (sizeIn places f) 0)) (startOf m f) (stretch m f) ≡ replicate (stretch m f) 0
@@ -134,13 +126,6 @@ module _ (bytes t places : List ℕ) (was : WasRead bytes t) (p : Places bytes t
         rw (size-is f hf, p .starts f (omega arith))
         (subst (λ (n : ℕ). slice (writeMarks xs (startOf m f) (replicate (stretch m f) 0)) (startOf m f) n ≡ replicate (stretch m f) 0) a
         (slice-written xs (startOf m f) (replicate (stretch m f) 0) (omega arith)))
-
-    pub cleared-other : (g : ℕ) → (g ≡ f → ⊥) → slice (writeMarks xs (startIn places f) (replicate (sizeIn places f) 0)) (startOf m g) (stretch m g) ≡ slice xs (startOf m g) (stretch m g)
-    cleared-other g ne =
-        let a = length-replicate {A = ℕ} (sizeIn places f) 0 in
-        let b = size-is f hf in
-        let c = p .starts f (omega arith) in
-        other-kept m xs (replicate (sizeIn places f) 0) (startIn places f) f g 0 ne (omega arith) (omega arith)
 
 -- a slot's piece says whether there is a record
 not-plain : {q : PartReq} → Recorded q → (isAll q ≡ false) × (isExist q ≡ false)

@@ -1,9 +1,7 @@
 -- How many marks a statement has, by its kind: shown for each kind below 21, and for all others at once.
 use mathlib.Core.Path.{_≡_, refl, sym, ap, _∙_}
 use mathlib.Core.List.{List}
-use Prim.Native.Nat.{ℕ, zero, suc, _-_, _≤_}
-use native.Mathlib.Decide.{ℕ-discrete}
-use native.Mathlib.Omega.{arith}
+use Prim.Native.Nat.{ℕ, zero, suc, _-_}
 use Rattle.module.specs.Decode.{statementOf}
 use Rattle.module.specs.Marks.{markCount}
 use Rattle.access.specs.declared.kinded.Kinded.{Kinded}

@@ -3,43 +3,23 @@ use mathlib.Core.Path.{_≡_, refl, sym, ap, _∙_, subst}
 use mathlib.Core.Bool.{Bool, true, false, not, cond}
 use mathlib.Core.List.{List, [], _∷_, _++_, append-assoc, append-nil}
 use mathlib.Core.Option.{Option, some, none as nothing, Option·none-ne-some}
-use Prim.Native.Nat.{ℕ, zero, suc, _+_, _<_, _≤_}
-use native.Mathlib.Decide.{ℕ-discrete}
-use native.Mathlib.Nat.{le-refl}
+use Prim.Native.Nat.{ℕ, suc, _+_, _<_, _≤_}
 use native.Mathlib.Omega.{arith}
 use lib.Dec.{eqb}
-use lib.ListN.{length, getD, set, drop, replicate, length-replicate, length-set}
+use lib.ListN.{length, getD, set, replicate, length-set}
 use lib.Seq.{getD-set-same, getD-set-other, drop-set-lt}
 use borrow.Author.Tests.{eqb-true}
-use Rattle.field.specs.Limits.{minReport}
 use Rattle.module.specs.Module.{Function, Module}
 use Rattle.module.specs.Tables.{moduleOf}
 use Rattle.walk.specs.State.{FunctionReq, State}
 use Rattle.walk.specs.Marks.{stretch, writeMarks, addMarks}
-use Rattle.walk.specs.Requests.{totalMarks, bytesFrom, stretchesFrom}
+use Rattle.walk.specs.Requests.{totalMarks, bytesFrom}
 use Rattle.state.specs.Ready.{WasRead}
 use Rattle.marks.specs.Places.{slice, startOf, startIn, sizeIn, Places}
 use Rattle.marks.specs.Report.{totalsAt, totalsSize, Sized, hasTotal, totalIn, marksKept, Totals, partIn, reportIn}
-use Rattle.marks.proofs.Write.{write-cut, write-before, slice-long, slice-written, add-long}
-use Rattle.marks.proofs.Placed.{few, fit}
-use Rattle.marks.proofs.Fit.{stretches-are}
-use Rattle.marks.proofs.Buffers.{slice-other, size-is, ends, all-inside}
-use Rattle.marks.proofs.Stretches.{report-long}
-
-start-zero : (m : Module) → startOf m 0 ≡ 0
-unfolding startOf
-start-zero m = refl
-
--- no totals yet
-no-total : (n f : ℕ) → _≡_ {A = Option FunctionReq} (getD (replicate n nothing) f nothing) nothing
-no-total zero f = refl
-no-total (suc n) zero = refl
-no-total (suc n) (suc f) = no-total n f
-
-no-flag : (n f : ℕ) → _≡_ {A = ℕ} (getD (replicate n 0) f 0) 0
-no-flag zero f = refl
-no-flag (suc n) zero = refl
-no-flag (suc n) (suc f) = no-flag n f
+use Rattle.marks.proofs.Write.{write-before, slice-long, slice-written, add-long}
+use Rattle.marks.proofs.Placed.{few}
+use Rattle.marks.proofs.Buffers.{slice-other, size-is, ends}
 
 -- what the flag says
 pub total-there : (m : Module) (totals : List ℕ) (f : ℕ) → hasTotal totals f ≡ true → totalIn m totals f ≡ some (slice totals (totalsAt + startOf m f) (stretch m f))
@@ -49,13 +29,6 @@ total-there m totals f h = rw h
 pub total-missing : (m : Module) (totals : List ℕ) (f : ℕ) → hasTotal totals f ≡ false → totalIn m totals f ≡ nothing
 unfolding totalIn
 total-missing m totals f h = rw h
-
-pub totals-fresh : (m : Module) (n k : ℕ) → totalsSize ≤ n → Totals m (replicate n 0) (replicate k nothing)
-totals-fresh m n k h =
-    record {
-      long = omega (arith, length-replicate {A = ℕ} n 0);
-      each = λ f l. total-missing m (replicate n 0) f (rw (no-flag n f)) ∙ sym (rw (no-total k f));
-    }
 
 module _ (bytes t places : List ℕ) (was : WasRead bytes t) (p : Places bytes t places) where
   abbrev m : Module
@@ -143,20 +116,6 @@ module _ (bytes t places : List ℕ) (was : WasRead bytes t) (p : Places bytes t
     added-other g hg ne =
         written-other totals totals (addMarks (slice totals (totalsAt + startIn places f) (sizeIn places f)) (slice marks (startIn places f) (sizeIn places f))) f hf (buffers .totals-long) sum-size g hg ne refl refl
 
-    -- the totals of the state, with that of f
-    pub totals-set : (after : List ℕ) (fs : List (Option FunctionReq)) (req : FunctionReq) → Totals m totals fs → length fs ≡ count → length after ≡ length totals → totalIn m after f ≡ some (req .marks) → ((g : ℕ) → g < count → (g ≡ f → ⊥) → totalIn m after g ≡ totalIn m totals g) → Totals m after (set fs f (some req))
-    totals-set after fs req sums many as-long own others =
-        record {
-          long = let l = sums .long in omega arith;
-          each = λ g h.
-              elim (ℕ-discrete g f) [
-                | yes e ↦
-                    let i : f < length fs = omega arith in
-                    rw (e, getD-set-same fs f (some req) nothing i) own
-                | no ne ↦ rw (getD-set-other fs f g (some req) nothing ne) (others g h ne ∙ sums .each g h)
-              ];
-        }
-
   -- a function's part of the report
   module _ (totals marks : List ℕ) (asked : ℕ) (st : State) (sums : Totals m totals (st .functions)) (own : st .marks ≡ slice marks (startOf m asked) (stretch m asked)) where
     total-part : (b : Bool) (f : ℕ) (o : Option FunctionReq) → f < count → cond (not b) (some (slice totals (totalsAt + startOf m f) (stretch m f))) nothing ≡ marksKept o → cond b (replicate (sizeIn places f) 0) (slice totals (totalsAt + startIn places f) (sizeIn places f)) ≡ totalMarks m f o
@@ -189,13 +148,3 @@ module _ (bytes t places : List ℕ) (was : WasRead bytes t) (p : Places bytes t
     pub report-is : reportIn places marks totals asked count ≡ bytesFrom m asked st 0 (moduleOf bytes t .functions)
     unfolding reportIn
     report-is = sym (report-from 0 (moduleOf bytes t .functions) (omega arith))
-
-    pub report-written : (report : List ℕ) → minReport ≤ length report → minReport ≤ length marks → writeMarks report 0 (reportIn places marks totals asked count) ≡ bytesFrom m asked st 0 (moduleOf bytes t .functions) ++ drop (stretchesFrom m 0 (moduleOf bytes t .functions)) report
-    report-written report l r =
-        let long = report-long places marks totals asked count (all-inside bytes t places was p minReport (le-refl minReport)) (record { marks-long = r; totals-long = sums .long }) count (le-refl count) ∙ p .starts count (le-refl count) in
-        let none = start-zero m in
-        let y : 0 + count ≡ count = omega arith in
-        let end : startOf m 0 + stretchesFrom m 0 (moduleOf bytes t .functions) ≡ startOf m count = rw y at (stretches-are m 0 (moduleOf bytes t .functions)) in
-        let w = fit bytes t was in
-        let z : 0 + length (reportIn places marks totals asked count) ≡ stretchesFrom m 0 (moduleOf bytes t .functions) = omega arith in
-        write-cut report 0 (reportIn places marks totals asked count) (omega arith) ∙ rw (z, report-is)

@@ -14,7 +14,7 @@ ghost use Rattle.field.specs.Limits.{minReport};
 ghost use Rattle.walk.specs.StatementReq.{any, mark, marksOf};
 ghost use Rattle.walk.specs.Marks.{writeMarks, addMarks};
 ghost use Rattle.marks.specs.Places.{slice, startIn, sizeIn, Inside, recordedIn};
-ghost use Rattle.marks.specs.Report.{totalsAt, Sized, hasTotal};
+ghost use Rattle.marks.specs.Report.{totalsAt, Sized};
 
 pub fn set_mark(marks: &mut [u8], at: usize, b: bool)
     requires { ⌜ at < length (now marks) ⌝ }
@@ -70,14 +70,6 @@ pub fn clear_marks(marks: &mut [u8], places: &[u32], f: FunctionHandle)
     let from = start(places, i);
     let to = start(places, i + 1);
     clear(&mut marks[from..to]);
-}
-
-pub fn has_total(totals: &[u8], f: FunctionHandle) -> bool
-    requires { ⌜ f .0 < length (now totals) ⌝ }
-    ensures { λ r. ⌜ r ≡ hasTotal (now (totals .entry)) (f .0) ⌝ }
-{
-    let i = f.0 as usize;
-    totals[i] != 0
 }
 
 // The first total of f: its marks as they are.

@@ -7,13 +7,12 @@ use mathlib.Core.List.{List}
 use lib.ListN.{length, getD}
 use borrow.Author.Tests.{lt-ltb, le-ltb}
 use Rattle.field.specs.Limits.{maxDepth, maxPieces}
-use Rattle.part.specs.PartReq.{PartReq, all, exist, none, more, Subpart, gone, there, getSubpart, add, entries, spine}
+use Rattle.part.specs.PartReq.{PartReq, all, exist, none, more, Subpart, gone, there, getSubpart, entries, spine}
 use Rattle.part.specs.Insert.{insert}
 use Rattle.part.specs.Store.{top, part, Good, Kept, Room, Made}
 use Rattle.part.specs.Found.{Got}
 use Rattle.part.specs.declared.req.Found.{Found}
 use Rattle.part.specs.declared.req.Found.the-variants.{Gone, There}
-use Rattle.part.proofs.Pieces.{part-2}
 use Rattle.part.proofs.Sizes.{sum-small}
 use Rattle.part.proofs.Making.{kept-trans}
 use Rattle.context.specs.RequiredContext.{variable}

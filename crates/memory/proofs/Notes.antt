@@ -18,7 +18,7 @@ use Rattle.part.proofs.Pieces.{part-0, part-1, part-2}
 use Rattle.part.proofs.Making.{kept-trans}
 use Rattle.part.proofs.Write.{kept-self}
 use Rattle.part.proofs.Counting.{same-is, same-pieces}
-use Rattle.memory.specs.Layout.{ask, returned, flatSlot, flatCount, globalsSlot, stackSlot, storeSize}
+use Rattle.memory.specs.Layout.{flatSlot, flatCount, globalsSlot, stackSlot, storeSize}
 use Rattle.memory.specs.Want.{asked, Wants}
 use Rattle.memory.specs.Memory.{read, sumFrom, Recorded, missing, present, Memory, Filled, Flats, Empty, Putting, Noting, Noted}
 use Rattle.memory.specs.declared.want.Want.{Want}

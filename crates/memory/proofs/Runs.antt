@@ -9,7 +9,7 @@ use mathlib.Core.Bool.{true, false, cond}
 use mathlib.Core.List.{List, [], _∷_}
 use mathlib.Core.Option.{Option, none as nothing}
 use lib.Dec.{eqb}
-use lib.ListN.{length, getD, set, length-set, replicate}
+use lib.ListN.{length, getD, set, length-set}
 use lib.Seq.{getD-set-same, getD-set-other, ext-getD}
 use borrow.Author.Tests.{eq-eqb, ne-eqb}
 use Rattle.part.specs.PartReq.{PartReq, none, more, entries, isAll, isExist}
@@ -23,7 +23,7 @@ use Rattle.memory.specs.Layout.{globalsSlot, exprsSlot, functionsSlot}
 use Rattle.memory.specs.Memory.{read, sumFrom, Recorded, missing, present, recordOf, recordsOf, contextAt, contextOf, withContext, Memory}
 use Rattle.memory.specs.Stretches.{fourSet, copied, forgotten}
 use Rattle.memory.proofs.Slots.{read-at, read-set, sum-none, sum-suc, sum-set, set-memory}
-use Rattle.memory.proofs.Records.{records-long, records-at, records-none}
+use Rattle.memory.proofs.Records.{records-long, records-at}
 
 -- a slot outside the four
 module _ {A : Type 0} (xs : List A) (at : ℕ) (a b c d e : A) where
@@ -286,26 +286,6 @@ module _ (rs : List ℕ) (from : ℕ) where
   forgotten-outside (suc n) k h =
       let ne : k ≡ from + n → ⊥ = λ z. h n (omega arith) (sym z) in
       getD-set-other (forgotten rs from n) (from + n) k 2 0 ne ∙ forgotten-outside n k (λ e l. h e (omega arith))
-
-  forgotten-at : (n e : ℕ) → from + n ≤ length rs → e < n → getD (forgotten rs from n) (from + e) 0 ≡ 2
-  unfolding forgotten
-  forgotten-at zero e b h = absurd (omega arith)
-  forgotten-at (suc n) e b h =
-      elim (ℕ-discrete e n) [
-        | yes i ↦
-            let k : from + n < length (forgotten rs from n) = omega (arith, forgotten-long n) in
-            rw i (getD-set-same (forgotten rs from n) (from + n) 2 0 k)
-        | no i ↦
-            let ne : from + e ≡ from + n → ⊥ = omega arith in
-            getD-set-other (forgotten rs from n) (from + n) (from + e) 2 0 ne ∙ forgotten-at n e (omega arith) (omega arith)
-      ]
-
-  pub forgotten-records : (s : List ℕ) (n : ℕ) → from + n ≤ length rs → recordsOf (read s (forgotten rs from n)) from n ≡ replicate n nothing
-  forgotten-records s n b =
-      records-none (read s (forgotten rs from n)) from n
-      (λ e h.
-      let j : from + e < length (forgotten rs from n) = omega (arith, forgotten-long n) in
-      read-at s (forgotten rs from n) (from + e) j ∙ rw (forgotten-at n e b h) (part-2 s))
 
 pub forgotten-memory : {s rs : List ℕ} (from : ℕ) → Memory s rs → globalsSlot ≤ from → (n : ℕ) → from + n ≤ length rs → Memory s (forgotten rs from n)
 forgotten-memory from m a zero b = unfold forgotten in m

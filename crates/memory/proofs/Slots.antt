@@ -18,7 +18,7 @@ use Rattle.module.specs.Tables.{maxItems}
 use Rattle.memory.specs.Layout.{allSlot, existSlot, ask, result, returned, flatSlot, flatCount, globalsSlot, exprsSlot, totalsSlot, functionsSlot, stackSlot, room, most}
 use Rattle.memory.specs.Flat.{entryOf, flatFrom}
 use Rattle.memory.specs.Want.{downs, wraps, asks, wantOf, asked, Wants, Still}
-use Rattle.memory.specs.Memory.{read, sumFrom, counted, Recorded, Memory, Tidied, Noted}
+use Rattle.memory.specs.Memory.{read, sumFrom, counted, Recorded, Memory, Tidied}
 use Rattle.memory.specs.declared.want.Want.{Want}
 use Rattle.memory.proofs.Asks.{entries-asks}
 
@@ -270,10 +270,6 @@ still-read {s} {rs} {t} {us} m e h = record {
       let b : k < length us = omega arith in
       sym (read-at t us k b) ∙ h k l ∙ read-at s rs k a;
 }
-
-pub noted-still : {s rs t us : List ℕ} {at sum cost n : ℕ} {q : PartReq} → Memory s rs → globalsSlot ≤ at → Noted s rs at q sum cost t us n → Still s rs t us
-noted-still {s} {rs} {t} {us} {at} {sum} {cost} {n} {q} m l d =
-    still-read m (d .long) (λ k h. ap (λ (ps : List PartReq). getD ps k none) (d .reads) ∙ getD-set-other (read s rs) at k q none (omega arith))
 
 pub tidied-still : {s rs t us : List ℕ} → Memory s rs → Tidied s rs t us → Still s rs t us
 tidied-still m d = still-read m (d .long) (λ k h. ap (λ (ps : List PartReq). getD ps k none) (d .same))

@@ -18,7 +18,7 @@ use part::store::make;
 ghost use mathlib.Core.Path.{_≡_};
 ghost use Prim.Native.Nat.{_+_, _*_, _≤_, _<_};
 ghost use lib.ListN.{length};
-ghost use Rattle.field.specs.Limits.{maxPieces, maxDepth};
+ghost use Rattle.field.specs.Limits.{maxDepth};
 ghost use Rattle.part.specs.PartReq.{none, more, entries, spine};
 ghost use Rattle.part.specs.Count.{same};
 ghost use Rattle.walk.specs.Expression.{joined};

@@ -1,12 +1,12 @@
 -- The fields of a record by number: the j-th stands 4 + 2 j bytes after the record's start, and past the last there is 0.
-use mathlib.Core.Path.{_≡_, refl, sym, ap, _∙_}
-use mathlib.Core.List.{List, [], _∷_}
+use mathlib.Core.Path.{_≡_, refl, ap, _∙_}
+use mathlib.Core.List.{List}
 use Prim.Native.Nat.{ℕ, zero, suc, _+_, _*_, _-_, _<_, _≤_}
 use native.Mathlib.Nat.{le-of-suc-le-suc}
 use native.Mathlib.Omega.{arith}
 use lib.ListN.{length, getD, List·getD-eq-default}
 use Rattle.field.specs.Field.{fieldAt}
-use Rattle.module.specs.Record.{fieldsTo, bodyAt, lengthAt, countAt, endAt}
+use Rattle.module.specs.Record.{fieldsTo, bodyAt, countAt, endAt}
 
 pub length-fieldsTo : (bytes : List ℕ) (end n : ℕ) → length (fieldsTo bytes end n) ≡ n
 unfolding fieldsTo

@@ -1,16 +1,16 @@
 -- Scanning fields: one, several, pairs. Each law takes what the code has found so far, and says what the definition then gives.
-use mathlib.Core.Path.{_≡_, refl, sym, ap, subst, _∙_}
+use mathlib.Core.Path.{_≡_, sym, ap, subst, _∙_}
 use mathlib.Core.Bool.{Bool, true, false}
-use mathlib.Core.List.{List, [], _∷_}
-use mathlib.Core.Option.{Option, some, none as nothing}
-use Prim.Native.Nat.{ℕ, zero, suc, _+_, _*_, _-_, _<_, _≤_}
+use mathlib.Core.List.{List, _∷_}
+use mathlib.Core.Option.{Option}
+use Prim.Native.Nat.{ℕ, zero, suc, _*_, _-_, _<_, _≤_}
 use native.Mathlib.Omega.{arith}
 use Rattle.field.specs.Field.{fieldAt}
 use Rattle.module.specs.declared.operands.Left.{Left}
 use Rattle.module.specs.declared.operands.Left.the-variants.{Fields, Nothing}
 use Rattle.module.specs.Record.{fieldsTo}
 use Rattle.module.specs.Operands.{one, many, pairs, then}
-use Rattle.module.specs.Scan.{Took, leftOf}
+use Rattle.module.specs.Scan.{Took}
 
 suc-pred : (n : ℕ) → 0 < n → n ≡ suc (n - 1)
 suc-pred n h = omega arith

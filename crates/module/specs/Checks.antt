@@ -1,7 +1,7 @@
 -- The values of a record, mark by mark, as the code goes about them: the fields before the operands, the operands' shape, and the
 -- type that an expression has beside them.
 use Prim.Native.Nat.{ℕ}
-use mathlib.Core.Bool.{Bool, true, false}
+use mathlib.Core.Bool.{Bool, true}
 use mathlib.Core.List.{List, [], _∷_}
 use lib.Dec.{ltb}
 use lib.ListN.{getD}

@@ -11,9 +11,9 @@ use Rattle.module.specs.Module.{Module}
 use Rattle.module.specs.declared.record.Mark.{Mark}
 use Rattle.module.specs.declared.record.Mark.the-variants.{TY, GV, FN, AR, LV, EX, BK, ST}
 use Rattle.module.specs.Record.{markOf, lengthAt, bodyAt, even}
-use Rattle.module.specs.Shape.{Operand, type, binding, flag, result, typeShape, expressionShape, statementShape}
+use Rattle.module.specs.Shape.{type, binding, flag, result, typeShape, expressionShape, statementShape}
 use Rattle.module.specs.Operands.{Scope, operands}
-use Rattle.module.specs.Reading.{inTypes, inGlobals, inArguments, inLocals, inExpressions, inBlocks, Open, opened, Reading, scopeOf, added, closed}
+use Rattle.module.specs.Reading.{inTypes, inGlobals, inArguments, inLocals, inExpressions, inBlocks, opened, Reading, scopeOf, added, closed}
 use Rattle.module.specs.Blocks.{blockRule}
 
 -- what comes of a record: what has been read with it, or a refusal

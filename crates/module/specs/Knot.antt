@@ -1,6 +1,6 @@
 -- Recursion on a number by way of any lower number, tied once: no fuel, and it computes.
 use Prim.Native.Nat.{ℕ, zero, suc}
-use mathlib.Core.Bool.{Bool, true, false, cond}
+use mathlib.Core.Bool.{true, false, cond}
 use lib.Dec.{ltb, eqb}
 
 -- what `step` gives at e, where e is below n; d elsewhere

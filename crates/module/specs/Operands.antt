@@ -1,7 +1,7 @@
 -- Which fields are allowed as a record's operands: "No reference to nothing", an operand "below that of its expression; likewise
 -- types and called functions", "no expression in two emits, no call of an entry", "a switch has one default (65535), distinct values".
-use Prim.Native.Nat.{ℕ, zero, suc, _+_, _-_}
-use mathlib.Core.Bool.{Bool, true, false, not, cond, _||_, _&&_}
+use Prim.Native.Nat.{ℕ, zero, suc, _-_}
+use mathlib.Core.Bool.{Bool, true, false, not, _||_, _&&_}
 use mathlib.Core.List.{List, [], _∷_}
 use mathlib.Core.Option.{Option, some, none as nothing}
 use lib.Dec.{ltb, leb, eqb}

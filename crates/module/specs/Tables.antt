@@ -1,9 +1,9 @@
 -- What the tables of a file stand for, while it is read and when it has been read.
-use Prim.Native.Nat.{ℕ, zero, suc, _+_, _*_, _/_}
+use Prim.Native.Nat.{ℕ, _+_, _*_, _/_}
 use mathlib.Core.Bool.{Bool}
-use mathlib.Core.List.{List, [], _∷_, map}
+use mathlib.Core.List.{List}
 use lib.Dec.{eqb}
-use lib.ListN.{length, getD, set}
+use lib.ListN.{getD, set}
 use Rattle.field.specs.Limits.{maxBytes, maxTypes, maxGlobals, maxFunctions, maxExpressions}
 use Rattle.module.specs.declared.tables.Row.{Row}
 use Rattle.module.specs.declared.tables.Counts.{Counts}

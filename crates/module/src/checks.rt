@@ -9,7 +9,6 @@ use crate::shape::expression_shape;
 use crate::shape::statement_shape;
 use crate::shape::type_shape;
 use crate::tables::Counts;
-use crate::tables::Row;
 use field::limits::MAX_ARGUMENTS;
 use field::limits::MAX_COMPONENTS;
 use field::limits::MAX_EXPRESSIONS;

@@ -2,14 +2,12 @@
 use crate::record::body;
 use crate::tables::Counts;
 use crate::tables::MARKS;
-use crate::tables::Row;
 use crate::tables::put;
 use crate::tables::row_at;
 use crate::tables::word;
 use field::limits::ABSENT;
 ghost use mathlib.Core.Path.{_≡_};
-ghost use Prim.Native.Nat.{ℕ, _+_, _*_, _≤_, _<_};
-ghost use lib.ListN.{length, getD};
+ghost use Prim.Native.Nat.{_+_, _*_, _≤_, _<_};
 ghost use Rattle.module.specs.Record.{fieldsTo};
 ghost use Rattle.module.specs.Operands.{one, many, pairs, counted, casesAfter, unemitted, taken, operands, rangeIn, resultIn, below, belowOrAbsent, bindings, patternAfter, codeAfter};
 ghost use Rattle.module.specs.Decode.{levelHandles, modeHandles};

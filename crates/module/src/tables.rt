@@ -7,7 +7,7 @@ use field::limits::MAX_FUNCTIONS;
 use field::limits::MAX_GLOBALS;
 use field::limits::MAX_TYPES;
 ghost use mathlib.Core.Path.{_≡_};
-ghost use lib.ListN.{length, getD, set};
+ghost use lib.ListN.{getD, set};
 ghost use Prim.Native.Nat.{_*_, _+_};
 ghost use Rattle.module.specs.Tables.{rowAt, setRow};
 

@@ -6,11 +6,10 @@ use native.Mathlib.Decide.{decLt}
 use mathlib.Core.Path.{_≡_, refl, sym, ap, _∙_}
 use mathlib.Core.Bool.{Bool, true, false, cond}
 use mathlib.Core.List.{List, [], _∷_}
-use lib.Dec.{ltb}
-use borrow.Author.Tests.{lt-ltb, le-ltb, ltb-true, ltb-false}
-use Rattle.part.specs.PartReq.{PartReq, all, exist, none, more, Subpart, gone, there, getSubpart}
+use borrow.Author.Tests.{lt-ltb, le-ltb}
+use Rattle.part.specs.PartReq.{PartReq, all, exist, none, more, getSubpart}
 use Rattle.part.proofs.Equations.{never}
-use Rattle.clearance.specs.Shape.{Shape, number, void, struct, array, member, isVoid, isWhole, shapeAt, orNone, below, under, some, keep, trim, hit, members, split, alter, takeOut}
+use Rattle.clearance.specs.Shape.{Shape, number, void, struct, array, member, isVoid, isWhole, shapeAt, orNone, below, some, keep, trim, hit, members, split, alter, takeOut}
 use Rattle.clearance.specs.IsNeed.{Tidy}
 use Rattle.needs.specs.Lean.{change, leaves, Solid}
 
@@ -70,17 +69,6 @@ below-tidy (j ∷ q) p t h v = below-tidy q (orNone (getSubpart p j)) (member t 
 pub hit-below : (t : Shape) (p : PartReq) (q : List ℕ) → Tidy p t → isVoid (shapeAt t q) ≡ false → hit t p q ≡ below p q
 unfolding hit
 hit-below t p q h v = trim-same (below p q) (shapeAt t q) (below-tidy q p t h v)
-
--- a part that is put where it lies in the type
-some-under : (q : List ℕ) (a : PartReq) → some a ≡ true → some (under q a) ≡ true
-unfolding under
-some-under [] a h = h
-some-under (j ∷ q) a h = refl
-
-pub under-tidy : (q : List ℕ) (a : PartReq) (t : Shape) → some a ≡ true → Tidy a (shapeAt t q) → Tidy (under q a) t
-unfolding under shapeAt
-under-tidy [] a t s h = h
-under-tidy (j ∷ q) a t s h = (some-under q a s, (under-tidy q a (member t j) s h, tt))
 
 -- a part that is taken out
 pub solid-void : (t : Shape) → Solid t → isVoid t ≡ false

@@ -1,13 +1,13 @@
 -- The part at a path index by index, and a part put at one from its innermost index on: what is left of the path gives the whole.
-use Prim.Native.Nat.{ℕ, zero, suc, _+_, _-_, _<_, _≤_}
+use Prim.Native.Nat.{ℕ, suc, _+_, _-_, _<_, _≤_}
 use native.Mathlib.Omega.{arith}
 use native.Mathlib.Numerals.{add-one}
-use mathlib.Core.Path.{_≡_, refl, sym, ap, _∙_}
-use mathlib.Core.List.{List, [], _∷_}
+use mathlib.Core.Path.{_≡_, refl, sym, _∙_}
+use mathlib.Core.List.{List}
 use lib.ListN.{length, getD, drop}
 use lib.Seq.{drop-cons, drop-length}
-use Rattle.part.specs.PartReq.{PartReq, none, more, Subpart, gone, there, getSubpart}
-use Rattle.part.specs.Store.{top, part, Good, Kept, Room, Made}
+use Rattle.part.specs.PartReq.{PartReq, none, more, Subpart, getSubpart}
+use Rattle.part.specs.Store.{top, part, Good, Made}
 use Rattle.part.specs.Found.{Got}
 use Rattle.part.specs.declared.req.Found.{Found}
 use Rattle.part.specs.declared.req.Found.the-variants.{Gone, There}
@@ -70,10 +70,6 @@ unfolding under
 at-index path j h p = rw (drop-cons path j 0 h)
 
 module _ {s t path : List ℕ} {a m k j : ℕ} (b : Around s t path a m k) (e : suc j ≡ k) where
-  pub around-makes : Room s (length path) → Good t × (Room t 1 × ((m < top t) × (2 < top t)))
-  around-makes r =
-      (b .made .kept .good, (omega (arith, b .made .cost, b .made .kept .long, b .along), (b .made .piece, omega (arith, b .made .kept .good .base))))
-
   pub around-more : {u : List ℕ} {x o : ℕ} → x ≡ getD path j 0 → Made t u (more x (part t m) (part t 2)) 1 o → Around s u path a o j
   around-more {u} {x} {o} i d =
       let l : j < length path = omega (arith, b .along) in

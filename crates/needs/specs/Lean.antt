@@ -1,7 +1,6 @@
 -- Needs as the code keeps them. What it keeps is trimmed already (`Tidy`), so it trims nothing again: `trim` over what is shared would cost what the need would, written
 -- out. It asks for the part at a path as it stands there (`below`), puts a part at a path (`under`), and takes a part out by changing the cells along its path alone.
 use Prim.Native.Nat.{ℕ, _+_, _<_, _≤_}
-use mathlib.Core.Path.{_≡_}
 use mathlib.Core.Bool.{cond}
 use mathlib.Core.List.{List, [], _∷_}
 use lib.Dec.{ltb}

@@ -1,6 +1,6 @@
 -- What an expression asks of its operands, kind by kind: its row gives its arm, and that its list of asks. That each lies within its type, and keeps what needs are,
 -- follows of all of them at once from the function's being judged.
-use Prim.Native.Nat.{ℕ, _+_, _<_, _≤_}
+use Prim.Native.Nat.{ℕ, _<_, _≤_}
 use native.Mathlib.Omega.{arith}
 use native.Mathlib.Decide.{ℕ-discrete, decLt}
 use mathlib.Core.Path.{_≡_, refl, sym, ap, subst, _∙_}

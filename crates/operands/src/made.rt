@@ -13,7 +13,6 @@ use access::kinded::Kinded;
 use access::kinded::expression_operand;
 use access::kinded::operand;
 use asking::ask::ask_value;
-use module::handles::ExpressionHandle;
 use module::handles::FunctionHandle;
 use part::req::Found;
 use part::req::get;

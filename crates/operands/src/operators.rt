@@ -7,7 +7,6 @@ ghost use Rattle.operands.specs.Lists.{sameOf, wholeOf, presentOf, bothS
 use access::kinded::Kinded;
 use access::kinded::expression_operand;
 use asking::ask::ask_value;
-use module::handles::ExpressionHandle;
 use module::handles::FunctionHandle;
 use module::handles::NO_HANDLE;
 

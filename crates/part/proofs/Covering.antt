@@ -10,7 +10,7 @@ use borrow.Author.Tests.{eq-eqb, ne-eqb}
 use Rattle.part.specs.PartReq.{PartReq, add, contains}
 use Rattle.part.specs.StoreLimits.{full}
 use Rattle.part.specs.Store.{top, part, Good, Known, Seen, distinctIn}
-use Rattle.part.specs.Summed.{Summed, Recalled, Remembered, Covered}
+use Rattle.part.specs.Summed.{Recalled, Remembered, Covered}
 use Rattle.part.proofs.Once.{formed, same-number}
 use Rattle.part.proofs.Order.{reflexive}
 use Rattle.part.proofs.Sum.{add-contained, sum-right}
@@ -19,7 +19,6 @@ use Rattle.part.proofs.Making.{kept-trans}
 use Rattle.part.proofs.Reading.{Along, along-start, along-gt, along-call, along-not, along-both, along-next}
 use Rattle.part.proofs.Counting.{by-bool}
 use Rattle.part.proofs.Distinct.{untrue}
-use Rattle.part.proofs.Summing.{not-full}
 
 -- a contains b exactly where adding b changes nothing
 pub contains-add : (a b : PartReq) → (contains a b ≡ true → add a b ≡ a) × (add a b ≡ a → contains a b ≡ true)
@@ -32,29 +31,6 @@ sum-is {s} {a} {b} {n} g k =
       λ e. same-number (formed g) (distinctIn (g .unique)) n a (k .piece) (k .left) (k .is ∙ d .0 e),
       λ e. d .1 (sym (k .is) ∙ ap (part s) e),
     )
-
--- the same of what `sum` gives
-module _ {s t : List ℕ} {a b n : ℕ} (h : (a < top s) × (b < top s)) (m : Summed s t (add (part s a) (part s b)) n) where
-  decides : (n ≡ full → ⊥) → (contains (part s a) (part s b) ≡ true → n ≡ a) × (n ≡ a → contains (part s a) (part s b) ≡ true)
-  decides ne =
-      let d = m .done ne in
-      let ea = m .kept .same a (h .0) in
-      let eb = m .kept .same b (h .1) in
-      rw (ea, eb) at
-      (sum-is {a = a} {b = b} {n = n} (m .kept .good)
-      (record {
-        left = omega (arith, h .0, m .kept .tops);
-        right = omega (arith, h .1, m .kept .tops);
-        piece = d .0;
-        is = rw (ea, eb) (d .1);
-      }))
-
-  pub contains-sum : (contains (part s a) (part s b) ≡ true → n ≡ a) × (n ≡ a → contains (part s a) (part s b) ≡ true)
-  contains-sum =
-      let l : a < top t = omega (arith, h .0, m .kept .tops) in (
-        λ e. decides (λ q. m .needed q a l (m .kept .same a (h .0) ∙ sym (add-contained (part s a) (part s b) e))) .0 e,
-        λ e. decides (λ q. not-full (m .kept .good) l (sym e ∙ q)) .1 e,
-      )
 
 -- where `covers` stands along both lists
 pub record Covering (s t : List ℕ) (a b m n : ℕ) : Type 0 where

@@ -5,8 +5,8 @@ use mathlib.Core.Path.{_≡_, refl, sym, ap, _∙_}
 use mathlib.Core.Bool.{Bool, true, false, not, _&&_}
 use mathlib.Core.List.{List}
 use lib.Dec.{eqb}
-use Rattle.part.specs.PartReq.{PartReq, all, exist, none, more, contains, add, entries, isExist}
-use Rattle.part.specs.Store.{top, part, Good, Kept, Room, Made, Seen}
+use Rattle.part.specs.PartReq.{none, more, contains, add, entries, isExist}
+use Rattle.part.specs.Store.{top, part, Good, Room, Made, Seen}
 use Rattle.part.proofs.Equations.{all-contains, exist-contains, none-contains, contains-none, contains-lt, contains-gt, contains-eq, all-add, exist-add, none-add, add-none, add-lt, add-gt, add-eq}
 use Rattle.part.proofs.Sum.{add-contained}
 use Rattle.part.proofs.Sizes.{sum-small}

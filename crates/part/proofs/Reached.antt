@@ -15,7 +15,7 @@ use Rattle.part.specs.Collect.{cellsIn, reached, cellsOf, meant, Collect
 use Rattle.part.proofs.Pieces.{part-0, part-1, part-2}
 use Rattle.part.proofs.Once.{formed, cell-means}
 use Rattle.part.proofs.Counting.{same-refl, same-is, by-bool, lot, Stands, Stored, stored-append, once-lot}
-use Rattle.part.proofs.Distinct.{or-left, or-right-true, or-cases, untrue, not-true-false, among-left, among-right, among-cases, Among, once-monotone, once-set, once-cons, once-append}
+use Rattle.part.proofs.Distinct.{or-left, or-right-true, or-cases, untrue, not-true-false, among-left, among-right, among-cases, Among, once-monotone, once-cons, once-append}
 
 at-head : (q p : PartReq) (l : List PartReq) → q ≡ p → among q (p ∷ l) ≡ true
 unfolding among
@@ -94,17 +94,6 @@ unfolding flatMap
 from-append f [] m = refl
 from-append f (p ∷ l) m = rw (from-append f l m, append-assoc)
 
-from-all : (l m : List PartReq) → Among l m → Among (reached l) (reached m)
-unfolding flatMap
-from-all [] m h q z = untrue (unfold among in z)
-from-all (p ∷ l) m h q z =
-    among-cases (among q (reached m) ≡ true) q (cellsIn p) (reached l) z
-    (λ y. from-one cellsIn p m (h p (at-head p p l refl)) q y)
-    (λ y. from-all l m (λ o e. h o (further o p l e)) q y)
-
-pub cells-monotone : (l m : List PartReq) → Among l m → cellsOf l ≤ cellsOf m
-cells-monotone l m h = once-monotone (λ p. 1) (reached l) (reached m) (from-all l m h)
-
 -- what stands in a requirement has no other cells
 pub sub-cells : (p q : PartReq) → sub p q ≡ true → Among (cellsIn p) (cellsIn q)
 unfolding sub
@@ -118,22 +107,6 @@ sub-cells p (more i a b) e o z =
     or-cases (among o (cellsIn (more i a b)) ≡ true) (sub p a) (sub p b) y
     (λ x. in-child o a b i (sub-cells p a x o z))
     (λ x. in-rest o a b i (sub-cells p b x o z)))
-
--- a root that stands in another adds nothing
-pub cells-again : (p q : PartReq) (l : List PartReq) → sub p q ≡ true → among q l ≡ true → cellsOf (p ∷ l) ≡ cellsOf l
-unfolding flatMap
-cells-again p q l h e =
-    once-set (λ p. 1) (cellsIn p ++ reached l) (reached l)
-    (λ o z. among-cases (among o (reached l) ≡ true) o (cellsIn p) (reached l) z (λ y. from-one cellsIn q l e o (sub-cells p q h o y)) (λ y. y))
-    (λ o z. among-right o (cellsIn p) (reached l) z)
-
-pub cells-append : (l m : List PartReq) → cellsOf (l ++ m) ≤ cellsOf l + cellsOf m
-cells-append l m = rw (from-append cellsIn l m) (once-append (λ p. 1) (reached l) (reached m))
-
--- of two parts of which one is the other's tail there are two cells, where 16 counts three entries (`tails-differ`)
-pub tail-shared : cellsOf (more 0 all (more 1 all none) ∷ (more 1 all none ∷ [])) ≡ 2
-unfolding flatMap cellsIn eachOnce among same
-tail-shared = refl
 
 -- no more than the entries at every depth
 cells-entries : (p : PartReq) → different (cellsIn p) ≤ entries p

@@ -4,7 +4,6 @@ use Prim.Native.Nat.{ℕ}
 use mathlib.Core.Path.{_≡_, refl}
 use mathlib.Core.Bool.{true}
 use mathlib.Core.List.{List, [], _∷_}
-use mathlib.Core.Option.{none as nothing}
 use Rattle.module.specs.Module.{Scalar, FunctionArgument, Break, If, Loop, Function, Module}
 use Rattle.part.specs.PartReq.{PartReq, all, none, more, getSubpart, has, within as inPart, contains, merge, onNone, add, entries, width, depth, over}
 use Rattle.module.specs.Knot.{tie, knot}
@@ -28,6 +27,7 @@ use Rattle.pass.specs.Pass.{acting, turningOn, valuing, entering, passCa
 use Rattle.part.specs.Count.{same as equal, among, eachOnce}
 use Rattle.part.specs.Collect.{cellsIn}
 use mathlib.Core.List.{flatMap}
+use mathlib.Core.Option.{none as nothing}
 use Rattle.pass.specs.Checked.{fresh, askedOf, passOnce, settledBy, settleWithin, lastPass, answerOf, judgeBy, checked}
 
 program : Module

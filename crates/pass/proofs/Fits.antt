@@ -8,11 +8,11 @@ use mathlib.Core.List.{List, [], _∷_, _++_, flatMap}
 use mathlib.Core.Option.{Option, some as present, none as absent}
 use lib.ListN.{length}
 use borrow.Author.Tests.{ltb-false}
-use Rattle.part.specs.PartReq.{PartReq, none, add}
+use Rattle.part.specs.PartReq.{PartReq, add}
 use Rattle.part.specs.Count.{among}
 use Rattle.part.specs.Collect.{cellsIn, reached, cellsOf}
 use Rattle.part.proofs.Equations.{never}
-use Rattle.part.proofs.Distinct.{or-right-true, among-left, among-right, among-cases, Among, once-monotone}
+use Rattle.part.proofs.Distinct.{among-left, among-right, among-cases, Among, once-monotone}
 use Rattle.module.specs.Module.{ExpressionHandle}
 use Rattle.clearance.specs.Shape.{some}
 use Rattle.clearance.specs.Scope.{Scope}
@@ -108,11 +108,6 @@ fits-entering aside n again w c =
 fits-pointed : (aside : List PartReq) (n : PartReq) (f : Carried → Passed) (c : Carried) → Fits aside (f (point n c)) → Fits aside (pointed n f c)
 unfolding pointed point
 fits-pointed aside n f c h = fits-then aside (f (point n c)) _ (λ d m e. fits-on aside m (point m d) (h d m e))
-
--- sums and asks
-fits-joining : (aside : List PartReq) (m n : PartReq) (c : Carried) → Fits aside (joining aside m n c)
-unfolding joining
-fits-joining aside m n c = fits-less n aside _ (fits-less m (n ∷ aside) _ (fits-within (m ∷ n ∷ aside) (add m n) c))
 
 module _ (S : Scope) (aside : List PartReq) where
   fits-asking : (x : Ask) (n : PartReq) (c : Carried) → Fits aside (asking S aside x n c)

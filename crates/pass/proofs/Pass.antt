@@ -1,6 +1,6 @@
 -- A pass whose bound is not passed has the needs of `walk`, and what it carries on is what `sweep`, `broken`, `stable` and `somewhere` say: by
 -- recursion over the tree, each clause as the passes that it is bound together from.
-use Prim.Native.Nat.{ℕ, zero, suc, _+_}
+use Prim.Native.Nat.{ℕ, zero, suc}
 use mathlib.Core.Path.{_≡_, refl, sym, ap}
 use mathlib.Core.Bool.{Bool, true, false, cond}
 use mathlib.Core.List.{List, [], _∷_}

@@ -1,7 +1,7 @@
 -- One pass over a body, last statement first: the needs as `walk` has them, and carried along what `sweep`, `broken`, `stable` and
 -- `somewhere` say, with a working bound on the needs that are kept. What is kept is a list of needs, and counts by its cells, each once: so it does not
 -- matter how often a need is kept, or by whom.
-use Prim.Native.Nat.{ℕ, zero, suc, _+_}
+use Prim.Native.Nat.{ℕ, zero, suc}
 use mathlib.Core.Path.{_≡_}
 use mathlib.Core.Bool.{Bool, cond, _&&_, _||_}
 use mathlib.Core.List.{List, [], _∷_, _++_, map}

@@ -1,17 +1,17 @@
 -- The body of a buffer's record read as the definition reads it: the total of globals, those of functions, and nothing left over.
-use Prim.Native.Nat.{ℕ, _+_, _*_, _≤_, _<_, min}
+use Prim.Native.Nat.{ℕ, _+_, _≤_, _<_, min}
 use native.Mathlib.Omega.{arith}
-use mathlib.Core.Path.{_≡_, refl, ap, sym, subst, _∙_}
+use mathlib.Core.Path.{_≡_, refl, ap, subst, _∙_}
 use mathlib.Core.Bool.{Bool, true, false}
 use mathlib.Core.List.{List, [], _∷_}
-use mathlib.Core.Option.{Option, some, none as nothing}
+use mathlib.Core.Option.{Option}
 use lib.Dec.{leb, ltb}
 use borrow.Author.Tests.{le-leb, lt-leb}
 use lib.ListN.{length, getD, set, length-set}
 use lib.Seq.{getD-set-same, getD-set-other}
 use Rattle.field.specs.Limits.{absent, maxPieces, maxFunctions}
 use Rattle.part.specs.PartReq.{PartReq, none, entries}
-use Rattle.part.specs.Store.{top, part, Kept}
+use Rattle.part.specs.Store.{part, Kept}
 use Rattle.part.specs.StoreLimits.{entriesCap}
 use Rattle.module.specs.Module.{Module}
 use Rattle.module.specs.Tables.{maxItems, moduleOf}
@@ -19,7 +19,7 @@ use Rattle.context.specs.RequiredContext.{variable}
 use Rattle.request.specs.Fields.{Read, malformed, got, _>>=_, whole, refused, accepted}
 use Rattle.request.specs.Part.{readVariables}
 use Rattle.request.specs.Request.{allBelow}
-use Rattle.request.specs.Answers.{from, RoomFor}
+use Rattle.request.specs.Answers.{from}
 use Rattle.request.specs.declared.parts.ReadPart.{ReadPart}
 use Rattle.request.specs.declared.parts.ReadPart.the-variants as parts
 use Rattle.request.proofs.Bytes.{from-cons, from-end}
@@ -27,11 +27,10 @@ use Rattle.request.proofs.Entries.{kept-on, ended, goes-on}
 use Rattle.walk.specs.State.{FunctionReq, totalPieces}
 use Rattle.walk.specs.Requests.{Pruner}
 use Rattle.sound.proofs.Walks.{module-valid}
-use Rattle.memory.specs.Layout.{globalsSlot, totalsSlot, stackSlot}
+use Rattle.memory.specs.Layout.{globalsSlot}
 use Rattle.memory.specs.Memory.{read, Memory}
 use Rattle.memory.proofs.Slots.{read-long, slot-low, set-memory, set-read}
 use Rattle.state.specs.Ready.{WasRead}
-use Rattle.block.specs.Standing.{functionsIn}
 use Rattle.pruner.specs.Form.{prunerPieces, only, readTotals, readBody, answered}
 use Rattle.pruner.specs.Stored.{prunerIn, HasTotals}
 use Rattle.pruner.specs.Reading.{RoomBeside, PieceWasRead, TooMany, NoTotals, FunctionsAre, FunctionsBy, FunctionsWereRead, BodyWasRead}

@@ -2,12 +2,10 @@
 use Prim.Native.Nat.{ℕ, _+_, _≤_, _<_}
 use native.Mathlib.Omega.{arith}
 use native.Mathlib.Decide.{ℕ-discrete}
-use mathlib.Core.Path.{_≡_, refl, _∙_}
-use mathlib.Core.Bool.{false}
+use mathlib.Core.Path.{refl, _∙_}
 use mathlib.Core.List.{List}
-use lib.ListN.{length, getD, set, length-set}
+use lib.ListN.{length, set, length-set}
 use lib.Seq.{getD-set-same, getD-set-other}
-use Rattle.marks.specs.Report.{hasTotal}
 use Rattle.pruner.specs.Reading.{FlagsCleared}
 
 pub cleared-first : {a : List ℕ} → FlagsCleared a 0 a

@@ -2,13 +2,11 @@
 use Prim.Native.Nat.{ℕ, zero, suc, _+_, _-_, _*_, _≤_, _<_}
 use native.Mathlib.Omega.{arith}
 use mathlib.Core.Path.{_≡_, refl, ap, sym, subst, _∙_}
-use mathlib.Core.Bool.{Bool, true, false, not}
+use mathlib.Core.Bool.{Bool, true, false}
 use mathlib.Core.List.{List, [], _∷_}
 use mathlib.Core.Option.{Option, some, none as nothing}
-use lib.ListN.{length, getD, set, take, drop, length-set, length-drop}
-use Rattle.field.specs.Limits.{absent, maxPieces, minReport, maxFunctions}
-use Rattle.part.specs.PartReq.{PartReq, none}
-use Rattle.part.specs.Store.{Kept}
+use lib.ListN.{length, set, take, drop, length-set, length-drop}
+use Rattle.field.specs.Limits.{maxPieces, minReport}
 use Rattle.module.specs.Module.{FunctionHandle, Function, Module}
 use Rattle.module.specs.Tables.{rowAt, expressionsFrom, functionOf, moduleOf}
 use Rattle.access.proofs.Access.{expressions-are}
@@ -24,8 +22,8 @@ use Rattle.sound.proofs.There.{function-valid}
 use Rattle.sound.proofs.Walks.{module-valid}
 use Rattle.memory.specs.Layout.{totalsSlot, functionsSlot}
 use Rattle.memory.specs.Memory.{read, contextAt, Memory}
-use Rattle.marks.specs.Places.{slice, startOf, startIn, sizeIn, Inside}
-use Rattle.marks.specs.Report.{totalsAt, totalsSize, Sized, hasTotal}
+use Rattle.marks.specs.Places.{slice, startIn, sizeIn, Inside}
+use Rattle.marks.specs.Report.{totalsAt, Sized, hasTotal}
 use Rattle.marks.specs.Report as report
 use Rattle.marks.proofs.Placed.{few, at-function}
 use Rattle.marks.proofs.Buffers.{inside, size-is}
@@ -33,12 +31,12 @@ use Rattle.marks.proofs.Sums.{total-missing, kept-own, kept-other}
 use Rattle.state.specs.State.{recordsIn}
 use Rattle.state.proofs.Own.{fits}
 use Rattle.block.specs.Standing.{totalOf, totalIn}
-use Rattle.block.specs.Total.{totalCount, RecordsAt}
+use Rattle.block.specs.Total.{RecordsAt}
 use Rattle.block.specs.declared.total.Stretch.{Stretch}
 use Rattle.block.proofs.Same.{context-same}
 use Rattle.pruner.specs.Form.{only, readMarks, readRecords, knownIn, readKept}
 use Rattle.pruner.specs.Stored.{HasTotals}
-use Rattle.pruner.specs.Reading.{RoomBeside, SpentBeside, MarksAre, MarksWereRead, TooMany, RecordsAre, RecordsBy, RecordsWereRead, ContextIs, ContextBy, ContextWasStored, keptPieces, KeptIs, KeptBy, KeptWasRead}
+use Rattle.pruner.specs.Reading.{RoomBeside, MarksAre, MarksWereRead, TooMany, RecordsBy, RecordsWereRead, ContextIs, ContextBy, ContextWasStored, keptPieces, KeptBy, KeptWasRead}
 use Rattle.pruner.specs.declared.kept.Next.{Next}
 use Rattle.pruner.specs.declared.kept.Next.the-variants.{Refused, At}
 

@@ -1,12 +1,11 @@
 -- Marks that are read: those before the k-th stand in the buffer, and what is left gives the whole.
-use Prim.Native.Nat.{ℕ, zero, suc, _+_, _-_, _*_, _≤_, _<_}
+use Prim.Native.Nat.{ℕ, suc, _+_, _-_, _*_, _≤_, _<_}
 use native.Mathlib.Omega.{arith}
 use mathlib.Core.Path.{_≡_, refl, ap, sym, _∙_}
 use mathlib.Core.Bool.{true, false}
 use mathlib.Core.List.{List, [], _∷_, _++_, append-assoc, append-nil}
-use lib.Dec.{leb}
 use borrow.Author.Tests.{le-leb, lt-leb}
-use lib.ListN.{length, getD, set, length-set}
+use lib.ListN.{length, set, length-set}
 use lib.Seq.{getD-set-same}
 use Rattle.field.specs.Field.{fieldAt}
 use Rattle.request.specs.Fields.{Read, malformed, got, _>>=_}

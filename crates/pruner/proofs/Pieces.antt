@@ -1,12 +1,12 @@
 -- What the code reads of parts and of lists is what the definition reads: one law for each way through it. A list with a variable that is not there is no list.
-use Prim.Native.Nat.{ℕ, _+_, _*_, _≤_, _<_}
+use Prim.Native.Nat.{ℕ, _≤_, _<_}
 use native.Mathlib.Omega.{arith}
 use mathlib.Core.Path.{_≡_, refl, ap, sym, subst, _∙_}
-use mathlib.Core.Bool.{Bool, true, false, cond}
+use mathlib.Core.Bool.{Bool, true, false}
 use mathlib.Core.List.{List}
 use mathlib.Core.Option.{Option, some, none as nothing}
 use lib.ListN.{length}
-use Rattle.part.specs.PartReq.{PartReq, none, more, spine}
+use Rattle.part.specs.PartReq.{PartReq, more, spine}
 use Rattle.part.specs.Store.{top, part, Kept, Room, Made}
 use Rattle.part.proofs.Pieces.{part-2}
 use Rattle.context.specs.RequiredContext.{RequiredContext, variable}

@@ -1,5 +1,5 @@
 -- The records and the context of a total, read into slots: those before the k-th stand there and are counted, and what is left gives the whole.
-use Prim.Native.Nat.{ℕ, zero, suc, _+_, _-_, _*_, _≤_, _<_, min}
+use Prim.Native.Nat.{ℕ, zero, suc, _+_, _-_, _≤_, _<_, min}
 use native.Mathlib.Omega.{arith}
 use mathlib.Core.Path.{_≡_, refl, ap, sym, subst, _∙_}
 use mathlib.Core.List.{List, [], _∷_, _++_, append-nil}
@@ -7,8 +7,8 @@ use mathlib.Core.Option.{Option, some, none as nothing}
 use lib.ListN.{length, getD, set, length-set}
 use lib.Seq.{getD-set-same, getD-set-other}
 use Rattle.field.specs.Limits.{maxPieces}
-use Rattle.part.specs.PartReq.{PartReq, none, more, entries}
-use Rattle.part.specs.Store.{top, part, Kept}
+use Rattle.part.specs.PartReq.{PartReq, none, entries}
+use Rattle.part.specs.Store.{part, Kept}
 use Rattle.part.specs.StoreLimits.{entriesCap}
 use Rattle.context.specs.RequiredContext.{RequiredContext, pieces}
 use Rattle.context.specs.Contexts.{contextOf, HasContext}

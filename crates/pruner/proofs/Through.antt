@@ -6,25 +6,24 @@ use native.Mathlib.Numerals.{add-one}
 use mathlib.Core.Path.{_≡_, refl, ap, sym, subst, _∙_}
 use mathlib.Core.Bool.{Bool, true, false}
 use mathlib.Core.List.{List, [], _∷_, _++_, append-nil}
-use mathlib.Core.Option.{Option, some, none as nothing, Option·none-ne-some}
+use mathlib.Core.Option.{Option, Option·none-ne-some}
 use lib.ListN.{length, getD}
 use Rattle.field.specs.Limits.{maxPieces, maxFunctions}
 use Rattle.part.specs.PartReq.{PartReq, none, entries}
 use Rattle.part.specs.Store.{Kept}
-use Rattle.module.specs.Module.{FunctionHandle, Module}
+use Rattle.module.specs.Module.{Module}
 use Rattle.module.specs.Decode.{tab}
-use Rattle.module.specs.Tables.{rowAt, expressionsFrom, itemsTo, headAt, word, maxItems, moduleOf}
+use Rattle.module.specs.Tables.{rowAt, expressionsFrom, maxItems, moduleOf}
 use Rattle.module.proofs.Tab.{tab-same}
 use Rattle.access.proofs.Access.{functions-are}
 use Rattle.access.proofs.Laid.{number-once}
-use Rattle.context.specs.RequiredContext.{pieces}
 use Rattle.request.specs.Fields.{Read, malformed, got, _>>=_}
 use Rattle.request.specs.Answers.{from}
 use Rattle.request.proofs.Entries.{kept-same, kept-on}
 use Rattle.walk.specs.State.{FunctionReq, recordPieces, functionPieces, totalPieces}
 use Rattle.walk.proofs.Counts.{recordPieces-replicate}
 use Rattle.memory.specs.Layout.{totalsSlot, functionsSlot, stackSlot}
-use Rattle.memory.specs.Memory.{read, sumFrom, Recorded, contextAt, Memory}
+use Rattle.memory.specs.Memory.{read, sumFrom, contextAt, Memory}
 use Rattle.memory.proofs.Slots.{read-long}
 use Rattle.memory.proofs.Records.{records-none}
 use Rattle.memory.proofs.Runs.{context-pieces}

@@ -1,6 +1,6 @@
 -- A request over totals that were read leaves totals that can be written and are read back. That no index becomes absent is one of the properties that every
 -- walk keeps (`walk`, proofs/Keeps), since single changes keep it; and 16 at the request's end says how many pieces there are.
-use Prim.Native.Nat.{ℕ, zero, suc, _+_, _<_, _≤_}
+use Prim.Native.Nat.{ℕ, zero, suc, _<_, _≤_}
 use native.Mathlib.Omega.{arith}
 use native.Mathlib.Decide.{decLt}
 use mathlib.Core.Path.{_≡_, refl, ap, subst}

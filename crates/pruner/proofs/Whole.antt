@@ -5,17 +5,16 @@ use native.Mathlib.Nat.{zero-add}
 use native.Mathlib.Decide.{decLt}
 use native.Mathlib.Numerals.{add-one}
 use mathlib.Core.Path.{_≡_, refl, ap, sym, _∙_}
-use mathlib.Core.Bool.{true, false, not}
+use mathlib.Core.Bool.{true, false}
 use mathlib.Core.List.{List, [], _∷_, _++_, append-assoc, append-nil}
 use mathlib.Core.Option.{Option, some, none as nothing}
-use lib.Dec.{eqb}
 use borrow.Author.Tests.{eq-eqb, ne-eqb}
-use lib.ListN.{length, getD, set, take, drop, length-append, length-set}
+use lib.ListN.{length, getD, set, drop, length-append}
 use lib.Seq.{sets, sets-eq, length-sets}
-use Rattle.field.specs.Limits.{maxFunctions, minReport}
+use Rattle.field.specs.Limits.{minReport}
 use Rattle.field.specs.Field.{setField, setWord}
 use Rattle.part.specs.Store.{part}
-use Rattle.module.specs.Module.{FunctionHandle, Module}
+use Rattle.module.specs.Module.{FunctionHandle}
 use Rattle.module.specs.Decode.{tab}
 use Rattle.module.specs.Tables.{moduleOf}
 use Rattle.request.specs.Fields.{bytesOf}
@@ -31,7 +30,7 @@ use Rattle.memory.proofs.Slots.{read-at, slot-low}
 use Rattle.marks.specs.Places.{startsAt, startIn, Inside}
 use Rattle.marks.specs.Report.{totalsAt, hasTotal}
 use Rattle.marks.proofs.Placed.{few}
-use Rattle.marks.proofs.Buffers.{inside, size-is, ends}
+use Rattle.marks.proofs.Buffers.{inside, size-is}
 use Rattle.marks.proofs.Sums.{total-there, total-missing}
 use Rattle.state.proofs.Own.{fits}
 use Rattle.block.specs.Standing.{totalOf, totalIn, functionsIn}

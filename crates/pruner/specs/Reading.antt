@@ -9,7 +9,7 @@ use Rattle.field.specs.Field.{wordAt}
 use Rattle.field.specs.Limits.{maxPieces, maxFunctions}
 use Rattle.part.specs.PartReq.{PartReq, none, more}
 use Rattle.part.specs.StoreLimits.{cellWords, tableWords}
-use Rattle.part.specs.Store.{top, part, Kept}
+use Rattle.part.specs.Store.{top, Kept}
 use Rattle.context.specs.RequiredContext.{RequiredContext, pieces}
 use Rattle.context.specs.Contexts.{contextOf, HasContext}
 use Rattle.module.specs.Module.{FunctionHandle}

@@ -9,7 +9,6 @@ use request::lists::read_return;
 use request::lists::read_variables;
 use request::parts::ReadPart;
 use request::record::ends;
-ghost use mathlib.Core.Path.{_≡_};
 ghost use Prim.Native.Nat.{_+_, _≤_};
 ghost use lib.ListN.{length};
 ghost use Rattle.field.specs.Limits.{absent};

@@ -1,5 +1,4 @@
 // A function's total written from a walk's memory into a lent slice, list by list. What lies before and after stays.
-ghost use mathlib.Core.Path.{_≡_};
 ghost use Prim.Native.Nat.{_+_, _≤_, _<_};
 ghost use lib.ListN.{length, take, drop};
 ghost use Rattle.part.specs.Store.{top, Good, Below};

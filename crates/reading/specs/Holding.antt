@@ -8,7 +8,7 @@ use Rattle.module.specs.Module.{BlockHandle, BlockRange, Statement, Break}
 use Rattle.module.specs.Decode.{tab}
 use Rattle.module.specs.Blocks.{held, heldIn}
 use Rattle.module.specs.declared.tables.Row.{Row}
-use Rattle.module.specs.Reading.{closed, rangeOf}
+use Rattle.module.specs.Reading.{rangeOf}
 use Rattle.module.specs.Tables.{itemBody, statementsFrom, startsOf, openOf}
 use Rattle.reading.specs.declared.blocks.Holding.{Holding}
 

@@ -14,13 +14,11 @@ use Rattle.type_table.proofs.AllSized.{all-sized}
 use Rattle.request.specs.Fields as reading
 use Rattle.request.specs.Request.{Request, readRequest}
 use Rattle.walk.specs.Requests.{Pruner, fresh}
-use Rattle.marks.specs.Places.{Places}
-use Rattle.marks.specs.Report.{totalsSize}
 use Rattle.state.specs.Ready.{WasRead}
 use Rattle.pruner.specs.Form.{readPruner}
 use Rattle.pruner.proofs.Back.{readPruner-zero}
 use Rattle.requests.specs.Loaded.{Loaded}
-use Rattle.requests.specs.Begin.{withTotals, afterRequest, Beginning, Begins, Ready}
+use Rattle.requests.specs.Begin.{withTotals, afterRequest, Begins, Ready}
 use Rattle.requests.specs.declared.begin.Begun.{Begun}
 use Rattle.requests.specs.declared.begin.Begun.the-variants as begun
 use Rattle.requests.proofs.Serving.{both-read}

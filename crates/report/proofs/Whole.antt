@@ -8,7 +8,6 @@ use mathlib.Core.List.{List, _++_}
 use lib.ListN.{length, take, drop, length-append, length-drop, length-take}
 use lib.Seq.{sets-eq, take-all}
 use Rattle.field.specs.Limits.{minReport}
-use Rattle.module.specs.File.{accepted, readModule}
 use Rattle.module.specs.Tables.{moduleOf}
 use Rattle.module.specs.declared.handles.FunctionHandle.{FunctionHandle as Handle}
 use Rattle.request.specs.Request.{readRequest}

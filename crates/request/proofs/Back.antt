@@ -16,7 +16,7 @@ use Rattle.part.specs.PartReq.{PartReq, all, exist, none, more, width, depth, o
 use Rattle.part.specs.Ascending.{Ascending, From}
 use Rattle.module.specs.Module.{Module, Function}
 use Rattle.context.specs.RequiredContext.{RequiredContext, variable}
-use Rattle.request.specs.Fields.{framed, fields, bytesOf, whole, got, _>>=_, accepted, asField}
+use Rattle.request.specs.Fields.{framed, bytesOf, whole, got, _>>=_, accepted, asField}
 use Rattle.request.specs.Part.{readEntries, readLevel, byCode, readPart, readReturn, readVariables, asked, withCode, writeEntries, writePart, writeReturn, writeVariables}
 use Rattle.request.specs.Context.{readContextBody, readLists, writeContextBody, isContext, contextOf, knownContext, judgeContext, readContext, writeContext}
 use Rattle.request.specs.Request.{asking, readBody, isRequest, requestOf, writeBody, writeRequest}

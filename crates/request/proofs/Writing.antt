@@ -1,6 +1,6 @@
 -- Fields written into a slice. Writing fields from a byte on is writing the first and then the others from two bytes on; so what the code writes field by
 -- field is what `sets` says of all of them.
-use Prim.Native.Nat.{ℕ, zero, suc, _+_, _-_, _*_, _/_, _%_, _≤_, _<_}
+use Prim.Native.Nat.{ℕ, zero, suc, _+_, _*_, _/_, _%_, _≤_, _<_}
 use native.Mathlib.Omega.{arith}
 use native.Mathlib.Numerals.{add-one, add-two}
 use native.Mathlib.Nat.{add-zero}

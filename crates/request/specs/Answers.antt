@@ -9,8 +9,7 @@ use Rattle.field.specs.Limits.{absent}
 use Rattle.part.specs.PartReq.{PartReq}
 use Rattle.part.specs.StoreLimits.{cellWords, tableWords}
 use Rattle.part.specs.Store.{top, part, Kept}
-use Rattle.context.specs.RequiredContext.{RequiredContext, variable}
-use Rattle.context.specs.Contexts.{contextOf, HasContext}
+use Rattle.context.specs.RequiredContext.{variable}
 use Rattle.request.specs.Fields.{fields, Read, malformed, got, Answer, refused, accepted}
 use Rattle.request.specs.Request.{Request as Asking, asking, allBelow}
 use Rattle.request.specs.declared.parts.ReadPart.{ReadPart}
@@ -19,11 +18,8 @@ use Rattle.request.specs.declared.lists.Optional.{Optional}
 use Rattle.request.specs.declared.lists.Optional.the-variants.{Nothing, Piece}
 use Rattle.request.specs.declared.lists.ReadOption.{ReadOption}
 use Rattle.request.specs.declared.lists.ReadOption.the-variants as options
-use Rattle.request.specs.declared.requests.Request.{Request}
 use Rattle.request.specs.declared.requests.RequestAnswer.{RequestAnswer}
 use Rattle.request.specs.declared.requests.RequestAnswer.the-variants as requests
-use Rattle.request.specs.declared.contexts.ContextAnswer.{ContextAnswer}
-use Rattle.request.specs.declared.contexts.ContextAnswer.the-variants as contexts
 
 -- the fields of b from the byte `at` on
 abbrev pub from : List ℕ → ℕ → List ℕ
@@ -111,19 +107,3 @@ pub record Limits (globals args locals : ℕ) : Type 0 where
   pub globals-fit : globals ≤ absent
   pub args-fit : args ≤ absent
   pub locals-fit : locals ≤ absent
-
--- the answer of `read_context`
-abbrev pub contextAnswer : List ℕ → ContextAnswer → Answer RequiredContext
-contextAnswer t contexts.Malformed = refused 12
-contextAnswer t contexts.NoSuch = refused 11
-contextAnswer t (contexts.Accepted c) = accepted (contextOf t c)
-
-abbrev pub ContextHeld : List ℕ → ContextAnswer → Type 0
-ContextHeld t contexts.Malformed = Unit {0}
-ContextHeld t contexts.NoSuch = Unit {0}
-ContextHeld t (contexts.Accepted c) = HasContext t c
-
-pub record ContextWasRead (s t : List ℕ) (r : Answer RequiredContext) (a : ContextAnswer) : Type 0 where
-  pub kept : Kept s t
-  pub is : contextAnswer t a ≡ r
-  pub held : ContextHeld t a

@@ -1,15 +1,15 @@
 -- A context as a record, a form of our own: the mark CX, a 32-bit body length, the return part, then the globals, the arguments and the
 -- locals, each a count and then variable and part each, ascending; all 16-bit fields.
-use Prim.Native.Nat.{ℕ, _+_, _*_, _/_, _%_}
-use mathlib.Core.Bool.{Bool, true, false, cond, _&&_}
-use mathlib.Core.List.{List, [], _∷_, _++_}
+use Prim.Native.Nat.{ℕ, _*_, _/_, _%_}
+use mathlib.Core.Bool.{Bool, cond, _&&_}
+use mathlib.Core.List.{List, _∷_, _++_}
 use mathlib.Core.Option.{Option, some, none as nothing}
 use lib.ListN.{length, drop}
 use Rattle.field.specs.Field.{wordAt}
 use Rattle.part.specs.PartReq.{PartReq}
 use Rattle.module.specs.Module.{Function, Module}
 use Rattle.context.specs.RequiredContext.{RequiredContext, variable}
-use Rattle.request.specs.Fields.{fields, bytesOf, framed, Read, malformed, got, _>>=_, whole, Answer, refused, accepted}
+use Rattle.request.specs.Fields.{fields, bytesOf, framed, Read, got, _>>=_, whole, Answer, refused, accepted}
 use Rattle.request.specs.Part.{readReturn, readVariables, asked, writeReturn, writeVariables}
 use Rattle.request.specs.Request.{allBelow}
 

@@ -3,7 +3,7 @@ use Prim.Native.Nat.{ℕ, _<_}
 use mathlib.Core.Path.{_≡_}
 use mathlib.Core.Bool.{false}
 use Rattle.field.specs.Limits.{absent}
-use Rattle.part.specs.PartReq.{PartReq, all, exist, none, more, over, spine}
+use Rattle.part.specs.PartReq.{PartReq, all, exist, none, more, over}
 use Rattle.part.specs.Ascending.{Ascending, From}
 use Rattle.context.specs.RequiredContext.{RequiredContext, variable}
 

@@ -1,6 +1,6 @@
 -- Requirements as fields. 01's part codes: 0 all, 1 exist, 2 count then index and part ascending, 3 none (return only).
 use Prim.Native.Nat.{ℕ, zero, suc, _+_}
-use mathlib.Core.Bool.{Bool, true, false, cond, _&&_}
+use mathlib.Core.Bool.{cond, _&&_}
 use mathlib.Core.List.{List, [], _∷_, _++_}
 use mathlib.Core.Option.{Option, some, none as nothing}
 use lib.Dec.{leb, ltb, eqb}

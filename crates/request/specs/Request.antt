@@ -1,10 +1,10 @@
 -- What a request file means. RQ: function, return part, count, then global and part each, ascending.
 use Prim.Native.Nat.{ℕ, _*_}
-use mathlib.Core.Bool.{Bool, true, false, cond, _&&_}
+use mathlib.Core.Bool.{Bool, true, cond, _&&_}
 use mathlib.Core.List.{List, [], _∷_, _++_}
 use mathlib.Core.Option.{Option, some, none as nothing}
 use lib.Dec.{ltb}
-use lib.ListN.{length, getD, drop}
+use lib.ListN.{length, drop}
 use Rattle.field.specs.Limits.{absent, minReport}
 use Rattle.field.specs.Field.{fieldAt}
 use Rattle.part.specs.PartReq.{PartReq, all, exist, none, more}

@@ -1,5 +1,4 @@
 // Requests and contexts as records: read into the store of pieces, and written from it.
-pub mod contexts;
 pub mod lists;
 pub mod parts;
 pub mod record;

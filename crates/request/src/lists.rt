@@ -1,12 +1,11 @@
 // The return part and the lists of variables. Of a list only as many entries are kept as there are variables: its recursion goes no deeper.
-ghost use mathlib.Core.Path.{_≡_};
 ghost use Prim.Native.Nat.{_+_, _-_, _≤_, _<_};
 ghost use lib.ListN.{length};
 ghost use Rattle.field.specs.Limits.{absent, maxDepth};
 ghost use Rattle.part.specs.PartReq.{spine};
-ghost use Rattle.part.specs.Store.{Good};
-ghost use Rattle.request.specs.Part.{readPart, readEntries, readReturn, readVariables};
-ghost use Rattle.request.specs.Answers.{from, sorted, skimmed, RoomFor, OptionWasRead};
+ghost use Rattle.part.specs.Store.{Good, Room, Made};
+ghost use Rattle.request.specs.Part.{readPart, readEntries, readReturn, readVariables, asked};
+ghost use Rattle.request.specs.Answers.{from, optional, sorted, skimmed, Held, RoomFor, OptionWasRead};
 use crate::parts::ReadPart;
 use crate::parts::read_part;
 use crate::record::ends;
@@ -127,4 +126,16 @@ pub fn read_variables(cells: &mut [u32], bytes: &[u8], at: usize, limit: u32) ->
     }
     let count = read(bytes, at) as usize;
     read_known(cells, bytes, at + 2, limit, 0, count)
+}
+
+// The piece of the returned value's entry.
+pub fn returned(cells: &mut [u32], retval: Optional) -> u32
+    requires { ⌜ Good (now cells) ⌝ }
+    requires { ⌜ Room (now cells) 1 × Held (now cells) retval ⌝ }
+    ensures { λ n. ⌜ Made (now (cells .entry)) (now (cells .exit)) (asked (optional (now (cells .entry)) retval)) 1 n ⌝ }
+{
+    match retval {
+        Optional::Nothing => 2,
+        Optional::Piece(p) => make(cells, SPINE, p, 2),
+    }
 }

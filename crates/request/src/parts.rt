@@ -1,8 +1,6 @@
 // Requirements read into the store. Its recursion goes as deep as a part does, and along the entries of each level: both have limits.
-ghost use mathlib.Core.Path.{_≡_};
 ghost use Prim.Native.Nat.{_+_, _-_, _≤_};
 ghost use lib.ListN.{length};
-ghost use Rattle.field.specs.Limits.{absent};
 ghost use Rattle.part.specs.Store.{Good};
 ghost use Rattle.request.specs.Part.{readPart, readLevel, readEntries};
 ghost use Rattle.request.specs.Answers.{from, RoomFor, PartWasRead};

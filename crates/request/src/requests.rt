@@ -1,6 +1,6 @@
 // Requests: 12 of the whole, then 11, then 18.
 ghost use mathlib.Core.Path.{_≡_};
-ghost use Prim.Native.Nat.{_+_, _-_, _≤_, _<_};
+ghost use Prim.Native.Nat.{_-_, _≤_, _<_};
 ghost use lib.ListN.{length};
 ghost use Rattle.field.specs.Limits.{absent};
 ghost use Rattle.part.specs.Store.{Good};

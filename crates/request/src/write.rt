@@ -1,6 +1,6 @@
 // Requirements, contexts and requests written from the store into a lent slice. What lies before and after stays.
 ghost use mathlib.Core.Path.{_≡_};
-ghost use Prim.Native.Nat.{_+_, _*_, _≤_, _<_, _^_};
+ghost use Prim.Native.Nat.{_+_, _≤_, _<_, _^_};
 ghost use lib.ListN.{length};
 ghost use lib.Seq.{sets};
 ghost use Rattle.part.specs.Store.{top, part, Good};

@@ -1,6 +1,6 @@
 -- The answer's record as the code writes it: the body field by field, then the header before it, which is the same as the header first. And its length: three fields for each piece, one
 -- for each expression, and a few more.
-use Prim.Native.Nat.{ℕ, _+_, _-_, _*_, _/_, _%_, _≤_, _<_}
+use Prim.Native.Nat.{ℕ, _+_, _-_, _*_, _/_, _%_, _≤_}
 use native.Mathlib.Omega.{arith}
 use mathlib.Core.Path.{_≡_, ap, sym, _∙_}
 use mathlib.Core.Bool.{Bool}

@@ -1,5 +1,5 @@
 -- What a request asks, in memory: its pieces are read into a fresh memory, and its base context stands at the bottom of the stack. Each law answers a need of crate's `begin`.
-use Prim.Native.Nat.{ℕ, _+_, _-_, _*_, _%_, _<_, _≤_}
+use Prim.Native.Nat.{ℕ, _+_, _*_, _%_, _<_, _≤_}
 use native.Mathlib.Omega.{arith}
 use mathlib.Core.Path.{_≡_, refl, sym, subst, _∙_}
 use mathlib.Core.Bool.{Bool, true, false, _&&_}
@@ -14,7 +14,7 @@ use Rattle.part.specs.PartReq.{none, more}
 use Rattle.part.specs.StoreLimits.{cellWords, tableWords}
 use Rattle.part.specs.Store.{top, part, Good, Room, Made}
 use Rattle.part.proofs.Pieces.{part-2}
-use Rattle.context.specs.RequiredContext.{variable, pieces}
+use Rattle.context.specs.RequiredContext.{variable}
 use Rattle.request.specs.Fields.{framed, accepted, refused}
 use Rattle.request.specs.Request.{Request, asking, isRequest, requestOf, judge}
 use Rattle.request.specs.Answers.{optional, Held, RequestHeld, RequestWasRead}

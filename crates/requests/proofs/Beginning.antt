@@ -30,7 +30,6 @@ use Rattle.pruner.specs.Form.{prunerPieces, readPruner}
 use Rattle.pruner.specs.Stored.{prunerIn, HasTotals}
 use Rattle.pruner.specs.Reading.{Untold, PrunerIs, PrunerWasRead}
 use Rattle.pruner.proofs.Read.{read-fine, read-few}
-use Rattle.requests.specs.Loaded.{Loaded}
 use Rattle.requests.specs.Begin.{baseOf, withTotals, afterRequest, Standing, RequestStands, RequestLoaded, Weighing, Beginning, Begins}
 use Rattle.requests.specs.declared.begin.Asked.{Asked}
 use Rattle.requests.specs.declared.begin.Asked.the-variants as asks

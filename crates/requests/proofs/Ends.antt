@@ -1,7 +1,7 @@
 -- The walk of the asked function has ended: 16 is asked of the totals, and the request answers as the definition says, by the state that the memory has.
 use Prim.Native.Nat.{ℕ, _+_, _<_, _≤_}
 use native.Mathlib.Omega.{arith}
-use mathlib.Core.Path.{_≡_, refl, sym, ap, _∙_}
+use mathlib.Core.Path.{_≡_, refl, ap}
 use mathlib.Core.Bool.{Bool, true, false, cond}
 use mathlib.Core.List.{List}
 use lib.Dec.{ltb}
@@ -9,9 +9,9 @@ use borrow.Author.Tests.{ltb-true, ltb-false}
 use Rattle.field.specs.Limits.{maxPieces}
 use Rattle.module.specs.Tables.{moduleOf}
 use Rattle.request.specs.Request.{Request}
-use Rattle.walk.specs.State.{State, Place, nowhere, Out, went, halt, _>>=_, recordPieces}
+use Rattle.walk.specs.State.{State, Place, nowhere, Out, went, halt, recordPieces}
 use Rattle.walk.specs.Function.{addFunction}
-use Rattle.walk.specs.Requests.{Pruner, Answer, reported, refused, asked, endCount, ended, begun, walkRequest, reportOf, answered, request}
+use Rattle.walk.specs.Requests.{Pruner, reported, refused, asked, endCount, ended, begun, walkRequest, reportOf, answered, request}
 use Rattle.memory.specs.Layout.{exprsSlot}
 use Rattle.memory.specs.Memory.{read}
 use Rattle.state.specs.State.{recordsIn}

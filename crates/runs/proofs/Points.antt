@@ -3,7 +3,7 @@
 use Prim.Native.Nat.{ℕ}
 use mathlib.Core.Path.{_≡_, refl}
 use mathlib.Core.Bool.{Bool, true, false, not, _&&_}
-use mathlib.Core.List.{List, [], _∷_}
+use mathlib.Core.List.{[], _∷_}
 use mathlib.Core.Option.{none as nothing}
 use Rattle.part.specs.PartReq.{PartReq, all, none, more, getSubpart, has, within, contains, merge, onNone, add, entries, width, depth}
 use Rattle.part.specs.PartReq.{over}

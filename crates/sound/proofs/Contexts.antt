@@ -1,25 +1,25 @@
 -- A context that was read is fine in its function: its parts are, and the variables that it names are there.
-use mathlib.Core.Path.{_≡_, refl, subst}
+use mathlib.Core.Path.{_≡_, refl}
 use mathlib.Core.Bool.{Bool, true, false, cond, _&&_}
 use mathlib.Core.List.{List}
 use mathlib.Core.Option.{Option, some, none as nothing}
 use Prim.Native.Nat.{ℕ}
 use native.Mathlib.Omega.{arith}
-use lib.ListN.{length, drop}
+use lib.ListN.{length}
 use Rattle.field.specs.Limits.{absent}
 use Rattle.part.specs.PartReq.{PartReq, spine}
 use Rattle.module.specs.Module.{FunctionHandle, Module}
 use Rattle.context.specs.RequiredContext.{RequiredContext, variable}
-use Rattle.request.specs.Fields.{fields, accepted, refused, whole}
+use Rattle.request.specs.Fields.{accepted, refused}
 use Rattle.request.specs.Part.{readReturn, readVariables, asked}
 use Rattle.request.specs.Request.{allBelow}
-use Rattle.request.specs.Context.{readLists, readContextBody, isContext, contextOf, knownContext, judgeContext, readContext}
+use Rattle.request.specs.Context.{readLists, readContextBody, knownContext}
 use Rattle.walk.specs.Resolve.{functionAt}
 use Rattle.walk.specs.Proper.{FineRecord, Variables, FineContext}
 use Rattle.walk.proofs.Parts.{variables-one}
 use Rattle.valid.proofs.Fits.{and-left, and-right}
 use Rattle.sound.proofs.Parts.{OnGot, on-then, return-fine, SomeVariables, variables-read, variables-there}
-use Rattle.sound.proofs.Asked.{OnSome, OnAccepted, whole-on, some-when}
+use Rattle.sound.proofs.Asked.{OnAccepted}
 
 retval-fine : (o : Option PartReq) → FineRecord o → Variables 1 (asked o)
 unfolding asked
@@ -47,12 +47,6 @@ pub body-read : (fs : List ℕ) → OnGot SomeContext (readContextBody fs)
 unfolding readContextBody
 body-read fs = on-then FineRecord SomeContext (readReturn fs) readLists (return-fine fs) (λ o gs h. lists-read o gs h)
 
-context-read : (s : List ℕ) → OnSome SomeContext (contextOf s)
-unfolding contextOf
-context-read s =
-    let fs = fields (drop 6 s) in
-    some-when SomeContext (isContext s) (whole (readContextBody fs)) (whole-on SomeContext (readContextBody fs) (body-read fs))
-
 module _ (m : Module) (f : FunctionHandle) where
   abbrev known : RequiredContext → Bool
   known c = knownContext (length (m .globals)) (length (functionAt m f .arguments)) (length (functionAt m f .locals)) c
@@ -74,11 +68,3 @@ module _ (m : Module) (f : FunctionHandle) where
   judged : (c : RequiredContext) (b : Bool) → (b ≡ true → FineContext m f c) → OnAccepted (FineContext m f) (cond b (accepted c) (refused 11))
   judged c true h = h refl
   judged c false h = tt
-
-  judge-fine : (o : Option RequiredContext) → OnSome SomeContext o → OnAccepted (FineContext m f) (judgeContext (length (m .globals)) (length (functionAt m f .arguments)) (length (functionAt m f .locals)) o)
-  unfolding judgeContext
-  judge-fine nothing h = tt
-  judge-fine (some c) h = judged c (known c) (known-fine c h)
-
-  pub context-fine : (s : List ℕ) (c : RequiredContext) → readContext m (functionAt m f) s ≡ accepted c → FineContext m f c
-  context-fine s c e = subst (OnAccepted (FineContext m f)) e (judge-fine (contextOf s) (context-read s))

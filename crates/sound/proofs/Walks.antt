@@ -1,12 +1,9 @@
 -- The walk's laws for a module that was read: its recursions are steps of themselves, requests that were read leave a fine pruner, and the bytes of a report fit
 -- its buffer. Each from the walk's own law, with `Sound` and `LowerModule` as reading gives them.
-use mathlib.Core.Path.{_≡_, refl, subst}
+use mathlib.Core.Path.{_≡_}
 use mathlib.Core.Bool.{Bool}
 use mathlib.Core.List.{List, [], _∷_}
-use Prim.Native.Nat.{ℕ, _≤_}
-use native.Mathlib.Omega.{arith}
-use lib.ListN.{length}
-use Rattle.field.specs.Limits.{minReport}
+use Prim.Native.Nat.{ℕ}
 use Rattle.part.specs.PartReq.{PartReq}
 use Rattle.module.specs.Module.{ExpressionHandle, FunctionHandle, BlockHandle, Module}
 use Rattle.module.specs.File.{accepted, readModule}
@@ -14,13 +11,13 @@ use Rattle.context.specs.RequiredContext.{RequiredContext}
 use Rattle.request.specs.Request.{Request}
 use Rattle.valid.specs.Valid.{Valid}
 use Rattle.valid.proofs.Accepted.{valid}
-use Rattle.walk.specs.State.{State, Place, atExpression, Out, went, halt, _>>_, visit}
+use Rattle.walk.specs.State.{State, Place, atExpression, went, _>>_, visit}
 use Rattle.walk.specs.Resolve.{expressionAt}
 use Rattle.walk.specs.Expression.{armAsks, addAsks, recorded, addExpression}
 use Rattle.walk.specs.Marks.{blockAt, rayFrom, firstRay}
 use Rattle.walk.specs.Statement.{FunctionWalk, stepBlock, addBlock}
 use Rattle.walk.specs.Function.{stepFunction, addFunction}
-use Rattle.walk.specs.Requests.{Pruner, Report, Answer, reported, refused, fresh, walkRequest, reportOf, answered, request, requests}
+use Rattle.walk.specs.Requests.{Pruner, requests}
 use Rattle.walk.specs.Proper.{Sound, FineRequest, EachRequest, FinePruner}
 use Rattle.walk.specs.Lower.{LowerModule}
 use Rattle.walk.proofs.Equations.{addExpression-is}
@@ -30,7 +27,6 @@ use Rattle.sound.specs.Asked.{WasRead, EachRead}
 use Rattle.sound.proofs.Sound.{sound}
 use Rattle.sound.proofs.Lower.{lower}
 use Rattle.sound.proofs.Asked.{asked}
-use Rattle.sound.proofs.Bytes.{few-bytes}
 
 module _ (bytes : List ℕ) (m : Module) (read : readModule bytes ≡ accepted m) where
   pub module-valid : Valid m
@@ -65,24 +61,3 @@ module _ (bytes : List ℕ) (m : Module) (read : readModule bytes ≡ accepted m
 
   pub requests-fine : (pruner : Pruner) (qs : List Request) → FinePruner m pruner → EachRead m qs → FinePruner m (requests m pruner qs .1)
   requests-fine pruner qs h hq = proper.requests-fine m module-sound pruner qs h (each-fine qs hq)
-
-  -- from a fresh pruner on
-  pub fresh-fine : (qs : List Request) → EachRead m qs → FinePruner m (requests m (fresh m) qs .1)
-  fresh-fine qs hq = requests-fine (fresh m) qs (proper.fresh-fine m) hq
-
-  -- the bytes of a report
-  abbrev OnReported : (Report → Type 0) → Answer → Type 0
-  OnReported P (reported r) = P r
-  OnReported P (refused n at) = Unit {0}
-
-  module _ (pruner : Pruner) (q : Request) (h : FinePruner m pruner) (hq : WasRead m q) where
-    answer-bytes : (x : Out Bool) → walkRequest m pruner q ≡ x → OnReported (λ r. length (r .bytes) ≤ minReport) (answered m pruner (q .function) x .0)
-    unfolding reportOf
-    answer-bytes (went st r) e =
-        let fine = proper.walk-proper m module-sound pruner q st r h (read-fine q hq) e in
-        omega (arith, proper.bytes-long m 0 (q .function) 0 st (m .functions) fine, few-bytes bytes m read)
-    answer-bytes (halt n at) e = tt
-
-    pub report-bytes : (r : Report) → request m pruner q .0 ≡ reported r → length (r .bytes) ≤ minReport
-    unfolding request
-    report-bytes r e = subst (OnReported (λ r. length (r .bytes) ≤ minReport)) e (answer-bytes (walkRequest m pruner q) refl)

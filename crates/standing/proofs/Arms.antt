@@ -1,28 +1,24 @@
 -- How an if, a statement that breaks its rule, and an exit go on in memory: a slot more is kept aside while a block is walked, and the last two slots become one.
 use Prim.Native.Nat.{ℕ, _+_, _-_, _<_, _≤_}
 use native.Mathlib.Omega.{arith}
-use mathlib.Core.Path.{_≡_, refl, sym, ap, _∙_}
-use mathlib.Core.Bool.{Bool, true, false, cond}
-use mathlib.Core.List.{List, _∷_, _++_}
-use lib.Dec.{ltb}
+use mathlib.Core.Path.{_≡_, sym, ap, _∙_}
+use mathlib.Core.Bool.{Bool, true, false}
+use mathlib.Core.List.{List, _∷_}
 use lib.ListN.{length, getD, set, length-set}
-use Rattle.part.specs.PartReq.{PartReq, add}
-use Rattle.part.specs.Store.{part}
-use Rattle.part.specs.Collect.{cellsOf}
+use Rattle.part.specs.PartReq.{PartReq}
 use Rattle.module.specs.Module.{ExpressionHandle}
 use Rattle.clearance.specs.Scope.{Scope}
-use Rattle.clearance.specs.Tree.{Tree, branch, break, continue, return, unmarked}
-use Rattle.clearance.specs.Needs.{Exit, next, broke, continued, returned, upon, ofValue, askWhole, obeys, kept}
-use Rattle.pass.specs.Pass.{workBound, Carried, Passed, on, full, _>>=_, blame, pointed, within, tooLarge, joining, asking, valuing, passInside}
-use Rattle.hold.specs.Hold.{heldBy, inSlot, Live, Reach}
-use Rattle.hold.proofs.Reach.{reach-cells}
-use Rattle.standing.specs.Slots.{tableSize, askedSlot, endSlot, stackSlot, asideOf, Ready}
-use Rattle.standing.specs.Standing.{settingOf, Carries, TableIn, Targets, Stands, Went, Came, Walked, Stepped, Closed, Blames, Keeps, Stretch, inside, around, step, outcome}
+use Rattle.clearance.specs.Tree.{Tree, branch}
+use Rattle.clearance.specs.Needs.{Exit, next, broke, continued, returned, upon, askWhole, kept}
+use Rattle.pass.specs.Pass.{Carried, Passed, on, full, _>>=_, pointed, joining, asking, passInside}
+use Rattle.hold.specs.Hold.{inSlot, Reach}
+use Rattle.standing.specs.Slots.{tableSize, stackSlot, asideOf, Ready}
+use Rattle.standing.specs.Standing.{settingOf, TableIn, Targets, Stands, Went, Walked, Closed, Keeps, inside, around}
 use Rattle.standing.specs.declared.passing.Passing.{Passing}
 use Rattle.standing.specs.declared.passing.Exits.{Exits}
 use Rattle.standing.proofs.Aside.{beside-high}
-use Rattle.standing.proofs.Stands.{keeps-refl, keeps-trans, Leads, leads-on, held-aside, apart-kept, stands-on, stands-one}
-use Rattle.standing.proofs.Readies.{slot-other, slot-same, ready-less, ready-set, ready-open}
+use Rattle.standing.proofs.Stands.{leads-on, held-aside, apart-kept, stands-one}
+use Rattle.standing.proofs.Readies.{slot-other, slot-same, ready-set, ready-open}
 use Rattle.standing.proofs.Walks.{went-is, went-stands, walked-full, walked-on}
 
 -- a store to the last slot or above it keeps those below

@@ -5,18 +5,15 @@ use native.Mathlib.Omega.{arith}
 use native.Mathlib.Decide.{decLt}
 use native.Mathlib.Numerals.{add-one}
 use mathlib.Core.Path.{_≡_, refl, sym, ap, _∙_}
-use mathlib.Core.Bool.{cond}
-use mathlib.Core.List.{List, [], _∷_, _++_, map}
-use lib.Dec.{ltb}
+use mathlib.Core.List.{List, [], _∷_, _++_}
 use lib.ListN.{length, getD, take, List·getD-eq-default}
 use lib.Seq.{take-suc}
 use borrow.Author.Tests.{lt-ltb, le-ltb}
 use Rattle.part.specs.PartReq.{PartReq, none}
-use Rattle.part.specs.Count.{among}
 use Rattle.part.specs.Collect.{cellsIn, reached, meant}
 use Rattle.part.proofs.Distinct.{Among}
 use Rattle.module.specs.Decode.{tab}
-use Rattle.module.proofs.Tab.{length-tab, getD-tab, tab-past, tab-same}
+use Rattle.module.proofs.Tab.{getD-tab, tab-past, tab-same}
 use Rattle.clearance.specs.Needs.{reentry}
 use Rattle.pass.specs.Pass.{Carried}
 use Rattle.hold.specs.Hold.{heldBy, inSlot, Reach}

@@ -1,9 +1,9 @@
 -- The cases of a switch in memory: below the needs at hand stand the union so far and, below it, the needs after the switch.
-use Prim.Native.Nat.{ℕ, zero, suc, _+_, _-_, _<_, _≤_}
+use Prim.Native.Nat.{ℕ, zero, suc, _+_, _-_, _<_}
 use native.Mathlib.Omega.{arith}
 use mathlib.Core.Path.{_≡_, refl, sym, ap, _∙_}
 use mathlib.Core.Bool.{Bool, true, false}
-use mathlib.Core.List.{List, _∷_, _++_}
+use mathlib.Core.List.{List, _∷_}
 use lib.ListN.{length, getD, set, length-set}
 use Rattle.part.specs.PartReq.{PartReq, none}
 use Rattle.part.proofs.Pieces.{part-2}
@@ -14,12 +14,12 @@ use Rattle.clearance.specs.Needs.{Exit, next, broke, continued, returned, upon,
 use Rattle.pass.specs.Pass.{Carried, Passed, on, full, _>>=_, pointed, joining, asking, passCases, passInside}
 use Rattle.framed.specs.Kept.{Kept}
 use Rattle.hold.specs.Hold.{inSlot}
-use Rattle.standing.specs.Slots.{endSlot, stackSlot, Ready}
-use Rattle.standing.specs.Standing.{settingOf, TableIn, Targets, Stands, Went, Walked, Closed, Keeps, inside, around, cases}
+use Rattle.standing.specs.Slots.{Ready}
+use Rattle.standing.specs.Standing.{settingOf, Targets, Stands, Went, Walked, Closed, Keeps, inside, around, cases}
 use Rattle.standing.specs.declared.passing.Passing.{Passing}
 use Rattle.standing.specs.declared.passing.Exits.{Exits}
 use Rattle.standing.proofs.Aside.{beside-high}
-use Rattle.standing.proofs.Stands.{keeps-refl, keeps-trans, Leads, leads-on, apart-kept, stands-one}
+use Rattle.standing.proofs.Stands.{keeps-refl, leads-on, apart-kept, stands-one}
 use Rattle.standing.proofs.Readies.{slot-other, slot-same, ready-open}
 use Rattle.standing.proofs.Walks.{went-is, went-stands, walked-full, walked-on}
 use Rattle.standing.proofs.Arms.{keeps-set, targets-more, table-kept, closed-went, closed-full}

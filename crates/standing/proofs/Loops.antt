@@ -4,33 +4,32 @@ use Prim.Native.Nat.{ℕ, zero, suc, _+_, _-_, _<_, _≤_}
 use native.Mathlib.Omega.{arith}
 use native.Mathlib.Decide.{ℕ-discrete}
 use mathlib.Core.Path.{_≡_, refl, sym, ap, _∙_}
-use mathlib.Core.Bool.{Bool, true, false, cond, not, _&&_}
-use mathlib.Core.List.{List, [], _∷_, _++_}
-use mathlib.Core.Logic.{_⊎_, ⊎-elim}
+use mathlib.Core.Bool.{Bool, true, false, not}
+use mathlib.Core.List.{List, [], _∷_}
+use mathlib.Core.Logic.{⊎-elim}
 use mathlib.Core.Option.{Option}
-use lib.Dec.{eqb}
 use lib.ListN.{length, getD, set, length-set}
 use borrow.Author.Tests.{eq-eqb, ne-eqb}
-use Rattle.part.specs.PartReq.{PartReq, add, contains}
+use Rattle.part.specs.PartReq.{PartReq, add}
 use Rattle.part.proofs.Equations.{never}
 use Rattle.module.specs.Module.{ExpressionHandle}
 use Rattle.clearance.specs.Scope.{Scope}
 use Rattle.clearance.specs.Tree.{Tree, loop}
-use Rattle.clearance.specs.Needs.{Exit, next, broke, continued, returned, upon, outBreak, outContinue, ofCase, ofContinuing, ofBody, turning, afterContinuing, Table, reentry, joinAt}
+use Rattle.clearance.specs.Needs.{Exit, next, broke, continued, returned, upon, outBreak, outContinue, ofCase, ofContinuing, ofBody, turning, afterContinuing, Table, joinAt}
 use Rattle.clearance.proofs.Entry.{join-at}
 use Rattle.pass.specs.Pass.{Carried, Passed, on, full, _>>=_, enter, pointed, within, turningOn, entering, passInside}
-use Rattle.pass.proofs.Pass.{Says, says-turning}
-use Rattle.hold.specs.Hold.{heldBy, inSlot, Reach}
+use Rattle.pass.proofs.Pass.{says-turning}
+use Rattle.hold.specs.Hold.{inSlot, Reach}
 use Rattle.hold.proofs.Reach.{reach-trans, reach-is}
-use Rattle.standing.specs.Slots.{tableSize, endSlot, stackSlot, asideOf, Ready}
+use Rattle.standing.specs.Slots.{tableSize, asideOf, Ready}
 use Rattle.standing.specs.Standing.{settingOf, Carries, TableIn, Targets, Stands, Went, Walked, Keeps, passedBy, Begun, Entered, inside, around}
 use Rattle.standing.specs.declared.passing.Passing.{Passing}
 use Rattle.standing.specs.declared.passing.Exits.{Exits}
 use Rattle.standing.proofs.Aside.{beside-high, beside-low, aside-same}
-use Rattle.standing.proofs.Stands.{keeps-trans, Leads, leads-on, stands-below, apart-kept, stands-one, stands-two}
+use Rattle.standing.proofs.Stands.{keeps-trans, leads-on, stands-below, stands-one, stands-two}
 use Rattle.standing.proofs.Readies.{slot-other, slot-same, ready-open}
-use Rattle.standing.proofs.Walks.{went-is, went-stands, walked-full, walked-on}
-use Rattle.standing.proofs.Arms.{keeps-set, targets-more, table-kept}
+use Rattle.standing.proofs.Walks.{walked-full, walked-on}
+use Rattle.standing.proofs.Arms.{table-kept}
 use Rattle.standing.proofs.Cases.{caseExits}
 
 -- the exits of a loop's body

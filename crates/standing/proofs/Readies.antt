@@ -1,17 +1,17 @@
 -- Memory stays ready: with fewer slots, one more, a slot that has become another's, one that was pushed.
-use Prim.Native.Nat.{ℕ, _+_, _-_, _<_, _≤_}
+use Prim.Native.Nat.{ℕ, _+_, _<_, _≤_}
 use native.Mathlib.Omega.{arith}
 use native.Mathlib.Decide.{ℕ-discrete}
-use mathlib.Core.Path.{_≡_, refl, sym, ap, _∙_}
+use mathlib.Core.Path.{_≡_, sym, ap}
 use mathlib.Core.Bool.{Bool, true}
 use mathlib.Core.List.{List}
-use lib.ListN.{length, getD, set, length-set}
+use lib.ListN.{length, set, length-set}
 use lib.Seq.{getD-set-same, getD-set-other}
-use Rattle.part.specs.PartReq.{PartReq, none}
+use Rattle.part.specs.PartReq.{PartReq}
 use Rattle.part.specs.Store.{top, part}
 use Rattle.clearance.specs.Scope.{Scope}
 use Rattle.framed.specs.Kept.{Kept}
-use Rattle.hold.specs.Hold.{inSlot, Loose, Live, Pushed}
+use Rattle.hold.specs.Hold.{inSlot, Live, Pushed}
 use Rattle.standing.specs.Slots.{askedSlot, stackSlot, Ready}
 
 -- a slot after a store to another, and to itself

@@ -1,7 +1,7 @@
 -- What stands in memory goes on: after a step that keeps the slots aside, with one slot more kept aside or two, at a point.
 use Prim.Native.Nat.{ℕ, _+_, _-_, _<_, _≤_}
 use native.Mathlib.Omega.{arith}
-use mathlib.Core.Path.{_≡_, refl, sym, ap, _∙_}
+use mathlib.Core.Path.{_≡_, refl, ap, _∙_}
 use mathlib.Core.Bool.{_||_}
 use mathlib.Core.List.{List, _∷_, _++_}
 use lib.ListN.{length}
@@ -11,7 +11,7 @@ use Rattle.clearance.specs.Needs.{Exit, next, broke, continued, returned, upon}
 use Rattle.pass.specs.Pass.{Carried, tooMany, point}
 use Rattle.hold.specs.Hold.{heldBy, inSlot, Reach}
 use Rattle.hold.proofs.Reach.{reach-trans, reach-is, reach-cons, reach-append}
-use Rattle.standing.specs.Slots.{tableSize, askedSlot, endSlot, stackSlot, newOf, asideOf, Beside, Ready}
+use Rattle.standing.specs.Slots.{tableSize, askedSlot, stackSlot, asideOf, Ready}
 use Rattle.standing.specs.Standing.{Carries, TableIn, Targets, Stands, Noted, Keeps}
 use Rattle.standing.specs.declared.passing.Passing.{Passing}
 use Rattle.standing.specs.declared.passing.Exits.{Exits}

@@ -2,32 +2,29 @@
 use Prim.Native.Nat.{ℕ, _+_, _-_, _<_, _≤_}
 use native.Mathlib.Omega.{arith}
 use mathlib.Core.Path.{_≡_, refl, sym, ap, _∙_}
-use mathlib.Core.Bool.{Bool, true, false, cond}
+use mathlib.Core.Bool.{Bool, true, false}
 use mathlib.Core.List.{List, _∷_, _++_}
-use mathlib.Core.Option.{Option, some as present, none as absent}
-use lib.Dec.{ltb}
+use mathlib.Core.Option.{some as present, none as absent}
 use lib.ListN.{length, getD, set, length-set}
-use Rattle.part.specs.PartReq.{PartReq, add}
-use Rattle.part.specs.Collect.{cellsOf}
+use Rattle.part.specs.PartReq.{PartReq}
 use Rattle.module.specs.Module.{ExpressionHandle}
 use Rattle.clearance.specs.Scope.{Scope}
-use Rattle.clearance.specs.Tree.{Act, Tree, act, break, continue, return, unmarked}
+use Rattle.clearance.specs.Tree.{Tree, break, continue, return, unmarked}
 use Rattle.clearance.specs.Needs.{Exit, next, broke, continued, returned, upon, ofValue, obeys, kept}
 use Rattle.clearance.specs.Judged.{lower}
-use Rattle.pass.specs.Pass.{workBound, Carried, Passed, on, full, _>>=_, blame, within, tooLarge, asking, valuing, acting, passInside}
-use Rattle.pass.specs.Checked.{askedOf}
+use Rattle.pass.specs.Pass.{Carried, on, full, _>>=_, blame, within, tooLarge, asking, valuing, passInside}
 use Rattle.hold.specs.Hold.{heldBy, inSlot, Live, Reach}
 use Rattle.hold.proofs.Reach.{reach-cells}
 use Rattle.hold.proofs.Slots.{live-within}
-use Rattle.standing.specs.Slots.{tableSize, askedSlot, endSlot, stackSlot, Ready}
-use Rattle.standing.specs.Standing.{settingOf, Carries, TableIn, Targets, Stands, Went, Walked, passedBy, Stepped, Closed, Blames, Valued, Keeps, Stretch, inside, around, step, outcome}
+use Rattle.standing.specs.Slots.{endSlot, Ready}
+use Rattle.standing.specs.Standing.{settingOf, Carries, Targets, Stands, Walked, passedBy, Closed, Blames, Valued, Keeps, inside}
 use Rattle.standing.specs.declared.passing.Passing.{Passing}
 use Rattle.standing.specs.declared.passing.Exits.{Exits}
 use Rattle.standing.proofs.Aside.{beside-high}
-use Rattle.standing.proofs.Stands.{keeps-refl, keeps-trans, leads-on, stands-reach, stands-below, apart-kept, stands-on}
+use Rattle.standing.proofs.Stands.{keeps-refl, stands-reach, stands-below, apart-kept, stands-on}
 use Rattle.standing.proofs.Readies.{slot-other, slot-same, ready-set}
 use Rattle.standing.proofs.Walks.{went-is, went-stands, walked-full, walked-on}
-use Rattle.standing.proofs.Arms.{keeps-set, targets-more, table-kept, closed-went, closed-full, copied-ready, copied-stands}
+use Rattle.standing.proofs.Arms.{keeps-set, targets-more, table-kept, closed-went, closed-full, copied-stands}
 
 -- what the slots reach is within the bound
 pub within-fits : {s rs : List ℕ} {n : ℕ} {m : PartReq} (l : List PartReq) {c : Carried} → Live s rs n → Reach (heldBy s rs n) (m ∷ (l ++ c .table)) → within l m c ≡ on c m

@@ -1,9 +1,9 @@
 -- Walks put together: nothing, one statement after the other, a statement with the points before and after it, a step from the needs at hand, an exit taken.
-use Prim.Native.Nat.{ℕ, _+_, _-_, _<_, _≤_}
+use Prim.Native.Nat.{ℕ, _+_, _-_, _<_}
 use native.Mathlib.Omega.{arith}
 use mathlib.Core.Path.{_≡_, refl, sym, ap, _∙_}
 use mathlib.Core.Bool.{Bool, true, false}
-use mathlib.Core.List.{List, _∷_, _++_}
+use mathlib.Core.List.{List}
 use lib.ListN.{length}
 use Rattle.part.specs.PartReq.{PartReq}
 use Rattle.part.proofs.Equations.{never}
@@ -13,7 +13,7 @@ use Rattle.clearance.specs.Needs.{Exit, next, upon}
 use Rattle.pass.specs.Pass.{Carried, Passed, on, full, _>>=_, point, pointed, passInside}
 use Rattle.hold.specs.Hold.{inSlot}
 use Rattle.standing.specs.Slots.{tableSize, stackSlot, Ready}
-use Rattle.standing.specs.Standing.{settingOf, Targets, Stands, Went, Came, Walked, passedBy, Stepped, Noted, Keeps, Stretch, inside, around, step, outcome}
+use Rattle.standing.specs.Standing.{settingOf, Targets, Stands, Went, Came, Walked, Stepped, Noted, Keeps, Stretch, inside, around, step, outcome}
 use Rattle.standing.specs.declared.passing.Passing.{Passing}
 use Rattle.standing.specs.declared.passing.Exits.{Exits}
 use Rattle.standing.proofs.Stands.{keeps-refl, keeps-trans, carries-point, stands-below, stands-point, stands-on}

@@ -15,7 +15,7 @@ use Rattle.clearance.specs.Needs.{ofValue, Exit, next, broke, continued, return
 use Rattle.clearance.specs.Judged.{lower}
 use Rattle.pass.specs.Pass.{Carried, Passed, on, full, tooMany, pointed, asking, turningOn, passCases, within, passInside}
 use Rattle.pass.specs.Checked.{askedOf}
-use Rattle.hold.specs.Hold.{heldBy, inSlot, Live, Reach}
+use Rattle.hold.specs.Hold.{heldBy, inSlot, Reach}
 use Rattle.standing.specs.Slots.{tableSize, askedSlot, endSlot, asideOf, Beside, Ready}
 use Rattle.standing.specs.declared.passing.Passing.{Passing}
 use Rattle.standing.specs.declared.passing.Exits.{Exits}

@@ -14,12 +14,12 @@ use Rattle.module.specs.Decode.{optionOf}
 use Rattle.module.specs.Tables.{moduleOf}
 use Rattle.context.specs.RequiredContext.{pieces}
 use Rattle.valid.specs.Valid.{MaybeBelow}
-use Rattle.walk.specs.State.{Records, State, Out, went, halt, Walk, _>>_, recordPieces, functionPieces, totalPieces}
+use Rattle.walk.specs.State.{Records, State, Out, went, Walk, _>>_, recordPieces, functionPieces, totalPieces}
 use Rattle.walk.specs.Expression.{addExpression}
 use Rattle.walk.specs.Statement.{askOptional}
 use Rattle.walk.specs.Statement as walk
 use Rattle.walk.proofs.Bind.{next-went, next-halt, next-self}
-use Rattle.memory.specs.Layout.{ask, returned}
+use Rattle.memory.specs.Layout.{returned}
 use Rattle.memory.specs.Memory.{read, Memory}
 use Rattle.memory.specs.Want.{asked, Wants, wantOf}
 use Rattle.memory.proofs.Slots.{asked-slot, want-slot}

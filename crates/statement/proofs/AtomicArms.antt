@@ -26,7 +26,7 @@ use Rattle.walk.specs.State.{Records, State, Out, went, _>>_, recordPieces}
 use Rattle.walk.specs.Resolve.{functionAt, storeRequired, isThere}
 use Rattle.walk.specs.Proper.{Fine, EachRecord}
 use Rattle.walk.specs.StatementReq.{StatementReq}
-use Rattle.walk.specs.Statement.{Frame, Target, askNeeded, askResult, needOf, recordOf, target, addAtomic, addStatement}
+use Rattle.walk.specs.Statement.{Frame, Target, askNeeded, askResult, needOf, recordOf, addAtomic, addStatement}
 use Rattle.walk.proofs.Keeps.{Needs}
 use Rattle.walk.proofs.Bind.{then-went, then-halt, next-same}
 use Rattle.memory.specs.Layout as layout

@@ -4,7 +4,6 @@ use native.Mathlib.Omega.{arith}
 use mathlib.Core.Path.{_≡_, refl, ap, _∙_}
 use mathlib.Core.Bool.{Bool, true, false}
 use mathlib.Core.List.{List}
-use mathlib.Core.Option.{none as nothing}
 use lib.ListN.{length, getD}
 use Rattle.module.specs.Module.{Statement, Break, Continue, Kill, ControlBarrier, MemoryBarrier, ImageAtomic}
 use Rattle.module.specs.Tables.{moduleOf}

@@ -1,12 +1,12 @@
 -- The types of a valid module are of the sizes that a file may have.
-use mathlib.Core.Path.{_≡_, sym, subst}
-use Prim.Native.Nat.{ℕ, _<_, _≤_}
+use mathlib.Core.Path.{sym, subst}
+use Prim.Native.Nat.{ℕ}
 use native.Mathlib.Decide.{decLt}
 use native.Mathlib.Omega.{arith}
 use lib.ListN.{length, getD, List·getD-eq-default}
 use Rattle.module.specs.Module.{TypeInner, Scalar, Vector, Matrix, Atomic, Pointer, Array, Struct, BindingArray, Opaque, Module}
 use Rattle.context.specs.Types.{Sized, AllSized}
-use Rattle.valid.specs.Valid.{TypeFine, MembersWithin, TypeValid, Valid}
+use Rattle.valid.specs.Valid.{TypeFine, MembersWithin, Valid}
 
 sized : (n : ℕ) (x : TypeInner) → TypeFine n x → MembersWithin x → Sized x
 sized n Scalar f m = tt

@@ -1,16 +1,15 @@
 -- A table whose word k of the row h is the field k of the type h stands for the types: a type of the sizes that a file may have looks
 -- no further than its row.
-use mathlib.Core.Path.{_≡_, refl, sym, ap, _∙_, subst}
+use mathlib.Core.Path.{_≡_, refl, ap, _∙_, subst}
 use mathlib.Core.List.{List}
-use mathlib.Core.Option.{Option}
 use Prim.Native.Nat.{ℕ, zero, suc, _+_, _*_, _/_, _%_, _<_, _≤_}
 use native.Mathlib.Omega.{arith}
 use native.Mathlib.Decide.{ℕ-discrete}
 use lib.ListN.{length, getD, set, length-set}
 use lib.Seq.{getD-set-same, getD-set-other}
 use Rattle.field.specs.Limits.{maxMembers}
-use Rattle.module.specs.Module.{Member, TypeInner, Scalar, Vector, Matrix, Atomic, Pointer, Array, Struct, BindingArray, Opaque}
-use Rattle.module.specs.Decode.{tab, optionOf, memberOf, typeInnerOf, typeOf}
+use Rattle.module.specs.Module.{Struct, Opaque}
+use Rattle.module.specs.Decode.{tab, memberOf, typeInnerOf, typeOf}
 use Rattle.module.specs.Tables.{word, headAt, typeBody, moduleOf}
 use Rattle.module.proofs.Tab.{length-tab, getD-tab, tab-same}
 use Rattle.context.specs.Types.{typeWords, typeWord, typeCount, rowType, typesOf, Sized, AllSized}

@@ -1,29 +1,19 @@
 -- Where a visit ends, 16 is not passed; and what is asked of an expression has no more entries than what it was taken from.
-use mathlib.Core.List.{[], _∷_}
-use mathlib.Core.Option.{some, none as nothing}
-use Prim.Native.Nat.{ℕ, zero, suc, _+_, _≤_}
+use Prim.Native.Nat.{ℕ, _+_, _≤_}
 use native.Mathlib.Omega.{arith}
 use Rattle.field.specs.Limits.{maxPieces}
 use Rattle.part.specs.PartReq.{PartReq, all, exist, none, more, Subpart, gone, there, getSubpart, entries}
 use Rattle.part.proofs.Equations.{before, after, at, way, getSubpart-all, getSubpart-exist, getSubpart-none, getSubpart-before, getSubpart-at, getSubpart-after}
-use Rattle.module.specs.Module.{ExpressionHandle, FunctionHandle, Module}
-use Rattle.module.proofs.Knot.{knot-all}
+use Rattle.module.specs.Module.{Module}
 use Rattle.context.specs.RequiredContext.{RequiredContext, pieces, VarRef, Global, Local, variable}
-use Rattle.walk.specs.State.{Records, State, atExpression, Out, went, halt, recordPieces, count}
+use Rattle.walk.specs.State.{State, Out, went, halt, count}
 use Rattle.walk.specs.Resolve.{needed, neededAt, checkPart, storeRequired}
-use Rattle.walk.specs.Expression.{stepExpression, noOperand, addExpression}
-use Rattle.walk.specs.Statement.{FunctionWalk, BlockWalk, Frame, here, needOf, recordAt, visitStatement}
+use Rattle.walk.specs.Statement.{FunctionWalk, BlockWalk, Frame, here, visitStatement}
 use Rattle.walk.proofs.Ends.{Ends, ends, stops, Any, ends-visit}
 
 whatever : {A : Type 0} (x : Out A) → Ends Any (λ left a. Unit {0}) x
 whatever (went left a) = ends tt
 whatever (halt n place) = stops tt
-
-pub expression-counted : (m : Module) (f : FunctionHandle) (held : ℕ) (e : ExpressionHandle) (p : PartReq) (st : State) → Ends Any (λ left u. count held left ≤ maxPieces) (addExpression m f held e p st)
-unfolding addExpression stepExpression
-expression-counted m f held e =
-    knot-all (λ a w. (p : PartReq) (st : State) → Ends Any (λ left u. count held left ≤ maxPieces) (w p st)) (stepExpression m f held) noOperand (λ a p st. stops tt)
-    (λ w a hw p st. ends-visit (λ n t. tt) held (atExpression f a) _ st (λ few. whatever _) (λ left u t few. few)) e
 
 pub statement-counted : (m : Module) (call : FunctionWalk) (block : BlockWalk) (fr : Frame) (st : State) → Ends Any (λ left r. count (fr .held) left ≤ maxPieces) (visitStatement m call block fr st)
 unfolding visitStatement
@@ -83,11 +73,3 @@ store-few c (Global g) part =
 store-few c (Local l) part =
     few-more (entries (c .locals)) _ (checkPart part (getSubpart (c .locals) (variable l))) (omega arith)
     (check-few part (entries (c .locals)) (getSubpart (c .locals) (variable l)) (subpart-few (c .locals) (variable l)))
-
-pub record-few : (es : Records) (e : ExpressionHandle) → Few (recordPieces es) (recordAt es e)
-unfolding recordPieces needOf
-record-few [] e = tt
-record-few (nothing ∷ es) zero = tt
-record-few (some p ∷ es) zero = omega arith
-record-few (nothing ∷ es) (suc e) = record-few es e
-record-few (some p ∷ es) (suc e) = few-more (recordPieces es) _ (recordAt es e) (omega arith) (record-few es e)

@@ -32,10 +32,6 @@ pub over-parts : (i : ℕ) (p r : PartReq) → over (more i p r) ≡ false → (
 unfolding over
 over-parts i p r h = let both = neither (over p) _ h in (both .0, neither (over r) _ (both .1) .0)
 
-over-none : over none ≡ false
-unfolding over
-over-none = refl
-
 pub fine-all : Fine all
 unfolding over
 fine-all = record { ascends = tt; plain = tt; within = refl }
@@ -43,10 +39,6 @@ fine-all = record { ascends = tt; plain = tt; within = refl }
 pub fine-exist : Fine exist
 unfolding over
 fine-exist = record { ascends = tt; plain = tt; within = refl }
-
-fine-none : Fine none
-unfolding over
-fine-none = record { ascends = tt; plain = tt; within = refl }
 
 fine-below : (i : ℕ) (p r : PartReq) → Fine (more i p r) → Fine p
 fine-below i p r h = record { ascends = h .ascends .0; plain = h .plain .1 .0; within = over-parts i p r (h .within) .0 }

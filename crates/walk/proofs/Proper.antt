@@ -1,16 +1,14 @@
 -- Every walk keeps a state proper: the properties of specs/Proper, change by change.
 use mathlib.Core.Path.{_≡_, refl, sym, ap, subst, _∙_}
-use mathlib.Core.Bool.{Bool, true, false, _||_, cond}
+use mathlib.Core.Bool.{Bool, true, false, _||_}
 use mathlib.Core.List.{List, [], _∷_}
 use mathlib.Core.Option.{Option, some, none as nothing, Option·some-injective, Option·none-ne-some}
 use Prim.Native.Nat.{ℕ, zero, suc, _≤_}
 use native.Mathlib.Omega.{arith}
-use lib.Dec.{eqb}
-use borrow.Author.Tests.{eqb-true}
-use lib.ListN.{length, getD, set, replicate, length-set, length-replicate, length-append}
+use lib.ListN.{length, getD, set, replicate, length-set, length-replicate}
 use Rattle.part.specs.PartReq.{PartReq, none, more, Subpart, gone, there, getSubpart, over, spine}
 use Rattle.part.proofs.Equations.{never}
-use Rattle.module.specs.Module.{ExpressionHandle, FunctionHandle, BlockHandle, Module, Function}
+use Rattle.module.specs.Module.{ExpressionHandle, FunctionHandle, Module}
 use Rattle.context.specs.RequiredContext.{RequiredContext, mergeContext, variable, VarRef, Global, Local, RemovedContext, leftContext, panicContext, alter, removeVar}
 use Rattle.context.specs.Remove.{Removed, left, panic, remove}
 use Rattle.context.proofs.Removal.{Left}
@@ -22,16 +20,13 @@ use Rattle.walk.specs.Marks.{stretch, writeMarks, addMark, addMarks}
 use Rattle.walk.specs.Statement.{needOf, retvalOf}
 use Rattle.walk.specs.Function.{latest, extend}
 use Rattle.walk.specs.Proper.{Sound, Fine, Variables, FineContext, FineRecord, EachRecord, FineRecords, EachMark, FineMarks, FineFunction, FineTotals, FineVisits, ProperState, FinePruner, FineRequest, EachRequest}
-use Rattle.walk.specs.State.{State, Place, went}
+use Rattle.walk.specs.State.{State, went}
 use Rattle.walk.specs.Expression.{addExpression}
-use Rattle.walk.specs.Statement.{Frame, visitStatement, addBlock}
-use Rattle.walk.specs.Function.{addFunction}
 use Rattle.request.specs.Request.{Request}
-use Rattle.walk.specs.Requests.{Pruner, fresh, asked, walkRequest, totalMarks, bytesFrom, stretchesFrom, requests}
+use Rattle.walk.specs.Requests.{Pruner, fresh, asked, walkRequest, requests}
 use Rattle.walk.proofs.Ends.{ended}
 use Rattle.walk.proofs.Keeps.{Needs, Kept, Good, expression-keeps}
-use Rattle.walk.proofs.Statements.{block-keeps, visit-goes}
-use Rattle.walk.proofs.Functions.{function-keeps, Asking, AskingAll, walk-keeps, requests-keep}
+use Rattle.walk.proofs.Functions.{Asking, AskingAll, walk-keeps, requests-keep}
 use Rattle.walk.proofs.Parts.{fine-all, fine-exist, fine-entries, fine-index, fine-swizzled, fine-removed, check-fine, variables-add, variables-one, variables-subpart, variables-insert, variables-alter}
 
 -- records
@@ -288,10 +283,6 @@ state m s v f st h =
 
 -- the same of a part and of a context by itself
 module _ (m : Module) (s : Sound m) (v : ℕ) where
-  pub fine-asked : (p : PartReq) → Fine p → (proper m s v) .Asked p
-  unfolding proper
-  fine-asked p h = h
-
   pub asked-fine : (p : PartReq) → (proper m s v) .Asked p → Fine p
   unfolding proper
   asked-fine p h = h
@@ -304,37 +295,11 @@ module _ (m : Module) (s : Sound m) (v : ℕ) where
   unfolding proper
   context-fine f c h = h
 
-  pub fine-needs : (need : Subpart) → Needs Fine need → Needs ((proper m s v) .Asked) need
-  unfolding proper
-  fine-needs need h = h
-
 -- The walk of an expression leaves a proper state; visits never fall.
 pub expression-proper : (m : Module) → Sound m → (f : FunctionHandle) (held v : ℕ) (e : ExpressionHandle) (p : PartReq) (st final : State) (u : Unit {0}) → Fine p → ProperState m v f st → addExpression m f held e p st ≡ went final u → ProperState m v f final
 unfolding proper
 expression-proper m s f held v e p st final u q h is =
     state m s v f final (ended (expression-keeps (proper m s v) f held e p st q (good m s v f st h)) is)
-
--- the walk of a called function: its own state is proper
-pub function-proper : (m : Module) → Sound m → (f g : FunctionHandle) (at : Place) (held v : ℕ) (globals retval : PartReq) (st final : State) (r : Bool) → FineContext m g (record { globals = globals; locals = none; args = none; retval = retval }) → ProperState m v f st → addFunction m g at held globals retval st ≡ went final r → ProperState m v g final
-unfolding proper
-function-proper m s f g at held v globals retval st final r hc h is =
-    state m s v g final
-    (ended (function-keeps (proper m s v) g at held globals retval st hc (record { globals = h .globals; functions = h .functions; visits = h .visits })) is)
-
--- the walk of a block, where calls are those of functions
-pub block-proper : (m : Module) → Sound m → (f : FunctionHandle) (b : BlockHandle) (held v : ℕ) (base : RequiredContext) (r q : Bool) (st final : State) → FineContext m f base → ProperState m v f st → addBlock m (addFunction m) f b held base r st ≡ went final q → ProperState m v f final
-unfolding proper
-block-proper m s f b held v base r q st final hb h is =
-    state m s v f final (ended (block-keeps (proper m s v) (addFunction m) f (function-keeps (proper m s v)) b held base r st hb (good m s v f st h)) is)
-
--- a visit of a statement, where blocks and calls are those of the walk
-pub statement-proper : (m : Module) → Sound m → (fr : Frame) (v : ℕ) (st final : State) (r : Bool) → FineContext m (fr .function) (fr .base) → ProperState m v (fr .function) st → visitStatement m (addFunction m) (addBlock m (addFunction m) (fr .function)) fr st ≡ went final r → ProperState m v (fr .function) final
-unfolding proper
-statement-proper m s fr v st final r hb h is =
-    let K = proper m s v in
-    let calls = function-keeps K in
-    state m s v (fr .function) final
-    (ended (visit-goes K (addFunction m) (addBlock m (addFunction m) (fr .function)) fr st calls (block-keeps K (addFunction m) (fr .function) calls) hb (good m s v (fr .function) st h)) is)
 
 -- requests
 no-total : {A : Type 0} (n f : ℕ) (t : FunctionReq) → getD (replicate n nothing) f nothing ≡ some t → A
@@ -380,21 +345,3 @@ unfolding proper
 requests-fine m s pruner qs h hq =
     let kept = requests-keep (proper m s 0) pruner qs no-visits (record { globals = h .globals; functions = h .functions }) (asking-all m s qs hq) in
     record { globals = kept .globals; functions = kept .functions }
-
--- the marks of one function, in the report
-total-long : (m : Module) (fs : List (Option FunctionReq)) (g : FunctionHandle) (o : Option FunctionReq) → FineTotals m fs → getD fs g nothing ≡ o → length (totalMarks m g o) ≡ stretch m g
-unfolding totalMarks
-total-long m fs g nothing h e = length-replicate (stretch m g) 0
-total-long m fs g (some total) h e = h .each g total e .marks .long
-
-marks-long : (m : Module) (v : ℕ) (f g : FunctionHandle) (st : State) → ProperState m v f st → (b : Bool) → eqb g f ≡ b → length (cond (eqb g f) (st .marks) (totalMarks m g (getD (st .functions) g nothing))) ≡ stretch m g
-marks-long m v f g st h true e = let same : g ≡ f = eqb-true g f e in rw e (h .marks .long ∙ ap (stretch m) (sym same))
-marks-long m v f g st h false e = rw e (total-long m (st .functions) g (getD (st .functions) g nothing) (h .functions) refl)
-
--- The bytes of a report are as many as the functions' stretches have marks.
-pub bytes-long : (m : Module) (v : ℕ) (f g : FunctionHandle) (st : State) (fs : List Function) → ProperState m v f st → length (bytesFrom m f st g fs) ≡ stretchesFrom m g fs
-unfolding bytesFrom stretchesFrom
-bytes-long m v f g st [] h = refl
-bytes-long m v f g st (x ∷ fs) h =
-    let one = cond (eqb g f) (st .marks) (totalMarks m g (getD (st .functions) g nothing)) in
-    length-append one (bytesFrom m f st (suc g) fs) ∙ rw (marks-long m v f g st h (eqb g f) refl, bytes-long m v f (suc g) st fs h)

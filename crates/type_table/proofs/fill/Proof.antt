@@ -1,5 +1,4 @@
 -- `type_table::fill` meets its contract. The invariant: the words before i are filled.
-use mathlib.Core.Path.{_∙_}
 use Prim.Native.Nat.{_-_}
 use lib.ListN.{length}
 use Rattle.type_table.proofs.Filled.{Filled, fill-none, fill-next, fill-all}

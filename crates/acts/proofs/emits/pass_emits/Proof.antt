@@ -1,5 +1,4 @@
 -- `acts::emits::pass_emits` meets its contract. The invariant: the expressions from the i-th on were walked (Emitting).
-use Prim.Native.Nat.{_+_, _-_}
 use mathlib.Core.Path.{_≡_, refl, _∙_}
 use lib.ListN.{length}
 use Rattle.judge.specs.Given.{scopeAt}

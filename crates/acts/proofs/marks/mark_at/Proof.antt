@@ -1,8 +1,7 @@
 -- By where the mark stands.
-use mathlib.Core.Path.{refl, sym, _∙_}
+use mathlib.Core.Path.{refl, sym}
 use Prim.Native.Nat.{zero}
-use lib.Dec.{eqb}
-use lib.ListN.{getD, List·getD-eq-default}
+use lib.ListN.{List·getD-eq-default}
 use Rattle.clearance.specs.Tree.{markAt}
 use borrow.Author.Needs.{needs}
 use Rattle.acts.proofs.marks.mark_at.Statement.{statement}

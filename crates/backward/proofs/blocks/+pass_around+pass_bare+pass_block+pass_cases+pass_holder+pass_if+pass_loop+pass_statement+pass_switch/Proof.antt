@@ -5,7 +5,7 @@ use borrow.Author.Tests.{not-true, not-false}
 use Rattle.module.specs.Tables.{functionOf}
 use Rattle.access.specs.Access.{operandAt}
 use Rattle.judge.specs.Given.{scopeAt}
-use Rattle.strays.proofs.Found.{in-function, statement-in, statement-small, there, block-low}
+use Rattle.strays.proofs.Found.{statement-in, statement-small, there, block-low}
 use Rattle.backward.specs.Course.{caseBlock}
 use Rattle.backward.proofs.Course.{point-asks}
 use Rattle.backward.proofs.Statements.{Later, at-point, around-full, around-on, no-statement, later-point, statement-asks, later-full, later-more, all-walked, row-in, inner-passes, holding, not-holding, is-loop}

@@ -8,7 +8,7 @@ use Rattle.bindings_request.proofs.add.add_to.Lts as lts
 use Rattle.access.proofs.function.result.Reads as result-reads
 use Rattle.bindings.proofs.outputs.add_binding.Reads as add-binding-reads
 use Rattle.bindings_request.proofs.answer.write_asking.Reads as write-asking-reads
-use Rattle.request.proofs.contexts.returned.Reads as returned-reads
+use Rattle.request.proofs.lists.returned.Reads as returned-reads
 
 returned-requires : tie.Need-returned-requires
 returned-requires c κs = search needs

@@ -1,7 +1,7 @@
 -- The proof of the cycle of calls {check_entries, skip_part}: a part's entries have parts that go less deep. Each return is one law about what was seen.
-use Prim.Native.Nat.{ℕ, _*_, _+_, _-_, _<_}
+use Prim.Native.Nat.{ℕ, _*_, _+_, _<_}
 use Rattle.context_bytes.proofs.Steps.{index-read, index-refused}
-use Rattle.context_bytes.proofs.Checked.{Checking, check-first, check-stop, check-no-part, check-again, check-done, skip-placed, part-refused, all-inside, exist-inside, entries-inside, all-skipped, exist-skipped, entries-skipped}
+use Rattle.context_bytes.proofs.Checked.{Checking, check-first, check-stop, check-no-part, check-again, check-done, part-refused, all-inside, exist-inside, entries-inside, all-skipped, exist-skipped, entries-skipped}
 use native.Mathlib.Omega.{arith}
 use borrow.Author.Needs.{needs}
 use borrow.Fn.Kinds.{In}

@@ -1,5 +1,5 @@
 -- The proof of the cycle of calls {count_entries, count_part}: a part's entries have parts that go less deep. Each return is one law about what was seen.
-use Prim.Native.Nat.{ℕ, _*_, _+_, _-_, _<_}
+use Prim.Native.Nat.{ℕ, _*_, _+_, _<_}
 use Rattle.context_bytes.proofs.Steps.{index-read, index-refused}
 use Rattle.context_bytes.proofs.Checked.{all-inside, exist-inside, entries-inside}
 use Rattle.context_bytes.proofs.Counted.{Counting, counting-first, counting-stop, counting-no-part, counting-fits, counting-again, counting-done, count-malformed, count-all, count-exist, count-level}

@@ -1,5 +1,5 @@
 -- The proof of the cycle of calls {covers_entries, covers_part}: a part's entries have parts that go less deep. Each return is one law about what was seen.
-use Prim.Native.Nat.{ℕ, _*_, _+_, _-_, _<_}
+use Prim.Native.Nat.{ℕ, _*_, _+_, _<_}
 use Rattle.context_bytes.proofs.Steps.{index-read, index-refused}
 use Rattle.context_bytes.proofs.Checked.{all-inside, exist-inside, entries-inside}
 use Rattle.context_bytes.proofs.Covered.{Covering, cover-first, cover-stop, cover-other, cover-not, cover-again, cover-all, cover-done, asks-placed, part-no, part-all, part-exist, part-entries}

@@ -18,8 +18,6 @@ use Rattle.block.specs.Visiting.{blockIn}
 use Rattle.module.specs.Tables.{maxItems}
 use Rattle.memory.specs.Memory.{contextAt, read}
 use borrow.Author.Tests.{not-false, not-true}
-use lib.ListN.{length}
-use mathlib.Core.Path.{_∙_, _≡_, refl}
 use native.Mathlib.Omega.{arith}
 use borrow.Author.Needs.{needs}
 use borrow.Fn.Kinds.{In}

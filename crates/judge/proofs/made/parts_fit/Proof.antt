@@ -1,10 +1,8 @@
 -- `judge::made::parts_fit` meets its contract. The invariant: the first i fit.
 use Prim.Native.Nat.{_+_, _-_}
-use mathlib.Core.Path.{_≡_, ap, _∙_}
 use borrow.Author.Tests.{not-true, not-false}
-use Rattle.module.specs.Module.{TypeInner}
 use Rattle.access.specs.Access.{operandAt}
-use Rattle.clearance.specs.Scope.{inner, typeOf, innerOf}
+use Rattle.clearance.specs.Scope.{inner, innerOf}
 use Rattle.clearance.specs.Judged.{partType, samePart}
 use Rattle.judge.specs.Given.{scopeAt}
 use Rattle.judge.proofs.ValueRows.{Each, each-none, each-next, each-fails, each-all}

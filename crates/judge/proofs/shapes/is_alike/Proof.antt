@@ -1,5 +1,4 @@
 -- `judge::shapes::is_alike` meets its contract: by the two entries.
-use mathlib.Core.Path.{_≡_}
 use Rattle.judge.specs.Alike.{byTable}
 use borrow.Author.Needs.{needs}
 use Rattle.judge.proofs.shapes.is_alike.Statement.{statement}

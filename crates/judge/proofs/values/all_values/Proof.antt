@@ -1,6 +1,6 @@
 -- `judge::values::all_values` meets its contract. The invariant: the first i are values.
 use Prim.Native.Nat.{_+_, _-_}
-use mathlib.Core.Path.{sym, ap, _∙_}
+use mathlib.Core.Path.{ap, _∙_}
 use borrow.Author.Tests.{not-true, not-false}
 use Rattle.access.specs.Access.{operandAt}
 use Rattle.clearance.specs.Judged.{isValue}

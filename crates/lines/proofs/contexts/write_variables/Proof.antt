@@ -2,7 +2,7 @@
 use mathlib.Core.Path.{refl}
 use Prim.Native.Nat.{_<_}
 use Rattle.part.specs.Store.{top, part}
-use Rattle.lines.specs.Text.{lineText, variablesText}
+use Rattle.lines.specs.Text.{variablesText}
 use Rattle.lines.proofs.Along.{Along, along-none, along-fits, along-more, along-done, along-long}
 use Rattle.lines.proofs.Rows.{no-variables, variable-line}
 use native.Mathlib.Omega.{arith}

@@ -1,5 +1,4 @@
 -- `module::checks::shape_of` meets its contract, mark by mark.
-use mathlib.Core.Path.{refl}
 use Rattle.module.specs.Packed.{unpack, classThen, operandOf}
 use Rattle.module.specs.Checks.{shapeIn}
 use borrow.Author.Needs.{needs}

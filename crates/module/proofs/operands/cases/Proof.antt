@@ -1,10 +1,8 @@
 -- `module::operands::cases` meets its contract: what is left of the scan gives the whole.
-use mathlib.Core.Path.{refl, sym, _∙_}
+use mathlib.Core.Path.{sym, _∙_}
 use mathlib.Core.List.{[]}
-use Prim.Native.Nat.{_-_}
 use Rattle.module.specs.Record.{fieldsTo}
 use Rattle.module.specs.Operands.{casesAfter}
-use Rattle.module.specs.Scan.{Fresh}
 use Rattle.module.proofs.Counted.{counted-none, counted-by}
 use Rattle.module.proofs.Shaped.{stamped-on}
 use Rattle.module.proofs.Cases.{Cases, cases-first, cases-short, cases-twice, cases-again, cases-done, cases-no-default}

@@ -1,5 +1,4 @@
 -- `module::operands::operand` meets its contract.
-use mathlib.Core.Path.{refl}
 use Rattle.module.specs.Operands.{taken}
 use Rattle.module.specs.Packed.{operandOf}
 use Rattle.module.proofs.Scanning.{by-def}

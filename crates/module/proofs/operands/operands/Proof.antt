@@ -1,6 +1,4 @@
 -- `module::operands::operands` meets its contract: what is left of the shape and of the fields gives the whole.
-use mathlib.Core.Path.{refl}
-use Prim.Native.Nat.{_+_, _-_}
 use Rattle.module.specs.Record.{fieldsTo}
 use Rattle.module.specs.Operands.{operands}
 use Rattle.module.specs.Packed.{unpack, classes}

@@ -1,10 +1,8 @@
 -- `module::operands::plain` meets its contract, class by class.
-use mathlib.Core.Path.{ap, _∙_}
 use Rattle.module.specs.Operands.{taken}
 use Rattle.module.specs.Packed.{operandOf}
 use Rattle.module.specs.Tables.{scopeIn}
 use Rattle.module.specs.Scan.{passOf}
-use Rattle.module.proofs.Scanning.{by-def}
 use Rattle.module.proofs.Shaped.{class-never}
 use borrow.Author.Needs.{needs}
 use Rattle.module.proofs.operands.plain.Statement.{statement}

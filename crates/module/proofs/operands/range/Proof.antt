@@ -1,6 +1,6 @@
 -- `module::operands::range` meets its contract.
-use mathlib.Core.Path.{sym, _∙_}
-use borrow.Author.Tests.{lt-ltb, le-ltb, le-leb, lt-leb}
+use mathlib.Core.Path.{_∙_}
+use borrow.Author.Tests.{le-ltb, le-leb, lt-leb}
 use Rattle.module.proofs.Counted.{range-short, range-yes, range-no, range-free}
 use borrow.Author.Needs.{needs}
 use Rattle.module.proofs.operands.range.Statement.{statement}

@@ -1,6 +1,5 @@
 -- `module::operands::unemitted` meets its contract: what is left of the expressions gives the whole.
 use mathlib.Core.Path.{refl, sym, _∙_}
-use Prim.Native.Nat.{_+_}
 use Rattle.module.specs.Operands.{unemitted}
 use Rattle.module.specs.Tables.{emittedOf}
 use Rattle.module.proofs.Counted.{Unemitted, unemitted-again, unemitted-stops, unemitted-done}

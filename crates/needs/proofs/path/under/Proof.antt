@@ -1,6 +1,6 @@
 -- `needs::path::under` meets its contract. The path from k on is around a (`Around`); the measure is k.
 use mathlib.Core.Path.{refl}
-use Rattle.needs.proofs.Steps.{Around, around-start, around-makes, around-more, around-end}
+use Rattle.needs.proofs.Steps.{Around, around-start, around-more, around-end}
 use native.Mathlib.Omega.{arith}
 use borrow.Author.Needs.{needs}
 use Rattle.needs.proofs.path.under.Statement.{statement}

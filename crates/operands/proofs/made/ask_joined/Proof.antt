@@ -1,6 +1,5 @@
 -- `operands::made::ask_joined` meets its contract. The invariant: the asks from the number k on are done.
 use Prim.Native.Nat.{_-_, _<_, _≤_}
-use mathlib.Core.Path.{refl}
 use mathlib.Core.Bool.{true}
 use lib.ListN.{drop}
 use borrow.Author.Tests.{not-true, not-false}
@@ -9,7 +8,7 @@ use Rattle.judge.specs.Given.{scopeAt}
 use mathlib.Core.List.{map}
 use Rattle.clearance.specs.Needs.{askWhole}
 use Rattle.operands.specs.Lists.{components}
-use Rattle.operands.specs.AsksAll.{wantedIn, AsksAll}
+use Rattle.operands.specs.AsksAll.{AsksAll}
 use Rattle.operands.proofs.Loops.{loop-start, loop-done, loop-given, loop-full, loop-more}
 use Rattle.operands.proofs.Parts.{joined-each}
 use native.Mathlib.Omega.{arith}

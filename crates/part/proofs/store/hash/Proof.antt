@@ -1,5 +1,5 @@
 -- `hash` meets its contract.
-use mathlib.Core.Path.{_≡_, refl}
+use mathlib.Core.Path.{refl}
 use Rattle.part.specs.Store.{hash}
 use native.Mathlib.Omega.{arith}
 use borrow.Author.Needs.{needs}

@@ -1,7 +1,6 @@
 -- `reading::blocks::clear` meets its contract: word by word.
 use Prim.Native.Nat.{_-_, _≤_}
-use mathlib.Core.Path.{_≡_, refl, sym, _∙_}
-use lib.ListN.{length, length-set}
+use mathlib.Core.Path.{_≡_, refl, _∙_}
 use Rattle.reading.specs.Holding.{cleared}
 use Rattle.reading.proofs.Counting.{clear-next, clear-all, length-cleared}
 use native.Mathlib.Omega.{arith}

@@ -1,8 +1,7 @@
 -- `reading::blocks::hold` meets its contract: block by block.
 use Prim.Native.Nat.{_-_, _≤_}
-use mathlib.Core.Path.{_≡_, refl, sym, _∙_}
 use native.Mathlib.Omega.{arith}
-use lib.ListN.{length, getD}
+use lib.ListN.{getD}
 use Rattle.module.specs.Decode.{tab}
 use Rattle.reading.specs.Holding.{fieldOf, fieldsOf}
 use Rattle.reading.proofs.Held.{held-at, fits-mul, fits-add}

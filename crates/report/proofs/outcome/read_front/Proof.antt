@@ -1,5 +1,4 @@
 -- `report::outcome::read_front` meets its contract: what is read is the module in front of the request.
-use native.Mathlib.Omega.{arith}
 use Rattle.report.proofs.Whole.{split-inside, front-read, front-long}
 use Rattle.module.specs.Scan.{values}
 use Rattle.module.specs.Tables.{maxItems}

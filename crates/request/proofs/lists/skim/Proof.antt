@@ -1,6 +1,5 @@
 -- `request::lists::skim` meets its contract: the loop's invariant says that what is left gives the whole.
 use mathlib.Core.Path.{_∙_}
-use Prim.Native.Nat.{_-_}
 use Rattle.field.specs.Limits.{maxDepth}
 use Rattle.part.specs.PartReq.{spine}
 use Rattle.request.specs.Part.{readPart, readEntries}

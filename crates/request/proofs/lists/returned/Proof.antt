@@ -1,11 +1,11 @@
--- `request::contexts::returned` meets its contract.
+-- `request::lists::returned` meets its contract.
 use Rattle.request.proofs.Variables.{returned-none, returned-part, held-piece}
 use native.Mathlib.Omega.{arith}
 use borrow.Author.Needs.{needs}
-use Rattle.request.proofs.contexts.returned.Statement.{statement}
-use Rattle.request.proofs.contexts.returned.Tie as tie
-use Rattle.request.proofs.contexts.returned.Reads as reads
-use Rattle.request.proofs.contexts.returned.Lts as lts
+use Rattle.request.proofs.lists.returned.Statement.{statement}
+use Rattle.request.proofs.lists.returned.Tie as tie
+use Rattle.request.proofs.lists.returned.Reads as reads
+use Rattle.request.proofs.lists.returned.Lts as lts
 use Rattle.part.proofs.store.make.Reads as make-reads
 
 enum-told : tie.Need-enum-told
