@@ -127,21 +127,21 @@ module _ (bytes t request : List ℕ) (room : ℕ) {s u : List ℕ} {b functions
     was-held : Held u (q .retval) × (q .globals < top u) × (4 * top u ≤ 4 * top s + n)
     was-held = subst (RequestHeld s u n) e (A .held)
 
-    was-known : (q .function < functions) × (minReport ≤ room)
+    was-known : (q .function .0 < functions) × (minReport ≤ room)
     was-known = judge-accepted functions globals room (requestOf request) (sym (ap (requestAnswer u) e) ∙ A .is)
 
     pub add-to-asks : {cells types parts : List ℕ} {l : ℕ} → Tables bytes t types → length parts ≡ typeCount types → Lent cells parts request
         → n ≡ length request → room ≡ l → top s ≡ 3 → length s ≡ length cells
-        → Tables bytes t types × (Good u × (((length parts ≡ typeCount types) × Room u (1 + (outputCells parts + maxPieces))) × (((q .function < length (moduleOf bytes t .functions)) × (Held u (q .retval) × (q .globals < top u))) × ((b < bindings) × (minReport ≤ l)))))
+        → Tables bytes t types × (Good u × (((length parts ≡ typeCount types) × Room u (1 + (outputCells parts + maxPieces))) × (((q .function .0 < length (moduleOf bytes t .functions)) × (Held u (q .retval) × (q .globals < top u))) × ((b < bindings) × (minReport ≤ l)))))
     add-to-asks T len L nh rh th lh =
         let k = was-known in
-        let low : q .function < functions = k .0 in
+        let low : q .function .0 < functions = k .0 in
         let wide : minReport ≤ room = k .1 in
         let cost : 4 * top u ≤ 4 * top s + n = was-held .2 in
         let long : length u ≡ length s = A .kept .long in
         let big = L .room in
         (T, (A .kept .good, ((len, omega arith), ((omega arith, (was-held .0, was-held .1)), (few, omega arith)))))
 
-    pub add-went : {o p : List ℕ} {r : Bytes} → Gave o p (written (q .function) (addRequest (moduleOf bytes t) (q .function) b (requestContext (part u (q .globals)) (asked (optional u (q .retval)))))) r → Gave o p (addBytes (moduleOf bytes t) room b request) r
+    pub add-went : {o p : List ℕ} {r : Bytes} → Gave o p (written (q .function .0) (addRequest (moduleOf bytes t) (q .function .0) b (requestContext (part u (q .globals)) (asked (optional u (q .retval)))))) r → Gave o p (addBytes (moduleOf bytes t) room b request) r
     unfolding onRead
     add-went g = rw (on-answer, e) g

@@ -86,19 +86,9 @@ pub fn add_binding_bytes(
         RequestAnswer::NoSuch => Bytes::Refused(11),
         RequestAnswer::ShortReport => Bytes::Refused(20),
         RequestAnswer::Accepted(q) => {
+            let f = q.function;
             let o = q.retval;
-            add_to(
-                bytes,
-                t,
-                types,
-                cells,
-                parts,
-                FunctionHandle(q.function),
-                o,
-                q.globals,
-                b,
-                out,
-            )
+            add_to(bytes, t, types, cells, parts, f, o, q.globals, b, out)
         }
     }
 }

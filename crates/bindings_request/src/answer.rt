@@ -32,6 +32,6 @@ pub fn write_asking(
     match a {
         Asking::PastLimits => Bytes::Refused(15),
         Asking::PastPieces => Bytes::Refused(16),
-        Asking::Retval(p) => Bytes::Written(write_request(cells, f.0, p, globals, out)),
+        Asking::Retval(p) => Bytes::Written(write_request(cells, f, p, globals, out)),
     }
 }

@@ -109,7 +109,7 @@ pub fn global(
 {
     let seen = get(cells, slots[GLOBALS], SPINE + g.0);
     let n = slots[at];
-    let r = ask_global(cells, slots, n, g.0, w, sum);
+    let r = ask_global(cells, slots, n, g, w, sum);
     match seen {
         Found::Gone => {
             slots[at] = r.globals;

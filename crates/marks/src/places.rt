@@ -24,7 +24,7 @@ pub const STARTS: usize = MAX_ITEMS;
 
 pub const PLACES: usize = STARTS + MAX_FUNCTIONS + 1;
 
-// Where the marks of f begin.
+// Where the marks of the first f functions end: those of the function f, if there is one, begin there.
 pub fn start(places: &[u32], f: usize) -> usize
     requires { ⌜ startsAt + f < length (now places) ⌝ }
     ensures { λ r. ⌜ r ≡ startIn (now (places .entry)) f ⌝ }

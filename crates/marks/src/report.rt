@@ -18,16 +18,24 @@ pub const TOTALS: usize = MAX_FUNCTIONS;
 
 pub const TOTALS_SIZE: usize = TOTALS + MIN_REPORT;
 
-fn write_part(part: &mut [u8], places: &[u32], marks: &[u8], totals: &[u8], asked: usize, f: usize)
-    requires { ⌜ Inside (now places) f minReport × Sized (now marks) (now totals) × (length (now part) ≡ sizeIn (now places) f) × (f < totalsAt) ⌝ }
-    ensures { λ _. ⌜ now (part .exit) ≡ partIn (now (places .entry)) (now (marks .entry)) (now (totals .entry)) asked f ⌝ }
+fn write_part(
+    part: &mut [u8],
+    places: &[u32],
+    marks: &[u8],
+    totals: &[u8],
+    asked: FunctionHandle,
+    f: FunctionHandle,
+)
+    requires { ⌜ Inside (now places) (f .0) minReport × Sized (now marks) (now totals) × (length (now part) ≡ sizeIn (now places) (f .0)) × (f .0 < totalsAt) ⌝ }
+    ensures { λ _. ⌜ now (part .exit) ≡ partIn (now (places .entry)) (now (marks .entry)) (now (totals .entry)) (asked .0) (f .0) ⌝ }
 {
-    let from = start(places, f);
-    if f == asked {
+    let i = f.0 as usize;
+    let from = start(places, i);
+    if f.0 == asked.0 {
         copy(part, marks, from);
         return;
     }
-    if totals[f] == 0 {
+    if totals[i] == 0 {
         clear(part);
         return;
     }
@@ -46,12 +54,12 @@ pub fn write_report(
     requires { ⌜ AllInside (now places) n minReport × Sized (now marks) (now totals) × (n ≤ totalsAt) × (minReport ≤ length (now report)) ⌝ }
     ensures { λ _. ⌜ now (report .exit) ≡ writeMarks (now (report .entry)) 0 (reportIn (now (places .entry)) (now (marks .entry)) (now (totals .entry)) (asked .0) n) ⌝ }
 {
-    let a = asked.0 as usize;
     let mut f = 0;
     while f < n {
         let from = start(places, f);
         let to = start(places, f + 1);
-        write_part(&mut report[from..to], places, marks, totals, a, f);
+        let i = FunctionHandle(f as u32);
+        write_part(&mut report[from..to], places, marks, totals, asked, i);
         f += 1;
     }
 }

@@ -5,6 +5,7 @@ use crate::layout::GLOBALS;
 use crate::layout::LIVE;
 use crate::want::Want;
 use crate::want::piece;
+use module::handles::GlobalHandle;
 use part::collect::collect;
 use part::entry::add_entry;
 use part::limits::SPINE;
@@ -182,26 +183,26 @@ pub fn ask_global(
     cells: &mut [u32],
     slots: &mut [u32],
     n: u32,
-    g: u32,
+    g: GlobalHandle,
     w: Want,
     sum: usize,
 ) -> Totals
-    requires { ⌜ Totalling (now cells) (now slots) n g w sum ⌝ }
-    ensures { λ r. ⌜ Totalled (now (cells .entry)) (now (slots .entry)) n g (asked (now (cells .entry)) (now (slots .entry)) w) sum (now (cells .exit)) (now (slots .exit)) (r .globals) (r .sum) ⌝ }
+    requires { ⌜ Totalling (now cells) (now slots) n (g .0) w sum ⌝ }
+    ensures { λ r. ⌜ Totalled (now (cells .entry)) (now (slots .entry)) n (g .0) (asked (now (cells .entry)) (now (slots .entry)) w) sum (now (cells .exit)) (now (slots .exit)) (r .globals) (r .sum) ⌝ }
 {
     let slot = w.slot;
     let p = piece(cells, w, slots[slot]);
     let old = slots[GLOBALS];
-    let f = get(cells, old, SPINE + g);
+    let f = get(cells, old, SPINE + g.0);
     match f {
         Found::Gone => {
-            let d = insert(cells, n, SPINE + g, p);
-            let t = insert(cells, old, SPINE + g, p);
+            let d = insert(cells, n, SPINE + g.0, p);
+            let t = insert(cells, old, SPINE + g.0, p);
             let m = put(cells, slots, GLOBALS, t, sum);
             Totals { globals: d, sum: m }
         }
         Found::There(q) => {
-            let t = join_entry(cells, old, g, p);
+            let t = join_entry(cells, old, g.0, p);
             let m = put(cells, slots, GLOBALS, t, sum);
             Totals { globals: n, sum: m }
         }

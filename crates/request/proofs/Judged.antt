@@ -13,6 +13,7 @@ use Rattle.field.specs.Limits.{absent, minReport}
 use Rattle.part.specs.PartReq.{PartReq}
 use Rattle.part.specs.Store.{top, part, Kept}
 use Rattle.context.specs.RequiredContext.{variable}
+use Rattle.module.specs.declared.handles.FunctionHandle.{FunctionHandle as Handle}
 use Rattle.request.specs.declared.lists.Optional.{Optional}
 use Rattle.request.specs.declared.lists.Optional.the-variants.{Nothing, Piece}
 use Rattle.request.specs.declared.lists.ReadOption.{ReadOption}
@@ -112,13 +113,13 @@ module _ (functions globals report f : ℕ) {s t b : List ℕ} {at : ℕ} (o : O
             refuse-request requests.ShortReport
             (sym (ends-with ∙ rw (lt-ltb f functions h, all-known .0, lt-ltb report minReport k))) tt
 
-        pub globals-accepted : f < functions → minReport ≤ report → Held s o
-            → RequestWasRead s t (length b - at) wanted (requests.Accepted (record { function = f; retval = o; globals = n }))
+        pub globals-accepted : f < functions → minReport ≤ report → Held s o → {g : Handle} → f ≡ g .0
+            → RequestWasRead s t (length b - at) wanted (requests.Accepted (record { function = g; retval = o; globals = n }))
         unfolding judge known
-        globals-accepted h k held =
+        globals-accepted h k held {g} is =
             let same : optional t o ≡ optional s o = optional-kept (was .kept) o held in
-            refuse-request (requests.Accepted (record { function = f; retval = o; globals = n }))
-            (sym (ends-with ∙ rw (lt-ltb f functions h, all-known .0, le-ltb report minReport k, all-known .1, same)))
+            refuse-request (requests.Accepted (record { function = g; retval = o; globals = n }))
+            (sym (ends-with ∙ rw (lt-ltb f functions h, all-known .0, le-ltb report minReport k, all-known .1, same, ← is)))
             (held-kept (was .kept) o held, subst (Held t) z (list-placed was e .0), omega (arith, list-placed was e .1))
 
 -- a refusal, and an answer that a call gave

@@ -88,7 +88,7 @@ abbrev pub requestAnswer : List ℕ → RequestAnswer → Answer Asking
 requestAnswer t requests.Malformed = refused 12
 requestAnswer t requests.NoSuch = refused 11
 requestAnswer t requests.ShortReport = refused 18
-requestAnswer t (requests.Accepted q) = accepted (asking (q .function) (optional t (q .retval)) (part t (q .globals)))
+requestAnswer t (requests.Accepted q) = accepted (asking (q .function .0) (optional t (q .retval)) (part t (q .globals)))
 
 -- its pieces are there, and of n bytes were made a cell for every four at most
 abbrev pub RequestHeld : (s t : List ℕ) → ℕ → RequestAnswer → Type 0

@@ -15,10 +15,11 @@ use crate::record::is_record;
 use field::field::read;
 use field::limits::ABSENT;
 use field::limits::MIN_REPORT;
+use module::handles::FunctionHandle;
 
 // What is asked: pieces of the store.
 pub struct Request {
-    pub function: u32,
+    pub function: FunctionHandle,
     pub retval: Optional,
     pub globals: u32,
 }
@@ -72,7 +73,7 @@ fn read_globals(
         return RequestAnswer::ShortReport;
     }
     RequestAnswer::Accepted(Request {
-        function: function,
+        function: FunctionHandle(function),
         retval: retval,
         globals: g,
     })

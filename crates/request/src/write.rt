@@ -13,6 +13,7 @@ ghost use Rattle.request.specs.Written.{Fits, Written};
 use context::required_context::RequiredContext;
 use field::field::write;
 use field::field::write_word;
+use module::handles::FunctionHandle;
 use part::store::look;
 use part::store::width;
 
@@ -101,21 +102,21 @@ pub fn write_context(cells: &[u32], c: RequiredContext, out: &mut [u8]) -> usize
 // The record of a request for this function, from the first byte on. What is returned is its length.
 pub fn write_request(
     cells: &[u32],
-    function: u32,
+    function: FunctionHandle,
     retval: u32,
     globals: u32,
     out: &mut [u8],
 ) -> usize
     requires { ⌜ Good (now cells) ⌝ }
     requires { ⌜ (retval < top (now cells)) × (globals < top (now cells)) ⌝ }
-    requires { ⌜ (length (writeRequest function (part (now cells) retval) (part (now cells) globals)) ≤ length (now out)) × (length (writeRequest function (part (now cells) retval) (part (now cells) globals)) < 2 ^ 16) ⌝ }
-    ensures { λ r. ⌜ (now (out .exit) ≡ sets (now (out .entry)) 0 (writeRequest function (part (now (cells .entry)) retval) (part (now (cells .entry)) globals))) × (r ≡ length (writeRequest function (part (now (cells .entry)) retval) (part (now (cells .entry)) globals))) ⌝ }
+    requires { ⌜ (length (writeRequest (function .0) (part (now cells) retval) (part (now cells) globals)) ≤ length (now out)) × (length (writeRequest (function .0) (part (now cells) retval) (part (now cells) globals)) < 2 ^ 16) ⌝ }
+    ensures { λ r. ⌜ (now (out .exit) ≡ sets (now (out .entry)) 0 (writeRequest (function .0) (part (now (cells .entry)) retval) (part (now (cells .entry)) globals))) × (r ≡ length (writeRequest (function .0) (part (now (cells .entry)) retval) (part (now (cells .entry)) globals))) ⌝ }
 {
     let afterReturn = write_return(cells, retval, out, 6);
     let end = write_variables(cells, globals, out, afterReturn);
     out[0] = b'R';
     out[1] = b'Q';
     write(out, 2, (end - 4) as u16);
-    write(out, 4, field_of(function));
+    write(out, 4, field_of(function.0));
     end
 }

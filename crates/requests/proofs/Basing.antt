@@ -121,12 +121,12 @@ module _ {s rs : List ℕ} (E : Empty s rs) (request : List ℕ) (functions glob
       }
 
       abbrev asked-for : Request
-      asked-for = asking (q .function) (optional t (q .retval)) (part t (q .globals))
+      asked-for = asking (q .function .0) (optional t (q .retval)) (part t (q .globals))
 
       is-asked : judge functions globals report (requestOf request) ≡ accepted asked-for
       is-asked = sym (W .is) ∙ rw e
 
-      pub loaded-request : {u us : List ℕ} {f : Handle} → stackSlot + 4 ≤ length rs → Based t rs q u us → q .function ≡ f .0 → RequestLoaded functions globals report request u us (asks.Of f)
+      pub loaded-request : {u us : List ℕ} {f : Handle} → stackSlot + 4 ≤ length rs → Based t rs q u us → q .function .0 ≡ f .0 → RequestLoaded functions globals report request u us (asks.Of f)
       loaded-request {u} {us} l B named =
           let same = kept-read rs (W .kept) (E .memory .below) in
           let outside : (k : ℕ) → ((j : ℕ) → j < 4 → stackSlot + j ≡ k → ⊥) → globalsSlot ≤ k → getD (read u us) k none ≡ none

@@ -90,7 +90,8 @@ fn load_request(
         RequestAnswer::ShortReport => Asked::Refused(18),
         RequestAnswer::Accepted(q) => {
             load_base(cells, slots, q);
-            Asked::Of(FunctionHandle(q.function))
+            let f = q.function;
+            Asked::Of(f)
         }
     }
 }

@@ -230,7 +230,7 @@ module _ (bytes : List ℕ) (m : Module) (R : file.readModule bytes ≡ file.acc
   L = rw (← functions, ← globals, ← told) loaded
 
   abbrev asked-for : Request
-  asked-for = asking (q .function) (optional s (q .retval)) (part s (q .globals))
+  asked-for = asking (q .function .0) (optional s (q .retval)) (part s (q .globals))
 
   is-asked : judge (length (m .functions)) (length (m .globals)) minReport (requestOf request) ≡ accepted asked-for
   is-asked = sym (L .is)
@@ -238,14 +238,14 @@ module _ (bytes : List ℕ) (m : Module) (R : file.readModule bytes ≡ file.acc
   named : Is (length (m .functions)) (length (m .globals)) (requestOf request) asked-for true
   named = of-accepted (length (m .functions)) (length (m .globals)) (requestOf request) asked-for (L .is)
 
-  pub function-there : q .function < length (m .functions)
+  pub function-there : q .function .0 < length (m .functions)
   function-there = sound.asked m minReport request asked-for is-asked .function
 
-  pub hears-refused : {r : ℕ} → r ≡ statusOf (readContext m (functionAt m (q .function)) context) → 0 < r → Hears m request context s (heard.Refused r)
+  pub hears-refused : {r : ℕ} → r ≡ statusOf (readContext m (functionAt m (q .function .0)) context) → 0 < r → Hears m request context s (heard.Refused r)
   hears-refused e h = record { by = meant-refused m named (contextOf context) e h }
 
-  module _ {r : ℕ} (status : r ≡ statusOf (readContext m (functionAt m (q .function)) context)) (none : r ≡ 0) {v : ℕ} (piece : ValuePiece (q .retval) v) where
-    accepts : 0 ≡ statusOf (readContext m (functionAt m (q .function)) context)
+  module _ {r : ℕ} (status : r ≡ statusOf (readContext m (functionAt m (q .function .0)) context)) (none : r ≡ 0) {v : ℕ} (piece : ValuePiece (q .retval) v) where
+    accepts : 0 ≡ statusOf (readContext m (functionAt m (q .function .0)) context)
     accepts = sym none ∙ status
 
     means : part s v ≡ valueOf (optional s (q .retval))
@@ -255,8 +255,8 @@ module _ (bytes : List ℕ) (m : Module) (R : file.readModule bytes ≡ file.acc
     given = meant-accepted m named (contextOf context) accepts .0
 
     -- what the definition reads, of a buffer that is long enough
-    was : meaning.Read bytes request (replicate (startOf m (q .function) + stretch m (q .function)) 0) context (scopeOf m (q .function)) (check.askedBy asked-for)
-        (reportBy m (q .function) (replicate (startOf m (q .function) + stretch m (q .function)) 0) given)
+    was : meaning.Read bytes request (replicate (startOf m (q .function .0) + stretch m (q .function .0)) 0) context (scopeOf m (q .function .0)) (check.askedBy asked-for)
+        (reportBy m (q .function .0) (replicate (startOf m (q .function .0) + stretch m (q .function .0)) 0) given)
     was = record {
       program = m;
       asking = asked-for;
@@ -265,7 +265,7 @@ module _ (bytes : List ℕ) (m : Module) (R : file.readModule bytes ≡ file.acc
       asking-is = named .is;
       given-is = meant-accepted m named (contextOf context) accepts .1;
       known = record { request = named .names; context = meant-accepted m named (contextOf context) accepts .2 };
-      whole = enough m (q .function);
+      whole = enough m (q .function .0);
       scope-is = refl;
       asked-is = refl;
       report-is = refl;
@@ -274,7 +274,7 @@ module _ (bytes : List ℕ) (m : Module) (R : file.readModule bytes ≡ file.acc
     same-asked : askedBy s (q .globals) v ≡ check.askedBy asked-for
     same-asked = rw means
 
-    accepted-request : Accepted m request context s (q .function) (q .globals) v
+    accepted-request : Accepted m request context s (q .function .0) (q .globals) v
     accepted-request = record {
       stored = record {
         there = function-there;
@@ -286,8 +286,8 @@ module _ (bytes : List ℕ) (m : Module) (R : file.readModule bytes ≡ file.acc
       };
       given = given;
       given-is = meant-accepted m named (contextOf context) accepts .1;
-      is = λ report. meant-accepted m named (contextOf context) accepts .3 report ∙ same-buffer m report (q .function) (optional s (q .retval)) (part s (q .globals)) (part s v) given means;
+      is = λ report. meant-accepted m named (contextOf context) accepts .3 report ∙ same-buffer m report (q .function .0) (optional s (q .retval)) (part s (q .globals)) (part s v) given means;
     }
 
-    pub hears : {f : Handle} → q .function ≡ f .0 → Hears m request context s (heard.Of f (q .globals) v)
+    pub hears : {f : Handle} → q .function .0 ≡ f .0 → Hears m request context s (heard.Of f (q .globals) v)
     hears e = record { by = rw (← e) accepted-request }

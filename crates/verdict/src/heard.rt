@@ -82,7 +82,7 @@ pub fn hear(bytes: &[u8], t: &[u32], cells: &mut [u32], request: &[u8], context:
         RequestAnswer::NoSuch => Heard::Refused(no_such(context)),
         RequestAnswer::ShortReport => Heard::Refused(18),
         RequestAnswer::Accepted(q) => {
-            let f = FunctionHandle(q.function);
+            let f = q.function;
             let status = context_status(bytes, t, f, context);
             if 0 < status {
                 return Heard::Refused(status);

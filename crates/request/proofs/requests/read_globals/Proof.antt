@@ -1,4 +1,5 @@
 -- `request::requests::read_globals` meets its contract: one law for each way.
+use mathlib.Core.Path.{refl}
 use Rattle.request.proofs.Entries.{ended, goes-on}
 use borrow.Author.Tests.{not-true, not-false}
 use Rattle.request.proofs.Judged.{globals-malformed, globals-left, globals-unknown, globals-function, globals-report, globals-accepted}
@@ -63,7 +64,7 @@ same-length-6 : tie.Need-same-length-6
 same-length-6 c = search needs
 
 returns-6 : tie.Need-returns-6
-returns-6 c = globals-accepted _ _ _ _ (c .before .before .before .before .before .before .before .before .before .before .before .before .before .before .before .before .args .retval) (c .before .before .before .before .before .before .before .before .before .before .before .before .read-variables .ensures) (c .before .before .before .before .before .before .before .before .o .given .1) (ended (c .before .before .before .before .before .before .before .before .before .before .before .before .before .before .before .before .args .bytes .now) (c .before .before .before .before .before .before .before .before .o .given .0 .1 .0) (c .before .before .before .before .before .before .ends .ensures) (not-false _ (c .before .before .before .before .before .if1 .left))) (c .before .before .before .o2 .given .1) (c .before .if2 .left) (c .if3 .left) (c .before .before .before .before .before .before .before .before .before .before .before .before .before .before .before .before .pre .1 .1 .1)
+returns-6 c = globals-accepted _ _ _ _ (c .before .before .before .before .before .before .before .before .before .before .before .before .before .before .before .before .args .retval) (c .before .before .before .before .before .before .before .before .before .before .before .before .read-variables .ensures) (c .before .before .before .before .before .before .before .before .o .given .1) (ended (c .before .before .before .before .before .before .before .before .before .before .before .before .before .before .before .before .args .bytes .now) (c .before .before .before .before .before .before .before .before .o .given .0 .1 .0) (c .before .before .before .before .before .before .ends .ensures) (not-false _ (c .before .before .before .before .before .if1 .left))) (c .before .before .before .o2 .given .1) (c .before .if2 .left) (c .if3 .left) (c .before .before .before .before .before .before .before .before .before .before .before .before .before .before .before .before .pre .1 .1 .1) refl
 
 pub read-globals-spec : {M : Type 1} → statement M
 read-globals-spec =
