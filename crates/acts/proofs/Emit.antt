@@ -14,11 +14,11 @@ use Rattle.clearance.specs.Scope.{Scope, Place, slot, evaluated, frame, arm}
 use Rattle.clearance.specs.Tree.{emit}
 use Rattle.clearance.specs.Needs.{asks, gives, overlap}
 use Rattle.judge.specs.Given.{scopeAt}
+use Rattle.needs.proofs.Lean.{need-below}
 use Rattle.pass.specs.Pass.{actAsks, actLeaves}
 use Rattle.asked.proofs.Acts.{emit-overlap}
 use Rattle.framed.proofs.Kept.{kept-without}
 use Rattle.framed.proofs.Slots.{slot-shape, slot-fills, slot-placed}
-use Rattle.framed.proofs.Width.{need-below}
 use Rattle.hold.specs.Hold.{inSlot}
 use Rattle.standing.specs.Standing.{Stepped}
 use Rattle.quiet.specs.Acts.{Overlap}

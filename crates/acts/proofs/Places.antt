@@ -9,6 +9,7 @@ use Rattle.module.specs.Module.{TypeHandle, ExpressionHandle, Expression}
 use Rattle.module.specs.Knot.{below}
 use Rattle.module.specs.Tables.{functionOf, moduleOf}
 use Rattle.module.proofs.Knot.{knot-is, below-lt}
+use Rattle.valid.proofs.Accepted.{valid}
 use Rattle.context.specs.Types.{AllSized}
 use Rattle.type_table.proofs.AllSized.{all-sized}
 use Rattle.clearance.specs.Scope.{Scope, Step, at, by, Path, nowhere, further, stepFrom, variable, slot, evaluated, typed, pathOf, front, target, isPath}
@@ -16,9 +17,7 @@ use Rattle.clearance.specs.IsJudged.{Declares, global as aGlobal, local as aLoc
 use Rattle.clearance.proofs.Relations.{path-exactly}
 use Rattle.judge.specs.Given.{scopeAt}
 use Rattle.judge.proofs.PathSteps.{few}
-use Rattle.framed.specs.Given.{Judged}
 use Rattle.framed.specs.Places.{Placed}
-use Rattle.framed.proofs.Given.{lowered}
 use Rattle.framed.proofs.Paths.{landed}
 use Rattle.forms.specs.Frames.{Framing, Rooted}
 use Rattle.standing.specs.World.{World}
@@ -95,20 +94,16 @@ module _ {bytes t : List ℕ} {f : ℕ} {types alike paths : List ℕ} (w : Worl
   pub world-framing : Framing bytes t f types
   world-framing =
       let g = w .given in
-      let l = lowered bytes t f (g .read) (g .there) in
       record {
         read = g .read;
         there = g .there;
         same = g .values .same;
         lower = g .shapes .lower;
-        sized = subst AllSized (g .values .same) (all-sized (moduleOf bytes t) (l .program));
+        sized = subst AllSized (g .values .same) (all-sized (moduleOf bytes t) (valid bytes (moduleOf bytes t) (g .read)));
       }
 
   pub world-few : length (functionOf bytes t f .expressions) ≤ 1024
   world-few = few bytes t f (w .given .read) (w .given .there)
 
-  judged : Judged (scopeAt bytes t f)
-  judged = record { each = w .judged .each }
-
   pub target-placed : (e : ExpressionHandle) → e < length (functionOf bytes t f .expressions) → isPath (scopeAt bytes t f) e ≡ true → Placed (scopeAt bytes t f) (target (pathOf (scopeAt bytes t f) e))
-  target-placed e l h = landed (scopeAt bytes t f) (lowered bytes t f (w .given .read) (w .given .there)) judged e l h .place
+  target-placed e l h = landed (scopeAt bytes t f) (w .read) (w .judged) e l h .place

@@ -19,9 +19,9 @@ use Rattle.judge.specs.Given.{scopeAt}
 use Rattle.pass.specs.Pass.{storeAsks, storeLeaves, actAsks, actLeaves}
 use Rattle.asked.specs.Within.{Within}
 use Rattle.asked.proofs.Asks.{each-more, each-none, whole-within, wholes-within}
-use Rattle.asked.proofs.Paths.{path-indexes}
 use Rattle.asked.proofs.Acts.{store-within, store-tidy, store-overlap}
 use Rattle.framed.specs.Kept.{AsksFine}
+use Rattle.framed.proofs.Paths.{path-indexes}
 use Rattle.framed.proofs.Kept.{kept-without, overlap-ascends}
 use Rattle.hold.specs.Hold.{inSlot}
 use Rattle.standing.specs.Slots.{Ready}

@@ -18,7 +18,8 @@ use Rattle.clearance.specs.Judged.{fitsStatement}
 use Rattle.pass.specs.Pass.{workBound, Carried, Passed, _>>=_, within, askingAll, acting}
 use Rattle.judge.specs.Given.{scopeAt}
 use Rattle.needs.specs.Path.{Piece}
-use Rattle.asked.specs.Within.{Read, Judged, Within}
+use Rattle.asked.specs.Within.{Within}
+use Rattle.framed.specs.Given.{Read, Judged}
 use Rattle.framed.specs.Places.{Placed}
 use Rattle.hold.specs.Hold.{heldBy, inSlot, Live}
 use Rattle.forms.specs.Frames.{Framing, Rooted}

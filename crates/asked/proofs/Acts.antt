@@ -1,14 +1,14 @@
 -- What an emit and a store ask in a judged function lies within its types: a load by its path's shape, a store by the shape of what its pointer leads to.
 use Prim.Native.Nat.{ℕ, suc, _<_}
 use native.Mathlib.Omega.{arith}
-use mathlib.Core.Path.{_≡_, refl, ap, subst, _∙_}
-use mathlib.Core.Bool.{true, false, cond}
+use mathlib.Core.Path.{_≡_, refl, subst}
+use mathlib.Core.Bool.{true, cond}
 use mathlib.Core.List.{List, [], _∷_}
 use lib.ListN.{length}
 use Rattle.part.specs.PartReq.{PartReq, none}
 use Rattle.module.specs.Module.{ExpressionHandle, Load, Store}
 use Rattle.valid.specs.Valid.{EachBelow, OperandsBelow}
-use Rattle.clearance.specs.Shape.{isVoid, shapeAt, below}
+use Rattle.clearance.specs.Shape.{shapeAt, below}
 use Rattle.clearance.specs.Scope.{Scope, shapeOf, expressionsOf, typed, typeOf, innerOf, frame, slot, evaluated, pathOf, indexes, target, isPath, arm, load}
 use Rattle.clearance.specs.Tree.{emit, store}
 use Rattle.clearance.specs.Needs.{ofValue, asks, gives, overlap}
@@ -20,13 +20,13 @@ use Rattle.clearance.proofs.Relations.{path-exactly}
 use Rattle.clearance.proofs.JudgedExpressions.{expression-exactly}
 use Rattle.needs.proofs.Lean.{below-tidy, hit-below}
 use Rattle.pass.specs.Pass.{storeAsks}
-use Rattle.asked.specs.Same.{SameShape}
-use Rattle.asked.specs.Within.{Read, Judged, Within, EachWithin}
-use Rattle.asked.proofs.Same.{same-flip, same-then, same-tidy}
-use Rattle.asked.proofs.Alike.{shape-there, inner-same}
-use Rattle.asked.proofs.Places.{evaluated-shape}
+use Rattle.framed.specs.Given.{Read, Judged}
+use Rattle.framed.specs.Same.{SameShape}
+use Rattle.framed.proofs.Same.{same-sym, same-trans, same-tidy, fits-shape}
+use Rattle.framed.proofs.Slots.{slot-fills}
+use Rattle.framed.proofs.Paths.{landed, path-indexes}
+use Rattle.asked.specs.Within.{Within, EachWithin}
 use Rattle.asked.proofs.Asks.{each-none, each-more, part-asked, value-shape, whole-within, wholes-within, steps-within, kinds-within}
-use Rattle.asked.proofs.Paths.{path-shape, path-indexes}
 
 module _ (S : Scope) (R : Read S) (J : Judged S) where
   abbrev count : ℕ
@@ -35,9 +35,8 @@ module _ (S : Scope) (R : Read S) (J : Judged S) where
   -- a path leads to what has the type of a value
   path-value : (p v : ExpressionHandle) → p < count → isPath S p ≡ true → same S (pointee S p) (innerOf S v) ≡ true → indexes (pathOf S p .steps) ≡ [] →
       SameShape (shapeAt (frame S) (target (pathOf S p))) (shapeOf S (typeOf S v))
-  unfolding same
   path-value p v l h s e =
-      same-then (path-shape S R J p l h .static e) (same-then (inner-same S (R .lower) (pointee S p) (innerOf S v) s) (same-flip (value-shape S R v)))
+      same-trans (landed S R J p l h .exact e) (same-trans (fits-shape S (R .lower) (pointee S p) (innerOf S v) s) (same-sym (value-shape S R v)))
 
   indexes-there : (p : ExpressionHandle) → p < count → isPath S p ≡ true → EachBelow count (indexes (pathOf S p .steps))
   indexes-there p l h i m = omega (arith, path-indexes S R J p l h i m)
@@ -49,20 +48,17 @@ module _ (S : Scope) (R : Read S) (J : Judged S) where
       let m : p < count = omega (arith, subst (λ y. OperandsBelow e y) q (R .operands e l)) in
       let h = path-exactly S p .1 (j .loadsPath p refl) in
       steps-within S R e l a t (pathOf S p) (indexes (pathOf S p .steps))
-      (λ n. part-asked a _ (same-tidy a (same-flip (path-value p e m h (j .load p refl) n)) t))
-      (path-shape S R J p m h .there) (indexes-there p m h)
+      (λ n. part-asked a _ (same-tidy a (same-sym (path-value p e m h (j .load p refl) n)) t))
+      (landed S R J p m h .place .within) (indexes-there p m h)
 
   -- what the need a of an expression asks
   pub emit-within : (e : ExpressionHandle) → e < count → (a : PartReq) → Tidy a (shapeOf S (typeOf S e)) → EachWithin S (asks S (arm S e) a)
   emit-within e l a t = kinds-within S R e l a t (load-asks e a l t) (J .each e l)
 
   -- what is needed of an expression
-  evaluated-there : (e : ExpressionHandle) → e < count → isVoid (shapeAt (frame S) (slot (evaluated e))) ≡ false
-  evaluated-there e l = ap isVoid (evaluated-shape S e l) ∙ shape-there S (typeOf S e)
-
   pub emit-overlap : (e : ExpressionHandle) → e < count → (n : PartReq) → Tidy n (frame S) → overlap S (emit e) n ≡ cond (gives (arm S e)) (below n (slot (evaluated e))) none
   unfolding overlap
-  emit-overlap e l n t = rw (hit-below (frame S) n (slot (evaluated e)) t (evaluated-there e l))
+  emit-overlap e l n t = rw (hit-below (frame S) n (slot (evaluated e)) t (slot-fills S (evaluated e) l))
 
   -- a store
   storing-within : (is : List ExpressionHandle) (v : ExpressionHandle) (a : PartReq) → v < count → (is ≡ [] → Within S (ofValue v a)) → EachBelow count is → EachWithin S (storeAsks is v a)
@@ -83,8 +79,8 @@ module _ (S : Scope) (R : Read S) (J : Judged S) where
         (λ e. (m, part-asked a _ (same-tidy a (path-value p v l (stored .0) (stored .1) e) t))) (indexes-there p l (stored .0))
 
     pub store-tidy : (n : PartReq) → Tidy n (frame S) → Tidy (below n (target (pathOf S p))) (shapeAt (frame S) (target (pathOf S p)))
-    store-tidy n t = below-tidy (target (pathOf S p)) n (frame S) t (path-shape S R J p l (stored .0) .there)
+    store-tidy n t = below-tidy (target (pathOf S p)) n (frame S) t (landed S R J p l (stored .0) .place .within)
 
     pub store-overlap : (n : PartReq) → Tidy n (frame S) → overlap S (store p v) n ≡ below n (target (pathOf S p))
     unfolding overlap
-    store-overlap n t = hit-below (frame S) n (target (pathOf S p)) t (path-shape S R J p l (stored .0) .there)
+    store-overlap n t = hit-below (frame S) n (target (pathOf S p)) t (landed S R J p l (stored .0) .place .within)

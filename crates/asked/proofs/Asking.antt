@@ -23,10 +23,10 @@ use Rattle.clearance.proofs.Small.{both-true}
 use Rattle.clearance.proofs.Ascending.{trim-tidy}
 use Rattle.pass.specs.Pass.{workBound, Carried, on, tooLarge, within, partFrom, partOf, asking}
 use Rattle.pass.specs.Checked.{askedOf}
-use Rattle.asked.specs.Same.{SameShape}
-use Rattle.asked.specs.Within.{Read, Judged, wanted, Within, placed, plainPart}
-use Rattle.asked.proofs.Same.{same-flip, same-then, same-tidy, same-trim}
-use Rattle.asked.proofs.Alike.{alike-same}
+use Rattle.framed.specs.Given.{Read, Judged}
+use Rattle.framed.specs.Same.{SameShape}
+use Rattle.framed.proofs.Same.{same-sym, same-trans, same-tidy, same-trim, alike-shape}
+use Rattle.asked.specs.Within.{wanted, Within, placed, plainPart}
 use Rattle.asked.proofs.Asks.{part-asked}
 use Rattle.asked.proofs.Plain.{trim-under, tidy-wanted, nowhere, source-shape, part-plain}
 
@@ -70,7 +70,7 @@ module _ (W : Setting) (R : Read (W .scope)) (J : Judged (W .scope)) (v : Expres
     where
       go : (r : Option FunctionResult) → fitsReturn (W .scope) r v ≡ true → SameShape (resultShape (W .scope) r) (shapeOf (W .scope) (typeOf (W .scope) v))
       go absent h = never (unfold fitsReturn in h)
-      go (present r) h = unfold resultShape in alike-same (W .scope) (R .lower) (r .type) (typeOf (W .scope) v) (unfold fitsReturn in h)
+      go (present r) h = unfold resultShape in alike-shape (W .scope) (R .lower) (r .type) (typeOf (W .scope) v) (unfold fitsReturn in h)
 
   result-tidy : Tidy (askedOf W) (resultShape (W .scope) (W .scope .function .result))
   unfolding askedOf
@@ -90,7 +90,7 @@ module _ (W : Setting) (R : Read (W .scope)) (J : Judged (W .scope)) (v : Expres
       go given e = nowhere (wanted (askedOf W))
       go (from q) e =
           trim-under q (W .asked) (frame (W .scope))
-          ∙ (ap (λ (b : PartReq). cond (some b) (under q b) none) (is-asked _ (same-then (source-shape (W .scope) R J v l q e) (same-flip result-same)))
+          ∙ (ap (λ (b : PartReq). cond (some b) (under q b) none) (is-asked _ (same-trans (source-shape (W .scope) R J v l q e) (same-sym result-same)))
           ∙ ap (λ (b : Bool). cond b (under q (askedOf W)) none) (sym (tidy-wanted (askedOf W) _ result-tidy)))
 
   pub return-asking : (aside : List PartReq) (n : PartReq) (c : Carried) → isExist n ≡ false →

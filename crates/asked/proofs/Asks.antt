@@ -19,20 +19,21 @@ use Rattle.clearance.specs.Shape.{Shape, number, member, isVoid, shapeAt, orNon
 use Rattle.clearance.specs.Scope.{Scope, memberTypes, vectorShape, unfoldType, shapeOf, isKind, kind, isScalar, isVector, alike, expressionsOf, typed, typeOf, innerOf, frame, Path, target, isPath}
 use Rattle.clearance.specs.Scope.{Operand, whole, same, pointing, accessIndex, access, compose, joined, load, byPart, anyVector, optional, armOf, arm}
 use Rattle.clearance.specs.Needs.{Ask, ofValue, askOperand, askWhole, askPicked, askComponents, askSteps, asks}
-use Rattle.clearance.specs.Judged.{same as sameInner, partType, isValue, fitsIndex, fitsExpression, judgedExpression}
+use Rattle.clearance.specs.Judged.{partType, isValue, fitsIndex, fitsExpression, judgedExpression}
 use Rattle.clearance.specs.IsNeed.{Tidy}
 use Rattle.clearance.specs.Rules.{Member, here, later}
 use Rattle.clearance.specs.IsJudged.{IndexOf, constant, goesOn, Components, none as empty, scalar, vector, Members, one, ComposedOf, aVector, aMatrix, anArray, aStruct, JudgedExpression}
 use Rattle.clearance.proofs.Small.{cases, both-true}
 use Rattle.clearance.proofs.Lowest.{no-member, first-or-later}
-use Rattle.clearance.proofs.Relations.{path-exactly, same-part}
+use Rattle.clearance.proofs.Relations.{path-exactly, part-of, same-part}
 use Rattle.clearance.proofs.JudgedExpressions.{expression-exactly}
 use Rattle.needs.proofs.Lean.{below-tidy}
-use Rattle.asked.specs.Same.{SameShape}
-use Rattle.asked.specs.Within.{Read, Asked, something, nothing, emptied, Within, EachWithin}
-use Rattle.asked.proofs.Same.{same-is, same-flip, same-then, same-member, same-void, same-tidy, struct-member}
-use Rattle.asked.proofs.Alike.{shape-is, shape-there, alike-same, inner-same}
-use Rattle.asked.proofs.Parts.{vector-member, element-member, part-same}
+use Rattle.framed.specs.Given.{Read}
+use Rattle.framed.specs.Same.{SameShape}
+use Rattle.framed.proofs.Solid.{type-fills}
+use Rattle.framed.proofs.Same.{same-is, same-sym, same-trans, same-member, same-void, same-tidy, member-in, vector-member, element-member, shape-same, alike-shape, fits-shape}
+use Rattle.framed.proofs.Paths.{part-shape}
+use Rattle.asked.specs.Within.{Asked, something, nothing, emptied, Within, EachWithin}
 
 -- Lists of asks
 
@@ -75,14 +76,14 @@ module _ (S : Scope) (R : Read S) where
 
   pub value-shape : (v : ExpressionHandle) → SameShape (shapeOf S (typeOf S v)) (unfoldType (shapeOf S) (innerOf S v))
   unfolding innerOf
-  value-shape v = shape-is S (R .lower) (typeOf S v)
+  value-shape v = shape-same S (R .lower) (typeOf S v)
 
   value-is : (v : ExpressionHandle) (i : TypeInner) → innerOf S v ≡ i → SameShape (shapeOf S (typeOf S v)) (unfoldType (shapeOf S) i)
-  value-is v i e = same-then (value-shape v) (same-is _ _ (ap (unfoldType (shapeOf S)) e))
+  value-is v i e = same-trans (value-shape v) (same-is _ _ (ap (unfoldType (shapeOf S)) e))
 
   -- all of a value
   pub whole-within : (v : ExpressionHandle) → v < count → Within S (ofValue v all)
-  whole-within v l = (l, something refl (shape-there S (typeOf S v)))
+  whole-within v l = (l, something refl (type-fills S (typeOf S v)))
 
   pub wholes-within : (n : ℕ) (vs : List ExpressionHandle) → n ≤ count → EachBelow n vs → EachWithin S (map askWhole vs)
   wholes-within n [] l b = each-none
@@ -113,18 +114,18 @@ module _ (S : Scope) (R : Read S) where
   unfolding unfoldType isKind kind
   composed-part i cs (aVector {n = n} h) g j l =
       let z = scalars cs n h g in
-      same-then (same-is _ _ (vector-member n j (omega (arith, z .0)))) (same-flip (value-is (getD cs j 0) Scalar (z .1 _ (member-at cs j l))))
+      same-trans (same-is _ _ (vector-member n j (omega (arith, z .0)))) (same-sym (value-is (getD cs j 0) Scalar (z .1 _ (member-at cs j l))))
   composed-part i cs (aMatrix {columns = c} {rows = r} e f) g j l =
-      same-then (same-is _ _ (struct-member c _ j (omega arith))) (same-flip (value-is (getD cs j 0) (Vector r) (f _ (member-at cs j l))))
+      same-trans (same-is _ _ (member-in 0 c _ j (omega arith) (omega arith))) (same-sym (value-is (getD cs j 0) (Vector r) (f _ (member-at cs j l))))
   composed-part i cs (anArray {base = b} {n = n} e f) g j l =
-      same-then (same-is _ _ (element-member n (shapeOf S b) j (omega arith))) (alike-same S (R .lower) b _ (f _ (member-at cs j l)))
+      same-trans (same-is _ _ (element-member n (shapeOf S b) j (omega arith))) (alike-shape S (R .lower) b _ (f _ (member-at cs j l)))
   composed-part i cs (aStruct {ms = ms} h) g j l =
-      same-then (same-is _ _ (struct-member (length ms) _ j (omega (arith, members-long ms cs h)))) (alike-same S (R .lower) _ _ (members-at ms cs h j l))
+      same-trans (same-is _ _ (member-in 0 (length ms) _ j (omega arith) (omega (arith, members-long ms cs h)))) (alike-shape S (R .lower) _ _ (members-at ms cs h j l))
 
   module _ (e : ExpressionHandle) (l : e < count) (a : PartReq) (t : Tidy a (shapeOf S (typeOf S e))) where
     -- what has the result's type
     same-within : (v : ExpressionHandle) → v < e → alike S (typeOf S v) (typeOf S e) ≡ true → Within S (ofValue v a)
-    same-within v b h = (omega arith, part-asked a _ (same-tidy a (same-flip (alike-same S (R .lower) (typeOf S v) (typeOf S e) h)) t))
+    same-within v b h = (omega arith, part-asked a _ (same-tidy a (same-sym (alike-shape S (R .lower) (typeOf S v) (typeOf S e) h)) t))
 
     whole-operand : (v : ExpressionHandle) → v < e → Within S (askOperand a (whole v))
     unfolding askOperand
@@ -156,17 +157,17 @@ module _ (S : Scope) (R : Read S) where
     -- a constant index of a value
     index-within : (b : ExpressionHandle) (i : ℕ) → b < e → typed S e .expression ≡ AccessIndex b i → fitsIndex S (λ x. partType S x i) b e ≡ true → isPath S e ≡ false →
         Within S (ofValue b (more i a none))
-    unfolding fitsIndex sameInner
+    unfolding fitsIndex
     index-within b i m q h n =
         let o : isPath S b ≡ false =
         cases (isPath S b) (λ p. never (sym n ∙ path-exactly S e .1 (goesOn (subst (λ x. IndexOf b x) (sym q) constant) m (path-exactly S b .0 p)))) (λ p. p) in
         let z = both-true (isValue S e) _ (both-true (isValue S b) _ (rw o at h) .1) .1 in
         let y = same-part S _ _ z in
         let s =
-        same-then (same-member i (value-shape b))
-        (same-then (part-same S (R .lower) (innerOf S b) i (y .0) (y .1))
-        (same-then (inner-same S (R .lower) (y .0) (innerOf S e) (y .2)) (same-flip (value-shape e)))) in
-        (omega arith, one-asked i a _ (same-tidy a (same-flip s) t))
+        same-trans (same-member i (value-shape b))
+        (same-trans (part-shape S (R .lower) (innerOf S b) i (y .0) (part-of S (innerOf S b) i (y .0) (y .1)))
+        (same-trans (fits-shape S (R .lower) (y .0) (innerOf S e) (y .2)) (same-sym (value-shape e)))) in
+        (omega arith, one-asked i a _ (same-tidy a (same-sym s) t))
 
     index-asks : (b : ExpressionHandle) (i : ℕ) → b < e → typed S e .expression ≡ AccessIndex b i → fitsIndex S (λ x. partType S x i) b e ≡ true →
         EachWithin S (asks S (cond (isPath S e) pointing (accessIndex b i)) a)
@@ -194,8 +195,8 @@ module _ (S : Scope) (R : Read S) where
         let j : k < m = omega arith in
         let p = vector-member m k j in
         let d : Tidy (orNone (getSubpart a k)) number = rw p at (sub-tidy a (vectorShape m) k h (ap isVoid p)) in
-        let s = same-then (same-member i (value-is v (Vector n) q)) (same-is _ _ (vector-member n i (f i here))) in
-        each-more (omega arith, one-asked i _ _ (same-tidy (orNone (getSubpart a k)) (same-flip s) d)) (picked-within v n m is (suc k) b q h (λ x y. f x (later y)) (omega arith))
+        let s = same-trans (same-member i (value-is v (Vector n) q)) (same-is _ _ (vector-member n i (f i here))) in
+        each-more (omega arith, one-asked i _ _ (same-tidy (orNone (getSubpart a k)) (same-sym s) d)) (picked-within v n m is (suc k) b q h (λ x y. f x (later y)) (omega arith))
 
     -- the components of a composed value
     components-within : (cs : List ExpressionHandle) (k : ℕ) → EachBelow e cs →
@@ -205,7 +206,7 @@ module _ (S : Scope) (R : Read S) where
     components-within (c ∷ cs) k b f =
         let z : k + 0 ≡ k = omega arith in
         let s : SameShape (member (shapeOf S (typeOf S e)) k) (shapeOf S (typeOf S c)) = rw z at (f 0 (omega arith)) in
-        let d = sub-tidy a (shapeOf S (typeOf S e)) k t (same-void s ∙ shape-there S (typeOf S c)) in
+        let d = sub-tidy a (shapeOf S (typeOf S e)) k t (same-void s ∙ type-fills S (typeOf S c)) in
         each-more (omega (arith, b 0 (omega arith)), part-asked _ _ (same-tidy (orNone (getSubpart a k)) s d))
         (components-within cs (suc k) (λ i m. b (suc i) (omega arith))
         (λ j m. let y : suc k + j ≡ k + suc j = omega arith in rw y (f (suc j) (omega arith))))
@@ -230,7 +231,7 @@ module _ (S : Scope) (R : Read S) where
         go true f = wholes-within e cs (omega arith) b
         go false f =
             components-within cs 0 b
-            (λ j m. let z : 0 + j ≡ j = omega arith in rw z (same-then (same-member j (value-shape e)) (f refl j m)))
+            (λ j m. let z : 0 + j ≡ j = omega arith in rw z (same-trans (same-member j (value-shape e)) (f refl j m)))
 
     -- by cases of the kind; of a load as given
     module _ (loads : (p : ExpressionHandle) → typed S e .expression ≡ Load p → EachWithin S (asks S (load p) a)) where

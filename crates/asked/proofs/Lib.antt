@@ -1,10 +1,4 @@
-pub mod Same
-pub mod Alike
-pub mod Parts
-pub mod Places
 pub mod Asks
-pub mod Paths
 pub mod Acts
 pub mod Plain
 pub mod Asking
-pub mod Function

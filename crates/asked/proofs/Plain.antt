@@ -23,11 +23,11 @@ use Rattle.clearance.proofs.Ascending.{trim-tidy}
 use Rattle.clearance.proofs.JudgedExpressions.{expression-exactly}
 use Rattle.needs.proofs.Lean.{trim-same}
 use Rattle.pass.specs.Pass.{partFrom, partOf}
-use Rattle.asked.specs.Same.{SameShape}
-use Rattle.asked.specs.Within.{Read, Judged, Asked, something, nothing, emptied, wanted, Within, placed, plainPart}
-use Rattle.asked.proofs.Same.{same-is, same-flip, same-then, same-tidy}
-use Rattle.asked.proofs.Alike.{alike-same}
-use Rattle.asked.proofs.Places.{argument-shape, evaluated-shape}
+use Rattle.framed.specs.Given.{Read, Judged}
+use Rattle.framed.specs.Same.{SameShape}
+use Rattle.framed.proofs.Same.{same-is, same-sym, same-trans, same-tidy, alike-shape}
+use Rattle.framed.proofs.Slots.{slot-shape}
+use Rattle.asked.specs.Within.{Asked, something, nothing, emptied, wanted, Within, placed, plainPart}
 
 -- A part at a place, trimmed
 
@@ -148,12 +148,12 @@ module _ (S : Scope) (R : Read S) (J : Judged S) where
   source-shape v l q e = go (stands S v (typed S v .expression) q e)
     where
       go : Stands S v (typed S v .expression) q → SameShape (shapeAt (frame S) q) (shapeOf S (typeOf S v))
-      go (inl h) = same-is _ _ (ap (shapeAt (frame S)) (sym h) ∙ evaluated-shape S v l)
+      go (inl h) = same-is _ _ (ap (shapeAt (frame S)) (sym h) ∙ slot-shape S (evaluated v) l)
       go (inr h) =
           let a = h .0 in
           let j = subst (λ y. JudgedExpression S v y) (h .1) (expression-exactly S v .0 (J .each v l)) in
           let m = subst (λ y. NamesBelow (length (S .program .globals)) (length (S .function .arguments)) (length (S .function .locals)) y) (h .1) (R .names v l) in
-          same-then (same-is _ _ (ap (shapeAt (frame S)) (sym (h .2)) ∙ argument-shape S a m)) (alike-same S (R .lower) _ _ (j .argument a refl))
+          same-trans (same-is _ _ (ap (shapeAt (frame S)) (sym (h .2)) ∙ slot-shape S (argument a) m)) (alike-shape S (R .lower) _ _ (j .argument a refl))
 
   -- what an ask within its type adds to the needs
   pub part-plain : (x : Ask) → Within S x → partOf S x ≡ plainPart S x
@@ -163,4 +163,4 @@ module _ (S : Scope) (R : Read S) (J : Judged S) where
     where
       go : (s : Source) → source S v ≡ s → partFrom S s p ≡ cond (wanted p) (placed s p) none
       go given e = nowhere (wanted p)
-      go (from q) e = trim-under q p (frame S) ∙ asked-under q p _ (asked-same p (same-flip (source-shape v (w .0) q e)) (w .1))
+      go (from q) e = trim-under q p (frame S) ∙ asked-under q p _ (asked-same p (same-sym (source-shape v (w .0) q e)) (w .1))

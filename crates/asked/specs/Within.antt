@@ -2,29 +2,13 @@
 use Prim.Native.Nat.{ℕ, _<_}
 use mathlib.Core.Path.{_≡_}
 use mathlib.Core.Bool.{Bool, true, false, cond}
-use mathlib.Core.List.{List, []}
+use mathlib.Core.List.{List}
 use lib.ListN.{length, getD}
 use Rattle.part.specs.PartReq.{PartReq, all, exist, none, more}
-use Rattle.module.specs.Module.{ExpressionHandle}
-use Rattle.valid.specs.Valid.{OperandsBelow, NamesBelow}
-use Rattle.clearance.specs.Shape.{Shape, isVoid, shapeAt, some, under}
-use Rattle.clearance.specs.Scope.{Scope, unfoldType, shapeOf, expressionsOf, typed, typeOf, frame, Source, given, from, source, pathOf, indexes, target}
+use Rattle.clearance.specs.Shape.{Shape, shapeAt, some, under}
+use Rattle.clearance.specs.Scope.{Scope, shapeOf, expressionsOf, typeOf, frame, Source, given, from, source}
 use Rattle.clearance.specs.Needs.{Ask, ofValue, ofPlace}
-use Rattle.clearance.specs.Judged.{pointee, judgedExpression}
 use Rattle.clearance.specs.IsNeed.{Tidy}
-use Rattle.judge.specs.Alike.{Lower}
-use Rattle.asked.specs.Same.{SameShape}
-
--- what reading guarantees of a function
-pub record Read (S : Scope) : Type 0 where
-  pub lower : Lower (S .program .types)
-  pub operands : (e : ExpressionHandle) → e < length (expressionsOf S) → OperandsBelow e (typed S e .expression)
-  pub names : (e : ExpressionHandle) → e < length (expressionsOf S) →
-      NamesBelow (length (S .program .globals)) (length (S .function .arguments)) (length (S .function .locals)) (typed S e .expression)
-
--- each of its expressions is judged
-pub record Judged (S : Scope) : Type 0 where
-  pub each : (e : ExpressionHandle) → e < length (expressionsOf S) → judgedExpression S e ≡ true
 
 -- A part that is asked of what has the shape t: something within it, nothing, or nothing of one part (of a component that is not needed).
 pub data Asked (t : Shape) : PartReq → Type 0 where
@@ -55,8 +39,3 @@ placed (from q) p = under q p
 unfoldable pub plainPart : Scope → Ask → PartReq
 plainPart S (ofValue v p) = cond (wanted p) (placed (source S v) p) none
 plainPart S (ofPlace q p) = cond (wanted p) (under q p) none
-
--- Where a path leads, by what it names for sure: something stands there, and without a dynamic index it has the shape of what the path leads to.
-pub record PathShape (S : Scope) (p : ExpressionHandle) : Type 0 where
-  pub there : isVoid (shapeAt (frame S) (target (pathOf S p))) ≡ false
-  pub static : indexes (pathOf S p .steps) ≡ [] → SameShape (shapeAt (frame S) (target (pathOf S p))) (unfoldType (shapeOf S) (pointee S p))

@@ -11,8 +11,9 @@ use Rattle.part.specs.Ascending.{Ascending}
 use Rattle.clearance.specs.Scope.{Scope, Source, given, from, source}
 use Rattle.clearance.specs.Needs.{ofValue, ofPlace}
 use Rattle.pass.specs.Pass.{partFrom, partOf}
-use Rattle.asked.specs.Within.{Read, Judged, wanted, Within, placed, plainPart}
+use Rattle.asked.specs.Within.{wanted, Within, placed, plainPart}
 use Rattle.asked.proofs.Plain.{part-plain}
+use Rattle.framed.specs.Given.{Read, Judged}
 use Rattle.framed.specs.Kept.{Deep}
 use Rattle.place.specs.declared.sources.Source as answer
 use Rattle.place.specs.Sources.{sourceBy}

@@ -11,7 +11,8 @@ use Rattle.clearance.specs.Shape.{under}
 use Rattle.clearance.specs.Scope.{Scope, expressionsOf}
 use Rattle.clearance.specs.Needs.{Ask, ofValue}
 use Rattle.pass.specs.Pass.{Carried, Passed, partOf, asking}
-use Rattle.asked.specs.Within.{Read, Judged, wanted, Within}
+use Rattle.asked.specs.Within.{wanted, Within}
+use Rattle.framed.specs.Given.{Read, Judged}
 use Rattle.framed.specs.Kept.{Kept, AskFine}
 use Rattle.hold.specs.Hold.{heldBy, inSlot, Live, Reach}
 use Rattle.standing.specs.Slots.{Ready}

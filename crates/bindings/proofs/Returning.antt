@@ -21,11 +21,11 @@ use Rattle.module.specs.Operands.{bindings}
 use Rattle.module.specs.Decode.{optionOf}
 use Rattle.module.proofs.Knot.{knot-is, below-lt}
 use Rattle.context.specs.Types.{typesOf, typeCount}
-use Rattle.context.specs.RequiredContext.{RequiredContext, variable, pieces}
+use Rattle.context.specs.RequiredContext.{RequiredContext, variable, pieces, returnEntry}
 use Rattle.context.proofs.Types.{length-tab}
 use Rattle.bindings.specs.Bindings.{Bindings, single, ownBinding}
 use Rattle.bindings.specs.TypeBindings.{unlessEmpty, fromBinding, innerFrom, stepFrom, fromTypeBindings}
-use Rattle.bindings.specs.ContextBindings.{returned, resultFrom, outputFromBindings, addBinding, Answer, refused, accepted, asRequest}
+use Rattle.bindings.specs.ContextBindings.{resultFrom, outputFromBindings, addBinding, Answer, refused, accepted, asRequest}
 use Rattle.bindings.specs.Rows.{Bound}
 use Rattle.bindings.specs.Parts.{partOf, lowerPart, Chosen, Parts}
 use Rattle.bindings.specs.Outputs.{resultBy, BoundResult, requestContext, Asked}
@@ -63,17 +63,17 @@ pub bound-result : (ty b : ℕ) → (ty ≡ absent → ⊥) → BoundResult (res
 unfolding resultBy
 bound-result ty b h g = rw (ne-eqb ty absent h) at g
 
-none-returned : (t : List ℕ) (q : ℕ) → q ≡ 2 → none ≡ returned (unlessEmpty (part t q))
-unfolding returned unlessEmpty
+none-returned : (t : List ℕ) (q : ℕ) → q ≡ 2 → none ≡ returnEntry (unlessEmpty (part t q))
+unfolding returnEntry unlessEmpty
 none-returned t q e = rw (e, part-2 t)
 
 -- the returned value's entry, by the table of types and the result's two numbers
 abbrev entry : (tbl : List ℕ) (required : Bindings) (ty b : ℕ) → PartReq
-entry tbl required ty b = returned (resultFrom (typesOf tbl) required (resultBy ty b))
+entry tbl required ty b = returnEntry (resultFrom (typesOf tbl) required (resultBy ty b))
 
 pub no-result : (tbl : List ℕ) (required : Bindings) {s : List ℕ} {ty : ℕ} (b k : ℕ) → Good s → ty ≡ absent → Made s s (entry tbl required ty b) k 2
 no-result tbl required {s} {ty} b k g e =
-    stay s _ k 2 g (omega (arith, g .base)) (part-2 s ∙ (unfold returned resultFrom resultBy in (rw (eq-eqb ty absent e))))
+    stay s _ k 2 g (omega (arith, g .base)) (part-2 s ∙ (unfold returnEntry resultFrom resultBy in (rw (eq-eqb ty absent e))))
 
 module _ (tbl : List ℕ) (required : Bindings) {s t parts : List ℕ} {n ty b q k : ℕ} (F : Parts s t (typesOf tbl) required parts k) (C : Chosen parts required n b ty q) (same : n ≡ length parts) where
   pub entry-asks : Room s (k + 1) → Good t × (Room t 1 × ((q < top t) × (2 < top t)))
@@ -84,8 +84,8 @@ module _ (tbl : List ℕ) (required : Bindings) {s t parts : List ℕ} {n ty b q
       (g, (omega arith, (C .piece t (g .base) (rw same (F .held)), omega (arith, g .base))))
 
   module _ (h : ty ≡ absent → ⊥) (l : length parts ≡ typeCount tbl) where
-    is-entry : returned (unlessEmpty (part t q)) ≡ entry tbl required ty b
-    is-entry = ap returned (result-is F (l ∙ sym (types-long tbl)) same h C)
+    is-entry : returnEntry (unlessEmpty (part t q)) ≡ entry tbl required ty b
+    is-entry = ap returnEntry (result-is F (l ∙ sym (types-long tbl)) same h C)
 
     pub entry-none : q ≡ 2 → Made s t (entry tbl required ty b) (k + 1) 2
     entry-none e =
@@ -101,7 +101,7 @@ module _ (tbl : List ℕ) (required : Bindings) {s t parts : List ℕ} {n ty b q
         record {
           kept = kept-trans (F .kept) (a .kept);
           piece = a .piece;
-          is = a .is ∙ (rw (part-2 t) (unfold returned in (rw (some-piece t q e) at is-entry)));
+          is = a .is ∙ (rw (part-2 t) (unfold returnEntry in (rw (some-piece t q e) at is-entry)));
           cost = omega (arith, F .cost, a .cost);
         }
 
@@ -133,7 +133,7 @@ unfolding pieces entries
 pieces-are globals retval = omega arith
 
 -- `output_from_bindings`
-module _ (types : List TypeInner) (required : Bindings) (ty b : ℕ) {s t : List ℕ} {k n : ℕ} (m : Made s t (returned (resultFrom types required (resultBy ty b))) k n) where
+module _ (types : List TypeInner) (required : Bindings) (ty b : ℕ) {s t : List ℕ} {k n : ℕ} (m : Made s t (returnEntry (resultFrom types required (resultBy ty b))) k n) where
   abbrev out : Function → RequiredContext
   out f = outputFromBindings types required f
 
@@ -179,7 +179,7 @@ some-flag : {o : ℕ} (x : Bool) → o ≡ flag x → 0 < o → x ≡ true
 some-flag true e h = refl
 some-flag false e h = absurd (omega arith)
 
-module _ (types : List TypeInner) {b : ℕ} {required : Bindings} (w : required ≡ ownBinding (optionOf b)) (low : b < bindings) {s t : List ℕ} {k n : ℕ} (ty binding globals retval : ℕ) (m : Made s t (returned (resultFrom types required (resultBy ty binding))) k n) (held : (globals < top s) × (retval < top s)) where
+module _ (types : List TypeInner) {b : ℕ} {required : Bindings} (w : required ≡ ownBinding (optionOf b)) (low : b < bindings) {s t : List ℕ} {k n : ℕ} (ty binding globals retval : ℕ) (m : Made s t (returnEntry (resultFrom types required (resultBy ty binding))) k n) (held : (globals < top s) × (retval < top s)) where
   abbrev adds : Function → Answer RequiredContext
   adds f = asRequest (outputFromBindings types (single b) f) (addBinding types b f (requestContext (part s globals) (part s retval)))
 

@@ -8,7 +8,7 @@ use Rattle.field.specs.Limits.{maxPieces}
 use Rattle.part.specs.PartReq.{PartReq, all, exist, none, more, Subpart, gone, there, getSubpart, add, over}
 use Rattle.module.specs.Module.{Binding, TypeInner, FunctionArg, FunctionResult, FunctionHandle, Function, Module}
 use Rattle.module.specs.Operands.{bindings}
-use Rattle.context.specs.RequiredContext.{RequiredContext, variable, pieces}
+use Rattle.context.specs.RequiredContext.{RequiredContext, variable, pieces, returnEntry}
 use Rattle.bindings.specs.Bindings.{Bindings, empty, single, union, ownBinding, setOf, listOf}
 use Rattle.bindings.specs.TypeBindings.{getTypeBindings, fromBinding, fromTypeBindings}
 
@@ -46,11 +46,6 @@ argsBindings types args i (a ∷ as′) =
 unfoldable pub inputToBindings : List TypeInner → Function → RequiredContext → Needed
 inputToBindings types f c = argsBindings types (c .args) 0 (f .arguments)
 
--- the returned value's entry in a context
-unfoldable pub returned : Option PartReq → PartReq
-returned nothing = none
-returned (some p) = more (variable 0) p none
-
 unfoldable pub resultFrom : List TypeInner → Bindings → Option FunctionResult → Option PartReq
 resultFrom types required nothing = nothing
 resultFrom types required (some r) = fromBinding (fromTypeBindings types required) required (r .binding) (r .type)
@@ -58,7 +53,7 @@ resultFrom types required (some r) = fromBinding (fromTypeBindings types require
 -- `output_from_bindings`
 unfoldable pub outputFromBindings : List TypeInner → Bindings → Function → RequiredContext
 outputFromBindings types required f =
-    record { globals = none; locals = none; args = none; retval = returned (resultFrom types required (f .result)) }
+    record { globals = none; locals = none; args = none; retval = returnEntry (resultFrom types required (f .result)) }
 
 -- `add_binding`: what stands there and what is new are added, where both are there (`add-returned`)
 unfoldable pub addBinding : List TypeInner → Binding → Function → RequiredContext → RequiredContext

@@ -11,7 +11,8 @@ ghost use Rattle.module.specs.Decode.{optionOf};
 ghost use Rattle.context.specs.Types.{typesOf, typeCount, AllSized};
 ghost use Rattle.bindings.specs.Bindings.{single};
 ghost use Rattle.bindings.specs.TypeBindings.{stepFrom};
-ghost use Rattle.bindings.specs.ContextBindings.{returned, resultFrom, outputFromBindings, addBinding, asRequest};
+ghost use Rattle.context.specs.RequiredContext.{returnEntry};
+ghost use Rattle.bindings.specs.ContextBindings.{resultFrom, outputFromBindings, addBinding, asRequest};
 ghost use Rattle.bindings.specs.Outputs.{resultBy, BoundResult, outputCells, requestContext, Asked};
 ghost use Rattle.bindings.specs.Rows.{Bound, AllBound};
 ghost use Rattle.bindings.specs.Parts.{lowerPart, Held, From, Chosen, Parts};
@@ -109,7 +110,7 @@ fn returned_from(
     requires { ⌜ AllSized (typesOf (now types)) ⌝ }
     requires { ⌜ (length (now parts) ≡ typeCount (now types)) × (length (now parts) ≤ 4294967295) ⌝ }
     requires { ⌜ BoundResult (resultBy (ty .0) binding) × Room (now cells) (outputCells (now parts)) ⌝ }
-    ensures { λ r. ⌜ Made (now (cells .entry)) (now (cells .exit)) (returned (resultFrom (typesOf (now (types .entry))) required (resultBy (ty .0) binding))) (outputCells (now (parts .entry))) r ⌝ }
+    ensures { λ r. ⌜ Made (now (cells .entry)) (now (cells .exit)) (returnEntry (resultFrom (typesOf (now (types .entry))) required (resultBy (ty .0) binding))) (outputCells (now (parts .entry))) r ⌝ }
 {
     if ty.0 == NO_HANDLE {
         return 2;

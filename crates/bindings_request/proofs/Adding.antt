@@ -18,9 +18,8 @@ use Rattle.access.specs.Access.{resultFrom}
 use Rattle.access.specs.declared.whole.Bound.{Bound as TypeBound}
 use Rattle.access.proofs.Access.{function-is}
 use Rattle.context.specs.Types.{typesOf, typeCount, AllSized}
-use Rattle.context.specs.RequiredContext.{RequiredContext, variable}
+use Rattle.context.specs.RequiredContext.{RequiredContext, variable, returnEntry}
 use Rattle.request.specs.Fields as reading
-use Rattle.request.specs.Part.{asked}
 use Rattle.request.specs.Request.{Request, requestOf, allBelow, known, judge}
 use Rattle.request.specs.Answers.{optional, Held, requestAnswer, RequestHeld, RequestWasRead}
 use Rattle.request.specs.declared.lists.Optional.{Optional}
@@ -53,7 +52,7 @@ module _ {bytes t types : List ℕ} (T : Tables bytes t types) {f b : ℕ} (low 
   add-request c =
       rw (lt-ltb b bindings few, of-function (moduleOf bytes t .functions) f (functionOf bytes t f) (λ y. asRequest (outputFromBindings (moduleOf bytes t .types) (single b) y) (addBinding (moduleOf bytes t .types) b y c)) low, function-is bytes t f (functionOf bytes t f) low, T .rows)
 
-  module _ {s u : List ℕ} (o : Optional) {entry globals : ℕ} (m : Made s u (asked (optional s o)) 1 entry) (held : globals < top s) where
+  module _ {s u : List ℕ} (o : Optional) {entry globals : ℕ} (m : Made s u (returnEntry (optional s o)) 1 entry) (held : globals < top s) where
     pub add-asks : (parts : List ℕ) → length parts ≡ typeCount types → Room s (1 + (outputCells parts + maxPieces))
         → Good u × (AllBound (typesOf types) × (AllSized (typesOf types) × (((length parts ≡ typeCount types) × (length parts ≤ 4294967295)) × ((BoundResult (resultBy (x .ty .0) (x .binding)) × Room u (outputCells parts + maxPieces)) × ((b < bindings) × ((globals < top u) × (entry < top u)))))))
     add-asks parts l room =
@@ -68,13 +67,13 @@ module _ {bytes t types : List ℕ} (T : Tables bytes t types) {f b : ℕ} (low 
       pub write-asks : {n l : ℕ} → n ≤ l → Good v × (((globals < top v) × AskingHeld v (part v globals) a) × (n ≤ l))
       write-asks r = (A .kept .good, ((omega (arith, m .kept .tops, A .kept .tops), rw globals-same (A .held)), r))
 
-      answer-is : askingOf v (part v globals) a ≡ addRequest (moduleOf bytes t) f b (requestContext (part s globals) (asked (optional s o)))
+      answer-is : askingOf v (part v globals) a ≡ addRequest (moduleOf bytes t) f b (requestContext (part s globals) (returnEntry (optional s o)))
       answer-is =
           rw globals-same
           (A .is (functionOf bytes t f) result-is
-          ∙ rw (m .kept .same globals held, m .is) (sym (add-request (requestContext (part s globals) (asked (optional s o))))))
+          ∙ rw (m .kept .same globals held, m .is) (sym (add-request (requestContext (part s globals) (returnEntry (optional s o))))))
 
-      pub add-gave : {o₀ o₁ : List ℕ} {r : Bytes} → Gave o₀ o₁ (written f (askingOf v (part v globals) a)) r → Gave o₀ o₁ (written f (addRequest (moduleOf bytes t) f b (requestContext (part s globals) (asked (optional s o))))) r
+      pub add-gave : {o₀ o₁ : List ℕ} {r : Bytes} → Gave o₀ o₁ (written f (askingOf v (part v globals) a)) r → Gave o₀ o₁ (written f (addRequest (moduleOf bytes t) f b (requestContext (part s globals) (returnEntry (optional s o))))) r
       add-gave g = rw answer-is at g
 
 -- what was accepted is known, and the slice is long enough
@@ -105,7 +104,7 @@ add-above m room b request h = gave-refused (rw (le-ltb b bindings h))
 
 module _ (bytes t request : List ℕ) (room : ℕ) {s u : List ℕ} {b functions globals n : ℕ} (few : b < bindings) (F : functions ≡ length (moduleOf bytes t .functions)) (G : globals ≡ length (moduleOf bytes t .globals)) {a : RequestAnswer} (A : RequestWasRead s u n (judge functions globals room (requestOf request)) a) where
   abbrev next : Request → Answer (List ℕ)
-  next q = written (q .function) (addRequest (moduleOf bytes t) (q .function) b (requestContext (q .globals) (asked (q .retval))))
+  next q = written (q .function) (addRequest (moduleOf bytes t) (q .function) b (requestContext (q .globals) (returnEntry (q .retval))))
 
   on-answer : addBytes (moduleOf bytes t) room b request ≡ onRead (requestAnswer u a) next
   unfolding addBytes
@@ -142,6 +141,6 @@ module _ (bytes t request : List ℕ) (room : ℕ) {s u : List ℕ} {b functions
         let big = L .room in
         (T, (A .kept .good, ((len, omega arith), ((omega arith, (was-held .0, was-held .1)), (few, omega arith)))))
 
-    pub add-went : {o p : List ℕ} {r : Bytes} → Gave o p (written (q .function .0) (addRequest (moduleOf bytes t) (q .function .0) b (requestContext (part u (q .globals)) (asked (optional u (q .retval)))))) r → Gave o p (addBytes (moduleOf bytes t) room b request) r
+    pub add-went : {o p : List ℕ} {r : Bytes} → Gave o p (written (q .function .0) (addRequest (moduleOf bytes t) (q .function .0) b (requestContext (part u (q .globals)) (returnEntry (optional u (q .retval)))))) r → Gave o p (addBytes (moduleOf bytes t) room b request) r
     unfolding onRead
     add-went g = rw (on-answer, e) g

@@ -13,9 +13,8 @@ use Rattle.module.specs.Operands.{bindings}
 use Rattle.module.specs.File.{accepted as isRead, readModule}
 use Rattle.module.specs.Tables.{moduleOf}
 use Rattle.context.specs.Types.{typesOf}
-use Rattle.context.specs.RequiredContext.{RequiredContext}
+use Rattle.context.specs.RequiredContext.{RequiredContext, returnEntry}
 use Rattle.request.specs.Fields as reading
-use Rattle.request.specs.Part.{asked}
 use Rattle.request.specs.Request.{Request, readRequest, writeRequest}
 use Rattle.bindings.specs.ContextBindings.{Answer, refused, refusedAt, accepted, areBindings, outputRequest, addRequest}
 use Rattle.bindings.specs.Outputs.{outputCells, requestContext}
@@ -50,7 +49,7 @@ written f (accepted c) = accepted (writeRequest f (c .retval) (c .globals))
 unfoldable pub addBytes : Module → (room : ℕ) → Binding → List ℕ → Answer (List ℕ)
 addBytes m room b s =
     cond (ltb b bindings)
-    (onRead (readRequest m room s) (λ q. written (q .function) (addRequest m (q .function) b (requestContext (q .globals) (asked (q .retval))))))
+    (onRead (readRequest m room s) (λ q. written (q .function) (addRequest m (q .function) b (requestContext (q .globals) (returnEntry (q .retval))))))
     (refused 12)
 
 -- `output_from_bindings` as a request's bytes: 12, 11, 20, 15, 16

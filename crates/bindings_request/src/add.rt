@@ -7,7 +7,7 @@ ghost use Rattle.part.specs.Store.{top, part, Good, Room};
 ghost use Rattle.module.specs.Operands.{bindings};
 ghost use Rattle.module.specs.Tables.{moduleOf};
 ghost use Rattle.context.specs.Types.{typeCount};
-ghost use Rattle.request.specs.Part.{asked};
+ghost use Rattle.context.specs.RequiredContext.{returnEntry};
 ghost use Rattle.request.specs.Answers.{optional, Held};
 ghost use Rattle.bindings.specs.ContextBindings.{addRequest};
 ghost use Rattle.bindings.specs.Outputs.{outputCells, requestContext};
@@ -44,7 +44,7 @@ fn add_to(
     requires { ⌜ (length (now parts) ≡ typeCount (now types)) × Room (now cells) (1 + (outputCells (now parts) + maxPieces)) ⌝ }
     requires { ⌜ (f .0 < length (moduleOf (now bytes) (now t) .functions)) × (Held (now cells) retval × (globals < top (now cells))) ⌝ }
     requires { ⌜ (b < bindings) × (minReport ≤ length (now out)) ⌝ }
-    ensures { λ r. ⌜ Gave (now (out .entry)) (now (out .exit)) (written (f .0) (addRequest (moduleOf (now (bytes .entry)) (now (t .entry))) (f .0) b (requestContext (part (now (cells .entry)) globals) (asked (optional (now (cells .entry)) retval))))) r ⌝ }
+    ensures { λ r. ⌜ Gave (now (out .entry)) (now (out .exit)) (written (f .0) (addRequest (moduleOf (now (bytes .entry)) (now (t .entry))) (f .0) b (requestContext (part (now (cells .entry)) globals) (returnEntry (optional (now (cells .entry)) retval))))) r ⌝ }
 {
     let entry = returned(cells, retval);
     let x = result(bytes, t, f);

@@ -29,7 +29,6 @@ use Rattle.state.specs.State.{recordsIn}
 use Rattle.block.specs.Standing.{totalOf, totalIn, functionsIn, stateIn, Standing}
 use Rattle.block.specs.Adding.{FirstTotal, joint, LaterTotal}
 use Rattle.block.proofs.Keeping.{total-state, total-standing}
-use Rattle.block.proofs.Unroll.{over-is}
 
 -- records that count for nothing are extended to the later ones
 extend-none : (es news : Records) → length es ≡ length news → recordPieces es ≡ 0 → extend es news ≡ news
@@ -151,7 +150,7 @@ module _ {bytes t types places s rs open-marks totals : List ℕ} {f at held sum
       pub later-added : {u us after : List ℕ} {k : ℕ} → LaterTotal t places s rs open-marks totals f at sum k u us after
           → went (stateIn bytes t u us open-marks after f at v) tt ≡ addTotal m f here (getD (functionsIn m t (read s rs) totals) f nothing) (stateIn bytes t s rs open-marks totals f at v)
       unfolding addTotal joinTotal limitedContext
-      later-added T = rw (old-is, ← no-ray, over-is (joint s rs f at), T .within) (ap (λ (st : State). went st tt) (later-state T v))
+      later-added T = rw (old-is, ← no-ray, T .within) (ap (λ (st : State). went st tt) (later-state T v))
 
     module _ {u us after : List ℕ} {k : ℕ} (T : LaterTotal t places s rs open-marks totals f at sum k u us after) where
       pub later-standing : Sound m → held + (pieces (contextAt (read s rs) at) + k) ≤ entriesCap → Standing bytes t types places u us open-marks after f at held k visits
@@ -171,6 +170,6 @@ module _ {bytes t types places s rs open-marks totals : List ℕ} {f at held sum
             exprs = G .exprs;
             marks = G .marks;
             globals = G .globals;
-            functions = K .total-extended (st .functions) f old (st .marks) (st .context) (st .exprs) (G .functions) old-is (G .marks) (G .context) (G .exprs) (over-is (joint s rs f at) ∙ T .within);
+            functions = K .total-extended (st .functions) f old (st .marks) (st .context) (st .exprs) (G .functions) old-is (G .marks) (G .context) (G .exprs) (T .within);
             visits = G .visits;
           })))

@@ -22,7 +22,6 @@ use Rattle.block.specs.Saved.{Joined}
 use Rattle.block.specs.Blocks.{contextIn, Beside}
 use Rattle.block.proofs.Tops.{popped-state, popped-standing}
 use Rattle.block.proofs.Steps.{beside-popped}
-use Rattle.block.proofs.Unroll.{over-is}
 
 -- a join within the limits
 pub fine-merged : {bytes t : List ℕ} {f : ℕ} (c d : RequiredContext) → WasRead bytes t → FineContext (moduleOf bytes t) f c → FineContext (moduleOf bytes t) f d → overContext (mergeContext c d) ≡ false
@@ -31,7 +30,7 @@ fine-merged {bytes} {t} {f} c d w hc hd o =
     let m = moduleOf bytes t in
     let sound = module-sound bytes m (w .module-is) in
     context-fine m sound 0 f (mergeContext c d)
-    ((proper m sound 0) .context-merged f c d (fine-context m sound 0 f c hc) (fine-context m sound 0 f d hd) (over-is (mergeContext c d) ∙ o))
+    ((proper m sound 0) .context-merged f c d (fine-context m sound 0 f c hc) (fine-context m sound 0 f d hd) o)
 
 -- what one visit leaves suffices for a join of contexts that two blocks may leave
 pub join-room : (s rs : List ℕ) (k : ℕ) → Room s room → contextIn s rs k ≤ 2 * maxPieces → contextIn s rs (k + 4) ≤ 2 * maxPieces → Room s (contextIn s rs k + contextIn s rs (k + 4))

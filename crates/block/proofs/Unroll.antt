@@ -8,33 +8,27 @@ use mathlib.Core.Option.{Option}
 use lib.ListN.{length, getD}
 use Rattle.part.specs.PartReq.{all}
 use Rattle.module.specs.Module.{ExpressionHandle, FunctionHandle, BlockHandle, Module, SwitchCase}
-use Rattle.context.specs.RequiredContext.{RequiredContext, mergeContext, pieces}
-use Rattle.context.specs.RequiredContext as context
-use Rattle.walk.specs.State.{State, Place, Out, went, halt, Walk, _>>_, withContext, recordPieces, limitedContext, overContext}
+use Rattle.context.specs.RequiredContext.{RequiredContext, mergeContext, overContext, pieces}
+use Rattle.walk.specs.State.{State, Place, Out, went, halt, Walk, _>>_, withContext, recordPieces, limitedContext}
 use Rattle.walk.specs.StatementReq.{StatementReq}
-use Rattle.walk.specs.Statement.{BlockWalk, FunctionWalk, Frame, here, ask, recordOf, merged, addNested, endIf, addCases, endSwitch, addSwitch, endTurn, turns, endLoop, back, retvalOf, endCall, addCall, addStatements}
 use Rattle.walk.specs.Statement.{BlockWalk, FunctionWalk, Frame, here, ask, recordOf, merged, addNested, endIf, addCases, endSwitch, addSwitch, endTurn, turns, endLoop, back, retvalOf, endCall, addCall, addStatements}
 
 -- 15: the limit of a join
-pub over-is : (c : RequiredContext) → overContext c ≡ context.overContext c
-unfolding overContext context.overContext
-over-is c = refl
-
 module _ (at : Place) (c : RequiredContext) (st : State) where
-  pub limited-within : false ≡ context.overContext c → went st tt ≡ limitedContext at c st
+  pub limited-within : false ≡ overContext c → went st tt ≡ limitedContext at c st
   unfolding limitedContext
-  limited-within e = rw (over-is c, ← e)
+  limited-within e = rw (← e)
 
-  pub limited-over : true ≡ context.overContext c → halt 15 at ≡ limitedContext at c st
+  pub limited-over : true ≡ overContext c → halt 15 at ≡ limitedContext at c st
   unfolding limitedContext
-  limited-over e = rw (over-is c, ← e)
+  limited-over e = rw (← e)
 
 module _ (fr : Frame) (c d : RequiredContext) (st : State) where
-  pub merged-within : false ≡ context.overContext (mergeContext c d) → went (withContext (mergeContext c d) st) tt ≡ merged fr c d st
+  pub merged-within : false ≡ overContext (mergeContext c d) → went (withContext (mergeContext c d) st) tt ≡ merged fr c d st
   unfolding merged
   merged-within e = limited-within (here fr) (mergeContext c d) (withContext (mergeContext c d) st) e
 
-  pub merged-over : true ≡ context.overContext (mergeContext c d) → halt 15 (here fr) ≡ merged fr c d st
+  pub merged-over : true ≡ overContext (mergeContext c d) → halt 15 (here fr) ≡ merged fr c d st
   unfolding merged
   merged-over e = limited-over (here fr) (mergeContext c d) (withContext (mergeContext c d) st) e
 
@@ -69,11 +63,11 @@ module _ (block : BlockWalk) (fr : Frame) (b : BlockHandle) (st : State) where
 
 -- `If`: its end
 module _ (m : Module) (fr : Frame) (condition : ExpressionHandle) (before accepted : RequiredContext) (rejected : State) where
-  pub if-over : true ≡ context.overContext (mergeContext accepted (rejected .context)) → endIf m fr condition before accepted true rejected ≡ halt 15 (here fr)
+  pub if-over : true ≡ overContext (mergeContext accepted (rejected .context)) → endIf m fr condition before accepted true rejected ≡ halt 15 (here fr)
   unfolding endIf
   if-over e = rw (← merged-over fr accepted (rejected .context) rejected e)
 
-  pub if-asks : false ≡ context.overContext (mergeContext accepted (rejected .context))
+  pub if-asks : false ≡ overContext (mergeContext accepted (rejected .context))
       → endIf m fr condition before accepted true rejected
       ≡ (ask m fr condition all (withContext (mergeContext accepted (rejected .context)) rejected) >> λ left. went left (StatementReq.If true))
   unfolding endIf
@@ -98,11 +92,11 @@ module _ (block : BlockWalk) (fr : Frame) (outer : RequiredContext) (cases : Lis
     cases-halt e = rw (← e)
 
     module _ {walked : State} {r : Bool} (e : went walked r ≡ Case) where
-      pub cases-over : true ≡ context.overContext (mergeContext (st .context) (walked .context)) → addCases block fr outer cases (suc n) any st ≡ halt 15 (here fr)
+      pub cases-over : true ≡ overContext (mergeContext (st .context) (walked .context)) → addCases block fr outer cases (suc n) any st ≡ halt 15 (here fr)
       unfolding addCases
       cases-over o = rw (← e) (rw (← merged-over fr (st .context) (walked .context) walked o))
 
-      pub cases-again : false ≡ context.overContext (mergeContext (st .context) (walked .context))
+      pub cases-again : false ≡ overContext (mergeContext (st .context) (walked .context))
           → addCases block fr outer cases (suc n) any st ≡ addCases block fr outer cases n (any || r) (withContext (mergeContext (st .context) (walked .context)) walked)
       unfolding addCases
       cases-again o = rw (← e) (rw (← merged-within fr (st .context) (walked .context) walked o))

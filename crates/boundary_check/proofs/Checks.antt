@@ -8,14 +8,14 @@ use Rattle.request.specs.Context.{contextOf}
 use Rattle.reading.specs.Reads.{Reads}
 use Rattle.state.specs.Ready.{WasRead}
 use Rattle.checking.specs.Check.{onModule, meaningBy, meaning, answerTo, check}
-use Rattle.checking.specs.Word.{checkWord}
+use Rattle.checking.specs.Word.{refusalUnit, checkWord}
 
 module _ {bytes t : List ℕ} {n : ℕ} (R : Reads bytes t n) where
   pub file-read : n ≡ 0 → WasRead bytes t
   file-read z = record { module-is = R .accepts z .0; laid = R .accepts z .1 }
 
   module _ (request report context : List ℕ) where
-    pub file-refused : 1 ≤ n → 4294967296 * n ≡ checkWord (check bytes request report context)
+    pub file-refused : 1 ≤ n → refusalUnit * n ≡ checkWord (check bytes request report context)
     unfolding check meaning onModule answerTo checkWord
     file-refused h = rw (R .refuses h)
 

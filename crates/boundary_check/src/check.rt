@@ -1,4 +1,5 @@
 // From the bytes of a module, a request, a report and a context to the check's number. Nothing of theirs is written.
+use checking::words::REFUSAL;
 use context::remove::TYPE_WORDS;
 use field::limits::MAX_EXPRESSIONS;
 use field::limits::MAX_STATEMENTS;
@@ -24,9 +25,6 @@ ghost use Rattle.checking.specs.Word.{checkWord};
 
 // A path has an index for each expression, and two more.
 const PATH: usize = MAX_EXPRESSIONS + 2;
-
-// Where a refusal's number stands in the answer's.
-const REFUSAL: u64 = 4294967296;
 
 // Of a module that was read, with tables of its own.
 fn check_in(

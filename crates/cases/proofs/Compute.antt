@@ -77,5 +77,5 @@ unfolding fieldAt width fieldsTo bodyAt markOf typeShapes expressionShapes state
     writeEntries writePart writeReturn writeVariables writeContextBody readBody requestOf Rattle.request.specs.Request.allBelow known judge
     answers writeRecord writeRecords writeTotal writeTotals Rattle.pruner.specs.Form.writeBody writePruner digits number textFrom variablesText
     retvalText contextText recordText recordsText nameOf markText marksText statementsText requiredText reportText refusedText answerBody
-    writeAnswer wordAt Rattle.request.specs.Part.asked readLists readContextBody readRecords Rattle.requests.specs.ReadAnswer.readBody readAnswer finish check checkText checkLine headsRequest moduleBytes answerText requestText moduleText reportInput
+    writeAnswer wordAt Rattle.context.specs.RequiredContext.returnEntry readLists readContextBody readRecords Rattle.requests.specs.ReadAnswer.readBody readAnswer finish check checkText checkLine headsRequest moduleBytes answerText requestText moduleText reportInput
 print s = reportInput s

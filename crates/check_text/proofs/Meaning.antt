@@ -19,6 +19,7 @@ use Rattle.request.specs.Request.{Request, requestOf, known, judge}
 use Rattle.request.specs.Context.{contextOf}
 use Rattle.request.proofs.Back.{contextOf-writeContext}
 use Rattle.sound.proofs.Asked.{asked}
+use Rattle.sound.proofs.Walks.{module-valid}
 use Rattle.walk.specs.Marks.{stretch}
 use Rattle.memory.specs.Memory.{read, contextAt}
 use Rattle.marks.specs.Places.{startOf}
@@ -64,7 +65,7 @@ module _ {bytes t s rs open-marks request : List ℕ} {k : ℕ} (J : Judging byt
 
   module _ {out : List ℕ} {n : ℕ} (R : Recorded out n c) where
     given : contextOf (take n out) ≡ some c
-    given = ap contextOf (R .is) ∙ contextOf-writeContext c (context-filed m (J .q .function) c (J .context) (J .named))
+    given = ap contextOf (R .is) ∙ contextOf-writeContext c (context-filed m (J .q .function) c (J .context) (module-valid bytes m (J .was-read .module-is)))
 
     means : (required : Bool) → answerTo (meaningBy m open-marks (requestOf request) (contextOf (take n out))) ≡ checkOf m (J .q) (reportIn bytes t s rs open-marks (J .q .function) k required)
     unfolding meaningBy meaningOf onBuffer answerTo checkOf

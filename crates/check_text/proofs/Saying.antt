@@ -10,7 +10,7 @@ use Rattle.lines.specs.Wrote.{longest, Fits, Wrote}
 use Rattle.lines.proofs.Writing.{texts, Rooms, wrote-then}
 use Rattle.lines.proofs.Long.{ten-long}
 use Rattle.clearance.specs.Verdict.{Answer, clear, atStatement, atStart, unjudgedExpression, unjudgedStatement, refused}
-use Rattle.checking.specs.Word.{checkWord, Roomy, wordAnswer}
+use Rattle.checking.specs.Word.{statementBase, unjudgedExpressionBase, unjudgedStatementBase, refusalUnit, checkWord, Roomy, wordAnswer}
 use Rattle.checking.specs.Line.{checkName, clearName, startName, unjudgedName, answerText, checkLine}
 use Rattle.checking.proofs.Word.{word-answer}
 use Rattle.check_text.specs.Checked.{maxLine, Numbered}
@@ -25,24 +25,24 @@ module _ (w : ℕ) where
   unfolding answerText wordAnswer
   says-start l u = rw (le-ltb w 1 l, lt-ltb w 2 u)
 
-  pub says-statement : 2 ≤ w → w < 196608 → answerText (wordAnswer w) ≡ stmtWord ++ number (w - 131072)
+  pub says-statement : 2 ≤ w → w < unjudgedExpressionBase → answerText (wordAnswer w) ≡ stmtWord ++ number (w - statementBase)
   unfolding answerText wordAnswer
-  says-statement l u = rw (le-ltb w 1 (omega arith), le-ltb w 2 l, lt-ltb w 196608 u)
+  says-statement l u = rw (le-ltb w 1 (omega arith), le-ltb w 2 l, lt-ltb w unjudgedExpressionBase u)
 
-  pub says-expression : 196608 ≤ w → w < 262144 → answerText (wordAnswer w) ≡ (unjudgedName ++ exprWord) ++ number (w - 196608)
+  pub says-expression : unjudgedExpressionBase ≤ w → w < unjudgedStatementBase → answerText (wordAnswer w) ≡ (unjudgedName ++ exprWord) ++ number (w - unjudgedExpressionBase)
   unfolding answerText wordAnswer
-  says-expression l u = rw (le-ltb w 1 (omega arith), le-ltb w 2 (omega arith), le-ltb w 196608 l, lt-ltb w 262144 u)
+  says-expression l u = rw (le-ltb w 1 (omega arith), le-ltb w 2 (omega arith), le-ltb w unjudgedExpressionBase l, lt-ltb w unjudgedStatementBase u)
 
-  pub says-unjudged : 262144 ≤ w → w < 4294967296 → answerText (wordAnswer w) ≡ (unjudgedName ++ stmtWord) ++ number (w - 262144)
+  pub says-unjudged : unjudgedStatementBase ≤ w → w < refusalUnit → answerText (wordAnswer w) ≡ (unjudgedName ++ stmtWord) ++ number (w - unjudgedStatementBase)
   unfolding answerText wordAnswer
-  says-unjudged l u = rw (le-ltb w 1 (omega arith), le-ltb w 2 (omega arith), le-ltb w 196608 (omega arith), le-ltb w 262144 l, lt-ltb w 4294967296 u)
+  says-unjudged l u = rw (le-ltb w 1 (omega arith), le-ltb w 2 (omega arith), le-ltb w unjudgedExpressionBase (omega arith), le-ltb w unjudgedStatementBase l, lt-ltb w refusalUnit u)
 
-  pub says-refused : 4294967296 ≤ w → answerText (wordAnswer w) ≡ refusedWord ++ number (w / 4294967296)
+  pub says-refused : refusalUnit ≤ w → answerText (wordAnswer w) ≡ refusedWord ++ number (w / refusalUnit)
   unfolding answerText wordAnswer
-  says-refused l = rw (le-ltb w 1 (omega arith), le-ltb w 2 (omega arith), le-ltb w 196608 (omega arith), le-ltb w 262144 (omega arith), le-ltb w 4294967296 l)
+  says-refused l = rw (le-ltb w 1 (omega arith), le-ltb w 2 (omega arith), le-ltb w unjudgedExpressionBase (omega arith), le-ltb w unjudgedStatementBase (omega arith), le-ltb w refusalUnit l)
 
 -- past clear and the start no number is below those of statements
-past-start : (a : Answer) → Roomy a → 2 ≤ checkWord a → 131072 ≤ checkWord a
+past-start : (a : Answer) → Roomy a → 2 ≤ checkWord a → statementBase ≤ checkWord a
 unfolding checkWord
 past-start clear h l = absurd (omega arith)
 past-start atStart h l = absurd (omega arith)
@@ -51,7 +51,7 @@ past-start (unjudgedExpression e) h l = omega arith
 past-start (unjudgedStatement s) h l = omega arith
 past-start (refused n) h l = omega (arith, h .0)
 
-pub names-something : {w : ℕ} → Numbered w → 2 ≤ w → 131072 ≤ w
+pub names-something : {w : ℕ} → Numbered w → 2 ≤ w → statementBase ≤ w
 names-something {w} N l = rw (N .is) (past-start (N .answer) (N .roomy) (rw (N .is) at l))
 
 -- a name and a number

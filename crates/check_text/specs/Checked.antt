@@ -13,7 +13,6 @@ use Rattle.request.specs.Context.{writeContext}
 use Rattle.walk.specs.Proper.{FineContext}
 use Rattle.memory.specs.Memory.{read, contextAt, Memory}
 use Rattle.state.specs.Ready.{WasRead}
-use Rattle.pruner.specs.Filed.{NamedContext}
 use Rattle.lines.specs.Reported.{reportIn}
 use Rattle.clearance.specs.Verdict.{Answer}
 use Rattle.checking.specs.Word.{checkWord, Roomy}
@@ -40,7 +39,6 @@ pub record Judging (bytes t s rs open-marks : List ℕ) (k : ℕ) (request : Lis
   pub memory : Memory s rs
   pub high : k + 4 ≤ length rs
   pub context : FineContext (moduleOf bytes t) (q .function) (contextAt (read s rs) k)
-  pub named : NamedContext (contextAt (read s rs) k)
   pub few : pieces (contextAt (read s rs) k) ≤ 2 * maxPieces
   pub long : minReport ≤ length open-marks
 

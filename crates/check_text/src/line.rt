@@ -1,4 +1,8 @@
 // The last line of what `report` prints, from the number of the check.
+use checking::words::REFUSAL;
+use checking::words::STATEMENT;
+use checking::words::UNJUDGED_EXPRESSION;
+use checking::words::UNJUDGED_STATEMENT;
 use lines::text::write_byte;
 use lines::text::write_number;
 use lines::text::write_word;
@@ -12,15 +16,6 @@ ghost use Rattle.check_text.specs.Checked.{maxLine, Numbered};
 
 // The most bytes of the line.
 pub const MAX_LINE: usize = 31;
-
-// From these numbers on what is named is a statement, an expression or a statement that is not judged, or a refusal.
-const STATEMENT: u64 = 131072;
-
-const UNJUDGED_EXPRESSION: u64 = 196608;
-
-const UNJUDGED_STATEMENT: u64 = 262144;
-
-const REFUSAL: u64 = 4294967296;
 
 fn write_named(out: &mut [u8], at: usize, name: &[u8], n: u32) -> usize
     requires { ⌜ Fits at (now name ++ number n) ⌝ }

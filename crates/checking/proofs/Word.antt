@@ -4,25 +4,25 @@ use native.Mathlib.Omega.{arith}
 use mathlib.Core.Path.{_≡_, refl, ap, _∙_}
 use borrow.Author.Tests.{lt-ltb, le-ltb}
 use Rattle.clearance.specs.Verdict.{Answer, clear, atStatement, atStart, unjudgedExpression, unjudgedStatement, refused}
-use Rattle.checking.specs.Word.{checkWord, Roomy, wordAnswer}
+use Rattle.checking.specs.Word.{statementBase, unjudgedExpressionBase, unjudgedStatementBase, refusalUnit, checkWord, Roomy, wordAnswer}
 
 -- what a number in each range says
 module _ (w : ℕ) where
-  names-statement : 2 ≤ w → w < 196608 → wordAnswer w ≡ atStatement (w - 131072)
+  names-statement : 2 ≤ w → w < unjudgedExpressionBase → wordAnswer w ≡ atStatement (w - statementBase)
   unfolding wordAnswer
-  names-statement l u = rw (le-ltb w 1 (omega arith), le-ltb w 2 l, lt-ltb w 196608 u)
+  names-statement l u = rw (le-ltb w 1 (omega arith), le-ltb w 2 l, lt-ltb w unjudgedExpressionBase u)
 
-  names-expression : 196608 ≤ w → w < 262144 → wordAnswer w ≡ unjudgedExpression (w - 196608)
+  names-expression : unjudgedExpressionBase ≤ w → w < unjudgedStatementBase → wordAnswer w ≡ unjudgedExpression (w - unjudgedExpressionBase)
   unfolding wordAnswer
-  names-expression l u = rw (le-ltb w 1 (omega arith), le-ltb w 2 (omega arith), le-ltb w 196608 l, lt-ltb w 262144 u)
+  names-expression l u = rw (le-ltb w 1 (omega arith), le-ltb w 2 (omega arith), le-ltb w unjudgedExpressionBase l, lt-ltb w unjudgedStatementBase u)
 
-  names-unjudged : 262144 ≤ w → w < 4294967296 → wordAnswer w ≡ unjudgedStatement (w - 262144)
+  names-unjudged : unjudgedStatementBase ≤ w → w < refusalUnit → wordAnswer w ≡ unjudgedStatement (w - unjudgedStatementBase)
   unfolding wordAnswer
-  names-unjudged l u = rw (le-ltb w 1 (omega arith), le-ltb w 2 (omega arith), le-ltb w 196608 (omega arith), le-ltb w 262144 l, lt-ltb w 4294967296 u)
+  names-unjudged l u = rw (le-ltb w 1 (omega arith), le-ltb w 2 (omega arith), le-ltb w unjudgedExpressionBase (omega arith), le-ltb w unjudgedStatementBase l, lt-ltb w refusalUnit u)
 
-  names-refusal : 4294967296 ≤ w → wordAnswer w ≡ refused (w / 4294967296)
+  names-refusal : refusalUnit ≤ w → wordAnswer w ≡ refused (w / refusalUnit)
   unfolding wordAnswer
-  names-refusal l = rw (le-ltb w 1 (omega arith), le-ltb w 2 (omega arith), le-ltb w 196608 (omega arith), le-ltb w 262144 (omega arith), le-ltb w 4294967296 l)
+  names-refusal l = rw (le-ltb w 1 (omega arith), le-ltb w 2 (omega arith), le-ltb w unjudgedExpressionBase (omega arith), le-ltb w unjudgedStatementBase (omega arith), le-ltb w refusalUnit l)
 
 pub word-answer : (a : Answer) → Roomy a → wordAnswer (checkWord a) ≡ a
 unfolding checkWord wordAnswer

@@ -6,13 +6,25 @@ use Rattle.clearance.specs.Verdict.{Answer, clear, atStatement, atStart, unjudg
 
 -- A refusal's number stands from 2^32 on. Below it: 0 is clear, 1 the start; else the bits from 2^16 on say what is named, 2 a statement, 3 an expression that is not judged, 4 a
 -- statement that is not, and those below them its number.
+abbrev pub statementBase : ℕ
+statementBase = 131072
+
+abbrev pub unjudgedExpressionBase : ℕ
+unjudgedExpressionBase = 196608
+
+abbrev pub unjudgedStatementBase : ℕ
+unjudgedStatementBase = 262144
+
+abbrev pub refusalUnit : ℕ
+refusalUnit = 4294967296
+
 unfoldable pub checkWord : Answer → ℕ
 checkWord clear = 0
 checkWord atStart = 1
-checkWord (atStatement s) = 131072 + s
-checkWord (unjudgedExpression e) = 196608 + e
-checkWord (unjudgedStatement s) = 262144 + s
-checkWord (refused n) = 4294967296 * n
+checkWord (atStatement s) = statementBase + s
+checkWord (unjudgedExpression e) = unjudgedExpressionBase + e
+checkWord (unjudgedStatement s) = unjudgedStatementBase + s
+checkWord (refused n) = refusalUnit * n
 
 -- numbers for which there is room
 abbrev pub Roomy : Answer → Type 0
@@ -27,6 +39,6 @@ unfoldable pub wordAnswer : ℕ → Answer
 wordAnswer w =
     cond (ltb w 1) clear
     (cond (ltb w 2) atStart
-    (cond (ltb w 196608) (atStatement (w - 131072))
-    (cond (ltb w 262144) (unjudgedExpression (w - 196608))
-    (cond (ltb w 4294967296) (unjudgedStatement (w - 262144)) (refused (w / 4294967296))))))
+    (cond (ltb w unjudgedExpressionBase) (atStatement (w - statementBase))
+    (cond (ltb w unjudgedStatementBase) (unjudgedExpression (w - unjudgedExpressionBase))
+    (cond (ltb w refusalUnit) (unjudgedStatement (w - unjudgedStatementBase)) (refused (w / refusalUnit))))))

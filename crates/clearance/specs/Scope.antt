@@ -7,6 +7,7 @@ use mathlib.Core.Option.{Option, some, none as nothing}
 use lib.Dec.{ltb, eqb}
 use lib.ListN.{length, getD}
 use Rattle.part.specs.PartReq.{spine}
+pub use Rattle.part.specs.PartReq.{variable}
 use Rattle.module.specs.Module.{TypeHandle, TypeInner, Scalar, Vector, Matrix, Atomic, Pointer, Array, Struct, BindingArray, Opaque, Member}
 use Rattle.module.specs.Module.{ExpressionHandle, Expression, Typed, Function, FunctionResult, FunctionArg, Module}
 use Rattle.module.specs.Module.{Literal, ZeroValue, WorkGroupUniformLoadResult, AccessIndex, Access, Constant, Splat, Swizzle, Compose}
@@ -116,10 +117,6 @@ pub data Slot : Type 0 where
   argument : ℕ → Slot
   result : Slot
   evaluated : ExpressionHandle → Slot
-
--- the index of a variable's own entry, apart from those of parts
-abbrev pub variable : ℕ → ℕ
-variable n = spine + n
 
 -- A place is a path: the slot's, and then one into its value.
 abbrev pub Place : Type 0

@@ -3,16 +3,18 @@
 use Prim.Native.Nat.{ℕ, zero, suc, _+_, _<_, _≤_}
 use native.Mathlib.Omega.{arith}
 use native.Mathlib.Decide.{ℕ-discrete}
-use mathlib.Core.Path.{_≡_, refl, sym, _∙_}
+use mathlib.Core.Path.{_≡_, refl, _∙_}
 use mathlib.Core.Logic.{_⊎_, inl, inr}
 use mathlib.Core.List.{List, [], _∷_, map}
 use lib.ListN.{length, getD}
-use borrow.Author.Tests.{lt-ltb, le-ltb}
+use borrow.Author.Tests.{lt-ltb}
 use Rattle.part.specs.PartReq.{PartReq, all, exist, none, more}
+use Rattle.part.specs.Insert.{insert}
 use Rattle.part.specs.Ascending.{From}
-use Rattle.part.proofs.Equations.{way, before, after, at}
+use Rattle.part.proofs.Equations.{way, before, after, at, insert-before, insert-at, insert-after}
+use Rattle.part.proofs.Ascending.{from-insert}
 use Rattle.context.specs.Wgsl.{Letter, named, x, y, z, w, r, g, b, a, Picks, first, later}
-use Rattle.context.specs.Swizzle.{asks, insert, isFlat, collected, swizzled}
+use Rattle.context.specs.Swizzle.{asks, isFlat, collected, swizzled}
 use Rattle.context.specs.Components.{times, Whole, Picked, Agrees}
 use Rattle.context.proofs.Wgsl.{times-at, times-off, times-none}
 
@@ -20,29 +22,13 @@ use Rattle.context.proofs.Wgsl.{times-at, times-off, times-none}
 abbrev asked : PartReq → ℕ → ℕ
 asked p c = times p (c ∷ [])
 
-module _ (c i : ℕ) (q p m : PartReq) where
-  insert-before : c < i → insert c q (more i p m) ≡ more c q (more i p m)
-  unfolding insert
-  insert-before h = simp (lt-ltb c i h)
-
-  insert-after : i < c → insert c q (more i p m) ≡ more i p (insert c q m)
-  unfolding insert
-  insert-after h = let k : i ≤ c = omega arith in simp (le-ltb c i k, lt-ltb i c h)
-
-  insert-at : i ≡ c → insert c q (more i p m) ≡ more i q m
-  unfolding insert
-  insert-at e =
-      let h : i ≤ c = omega arith in
-      let l : c ≤ i = omega arith in
-      simp (le-ltb c i h, le-ltb i c l)
-
 -- an entry of which all is asked counts one
 one-more : (c i : ℕ) (m : PartReq) → i ≡ c → asked (more i all m) c ≡ 1 + asked m c
 one-more c i m e = times-at all c [] i m e ∙ (unfold times in refl)
 
 module _ (c : ℕ) where
   -- the entry that is put in is asked
-  inserted : (m : PartReq) → 0 < asked (insert c all m) c
+  inserted : (m : PartReq) → 0 < asked (insert m c all) c
   inserted all = unfold insert in omega (arith, one-more c c none refl)
   inserted exist = unfold insert in omega (arith, one-more c c none refl)
   inserted none = unfold insert in omega (arith, one-more c c none refl)
@@ -50,12 +36,12 @@ module _ (c : ℕ) where
       let ih = inserted m in
       elim (way c i) [
         | before h ↦ rw (insert-before c i all p m h) (omega (arith, one-more c c (more i p m) refl))
-        | after h ↦ rw (insert-after c i all p m h) (rw (times-off p c [] i (insert c all m) (omega arith)) ih)
-        | at e ↦ rw (insert-at c i all p m (sym e)) (omega (arith, one-more c i m (sym e)))
+        | after h ↦ rw (insert-after c i all p m h) (rw (times-off p c [] i (insert m c all) (omega arith)) ih)
+        | at e ↦ rw (insert-at c i all p m e) (omega (arith, one-more c c m refl))
       ]
 
   -- and of the others nothing changes
-  not-inserted : (d : ℕ) → (c ≡ d → ⊥) → (m : PartReq) → asked (insert c all m) d ≡ asked m d
+  not-inserted : (d : ℕ) → (c ≡ d → ⊥) → (m : PartReq) → asked (insert m c all) d ≡ asked m d
   not-inserted d n all = unfold insert times in (times-off all d [] c none n)
   not-inserted d n exist = unfold insert times in (times-off all d [] c none n)
   not-inserted d n none = unfold insert in (times-off all d [] c none n)
@@ -66,26 +52,15 @@ module _ (c : ℕ) where
         | after h ↦
             rw (insert-after c i all p m h)
             (elim (ℕ-discrete i d) [
-              | yes e ↦ rw (times-at p d [] i (insert c all m) e, times-at p d [] i m e, ih)
-              | no e ↦ rw (times-off p d [] i (insert c all m) e, times-off p d [] i m e, ih)
+              | yes e ↦ rw (times-at p d [] i (insert m c all) e, times-at p d [] i m e, ih)
+              | no e ↦ rw (times-off p d [] i (insert m c all) e, times-off p d [] i m e, ih)
             ])
         | at e ↦
             let o : i ≡ d → ⊥ = omega arith in
-            rw (insert-at c i all p m (sym e), times-off all d [] i m o, times-off p d [] i m o)
+            rw (insert-at c i all p m e, times-off all d [] c m n, times-off p d [] i m o)
       ]
 
-  insert-from : (k : ℕ) (m : PartReq) → k ≤ c → From k m → From k (insert c all m)
-  insert-from k all h f = absurd f
-  insert-from k exist h f = absurd f
-  insert-from k none h f = unfold insert in (h, (tt, tt))
-  insert-from k (more i p m) h f =
-      elim (way c i) [
-        | before l ↦ rw (insert-before c i all p m l) (h, (tt, (l, f .1)))
-        | after l ↦ rw (insert-after c i all p m l) (f .0, (f .1 .0, insert-from (suc i) m l (f .1 .1)))
-        | at e ↦ rw (insert-at c i all p m (sym e)) (f .0, (tt, f .1 .1))
-      ]
-
-  insert-whole : (n : ℕ) (m : PartReq) → c < n → Whole n m → Whole n (insert c all m)
+  insert-whole : (n : ℕ) (m : PartReq) → c < n → Whole n m → Whole n (insert m c all)
   insert-whole n all h f = absurd f
   insert-whole n exist h f = absurd f
   insert-whole n none h f = unfold insert in (h, (refl, tt))
@@ -93,7 +68,7 @@ module _ (c : ℕ) where
       elim (way c i) [
         | before l ↦ rw (insert-before c i all p m l) (h, (refl, f))
         | after l ↦ rw (insert-after c i all p m l) (f .0, (f .1 .0, insert-whole n m h (f .1 .1)))
-        | at e ↦ rw (insert-at c i all p m (sym e)) (f .0, (refl, f .1 .1))
+        | at e ↦ rw (insert-at c i all p m e) (h, (refl, f .1 .1))
       ]
 
 -- what ascends asks a component once at most
@@ -146,13 +121,13 @@ record Collected (letters : List Letter) (p m s : PartReq) : Type 0 where
 module _ (letters : List Letter) (short : length letters ≤ 4) where
   -- the entry i goes to the component that its letter names
   entry-step : (i : ℕ) (p e m : PartReq) → i < length letters → p ≡ all
-      → collected (map named letters) (more i p e) m ≡ collected (map named letters) e (insert (letterAt letters i) all m)
+      → collected (map named letters) (more i p e) m ≡ collected (map named letters) e (insert m (letterAt letters i) all)
   unfolding collected isFlat
   entry-step i p e m h q = let k : i < 4 = omega arith in rw q (simp (lt-ltb i 4 k))
 
   -- what is asked with the entry i put in: it was before, or it is picked
   from-entry : (i : ℕ) (p e m : PartReq) (c : ℕ) → i < length letters → p ≡ all
-      → (0 < asked (insert (letterAt letters i) all m) c) ⊎ Picked letters e c → (0 < asked m c) ⊎ Picked letters (more i p e) c
+      → (0 < asked (insert m (letterAt letters i) all) c) ⊎ Picked letters e c → (0 < asked m c) ⊎ Picked letters (more i p e) c
   from-entry i p e m c h q (inl f) =
       elim (ℕ-discrete (letterAt letters i) c) [
         | yes o ↦
@@ -174,7 +149,7 @@ module _ (letters : List Letter) (short : length letters ≤ 4) where
       })
 
   entry-done : (i : ℕ) (p e m s : PartReq) → i < length letters → p ≡ all
-      → Collected letters e (insert (letterAt letters i) all m) s → Collected letters (more i p e) m s
+      → Collected letters e (insert m (letterAt letters i) all) s → Collected letters (more i p e) m s
   entry-done i p e m s h q k = record {
     is = entry-step i p e m h q ∙ k .is;
     climbs = k .climbs;
@@ -211,7 +186,7 @@ module _ (letters : List Letter) (short : length letters ≤ 4) where
   collects (more i p e) m h f k =
       let n = letterAt letters i in
       let ih =
-      collects e (insert n all m) (h .1 .1) (insert-from n 0 m (omega arith) f) (insert-whole n 4 m (letter-low letters i) k) in
+      collects e (insert m n all) (h .1 .1) (from-insert 0 n all m f (omega arith) tt) (insert-whole n 4 m (letter-low letters i) k) in
       (ih .0, entry-done i p e m (ih .0) (h .0) (h .1 .0) (ih .1))
 
   part-is : (p s : PartReq) → Whole (length letters) p → collected (map named letters) p none ≡ asks s → swizzled (map named letters) p ≡ asks s

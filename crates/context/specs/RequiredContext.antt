@@ -3,16 +3,13 @@
 use Prim.Native.Nat.{ℕ, _+_}
 use mathlib.Core.Bool.{Bool, cond, _&&_, _||_}
 use mathlib.Core.List.{List}
-use mathlib.Core.Option.{some}
+use mathlib.Core.Option.{Option, some, none as nothing}
 use lib.Dec.{ltb}
 use lib.ListN.{getD}
-use Rattle.part.specs.PartReq.{PartReq, all, exist, none, more, Subpart, getSubpart, add, contains, entries, over, spine}
+use Rattle.part.specs.PartReq.{PartReq, all, exist, none, more, Subpart, getSubpart, add, contains, entries, over}
+pub use Rattle.part.specs.PartReq.{variable}
 use Rattle.module.specs.Module.{TypeHandle, TypeInner, GlobalHandle, LocalHandle, Function, Module}
 use Rattle.context.specs.Remove.{Removed, left, panic, refusal, _>>=_, remove}
-
--- the index of the entry of a global, a local or an argument
-abbrev pub variable : ℕ → ℕ
-variable n = spine + n
 
 -- the returned value has the index `variable 0`, where it is asked for at all
 pub record RequiredContext : Type 0 where
@@ -20,6 +17,11 @@ pub record RequiredContext : Type 0 where
   pub locals : PartReq
   pub args : PartReq
   pub retval : PartReq
+
+-- the returned value's entry in a context, where p is asked of it
+unfoldable pub returnEntry : (p : Option PartReq) → PartReq
+returnEntry nothing = none
+returnEntry (some p) = more (variable 0) p none
 
 -- the context in which nothing is needed
 abbrev pub emptyContext : RequiredContext

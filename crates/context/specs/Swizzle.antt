@@ -5,19 +5,12 @@ use mathlib.Core.List.{List}
 use lib.Dec.{ltb}
 use lib.ListN.{getD}
 use Rattle.part.specs.PartReq.{PartReq, all, exist, none, more}
+use Rattle.part.specs.Insert.{insert}
 
 -- what is asked, or the panic: at an index that the four letters do not have, and at a part below a component
 pub data Swizzled : Type 0 where
   asks : PartReq → Swizzled
   panics : Swizzled
-
--- the entry `c: q` put into a map, over the one that the index has
-unfoldable pub insert : ℕ → PartReq → PartReq → PartReq
-insert c q all = more c q none
-insert c q exist = more c q none
-insert c q none = more c q none
-insert c q (more i p r) =
-    cond (ltb c i) (more c q (more i p r)) (cond (ltb i c) (more i p (insert c q r)) (more i q r))
 
 -- what the assertion asks: all or exist
 unfoldable pub isFlat : PartReq → Bool
@@ -33,7 +26,7 @@ collected pattern all picked = asks picked
 collected pattern exist picked = asks picked
 collected pattern none picked = asks picked
 collected pattern (more i q r) picked =
-    cond (ltb i 4 && isFlat q) (collected pattern r (insert (getD pattern i 0) q picked)) panics
+    cond (ltb i 4 && isFlat q) (collected pattern r (insert picked (getD pattern i 0) q)) panics
 
 -- `swizzled_req`
 unfoldable pub swizzled : List ℕ → PartReq → Swizzled

@@ -6,9 +6,9 @@ use mathlib.Core.Bool.{Bool, true, false, cond}
 use mathlib.Core.List.{List, [], _∷_}
 use mathlib.Core.Option.{Option, some, none as nothing}
 use Rattle.part.specs.PartReq.{PartReq}
-use Rattle.context.specs.RequiredContext.{RequiredContext}
+use Rattle.context.specs.RequiredContext.{RequiredContext, returnEntry}
 use Rattle.request.specs.Fields.{Read, malformed, got, _>>=_, whole}
-use Rattle.request.specs.Part.{readReturn, readVariables, asked}
+use Rattle.request.specs.Part.{readReturn, readVariables}
 use Rattle.request.specs.Context.{readLists, readContextBody, isContext, contextOf}
 use Rattle.request.specs.Answers.{from}
 
@@ -40,7 +40,7 @@ pub record Accepted (b : List ℕ) (c : RequiredContext) : Type 0 where
   pub locals : List ℕ
   pub framed : isContext b ≡ true
   pub return-is : readReturn (from b 6) ≡ got retval lists
-  pub returned : c .retval ≡ asked retval
+  pub returned : c .retval ≡ returnEntry retval
   pub globals-is : readVariables lists ≡ got (c .globals) args
   pub args-is : readVariables args ≡ got (c .args) locals
   pub locals-is : readVariables locals ≡ got (c .locals) []
@@ -57,7 +57,7 @@ accepted {b} {c} e =
     let args : a .value ≡ c .args = cc in
     let locals : l .value ≡ c .locals = cc in
     let none-left : l .left ≡ [] = cc in
-    let returned : c .retval ≡ asked (r .value) = cc in
+    let returned : c .retval ≡ returnEntry (r .value) = cc in
     record {
       retval = r .value;
       lists = r .left;

@@ -11,9 +11,9 @@ use borrow.Author.Tests.{eq-eqb}
 use Rattle.field.specs.Field.{fieldAt}
 use Rattle.field.specs.Limits.{maxDepth}
 use Rattle.part.specs.PartReq.{PartReq, more, entries, spine}
-use Rattle.context.specs.RequiredContext.{RequiredContext, pieces}
+use Rattle.context.specs.RequiredContext.{RequiredContext, pieces, returnEntry}
 use Rattle.request.specs.Fields.{Read, malformed, got, _>>=_}
-use Rattle.request.specs.Part.{readPart, readEntries, readReturn, readVariables, asked}
+use Rattle.request.specs.Part.{readPart, readEntries, readReturn, readVariables}
 use Rattle.request.specs.Context.{isContext}
 use Rattle.request.specs.Answers.{from}
 use Rattle.request.proofs.Bytes.{from-cons, from-end}
@@ -166,7 +166,7 @@ unfolding countedReturn
 return-ends b at h = record { is = sym (ap countedReturn (return-end b at h)); placed = tt }
 
 some-part : (r : Read PartReq) {n : ℕ} {fs : List ℕ} → counted r ≡ got n fs → got (n + 1) fs ≡ countedReturn (r >>= λ p gs. got (some p) gs)
-unfolding counted countedReturn asked entries
+unfolding counted countedReturn returnEntry entries
 some-part malformed e = let z : _≡_ {A = ℕ} 0 1 = cc in absurd (omega arith)
 some-part (got p gs) {n} {fs} e =
     let many : entries p ≡ n = cc in
@@ -181,7 +181,7 @@ no-part (got p gs) e = let z : _≡_ {A = ℕ} 0 1 = cc in absurd (omega arith)
 
 module _ {b : List ℕ} {at i : ℕ} (f : Field b at i) where
   pub return-nothing : i ≡ 3 → Counts b (at - 2) (countedReturn (readReturn (from b at))) (Next 0 (at + 2))
-  unfolding readReturn countedReturn asked entries
+  unfolding readReturn countedReturn returnEntry entries
   return-nothing e =
       record {
         is = rw (from-cons b at (f .inside), eq-eqb (fieldAt b at) 3 (sym (f .is) ∙ e));
@@ -224,7 +224,7 @@ module _ (b : List ℕ) where
   pub no-frame : {r : Bool} → r ≡ isContext b → r ≡ false → PiecesCounted b 0
   no-frame is h = record { is = λ c k. let f = accepted k .framed in let z : _≡_ {A = ℕ} 0 1 = cc in absurd (omega arith) }
 
-  return-tallied : (v : Read (Option PartReq)) {o : Option PartReq} {fs gs : List ℕ} {n : ℕ} → v ≡ got o fs → countedReturn v ≡ got n gs → (n ≡ entries (asked o)) × (fs ≡ gs)
+  return-tallied : (v : Read (Option PartReq)) {o : Option PartReq} {fs gs : List ℕ} {n : ℕ} → v ≡ got o fs → countedReturn v ≡ got n gs → (n ≡ entries (returnEntry o)) × (fs ≡ gs)
   unfolding countedReturn
   return-tallied malformed e f = let z : _≡_ {A = ℕ} 0 1 = cc in absurd (omega arith)
   return-tallied (got o hs) e f = (cc, cc)

@@ -10,9 +10,9 @@ use borrow.Author.Tests.{eq-eqb, ne-eqb}
 use Rattle.field.specs.Field.{fieldAt}
 use Rattle.field.specs.Limits.{maxDepth}
 use Rattle.part.specs.PartReq.{PartReq, spine}
-use Rattle.context.specs.RequiredContext.{RequiredContext, variable}
+use Rattle.context.specs.RequiredContext.{RequiredContext, variable, returnEntry}
 use Rattle.request.specs.Fields.{Read, malformed, got, _>>=_, whole, refused, accepted}
-use Rattle.request.specs.Part.{readPart, readEntries, readReturn, readVariables, asked}
+use Rattle.request.specs.Part.{readPart, readEntries, readReturn, readVariables}
 use Rattle.request.specs.Request.{allBelow}
 use Rattle.request.specs.Context.{readLists, isContext, contextOf, knownContext, judgeContext, finishContext}
 use Rattle.request.specs.Answers.{from}
@@ -134,7 +134,7 @@ module _ (globals args locals : ℕ) {b : List ℕ} {at : ℕ} {a : Checked}
 
         module _ (done : length b < z + 2) where
           found : Option PartReq → RequiredContext
-          found p = record { globals = the-globals .list; locals = the-locals .list; args = the-args .list; retval = asked p }
+          found p = record { globals = the-globals .list; locals = the-locals .list; args = the-args .list; retval = returnEntry p }
 
           finished : (p : Option PartReq) → finishContext globals args locals p (from b at)
               ≡ cond (knownContext globals args locals (found p)) (accepted (found p)) (refused 11)

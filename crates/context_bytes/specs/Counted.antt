@@ -5,9 +5,9 @@ use mathlib.Core.List.{List}
 use mathlib.Core.Option.{Option, some}
 use lib.ListN.{length}
 use Rattle.part.specs.PartReq.{PartReq, entries}
-use Rattle.context.specs.RequiredContext.{RequiredContext, pieces}
+use Rattle.context.specs.RequiredContext.{RequiredContext, pieces, returnEntry}
 use Rattle.request.specs.Fields.{Read, malformed, got}
-use Rattle.request.specs.Part.{readPart, readEntries, asked}
+use Rattle.request.specs.Part.{readPart, readEntries}
 use Rattle.request.specs.Context.{contextOf}
 use Rattle.request.specs.Answers.{from}
 use Rattle.context_bytes.specs.declared.count.Counted.{Counted}
@@ -21,7 +21,7 @@ counted (got p fs) = got (entries p) fs
 -- the same of a return part
 unfoldable pub countedReturn : Read (Option PartReq) → Read ℕ
 countedReturn malformed = malformed
-countedReturn (got o fs) = got (entries (asked o)) fs
+countedReturn (got o fs) = got (entries (returnEntry o)) fs
 
 abbrev pub countAnswer : List ℕ → Counted → Read ℕ
 countAnswer b Malformed = malformed

@@ -10,7 +10,7 @@ use Rattle.part.specs.Collect.{cellsOf}
 use Rattle.module.specs.Decode.{optionOf}
 use Rattle.valid.specs.Valid.{MaybeBelow}
 use Rattle.clearance.specs.Scope.{Scope, expressionsOf}
-use Rattle.asked.specs.Within.{Read, Judged}
+use Rattle.framed.specs.Given.{Read, Judged}
 use Rattle.pass.specs.Pass.{workBound}
 use Rattle.hold.specs.Hold.{heldBy, inSlot, Live}
 use Rattle.standing.specs.Slots.{tableSize, stackSlot, Ready}

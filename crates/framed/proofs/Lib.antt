@@ -6,4 +6,3 @@ pub mod Paths
 pub mod Takes
 pub mod Framed
 pub mod Kept
-pub mod Width

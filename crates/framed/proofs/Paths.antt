@@ -1,19 +1,18 @@
 -- Where the paths of a judged function lead: by induction along a path's indexes, each within what its base leads to.
-use Prim.Native.Nat.{ℕ, _<_}
+use Prim.Native.Nat.{ℕ, zero, suc, _<_, _≤_}
 use native.Mathlib.Omega.{arith}
 use mathlib.Core.Path.{_≡_, refl, sym, ap, subst, _∙_}
 use mathlib.Core.Bool.{true, false, not}
 use mathlib.Core.List.{List, [], _∷_, _++_}
 use mathlib.Core.Option.{some}
 use lib.ListN.{length}
-use borrow.Author.Tests.{ne-eqb, lt-ltb}
 use Rattle.part.proofs.Equations.{never}
 use Rattle.module.specs.Module.{TypeHandle, TypeInner, ExpressionHandle, Expression, AccessIndex, Access}
 use Rattle.module.specs.Knot.{below}
 use Rattle.module.proofs.Knot.{knot-is, below-lt}
-use Rattle.valid.specs.Valid.{NamesBelow}
-use Rattle.clearance.specs.Shape.{Shape, array, member, isVoid, shapeAt}
-use Rattle.clearance.specs.Scope.{Scope, inner, vectorShape, elements, unfoldType, shapeOf, typed, noExpression, Slot, global, local, slot, frame, Step, at, by, Path, nowhere, further}
+use Rattle.valid.specs.Valid.{EachBelow, OperandsBelow, NamesBelow}
+use Rattle.clearance.specs.Shape.{member, isVoid, shapeAt}
+use Rattle.clearance.specs.Scope.{Scope, inner, vectorShape, unfoldType, shapeOf, typed, Slot, global, local, slot, frame, Step, at, by, Path, nowhere, further}
 use Rattle.clearance.specs.Scope.{stepFrom, pathOf, front, indexes, target, isPath, isPointer, typeOf}
 use Rattle.clearance.specs.Judged.{partType, pointee, same, fitsIndex, fitsVariable, fitsExpression, holdsEither, judgedExpression}
 use Rattle.clearance.specs.IsJudged.{Declares, global as aGlobal, local as aLocal, IndexOf, constant, dynamic, IsPath, ends, goesOn, Part, component, column, element, member as aMember}
@@ -21,13 +20,12 @@ use Rattle.clearance.proofs.Small.{both-true}
 use Rattle.clearance.proofs.Values.{nil-right, regroup}
 use Rattle.clearance.proofs.Relations.{path-exactly, part-of, same-part}
 use Rattle.judge.specs.Alike.{Lower}
-use Rattle.judge.proofs.Equivalence.{lower-types}
 use Rattle.needs.proofs.Lean.{solid-void}
-use Rattle.framed.specs.Given.{Lowered, Judged}
+use Rattle.framed.specs.Given.{Read, Judged}
 use Rattle.framed.specs.Same.{SameShape}
 use Rattle.framed.specs.Places.{There, slotType, Placed, Landed}
 use Rattle.framed.proofs.Solid.{solid, unfold-solid}
-use Rattle.framed.proofs.Same.{same-refl, same-trans, same-member, same-void, member-in, shape-same, fits-shape}
+use Rattle.framed.proofs.Same.{same-refl, same-trans, same-member, same-void, member-in, element-member, shape-same, fits-shape}
 use Rattle.framed.proofs.Slots.{shape-on, slot-shape, slot-placed}
 
 -- One step more
@@ -56,6 +54,12 @@ indexes-at [] i = refl
 indexes-at (at j ∷ xs) i = indexes-at xs i
 indexes-at (by e ∷ xs) i = ap (λ (l : List ℕ). e ∷ l) (indexes-at xs i)
 
+indexes-more : (xs : List Step) (e : ExpressionHandle) → indexes (xs ++ (by e ∷ [])) ≡ indexes xs ++ (e ∷ [])
+unfolding indexes
+indexes-more [] e = refl
+indexes-more (at j ∷ xs) e = indexes-more xs e
+indexes-more (by d ∷ xs) e = ap (λ (l : List ℕ). d ∷ l) (indexes-more xs e)
+
 indexes-by : {A : Type 0} (xs : List Step) (e : ExpressionHandle) → indexes (xs ++ (by e ∷ [])) ≡ [] → A
 unfolding indexes
 indexes-by [] e h = never cc
@@ -78,10 +82,16 @@ dynamic-stays : (p : Path) (i j : ℕ) (is : List ℕ) → indexes (p .steps) �
 unfolding further
 dynamic-stays p i j is e z = let y : indexes (p .steps) ≡ [] = sym (indexes-at (p .steps) i) ∙ z in cc
 
--- an element that is there: its array is not of count 0
-at-element : (n i : ℕ) (s : Shape) → i < n → member (array (elements n) s) i ≡ s
-unfolding member elements
-at-element n i s l = let z : n ≡ 0 → ⊥ = λ e. omega arith in rw (ne-eqb n 0 z, lt-ltb i n l)
+-- numbers below a bound
+
+below-on : (n : ℕ) (xs : List ℕ) (x : ℕ) → EachBelow n xs → x < n → EachBelow n (xs ++ (x ∷ []))
+below-on n [] x f h zero l = h
+below-on n [] x f h (suc i) l = absurd (omega arith)
+below-on n (y ∷ xs) x f h zero l = f 0 (omega arith)
+below-on n (y ∷ xs) x f h (suc i) l = below-on n xs x (λ j m. f (suc j) (omega arith)) h i (omega arith)
+
+rise : (m n : ℕ) (xs : List ℕ) → m ≤ n → EachBelow m xs → EachBelow n xs
+rise m n xs l f i h = omega (arith, f i h)
 
 module _ (S : Scope) (L : Lower (S .program .types)) where
   -- a type's inside is no void
@@ -93,7 +103,7 @@ module _ (S : Scope) (L : Lower (S .program .types)) where
   unfolding unfoldType vectorShape
   part-shape x i t (component {n = n} l) = rw (member-in 0 n _ i (omega arith) (omega arith)) (same-refl _)
   part-shape x i t (column {columns = c} l) = rw (member-in 0 c _ i (omega arith) (omega arith)) (same-refl _)
-  part-shape x i t (element {base = base} {n = n} l) = rw (at-element n i (shapeOf S base) l) (shape-same S L base)
+  part-shape x i t (element {base = base} {n = n} l) = rw (element-member n (shapeOf S base) i l) (shape-same S L base)
   part-shape x i t (aMember {ms = ms} l) = rw (member-in 0 (length ms) _ i (omega arith) (omega arith)) (shape-same S L _)
 
   abbrev Leads : List ℕ → TypeInner → Type 0
@@ -136,13 +146,7 @@ module _ (S : Scope) (L : Lower (S .program .types)) where
   unfolding further
   land-by p e x y d = landed-as _ _ y (target-by p e) (d .place) (λ z. indexes-by (p .steps) e z)
 
-pub lower-of : (S : Scope) → Lowered S → Lower (S .program .types)
-lower-of S R = lower-types (S .program) (R .program)
-
-module _ (S : Scope) (R : Lowered S) (J : Judged S) where
-  abbrev L : Lower (S .program .types)
-  L = lower-of S R
-
+module _ (S : Scope) (R : Read S) (J : Judged S) where
   path-step : (e : ExpressionHandle) (x : Expression) → typed S e .expression ≡ x → pathOf S e ≡ stepFrom (below (pathOf S) nowhere e) x
   unfolding pathOf
   path-step e x h = knot-is (λ path k. stepFrom path (typed S k .expression)) nowhere e ∙ ap (stepFrom (below (pathOf S) nowhere e)) h
@@ -159,10 +163,7 @@ module _ (S : Scope) (R : Lowered S) (J : Judged S) where
 
   pub names-as : (e : ExpressionHandle) (x : Expression) → e < length (S .function .expressions) → typed S e .expression ≡ x →
       NamesBelow (length (S .program .globals)) (length (S .function .arguments)) (length (S .function .locals)) x
-  unfolding typed
-  names-as e x l h =
-      subst (NamesBelow (length (S .program .globals)) (length (S .function .arguments)) (length (S .function .locals))) h
-      (R .function .parts .each-expression e noExpression l .names)
+  names-as e x l h = subst (NamesBelow (length (S .program .globals)) (length (S .function .arguments)) (length (S .function .locals))) h (R .names e l)
 
   variable-same : (e : ExpressionHandle) (t : TypeHandle) → fitsVariable S e t ≡ true → same S (inner S t) (pointee S e) ≡ true
   unfolding fitsVariable
@@ -170,7 +171,7 @@ module _ (S : Scope) (R : Lowered S) (J : Judged S) where
 
   land-variable : (e : ExpressionHandle) (x : Slot) → pathOf S e ≡ record { root = slot x; steps = [] } → There S x → fitsVariable S e (slotType S x) ≡ true →
       Landed S (pathOf S e) (pointee S e)
-  land-variable e x p l h = rw p (land-root S L x (pointee S e) l (variable-same e (slotType S x) h))
+  land-variable e x p l h = rw p (land-root S (R .lower) x (pointee S e) l (variable-same e (slotType S x) h))
 
   index-part : (e b i : ℕ) → isPath S b ≡ true → fitsExpression S e (AccessIndex b i) ≡ true →
       (t : TypeInner) × (partType S (pointee S b) i ≡ some t) × (same S t (pointee S e) ≡ true)
@@ -189,9 +190,31 @@ module _ (S : Scope) (R : Lowered S) (J : Judged S) where
       indexed : (x : Expression) → typed S e .expression ≡ x → IndexOf b x → Landed S (pathOf S b) (pointee S b) → Landed S (pathOf S e) (pointee S e)
       indexed x h (constant {i = j}) d =
           let z = index-part e b j (path-exactly S b .1 p) (fits-as e x l h) in
-          rw (path-at e b j h m) (land-at S L (pathOf S b) j (pointee S b) (z .0) (pointee S e) d (part-of S (pointee S b) j (z .0) (z .1)) (z .2))
-      indexed x h (dynamic {i = j}) d = rw (path-by e b j h m) (land-by S L (pathOf S b) j (pointee S b) (pointee S e) d)
+          rw (path-at e b j h m) (land-at S (R .lower) (pathOf S b) j (pointee S b) (z .0) (pointee S e) d (part-of S (pointee S b) j (z .0) (z .1)) (z .2))
+      indexed x h (dynamic {i = j}) d = rw (path-by e b j h m) (land-by S (R .lower) (pathOf S b) j (pointee S b) (pointee S e) d)
 
   -- where a path leads
   pub landed : (e : ExpressionHandle) → e < length (S .function .expressions) → isPath S e ≡ true → Landed S (pathOf S e) (pointee S e)
   landed e l h = land e l (path-exactly S e .0 h)
+
+  -- the dynamic indexes of a path are lower than it
+
+  root-indexes : (e : ExpressionHandle) (x : Expression) {t : TypeHandle} → typed S e .expression ≡ x → Declares S x t → indexes (pathOf S e .steps) ≡ []
+  unfolding stepFrom indexes
+  root-indexes e x h aGlobal = ap (λ (z : Path). indexes (z .steps)) (path-step e x h)
+  root-indexes e x h aLocal = ap (λ (z : Path). indexes (z .steps)) (path-step e x h)
+
+  next-indexes : (e b : ExpressionHandle) (x : Expression) → e < length (S .function .expressions) → b < e → typed S e .expression ≡ x → IndexOf b x →
+      EachBelow b (indexes (pathOf S b .steps)) → EachBelow e (indexes (pathOf S e .steps))
+  unfolding further
+  next-indexes e b x l m h (constant {i = i}) f = rw (path-at e b i h m, indexes-at (pathOf S b .steps) i) (rise b e (indexes (pathOf S b .steps)) (omega arith) f)
+  next-indexes e b x l m h (dynamic {i = i}) f =
+      rw (path-by e b i h m, indexes-more (pathOf S b .steps) i)
+      (below-on e (indexes (pathOf S b .steps)) i (rise b e (indexes (pathOf S b .steps)) (omega arith) f) (subst (λ y. OperandsBelow e y) h (R .operands e l) .1))
+
+  indexes-along : (e : ExpressionHandle) → e < length (S .function .expressions) → IsPath S e → EachBelow e (indexes (pathOf S e .steps))
+  indexes-along e l (ends d) = rw (root-indexes e _ refl d) (λ i m. absurd (omega arith))
+  indexes-along e l (goesOn {base = b} i m p) = next-indexes e b _ l m refl i (indexes-along b (omega arith) p)
+
+  pub path-indexes : (e : ExpressionHandle) → e < length (S .function .expressions) → isPath S e ≡ true → EachBelow e (indexes (pathOf S e .steps))
+  path-indexes e l h = indexes-along e l (path-exactly S e .0 h)

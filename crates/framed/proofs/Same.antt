@@ -8,14 +8,15 @@ use mathlib.Core.Bool.{Bool, true, false, cond}
 use mathlib.Core.List.{List, [], _∷_, map}
 use lib.Dec.{ltb}
 use lib.ListN.{length, getD}
-use borrow.Author.Tests.{lt-ltb, le-ltb}
-use Rattle.part.specs.PartReq.{spine}
+use borrow.Author.Tests.{ne-eqb, lt-ltb, le-ltb}
+use Rattle.part.specs.PartReq.{PartReq, all, exist, none, more, spine}
 use Rattle.module.specs.Module.{TypeHandle, TypeInner, Scalar, Vector, Matrix, Atomic, Pointer, Array, Struct, BindingArray, Opaque, Member}
 use Rattle.module.specs.Knot.{below}
 use Rattle.module.proofs.Knot.{knot-is, below-lt}
-use Rattle.clearance.specs.Shape.{Shape, number, void, struct, array, member, isVoid, shapeAt}
+use Rattle.clearance.specs.Shape.{Shape, number, void, struct, array, member, isVoid, shapeAt, trim}
 use Rattle.clearance.specs.Scope.{Scope, inner, memberTypes, vectorShape, elements, unfoldType, shapeOf, kind, bases, alike}
 use Rattle.clearance.specs.Judged.{same}
+use Rattle.clearance.specs.IsNeed.{Tidy}
 use Rattle.judge.specs.Alike.{Lower}
 use Rattle.judge.proofs.Pairwise.{pairwise-long, pairwise-at, equal-lists}
 use Rattle.judge.proofs.Equivalence.{inner-parts}
@@ -26,6 +27,9 @@ use Rattle.framed.specs.Same.{Head, numberHead, voidHead, structHead, ar
 
 pub same-refl : (s : Shape) → SameShape s s
 same-refl s = record { each = λ q. refl }
+
+pub same-is : (s t : Shape) → s ≡ t → SameShape s t
+same-is s t e = rw e (same-refl t)
 
 pub same-sym : {s t : Shape} → SameShape s t → SameShape t s
 same-sym h = record { each = λ q. sym (h .each q) }
@@ -62,6 +66,20 @@ pub same-void : {s t : Shape} → SameShape s t → isVoid s ≡ isVoid t
 unfolding shapeAt
 same-void {s} {t} h = void-head s ∙ ap isVoidHead (h .each []) ∙ sym (void-head t)
 
+-- needs of the one are needs of the other
+pub same-tidy : (p : PartReq) {s t : Shape} → SameShape s t → Tidy p s → Tidy p t
+same-tidy all e h = sym (same-void e) ∙ h
+same-tidy exist e h = absurd h
+same-tidy none e h = tt
+same-tidy (more i p r) e h = (h .0, (same-tidy p (same-member i e) (h .1 .0), same-tidy r e (h .1 .1)))
+
+pub same-trim : (p : PartReq) {s t : Shape} → SameShape s t → trim p s ≡ trim p t
+unfolding trim
+same-trim all e = rw (same-void e)
+same-trim exist e = refl
+same-trim none e = refl
+same-trim (more i p r) e = rw (same-trim p (same-member i e), same-trim r e)
+
 -- Types
 unfold-head : (w v : TypeHandle → Shape) (x : TypeInner) → head (unfoldType w x) ≡ head (unfoldType v x)
 unfolding unfoldType vectorShape
@@ -93,6 +111,15 @@ member-in b n f j h l = rw (le-ltb j b h, lt-ltb j (b + n) l)
 pub member-out : (b n : ℕ) (f : ℕ → Shape) (j : ℕ) → b + n ≤ j → member (struct b n f) j ≡ void
 unfolding member
 member-out b n f j h = let l : b ≤ j = omega arith in rw (le-ltb j b l, le-ltb j (b + n) h)
+
+pub vector-member : (n j : ℕ) → j < n → member (vectorShape n) j ≡ number
+unfolding vectorShape
+vector-member n j l = member-in 0 n (λ i. number) j (omega arith) (omega arith)
+
+-- an element that is there: its array is not of count 0
+pub element-member : (n : ℕ) (t : Shape) (j : ℕ) → j < n → member (array (elements n) t) j ≡ t
+unfolding member elements
+element-member n t j l = let z : n ≡ 0 → ⊥ = λ e. omega arith in rw (ne-eqb n 0 z, lt-ltb j n l)
 
 struct-step : (n : ℕ) (f g : ℕ → Shape) (j : ℕ) → (j < n → f j ≡ g j) → member (struct 0 n f) j ≡ member (struct 0 n g) j
 struct-step n f g j h =

@@ -62,7 +62,7 @@ part-long none h = (omega arith, omega arith)
 part-long (more i p r) h =
     let child = part-long p (h .1 .0) in
     let rest = part-long r (h .1 .1) in
-    let index = number-long i (h .0) in
+    let index = number-long i (omega (arith, h .0)) in
     let inner = length-append (number i) ((58 ∷ []) ++ (textFrom p true ++ textFrom r false)) in
     let both = length-append (textFrom p true) (textFrom r false) in
     (omega (arith, child .0, rest .1), omega (arith, child .0, rest .1))

@@ -12,6 +12,7 @@ use Rattle.module.specs.File.{readModule, accepted}
 use Rattle.module.specs.declared.tables.Row.{Row}
 use Rattle.module.specs.Tables.{rowAt, expressionsFrom, itemsTo, maxItems, moduleOf}
 use Rattle.context.specs.RequiredContext.{pieces}
+use Rattle.context.specs.Contexts.{contextOf}
 use Rattle.valid.specs.Valid.{PartsValid, entriesBelow}
 use Rattle.valid.proofs.Accepted.{valid}
 use Rattle.walk.specs.State.{FunctionReq, recordPieces}
@@ -21,7 +22,7 @@ use Rattle.walk.specs.Requests.{Report, reportOf}
 use Rattle.walk.specs.Proper.{FineContext, FineRecords}
 use Rattle.sound.proofs.Bytes.{stretch-few}
 use Rattle.memory.specs.Layout.{exprsSlot}
-use Rattle.memory.specs.Memory.{read, recordsOf, contextAt, contextOf, Memory}
+use Rattle.memory.specs.Memory.{read, recordsOf, contextAt, Memory}
 use Rattle.memory.proofs.Slots.{read-at}
 use Rattle.state.specs.State.{recordsIn, stateOf}
 use Rattle.marks.specs.Places.{slice, startOf}
@@ -34,7 +35,7 @@ use Rattle.lines.proofs.Long.{ten-long, FewOwn, report-long}
 
 -- of the context in four slots
 module _ (s rs : List ℕ) (k : ℕ) (high : k + 4 ≤ length rs) where
-  pub context-there : contextAt (read s rs) k ≡ contextOf s (getD rs k 0) (getD rs (k + 1) 0) (getD rs (k + 2) 0) (getD rs (k + 3) 0)
+  pub context-there : contextAt (read s rs) k ≡ contextOf s (record { globals = getD rs k 0; locals = getD rs (k + 1) 0; args = getD rs (k + 2) 0; retval = getD rs (k + 3) 0 })
   context-there =
       rw (read-at s rs k (omega arith), read-at s rs (k + 1) (omega arith), read-at s rs (k + 2) (omega arith), read-at s rs (k + 3) (omega arith))
 

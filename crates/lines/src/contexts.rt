@@ -11,7 +11,7 @@ ghost use Prim.Native.Nat.{_-_, _<_};
 ghost use Rattle.part.specs.PartReq.{spine};
 ghost use Rattle.part.specs.Store.{Good, top, part};
 ghost use Rattle.lines.specs.Text.{lineText, variablesText, retvalText, contextText};
-ghost use Rattle.memory.specs.Memory.{contextOf};
+ghost use Rattle.context.specs.Contexts.{contextOf};
 ghost use Rattle.lines.specs.Wrote.{Fits, Wrote};
 
 // A line of a number and its requirement p.
@@ -72,8 +72,8 @@ pub fn write_retval(out: &mut [u8], at: usize, cells: &[u32], map: u32) -> usize
 // The lines of a context: globals, the returned value, arguments, locals.
 pub fn write_context(out: &mut [u8], at: usize, cells: &[u32], c: RequiredContext) -> usize
     requires { ⌜ Good (now cells) ⌝ }
-    requires { ⌜ (c .globals < top (now cells)) × (c .locals < top (now cells)) × (c .args < top (now cells)) × (c .retval < top (now cells)) × Fits at (contextText (contextOf (now cells) (c .globals) (c .locals) (c .args) (c .retval))) ⌝ }
-    ensures { λ r. ⌜ Wrote (now (out .entry)) (now (out .exit)) at (contextText (contextOf (now (cells .entry)) (c .globals) (c .locals) (c .args) (c .retval))) r ⌝ }
+    requires { ⌜ (c .globals < top (now cells)) × (c .locals < top (now cells)) × (c .args < top (now cells)) × (c .retval < top (now cells)) × Fits at (contextText (contextOf (now cells) c)) ⌝ }
+    ensures { λ r. ⌜ Wrote (now (out .entry)) (now (out .exit)) at (contextText (contextOf (now (cells .entry)) c)) r ⌝ }
 {
     let retval = write_variables(out, at, cells, b"global ", c.globals);
     let args = write_retval(out, retval, cells, c.retval);

@@ -13,11 +13,13 @@ use lib.Seq.{getD-set-same, getD-set-other}
 use borrow.Author.Tests.{lt-ltb, le-ltb}
 use Rattle.part.specs.PartReq.{PartReq, all, exist, none, more, entries, depth, width, over, isAll, isExist, spine}
 use Rattle.field.specs.Limits.{maxDepth, maxEntries}
+use Rattle.part.specs.Insert.{insert}
 use Rattle.part.specs.Store.{part, Good, Made}
+use Rattle.part.proofs.Equations.{insert-none, insert-before, insert-at, insert-after}
 use Rattle.part.proofs.Pieces.{part-0, part-1, part-2}
 use Rattle.part.proofs.Write.{stay, kept-self}
 use Rattle.part.proofs.Making.{kept-trans}
-use Rattle.context.specs.Swizzle.{Swizzled, asks, panics, insert, isFlat, collected, swizzled}
+use Rattle.context.specs.Swizzle.{Swizzled, asks, panics, isFlat, collected, swizzled}
 use Rattle.memory.specs.Layout.{allSlot, existSlot, flatSlot, flatCount, globalsSlot}
 use Rattle.memory.specs.Flat.{entryOf, flatFrom, flatOf, digitsFrom, code}
 use Rattle.memory.specs.Want.{kid, after, tail, asked, first, Child}
@@ -155,18 +157,9 @@ lower i j h nothing = nothing
 lower i j h (next k p l a) = let b : i ≤ k = omega arith in next k p b a
 
 -- a component that is put into a flat part
-insert-after : (i c : ℕ) (p q r : PartReq) → i < c → insert c q (more i p r) ≡ more i p (insert c q r)
-unfolding insert
-insert-after i c p q r h = rw (le-ltb c i (omega arith), lt-ltb i c h)
-
-insert-at : (c : ℕ) (p q r : PartReq) → insert c q (more c p r) ≡ more c q r
-unfolding insert
-insert-at c p q r = rw (le-ltb c c (omega arith))
-
-insert-first : (c : ℕ) (q : PartReq) {r : PartReq} → Above (suc c) r → insert c q r ≡ more c q r
-unfolding insert
-insert-first c q nothing = refl
-insert-first c q (next j p l a) = rw (lt-ltb c j (omega arith))
+insert-first : (c : ℕ) (q : PartReq) {r : PartReq} → Above (suc c) r → insert r c q ≡ more c q r
+insert-first c q nothing = insert-none c q
+insert-first c q (next j p l a) = insert-before c j q p _ l
 
 entry-flat : (k : ℕ) (q r : PartReq) → isFlat q ≡ true → more k q r ≡ entryOf k (digitOf q) r
 unfolding entryOf digitOf isFlat
@@ -186,19 +179,19 @@ unfolding digitsFrom
 digits-above k [] = nothing
 digits-above k (d ∷ ds) = entry-above k d (digits-above (suc k) ds)
 
-insert-head : (k d : ℕ) (q : PartReq) {r : PartReq} → Above (suc k) r → insert k q (entryOf k d r) ≡ more k q r
+insert-head : (k d : ℕ) (q : PartReq) {r : PartReq} → Above (suc k) r → insert (entryOf k d r) k q ≡ more k q r
 unfolding entryOf
 insert-head k zero q a = insert-first k q a
-insert-head k (suc zero) q a = insert-at k all q _
-insert-head k (suc (suc d)) q a = insert-at k exist q _
+insert-head k (suc zero) q a = insert-at k k q all _ refl
+insert-head k (suc (suc d)) q a = insert-at k k q exist _ refl
 
-insert-tail : (k d c : ℕ) (q r : PartReq) → k < c → insert c q (entryOf k d r) ≡ entryOf k d (insert c q r)
+insert-tail : (k d c : ℕ) (q r : PartReq) → k < c → insert (entryOf k d r) c q ≡ entryOf k d (insert r c q)
 unfolding entryOf
 insert-tail k zero c q r h = refl
-insert-tail k (suc zero) c q r h = insert-after k c all q r h
-insert-tail k (suc (suc d)) c q r h = insert-after k c exist q r h
+insert-tail k (suc zero) c q r h = insert-after c k q all r h
+insert-tail k (suc (suc d)) c q r h = insert-after c k q exist r h
 
-insert-digit : (k j : ℕ) (ds : List ℕ) (q : PartReq) → isFlat q ≡ true → j < length ds → insert (k + j) q (digitsFrom k ds) ≡ digitsFrom k (set ds j (digitOf q))
+insert-digit : (k j : ℕ) (ds : List ℕ) (q : PartReq) → isFlat q ≡ true → j < length ds → insert (digitsFrom k ds) (k + j) q ≡ digitsFrom k (set ds j (digitOf q))
 unfolding digitsFrom
 insert-digit k j [] q f h = absurd (omega arith)
 insert-digit k zero (d ∷ ds) q f h =
@@ -272,7 +265,7 @@ unfolding collected
 collected-part pattern i q r picked h f = rw (lt-ltb i 4 h, f)
 
 collected-on : (pattern : List ℕ) (i : ℕ) (q r picked : PartReq) → i < 4 → isFlat q ≡ true
-    → collected pattern (more i q r) picked ≡ collected pattern r (insert (getD pattern i 0) q picked)
+    → collected pattern (more i q r) picked ≡ collected pattern r (insert picked (getD pattern i 0) q)
 unfolding collected
 collected-on pattern i q r picked h f = rw (lt-ltb i 4 h, f)
 
@@ -346,7 +339,7 @@ module _ {pattern : List ℕ} {p : PartReq} {total : Swizzled} {k : ℕ} {a : It
           let low = ls .low (a .index) l in
           let j : getD pattern (a .index) 0 < length ds = omega (arith, h .four .long) in
           let z : 0 + getD pattern (a .index) 0 ≡ getD pattern (a .index) 0 = omega arith in
-          let i : insert (getD pattern (a .index) 0) (kid (tail p k)) (digitsFrom 0 ds) ≡ digitsFrom 0 (set ds (getD pattern (a .index) 0) (digitOf (kid (tail p k))))
+          let i : insert (digitsFrom 0 ds) (getD pattern (a .index) 0) (kid (tail p k)) ≡ digitsFrom 0 (set ds (getD pattern (a .index) 0) (digitOf (kid (tail p k))))
           = rw z at (insert-digit 0 (getD pattern (a .index) 0) ds (kid (tail p k)) (f .0) j) in
           record {
             next = e;
@@ -419,7 +412,7 @@ module _ (p q : List ℕ) (h : (i : ℕ) → i < 4 → getD p i 0 ≡ getD q i 0
   collected-same none picked = refl
   collected-same (more i x r) picked =
       elim (decLt i 4) [
-        | yes l ↦ rw (h i l, collected-same r (insert (getD q i 0) x picked))
+        | yes l ↦ rw (h i l, collected-same r (insert picked (getD q i 0) x))
         | no l ↦ rw (le-ltb i 4 (omega arith))
       ]
 

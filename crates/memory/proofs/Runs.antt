@@ -17,10 +17,11 @@ use Rattle.part.specs.Store.{top, part, Good}
 use Rattle.part.proofs.Pieces.{part-0, part-1, part-2}
 use Rattle.part.proofs.Write.{seen, kept-self}
 use Rattle.context.specs.RequiredContext.{RequiredContext, pieces}
+use Rattle.context.specs.Contexts.{contextOf}
 use Rattle.walk.specs.State.{Records}
 use Rattle.walk.specs.Function.{latest, extend}
 use Rattle.memory.specs.Layout.{globalsSlot, exprsSlot, functionsSlot}
-use Rattle.memory.specs.Memory.{read, sumFrom, Recorded, missing, present, recordOf, recordsOf, contextAt, contextOf, withContext, Memory}
+use Rattle.memory.specs.Memory.{read, sumFrom, Recorded, missing, present, recordOf, recordsOf, contextAt, withContext, Memory}
 use Rattle.memory.specs.Stretches.{fourSet, copied, forgotten}
 use Rattle.memory.proofs.Slots.{read-at, read-set, sum-none, sum-suc, sum-set, set-memory}
 use Rattle.memory.proofs.Records.{records-long, records-at}
@@ -89,7 +90,7 @@ sum-context ps at c a n l b h =
     )
 
 -- a context saved, copied and cleared
-pub four-read : (s rs : List ℕ) (at a b c d : ℕ) → read s (fourSet rs at a b c d) ≡ withContext (read s rs) at (contextOf s a b c d)
+pub four-read : (s rs : List ℕ) (at a b c d : ℕ) → read s (fourSet rs at a b c d) ≡ withContext (read s rs) at (contextOf s (record { globals = a; locals = b; args = c; retval = d }))
 four-read s rs at a b c d =
     read-set s (set (set (set rs at a) (at + 1) b) (at + 2) c) (at + 3) d
     ∙ rw (read-set s (set (set rs at a) (at + 1) b) (at + 2) c, read-set s (set rs at a) (at + 1) b, read-set s rs at a)

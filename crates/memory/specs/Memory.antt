@@ -58,10 +58,6 @@ contextAt ps at = record {
   retval = getD ps (at + 3) none;
 }
 
--- the context whose maps are these pieces
-abbrev pub contextOf : List ℕ → (globals locals args retval : ℕ) → RequiredContext
-contextOf s globals locals args retval = record { globals = part s globals; locals = part s locals; args = part s args; retval = part s retval }
-
 -- the slots with a context in the four from `at` on
 abbrev pub withContext : List PartReq → (at : ℕ) → RequiredContext → List PartReq
 withContext ps at c = set (set (set (set ps at (c .globals)) (at + 1) (c .locals)) (at + 2) (c .args)) (at + 3) (c .retval)

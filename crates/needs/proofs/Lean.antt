@@ -10,7 +10,8 @@ use borrow.Author.Tests.{lt-ltb, le-ltb}
 use Rattle.part.specs.PartReq.{PartReq, all, exist, none, more, getSubpart}
 use Rattle.part.proofs.Equations.{never}
 use Rattle.clearance.specs.Shape.{Shape, number, void, struct, array, member, isVoid, isWhole, shapeAt, orNone, below, some, keep, trim, hit, members, split, alter, takeOut}
-use Rattle.clearance.specs.IsNeed.{Tidy}
+use Rattle.clearance.specs.IsNeed.{Tidy, IsNeed}
+use Rattle.clearance.proofs.Ascending.{below-ok}
 use Rattle.needs.specs.Lean.{change, leaves, Solid}
 
 -- what is kept of an entry that needs something
@@ -64,6 +65,10 @@ pub below-tidy : (q : List ℕ) (p : PartReq) (t : Shape) → Tidy p t → isVoi
 unfolding below shapeAt
 below-tidy [] p t h v = h
 below-tidy (j ∷ q) p t h v = below-tidy q (orNone (getSubpart p j)) (member t j) (tidy-sub p t j h (not-void (member t j) q v)) v
+
+-- a need of a part is one of its type
+pub need-below : (q : List ℕ) (t : Shape) (n : PartReq) → IsNeed t n → isVoid (shapeAt t q) ≡ false → IsNeed (shapeAt t q) (below n q)
+need-below q t n f v = record { ascends = below-ok n q (f .ascends); tidy = below-tidy q n t (f .tidy) v }
 
 -- what is needed of a part that lies in the type
 pub hit-below : (t : Shape) (p : PartReq) (q : List ℕ) → Tidy p t → isVoid (shapeAt t q) ≡ false → hit t p q ≡ below p q

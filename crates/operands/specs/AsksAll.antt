@@ -9,7 +9,8 @@ use Rattle.part.specs.PartReq.{PartReq}
 use Rattle.clearance.specs.Scope.{Scope}
 use Rattle.clearance.specs.Needs.{Ask}
 use Rattle.pass.specs.Pass.{Carried, askingAll}
-use Rattle.asked.specs.Within.{Read, Judged, EachWithin}
+use Rattle.asked.specs.Within.{EachWithin}
+use Rattle.framed.specs.Given.{Read, Judged}
 use Rattle.framed.specs.Kept.{Kept, AsksFine}
 use Rattle.hold.specs.Hold.{heldBy, inSlot, Live, Reach}
 use Rattle.standing.specs.Standing.{passedBy}

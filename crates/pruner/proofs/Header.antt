@@ -1,31 +1,21 @@
 -- The record at the front of a buffer of totals, test by test: how long it is, or that there is none.
-use Prim.Native.Nat.{ℕ, _+_, _%_, _≤_, _<_}
+use Prim.Native.Nat.{ℕ, _+_, _≤_, _<_}
 use native.Mathlib.Omega.{arith}
 use mathlib.Core.Path.{_≡_, refl, sym, _∙_}
 use mathlib.Core.Bool.{Bool, true, false, _&&_}
 use mathlib.Core.List.{List}
-use lib.Dec.{leb, eqb}
-use lib.ListN.{length, getD, take, length-take}
-use borrow.Author.Tests.{le-leb, lt-leb, ne-eqb}
+use lib.Dec.{leb}
+use lib.ListN.{length, take, length-take}
+use borrow.Author.Tests.{le-leb, lt-leb}
 use Rattle.field.specs.Field.{wordAt}
 use Rattle.request.specs.Fields.{framed}
+use Rattle.request.proofs.Frame.{other-length}
 use Rattle.pruner.specs.Form.{minPruner, stated, isPruner}
 use Rattle.pruner.specs.Reading.{RecordLength}
 
 second-fails : (a b : Bool) → b ≡ false → a && b ≡ false
 second-fails true b e = e
 second-fails false b e = refl
-
-fourth-fails : (a b c d e : Bool) → d ≡ false → a && b && c && d && e ≡ false
-fourth-fails false b c d e z = refl
-fourth-fails true false c d e z = refl
-fourth-fails true true false d e z = refl
-fourth-fails true true true d e z = rw z refl
-
--- a record is as long as its header says
-pub other-length : (a b head long : ℕ) (s : List ℕ) → (head + long ≡ length s → ⊥) → framed a b head long s ≡ false
-unfolding framed
-other-length a b head long s h = fourth-fails (leb head (length s)) (eqb (getD s 0 0) a) (eqb (getD s 1 0) b) (eqb (head + long) (length s)) (eqb (long % 2) 0) (ne-eqb (head + long) (length s) h)
 
 module _ (s : List ℕ) where
   no-record : isPruner s ≡ false → RecordLength s 0

@@ -1,10 +1,8 @@
 pub mod Fine
 pub mod Framed
 pub mod Back
-pub mod Named
 pub mod Read
 pub mod Room
-pub mod Indexes
 pub mod Walks
 pub mod Writing
 pub mod Fresh

@@ -9,9 +9,9 @@ use lib.ListN.{length}
 use Rattle.part.specs.PartReq.{PartReq, more, spine}
 use Rattle.part.specs.Store.{top, part, Kept, Room, Made}
 use Rattle.part.proofs.Pieces.{part-2}
-use Rattle.context.specs.RequiredContext.{RequiredContext, variable}
+use Rattle.context.specs.RequiredContext.{RequiredContext, variable, returnEntry}
 use Rattle.request.specs.Fields.{Read, malformed, got, _>>=_}
-use Rattle.request.specs.Part.{readReturn, readVariables, asked}
+use Rattle.request.specs.Part.{readReturn, readVariables}
 use Rattle.request.specs.Request.{allBelow}
 use Rattle.request.specs.Context.{readLists, readContextBody, knownContext}
 use Rattle.request.specs.Answers.{from, RoomFor, Spent, partRead, optional, sorted, OptionWasRead}
@@ -176,8 +176,8 @@ by-list holds known (got q fs) k h e = by (known q) refl
         let z : _≡_ {A = ℕ} 0 1 = cc in
         absurd (omega arith)
 
-asked-single : (o : Option PartReq) → single spine o ≡ asked o
-unfolding single asked
+asked-single : (o : Option PartReq) → single spine o ≡ returnEntry o
+unfolding single returnEntry
 asked-single nothing = refl
 asked-single (some p) = refl
 

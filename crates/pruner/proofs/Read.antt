@@ -1,5 +1,4 @@
--- What is read is fine, no index of it is absent, and 16 allows it: so that any buffer that is accepted is a pruner that a request can begin with. From what is read as a
--- part, list by list.
+-- What is read is fine, and 16 allows it: so that any buffer that is accepted is a pruner that a request can begin with. From what is read as a part, list by list.
 use Prim.Native.Nat.{ℕ, zero, suc, _+_, _≤_}
 use native.Mathlib.Omega.{arith}
 use native.Mathlib.Nat.{zero-add, add-zero}
@@ -28,13 +27,7 @@ use Rattle.sound.proofs.Parts.{OnGot, on-then, on-cond, return-fine, SomeVariab
 use Rattle.sound.proofs.Asked.{OnSome, OnAccepted, whole-on, some-when}
 use Rattle.sound.proofs.Contexts.{SomeContext, body-read, known-fine}
 use Rattle.pruner.specs.Form.{prunerPieces, only, readMarks, readRecords, knownIn, readKept, readTotal, readTotals, readBody, stated, isPruner, isFresh, answered, readPruner}
-use Rattle.pruner.specs.Filed.{Named, NamedContext, NamedRecord, NamedRecords, NamedFunction, NamedTotal, NamedTotals, NamedPruner}
 use Rattle.pruner.proofs.Fine.{FineTotal}
-use Rattle.pruner.proofs.Named.{return-named, variables-named, context-named}
-
-on-both : {A : Type 0} (P Q : A → Type 0) (x : Read A) → OnGot P x → OnGot Q x → OnGot (λ a. P a × Q a) x
-on-both P Q malformed h k = tt
-on-both P Q (got a fs) h k = (h, k)
 
 on-only : {A : Type 0} (P : A → Type 0) (holds : A → Bool) (x : Read A) → OnGot P x → OnGot (λ a. P a × (holds a ≡ true)) (only holds x)
 unfolding only
@@ -60,71 +53,52 @@ marks-read (suc n) (b ∷ fs) =
 record RecordsRead (n : ℕ) (es : Records) : Type 0 where
   pub long : length es ≡ n
   pub each : EachRecord es
-  pub named : NamedRecords es
-
-abbrev RecordRead : Option PartReq → Type 0
-RecordRead o = FineRecord o × NamedRecord o
-
-record-read : (fs : List ℕ) → OnGot RecordRead (readReturn fs)
-record-read fs = on-both FineRecord NamedRecord (readReturn fs) (return-fine fs) (return-named fs)
 
 records-read : (n : ℕ) (fs : List ℕ) → OnGot (RecordsRead n) (readRecords n fs)
 unfolding readRecords
-records-read zero fs = record { long = refl; each = tt; named = tt }
+records-read zero fs = record { long = refl; each = tt }
 records-read (suc n) fs =
-    on-then RecordRead (RecordsRead (suc n)) (readReturn fs) _ (record-read fs)
+    on-then FineRecord (RecordsRead (suc n)) (readReturn fs) _ (return-fine fs)
     (λ o gs ho.
     on-then (RecordsRead n) (RecordsRead (suc n)) (readRecords n gs) _ (records-read n gs)
-    (λ es hs h. record { long = omega (arith, h .long); each = (ho .0, h .each); named = (ho .1, h .named) }))
+    (λ es hs h. record { long = omega (arith, h .long); each = (ho, h .each) }))
 
 module _ (m : Module) where
   abbrev ContextRead : FunctionHandle → RequiredContext → Type 0
-  ContextRead f c = (SomeContext c × NamedContext c) × (knownIn m f c ≡ true)
+  ContextRead f c = SomeContext c × (knownIn m f c ≡ true)
 
   context-read : (f : FunctionHandle) (fs : List ℕ) → OnGot (ContextRead f) (only (knownIn m f) (readContextBody fs))
-  context-read f fs =
-      on-only (λ c. SomeContext c × NamedContext c) (knownIn m f) (readContextBody fs)
-      (on-both SomeContext NamedContext (readContextBody fs) (body-read fs) (context-named fs))
+  context-read f fs = on-only SomeContext (knownIn m f) (readContextBody fs) (body-read fs)
 
-  abbrev KeptRead : FunctionHandle → FunctionReq → Type 0
-  KeptRead f t = FineFunction m f t × NamedFunction t
-
-  kept-read : (f : FunctionHandle) (fs : List ℕ) → OnGot (KeptRead f) (readKept m f fs)
+  kept-read : (f : FunctionHandle) (fs : List ℕ) → OnGot (FineFunction m f) (readKept m f fs)
   unfolding readKept
   kept-read f fs =
       let n = length (functionAt m f .expressions) in
-      on-then (MarksRead (stretch m f)) (KeptRead f) (readMarks (stretch m f) fs) _ (marks-read (stretch m f) fs)
+      on-then (MarksRead (stretch m f)) (FineFunction m f) (readMarks (stretch m f) fs) _ (marks-read (stretch m f) fs)
       (λ marks gs hm.
-      on-then (ContextRead f) (KeptRead f) (only (knownIn m f) (readContextBody gs)) _ (context-read f gs)
+      on-then (ContextRead f) (FineFunction m f) (only (knownIn m f) (readContextBody gs)) _ (context-read f gs)
       (λ c hs hc.
-      on-then (RecordsRead n) (KeptRead f) (readRecords n hs) _ (records-read n hs)
-      (λ exprs ks he. (
-        record {
-          marks = record { long = hm .long; each = hm .each };
-          context = known-fine m f c (hc .0 .0) (hc .1);
-          exprs = record { long = he .long; each = he .each };
-        },
-        record { context = hc .0 .1; exprs = he .named },
-      ))))
+      on-then (RecordsRead n) (FineFunction m f) (readRecords n hs) _ (records-read n hs)
+      (λ exprs ks he. record {
+        marks = record { long = hm .long; each = hm .each };
+        context = known-fine m f c (hc .0) (hc .1);
+        exprs = record { long = he .long; each = he .each };
+      })))
 
-  abbrev TotalRead : FunctionHandle → Option FunctionReq → Type 0
-  TotalRead f o = FineTotal m f o × NamedTotal o
-
-  total-read : (f : FunctionHandle) (fs : List ℕ) → OnGot (TotalRead f) (readTotal m f fs)
+  total-read : (f : FunctionHandle) (fs : List ℕ) → OnGot (FineTotal m f) (readTotal m f fs)
   unfolding readTotal
   total-read f [] = tt
   total-read f (c ∷ fs) =
-      on-cond (TotalRead f) (eqb c 0) _ _ (λ t. (λ u e. absurd (Option·none-ne-some u e), tt))
-      (on-cond (TotalRead f) (eqb c 1) _ malformed
+      on-cond (FineTotal m f) (eqb c 0) _ _ (λ t u e. absurd (Option·none-ne-some u e))
+      (on-cond (FineTotal m f) (eqb c 1) _ malformed
       (λ t.
-      on-then (KeptRead f) (TotalRead f) (readKept m f fs) _ (kept-read f fs)
-      (λ k gs h. (λ u e. subst (FineFunction m f) (Option·some-injective k u e) (h .0), h .1)))
+      on-then (FineFunction m f) (FineTotal m f) (readKept m f fs) _ (kept-read f fs)
+      (λ k gs h u e. subst (FineFunction m f) (Option·some-injective k u e) h))
       tt)
 
   record TotalsRead (f : FunctionHandle) (n : ℕ) (ts : List (Option FunctionReq)) : Type 0 where
     pub long : length ts ≡ n
     pub each : (i : ℕ) → FineTotal m (i + f) (getD ts i nothing)
-    pub named : NamedTotals ts
 
   each-next : (f : FunctionHandle) (t : Option FunctionReq) (ts : List (Option FunctionReq)) → FineTotal m f t → ((i : ℕ) → FineTotal m (i + suc f) (getD ts i nothing)) → (i : ℕ) → FineTotal m (i + f) (getD (t ∷ ts) i nothing)
   each-next f t ts h k zero = subst (λ (g : ℕ). FineTotal m g t) (sym (zero-add f)) h
@@ -134,46 +108,30 @@ module _ (m : Module) where
 
   totals-read : (f : FunctionHandle) (n : ℕ) (fs : List ℕ) → OnGot (TotalsRead f n) (readTotals m f n fs)
   unfolding readTotals
-  totals-read f zero fs = record { long = refl; each = λ i u e. absurd (Option·none-ne-some u e); named = tt }
+  totals-read f zero fs = record { long = refl; each = λ i u e. absurd (Option·none-ne-some u e) }
   totals-read f (suc n) fs =
-      on-then (TotalRead f) (TotalsRead f (suc n)) (readTotal m f fs) _ (total-read f fs)
+      on-then (FineTotal m f) (TotalsRead f (suc n)) (readTotal m f fs) _ (total-read f fs)
       (λ t gs ht.
       on-then (TotalsRead (suc f) n) (TotalsRead f (suc n)) (readTotals m (suc f) n gs) _ (totals-read (suc f) n gs)
-      (λ ts hs h. record { long = omega (arith, h .long); each = each-next f t ts (ht .0) (h .each); named = (ht .1, h .named) }))
-
-  abbrev PrunerRead : Pruner → Type 0
-  PrunerRead pruner = FinePruner m pruner × NamedPruner pruner
+      (λ ts hs h. record { long = omega (arith, h .long); each = each-next f t ts ht (h .each) }))
 
   abbrev GlobalsRead : PartReq → Type 0
-  GlobalsRead q = (SomeVariables q × Named q) × (allBelow (variable (length (m .globals))) q ≡ true)
+  GlobalsRead q = SomeVariables q × (allBelow (variable (length (m .globals))) q ≡ true)
 
   globals-read : (fs : List ℕ) → OnGot GlobalsRead (only (allBelow (variable (length (m .globals)))) (readVariables fs))
-  globals-read fs =
-      on-only (λ q. SomeVariables q × Named q) (allBelow (variable (length (m .globals)))) (readVariables fs)
-      (on-both SomeVariables Named (readVariables fs) (variables-read fs) (variables-named fs))
+  globals-read fs = on-only SomeVariables (allBelow (variable (length (m .globals)))) (readVariables fs) (variables-read fs)
 
-  pruner-body : (fs : List ℕ) → OnGot PrunerRead (readBody m fs)
+  pruner-body : (fs : List ℕ) → OnGot (FinePruner m) (readBody m fs)
   unfolding readBody
   pruner-body fs =
       let n = length (m .functions) in
-      on-then GlobalsRead PrunerRead (only (allBelow (variable (length (m .globals)))) (readVariables fs)) _ (globals-read fs)
+      on-then GlobalsRead (FinePruner m) (only (allBelow (variable (length (m .globals)))) (readVariables fs)) _ (globals-read fs)
       (λ q gs hq.
-      on-then (TotalsRead 0 n) PrunerRead (readTotals m 0 n gs) _ (totals-read 0 n gs)
-      (λ ts hs h. (
-        record {
-          globals = variables-there (length (m .globals)) spine (variable absent) q (hq .1) (hq .0 .0);
-          functions = record { long = h .long; each = λ f. subst (λ (g : ℕ). FineTotal m g (getD ts f nothing)) (add-zero f) (h .each f) };
-        },
-        record { globals = hq .0 .1; functions = h .named },
-      )))
-
-  fresh-totals : (n : ℕ) → NamedTotals (replicate n nothing)
-  fresh-totals zero = tt
-  fresh-totals (suc n) = (tt, fresh-totals n)
-
-  fresh-read : PrunerRead (fresh m)
-  unfolding fresh
-  fresh-read = (fresh-fine m, record { globals = tt; functions = fresh-totals (length (m .functions)) })
+      on-then (TotalsRead 0 n) (FinePruner m) (readTotals m 0 n gs) _ (totals-read 0 n gs)
+      (λ ts hs h. record {
+        globals = variables-there (length (m .globals)) spine (variable absent) q (hq .1) (hq .0);
+        functions = record { long = h .long; each = λ f. subst (λ (g : ℕ). FineTotal m g (getD ts f nothing)) (add-zero f) (h .each f) };
+      }))
 
   pub nothing-counts : (n : ℕ) → totalPieces (replicate n nothing) ≡ 0
   unfolding totalPieces functionPieces
@@ -182,17 +140,17 @@ module _ (m : Module) where
 
   -- it is fine, and 16 allows it
   abbrev Allowed : Pruner → Type 0
-  Allowed pruner = PrunerRead pruner × (prunerPieces pruner ≤ maxPieces)
+  Allowed pruner = FinePruner m pruner × (prunerPieces pruner ≤ maxPieces)
 
   fresh-allowed : Allowed (fresh m)
   unfolding fresh entries
-  fresh-allowed = (fresh-read, omega (arith, nothing-counts (length (m .functions))))
+  fresh-allowed = (fresh-fine m, omega (arith, nothing-counts (length (m .functions))))
 
   either : (b : Bool) (x y : Answer Pruner) → (b ≡ true → OnAccepted Allowed x) → OnAccepted Allowed y → OnAccepted Allowed (cond b x y)
   either true x y h k = h refl
   either false x y h k = k
 
-  answered-on : (o : Option Pruner) → OnSome PrunerRead o → OnAccepted Allowed (answered o)
+  answered-on : (o : Option Pruner) → OnSome (FinePruner m) o → OnAccepted Allowed (answered o)
   answered-on nothing h = tt
   answered-on (some pruner) h =
       either (leb (prunerPieces pruner) maxPieces) (accepted pruner) (refused 19) (λ e. (h, leb-true (prunerPieces pruner) maxPieces e)) tt
@@ -202,14 +160,11 @@ module _ (m : Module) where
   pruner-read s =
       let body = readBody m (fields (drop 6 (stated s))) in
       either (isFresh s) (accepted (fresh m)) _ (λ e. fresh-allowed)
-      (answered-on (cond (isPruner s) (whole body) nothing) (some-when PrunerRead (isPruner s) (whole body) (whole-on PrunerRead body (pruner-body (fields (drop 6 (stated s)))))))
+      (answered-on (cond (isPruner s) (whole body) nothing) (some-when (FinePruner m) (isPruner s) (whole body) (whole-on (FinePruner m) body (pruner-body (fields (drop 6 (stated s)))))))
 
   module _ (s : List ℕ) (pruner : Pruner) (e : readPruner m s ≡ accepted pruner) where
     pub read-fine : FinePruner m pruner
-    read-fine = subst (OnAccepted Allowed) e (pruner-read s) .0 .0
-
-    pub read-named : NamedPruner pruner
-    read-named = subst (OnAccepted Allowed) e (pruner-read s) .0 .1
+    read-fine = subst (OnAccepted Allowed) e (pruner-read s) .0
 
     pub read-few : prunerPieces pruner ≤ maxPieces
     read-few = subst (OnAccepted Allowed) e (pruner-read s) .1

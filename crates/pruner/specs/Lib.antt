@@ -1,4 +1,3 @@
 pub mod Form
-pub mod Filed
 pub mod Stored
 pub mod Reading

@@ -20,7 +20,7 @@ use Rattle.judge.specs.Given.{scopeAt}
 use Rattle.needs.specs.Path.{Piece}
 use Rattle.needs.proofs.Lean.{hit-below}
 use Rattle.asked.proofs.Acts.{emit-overlap}
-use Rattle.asked.proofs.Paths.{path-shape}
+use Rattle.framed.proofs.Paths.{landed}
 use Rattle.standing.specs.World.{World}
 use Rattle.place.specs.Target.{Pointer}
 use Rattle.quiet.specs.Acts.{Needing, Overlap, Idle}
@@ -41,7 +41,7 @@ pub store-below : {bytes t : List ℕ} {f : ℕ} {types alike paths : List ℕ} 
     Tidy n (frame (scopeAt bytes t f)) → overlap (scopeAt bytes t f) (store p v) n ≡ below n (target (pathOf (scopeAt bytes t f) p))
 unfolding overlap
 store-below {bytes} {t} {f} w {p} h v n d =
-    hit-below (frame (scopeAt bytes t f)) n _ d (path-shape (scopeAt bytes t f) (w .read) (w .judged) p (h .there) (h .path) .there)
+    hit-below (frame (scopeAt bytes t f)) n _ d (landed (scopeAt bytes t f) (w .read) (w .judged) p (h .there) (h .path) .place .within)
 
 module _ {bytes t : List ℕ} {f : ℕ} {types alike paths cells : List ℕ} {m : ℕ} (g : Needing bytes t f types alike paths cells m) where
   abbrev S : Scope

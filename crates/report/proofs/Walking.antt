@@ -3,20 +3,20 @@ use Prim.Native.Nat.{ℕ, _+_, _-_, _*_, _<_, _≤_}
 use native.Mathlib.Omega.{arith}
 use mathlib.Core.Path.{_≡_, refl, sym, ap, _∙_}
 use mathlib.Core.Bool.{Bool}
-use mathlib.Core.List.{List, [], _∷_, _++_}
+use mathlib.Core.List.{List, [], _++_}
 use Rattle.field.specs.Limits.{maxPieces, minReport}
 use Rattle.part.specs.PartReq.{none}
 use Rattle.part.specs.StoreLimits.{entriesCap}
 use Rattle.module.specs.Tables.{moduleOf}
 use Rattle.module.specs.declared.handles.FunctionHandle.{FunctionHandle as Handle}
-use Rattle.context.specs.RequiredContext.{pieces}
+use Rattle.context.specs.RequiredContext.{pieces, returnEntry}
 use Rattle.request.specs.Fields.{accepted}
 use Rattle.request.specs.Request.{Request, readRequest}
 use Rattle.walk.specs.State.{nowhere}
-use Rattle.walk.specs.Requests.{Answer, Pruner, asked, fresh, request, endCount, reportOf}
+use Rattle.walk.specs.Requests.{Answer, Pruner, fresh, request, endCount, reportOf}
 use Rattle.walk.proofs.Ends.{ended}
 use Rattle.memory.specs.Layout.{stackSlot}
-use Rattle.memory.specs.Memory.{read, contextAt, Memory}
+use Rattle.memory.specs.Memory.{read, Memory}
 use Rattle.state.specs.declared.answer.Answered.{Answered}
 use Rattle.state.specs.declared.answer.Answered.the-variants.{Went, Halt}
 use Rattle.state.specs.declared.answer.Place.{Place}
@@ -24,9 +24,6 @@ use Rattle.state.specs.declared.answer.Tally.{Tally}
 use Rattle.leave.specs.Leave.{Placed, ownIn}
 use Rattle.block.specs.Standing.{stateIn, functionsIn}
 use Rattle.block.specs.Functions.{FunctionEntered, FunctionEnded, FunctionEnds}
-use Rattle.pruner.specs.Filed.{NamedContext}
-use Rattle.pruner.proofs.Back.{readPruner-zero}
-use Rattle.pruner.proofs.Walks.{walked-named}
 use Rattle.requests.specs.Loaded.{Loaded}
 use Rattle.requests.proofs.Begins.{enters}
 use Rattle.requests.proofs.Ends.{walks, request-halts, end-count, request-over, request-went}
@@ -44,11 +41,11 @@ use Rattle.report.proofs.Shown.{shows as shown, fresh-shows}
 module _ {bytes t types places s rs open-marks totals : List ℕ} {q : Request} (L : Loaded bytes t types places s rs open-marks totals q (fresh (moduleOf bytes t)))
     {visits sum : ℕ} {b : Bool} {u us open-after totals-after : List ℕ}
     (E : FunctionEnded bytes t types places s rs open-marks totals (q .function) stackSlot 0 (walks bytes t (fresh (moduleOf bytes t)) q) visits sum b u us open-after totals-after) where
-  base-few : pieces (record { globals = q .globals; locals = none; args = none; retval = asked (q .retval) }) ≤ 2 * maxPieces
+  base-few : pieces (record { globals = q .globals; locals = none; args = none; retval = returnEntry (q .retval) }) ≤ 2 * maxPieces
   base-few = omega (arith, L .base-few, ap pieces (L .base-is))
 
   few : shown (stateIn bytes t u us open-after totals-after (q .function) (stackSlot + 4) visits) ≤ 2 * maxPieces
-  few = ended (fresh-shows bytes (moduleOf bytes t) (L .was-read .module-is) (q .function) nowhere (2 * maxPieces) 0 (q .globals) (asked (q .retval)) (omega arith) base-few) (sym (E .is))
+  few = ended (fresh-shows bytes (moduleOf bytes t) (L .was-read .module-is) (q .function) nowhere (2 * maxPieces) 0 (q .globals) (returnEntry (q .retval)) (omega arith) base-few) (sym (E .is))
 
   reporting : Reporting bytes t places u us open-after (q .function) (stackSlot + 4)
   reporting =
@@ -75,14 +72,9 @@ module _ {bytes t types places s rs open-marks totals : List ℕ} {q : Request} 
       ∙ rw (checked-of, text-of bytes t u us open-after (q .function) (stackSlot + 4) b (functionsIn (moduleOf bytes t) t (read u us) totals-after) visits)
 
   module _ (asked-bytes : List ℕ) (asks : readRequest (moduleOf bytes t) minReport asked-bytes ≡ accepted q) where
-    named-context : NamedContext (contextAt (read u us) (stackSlot + 4))
-    named-context =
-        walked-named bytes (moduleOf bytes t) (L .was-read .module-is) (0 ∷ (0 ∷ [])) (fresh (moduleOf bytes t)) q
-        (readPruner-zero (moduleOf bytes t) []) (record { report = minReport; bytes = asked-bytes; is = asks }) (sym (E .is))
-
     shows : endCount (stateIn bytes t u us open-after totals-after (q .function) (stackSlot + 4) visits) ≤ maxPieces
         → Shows (answerText (moduleOf bytes t) q (request (moduleOf bytes t) (fresh (moduleOf bytes t)) q .0)) bytes t asked-bytes places u us open-after (q .function) b
-    shows l = record { reporting = reporting; named = named-context; q = q; asks = asks; function-is = refl; is = text l }
+    shows l = record { reporting = reporting; q = q; asks = asks; function-is = refl; is = text l }
 
 module _ {bytes t types places s rs open-marks totals : List ℕ} {h : Handle} {sum : ℕ} (A : Asked bytes t types places s rs open-marks totals (h .0) sum) where
   pub walk-enters : FunctionEntered bytes t types places s rs open-marks totals (h .0) stackSlot 0 sum 0

@@ -92,7 +92,6 @@ module _ {text bytes t asked-bytes places s rs open-marks : List ℕ} {f : ℕ} 
         memory = h .memory;
         high = h .high;
         context = rw (S .function-is) (h .context);
-        named = S .named;
         few = omega (arith, h .few);
         long = h .marked .long;
       }

@@ -9,9 +9,7 @@ use Rattle.request.specs.Fields.{accepted}
 use Rattle.request.specs.Request.{Request, readRequest}
 use Rattle.walk.specs.Requests.{fresh, request}
 use Rattle.memory.specs.Layout.{stackSlot}
-use Rattle.memory.specs.Memory.{read, contextAt}
 use Rattle.pruner.specs.Form.{prunerPieces}
-use Rattle.pruner.specs.Filed.{NamedContext}
 use Rattle.requests.specs.Loaded.{Loaded}
 use Rattle.lines.specs.Text.{refusedText}
 use Rattle.lines.specs.Reported.{Reporting, reportIn, textIn}
@@ -23,7 +21,6 @@ use Rattle.report.specs.declared.outcome.Outcome.the-variants.{Refused, 
 -- Memory has the report on the function f that the request asks for, its context behind the base. The text is the report's lines and that of its check.
 pub record Shows (text bytes t asked-bytes places s rs open-marks : List ℕ) (f : ℕ) (required : Bool) : Type 0 where
   pub reporting : Reporting bytes t places s rs open-marks f (stackSlot + 4)
-  pub named : NamedContext (contextAt (read s rs) (stackSlot + 4))
   pub q : Request
   pub asks : readRequest (moduleOf bytes t) minReport asked-bytes ≡ accepted q
   pub function-is : q .function ≡ f

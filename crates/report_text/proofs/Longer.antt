@@ -3,27 +3,23 @@ use Prim.Native.Nat.{ℕ, zero, suc, _+_, _-_, _<_, _≤_}
 use native.Mathlib.Omega.{arith}
 use native.Mathlib.Nat.{eq-zero-or-pos}
 use mathlib.Core.Path.{_≡_, refl, sym, ap, _∙_}
-use mathlib.Core.Bool.{Bool, true, false, _&&_}
+use mathlib.Core.Bool.{Bool, true, false}
 use mathlib.Core.Logic.{⊎-elim}
 use mathlib.Core.List.{List, [], _∷_}
 use lib.Dec.{ltb}
-use lib.ListN.{length, getD, take, drop, length-drop}
+use lib.ListN.{length, take, drop, length-drop}
 use lib.Seq.{length-take-le, take-all, take-take, getD-drop}
-use borrow.Author.Tests.{lt-ltb, ltb-false, ltb-true, ne-eqb}
-use Rattle.field.specs.Field.{fieldAt}
+use borrow.Author.Tests.{lt-ltb, ltb-false, ltb-true}
+use Rattle.field.specs.Field.{Bytes}
 use Rattle.field.specs.Limits.{maxBytes, minReport}
 use Rattle.module.specs.Module.{Module}
 use Rattle.module.specs.File.{Answer, accepted, refused, readModule}
-use Rattle.request.specs.Fields.{framed}
-use Rattle.request.specs.Request.{judge, requestOf, readRequest}
+use Rattle.request.specs.Request.{readRequest}
+use Rattle.request.proofs.Frame.{overlong}
 use Rattle.lines.specs.Text.{refusedText}
 use Rattle.report_text.specs.Split.{moduleBytes, moduleIn, requestIn}
 use Rattle.report_text.specs.Input.{requestText, moduleText, reportInput, maxInput}
 use Rattle.report_text.proofs.Cut.{within, kept, lost}
-
--- as a slice has them
-abbrev pub Bytes : List ℕ → Type 0
-Bytes s = (k : ℕ) → getD s k 0 < 256
 
 -- a module of more bytes than are allowed
 too-long : (bytes : List ℕ) → maxBytes < length bytes → readModule bytes ≡ refused 1
@@ -38,18 +34,9 @@ was-short bytes m e true b =
     omega arith
 
 -- no request is longer than its header can say
-no-frame : (a b c d : Bool) → (a && b && c && false && d) ≡ false
-no-frame false b c d = refl
-no-frame true false c d = refl
-no-frame true true false d = refl
-no-frame true true true d = refl
-
 overfull : (m : Module) (bytes : List ℕ) → Bytes bytes → 4 + 65535 < length bytes → requestText m (readRequest m minReport bytes) ≡ refusedText 12
-unfolding requestText judge requestOf framed fieldAt
-overfull m bytes h l =
-    let one = h 2 in
-    let other = h 3 in
-    rw (ne-eqb (4 + fieldAt bytes 2) (length bytes) (λ e. omega arith), no-frame)
+unfolding requestText
+overfull m bytes h l = ap (requestText m) (overlong m minReport bytes h l)
 
 -- parts of bytes are bytes
 bytes-taken : (l : List ℕ) (n : ℕ) → Bytes l → Bytes (take n l)

@@ -15,13 +15,14 @@ use Rattle.field.specs.Limits.{absent, maxDepth, maxEntries}
 use Rattle.part.specs.PartReq.{PartReq, all, exist, none, more, width, depth, over, spine}
 use Rattle.part.specs.Ascending.{Ascending, From}
 use Rattle.module.specs.Module.{Module, Function}
-use Rattle.context.specs.RequiredContext.{RequiredContext, variable}
+use Rattle.context.specs.RequiredContext.{RequiredContext, variable, returnEntry}
 use Rattle.request.specs.Fields.{framed, bytesOf, whole, got, _>>=_, accepted, asField}
-use Rattle.request.specs.Part.{readEntries, readLevel, byCode, readPart, readReturn, readVariables, asked, withCode, writeEntries, writePart, writeReturn, writeVariables}
+use Rattle.request.specs.Part.{readEntries, readLevel, byCode, readPart, readReturn, readVariables, withCode, writeEntries, writePart, writeReturn, writeVariables}
 use Rattle.request.specs.Context.{readContextBody, readLists, writeContextBody, isContext, contextOf, knownContext, judgeContext, readContext, writeContext}
 use Rattle.request.specs.Request.{asking, readBody, isRequest, requestOf, writeBody, writeRequest}
 use Rattle.request.proofs.Bytes.{fields-bytesOf, length-bytesOf}
-use Rattle.request.specs.Filed.{Indexed, Filed, FiledVariables, FiledReturn, FiledContext}
+use Rattle.part.specs.Limited.{Indexed}
+use Rattle.request.specs.Filed.{Filed, FiledVariables, FiledReturn, FiledContext}
 
 or-left : (a b : Bool) → a || b ≡ false → a ≡ false
 or-left true b h = h
@@ -194,15 +195,15 @@ readReturn-writeReturn exist fs f = absurd f
 readReturn-writeReturn none fs f = refl
 readReturn-writeReturn (more i p r) fs f = rw (return-part p fs, readPart-writePart p fs (f .2))
 
-asked-returned : (p : PartReq) → FiledReturn p → asked (returned p) ≡ p
-unfolding asked returned
+asked-returned : (p : PartReq) → FiledReturn p → returnEntry (returned p) ≡ p
+unfolding returnEntry returned
 asked-returned all f = absurd f
 asked-returned exist f = absurd f
 asked-returned none f = refl
 asked-returned (more i p r) f = rw (f .0, f .1)
 
-returned-asked : (o : Option PartReq) → returned (asked o) ≡ o
-unfolding asked returned
+returned-asked : (o : Option PartReq) → returned (returnEntry o) ≡ o
+unfolding returnEntry returned
 returned-asked nothing = refl
 returned-asked (some p) = refl
 
@@ -240,11 +241,11 @@ unfolding judgeContext
 readContext-writeContext m fn c f k = rw (contextOf-writeContext c f, k)
 
 -- a request
-request-body : (f : ℕ) (o : Option PartReq) (q : PartReq) → f < absent → FiledReturn (asked o) → FiledVariables q → readBody (writeBody f (asked o) q) ≡ got (asking f o q) []
+request-body : (f : ℕ) (o : Option PartReq) (q : PartReq) → f < absent → FiledReturn (returnEntry o) → FiledVariables q → readBody (writeBody f (returnEntry o) q) ≡ got (asking f o q) []
 unfolding readBody writeBody
 request-body f o q h r g =
     let same : asField f ≡ f = omega arith in
-    rw (same, lt-ltb f absent h, readReturn-writeReturn (asked o) _ r, returned-asked o, ← append-nil (writeVariables q), readVariables-writeVariables q [] g)
+    rw (same, lt-ltb f absent h, readReturn-writeReturn (returnEntry o) _ r, returned-asked o, ← append-nil (writeVariables q), readVariables-writeVariables q [] g)
 
 framed-request : (body : List ℕ) → 2 * length body < 65536 → isRequest (82 ∷ (81 ∷ bytesOf (asField (2 * length body) ∷ body))) ≡ true
 unfolding framed bytesOf fieldAt
@@ -257,8 +258,8 @@ framed-request body h =
     let even : eqb (l % 2) 0 ≡ true = eq-eqb (l % 2) 0 (omega arith) in
     rw (fits, mod-add-div l 256, length-bytesOf body, long, same, even)
 
-pub requestOf-writeRequest : (f : ℕ) (o : Option PartReq) (q : PartReq) → f < absent → FiledReturn (asked o) → FiledVariables q
-    → 2 * length (writeBody f (asked o) q) < 65536 → requestOf (writeRequest f (asked o) q) ≡ some (asking f o q)
+pub requestOf-writeRequest : (f : ℕ) (o : Option PartReq) (q : PartReq) → f < absent → FiledReturn (returnEntry o) → FiledVariables q
+    → 2 * length (writeBody f (returnEntry o) q) < 65536 → requestOf (writeRequest f (returnEntry o) q) ≡ some (asking f o q)
 unfolding requestOf writeRequest whole bytesOf
 requestOf-writeRequest f o q h r g l =
-    rw (framed-request (writeBody f (asked o) q) l, fields-bytesOf (writeBody f (asked o) q), request-body f o q h r g)
+    rw (framed-request (writeBody f (returnEntry o) q) l, fields-bytesOf (writeBody f (returnEntry o) q), request-body f o q h r g)

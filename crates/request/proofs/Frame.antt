@@ -2,13 +2,36 @@
 use Prim.Native.Nat.{ℕ, _+_, _-_, _%_, _≤_, _<_}
 use native.Mathlib.Omega.{arith}
 use native.Mathlib.Decide.{decLt}
-use mathlib.Core.Path.{_≡_, _∙_}
-use mathlib.Core.Bool.{true, false}
+use mathlib.Core.Path.{_≡_, refl, sym, _∙_}
+use mathlib.Core.Bool.{Bool, true, false, _&&_}
 use mathlib.Core.List.{List}
-use lib.Dec.{eqb}
+use lib.Dec.{leb, eqb}
 use lib.ListN.{length, getD}
 use borrow.Author.Tests.{le-leb, lt-leb, eq-eqb, ne-eqb}
-use Rattle.request.specs.Fields.{framed}
+use Rattle.field.specs.Limits.{absent}
+use Rattle.field.specs.Field.{Bytes, fieldAt}
+use Rattle.module.specs.Module.{Module}
+use Rattle.request.specs.Fields.{framed, refused}
+use Rattle.request.specs.Request.{requestOf, judge, readRequest}
+
+fourth-fails : (a b c d e : Bool) → d ≡ false → a && b && c && d && e ≡ false
+fourth-fails false b c d e z = refl
+fourth-fails true false c d e z = refl
+fourth-fails true true false d e z = refl
+fourth-fails true true true d e z = rw z refl
+
+-- a record is as long as its header says
+pub other-length : (a b head long : ℕ) (s : List ℕ) → (head + long ≡ length s → ⊥) → framed a b head long s ≡ false
+unfolding framed
+other-length a b head long s h = fourth-fails (leb head (length s)) (eqb (getD s 0 0) a) (eqb (getD s 1 0) b) (eqb (head + long) (length s)) (eqb (long % 2) 0) (ne-eqb (head + long) (length s) h)
+
+-- no request is longer than its header can say
+pub overlong : (m : Module) (report : ℕ) (bytes : List ℕ) → Bytes bytes → 4 + absent < length bytes → readRequest m report bytes ≡ refused 12
+unfolding judge requestOf fieldAt
+overlong m report bytes h l =
+    let one = h 2 in
+    let other = h 3 in
+    rw (other-length 82 81 4 (fieldAt bytes 2) bytes (λ e. omega arith))
 
 module _ (a b head long : ℕ) (s : List ℕ) where
   pub frame-short : length s < head → false ≡ framed a b head long s
@@ -27,10 +50,7 @@ module _ (a b head long : ℕ) (s : List ℕ) where
 
       module _ (second : getD s 1 0 ≡ b) where
         pub frame-other : (long ≡ length s - head → ⊥) → false ≡ framed a b head long s
-        unfolding framed
-        frame-other h =
-            let other : head + long ≡ length s → ⊥ = λ e. h (omega arith) in
-            rw (le-leb head (length s) inside, eq-eqb (getD s 0 0) a first, eq-eqb (getD s 1 0) b second, ne-eqb (head + long) (length s) other)
+        frame-other h = sym (other-length a b head long s (λ e. h (omega arith)))
 
         pub frame-even : long ≡ length s - head → eqb (long % 2) 0 ≡ framed a b head long s
         unfolding framed

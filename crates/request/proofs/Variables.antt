@@ -14,7 +14,7 @@ use Rattle.field.specs.Limits.{absent, maxDepth}
 use Rattle.part.specs.PartReq.{PartReq, more, spine}
 use Rattle.part.specs.Store.{top, part, Good, Kept, Made}
 use Rattle.part.proofs.Pieces.{part-2}
-use Rattle.context.specs.RequiredContext.{variable}
+use Rattle.context.specs.RequiredContext.{variable, returnEntry}
 use Rattle.request.specs.declared.parts.ReadPart.{ReadPart}
 use Rattle.request.specs.declared.parts.ReadPart.the-variants as parts
 use Rattle.request.specs.declared.lists.Optional.{Optional}
@@ -22,7 +22,7 @@ use Rattle.request.specs.declared.lists.Optional.the-variants.{Nothing, 
 use Rattle.request.specs.declared.lists.ReadOption.{ReadOption}
 use Rattle.request.specs.declared.lists.ReadOption.the-variants.{Malformed, Got}
 use Rattle.request.specs.Fields.{Read, malformed, got, _>>=_}
-use Rattle.request.specs.Part.{readEntries, readPart, readReturn, readVariables, asked}
+use Rattle.request.specs.Part.{readEntries, readPart, readReturn, readVariables}
 use Rattle.request.specs.Request.{allBelow}
 use Rattle.request.specs.Answers.{from, RoomFor, Spent, PartWasRead, optional, Held, optionRead, OptionPlaced, OptionWasRead, sorted, skimmed}
 use Rattle.request.proofs.Bytes.{from-cons, from-end}
@@ -276,14 +276,14 @@ variables-read limit {s} {t} {b} {at} {i} {a} f was =
 
 -- the returned value's entry
 module _ {s : List ℕ} {o : Optional} where
-  pub returned-none : Good s → o ≡ Nothing → Made s s (asked (optional s o)) 1 2
-  unfolding asked
+  pub returned-none : Good s → o ≡ Nothing → Made s s (returnEntry (optional s o)) 1 2
+  unfolding returnEntry
   returned-none g e =
       record { kept = kept-same g; piece = omega (arith, g .base); is = part-2 s ∙ rw e; cost = omega arith }
 
   pub returned-part : {t : List ℕ} {p m : ℕ} → o ≡ Piece p → Made s t (more spine (part s p) (part s 2)) 1 m
-      → Made s t (asked (optional s o)) 1 m
-  unfolding asked
+      → Made s t (returnEntry (optional s o)) 1 m
+  unfolding returnEntry
   returned-part e made =
       record { kept = made .kept; piece = made .piece; is = made .is ∙ rw (e, part-2 s); cost = made .cost }
 

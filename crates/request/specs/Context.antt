@@ -8,15 +8,15 @@ use lib.ListN.{length, drop}
 use Rattle.field.specs.Field.{wordAt}
 use Rattle.part.specs.PartReq.{PartReq}
 use Rattle.module.specs.Module.{Function, Module}
-use Rattle.context.specs.RequiredContext.{RequiredContext, variable}
+use Rattle.context.specs.RequiredContext.{RequiredContext, variable, returnEntry}
 use Rattle.request.specs.Fields.{fields, bytesOf, framed, Read, got, _>>=_, whole, Answer, refused, accepted}
-use Rattle.request.specs.Part.{readReturn, readVariables, asked, writeReturn, writeVariables}
+use Rattle.request.specs.Part.{readReturn, readVariables, writeReturn, writeVariables}
 use Rattle.request.specs.Request.{allBelow}
 
 unfoldable pub readLists : Option PartReq → List ℕ → Read RequiredContext
 readLists retval fs =
     readVariables fs >>= λ globals gs. readVariables gs >>= λ args hs. readVariables hs >>= λ locals ks.
-    got (record { globals = globals; locals = locals; args = args; retval = asked retval }) ks
+    got (record { globals = globals; locals = locals; args = args; retval = returnEntry retval }) ks
 
 unfoldable pub readContextBody : List ℕ → Read RequiredContext
 readContextBody fs = readReturn fs >>= readLists

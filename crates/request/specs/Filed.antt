@@ -1,23 +1,16 @@
 -- What a file can hold.
-use Prim.Native.Nat.{ℕ, _<_}
 use mathlib.Core.Path.{_≡_}
 use mathlib.Core.Bool.{false}
 use Rattle.field.specs.Limits.{absent}
 use Rattle.part.specs.PartReq.{PartReq, all, exist, none, more, over}
 use Rattle.part.specs.Ascending.{Ascending, From}
+use Rattle.part.specs.Limited.{Indexed, Plain}
 use Rattle.context.specs.RequiredContext.{RequiredContext, variable}
-
--- the indexes on the first level are below b, and those of the parts below absent
-abbrev pub Indexed : (b : ℕ) → PartReq → Type 0
-Indexed b all = Unit {0}
-Indexed b exist = Unit {0}
-Indexed b none = Unit {0}
-Indexed b (more i p r) = (i < b) × (Indexed absent p × Indexed b r)
 
 -- a requirement: no index is absent, they ascend, and no limit is passed
 pub record Filed (p : PartReq) : Type 0 where
   pub ascends : Ascending p
-  pub indexed : Indexed absent p
+  pub indexed : Plain p
   pub within : over p ≡ false
 
 -- the entries of variables: no variable is absent, they ascend, and their parts pass no limit

@@ -6,7 +6,6 @@ use mathlib.Core.Option.{Option, some, none as nothing}
 use lib.Dec.{leb, ltb, eqb}
 use Rattle.field.specs.Limits.{absent, maxDepth, maxEntries}
 use Rattle.part.specs.PartReq.{PartReq, all, exist, none, more, width, spine}
-use Rattle.context.specs.RequiredContext.{variable}
 use Rattle.request.specs.Fields.{Read, malformed, got, _>>=_, asField}
 
 -- n entries, index and part each, `part` reading a part: no index is absent, none is below `low`, and they ascend. In the requirement the index
@@ -46,11 +45,6 @@ readReturn (c ∷ fs) =
 unfoldable pub readVariables : List ℕ → Read PartReq
 readVariables [] = malformed
 readVariables (n ∷ fs) = readEntries (readPart maxDepth) spine 0 n fs
-
--- the returned value's entry in a context
-unfoldable pub asked : Option PartReq → PartReq
-asked nothing = none
-asked (some p) = more (variable 0) p none
 
 -- code and count, with the fields of the entries
 unfoldable pub withCode : PartReq → List ℕ → List ℕ

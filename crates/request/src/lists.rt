@@ -4,7 +4,8 @@ ghost use lib.ListN.{length};
 ghost use Rattle.field.specs.Limits.{absent, maxDepth};
 ghost use Rattle.part.specs.PartReq.{spine};
 ghost use Rattle.part.specs.Store.{Good, Room, Made};
-ghost use Rattle.request.specs.Part.{readPart, readEntries, readReturn, readVariables, asked};
+ghost use Rattle.context.specs.RequiredContext.{returnEntry};
+ghost use Rattle.request.specs.Part.{readPart, readEntries, readReturn, readVariables};
 ghost use Rattle.request.specs.Answers.{from, optional, sorted, skimmed, Held, RoomFor, OptionWasRead};
 use crate::parts::ReadPart;
 use crate::parts::read_part;
@@ -132,7 +133,7 @@ pub fn read_variables(cells: &mut [u32], bytes: &[u8], at: usize, limit: u32) ->
 pub fn returned(cells: &mut [u32], retval: Optional) -> u32
     requires { ⌜ Good (now cells) ⌝ }
     requires { ⌜ Room (now cells) 1 × Held (now cells) retval ⌝ }
-    ensures { λ n. ⌜ Made (now (cells .entry)) (now (cells .exit)) (asked (optional (now (cells .entry)) retval)) 1 n ⌝ }
+    ensures { λ n. ⌜ Made (now (cells .entry)) (now (cells .exit)) (returnEntry (optional (now (cells .entry)) retval)) 1 n ⌝ }
 {
     match retval {
         Optional::Nothing => 2,

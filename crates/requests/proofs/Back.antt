@@ -1,6 +1,6 @@
 -- What a request leaves in the answer's buffer is read back as its report, whatever stands behind it: for any module, request and buffers, of any bytes, where the reply is a number of visits. The
 -- context and the records by the laws of their own forms; that they can be written, by what every walk keeps; that the answer fits, by what a walk holds at most.
-use Prim.Native.Nat.{ℕ, _+_, _*_, _<_, _≤_}
+use Prim.Native.Nat.{ℕ, _+_, _*_, _≤_}
 use native.Mathlib.Omega.{arith}
 use native.Mathlib.Decide.{decLt}
 use native.Mathlib.Nat.{mod-add-div}
@@ -9,41 +9,38 @@ use mathlib.Core.Bool.{Bool, true, false, cond}
 use mathlib.Core.List.{List, [], _++_, append-nil}
 use mathlib.Core.Option.{some}
 use lib.Dec.{ltb, leb, eqb}
-use lib.ListN.{length, getD, drop}
+use lib.ListN.{length, drop}
 use lib.Seq.{sets-eq}
 use borrow.Author.Tests.{ltb-false}
-use Rattle.field.specs.Field.{fieldAt}
+use Rattle.field.specs.Field.{Bytes}
 use Rattle.field.specs.Limits.{absent, maxPieces}
 use Rattle.module.specs.Module.{Module}
 use Rattle.module.specs.File as file
-use Rattle.context.specs.RequiredContext.{RequiredContext}
+use Rattle.context.specs.RequiredContext.{RequiredContext, returnEntry}
 use Rattle.request.specs.Fields as reading
 use Rattle.request.specs.Fields.{got, whole}
 use Rattle.request.specs.Filed.{FiledContext}
-use Rattle.request.specs.Request.{Request, requestOf, judge, readRequest}
+use Rattle.request.specs.Request.{Request, readRequest}
+use Rattle.request.proofs.Frame.{overlong}
 use Rattle.request.proofs.Back.{context-body}
 use Rattle.walk.specs.State.{Records, State, nowhere, Out, went, halt, sumOf, count}
 use Rattle.walk.specs.StatementReq.{mark}
 use Rattle.walk.specs.Resolve.{functionAt}
 use Rattle.walk.specs.Function.{entered}
-use Rattle.walk.specs.Requests.{Pruner, Report, Answer, reported, asked, endCount, ended, begun, walkRequest, reportOf, answered, request}
+use Rattle.walk.specs.Requests.{Pruner, Report, Answer, reported, endCount, ended, begun, walkRequest, reportOf, answered, request}
 use Rattle.walk.specs.Proper.{EachRecord, ProperState}
 use Rattle.walk.proofs.Ends as ends
 use Rattle.walk.proofs.Counts.{recordPieces-replicate}
 use Rattle.walk.proofs.Proper.{walk-proper}
 use Rattle.walk.proofs.Room.{function-owns}
-use Rattle.sound.specs.Asked.{WasRead}
 use Rattle.sound.proofs.Asked as sound
 use Rattle.sound.proofs.There.{function-valid}
 use Rattle.sound.proofs.Walks.{module-valid, module-sound}
 use Rattle.pruner.specs.Form.{minPruner, writeRecords, readRecords, readPruner}
-use Rattle.pruner.specs.Filed.{NamedRecords}
 use Rattle.pruner.proofs.Fine.{context-filed}
 use Rattle.pruner.proofs.Framed.{wide-word, wide-stated, wide-framed, wide-fields}
-use Rattle.pruner.proofs.Header.{other-length}
 use Rattle.pruner.proofs.Back.{records-back}
 use Rattle.pruner.proofs.Read.{read-fine, read-few}
-use Rattle.pruner.proofs.Walks.{reported-named}
 use Rattle.requests.specs.Answer.{minAnswer, answerBody, writeAnswer}
 use Rattle.requests.specs.ReadAnswer.{Answered, answeredOf, readBody, readAnswer}
 use Rattle.requests.specs.Begin.{baseOf}
@@ -64,14 +61,14 @@ unfolding mark
 flag-is true = refl
 flag-is false = refl
 
-module _ (required : Bool) (visits : ℕ) (context : RequiredContext) (exprs : Records) (filed : FiledContext context) (each : EachRecord exprs) (named : NamedRecords exprs) where
+module _ (required : Bool) (visits : ℕ) (context : RequiredContext) (exprs : Records) (filed : FiledContext context) (each : EachRecord exprs) where
   abbrev told : Answered
   told = record { required = required; visits = visits; context = context; exprs = exprs }
 
   body-back : readBody (length exprs) (answerBody required visits context exprs) ≡ got told []
   unfolding readBody answerBody
   body-back =
-      let records : readRecords (length exprs) (writeRecords exprs) ≡ got exprs [] = ap (readRecords (length exprs)) (sym (append-nil (writeRecords exprs))) ∙ records-back exprs [] each named in
+      let records : readRecords (length exprs) (writeRecords exprs) ≡ got exprs [] = ap (readRecords (length exprs)) (sym (append-nil (writeRecords exprs))) ∙ records-back exprs [] each in
       rw (flag-small required, flag-is required, mod-add-div visits 65536, context-body context (writeRecords exprs) filed, records)
 
   -- An answer that is written is read back, whatever follows it, where a file can hold its parts.
@@ -80,18 +77,6 @@ module _ (required : Bool) (visits : ℕ) (context : RequiredContext) (exprs : R
   readAnswer-writeAnswer rest =
       let body = answerBody required visits context exprs in
       rw (wide-stated 65 78 body rest, wide-word 65 78 body rest, wide-framed 65 78 body, wide-fields 65 78 body, body-back)
-
--- as a slice has them
-abbrev pub Bytes : List ℕ → Type 0
-Bytes s = (k : ℕ) → getD s k 0 < 256
-
--- no request is longer than its header can say
-overlong : (m : Module) (report : ℕ) (bytes : List ℕ) → Bytes bytes → 4 + absent < length bytes → readRequest m report bytes ≡ reading.refused 12
-unfolding judge requestOf fieldAt
-overlong m report bytes h l =
-    let one = h 2 in
-    let other = h 3 in
-    rw (other-length 82 81 4 (fieldAt bytes 2) bytes (λ e. omega arith))
 
 short : (m : Module) (report : ℕ) (bytes : List ℕ) (q : Request) → Bytes bytes → readRequest m report bytes ≡ reading.accepted q → length bytes ≤ 4 + absent
 short m report bytes q h e =
@@ -102,9 +87,6 @@ short m report bytes q h e =
 
 module _ (s : List ℕ) (m : Module) (read : file.readModule s ≡ file.accepted m) (totals bytes : List ℕ) (pruner : Pruner) (q : Request) (report : ℕ) (are : Bytes bytes)
     (before : readPruner m totals ≡ reading.accepted pruner) (asks : readRequest m report bytes ≡ reading.accepted q) where
-  was-read : WasRead m q
-  was-read = record { report = report; bytes = bytes; is = asks }
-
   -- what the walk is entered with: the base context and the totals
   entered-few : count 0 (entered m (q .function) (baseOf q) (begun pruner)) ≤ 3 * maxPieces
   unfolding entered begun count sumOf
@@ -120,7 +102,7 @@ module _ (s : List ℕ) (m : Module) (read : file.readModule s ≡ file.accepted
   walk-owns : ends.Ends ends.Any (λ st b. count 0 st ≤ 6 * maxPieces) (walkRequest m pruner q)
   unfolding walkRequest
   walk-owns =
-      ends.ends-then (λ st b. ended b st) (function-owns m (q .function) nowhere (3 * maxPieces) 0 (q .globals) (asked (q .retval)) (begun pruner) (omega arith) entered-few)
+      ends.ends-then (λ st b. ended b st) (function-owns m (q .function) nowhere (3 * maxPieces) 0 (q .globals) (returnEntry (q .retval)) (begun pruner) (omega arith) entered-few)
       (λ st b few. at-end st b (omega (arith, few)))
     where
       at-end : (st : State) (b : Bool) → count 0 st ≤ 6 * maxPieces → ends.Ends ends.Any (λ st b. count 0 st ≤ 6 * maxPieces) (ended b st)
@@ -146,9 +128,8 @@ module _ (s : List ℕ) (m : Module) (read : file.readModule s ≡ file.accepted
     pub report-back : (rest : List ℕ) → readAnswer (length (functionAt m (q .function) .expressions)) (writeAnswer b (st .visits) (st .context) (st .exprs) ++ rest) ≡ some (answeredOf report-left)
     unfolding reportOf
     report-back rest =
-        let named = reported-named s m read totals pruner q before was-read e in
         rw (← proper .exprs .long)
-        (readAnswer-writeAnswer b (st .visits) (st .context) (st .exprs) (context-filed m (q .function) (st .context) (proper .context) (named .context)) (proper .exprs .each) (named .exprs) rest)
+        (readAnswer-writeAnswer b (st .visits) (st .context) (st .exprs) (context-filed m (q .function) (st .context) (proper .context) (module-valid s m read)) (proper .exprs .each) rest)
 
 -- A request that was answered by n visits: what the bytes mean, its report by definition, and that a caller reads the answer's buffer as that report.
 pub record Reported (s bytes : List ℕ) (lent : Lent) (n : ℕ) : Type 0 where

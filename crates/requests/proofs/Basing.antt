@@ -10,46 +10,29 @@ use native.Mathlib.Decide.{decLt}
 use borrow.Author.Tests.{ne-eqb}
 use Rattle.field.specs.Limits.{absent}
 use Rattle.field.specs.Field.{fieldAt}
-use Rattle.part.specs.PartReq.{none, more}
+use Rattle.part.specs.PartReq.{none}
 use Rattle.part.specs.StoreLimits.{cellWords, tableWords}
-use Rattle.part.specs.Store.{top, part, Good, Room, Made}
+use Rattle.part.specs.Store.{top, part, Made}
 use Rattle.part.proofs.Pieces.{part-2}
-use Rattle.context.specs.RequiredContext.{variable}
+use Rattle.context.specs.RequiredContext.{returnEntry}
 use Rattle.request.specs.Fields.{framed, accepted, refused}
 use Rattle.request.specs.Request.{Request, asking, isRequest, requestOf, judge}
 use Rattle.request.specs.Answers.{optional, Held, RequestHeld, RequestWasRead}
-use Rattle.request.specs.declared.lists.Optional.{Optional}
-use Rattle.request.specs.declared.lists.Optional.the-variants.{Nothing, Piece}
 use Rattle.request.specs.declared.requests.Request as declared
 use Rattle.request.specs.declared.requests.RequestAnswer.{RequestAnswer}
 use Rattle.request.specs.declared.requests.RequestAnswer.the-variants as answer
-use Rattle.walk.specs.Statement.{needOf, retvalOf}
-use Rattle.walk.specs.Requests.{asked}
 use Rattle.memory.specs.Layout.{globalsSlot, stackSlot}
 use Rattle.memory.specs.Stretches.{fourSet}
 use Rattle.memory.specs.Memory.{read, Empty}
 use Rattle.memory.proofs.Slots.{read-at, read-long, kept-read, kept-memory}
-use Rattle.part.proofs.Write.{kept-self}
 use Rattle.memory.proofs.Runs.{four-read, four-memory, four-outside, context-put}
 use Rattle.module.specs.declared.handles.FunctionHandle.{FunctionHandle as Handle}
 use Rattle.requests.specs.Begin.{baseIn, Basing, Based, RequestLoaded}
 use Rattle.requests.specs.declared.begin.Asked.the-variants as asks
 use Rattle.requests.proofs.Few.{base-few}
 
--- the return value's entry
-pub entry-none : {s : List ℕ} {o : Optional} → Good s × Held s o × Room s 1 → o ≡ Nothing → Made s s (asked (optional s o)) 1 2
-unfolding needOf retvalOf
-entry-none {s} P e = rw e (record { kept = kept-self (P .0); piece = omega (arith, P .0 .base); is = part-2 s; cost = omega arith })
-
-pub entry-asks : {s : List ℕ} {o : Optional} {n : ℕ} → Good s × Held s o × Room s 1 → o ≡ Piece n → Good s × (Room s 1 × ((n < top s) × (2 < top s)))
-entry-asks {s} P e = (P .0, (P .2, (subst (Held s) e (P .1), omega (arith, P .0 .base))))
-
-pub entry-made : {s t : List ℕ} {o : Optional} {n r : ℕ} → o ≡ Piece n → Made s t (more (variable 0) (part s n) (part s 2)) 1 r → Made s t (asked (optional s o)) 1 r
-unfolding needOf retvalOf
-entry-made {s} e M = rw e (record { kept = M .kept; piece = M .piece; is = M .is ∙ rw (part-2 s); cost = M .cost })
-
 -- the base context in its four slots
-module _ {s rs : List ℕ} {q : declared.Request} (B : Basing s rs q) {t us : List ℕ} {r : ℕ} (M : Made s t (asked (optional s (q .retval))) 1 r) (saved : us ≡ fourSet rs stackSlot (q .globals) 2 2 r) where
+module _ {s rs : List ℕ} {q : declared.Request} (B : Basing s rs q) {t us : List ℕ} {r : ℕ} (M : Made s t (returnEntry (optional s (q .retval))) 1 r) (saved : us ≡ fourSet rs stackSlot (q .globals) 2 2 r) where
   pub based : Based s rs q t us
   based =
       let kept = M .kept in

@@ -17,7 +17,7 @@ use Rattle.request.specs.Fields as reading
 use Rattle.request.specs.Request.{Request, requestOf, judge, readRequest}
 use Rattle.valid.proofs.Accepted.{valid}
 use Rattle.walk.specs.Marks.{writeMarks}
-use Rattle.walk.specs.Requests.{Pruner, asked}
+use Rattle.walk.specs.Requests.{Pruner}
 use Rattle.sound.proofs.Asked as sound
 use Rattle.memory.specs.Layout.{globalsSlot, exprsSlot, totalsSlot, stackSlot, most}
 use Rattle.memory.specs.Memory.{read, sumFrom, counted, contextAt, Memory, Tidied}

@@ -4,23 +4,23 @@ use Prim.Native.Nat.{ℕ, zero, suc, _+_, _-_, _<_, _≤_}
 use native.Mathlib.Omega.{arith}
 use mathlib.Core.Path.{_≡_, refl, sym, ap, _∙_}
 use mathlib.Core.List.{List}
-use mathlib.Core.Option.{Option, some, none as nothing}
+use mathlib.Core.Option.{none as nothing}
 use lib.ListN.{length, getD, replicate, length-replicate}
 use Rattle.part.specs.PartReq.{PartReq, none, entries}
 use Rattle.module.specs.Module.{Function, Module}
 use Rattle.module.specs.File.{readModule, accepted}
 use Rattle.module.specs.Tables.{rowAt, expressionsFrom, maxItems, moduleOf}
 use Rattle.access.proofs.Access.{expressions-are}
-use Rattle.context.specs.RequiredContext.{RequiredContext, pieces}
+use Rattle.context.specs.RequiredContext.{RequiredContext, pieces, returnEntry}
 use Rattle.request.specs.Request.{Request}
 use Rattle.walk.specs.State.{State, nowhere, recordPieces, totalPieces}
 use Rattle.walk.specs.Resolve.{functionAt}
 use Rattle.walk.specs.Marks.{stretch, bodyOf}
-use Rattle.walk.specs.Statement.{needOf, retvalOf}
 use Rattle.walk.specs.Function.{entered, stepFunction, addFunction}
-use Rattle.walk.specs.Requests.{Pruner, asked, begun}
-use Rattle.walk.specs.Proper.{FineRecord, EachRecord, EachMark, Variables, FineContext, ProperState}
+use Rattle.walk.specs.Requests.{Pruner, begun}
+use Rattle.walk.specs.Proper.{EachRecord, EachMark, FineContext, ProperState}
 use Rattle.walk.proofs.Counts.{recordPieces-replicate}
+use Rattle.walk.proofs.Proper.{retval-asked}
 use Rattle.sound.proofs.Blocks.{record-within}
 use Rattle.sound.proofs.Numbers.{body-there}
 use Rattle.sound.proofs.Walks.{module-valid, function-is}
@@ -63,11 +63,6 @@ base-counts ps l no-records above =
       sum-empty ps (stackSlot + 4) rest (λ k x y. above k x),
     )
 
-retval-asked : (o : Option PartReq) → FineRecord o → Variables 1 (asked o)
-unfolding needOf retvalOf
-retval-asked nothing h = tt
-retval-asked (some p) h = (omega arith, omega arith, h, tt)
-
 -- no record and no mark
 each-none : (n : ℕ) → EachRecord (replicate n nothing)
 each-none zero = tt
@@ -89,7 +84,7 @@ module _ {bytes t types places s rs open-marks totals : List ℕ} {q : Request} 
   m = moduleOf bytes t
 
   abbrev base : RequiredContext
-  base = record { globals = q .globals; locals = none; args = none; retval = asked (q .retval) }
+  base = record { globals = q .globals; locals = none; args = none; retval = returnEntry (q .retval) }
 
   base-fine : FineContext m (q .function) base
   base-fine = record { globals = L .fine .globals; locals = tt; args = tt; retval = retval-asked (q .retval) (L .fine .retval) }
@@ -194,4 +189,4 @@ module _ {bytes t types places s rs open-marks totals : List ℕ} {q : Request} 
       let st = stateIn bytes t s rs open-marks totals (q .function) stackSlot 0 in
       ap (λ (x : PartReq). addFunction m (q .function) nowhere 0 x (getD (read s rs) (stackSlot + 3) none) st) (ap (λ (c : RequiredContext). c .globals) (L .base-is))
       ∙ ap (λ (x : PartReq). addFunction m (q .function) nowhere 0 (q .globals) x st) (ap (λ (c : RequiredContext). c .retval) (L .base-is))
-      ∙ same-walk bytes m (L .was-read .module-is) (q .function) (q .globals) (asked (q .retval)) st (begun pruner) (unfold begun in L .globals-are) (unfold begun in L .functions-are) (unfold begun in refl)
+      ∙ same-walk bytes m (L .was-read .module-is) (q .function) (q .globals) (returnEntry (q .retval)) st (begun pruner) (unfold begun in L .globals-are) (unfold begun in L .functions-are) (unfold begun in refl)

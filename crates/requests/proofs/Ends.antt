@@ -11,7 +11,8 @@ use Rattle.module.specs.Tables.{moduleOf}
 use Rattle.request.specs.Request.{Request}
 use Rattle.walk.specs.State.{State, Place, nowhere, Out, went, halt, recordPieces}
 use Rattle.walk.specs.Function.{addFunction}
-use Rattle.walk.specs.Requests.{Pruner, reported, refused, asked, endCount, ended, begun, walkRequest, reportOf, answered, request}
+use Rattle.context.specs.RequiredContext.{returnEntry}
+use Rattle.walk.specs.Requests.{Pruner, reported, refused, endCount, ended, begun, walkRequest, reportOf, answered, request}
 use Rattle.memory.specs.Layout.{exprsSlot}
 use Rattle.memory.specs.Memory.{read}
 use Rattle.state.specs.State.{recordsIn}
@@ -20,7 +21,7 @@ use Rattle.block.specs.Functions.{FunctionEnded}
 
 -- the walk that a request is, up to 16 at its end
 abbrev pub walks : (bytes t : List ℕ) → Pruner → Request → Out Bool
-walks bytes t pruner q = addFunction (moduleOf bytes t) (q .function) nowhere 0 (q .globals) (asked (q .retval)) (begun pruner)
+walks bytes t pruner q = addFunction (moduleOf bytes t) (q .function) nowhere 0 (q .globals) (returnEntry (q .retval)) (begun pruner)
 
 module _ (bytes t : List ℕ) (pruner : Pruner) (q : Request) where
   -- it was refused on the way

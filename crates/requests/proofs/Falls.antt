@@ -14,9 +14,9 @@ use Rattle.part.specs.PartReq.{PartReq, all, exist, Subpart, gone, there, getSu
 use Rattle.module.specs.Module.{ExpressionHandle, FunctionHandle, BlockHandle, Module, GatherMode, BroadcastFirst, Broadcast, SwitchCase, Statement, Emit, Block, If, Switch, Loop, Break, Continue, Return, Kill, ControlBarrier, MemoryBarrier, ImageAtomic, Store, AtomicStatement, Call, ImageStore, RayQuery, WorkGroupUniformLoad, SubgroupBallot, SubgroupGather, SubgroupCollectiveOperation}
 use Rattle.module.specs.Knot.{knot, below}
 use Rattle.module.proofs.Knot.{knot-is}
-use Rattle.context.specs.RequiredContext.{RequiredContext, containsContext, pieces, variable, VarRef, RemovedContext, leftContext, panicContext, removeVar}
+use Rattle.context.specs.RequiredContext.{RequiredContext, containsContext, pieces, overContext, variable, VarRef, RemovedContext, leftContext, panicContext, removeVar}
 use Rattle.valid.specs.Valid.{EachBelow, MaybeBelow, ModeBelow, UsesBelow}
-use Rattle.walk.specs.State.{State, Place, atExpression, atStatement, nowhere, Out, went, halt, Walk, _>>=_, _>>_, visited, withContext, count, counted, limited, overContext, limitedContext, visitWhen, visit}
+use Rattle.walk.specs.State.{State, Place, atExpression, atStatement, nowhere, Out, went, halt, Walk, _>>=_, _>>_, visited, withContext, count, counted, limited, limitedContext, visitWhen, visit}
 use Rattle.walk.specs.Resolve.{VarRefPart, resolved, unresolved, resolveVar, functionAt, expressionAt, isThere, storeRequired}
 use Rattle.walk.specs.Expression.{Ask, ofOperand, ofArgument, ofGlobal, ofLocal, refuse, armAsks, askArgument, askGlobal, askLocal, addAsk, addAsks, recorded, stepExpression, noOperand, addExpression}
 use Rattle.walk.specs.StatementReq.{StatementReq}

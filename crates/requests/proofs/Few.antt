@@ -9,12 +9,10 @@ use lib.Dec.{leb, ltb, eqb}
 use lib.ListN.{length, drop, length-drop}
 use Rattle.field.specs.Limits.{absent, maxDepth, maxEntries, maxPieces, minReport}
 use Rattle.part.specs.PartReq.{PartReq, all, exist, entries, spine}
-use Rattle.context.specs.RequiredContext.{pieces}
+use Rattle.context.specs.RequiredContext.{pieces, returnEntry}
 use Rattle.request.specs.Fields.{fields, Read, malformed, got, _>>=_, whole, accepted, refused}
 use Rattle.request.specs.Part.{readEntries, readLevel, byCode, readPart, readReturn, readVariables}
 use Rattle.request.specs.Request.{Request, readBody, isRequest, requestOf, known, judge}
-use Rattle.walk.specs.Statement.{needOf, retvalOf}
-use Rattle.walk.specs.Requests.{asked}
 use Rattle.sound.proofs.Parts.{OnGot}
 use Rattle.sound.proofs.Asked.{OnSome, OnAccepted, whole-on, some-when}
 use Rattle.requests.specs.Begin.{baseOf}
@@ -137,8 +135,8 @@ request-few functions globals report s =
     judge-few functions globals report (length fs) (cond (isRequest s) (whole (readBody fs)) nothing)
     (some-when (Asks (length fs)) (isRequest s) (whole (readBody fs)) (whole-on (Asks (length fs)) (readBody fs) (got-few (length fs) (readBody fs) (body-cost fs))))
 
-asked-few : (o : Option PartReq) → entries (asked o) ≤ 1 + returned o
-unfolding needOf retvalOf entries
+asked-few : (o : Option PartReq) → entries (returnEntry o) ≤ 1 + returned o
+unfolding returnEntry entries
 asked-few nothing = omega arith
 asked-few (some p) = omega arith
 

@@ -11,7 +11,7 @@ use Rattle.field.specs.Limits.{maxPieces}
 use Rattle.part.specs.PartReq.{PartReq}
 use Rattle.module.specs.Module.{FunctionHandle, BlockHandle, Module, SwitchCase, Statement, Emit, Block, If, Switch, Loop, Break, Continue, Return, Kill, ControlBarrier, MemoryBarrier, ImageAtomic, Store, AtomicStatement, Call, ImageStore, RayQuery, WorkGroupUniformLoad, SubgroupBallot, SubgroupGather, SubgroupCollectiveOperation}
 use Rattle.module.proofs.Knot.{knot-all}
-use Rattle.context.specs.RequiredContext.{RequiredContext, pieces}
+use Rattle.context.specs.RequiredContext.{RequiredContext, pieces, returnEntry}
 use Rattle.request.specs.Request.{Request}
 use Rattle.valid.specs.Valid.{entriesBelow, Valid}
 use Rattle.walk.specs.State.{FunctionReq, State, Place, atStatement, nowhere, Out, went, halt, Walk, withContext}
@@ -19,7 +19,7 @@ use Rattle.walk.specs.Resolve.{functionAt}
 use Rattle.walk.specs.Marks.{statementAt, blockAt, bodyOf, orElse, rayOfCases, rayOf, rayFrom, firstRay}
 use Rattle.walk.specs.Statement.{FunctionWalk, BlockWalk, addStatements, stepBlock, noBlock, addBlock}
 use Rattle.walk.specs.Function.{joinTotal, addTotal, stepFunction, noFunction, addFunction}
-use Rattle.walk.specs.Requests.{Pruner, Answer, reported, refused, asked, endCount, ended, begun, walkRequest, answered, request}
+use Rattle.walk.specs.Requests.{Pruner, Answer, reported, refused, endCount, ended, begun, walkRequest, answered, request}
 use Rattle.sound.proofs.There.{has-statements, block-there, uses-below}
 use Rattle.sound.proofs.Lower.{statements-there}
 use Rattle.sound.proofs.Asked.{OnSome}
@@ -135,7 +135,7 @@ module _ (m : Module) (v : Valid m) where
   walk-falls : (pruner : Pruner) (q : Request) → Falls (InModule m) (walkRequest m pruner q)
   unfolding walkRequest ended
   walk-falls pruner q =
-      falls-then _ (function-falls (q .function) nowhere 0 (q .globals) (asked (q .retval)) (begun pruner) tt) (λ st r. falls-when (ltb maxPieces (endCount st)) 16 nowhere st r tt)
+      falls-then _ (function-falls (q .function) nowhere 0 (q .globals) (returnEntry (q .retval)) (begun pruner) tt) (λ st r. falls-when (ltb maxPieces (endCount st)) 16 nowhere st r tt)
 
   answered-falls : (pruner : Pruner) (f : FunctionHandle) (x : Out Bool) → Falls (InModule m) x → OnRefused (InModule m) (answered m pruner f x .0)
   answered-falls pruner f (went st r) goes = tt

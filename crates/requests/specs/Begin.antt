@@ -10,12 +10,12 @@ use Rattle.part.specs.StoreLimits.{storeWords, entriesCap}
 use Rattle.module.specs.Module.{Module}
 use Rattle.module.specs.Tables.{moduleOf}
 use Rattle.context.specs.Types.{typesOf}
-use Rattle.context.specs.RequiredContext.{RequiredContext, pieces}
+use Rattle.context.specs.RequiredContext.{RequiredContext, pieces, returnEntry}
 use Rattle.request.specs.Fields as reading
 use Rattle.request.specs.Request.{Request, readRequest, judge, requestOf}
 use Rattle.request.specs.Answers.{optional, Held}
 use Rattle.request.specs.declared.requests.Request as declared
-use Rattle.walk.specs.Requests.{Pruner, asked}
+use Rattle.walk.specs.Requests.{Pruner}
 use Rattle.memory.specs.Layout.{globalsSlot, stackSlot, slotCount, storeSize, flatCount}
 use Rattle.memory.specs.Memory.{read, contextAt, withContext, Memory}
 use Rattle.marks.specs.Places.{Places}
@@ -43,11 +43,11 @@ beginning m report bytes pruner = afterRequest m pruner (readRequest m report by
 
 -- the base context of a request's function
 abbrev pub baseOf : Request → RequiredContext
-baseOf q = record { globals = q .globals; locals = none; args = none; retval = asked (q .retval) }
+baseOf q = record { globals = q .globals; locals = none; args = none; retval = returnEntry (q .retval) }
 
 -- the same of the pieces that were read
 abbrev pub baseIn : List ℕ → declared.Request → RequiredContext
-baseIn s q = record { globals = part s (q .globals); locals = none; args = none; retval = asked (optional s (q .retval)) }
+baseIn s q = record { globals = part s (q .globals); locals = none; args = none; retval = returnEntry (optional s (q .retval)) }
 
 -- what the base context asks of the memory
 pub record Basing (s rs : List ℕ) (q : declared.Request) : Type 0 where

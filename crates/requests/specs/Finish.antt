@@ -10,7 +10,8 @@ use Rattle.module.specs.Tables.{moduleOf}
 use Rattle.request.specs.Request.{Request}
 use Rattle.walk.specs.State.{nowhere, Out}
 use Rattle.walk.specs.Function.{addFunction}
-use Rattle.walk.specs.Requests.{Pruner, asked, begun, request}
+use Rattle.context.specs.RequiredContext.{returnEntry}
+use Rattle.walk.specs.Requests.{Pruner, begun, request}
 use Rattle.state.specs.State.{placeOf}
 use Rattle.block.specs.Functions.{FunctionEnded}
 use Rattle.pruner.specs.Form.{minPruner}
@@ -41,5 +42,5 @@ pub record Finishing (bytes t places s rs open-marks totals : List ℕ) (f : Fun
 pub record Finished (bytes t places s rs open-marks totals : List ℕ) (f : FunctionHandle) (base : ℕ) (required : Bool) (visits sum : ℕ) (pruner report answer : List ℕ) (r : declared.Reply)
     (pruner-after report-after answer-after : List ℕ) : Type 0 where
   pub by : (types cells-before slots-before open-before totals-before : List ℕ) (old : Pruner) (q : Request) → q .function ≡ f
-      → FunctionEnded bytes t types places cells-before slots-before open-before totals-before (q .function) base 0 (addFunction (moduleOf bytes t) (q .function) nowhere 0 (q .globals) (asked (q .retval)) (begun old)) visits sum required s rs open-marks totals
+      → FunctionEnded bytes t types places cells-before slots-before open-before totals-before (q .function) base 0 (addFunction (moduleOf bytes t) (q .function) nowhere 0 (q .globals) (returnEntry (q .retval)) (begun old)) visits sum required s rs open-marks totals
       → (replyOf r, record { pruner = pruner-after; report = report-after; answer = answer-after }) ≡ finish (record { pruner = pruner; report = report; answer = answer }) (request (moduleOf bytes t) old q)

@@ -9,11 +9,11 @@ use Rattle.part.specs.PartReq.{none}
 use Rattle.part.specs.Store.{Room}
 use Rattle.module.specs.Tables.{moduleOf}
 use Rattle.context.specs.Types.{typesOf}
-use Rattle.context.specs.RequiredContext.{pieces}
+use Rattle.context.specs.RequiredContext.{pieces, returnEntry}
 use Rattle.request.specs.Request.{Request}
 use Rattle.walk.specs.State.{recordPieces, totalPieces}
 use Rattle.walk.specs.Marks.{stretch}
-use Rattle.walk.specs.Requests.{Pruner, asked}
+use Rattle.walk.specs.Requests.{Pruner}
 use Rattle.walk.specs.Proper.{FineRequest, FinePruner}
 use Rattle.memory.specs.Layout.{globalsSlot, exprsSlot, totalsSlot, functionsSlot, stackSlot, slotCount, room}
 use Rattle.memory.specs.Memory.{read, contextAt, Memory}
@@ -37,7 +37,7 @@ pub record Loaded (bytes t types places s rs open-marks totals : List ℕ) (q : 
   pub functions-are : functionsIn (moduleOf bytes t) t (read s rs) totals ≡ pruner .functions
   pub totals-sum : totalPieces (functionsIn (moduleOf bytes t) t (read s rs) totals) ≡ totalsSum (read s rs)
   pub unwalked : (g : ℕ) → g < length (moduleOf bytes t .functions) → hasTotal totals g ≡ false → recordPieces (recordsIn t totalsSlot g (read s rs)) + pieces (contextAt (read s rs) (functionsSlot + 4 * g)) ≡ 0
-  pub base-is : contextAt (read s rs) stackSlot ≡ record { globals = q .globals; locals = none; args = none; retval = asked (q .retval) }
+  pub base-is : contextAt (read s rs) stackSlot ≡ record { globals = q .globals; locals = none; args = none; retval = returnEntry (q .retval) }
   pub no-records : (k : ℕ) → exprsSlot ≤ k → k < totalsSlot → getD (read s rs) k none ≡ none
   pub above : (k : ℕ) → stackSlot + 4 ≤ k → getD (read s rs) k none ≡ none
   pub no-marks : slice open-marks (startOf (moduleOf bytes t) (q .function)) (stretch (moduleOf bytes t) (q .function)) ≡ replicate (stretch (moduleOf bytes t) (q .function)) 0

@@ -11,10 +11,8 @@ use memory::memory::tidy;
 use memory::memory::weigh;
 use memory::stretches::save_context;
 use module::handles::FunctionHandle;
-use part::limits::SPINE;
-use part::store::make;
 use pruner::lent::read_pruner;
-use request::lists::Optional;
+use request::lists::returned;
 use request::requests::Request;
 use request::requests::RequestAnswer;
 use request::requests::read_request;
@@ -23,10 +21,7 @@ ghost use Prim.Native.Nat.{_+_, _≤_};
 ghost use lib.ListN.{length, getD};
 ghost use Rattle.field.specs.Limits.{absent};
 ghost use Rattle.part.specs.PartReq.{none, entries};
-ghost use Rattle.part.specs.Store.{Good, Room, Made};
 ghost use Rattle.part.specs.StoreLimits.{storeWords};
-ghost use Rattle.request.specs.Answers.{optional, Held};
-ghost use Rattle.walk.specs.Requests.{asked};
 ghost use Rattle.memory.specs.Layout.{globalsSlot, slotCount, storeSize};
 ghost use Rattle.memory.specs.Memory.{read};
 ghost use Rattle.state.specs.State.{totalsSum};
@@ -44,24 +39,13 @@ pub enum Begun {
     Ready(FunctionHandle, usize),
 }
 
-// The return value's entry in the base context.
-fn entry_of(cells: &mut [u32], retval: Optional) -> u32
-    requires { ⌜ Good (now cells) × Held (now cells) retval × Room (now cells) 1 ⌝ }
-    ensures { λ r. ⌜ Made (now (cells .entry)) (now (cells .exit)) (asked (optional (now (cells .entry)) retval)) 1 r ⌝ }
-{
-    match retval {
-        Optional::Nothing => 2,
-        Optional::Piece(p) => make(cells, SPINE, p, 2),
-    }
-}
-
 // The base context of the asked function, at the bottom of the stack.
 fn load_base(cells: &mut [u32], slots: &mut [u32], q: Request)
     requires { ⌜ Basing (now cells) (now slots) q ⌝ }
     ensures { λ _. ⌜ Based (now (cells .entry)) (now (slots .entry)) q (now (cells .exit)) (now (slots .exit)) ⌝ }
 {
     let retval = q.retval;
-    let entry = entry_of(cells, retval);
+    let entry = returned(cells, retval);
     save_context(slots, STACK, q.globals, 2, 2, entry);
 }
 

@@ -15,7 +15,7 @@ use Rattle.clearance.specs.Verdict.{Report, refused, verdict, starts}
 use Rattle.pass.specs.Checked.{answerOf}
 use Rattle.standing.specs.declared.passing.Passing.{Passing}
 use Rattle.context_bytes.specs.Covered.{CoversContext}
-use Rattle.checking.specs.Word.{checkWord}
+use Rattle.checking.specs.Word.{statementBase, refusalUnit, checkWord}
 use Rattle.rounds.specs.Settling.{reported}
 use Rattle.rounds.specs.Rounds.{Answers}
 
@@ -31,17 +31,17 @@ module _ {s : List ℕ} {n : ℕ} {q : Passing} {context : List ℕ} where
     is = λ c marks d e z. h c marks e ∙ rw (z .deep, z .wide, z .fault);
   }
 
-  pub answers-deep : q .deep ≡ true → Answers s n q context (15 * 4294967296)
+  pub answers-deep : q .deep ≡ true → Answers s n q context (15 * refusalUnit)
   unfolding checkWord
   answers-deep a = by-flags (λ c marks e. rw a)
 
   module _ (a : q .deep ≡ false) where
-    pub answers-wide : q .wide ≡ true → Answers s n q context (16 * 4294967296)
+    pub answers-wide : q .wide ≡ true → Answers s n q context (16 * refusalUnit)
     unfolding checkWord
     answers-wide b = by-flags (λ c marks e. rw (a, b))
 
     module _ (b : q .wide ≡ false) where
-      pub answers-fault : (q .fault ≡ absent → ⊥) → Answers s n q context (131072 + q .fault)
+      pub answers-fault : (q .fault ≡ absent → ⊥) → Answers s n q context (statementBase + q .fault)
       unfolding checkWord optionOf verdict
       answers-fault f = by-flags (λ c marks e. rw (a, b, ne-eqb (q .fault) absent f))
 

@@ -23,7 +23,7 @@ use Rattle.standing.specs.Slots.{tableSize, askedSlot, endSlot, stackSlot, Read
 use Rattle.standing.specs.Standing.{Carries, TableIn, Went, Keeps}
 use Rattle.standing.specs.declared.passing.Passing.{Passing}
 use Rattle.standing.proofs.Aside.{beside-high}
-use Rattle.checking.specs.Word.{checkWord}
+use Rattle.checking.specs.Word.{refusalUnit, checkWord}
 use Rattle.rounds.specs.Settling.{Settling, Settled, reported}
 use Rattle.rounds.specs.Rounds.{Between, Asked, Begins, Rounding, Rounded, Renewed, Answers, Settles}
 
@@ -167,11 +167,11 @@ module _ {S : Scope} {R : Request} {marks : List ℕ} (context : List ℕ) where
   unfolding lastPass
   settled-by e h = record { is = λ c z. h c z ∙ ap (λ o. checkWord (answerOf (reported marks c) o)) (sym e) }
 
-  settled-full : settleWithin (setting S R) (bodyTree (S .function) marks) (ending S R) maxRounds [] ≡ some full → Settled S R marks context (26 * 4294967296)
+  settled-full : settleWithin (setting S R) (bodyTree (S .function) marks) (ending S R) maxRounds [] ≡ some full → Settled S R marks context (26 * refusalUnit)
   unfolding answerOf checkWord
   settled-full e = settled-by e (λ c z. refl)
 
-  settled-past : settleWithin (setting S R) (bodyTree (S .function) marks) (ending S R) maxRounds [] ≡ nothing → Settled S R marks context (26 * 4294967296)
+  settled-past : settleWithin (setting S R) (bodyTree (S .function) marks) (ending S R) maxRounds [] ≡ nothing → Settled S R marks context (26 * refusalUnit)
   unfolding answerOf checkWord
   settled-past e = settled-by e (λ c z. refl)
 
@@ -188,11 +188,11 @@ turning-first d = record { ready = d; turn = λ R b. record { table = []; betwee
 
 module _ {S : Scope} (marks : List ℕ) {s₀ rs₀ : List ℕ} {left : ℕ} {s rs : List ℕ} (u : Turning S (bodyTree (S .function) marks) s₀ rs₀ left s rs) where
   -- no round is left
-  pub turning-none : (context : List ℕ) → left ≤ 0 → Settles S marks context s₀ rs₀ (26 * 4294967296)
+  pub turning-none : (context : List ℕ) → left ≤ 0 → Settles S marks context s₀ rs₀ (26 * refusalUnit)
   turning-none context h = record { is = λ R b. settled-past context (turn-none (u .turn R b) h) }
 
   module _ (more : 0 < left) {t us before after : List ℕ} {q : Passing} (w : Rounded S (bodyTree (S .function) marks) s rs t us before after q) where
-    pub turning-full : (context : List ℕ) → q .full ≡ true → Settles S marks context s₀ rs₀ (26 * 4294967296)
+    pub turning-full : (context : List ℕ) → q .full ≡ true → Settles S marks context s₀ rs₀ (26 * refusalUnit)
     turning-full context h = record { is = λ R b. settled-full context (turn-full (u .turn R b) more w h) }
 
     pub turning-last : (context : List ℕ) → q .full ≡ false → q .held ≡ true → {r : ℕ} → Answers t (getD us stackSlot 0) q context r → Settles S marks context s₀ rs₀ r

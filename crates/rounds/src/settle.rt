@@ -10,6 +10,9 @@ use crate::begin::begin;
 use crate::begin::renew;
 use access::function::body_block;
 use backward::blocks::pass_around;
+use checking::words::REFUSAL;
+use checking::words::START;
+use checking::words::STATEMENT;
 use context_bytes::starts::context_covers;
 use field::limits::ABSENT;
 use module::handles::FunctionHandle;
@@ -20,13 +23,6 @@ use standing::passing::STACK;
 
 // The most rounds.
 const ROUNDS: u32 = 65536;
-
-// Numbers of answers: a refusal's number stands from the bit 32 on; below it a statement's has this added, and the start is 1.
-const REFUSAL: u64 = 4294967296;
-
-const STATEMENT: u64 = 131072;
-
-const START: u64 = 1;
 
 // One pass over the body, with the needs at the function's end where each exit leads.
 fn round(

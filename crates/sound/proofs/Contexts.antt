@@ -2,29 +2,23 @@
 use mathlib.Core.Path.{_≡_, refl}
 use mathlib.Core.Bool.{Bool, true, false, cond, _&&_}
 use mathlib.Core.List.{List}
-use mathlib.Core.Option.{Option, some, none as nothing}
+use mathlib.Core.Option.{Option}
 use Prim.Native.Nat.{ℕ}
-use native.Mathlib.Omega.{arith}
 use lib.ListN.{length}
 use Rattle.field.specs.Limits.{absent}
 use Rattle.part.specs.PartReq.{PartReq, spine}
 use Rattle.module.specs.Module.{FunctionHandle, Module}
 use Rattle.context.specs.RequiredContext.{RequiredContext, variable}
 use Rattle.request.specs.Fields.{accepted, refused}
-use Rattle.request.specs.Part.{readReturn, readVariables, asked}
+use Rattle.request.specs.Part.{readReturn, readVariables}
 use Rattle.request.specs.Request.{allBelow}
 use Rattle.request.specs.Context.{readLists, readContextBody, knownContext}
 use Rattle.walk.specs.Resolve.{functionAt}
 use Rattle.walk.specs.Proper.{FineRecord, Variables, FineContext}
-use Rattle.walk.proofs.Parts.{variables-one}
+use Rattle.walk.proofs.Proper.{retval-asked}
 use Rattle.valid.proofs.Fits.{and-left, and-right}
 use Rattle.sound.proofs.Parts.{OnGot, on-then, return-fine, SomeVariables, variables-read, variables-there}
 use Rattle.sound.proofs.Asked.{OnAccepted}
-
-retval-fine : (o : Option PartReq) → FineRecord o → Variables 1 (asked o)
-unfolding asked
-retval-fine nothing h = tt
-retval-fine (some p) h = variables-one 1 0 p (omega arith) h
 
 -- a context of which it is not yet known that what it names is there
 pub record SomeContext (c : RequiredContext) : Type 0 where
@@ -41,7 +35,7 @@ lists-read o fs h =
     on-then SomeVariables SomeContext (readVariables gs) _ (variables-read gs)
     (λ args hs ha.
     on-then SomeVariables SomeContext (readVariables hs) _ (variables-read hs)
-    (λ locals ks hl. record { globals = hg; locals = hl; args = ha; retval = retval-fine o h })))
+    (λ locals ks hl. record { globals = hg; locals = hl; args = ha; retval = retval-asked o h })))
 
 pub body-read : (fs : List ℕ) → OnGot SomeContext (readContextBody fs)
 unfolding readContextBody

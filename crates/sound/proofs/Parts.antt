@@ -94,11 +94,10 @@ level-shallow d k exist h few = absurd h
 level-shallow d k none h few = record { ascends = tt; plain = tt; deep = omega arith; wide = omega arith }
 level-shallow d k (more i p r) h few =
     let rest = level-shallow d (suc i) r (h .3) (omega arith) in
-    let low : i < spine = omega (arith, h .1) in
     let child = h .2 in
     record {
       ascends = (child .ascends, level-from d (suc i) r (h .3));
-      plain = (low, (child .plain, rest .plain));
+      plain = (h .1, (child .plain, rest .plain));
       deep = omega (arith, child .deep, rest .deep);
       wide = omega (arith, child .wide, rest .wide, few);
     }

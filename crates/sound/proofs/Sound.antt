@@ -6,18 +6,17 @@ use native.Mathlib.Decide.{decLt}
 use native.Mathlib.Omega.{arith}
 use lib.ListN.{length, getD, List·getD-eq-default}
 use Rattle.field.specs.Limits.{absent}
-use Rattle.part.specs.PartReq.{PartReq, all, exist, none, more}
+use Rattle.part.specs.PartReq.{PartReq, all}
 use Rattle.part.specs.Limited.{Plain}
 use Rattle.module.specs.Module.{FunctionHandle, TypeHandle, Expression, TypeInner, Scalar, Vector, Matrix, Atomic, Pointer, Array, Struct, BindingArray, Opaque, Module}
 use Rattle.context.specs.Remove.{each, typeToParts}
-use Rattle.request.specs.Filed.{Indexed}
 use Rattle.valid.specs.Valid.{EachBelow, OperandsBelow, NamesBelow, TypeValid, Valid}
 use Rattle.walk.specs.Proper.{Sound}
 use Rattle.walk.specs.Resolve.{functionAt}
 use Rattle.sound.proofs.There.{operands-below, names-below}
 
 -- a letter, and what is given past the last of them
-pub letter-below : (pattern : List ℕ) (k : ℕ) → EachBelow 4 pattern → getD pattern k 0 < 4
+letter-below : (pattern : List ℕ) (k : ℕ) → EachBelow 4 pattern → getD pattern k 0 < 4
 letter-below pattern k h =
     elim (decLt k (length pattern)) [
       | yes l ↦ omega (arith, h k l)
@@ -26,37 +25,31 @@ letter-below pattern k h =
           rw (List·getD-eq-default pattern 0 past) (omega arith)
     ]
 
-each-indexed : (k n : ℕ) (p : PartReq) → k + n ≤ absent → Indexed absent p → Indexed absent (each k n p)
+each-plain : (k n : ℕ) (p : PartReq) → k + n ≤ absent → Plain p → Plain (each k n p)
 unfolding each
-each-indexed k zero p l h = tt
-each-indexed k (suc n) p l h = (omega arith, (h, each-indexed (suc k) n p (omega arith) h))
+each-plain k zero p l h = tt
+each-plain k (suc n) p l h = (omega arith, (h, each-plain (suc k) n p (omega arith) h))
 
-parts-indexed : (n : ℕ) (t : TypeInner) → TypeValid n t → Indexed absent (typeToParts t)
+parts-plain : (n : ℕ) (t : TypeInner) → TypeValid n t → Plain (typeToParts t)
 unfolding typeToParts
-parts-indexed n Scalar v = tt
-parts-indexed n (Vector size) v = each-indexed 0 size all (omega (arith, v .fine)) tt
-parts-indexed n (Matrix columns rows) v =
-    each-indexed 0 columns (each 0 rows all) (omega (arith, v .fine .0)) (each-indexed 0 rows all (omega (arith, v .fine .1)) tt)
-parts-indexed n Atomic v = tt
-parts-indexed n (Pointer base) v = tt
-parts-indexed n (Array base count) v = tt
-parts-indexed n (Struct members) v = each-indexed 0 (length members) all (omega (arith, v .few)) tt
-parts-indexed n (BindingArray base) v = tt
-parts-indexed n Opaque v = tt
-
-indexed-plain : (p : PartReq) → Indexed absent p → Plain p
-indexed-plain all h = tt
-indexed-plain exist h = tt
-indexed-plain none h = tt
-indexed-plain (more i p r) h = (omega (arith, h .0), (indexed-plain p (h .1 .0), indexed-plain r (h .1 .1)))
+parts-plain n Scalar v = tt
+parts-plain n (Vector size) v = each-plain 0 size all (omega (arith, v .fine)) tt
+parts-plain n (Matrix columns rows) v =
+    each-plain 0 columns (each 0 rows all) (omega (arith, v .fine .0)) (each-plain 0 rows all (omega (arith, v .fine .1)) tt)
+parts-plain n Atomic v = tt
+parts-plain n (Pointer base) v = tt
+parts-plain n (Array base count) v = tt
+parts-plain n (Struct members) v = each-plain 0 (length members) all (omega (arith, v .few)) tt
+parts-plain n (BindingArray base) v = tt
+parts-plain n Opaque v = tt
 
 module _ (m : Module) (v : Valid m) where
   -- the parts of a type, and of what is given where there is none
-  pub type-indexed : (t : TypeHandle) → Indexed absent (typeToParts (getD (m .types) t Opaque))
+  type-plain : (t : TypeHandle) → Plain (typeToParts (getD (m .types) t Opaque))
   unfolding typeToParts
-  type-indexed t =
+  type-plain t =
       elim (decLt t (length (m .types))) [
-        | yes l ↦ parts-indexed t (getD (m .types) t Opaque) (v .types t Opaque l)
+        | yes l ↦ parts-plain t (getD (m .types) t Opaque) (v .types t Opaque l)
         | no l ↦
             let past : length (m .types) ≤ t = omega arith in
             rw (List·getD-eq-default (m .types) Opaque past) tt
@@ -74,5 +67,5 @@ module _ (m : Module) (v : Valid m) where
         argument = λ f e i is. subst (Named f) is (names-below m v f e);
         global = λ f e g is. subst (Named f) is (names-below m v f e);
         local = λ f e l is. subst (Named f) is (names-below m v f e);
-        parts = λ t. indexed-plain (typeToParts (getD (m .types) t Opaque)) (type-indexed t);
+        parts = type-plain;
       }

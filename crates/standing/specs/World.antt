@@ -8,7 +8,7 @@ use Rattle.module.specs.Tables.{functionOf}
 use Rattle.access.specs.Access.{statementAt}
 use Rattle.clearance.specs.Judged.{fitsStatement}
 use Rattle.judge.specs.Given.{scopeAt, Given}
-use Rattle.asked.specs.Within.{Read, Judged}
+use Rattle.framed.specs.Given.{Read, Judged}
 
 pub record World (bytes t : List ℕ) (f : ℕ) (types alike paths : List ℕ) : Type 0 where
   pub given : Given bytes t f types alike paths

@@ -7,8 +7,8 @@ use mathlib.Core.Bool.{false, false≢true}
 use mathlib.Core.List.{List, [], _∷_, _++_}
 use lib.ListN.{length, getD}
 use borrow.Author.Tests.{lt-ltb}
-use Rattle.field.specs.Limits.{maxDepth}
-use Rattle.part.specs.PartReq.{PartReq, entries, over, spine, fromIndexes}
+use Rattle.field.specs.Limits.{absent, maxDepth}
+use Rattle.part.specs.PartReq.{PartReq, entries, over, fromIndexes}
 use Rattle.part.proofs.Indexes.{fromIndexes-path, fromIndexes-over}
 use Rattle.module.specs.Module.{Module, FunctionHandle, ExpressionHandle, Expression, Literal, ZeroValue, WorkGroupUniformLoadResult, AccessIndex, Access, Constant, Splat, Swizzle, Compose, FunctionArgument, GlobalVariable, LocalVariable, Load, ImageSample, ImageLoad, ImageQuery, Unary, Binary, Select, Derivative, Relational, Math, As, CallResult, AtomicResult, ArrayLength, RayQueryProceedResult, RayQueryGetIntersection, Override, SubgroupBallotResult, SubgroupOperationResult, RayQueryVertexPositions}
 use Rattle.module.proofs.Knot.{knot-all}
@@ -19,14 +19,14 @@ use Rattle.walk.specs.Proper.{Sound}
 -- indexes as files have them
 abbrev Low : List ℕ → Type 0
 Low [] = Unit {0}
-Low (i ∷ is) = (i < spine) × Low is
+Low (i ∷ is) = (i < absent) × Low is
 
-low-at : (is : List ℕ) → Low is → (n : ℕ) → n < length is → getD is n 0 < spine
+low-at : (is : List ℕ) → Low is → (n : ℕ) → n < length is → getD is n 0 < absent
 low-at [] h n l = absurd (omega arith)
 low-at (i ∷ is) h zero l = h .0
 low-at (i ∷ is) h (suc n) l = low-at is (h .1) n (omega arith)
 
-low-more : (is : List ℕ) (i : ℕ) → Low is → i < spine → Low (is ++ (i ∷ []))
+low-more : (is : List ℕ) (i : ℕ) → Low is → i < absent → Low (is ++ (i ∷ []))
 low-more [] i h l = (l, tt)
 low-more (j ∷ is) i h l = (h .0, low-more is i (h .1) l)
 
@@ -42,7 +42,7 @@ Path unresolved = Unit {0}
 abbrev Paths : (List ℕ → VarRefPart) → Type 0
 Paths r = (is : List ℕ) → Low is → Path (r is)
 
-arm-path : (r : ExpressionHandle → List ℕ → VarRefPart) → ((a : ExpressionHandle) → Paths (r a)) → (x : Expression) → ((base : ExpressionHandle) (i : ℕ) → x ≡ AccessIndex base i → i < spine) → Paths (resolveArm r x)
+arm-path : (r : ExpressionHandle → List ℕ → VarRefPart) → ((a : ExpressionHandle) → Paths (r a)) → (x : Expression) → ((base : ExpressionHandle) (i : ℕ) → x ≡ AccessIndex base i → i < absent) → Paths (resolveArm r x)
 unfolding resolveArm
 arm-path r h Literal g is l = tt
 arm-path r h ZeroValue g is l = tt

@@ -19,7 +19,6 @@ use Rattle.context.proofs.Contexts.{pieces-removed}
 use Rattle.type_table.proofs.AllSized.{all-sized}
 use Rattle.sound.proofs.Walks.{module-valid}
 use Rattle.walk.specs.State.{State, went, halt, withContext, limitedContext}
-use Rattle.walk.specs.State as walk
 use Rattle.walk.specs.Resolve.{functionAt}
 use Rattle.walk.specs.Statement.{Frame, here, takenOut}
 use Rattle.memory.specs.Layout.{ask}
@@ -48,11 +47,11 @@ module _ (fr : Frame) (st : State) where
   taken-13 = refl
 
   taken-15 : (c : RequiredContext) → overContext c ≡ true → halt 15 (here fr) ≡ takenOut fr (leftContext c) st
-  unfolding takenOut limitedContext overContext walk.overContext
+  unfolding takenOut limitedContext
   taken-15 c o = rw o
 
   taken-left : (c : RequiredContext) → overContext c ≡ false → went (withContext c st) tt ≡ takenOut fr (leftContext c) st
-  unfolding takenOut limitedContext overContext walk.overContext
+  unfolding takenOut limitedContext
   taken-left c o = rw o
 
 module _ {bytes t types s rs : List ℕ} {fr : declared.Frame} {x : Target} {n : ℕ} (q : Taking bytes t types s rs fr x n) where

@@ -31,10 +31,10 @@ use Rattle.clearance.specs.Verdict.{Request, Report, refused, body, hasShape}
 use Rattle.pass.specs.Checked.{judgeBy, checked}
 use Rattle.judge.specs.Given.{scopeAt}
 use Rattle.judge.proofs.PathSteps.{function-valid, few}
-use Rattle.asked.proofs.Function.{read-function, judged-function, statements-fit}
+use Rattle.framed.proofs.Given.{read-function, judged-function, statements-fit}
 use Rattle.standing.specs.World.{World}
 use Rattle.checking.specs.Check.{scopeOf, valueOf, cutShort, onBuffer, meaningBy, answerTo}
-use Rattle.checking.specs.Word.{checkWord}
+use Rattle.checking.specs.Word.{refusalUnit, checkWord}
 use Rattle.checking.specs.Stretch.{There, Firsts, marksIn, MarksFound}
 use Rattle.checking.specs.declared.shape.MarksAt.{MarksAt}
 use Rattle.rounds.specs.Settling.{askedBy, reported, Settling, Settled}
@@ -171,7 +171,7 @@ module _ {bytes t : List ℕ} {f : ℕ} {rows alike held paths firsts s rs path 
     unshaped false true ha hb h c = never (sym h)
     unshaped false false ha hb h c = rw ha (rw same-scope (checked-unshaped (scopeAt bytes t f) (askedBy s g v) (reported marks c) hb))
 
-    pub refused-21 : r .fits ≡ false → ReportChecked (moduleOf bytes t) s f g v report context (4294967296 * 21)
+    pub refused-21 : r .fits ≡ false → ReportChecked (moduleOf bytes t) s f g v report context (refusalUnit * 21)
     unfolding checkWord
     refused-21 h = record { is = λ c e. rw (unshaped _ _ refl refl (sym (D .fits) ∙ h) c) }
 
@@ -188,7 +188,7 @@ module _ {bytes t : List ℕ} {f : ℕ} {rows alike held paths firsts s rs path 
 -- The whole
 
 module _ {m : Module} {request context u : List ℕ} {a : Heard} (H : Hears m request context u a) (report : List ℕ) where
-  pub read-refused : {n : ℕ} → a ≡ Refused n → 4294967296 * n ≡ checkWord (answerTo (meaningBy m report (requestOf request) (contextOf context)))
+  pub read-refused : {n : ℕ} → a ≡ Refused n → refusalUnit * n ≡ checkWord (answerTo (meaningBy m report (requestOf request) (contextOf context)))
   unfolding answerTo checkWord
   read-refused e = rw ((rw e at (H .by)) report)
 

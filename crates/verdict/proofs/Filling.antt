@@ -20,6 +20,7 @@ use Rattle.judge.specs.Blamed.{blamed}
 use Rattle.judge.specs.declared.expressions.Blamed.{Blamed}
 use Rattle.judge.specs.declared.expressions.Blamed.the-variants.{Nothing, At}
 use Rattle.judge.proofs.Equivalence.{lower-types}
+use Rattle.checking.specs.Word.{unjudgedExpressionBase, unjudgedStatementBase}
 use Rattle.checking.specs.Stretch.{There}
 use Rattle.verdict.specs.Tables.{Tables, unjudged, Judges}
 
@@ -50,12 +51,12 @@ module _ {bytes t : List ℕ} {f : ℕ} (T : There bytes t f) where
 
 -- what is not judged
 module _ (bytes t : List ℕ) (f : ℕ) {b : Blamed} (B : blamed b ≡ blamedExpression (scopeAt bytes t f)) where
-  pub at-expression : {e : ℕ} → b ≡ At e → Judges bytes t f (196608 + e)
+  pub at-expression : {e : ℕ} → b ≡ At e → Judges bytes t f (unjudgedExpressionBase + e)
   unfolding unjudged
   at-expression h = record { is = λ marks. rw (← B, h) }
 
   module _ (none : b ≡ Nothing) {d : Blamed} (D : (marks : List ℕ) → blamed d ≡ blamedStatement (scopeAt bytes t f) (bodyTree (functionOf bytes t f) marks)) where
-    pub at-statement : {n : ℕ} → d ≡ At n → Judges bytes t f (262144 + n)
+    pub at-statement : {n : ℕ} → d ≡ At n → Judges bytes t f (unjudgedStatementBase + n)
     unfolding unjudged
     at-statement h = record { is = λ marks. rw (← B, none, ← D marks, h) }
 

@@ -19,7 +19,7 @@ use Rattle.module.specs.File as file
 use Rattle.module.specs.Tables.{functionOf, moduleOf}
 use Rattle.module.specs.declared.handles.FunctionHandle.{FunctionHandle as Handle}
 use Rattle.access.proofs.Access.{function-is}
-use Rattle.context.specs.RequiredContext.{RequiredContext, pieces}
+use Rattle.context.specs.RequiredContext.{RequiredContext, pieces, returnEntry}
 use Rattle.request.specs.Fields.{refused, accepted}
 use Rattle.request.specs.Request.{Request, asking, requestOf, known, judge}
 use Rattle.request.specs.Context.{contextOf, knownContext, judgeContext, readContext}
@@ -30,7 +30,6 @@ use Rattle.request.specs.declared.requests.Request as declared
 use Rattle.request.specs.declared.requests.RequestAnswer.{RequestAnswer}
 use Rattle.request.specs.declared.requests.RequestAnswer.the-variants as answer
 use Rattle.walk.specs.Resolve.{functionAt}
-use Rattle.walk.specs.Statement.{needOf, retvalOf}
 use Rattle.walk.specs.Marks.{stretch}
 use Rattle.marks.specs.Places.{startOf}
 use Rattle.sound.proofs.Asked as sound
@@ -196,8 +195,8 @@ unfolding onBuffer valueOf
 same-buffer m report f o g p c e = rw e
 
 -- what it has for entries
-value-entries : (o : Option PartReq) → entries (valueOf o) ≤ entries (retvalOf (needOf o))
-unfolding valueOf needOf retvalOf entries
+value-entries : (o : Option PartReq) → entries (valueOf o) ≤ entries (returnEntry o)
+unfolding valueOf returnEntry entries
 value-entries nothing = omega arith
 value-entries (some p) = omega arith
 

@@ -10,6 +10,7 @@ use Rattle.clearance.specs.Tree.{bodyTree}
 use Rattle.clearance.specs.Judged.{blamedExpression, blamedStatement}
 use Rattle.judge.specs.Unsized.{UnsizedTable}
 use Rattle.judge.specs.Given.{scopeAt, Given}
+use Rattle.checking.specs.Word.{unjudgedExpressionBase, unjudgedStatementBase}
 
 -- as many words as are filled
 pub record Sized (bytes t : List ℕ) (f : ℕ) (types alike held paths : List ℕ) : Type 0 where
@@ -24,8 +25,8 @@ pub record Tables (bytes t : List ℕ) (f : ℕ) (types alike held paths : List 
 
 -- the number of what is not judged, or 0
 unfoldable pub unjudged : (expression statement : Option ℕ) → ℕ
-unjudged (some e) s = 196608 + e
-unjudged nothing (some n) = 262144 + n
+unjudged (some e) s = unjudgedExpressionBase + e
+unjudged nothing (some n) = unjudgedStatementBase + n
 unjudged nothing nothing = 0
 
 -- r is that of the function f, whatever its marks

@@ -1,13 +1,11 @@
 // Whether a function is judged: the lowest expression that is not, else the lowest statement.
+use checking::words::UNJUDGED_EXPRESSION;
+use checking::words::UNJUDGED_STATEMENT;
 use judge::expressions::Blamed;
 use judge::expressions::blamed_expression;
 use module::handles::FunctionHandle;
 use strays::blame::blamed_statement;
 ghost use Rattle.verdict.specs.Tables.{Tables, Judges};
-
-const EXPRESSION: u64 = 196608;
-
-const STATEMENT: u64 = 262144;
 
 // The number of what is not judged, or 0.
 pub fn unjudged(
@@ -23,10 +21,10 @@ pub fn unjudged(
     ensures { λ r. ⌜ Judges (now (bytes .entry)) (now (t .entry)) (f .0) r ⌝ }
 {
     if let Blamed::At(e) = blamed_expression(bytes, t, f, types, alike, held, paths) {
-        return EXPRESSION + (e as u64);
+        return UNJUDGED_EXPRESSION + (e as u64);
     }
     match blamed_statement(bytes, t, f, types, alike, paths) {
         Blamed::Nothing => 0,
-        Blamed::At(s) => STATEMENT + (s as u64),
+        Blamed::At(s) => UNJUDGED_STATEMENT + (s as u64),
     }
 }

@@ -7,6 +7,7 @@ use access::function::expressions;
 use access::whole::types;
 use checking::firsts::fill_firsts;
 use checking::shape::marks_shape;
+use checking::words::REFUSAL;
 use context::remove::TYPE_WORDS;
 use module::handles::FunctionHandle;
 use rounds::settle::settle;
@@ -18,9 +19,6 @@ ghost use Rattle.checking.specs.Check.{meaningBy, answerTo};
 ghost use Rattle.checking.specs.Word.{checkWord};
 ghost use Rattle.state.specs.Ready.{WasRead};
 ghost use Rattle.verdict.specs.Checks.{Working, Asked, Marked, MarksChecked, ReportChecked};
-
-// Where a refusal's number stands in the answer's.
-const REFUSAL: u64 = 4294967296;
 
 // Marks that have the function's shape: whether it is judged, and then the rounds.
 fn check_marks(

@@ -5,8 +5,8 @@ use mathlib.Core.Option.{Option}
 use Prim.Native.Nat.{ℕ}
 use Rattle.part.specs.PartReq.{PartReq, getSubpart, has, within, contains, merge, onNone, add, fromFirst, entries, width, depth, over}
 use Rattle.module.specs.Module.{Module}
-use Rattle.context.specs.RequiredContext.{RequiredContext, containsContext, mergeContext, pieces, alter, withGlobals, withLocals, removeVar}
-use Rattle.walk.specs.State.{Records, recordPieces, functionPieces, totalPieces, sumOf, count, counted, limited, overContext, limitedContext, visitWhen}
+use Rattle.context.specs.RequiredContext.{RequiredContext, containsContext, mergeContext, pieces, overContext, alter, withGlobals, withLocals, removeVar, returnEntry}
+use Rattle.walk.specs.State.{Records, recordPieces, functionPieces, totalPieces, sumOf, count, counted, limited, limitedContext, visitWhen}
 use Rattle.request.specs.Request.{Request}
 use Rattle.walk.specs.Requests.{Answer, reported, fresh, requests, endCount, ended, begun, walkRequest, totalMarks, bytesFrom, reportOf, request}
 use Rattle.part.specs.Insert.{insert}
@@ -25,7 +25,7 @@ use Rattle.walk.specs.StatementReq.{any, required, mark, marksOf, ownMar
 unfoldable pub answers : Module → List Request → List Answer
 unfolding insert getSubpart has within contains merge onNone add fromFirst entries width depth over tie knot markCount marksBefore each
     typeToParts subtypes memberAt atMember atSubtype split subtypesOf takeOut takeEntry takeEntries remove containsContext mergeContext pieces alter
-    withGlobals withLocals removeVar Rattle.context.specs.Swizzle.insert isFlat collected swizzled optional leveled formed constantAsks swizzleAsks
+    withGlobals withLocals removeVar returnEntry isFlat collected swizzled optional leveled formed constantAsks swizzleAsks
     allOfEach componentAsk entryAsks composeAsks armAsks askArgument askGlobal askLocal addAsk addAsks stepExpression addExpression latest extend
     joinTotal addTotal entered stepFunction addFunction stretch writeMarks addMark addMarks statementAt blockAt bodyOf rayOfCases rayOf rayFrom firstRay
     fresh endCount ended begun walkRequest totalMarks bytesFrom reportOf request requests functionAt expressionAt resolveArm resolveVar isThere needed

@@ -7,8 +7,8 @@ use lib.Dec.{leb, ltb, eqb}
 use borrow.Author.Tests.{ltb-true, ltb-false, leb-true, eqb-true}
 use Rattle.field.specs.Limits.{maxPieces, maxVisits}
 use Rattle.part.specs.PartReq.{PartReq, over}
-use Rattle.context.specs.RequiredContext.{RequiredContext}
-use Rattle.walk.specs.State.{State, Place, Out, went, halt, Walk, _>>=_, _>>_, visited, count, counted, limited, overContext, limitedContext, visitWhen, visit}
+use Rattle.context.specs.RequiredContext.{RequiredContext, overContext}
+use Rattle.walk.specs.State.{State, Place, Out, went, halt, Walk, _>>=_, _>>_, visited, count, counted, limited, limitedContext, visitWhen, visit}
 use Rattle.walk.proofs.Bind.{and-left, and-right}
 
 -- P holds of the state and the answer, if there is one, and N of the number of a refusal

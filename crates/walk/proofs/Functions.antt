@@ -9,13 +9,13 @@ use lib.ListN.{getD, set}
 use Rattle.field.specs.Limits.{maxPieces}
 use Rattle.part.specs.PartReq.{none}
 use Rattle.module.specs.Module.{FunctionHandle, Module}
-use Rattle.context.specs.RequiredContext.{RequiredContext, mergeContext}
+use Rattle.context.specs.RequiredContext.{RequiredContext, mergeContext, returnEntry}
 use Rattle.walk.specs.State.{FunctionReq, State, Place, nowhere, Out, went, halt, _>>_, withFunctions}
 use Rattle.walk.specs.Marks.{addMarks, bodyOf, firstRay}
 use Rattle.walk.specs.Statement.{FunctionWalk}
 use Rattle.walk.specs.Function.{extend, walked, keep, joinTotal, addTotal, entered, stepFunction, noFunction, addFunction}
 use Rattle.request.specs.Request.{Request}
-use Rattle.walk.specs.Requests.{Pruner, asked, endCount, ended, begun, walkRequest, answered, request, requests, Answer, reported, refused}
+use Rattle.walk.specs.Requests.{Pruner, endCount, ended, begun, walkRequest, answered, request, requests, Answer, reported, refused}
 use Rattle.module.proofs.Knot.{knot-all}
 use Rattle.walk.proofs.Ends.{ends, stops, ends-then, ends-next, ends-limited-context}
 use Rattle.walk.proofs.Keeps.{Kept, Good, Goes}
@@ -70,7 +70,7 @@ module _ {m : Module} (K : Kept m) where
 
   -- what a request asks has the property
   abbrev pub Asking : Request → Type 0
-  Asking q = K .Context (q .function) (record { globals = q .globals; locals = none; args = none; retval = asked (q .retval) })
+  Asking q = K .Context (q .function) (record { globals = q .globals; locals = none; args = none; retval = returnEntry (q .retval) })
 
   end-goes : (f : FunctionHandle) (r : Bool) (st : State) → Good K f st → Goes K f (ended r st)
   unfolding ended
@@ -84,7 +84,7 @@ module _ {m : Module} (K : Kept m) where
   unfolding walkRequest begun
   walk-keeps pruner q none-yet h ha =
       ends-then (λ st required. ended required st)
-      (function-keeps (q .function) nowhere 0 (q .globals) (asked (q .retval)) (begun pruner) ha
+      (function-keeps (q .function) nowhere 0 (q .globals) (returnEntry (q .retval)) (begun pruner) ha
       (record { globals = h .globals; functions = h .functions; visits = none-yet }))
       (λ st r good. end-goes (q .function) r st good)
 
@@ -93,7 +93,7 @@ module _ {m : Module} (K : Kept m) where
   answer-keeps pruner f (halt n at) h (stops t) = h
 
   -- a request keeps the properties of the pruner
-  pub request-keeps : (pruner : Pruner) (q : Request) → K .Visits 0 → Keeping pruner → Asking q → Keeping (request m pruner q .1)
+  request-keeps : (pruner : Pruner) (q : Request) → K .Visits 0 → Keeping pruner → Asking q → Keeping (request m pruner q .1)
   unfolding request
   request-keeps pruner q none-yet h ha = answer-keeps pruner (q .function) (walkRequest m pruner q) h (walk-keeps pruner q none-yet h ha)
 

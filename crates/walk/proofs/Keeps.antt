@@ -10,9 +10,9 @@ use Rattle.field.specs.Limits.{maxVisits}
 use Rattle.part.specs.PartReq.{PartReq, all, exist, none, more, Subpart, gone, there, getSubpart, over}
 use Rattle.part.specs.Insert.{insert}
 use Rattle.module.specs.Module.{ExpressionHandle, FunctionHandle, Module, SampleLevel, Auto, Zero, Exact, Bias, Gradient, Expression, Literal, ZeroValue, WorkGroupUniformLoadResult, AccessIndex, Access, Constant, Splat, Swizzle, Compose, FunctionArgument, GlobalVariable, LocalVariable, Load, ImageSample, ImageLoad, ImageQuery, Unary, Binary, Select, Derivative, Relational, Math, As, CallResult, AtomicResult, ArrayLength, RayQueryProceedResult, RayQueryGetIntersection, Override, SubgroupBallotResult, SubgroupOperationResult, RayQueryVertexPositions}
-use Rattle.context.specs.RequiredContext.{RequiredContext, mergeContext, variable, VarRef, leftContext, removeVar}
+use Rattle.context.specs.RequiredContext.{RequiredContext, mergeContext, variable, overContext, VarRef, leftContext, removeVar}
 use Rattle.context.specs.Swizzle.{Swizzled, asks, panics, swizzled}
-use Rattle.walk.specs.State.{Records, FunctionReq, State, Place, atExpression, Out, went, Walk, _>>_, visited, withContext, withGlobals, overContext}
+use Rattle.walk.specs.State.{Records, FunctionReq, State, Place, atExpression, Out, went, Walk, _>>_, visited, withContext, withGlobals}
 use Rattle.walk.specs.Resolve.{functionAt, expressionAt, resolved, resolveVar, storeRequired}
 use Rattle.walk.specs.Expression.{Ask, ofOperand, ofArgument, ofGlobal, ofLocal, refuse, optional, leveled, formed, constantAsks, swizzleAsks, allOfEach, componentAsk, entryAsks, composeAsks, armAsks, joined, withArgs, withLocals, withGlobalEntries, askArgument, askGlobal, askLocal, addAsk, addAsks, recorded, stepExpression, noOperand, addExpression}
 use Rattle.walk.specs.StatementReq.{StatementReq, ownMarks}

@@ -8,16 +8,17 @@ use native.Mathlib.Omega.{arith}
 use lib.Dec.{ltb}
 use lib.ListN.{getD}
 use borrow.Author.Tests.{lt-ltb, le-ltb}
+use Rattle.field.specs.Limits.{absent}
 use Rattle.part.specs.PartReq.{PartReq, all, exist, none, more, Subpart, gone, there, getSubpart, add, over, spine}
 use Rattle.part.specs.Insert.{insert}
 use Rattle.part.specs.Ascending.{Ascending, From}
 use Rattle.part.specs.Limited.{Plain}
-use Rattle.part.proofs.Equations.{before, after, at, way, never, getSubpart-all, getSubpart-exist, getSubpart-none, getSubpart-before, getSubpart-at, getSubpart-after, Sums, all-left, all-right, exist-left, exist-right, none-left, none-right, lower, higher, equal, sums}
-use Rattle.part.proofs.Ascending.{from-ascending, add-ascending}
+use Rattle.part.proofs.Equations.{before, after, at, way, never, getSubpart-all, getSubpart-exist, getSubpart-none, getSubpart-before, getSubpart-at, getSubpart-after, insert-none, insert-before, insert-at, insert-after, Sums, all-left, all-right, exist-left, exist-right, none-left, none-right, lower, higher, equal, sums}
+use Rattle.part.proofs.Ascending.{from-ascending, from-insert, add-ascending}
 use Rattle.module.specs.Module.{TypeHandle, TypeInner, Opaque}
 use Rattle.context.specs.RequiredContext.{variable, alter}
 use Rattle.context.specs.Remove.{Removed, left, panic, _>>=_, typeToParts, remove}
-use Rattle.context.specs.Swizzle.{Swizzled, asks, panics, insert as pick-in, isFlat, collected, swizzled}
+use Rattle.context.specs.Swizzle.{Swizzled, asks, panics, isFlat, collected, swizzled}
 use Rattle.context.proofs.Removal.{Left, Steps, removed, left-is, ascending-removed}
 use Rattle.walk.specs.Resolve.{needed, neededAt, checkPart}
 use Rattle.walk.specs.Proper.{Fine, VariablesFrom, Variables}
@@ -65,7 +66,7 @@ fine-subpart (more i p r) j h =
       | at e ↦ rw (getSubpart-at i j p r e) (fine-below i p r h)
     ]
 
-pub fine-index : (i : ℕ) (p : PartReq) → i < spine → Fine p → over (more i p none) ≡ false → Fine (more i p none)
+pub fine-index : (i : ℕ) (p : PartReq) → i < absent → Fine p → over (more i p none) ≡ false → Fine (more i p none)
 fine-index i p l h o = record { ascends = (h .ascends, tt); plain = (l, (h .plain, tt)); within = o }
 
 -- what is needed of a store's target
@@ -148,27 +149,7 @@ variables-subpart n k j (more i p r) f =
       | at e ↦ rw (getSubpart-at i j p r e) (f .2)
     ]
 
--- `insert`, by which index is lower
-module _ (c i : ℕ) (q p r : PartReq) where
-  insert-before : c < i → insert (more i p r) c q ≡ more c q (more i p r)
-  unfolding insert
-  insert-before h = let z : c ≤ i = omega arith in simp (le-ltb i c z, lt-ltb c i h)
-
-  insert-after : i < c → insert (more i p r) c q ≡ more i p (insert r c q)
-  unfolding insert
-  insert-after h = simp (lt-ltb i c h)
-
-  insert-at : i ≡ c → insert (more i p r) c q ≡ more c q r
-  unfolding insert
-  insert-at e =
-      let h : i ≤ c = omega arith in
-      let l : c ≤ i = omega arith in
-      simp (le-ltb c i h, le-ltb i c l)
-
-insert-none : (c : ℕ) (q : PartReq) → insert none c q ≡ more c q none
-unfolding insert
-insert-none c q = refl
-
+-- an entry put in
 pub variables-insert : (n k v : ℕ) (p q : PartReq) → VariablesFrom n k q → k ≤ variable v → v < n → Fine p → VariablesFrom n k (insert q (variable v) p)
 variables-insert n k v p all f l b h = absurd f
 variables-insert n k v p exist f l b h = absurd f
@@ -179,53 +160,18 @@ variables-insert n k v p (more i x r) f l b h =
           let ih = variables-insert n (suc i) v p r (f .3) a b h in
           rw (insert-after (variable v) i p x r a) (f .0, f .1, f .2, ih)
       | after a ↦ rw (insert-before (variable v) i p x r a) (l, omega arith, h, (a, f .1, f .2, f .3))
-      | at e ↦ rw (insert-at (variable v) i p x r e) (l, omega arith, h, variables-lower n (suc (variable v)) (suc i) r (omega arith) (f .3))
+      | at e ↦ rw (insert-at (variable v) i p x r (sym e)) (l, omega arith, h, variables-lower n (suc (variable v)) (suc i) r (omega arith) (f .3))
     ]
 
--- a swizzle's own way of putting an entry in
-module _ (c i : ℕ) (q p r : PartReq) where
-  pick-before : c < i → pick-in c q (more i p r) ≡ more c q (more i p r)
-  unfolding pick-in
-  pick-before h = simp (lt-ltb c i h)
-
-  pick-after : i < c → pick-in c q (more i p r) ≡ more i p (pick-in c q r)
-  unfolding pick-in
-  pick-after h = let z : i ≤ c = omega arith in simp (le-ltb c i z, lt-ltb i c h)
-
-  pick-at : i ≡ c → pick-in c q (more i p r) ≡ more i q r
-  unfolding pick-in
-  pick-at e =
-      let h : i ≤ c = omega arith in
-      let l : c ≤ i = omega arith in
-      simp (le-ltb c i h, le-ltb i c l)
-
-pick-none : (c : ℕ) (q : PartReq) → pick-in c q none ≡ more c q none
-unfolding pick-in
-pick-none c q = refl
-
-from-picked : (k c : ℕ) (q m : PartReq) → From k m → k ≤ c → Ascending q → From k (pick-in c q m)
-from-picked k c q all f l h = absurd f
-from-picked k c q exist f l h = absurd f
-from-picked k c q none f l h = rw (pick-none c q) (l, (h, tt))
-from-picked k c q (more i x r) f l h =
+plain-insert : (c : ℕ) (q m : PartReq) → Plain m → c < absent → Plain q → Plain (insert m c q)
+plain-insert c q all f l h = unfold insert in (l, (h, tt))
+plain-insert c q exist f l h = unfold insert in (l, (h, tt))
+plain-insert c q none f l h = rw (insert-none c q) (l, (h, tt))
+plain-insert c q (more i x r) f l h =
     elim (way i c) [
-      | before a ↦
-          let ih = from-picked (suc i) c q r (f .1 .1) a h in
-          rw (pick-after c i q x r a) (f .0, (f .1 .0, ih))
-      | after a ↦ rw (pick-before c i q x r a) (l, (h, (a, f .1)))
-      | at e ↦ rw (pick-at c i q x r e) (f .0, (h, f .1 .1))
-    ]
-
-plain-picked : (c : ℕ) (q m : PartReq) → Plain m → c < spine → Plain q → Plain (pick-in c q m)
-unfolding pick-in
-plain-picked c q all f l h = (l, (h, tt))
-plain-picked c q exist f l h = (l, (h, tt))
-plain-picked c q none f l h = (l, (h, tt))
-plain-picked c q (more i x r) f l h =
-    elim (way i c) [
-      | before a ↦ let ih = plain-picked c q r (f .1 .1) l h in rw (pick-after c i q x r a) (f .0, (f .1 .0, ih))
-      | after a ↦ rw (pick-before c i q x r a) (l, (h, f))
-      | at e ↦ rw (pick-at c i q x r e) (f .0, (h, f .1 .1))
+      | before a ↦ let ih = plain-insert c q r (f .1 .1) l h in rw (insert-after c i q x r a) (f .0, (f .1 .0, ih))
+      | after a ↦ rw (insert-before c i q x r a) (l, (h, f))
+      | at e ↦ rw (insert-at c i q x r (sym e)) (l, (h, f .1 .1))
     ]
 
 -- a swizzle
@@ -240,7 +186,7 @@ pick : (pattern : List ℕ) (b : Bool) (r picked : PartReq) → Picks Map (colle
 pick pattern true r picked h = h
 pick pattern false r picked h = tt
 
-collected-map : (pattern : List ℕ) (p picked : PartReq) → ((k : ℕ) → getD pattern k 0 < spine) → Fine p → Map picked → Picks Map (collected pattern p picked)
+collected-map : (pattern : List ℕ) (p picked : PartReq) → ((k : ℕ) → getD pattern k 0 < absent) → Fine p → Map picked → Picks Map (collected pattern p picked)
 unfolding collected
 collected-map pattern all picked l h f = f
 collected-map pattern exist picked l h f = f
@@ -248,9 +194,9 @@ collected-map pattern none picked l h f = f
 collected-map pattern (more i q r) picked l h f =
     let below = fine-below i q r h in
     let letter = getD pattern i 0 in
-    pick pattern (ltb i 4 && isFlat q) r (pick-in letter q picked)
-    (collected-map pattern r (pick-in letter q picked) l (fine-behind i q r h)
-    (from-picked 0 letter q picked (f .0) (omega arith) (below .ascends), plain-picked letter q picked (f .1) (l i) (below .plain)))
+    pick pattern (ltb i 4 && isFlat q) r (insert picked letter q)
+    (collected-map pattern r (insert picked letter q) l (fine-behind i q r h)
+    (from-insert 0 letter q picked (f .0) (omega arith) (below .ascends), plain-insert letter q picked (f .1) (l i) (below .plain)))
 
 abbrev Both : PartReq → Type 0
 Both p = Ascending p × Plain p
@@ -259,14 +205,14 @@ both-map : (s : Swizzled) → Picks Map s → Picks Both s
 both-map (asks p) h = (from-ascending 0 p (h .0), h .1)
 both-map panics h = tt
 
-swizzled-both : (pattern : List ℕ) (p : PartReq) → ((k : ℕ) → getD pattern k 0 < spine) → Fine p → Picks Both (swizzled pattern p)
+swizzled-both : (pattern : List ℕ) (p : PartReq) → ((k : ℕ) → getD pattern k 0 < absent) → Fine p → Picks Both (swizzled pattern p)
 unfolding swizzled
 swizzled-both pattern all l h = (tt, tt)
 swizzled-both pattern exist l h = (tt, tt)
 swizzled-both pattern none l h = (tt, tt)
 swizzled-both pattern (more i q r) l h = both-map (collected pattern (more i q r) none) (collected-map pattern (more i q r) none l h (tt, tt))
 
-pub fine-swizzled : (pattern : List ℕ) (p q : PartReq) → ((k : ℕ) → getD pattern k 0 < spine) → Fine p → swizzled pattern p ≡ asks q → over q ≡ false → Fine q
+pub fine-swizzled : (pattern : List ℕ) (p q : PartReq) → ((k : ℕ) → getD pattern k 0 < absent) → Fine p → swizzled pattern p ≡ asks q → over q ≡ false → Fine q
 fine-swizzled pattern p q l h e o =
     let both : Picks Both (asks q) = subst (Picks Both) e (swizzled-both pattern p l h) in
     record { ascends = both .0; plain = both .1; within = o }

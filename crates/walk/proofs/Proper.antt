@@ -9,21 +9,21 @@ use lib.ListN.{length, getD, set, replicate, length-set, length-replicate}
 use Rattle.part.specs.PartReq.{PartReq, none, more, Subpart, gone, there, getSubpart, over, spine}
 use Rattle.part.proofs.Equations.{never}
 use Rattle.module.specs.Module.{ExpressionHandle, FunctionHandle, Module}
-use Rattle.context.specs.RequiredContext.{RequiredContext, mergeContext, variable, VarRef, Global, Local, RemovedContext, leftContext, panicContext, alter, removeVar}
+use Rattle.context.specs.RequiredContext.{RequiredContext, mergeContext, variable, overContext, VarRef, Global, Local, RemovedContext, leftContext, panicContext, alter, removeVar, returnEntry}
 use Rattle.context.specs.Remove.{Removed, left, panic, remove}
 use Rattle.context.proofs.Removal.{Left}
-use Rattle.walk.specs.State.{Records, FunctionReq, overContext}
+use Rattle.walk.specs.State.{Records, FunctionReq}
 use Rattle.walk.specs.Resolve.{functionAt, storeRequired}
 use Rattle.walk.specs.Expression.{withLocals}
 use Rattle.walk.specs.StatementReq.{StatementReq, mark, marksOf, ownMarks}
 use Rattle.walk.specs.Marks.{stretch, writeMarks, addMark, addMarks}
-use Rattle.walk.specs.Statement.{needOf, retvalOf}
+use Rattle.walk.specs.Statement.{retvalOf}
 use Rattle.walk.specs.Function.{latest, extend}
 use Rattle.walk.specs.Proper.{Sound, Fine, Variables, FineContext, FineRecord, EachRecord, FineRecords, EachMark, FineMarks, FineFunction, FineTotals, FineVisits, ProperState, FinePruner, FineRequest, EachRequest}
 use Rattle.walk.specs.State.{State, went}
 use Rattle.walk.specs.Expression.{addExpression}
 use Rattle.request.specs.Request.{Request}
-use Rattle.walk.specs.Requests.{Pruner, fresh, asked, walkRequest, requests}
+use Rattle.walk.specs.Requests.{Pruner, fresh, walkRequest, requests}
 use Rattle.walk.proofs.Ends.{ended}
 use Rattle.walk.proofs.Keeps.{Needs, Kept, Good, expression-keeps}
 use Rattle.walk.proofs.Functions.{Asking, AskingAll, walk-keeps, requests-keep}
@@ -316,10 +316,10 @@ fresh-fine m =
       functions = record { long = length-replicate (length (m .functions)) nothing; each = λ f t e. no-total (length (m .functions)) f t e };
     }
 
-retval-asked : (o : Option PartReq) → FineRecord o → Variables 1 (asked o)
-unfolding needOf
-retval-asked nothing h = retval-fine gone tt
-retval-asked (some p) h = retval-fine (there p) h
+pub retval-asked : (o : Option PartReq) → FineRecord o → Variables 1 (returnEntry o)
+unfolding returnEntry
+retval-asked nothing h = tt
+retval-asked (some p) h = variables-one 1 0 p (omega arith) h
 
 asking : (m : Module) (s : Sound m) (q : Request) → FineRequest m q → Asking (proper m s 0) q
 unfolding proper

@@ -5,7 +5,7 @@ use mathlib.Core.List.{List, [], _∷_}
 use mathlib.Core.Option.{Option, some, none as nothing}
 use Prim.Native.Nat.{ℕ, suc, _<_, _≤_}
 use lib.ListN.{length, getD}
-use Rattle.field.specs.Limits.{maxVisits}
+use Rattle.field.specs.Limits.{absent, maxVisits}
 use Rattle.part.specs.PartReq.{PartReq, all, exist, none, more, over, spine}
 use Rattle.part.specs.Ascending.{Ascending}
 use Rattle.part.specs.Limited.{Plain}
@@ -20,8 +20,8 @@ use Rattle.walk.specs.Requests.{Pruner}
 
 -- What a walk takes from the reading of a module: its numbers name what is there, and indexes are a file's.
 pub record Sound (m : Module) : Type 0 where
-  pub index : (f : FunctionHandle) (e base : ExpressionHandle) (i : ℕ) → expressionAt m f e ≡ AccessIndex base i → i < spine
-  pub letter : (f : FunctionHandle) (e vector : ExpressionHandle) (pattern : List ℕ) (k : ℕ) → expressionAt m f e ≡ Swizzle vector pattern → getD pattern k 0 < spine
+  pub index : (f : FunctionHandle) (e base : ExpressionHandle) (i : ℕ) → expressionAt m f e ≡ AccessIndex base i → i < absent
+  pub letter : (f : FunctionHandle) (e vector : ExpressionHandle) (pattern : List ℕ) (k : ℕ) → expressionAt m f e ≡ Swizzle vector pattern → getD pattern k 0 < absent
   pub argument : (f : FunctionHandle) (e : ExpressionHandle) (i : ℕ) → expressionAt m f e ≡ FunctionArgument i → i < length (functionAt m f .arguments)
   pub global : (f : FunctionHandle) (e : ExpressionHandle) (g : ℕ) → expressionAt m f e ≡ GlobalVariable g → g < length (m .globals)
   pub local : (f : FunctionHandle) (e : ExpressionHandle) (l : ℕ) → expressionAt m f e ≡ LocalVariable l → l < length (functionAt m f .locals)

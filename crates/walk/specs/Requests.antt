@@ -9,10 +9,9 @@ use Rattle.field.specs.Limits.{maxPieces}
 use Rattle.part.specs.PartReq.{PartReq, none, entries}
 use Rattle.module.specs.Module.{FunctionHandle, Function, Module}
 use Rattle.request.specs.Request.{Request}
-use Rattle.context.specs.RequiredContext.{RequiredContext}
+use Rattle.context.specs.RequiredContext.{RequiredContext, returnEntry}
 use Rattle.walk.specs.State.{Records, FunctionReq, State, Place, nowhere, Out, went, halt, Walk, _>>=_, totalPieces}
 use Rattle.walk.specs.Marks.{stretch}
-use Rattle.walk.specs.Statement.{needOf, retvalOf}
 use Rattle.walk.specs.Function.{addFunction}
 
 -- `Pruner`: the running totals of globals and of each function
@@ -37,10 +36,6 @@ pub data Answer : Type 0 where
   reported : Report → Answer
   refused : ℕ → Place → Answer
 
--- the return value's entry in the context that a request begins with
-abbrev pub asked : Option PartReq → PartReq
-asked p = retvalOf (needOf p)
-
 -- 16 at the request's end: the totals alone
 unfoldable pub endCount : State → ℕ
 endCount st = entries (st .globals) + totalPieces (st .functions)
@@ -63,7 +58,7 @@ begun pruner =
 -- `add_function` or `add_entrypoint`
 unfoldable pub walkRequest : Module → Pruner → Request → Out Bool
 walkRequest m pruner q =
-    addFunction m (q .function) nowhere 0 (q .globals) (asked (q .retval)) (begun pruner) >>= λ st required. ended required st
+    addFunction m (q .function) nowhere 0 (q .globals) (returnEntry (q .retval)) (begun pruner) >>= λ st required. ended required st
 
 unfoldable pub totalMarks : Module → FunctionHandle → Option FunctionReq → List ℕ
 totalMarks m f nothing = replicate (stretch m f) 0

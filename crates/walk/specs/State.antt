@@ -1,13 +1,13 @@
 -- What a walk changes, what it gives, and what it counts.
 use Prim.Native.Nat.{ℕ, suc, _+_}
-use mathlib.Core.Bool.{Bool, true, false, cond, _||_}
+use mathlib.Core.Bool.{Bool, true, false, cond}
 use mathlib.Core.List.{List, [], _∷_}
 use mathlib.Core.Option.{Option, some, none as nothing}
 use lib.Dec.{ltb}
 use Rattle.field.specs.Limits.{maxPieces, maxVisits}
 use Rattle.part.specs.PartReq.{PartReq, entries, over}
 use Rattle.module.specs.Module.{FunctionHandle, ExpressionHandle}
-use Rattle.context.specs.RequiredContext.{RequiredContext, pieces}
+use Rattle.context.specs.RequiredContext.{RequiredContext, pieces, overContext}
 
 -- the records of a function, by expression: the last part that was asked of it, if any was
 abbrev pub Records : Type 0
@@ -108,9 +108,6 @@ counted held here st = cond (ltb maxPieces (count held st)) (halt 16 here) (went
 -- 15, of what is formed
 unfoldable pub limited : Place → PartReq → Walk (Unit {0})
 limited here p st = cond (over p) (halt 15 here) (went st tt)
-
-unfoldable pub overContext : RequiredContext → Bool
-overContext c = over (c .globals) || over (c .locals) || over (c .args) || over (c .retval)
 
 unfoldable pub limitedContext : Place → RequiredContext → Walk (Unit {0})
 limitedContext here c st = cond (overContext c) (halt 15 here) (went st tt)
