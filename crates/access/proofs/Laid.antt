@@ -12,7 +12,7 @@ use Rattle.access.specs.Access.{expressionNumber}
 use Rattle.access.specs.Laid.{Laid}
 
 module _ (t : List ℕ) (v : Laid t) where
-  earlier : (f g : ℕ) → f < g → g < word t (headAt + 2) → itemsTo (rowAt t f) ≤ rowAt t g .items
+  pub earlier : (f g : ℕ) → f < g → g < word t (headAt + 2) → itemsTo (rowAt t f) ≤ rowAt t g .items
   earlier f zero l h = absurd (omega arith)
   earlier f (suc g) l h =
       let n = v .next g h in

@@ -1,5 +1,5 @@
 -- The arm of `If`: what its two blocks ask, and how it ends once they are walked. Both steps are the definition's `addIf`.
-use Prim.Native.Nat.{ℕ, _+_, _-_, _<_, _≤_}
+use Prim.Native.Nat.{ℕ, _+_, _<_, _≤_}
 use native.Mathlib.Nat.{le-refl}
 use native.Mathlib.Omega.{arith}
 use mathlib.Core.Path.{_≡_, refl, sym, ap, subst, _∙_}
@@ -7,43 +7,39 @@ use mathlib.Core.Bool.{Bool, _||_}
 use mathlib.Core.List.{List}
 use lib.ListN.{length}
 use Rattle.field.specs.Limits.{maxPieces}
-use Rattle.part.specs.StoreLimits.{entriesCap}
 use Rattle.module.specs.Module.{Module, FunctionHandle, BlockHandle, ExpressionHandle, Statement, If}
 use Rattle.module.specs.Decode.{statementOf}
 use Rattle.module.specs.Tables.{moduleOf}
 use Rattle.access.specs.Access.{operandAt}
 use Rattle.access.specs.declared.kinded.Kinded.{Kinded}
 use Rattle.context.specs.RequiredContext.{RequiredContext, emptyContext, pieces}
-use Rattle.walk.specs.State.{State, Out, went, halt, Walk, _>>=_, withContext}
+use Rattle.walk.specs.State.{State, Out, went, halt, Walk, _>>=_}
 use Rattle.walk.specs.Resolve.{functionAt}
 use Rattle.walk.specs.StatementReq.{StatementReq}
-use Rattle.walk.specs.Marks.{statementAt, blockAt}
-use Rattle.walk.specs.Statement.{BlockWalk, endIf, addIf, stepBlock}
+use Rattle.walk.specs.Statement.{BlockWalk, endIf, addIf}
 use Rattle.walk.specs.Statement as walk
-use Rattle.walk.specs.Function.{addFunction}
 use Rattle.walk.proofs.Bind.{then-went, then-halt, then-then}
-use Rattle.sound.specs.Holds.{HoldsBelow}
-use Rattle.sound.proofs.Numbers.{holds-below}
-use Rattle.sound.proofs.Walks.{module-valid, block-is}
-use Rattle.memory.specs.Memory.{read, sumFrom, contextAt, Memory}
+use Rattle.memory.specs.Memory.{read, sumFrom, contextAt}
 use Rattle.memory.proofs.Runs.{context-pieces}
 use Rattle.state.specs.State.{placeOf}
 use Rattle.state.specs.Frame.{frameOf}
-use Rattle.state.specs.Ready.{WasRead}
 use Rattle.state.specs.declared.answer.Answered.{Answered}
 use Rattle.state.specs.declared.answer.Answered.the-variants.{Went, Halt}
 use Rattle.state.specs.declared.answer.Place.{Place}
 use Rattle.state.specs.declared.answer.Tally.{Tally}
 use Rattle.state.specs.declared.frame.Frame.{Frame}
-use Rattle.statement.proofs.Uses.{arm-statement, arm-uses}
+use Rattle.marks.specs.Ray.{heldCount, heldNumber}
+use Rattle.marks.proofs.Rays.{held-block}
+use Rattle.statement.proofs.Uses.{arm-uses}
 use Rattle.block.specs.Standing.{stateIn, Standing}
 use Rattle.block.specs.Blocks.{contextIn, StatementEnds}
 use Rattle.block.specs.Visiting.{blockIn, Arms}
 use Rattle.block.specs.Pairing.{addPair, Paired, PairEnded, PairEnding, PairEnds, Branched}
 use Rattle.block.proofs.Tops.{up-state, up-empty, up}
 use Rattle.block.proofs.Depth.{held-before}
-use Rattle.block.proofs.Steps.{beside-then, beside-context}
+use Rattle.block.proofs.Steps.{beside-context, ends-from}
 use Rattle.block.proofs.Dropped.{beside-down}
+use Rattle.block.proofs.Answered.{pair-anywhere}
 use Rattle.arms.specs.Ifs.{IfAsked, endIn, IfEnds}
 
 -- the definition in two steps: both blocks, and the end
@@ -64,18 +60,6 @@ module _ (m : Module) (block : BlockWalk) (fr : walk.Frame) (condition : Express
   if-pair =
       both-then (block accept (fr .held + pieces (st .context)) (st .context) (fr .breakRequired) st)
       (λ a. block reject (fr .held + pieces (st .context) + pieces (a .context)) (st .context) (fr .breakRequired) a) (endIf m fr condition (st .context))
-
--- blocks begin from their base, whatever the current context is
-module _ {bytes t : List ℕ} (w : WasRead bytes t) (f : FunctionHandle) (held : ℕ) (base : RequiredContext) (r : Bool) (c : RequiredContext) (st : State) where
-  block-anywhere : (b : BlockHandle) → blockIn bytes t f b held base r (withContext c st) ≡ blockIn bytes t f b held base r st
-  unfolding stepBlock
-  block-anywhere b =
-      block-is bytes (moduleOf bytes t) (w .module-is) (addFunction (moduleOf bytes t)) f b held base r (withContext c st)
-      ∙ sym (block-is bytes (moduleOf bytes t) (w .module-is) (addFunction (moduleOf bytes t)) f b held base r st)
-
-  pair-anywhere : (first second : BlockHandle) → addPair (blockIn bytes t f) first second held base r (withContext c st) ≡ addPair (blockIn bytes t f) first second held base r st
-  unfolding addPair
-  pair-anywhere first second = rw (block-anywhere first)
 
 module _ {bytes t types places s rs open-marks totals : List ℕ} {fr : Frame} {b : BlockHandle} {row : Kinded} {sum visits : ℕ}
     (A : Arms bytes t types places s rs open-marks totals fr b row sum visits) (kind : row .kind ≡ 2) where
@@ -100,17 +84,11 @@ module _ {bytes t types places s rs open-marks totals : List ℕ} {fr : Frame} {
   decoded = rw kind
 
   lower : (operandAt bytes row 1 < b) × (operandAt bytes row 2 < b)
-  lower =
-      let w = A .within in
-      let first = blockAt m f b .first in
-      let e : first + (fr .statement - first) ≡ fr .statement = omega (arith, w .low) in
-      let h = holds-below m (module-valid bytes m (A .begins .standing .ready .was-read .module-is)) f b (fr .statement - first) (omega (arith, w .low, w .high)) in
-      subst (HoldsBelow b) (arm-statement (record { begun = A .begins .begun; is = A .is }) ∙ decoded) (subst (λ (k : ℕ). HoldsBelow b (statementAt m f k)) e h)
-
-  -- what 16 counts of the context
-  pub if-weighs : Memory s rs × ((at + 4 ≤ length rs) × (sumFrom (read s rs) at 4 ≤ entriesCap))
-  if-weighs =
-      (A .begins .standing .ready .memory, (A .begins .standing .ready .high, omega (arith, context-pieces (read s rs) at, A .begins .standing .ready .small)))
+  unfolding heldCount heldNumber
+  lower = (
+    rw kind at (held-block bytes t f b (fr .statement) (A .within) row (A .is) 1 (rw kind (omega arith)) .0),
+    rw kind at (held-block bytes t f b (fr .statement) (A .within) row (A .is) 0 (rw kind (omega arith)) .0),
+  )
 
   module _ {n : ℕ} (counts : n ≡ sumFrom (read s rs) at 4) where
     counted : n ≡ contextIn s rs at
@@ -155,7 +133,7 @@ module _ {bytes t types places s rs open-marks totals : List ℕ} {fr : Frame} {
           pair-is : addPair (blockIn bytes t f) (operandAt bytes row 1) (operandAt bytes row 2) (fr .held + contextIn s rs at) outer (fr .«break_required») (stateIn bytes t s rs open-marks totals f at visits) ≡ Pair
           pair-is =
               rw (accept-is, reject-is, counted, up-state (A .begins .standing))
-              (sym (pair-anywhere (A .begins .standing .ready .was-read) f (fr .held + contextIn s rs at) outer (fr .«break_required») emptyContext (stateIn bytes t s rs open-marks totals f at visits) (operandAt bytes row 1) (operandAt bytes row 2)))
+              (sym (pair-anywhere (A .begins .standing .ready .was-read) f (operandAt bytes row 1) (operandAt bytes row 2) (fr .held + contextIn s rs at) outer emptyContext (fr .«break_required») (stateIn bytes t s rs open-marks totals f at visits)))
 
       module _ {r : Answered} {u us open-after totals-after : List ℕ}
           (E : PairEnds bytes t types places s rs open-marks totals f at (at + 4) (fr .held + n) Pair r u us open-after totals-after) where
@@ -205,16 +183,4 @@ module _ {bytes t types places s rs open-marks totals : List ℕ} {fr : Frame} {
 
             pub if-ends : (q : Answered) {v vs : List ℕ} → IfEnds bytes t u us fr condition required (tally .sum) (tally .visits) q v vs
                 → StatementEnds bytes t types places s rs open-marks totals fr Whole StatementReq.If q v vs open-after totals-after
-            if-ends q F = from q (F .by types places open-after totals-after branched)
-              where
-                from : (q : Answered) {v vs : List ℕ}
-                    → StatementEnds bytes t types places u us open-after totals-after fr (endIn bytes t u us open-after totals-after fr condition required (tally .visits)) StatementReq.If q v vs open-after totals-after
-                    → StatementEnds bytes t types places s rs open-marks totals fr Whole StatementReq.If q v vs open-after totals-after
-                from (Went left o) T = record {
-                  by = record {
-                    is = T .by .is ∙ ending;
-                    standing = T .by .standing;
-                    beside = beside-then at (beside-down (omega arith) (ended .beside)) (T .by .beside) (le-refl at);
-                  };
-                }
-                from (Halt k place) T = record { by = T .by ∙ ending }
+            if-ends q F = ends-from q (beside-down (omega arith) (ended .beside)) ending (F .by types places open-after totals-after branched)

@@ -37,13 +37,14 @@ use Rattle.state.specs.Ready.{Ready}
 use Rattle.state.specs.declared.frame.Frame.{Frame}
 use Rattle.state.proofs.Own.{fits, records-there}
 use Rattle.statement.specs.Aside.{Loading}
+use Rattle.call.proofs.Rows.{few-arguments, result-there}
 use Rattle.leave.specs.Leave.{Placed, ownIn}
 use Rattle.block.specs.Standing.{Standing}
 use Rattle.block.specs.Saved.{Saved}
 use Rattle.block.proofs.Saving.{saved-base}
 use Rattle.block.proofs.Tops.{counted-put}
 use Rattle.arms.specs.Calls.{resultNeed, foundPart, Asking, calledContext, CallBegins, CallBegan}
-use Rattle.arms.proofs.CallRows.{few-arguments, result-there, callee-there}
+use Rattle.arms.proofs.CallRows.{callee-there, arm-row}
 
 -- what was found
 pub got-piece : (s : List ℕ) (p : Subpart) (found : Found) → Got s p found → (n : ℕ) → found ≡ There n → n < top s
@@ -117,7 +118,7 @@ module _ {bytes t places s rs open-marks : List ℕ} {fr : Frame} {row : Kinded}
   own-few = omega (arith, ready .sums)
 
   pub begin-few : operandAt bytes row 1 ≤ maxArguments
-  begin-few = few-arguments (ready .was-read) (ready .function) (q .arms .begins .begun .statement) (q .arms .is) (q .kind)
+  begin-few = few-arguments (arm-row (q .arms) (q .kind))
 
   pub begin-own : (Memory s rs × Placed t rs f) × (ownIn t s rs f ≤ entriesCap)
   begin-own =
@@ -133,9 +134,6 @@ module _ {bytes t places s rs open-marks : List ℕ} {fr : Frame} {row : Kinded}
         omega (arith, own-pieces, own-few, few),
       )
 
-  pub begin-weigh : Memory s rs × ((at + 4 ≤ length rs) × (sumFrom (read s rs) at 4 ≤ entriesCap))
-  begin-weigh = (ready .memory, (ready .high, omega (arith, context-pieces (read s rs) at, few)))
-
   pub begin-held : fr .held + sumFrom (read s rs) at 4 + ownIn t s rs f ≤ maxPieces
   begin-held = omega (arith, context-pieces (read s rs) at, few, own-pieces, own-few)
 
@@ -144,7 +142,7 @@ module _ {bytes t places s rs open-marks : List ℕ} {fr : Frame} {row : Kinded}
     begin-loads = record {
       sum = sum;
       ready = ready;
-      below = rw (field, count) (result-there (ready .was-read) (ready .function) (q .arms .begins .begun .statement) (q .arms .is) (q .kind));
+      below = rw (field, count) (result-there (arm-row (q .arms) (q .kind)));
     }
 
     module _ (found : Found) (got : Got s (recordOf records (optionOf d)) found) where
@@ -159,7 +157,7 @@ module _ {bytes t places s rs open-marks : List ℕ} {fr : Frame} {row : Kinded}
         begin-enters = (
           omega (arith, high),
           inside bytes t places (ready .was-read) (standing .placed) g (length open-marks)
-              (rw callee (callee-there (ready .was-read) (ready .function) (q .arms .begins .begun .statement) (q .arms .is) (q .kind))) (standing .open-long),
+              (rw callee (callee-there (arm-row (q .arms) (q .kind)))) (standing .open-long),
         )
 
         module _ {u us : List ℕ} {r : ℕ} (made : Made s u (retvalOf (foundPart s found)) 1 r) (slots : us ≡ fourSet rs (at + 4) (getD rs at 0) 2 2 r) where

@@ -1,5 +1,5 @@
 -- The end of a call: what the result is asked for stands in its slot, the arguments and the result are asked, and the marks of the call are written.
-use Prim.Native.Nat.{ℕ, suc, _+_, _<_, _≤_}
+use Prim.Native.Nat.{ℕ, _+_, _<_, _≤_}
 use native.Mathlib.Omega.{arith}
 use mathlib.Core.Path.{_≡_, refl, sym, ap, _∙_, subst}
 use mathlib.Core.Bool.{Bool, true, false, not}
@@ -12,13 +12,12 @@ use Rattle.part.specs.Store.{part}
 use Rattle.part.specs.Found.{Got}
 use Rattle.part.specs.declared.req.Found.{Found}
 use Rattle.part.specs.declared.req.Found.the-variants.{Gone, There}
-use Rattle.module.specs.Module.{Module, Function}
+use Rattle.module.specs.Module.{Module}
 use Rattle.module.specs.Marks.{markCount, marksBefore}
 use Rattle.module.specs.Decode.{optionOf}
-use Rattle.module.specs.Tables.{moduleOf, functionOf, rowAt}
+use Rattle.module.specs.Tables.{moduleOf}
 use Rattle.access.specs.Access.{operandAt, statementNumber}
 use Rattle.access.specs.declared.kinded.Kinded.{Kinded}
-use Rattle.access.proofs.Access.{statements-are}
 use Rattle.context.specs.RequiredContext.{RequiredContext}
 use Rattle.walk.specs.State.{State, Out, went, withMarks, recordPieces}
 use Rattle.walk.specs.Marks.{statementAt, writeMarks}
@@ -29,15 +28,12 @@ use Rattle.walk.specs.Proper.{Sound, ProperState}
 use Rattle.walk.proofs.Bind.{then-went, then-halt}
 use Rattle.walk.proofs.Ends.{ended}
 use Rattle.walk.proofs.Keeps.{Needs}
-use Rattle.walk.proofs.Statements.{record-needs, call-ends, good-marked}
+use Rattle.walk.proofs.Statements.{record-needs, call-ends}
 use Rattle.walk.proofs.Proper.{proper, good, state, fine-context, asked-fine}
 use Rattle.sound.proofs.Walks.{module-sound}
 use Rattle.memory.specs.Layout.{result, returned, exprsSlot}
 use Rattle.memory.specs.Memory.{read, contextAt}
-use Rattle.marks.specs.Places.{startOf}
-use Rattle.marks.proofs.Write.{write-long, write-after}
-use Rattle.marks.proofs.Placed.{at-function}
-use Rattle.marks.proofs.Buffers.{own-fits, own-written, statement-inside}
+use Rattle.marks.proofs.Buffers.{own-fits}
 use Rattle.state.specs.State.{Rest, recordsIn, stateOf, totalsSum}
 use Rattle.state.specs.Ready.{Ready}
 use Rattle.state.specs.Frame.{frameOf, Apart, ArmEnded, ArmEnds}
@@ -48,14 +44,16 @@ use Rattle.state.specs.declared.answer.Place.{Place}
 use Rattle.state.specs.declared.frame.Frame.{Frame}
 use Rattle.statement.specs.Aside.{asideSlots, Loading}
 use Rattle.statement.proofs.Holding.{Holdable, hold-ready, hold-state, hold-totals, hold-apart, hold-part}
+use Rattle.statement.proofs.Uses.{in-function}
 use Rattle.call.specs.Calls.{argumentsOf, requested, Calling, EndsCall}
+use Rattle.call.proofs.Rows.{call-is, few-arguments, result-there, CallRow}
 use Rattle.block.specs.Standing.{restIn, stateIn, Standing}
-use Rattle.block.specs.Blocks.{Beside, StatementEnded, StatementEnds}
+use Rattle.block.specs.Blocks.{StatementEnded, StatementEnds}
 use Rattle.block.specs.Visiting.{marked}
 use Rattle.block.proofs.Steps.{apart-state, apart-standing, beside-apart, beside-then}
 use Rattle.arms.specs.Calls.{resultOf, resultNeed, foundPart, wasFound, Returns, Returned, callMarks}
-use Rattle.arms.proofs.CallRows.{call-is, few-arguments, result-there}
 use Rattle.arms.proofs.CallBegins.{got-piece, got-part, retval-few}
+use Rattle.arms.proofs.Marking.{written-state, written-standing, written-beside}
 
 -- what was found, put aside and marked
 pub result-held : {found : Found} {n : ℕ} (rs : List ℕ) → found ≡ There n → (true ≡ wasFound found) × (set rs result n ≡ asideSlots rs result found)
@@ -84,70 +82,6 @@ there-is s (There n) = refl
 retval-there : (p : PartReq) (n : ℕ) → entries (retvalOf (there p)) ≤ n → entries p ≤ n
 unfolding retvalOf entries
 retval-there p n h = omega (arith, h)
-
--- the marks of a call that stand where the table says
-module _ {bytes t types places s rs open-marks totals : List ℕ} {f at held sum visits : ℕ} (S : Standing bytes t types places s rs open-marks totals f at held sum visits)
-    {n k : ℕ} (named : n < rowAt t f .statements) (two : markCount (statementAt (moduleOf bytes t) f n) ≡ 2) (place : k ≡ getD places (statementNumber t f n) 0) (a b : Bool) where
-  abbrev m : Module
-  m = moduleOf bytes t
-
-  abbrev req : StatementReq
-  req = StatementReq.Call a b
-
-  abbrev bits : List ℕ
-  bits = mark a ∷ mark b ∷ []
-
-  inside : n < length (functionOf bytes t f .statements)
-  inside = omega (arith, named, statements-are t f (rowAt t f) refl bytes)
-
-  pub marks-fit : k + 1 < length open-marks
-  marks-fit =
-      omega (arith, own-fits bytes t places (S .ready .was-read) (S .placed) open-marks bits f n k (S .ready .function) inside place (sym two), S .open-long)
-
-  abbrev after : List ℕ
-  after = writeMarks open-marks k bits
-
-  pub marked-state : (v : ℕ) → stateIn bytes t s rs after totals f at v
-      ≡ withMarks (writeMarks (stateIn bytes t s rs open-marks totals f at v .marks) (marksBefore (functionAt m f .statements) n) (ownMarks req)) (stateIn bytes t s rs open-marks totals f at v)
-  unfolding ownMarks
-  marked-state v = rw (own-written bytes t places (S .ready .was-read) (S .placed) open-marks bits f n k (S .ready .function) inside place (sym two))
-
-  pub marked-standing : Standing bytes t types places s rs after totals f at held sum visits
-  marked-standing =
-      let sound = module-sound bytes m (S .ready .was-read .module-is) in
-      let st = stateIn bytes t s rs open-marks totals f at visits in
-      record {
-        ready = S .ready;
-        typed = S .typed;
-        placed = S .placed;
-        open-long = omega (arith, S .open-long, write-long open-marks k bits);
-        totals-long = S .totals-long;
-        totals-sum = S .totals-sum;
-        unwalked = S .unwalked;
-        proper = rw (marked-state visits) (state m sound 0 f _ (good-marked (proper m sound 0) f (marksBefore (functionAt m f .statements) n) req st (good m sound 0 f st (S .proper))));
-        closed = S .closed;
-        above = S .above;
-      }
-
-  ends-before : k + 2 ≤ startOf m (suc f)
-  unfolding startOf
-  ends-before =
-      omega (
-        arith,
-        place ∙ S .placed .statements f n (S .ready .function) inside,
-        statement-inside m f n (omega (arith, inside, ap (λ (x : Function). length (x .statements)) (at-function bytes t (S .ready .was-read) f (S .ready .function)))),
-        two,
-      )
-
-  pub marked-beside : Beside bytes t f at s rs open-marks s rs after
-  marked-beside =
-      record {
-        long = refl;
-        stack = λ j x y. refl;
-        records = λ j x y z. refl;
-        marks-long = write-long open-marks k bits;
-        marks = λ j x. write-after open-marks k bits j (omega (arith, x, ends-before));
-      }
 
 -- what was found, in the slot of the result
 record Held (bytes t s rs : List ℕ) (fr : Frame) (sum : ℕ) (found : Found) (vs : List ℕ) : Type 0 where
@@ -198,15 +132,19 @@ module _ {bytes t places s rs open-marks : List ℕ} {fr : Frame} {row : Kinded}
   sound : Sound def
   sound = module-sound bytes def (ready .was-read .module-is)
 
-  marks-two : markCount (statementAt def f (fr .statement)) ≡ 2
-  unfolding markCount
-  marks-two = ap markCount (call-is (ready .was-read) (ready .function) (q .statement) (q .is) (q .kind))
+  named : CallRow bytes t f (fr .statement) row
+  named = record { was-read = ready .was-read; function = ready .function; statement = q .statement; is = q .is; kind = q .kind }
+
+  -- a call has two marks
+  marks-two : (a b : Bool) → length (ownMarks (StatementReq.Call a b)) ≡ markCount (statementAt def f (fr .statement))
+  unfolding ownMarks markCount
+  marks-two a b = sym (ap markCount (call-is named))
 
   needs : Needs ((proper def sound 0) .Asked) need
   needs = record-needs (proper def sound 0) f (recordsIn t exprsSlot f (read s rs)) (resultOf bytes row) (good def sound 0 f _ (q .standing .proper) .exprs)
 
   pub return-few : operandAt bytes row 1 ≤ maxArguments
-  return-few = few-arguments (ready .was-read) (ready .function) (q .statement) (q .is) (q .kind)
+  return-few = few-arguments named
 
   -- the definition's end of the call
   abbrev Whole : Bool → (totals : List ℕ) → Out StatementReq
@@ -215,19 +153,26 @@ module _ {bytes t places s rs open-marks : List ℕ} {fr : Frame} {row : Kinded}
 
   module _ {k : ℕ} (place : k ≡ getD places (statementNumber t f (fr .statement)) 0) where
     pub return-marks : k + 1 < length open-marks
-    return-marks = marks-fit (q .standing) (q .statement) marks-two place false false
+    unfolding ownMarks
+    return-marks =
+        omega (
+          arith,
+          own-fits bytes t places (ready .was-read) (q .standing .placed) open-marks (ownMarks (StatementReq.Call false false)) f (fr .statement) k (ready .function)
+              (in-function (ready .was-read) (ready .function) (q .statement)) place (marks-two false false),
+          q .standing .open-long,
+        )
 
     pub not-returned : {after : List ℕ} (req : Bool) → not req ≡ true → after ≡ writeMarks open-marks k (mark false ∷ mark false ∷ [])
         → Returned bytes t places s rs open-marks fr row req visits sum (Went (record { visits = visits; sum = sum }) false) s rs after
-    unfolding endCall required
+    unfolding endCall required ownMarks
     not-returned req unneeded e =
         rw (not-required req unneeded, e)
         (record {
           by = λ types totals S. record {
             by = record {
-              is = ap (λ (st : State). went st false) (marked-state S (q .statement) marks-two place false false visits);
-              standing = marked-standing S (q .statement) marks-two place false false;
-              beside = marked-beside S (q .statement) marks-two place false false;
+              is = ap (λ (st : State). went st false) (written-state S (q .statement) (StatementReq.Call false false) (marks-two false false) k place);
+              standing = written-standing S (q .statement) (StatementReq.Call false false) (marks-two false false) k place;
+              beside = written-beside S (q .statement) (StatementReq.Call false false) (marks-two false false) k place;
             };
           };
         })
@@ -240,7 +185,7 @@ module _ {bytes t places s rs open-marks : List ℕ} {fr : Frame} {row : Kinded}
           → ArmEnded bytes t s vs fr (restIn def t f (read s rs) open-marks totals) (Whole true totals) (λ x. StatementReq.Call x (isThere need)) (tally .visits) (tally .sum) b u us
           → StatementEnded bytes t types places s rs open-marks totals fr (marked def (frameOf s rs fr) (Whole true totals)) (λ x. x) (tally .visits) (tally .sum) b u us
           (writeMarks open-marks k (mark b ∷ mark (isThere need) ∷ [])) totals
-      unfolding required
+      unfolding required ownMarks
       went-returned {types} {totals} S tally b {u} {us} E =
           let a = kept-apart (E .apart) in
           let st : State = stateIn bytes t u us open-marks totals f (fr .at) (tally .visits) in
@@ -257,10 +202,10 @@ module _ {bytes t places s rs open-marks : List ℕ} {fr : Frame} {row : Kinded}
           (sym is)) in
           let T = apart-standing S a (E .ready) left in
           record {
-            is = ap (λ (x : State). went x b) (marked-state T (q .statement) marks-two place b (isThere need) (tally .visits))
+            is = ap (λ (x : State). went x b) (written-state T (q .statement) (StatementReq.Call b (isThere need)) (marks-two b (isThere need)) k place)
                 ∙ sym (then-went (λ ended req. went (withMarks (writeMarks (ended .marks) (marksBefore (functionAt def f .statements) (fr .statement)) (ownMarks req)) ended) (required req)) (sym is));
-            standing = marked-standing T (q .statement) marks-two place b (isThere need);
-            beside = beside-then (fr .at) (beside-apart S a) (marked-beside T (q .statement) marks-two place b (isThere need)) (omega arith);
+            standing = written-standing T (q .statement) (StatementReq.Call b (isThere need)) (marks-two b (isThere need)) k place;
+            beside = beside-then (fr .at) (beside-apart S a) (written-beside T (q .statement) (StatementReq.Call b (isThere need)) (marks-two b (isThere need)) k place) (omega arith);
           }
 
       returned-by : {types totals : List ℕ} (S : Standing bytes t types places s rs open-marks totals f (fr .at) (fr .held) sum visits) (r : Answered) {u us after : List ℕ}
@@ -319,5 +264,5 @@ module _ {bytes t places s rs open-marks : List ℕ} {fr : Frame} {row : Kinded}
     return-loads count field = record {
       sum = sum;
       ready = ready;
-      below = rw (field, count) (result-there (ready .was-read) (ready .function) (q .statement) (q .is) (q .kind));
+      below = rw (field, count) (result-there named);
     }

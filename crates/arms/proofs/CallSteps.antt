@@ -55,10 +55,10 @@ use Rattle.block.specs.Functions.{FunctionEntered, FunctionEnded, FunctionEnds}
 use Rattle.block.specs.Left.{heldBy, Left}
 use Rattle.block.proofs.Calling.{entered-state, entered-standing}
 use Rattle.block.proofs.Left.{left-state, left-standing, left-beside, beside-entered}
-use Rattle.block.proofs.Steps.{beside-then, beside-context}
+use Rattle.block.proofs.Steps.{beside-then, beside-context, ends-from}
 use Rattle.block.proofs.Unroll.{call-halt, call-ends}
 use Rattle.arms.specs.Calls.{resultOf, resultNeed, calledContext, CallBegins, CallBegan, LeavesCall, LeftCall, Returns, Returned}
-use Rattle.arms.proofs.CallRows.{callee-lower, body-lower}
+use Rattle.arms.proofs.CallRows.{callee-lower, body-lower, arm-row}
 use Rattle.arms.proofs.CallBegins.{called-few}
 
 -- entries of variables pass no limit, where their parts do not
@@ -82,16 +82,6 @@ function-from m g at held globals retval base st is = is (entered m g base st) �
 end-same : (m : Module) {fr fs : walk.Frame} (es : List ExpressionHandle) (o : Option ExpressionHandle) {n k : Subpart} {p q : PartReq} (r : Bool) {st su : State}
     → fr ≡ fs → n ≡ k → p ≡ q → st ≡ su → endCall m fr es o n p r st ≡ endCall m fs es o k q r su
 end-same m es o r a b c d = rw (a, b, c, d)
-
--- what is left of a call after a step that changes nothing below
-statement-after : {bytes t types places s rs open-marks totals v ws open-1 totals-1 x xs open-2 totals-2 : List ℕ} {fr : Frame} {part-way total : Out Bool} (a : Answered)
-    → Beside bytes t (fr .function .0) (fr .at) s rs open-marks v ws open-1 → part-way ≡ total
-    → StatementEnds bytes t types places v ws open-1 totals-1 fr part-way (λ b. b) a x xs open-2 totals-2
-    → StatementEnds bytes t types places s rs open-marks totals fr total (λ b. b) a x xs open-2 totals-2
-statement-after {fr = fr} (Went tally b) d e E = record {
-  by = record { is = E .by .is ∙ e; standing = E .by .standing; beside = beside-then (fr .at) d (E .by .beside) (omega arith) };
-}
-statement-after (Halt n place) d e E = record { by = E .by ∙ e }
 
 module _ {bytes t types places s rs open-marks totals : List ℕ} {fr : Frame} {b : BlockHandle} {row : Kinded} {sum visits : ℕ} (A : Arms bytes t types places s rs open-marks totals fr b row sum visits) (kind : row .kind ≡ 14) where
   abbrev f : ℕ
@@ -144,7 +134,7 @@ module _ {bytes t types places s rs open-marks totals : List ℕ} {fr : Frame} {
 
   -- the measure: the function's number falls
   pub callee-below : o 0 < f
-  callee-below = callee-lower (standing .ready .was-read) (standing .ready .function) (A .begins .begun .statement) (A .is) kind
+  callee-below = callee-lower (arm-row A kind)
 
   whole-is : Whole ≡ addCall m (addFunction m) (frameOf s rs fr) (o 0) (argumentsOf bytes row (o 1)) (resultOf bytes row) st
   unfolding addStatement statementOf
@@ -179,7 +169,7 @@ module _ {bytes t types places s rs open-marks totals : List ℕ} {fr : Frame} {
         let l = called-few bytes t s rs f at row in
         let i = C .own-is in
         let body : recordNumber m g (bodyOf m g) + 2 ≤ recordNumber m f b =
-        rw callee (body-lower (standing .ready .was-read) (standing .ready .function) (A .begins .begun .statement) (A .is) kind b (omega (arith, A .within .low, A .within .high))) in
+        rw callee (body-lower (arm-row A kind) b (omega (arith, A .within .low, A .within .high))) in
         record {
           standing = rw (C .held-is) (entered-standing standing lower (C .saved) (omega (arith, high)) cleared (omega (arith, own-few, i)) sound (base-fine g) (omega (arith, few, own-few, l, i)));
           no-locals = ap (λ (c : RequiredContext). c .locals) new-context;
@@ -318,4 +308,4 @@ module _ {bytes t types places s rs open-marks totals : List ℕ} {fr : Frame} {
           pub call-ended : {a : Answered} {x xs open-3 : List ℕ} → Returned bytes t places v ws open-2 fr row req (tally .visits) n a x xs open-3
               → StatementEnds bytes t types places s rs open-marks totals fr (marked m (frameOf s rs fr) Whole) (λ x. x) a x xs open-3 totals-2
           call-ended {a} R =
-              statement-after a back-beside (sym (ap (λ (y : Out StatementReq). marked m (frameOf s rs fr) y) whole-ends)) (R .by types totals-2 back-standing)
+              ends-from a back-beside (sym (ap (λ (y : Out StatementReq). marked m (frameOf s rs fr) y) whole-ends)) (R .by types totals-2 back-standing)

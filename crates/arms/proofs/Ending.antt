@@ -7,52 +7,25 @@ use native.Mathlib.Omega.{arith}
 use Rattle.module.specs.Tables.{moduleOf}
 use Rattle.walk.specs.State.{atStatement, went, halt, count}
 use Rattle.walk.proofs.Bind.{counted-over, counted-under}
-use Rattle.memory.specs.Memory.{read, Tidied}
+use Rattle.memory.specs.Memory.{read}
 use Rattle.state.specs.declared.answer.Answered.{Answered}
 use Rattle.state.specs.declared.answer.Answered.the-variants.{Went, Halt}
 use Rattle.state.specs.declared.answer.Place as declared
 use Rattle.state.specs.declared.answer.Place.the-variants as place
 use Rattle.state.specs.declared.answer.Tally.{Tally}
 use Rattle.state.specs.declared.frame.Frame.{Frame}
-use Rattle.state.proofs.Others.{count-is, ready-tidied}
+use Rattle.state.proofs.Others.{count-is}
 use Rattle.expression.specs.Visits.{Counting, Allowed}
 use Rattle.expression.proofs.Visits.{is-allowed, not-allowed}
 use Rattle.block.specs.Standing.{restIn, stateIn, Standing}
 use Rattle.block.specs.Blocks.{contextIn, StatementEnding}
 use Rattle.block.proofs.Steps.{beside-same, beside-then}
 use Rattle.arms.specs.Visit.{CountingWhen, LastAsked, last, LastEnds}
+use Rattle.arms.proofs.Tidies.{tidied-state, tidied-standing}
 
 module _ {bytes t types places s rs open-marks totals : List ℕ} {f at held sum visits : ℕ} (S : Standing bytes t types places s rs open-marks totals f at held sum visits) where
   pub standing-count : (v : ℕ) → count held (stateIn bytes t s rs open-marks totals f at v) ≡ held + (contextIn s rs at + sum)
   standing-count v = count-is t f at held (read s rs) (restIn (moduleOf bytes t) t f (read s rs) open-marks totals) v sum (S .ready .sums) (S .totals-sum)
-
-  pub standing-counting : Counting s rs at held sum
-  standing-counting = record {
-    memory = S .ready .memory;
-    high = S .ready .high;
-    owned = S .ready .owned;
-    few = omega (arith, S .ready .small);
-    small = omega (arith, S .ready .small);
-  }
-
-  -- after a collection
-  module _ {u us : List ℕ} (d : Tidied s rs u us) where
-    pub tidied-state : (v : ℕ) → stateIn bytes t u us open-marks totals f at v ≡ stateIn bytes t s rs open-marks totals f at v
-    tidied-state v = rw (d .same)
-
-    pub tidied-standing : Standing bytes t types places u us open-marks totals f at held sum visits
-    tidied-standing = record {
-      ready = ready-tidied (S .ready) d;
-      typed = S .typed;
-      placed = S .placed;
-      open-long = S .open-long;
-      totals-long = S .totals-long;
-      totals-sum = rw (d .same) (S .totals-sum);
-      unwalked = rw (d .same) (S .unwalked);
-      proper = rw (d .same) (S .proper);
-      closed = rw (d .same) (S .closed);
-      above = rw (d .same) (S .above);
-    }
 
 -- `end_statement`: what it answers
 module _ {u us : List ℕ} {fr : Frame} (r : Answered) where

@@ -1,33 +1,26 @@
 -- `Loop`, as `add_loop` goes through it: both blocks, what they leave where the loop is not required, and the end of the first pass and the turns where it is.
-use Prim.Native.Nat.{ℕ, _+_, _-_, _<_, _≤_}
+use Prim.Native.Nat.{ℕ, _+_, _<_, _≤_}
 use native.Mathlib.Nat.{le-refl}
 use native.Mathlib.Omega.{arith}
-use mathlib.Core.Path.{_≡_, refl, sym, ap, subst, _∙_}
+use mathlib.Core.Path.{_≡_, sym, ap, subst, _∙_}
 use mathlib.Core.Bool.{Bool, true, false}
 use mathlib.Core.List.{List}
 use lib.ListN.{length}
 use Rattle.field.specs.Limits.{maxPieces, maxTurns}
-use Rattle.part.specs.StoreLimits.{entriesCap}
-use Rattle.module.specs.Module.{Module, BlockHandle, Loop, Kill}
+use Rattle.module.specs.Module.{Module, BlockHandle}
 use Rattle.module.specs.Decode.{optionOf, statementOf}
-use Rattle.module.specs.Tables.{rowAt, moduleOf}
+use Rattle.module.specs.Tables.{moduleOf}
 use Rattle.access.specs.Access.{operandAt}
 use Rattle.access.specs.declared.kinded.Kinded.{Kinded}
-use Rattle.access.proofs.Access.{statements-are, statement-at}
 use Rattle.context.specs.RequiredContext.{RequiredContext, emptyContext, pieces}
-use Rattle.valid.specs.Valid.{MaybeBelow, UsesBelow, entriesBelow}
+use Rattle.valid.specs.Valid.{MaybeBelow}
 use Rattle.walk.specs.State.{State, Out, went, withContext}
 use Rattle.walk.specs.StatementReq.{StatementReq}
 use Rattle.walk.specs.Resolve.{functionAt}
-use Rattle.walk.specs.Marks.{statementAt, blockAt}
 use Rattle.walk.specs.Statement.{turns, endLoop, addLoop}
 use Rattle.walk.specs.Statement as walk
-use Rattle.sound.specs.Holds.{HoldsBelow}
-use Rattle.sound.proofs.Walks.{module-valid}
-use Rattle.sound.proofs.There.{uses-below}
-use Rattle.sound.proofs.Numbers.{holds-below}
 use Rattle.memory.specs.Layout.{stackSlot}
-use Rattle.memory.specs.Memory.{read, sumFrom, contextAt, Memory}
+use Rattle.memory.specs.Memory.{read, sumFrom, contextAt}
 use Rattle.memory.proofs.Runs.{context-pieces}
 use Rattle.state.specs.Frame.{frameOf}
 use Rattle.state.specs.declared.answer.Place.{Place}
@@ -37,6 +30,9 @@ use Rattle.state.specs.declared.answer.Walked.the-variants as walked
 use Rattle.state.specs.declared.answer.Answered.{Answered}
 use Rattle.state.specs.declared.answer.Answered.the-variants.{Went, Halt}
 use Rattle.state.specs.declared.frame.Frame.{Frame}
+use Rattle.marks.specs.Ray.{heldCount, heldNumber}
+use Rattle.marks.proofs.Rays.{held-block}
+use Rattle.statement.proofs.Uses.{arm-uses}
 use Rattle.block.specs.Standing.{stateIn, Standing}
 use Rattle.block.specs.Branches.{BothDropped}
 use Rattle.block.specs.Blocks.{contextIn, Beside, StatementEnds}
@@ -44,11 +40,12 @@ use Rattle.block.specs.Visiting.{blockIn, Arms}
 use Rattle.block.specs.Pairing.{addPair, Paired, PairEnded, PairEnding, PairEnds, Branched}
 use Rattle.block.proofs.Tops.{up, up-state, up-empty}
 use Rattle.block.proofs.Depth.{held-before}
-use Rattle.block.proofs.Steps.{beside-then, beside-context}
+use Rattle.block.proofs.Steps.{beside-then, beside-context, ends-from}
 use Rattle.block.proofs.Unroll.{loop-not}
 use Rattle.block.proofs.Dropped.{dropped}
+use Rattle.block.proofs.Answered.{pair-anywhere}
 use Rattle.arms.specs.Loops.{endPass, Passing, PassEnded, PassEnding, PassEnds, Turning, turnsIn}
-use Rattle.arms.proofs.Unrolled.{loop-halt, loop-went, end-halt, end-turns, pair-fresh}
+use Rattle.arms.proofs.Unrolled.{loop-halt, loop-went, end-halt, end-turns}
 
 -- fewer slots
 beside-fewer : {bytes t : List ℕ} {f high : ℕ} (low : ℕ) {s rs open-marks u us open-after : List ℕ} → low ≤ high → Beside bytes t f high s rs open-marks u us open-after
@@ -74,26 +71,16 @@ module _ {bytes t types places s rs open-marks totals : List ℕ} {fr : Frame} {
   abbrev S : Standing bytes t types places s rs open-marks totals (fr .function .0) (fr .at) (fr .held) sum visits
   S = A .begins .standing
 
-  statement : statementAt m f (fr .statement) ≡ Loop (o 0) (o 1) (optionOf (o 2))
-  unfolding statementAt functionAt statementOf
-  statement =
-      statement-at bytes t f (fr .statement) 4 row _ Kill (S .ready .function)
-      (omega (arith, A .begins .begun .statement, statements-are t f (rowAt t f) refl bytes)) (A .is) kind
-
   blocks : (o 0 < b) × (o 1 < b)
-  blocks =
-      let first = blockAt m f b .first in
-      let n : first + (fr .statement - first) ≡ fr .statement = omega (arith, A .within .low) in
-      subst (HoldsBelow b) (ap (λ (k : ℕ). statementAt m f k) n ∙ statement)
-      (holds-below m (module-valid bytes m (S .ready .was-read .module-is)) f b (fr .statement - first) (omega (arith, A .within .low, A .within .high)))
+  unfolding heldCount heldNumber
+  blocks = (
+    rw kind at (held-block bytes t f b (fr .statement) (A .within) row (A .is) 1 (rw kind (omega arith)) .0),
+    rw kind at (held-block bytes t f b (fr .statement) (A .within) row (A .is) 0 (rw kind (omega arith)) .0),
+  )
 
   breaks : MaybeBelow (length (functionAt m f .expressions)) (optionOf (o 2))
-  breaks =
-      subst (UsesBelow (length (functionAt m f .expressions)) (entriesBelow f (m .functions))) statement
-      (uses-below m (module-valid bytes m (S .ready .was-read .module-is)) f (fr .statement))
-
-  pub loop-weighs : Memory s rs × ((fr .at + 4 ≤ length rs) × (sumFrom (read s rs) (fr .at) 4 ≤ entriesCap))
-  loop-weighs = (S .ready .memory, (S .ready .high, omega (arith, A .begins .begun .few, context-pieces (read s rs) (fr .at))))
+  unfolding statementOf
+  breaks = arm-uses (record { begun = A .begins .begun; is = A .is }) (statementOf 4 o) (ap (λ (k : ℕ). statementOf k o) kind)
 
   abbrev before : RequiredContext
   before = contextAt (read s rs) (fr .at)
@@ -137,7 +124,7 @@ module _ {bytes t types places s rs open-marks totals : List ℕ} {fr : Frame} {
       pair-is : Pair ≡ addPair (blockIn bytes t f) (o 0) (o 1) (fr .held + contextIn s rs (fr .at)) before false st
       pair-is =
           ap (λ (z : State). addPair (blockIn bytes t f) x y (fr .held + n) before false z) (up-state S)
-          ∙ pair-fresh (S .ready .was-read) f x y (fr .held + n) before false emptyContext st
+          ∙ pair-anywhere (S .ready .was-read) f x y (fr .held + n) before emptyContext false st
           ∙ rw (body, continuing, outer)
 
       -- both blocks are walked
@@ -265,7 +252,4 @@ module _ {bytes t types places s rs open-marks totals : List ℕ} {fr : Frame} {
                 pub loop-ends : (p : Answered) {w ws open-2 totals-2 : List ℕ}
                     → StatementEnds bytes t types places v vs open-1 totals-1 fr (turnsIn bytes t v vs fr x y maxTurns joined) StatementReq.Loop p w ws open-2 totals-2
                     → StatementEnds bytes t types places s rs open-marks totals fr Total StatementReq.Loop p w ws open-2 totals-2
-                loop-ends (Went last d) T = record {
-                  by = record { is = T .by .is ∙ turns-are; standing = T .by .standing; beside = beside-then (fr .at) pass-beside (T .by .beside) (le-refl (fr .at)) };
-                }
-                loop-ends (Halt k place) T = record { by = T .by ∙ turns-are }
+                loop-ends p T = ends-from p pass-beside turns-are T

@@ -9,9 +9,8 @@ use Rattle.module.specs.Module.{Module, Statement, Emit, Block, If, Switch, Loo
 use Rattle.module.specs.Marks.{markCount, marksBefore}
 use Rattle.module.specs.Decode.{statementOf}
 use Rattle.module.specs.Tables.{rowAt, functionOf, moduleOf}
-use Rattle.access.specs.Access.{operandAt, statementNumber, statementRow}
+use Rattle.access.specs.Access.{operandAt, statementNumber}
 use Rattle.access.specs.declared.kinded.Kinded.{Kinded}
-use Rattle.access.proofs.Access.{statements-are, statement-at}
 use Rattle.walk.specs.State.{Out, went, withMarks}
 use Rattle.walk.specs.Resolve.{functionAt}
 use Rattle.walk.specs.Marks.{writeMarks, statementAt}
@@ -25,7 +24,6 @@ use Rattle.marks.proofs.Write.{write-long, write-none, write-after}
 use Rattle.marks.proofs.Fit.{start-suc}
 use Rattle.marks.proofs.Placed.{at-function}
 use Rattle.marks.proofs.Buffers.{statement-inside, own-fits, own-written}
-use Rattle.state.specs.Ready.{WasRead}
 use Rattle.state.specs.Frame.{frameOf}
 use Rattle.state.specs.declared.answer.Answered.{Answered}
 use Rattle.state.specs.declared.answer.Answered.the-variants.{Went, Halt}
@@ -33,20 +31,12 @@ use Rattle.state.specs.declared.answer.Place.{Place}
 use Rattle.state.specs.declared.answer.Tally.{Tally}
 use Rattle.state.specs.declared.frame.Frame.{Frame}
 use Rattle.statement.specs.Leaf.{leafReq}
+use Rattle.statement.proofs.Uses.{in-function, row-statement}
 use Rattle.block.specs.Standing.{stateIn, Standing}
 use Rattle.block.specs.Blocks.{Beside, StatementEnded, StatementEnding}
 use Rattle.block.specs.Visiting.{marked}
 use Rattle.block.proofs.Steps.{beside-then}
 use Rattle.arms.specs.Visit.{markWhen, MarkingWhen, MarkAsked, MarkEnds}
-
--- the statement n of f, by its row
-module _ {bytes t : List ℕ} {f : ℕ} (was : WasRead bytes t) (open-function : f < length (moduleOf bytes t .functions)) {n : ℕ} (there : n < rowAt t f .statements) where
-  in-function : n < length (functionOf bytes t f .statements)
-  in-function = omega (arith, statements-are t f (rowAt t f) refl bytes)
-
-  pub row-statement : (row : Kinded) → row ≡ statementRow bytes t f n → statementAt (moduleOf bytes t) f n ≡ statementOf (row .kind) (operandAt bytes row)
-  unfolding statementAt functionAt
-  row-statement row is = statement-at bytes t f n (row .kind) row _ Kill open-function in-function is refl
 
 module _ {bytes t types places s rs open-marks totals : List ℕ} {f at held sum visits : ℕ} (S : Standing bytes t types places s rs open-marks totals f at held sum visits)
     {n : ℕ} (there : n < rowAt t f .statements) (req : StatementReq) (own : length (ownMarks req) ≡ markCount (statementAt (moduleOf bytes t) f n))

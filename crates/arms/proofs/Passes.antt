@@ -60,12 +60,9 @@ module _ {bytes t s rs : List ℕ} {fr : Frame} {e sum visits : ℕ} (P : Passin
       askOptional m (holding (contextIn s rs (fr .at + 4) + contextIn s rs (fr .at + 4 + 4)) (frameOf s rs fr)) (optionOf e) all
       (stateIn bytes t s rs open-marks totals (fr .function .0) (fr .at) visits)
 
-  -- the contexts of both blocks are weighed
+  -- the context of the first block is weighed
   pub first-weighs : Memory s rs × ((fr .at + 4 + 4 ≤ length rs) × (sumFrom (read s rs) (fr .at + 4) 4 ≤ entriesCap))
   first-weighs = let B = P .branched in (B .standing .ready .memory, (omega (arith, B .standing .ready .high), omega (arith, B .first-few, context-pieces (read s rs) (fr .at + 4))))
-
-  pub second-weighs : Memory s rs × ((fr .at + 4 + 4 + 4 ≤ length rs) × (sumFrom (read s rs) (fr .at + 4 + 4) 4 ≤ entriesCap))
-  second-weighs = let B = P .branched in (B .standing .ready .memory, (B .standing .ready .high, omega (arith, B .second-few, context-pieces (read s rs) (fr .at + 4 + 4))))
 
   pub break-absent : e ≡ absent → BreakEnds bytes t s rs fr e sum visits (Went (record { visits = visits; sum = sum })) s rs
   break-absent h = record {
@@ -201,7 +198,7 @@ module _ {bytes t s rs : List ℕ} {fr : Frame} {e sum visits : ℕ} (P : Passin
               let n : fr .held + contextIn u us (fr .at) ≡ fr .held + contextIn v vs (fr .at) = ap (λ (c : RequiredContext). fr .held + pieces c) (sym same) in
               record {
                 is = went-same
-                    (tidied-state S T ∙ join-state (L .standing) low J ∙ ap (λ (c : RequiredContext). withContext c (stateIn bytes t u us open-marks totals (fr .function .0) (fr .at) (tally .visits))) joint)
+                    (tidied-state S T (tally .visits) ∙ join-state (L .standing) low J ∙ ap (λ (c : RequiredContext). withContext c (stateIn bytes t u us open-marks totals (fr .function .0) (fr .at) (tally .visits))) joint)
                     same
                     ∙ pass-within m (frameOf s rs fr) (optionOf e) (contextAt (read s rs) (fr .at)) (contextAt (read s rs) (fr .at + 4))
                     (stateIn bytes t s rs open-marks totals (fr .function .0) (fr .at + 4 + 4) visits) (K .is) (sym o ∙ J .over ∙ ap overContext joint);

@@ -8,31 +8,25 @@ use mathlib.Core.Bool.{Bool, true, false, _||_}
 use mathlib.Core.List.{List}
 use lib.ListN.{length, getD}
 use Rattle.field.specs.Limits.{maxPieces}
-use Rattle.part.specs.StoreLimits.{entriesCap}
-use Rattle.module.specs.Module.{FunctionHandle, BlockHandle, Module, SwitchCase}
+use Rattle.module.specs.Module.{BlockHandle, Module, SwitchCase}
 use Rattle.module.specs.Decode.{tab, caseOf, statementOf}
 use Rattle.module.specs.Tables.{moduleOf}
 use Rattle.module.proofs.Tab.{length-tab, getD-tab}
 use Rattle.access.specs.Access.{operandAt}
 use Rattle.access.specs.declared.kinded.Kinded.{Kinded}
-use Rattle.valid.specs.Valid.{UsesBelow, entriesBelow}
 use Rattle.context.specs.RequiredContext.{RequiredContext, emptyContext, mergeContext, containsContext, overContext, pieces}
 use Rattle.walk.specs.State.{State, Out, went, halt, withContext}
 use Rattle.walk.specs.Resolve.{functionAt}
 use Rattle.walk.specs.StatementReq.{StatementReq}
-use Rattle.walk.specs.Statement.{addCases, endSwitch, addSwitch, stepBlock}
+use Rattle.walk.specs.Statement.{addCases, endSwitch, addSwitch}
 use Rattle.walk.specs.Statement as walk
-use Rattle.walk.specs.Function.{addFunction}
-use Rattle.sound.proofs.Walks.{module-valid, block-is}
-use Rattle.sound.proofs.There.{uses-below}
 use Rattle.memory.specs.Layout.{stackSlot}
-use Rattle.memory.specs.Memory.{read, sumFrom, contextAt, Memory}
+use Rattle.memory.specs.Memory.{read, sumFrom, contextAt}
 use Rattle.memory.specs.Stretches.{fourSet}
 use Rattle.memory.proofs.Runs.{context-pieces}
 use Rattle.marks.specs.Ray.{heldCount, heldNumber}
-use Rattle.marks.proofs.Rays.{decoded, held-block}
+use Rattle.marks.proofs.Rays.{held-block}
 use Rattle.state.specs.State.{placeOf}
-use Rattle.state.specs.Ready.{WasRead}
 use Rattle.state.specs.Frame.{frameOf}
 use Rattle.state.specs.declared.answer.Tally.{Tally}
 use Rattle.state.specs.declared.answer.Place.{Place}
@@ -40,6 +34,7 @@ use Rattle.state.specs.declared.answer.Place.the-variants as position
 use Rattle.state.specs.declared.answer.Answered.{Answered}
 use Rattle.state.specs.declared.answer.Answered.the-variants.{Went, Halt}
 use Rattle.state.specs.declared.frame.Frame.{Frame}
+use Rattle.statement.proofs.Uses.{arm-uses}
 use Rattle.block.specs.Saved.{Saved}
 use Rattle.block.specs.Standing.{stateIn, Standing}
 use Rattle.block.specs.Blocks.{contextIn, Entered, Beside, BlockEnded, BlockEnding, BlockEnds, StatementEnds}
@@ -47,36 +42,14 @@ use Rattle.block.specs.Visiting.{blockIn, Arms}
 use Rattle.block.proofs.Saving.{saved-copy}
 use Rattle.block.proofs.Tops.{up, up-state, saved-context, saved-state, saved-standing, popped-context, popped-state, popped-standing}
 use Rattle.block.proofs.Depth.{held-before}
-use Rattle.block.proofs.Steps.{beside-same, beside-then, beside-context, beside-popped, enters}
+use Rattle.block.proofs.Steps.{beside-same, beside-then, beside-context, beside-popped, enters, ends-from}
 use Rattle.block.proofs.Bounds.{contains-itself, contains-more, settled-pieces, settled-sum, case-few}
 use Rattle.block.proofs.Joining.{fine-merged, join-room}
 use Rattle.block.proofs.Tight.{enters-more, ends-less}
 use Rattle.block.proofs.Unroll.{cases-done, cases-halt, cases-over, cases-again, switch-ends, switch-halt}
+use Rattle.block.proofs.Answered.{block-anywhere}
 use Rattle.arms.specs.Switches.{Casing, withCase, CaseJoined, CaseEnding, CaseEnds, Switched, EndingSwitch, SwitchEnds}
 use Rattle.arms.proofs.Switching.{beside-saved}
-
--- the current context can be counted
-pub weigh-asks : {bytes t types places s rs open-marks totals : List ℕ} {f at held sum visits : ℕ} → Standing bytes t types places s rs open-marks totals f at held sum visits
-    → Memory s rs × ((at + 4 ≤ length rs) × (sumFrom (read s rs) at 4 ≤ entriesCap))
-weigh-asks {s = s} {rs = rs} {at = at} S = (S .ready .memory, (S .ready .high, omega (arith, context-pieces (read s rs) at, S .ready .small)))
-
--- a block begins from its base, whatever the current context is
-pub block-context : (bytes t : List ℕ) → WasRead bytes t → (f : FunctionHandle) (b : BlockHandle) (held : ℕ) (base : RequiredContext) (r : Bool) (c : RequiredContext) (st : State)
-    → blockIn bytes t f b held base r (withContext c st) ≡ blockIn bytes t f b held base r st
-unfolding stepBlock
-block-context bytes t w f b held base r c st =
-    let m = moduleOf bytes t in
-    block-is bytes m (w .module-is) (addFunction m) f b held base r (withContext c st) ∙ sym (block-is bytes m (w .module-is) (addFunction m) f b held base r st)
-
--- a statement's end, as one of a statement that began before
-ends-from : {A : Type 0} {bytes t types places s rs open-marks totals u us open-1 totals-1 : List ℕ} {fr : Frame} {first total : Out A} {answer : Bool → A} (r : Answered) {x xs open-2 totals-2 : List ℕ}
-    → Beside bytes t (fr .function .0) (fr .at) s rs open-marks u us open-1 → first ≡ total
-    → StatementEnds bytes t types places u us open-1 totals-1 fr first answer r x xs open-2 totals-2
-    → StatementEnds bytes t types places s rs open-marks totals fr total answer r x xs open-2 totals-2
-ends-from {fr = fr} (Went tally b) k e E = record {
-  by = record { is = E .by .is ∙ e; standing = E .by .standing; beside = beside-then (fr .at) k (E .by .beside) (le-refl (fr .at)) };
-}
-ends-from (Halt n place) k e E = record { by = E .by ∙ e }
 
 -- n cases are left, and give the whole; the others are joined above the statement's context
 pub record CasesLeft (bytes t types places s rs open-marks totals : List ℕ) (fr : Frame) (cases : List SwitchCase) (start n : ℕ) (any : Bool) (sum visits : ℕ) (u us open-after totals-after : List ℕ) : Type 0 where
@@ -144,10 +117,7 @@ module _ {bytes t types places s rs open-marks totals : List ℕ} {fr : Frame} {
 
   selector-there : row .kind ≡ 3 → o 0 < length (functionAt m f .expressions)
   unfolding statementOf
-  selector-there kind =
-      subst (UsesBelow (length (functionAt m f .expressions)) (entriesBelow f (m .functions)))
-      (decoded bytes t f b (fr .statement) (A .within) row (A .is) ∙ ap (λ (k : ℕ). statementOf k o) kind)
-      (uses-below m (module-valid bytes m (A .begins .standing .ready .was-read .module-is)) f (fr .statement)) .0
+  selector-there kind = arm-uses (record { begun = A .begins .begun; is = A .is }) (statementOf 3 o) (ap (λ (k : ℕ). statementOf k o) kind) .0
 
   -- the context is counted and copied
   pub outside-few : {r : ℕ} → r ≡ sumFrom (read s rs) at 4 → fr .held + r ≤ maxPieces
@@ -266,7 +236,7 @@ module _ {bytes t types places s rs open-marks totals : List ℕ} {fr : Frame} {
         case-is : Code (at + 4 + 4) held ≡ Case
         case-is =
             ap (λ (x : State). block body held (contextAt (read u us) at) false x) (up-state (C .switched .standing))
-            ∙ block-context bytes t (A .begins .standing .ready .was-read) f body held (contextAt (read u us) at) false emptyContext st
+            ∙ block-anywhere (A .begins .standing .ready .was-read) f body held (contextAt (read u us) at) emptyContext false st
             ∙ ap (λ (j : ℕ). block j held (contextAt (read u us) at) false st) (body-is ∙ sym (case-body k within))
             ∙ ap (λ (c : RequiredContext). block (getD cases k (record { value = 0; body = 0 }) .body) (fr .held + pieces c + pieces joined) c false st) outer-same
 

@@ -24,6 +24,7 @@ use Rattle.memory.specs.Layout.{globalsSlot, stackSlot, result, most}
 use Rattle.memory.specs.Memory.{read, counted, contextAt, Memory, Tidied}
 use Rattle.memory.specs.Want.{asked, Wants, wantOf}
 use Rattle.memory.proofs.Slots.{read-at, read-long, asked-slot}
+use Rattle.memory.proofs.Runs.{context-same}
 use Rattle.state.specs.State.{placeOf}
 use Rattle.state.specs.Ready.{Ready, Ended, Ending, Ends}
 use Rattle.state.specs.Frame.{frameOf, Apart}
@@ -40,7 +41,7 @@ use Rattle.block.specs.Aside.{aside, fromAside, Asiding, Aside}
 use Rattle.block.specs.Saved.{Saved, Popped, Dropped, Joined}
 use Rattle.block.specs.Standing.{restIn, stateIn, Standing}
 use Rattle.block.specs.Blocks.{contextIn, Beside, StatementEnded}
-use Rattle.block.proofs.Same.{context-same, own-sum, state-same}
+use Rattle.block.proofs.Same.{own-sum, state-same}
 use Rattle.block.proofs.Sides.{aside-back}
 use Rattle.block.proofs.Tops.{one-counted, put-below, popped-below, popped-state, popped-standing, saved-state, saved-standing}
 use Rattle.block.proofs.Steps.{beside-same, beside-then, beside-popped, apart-standing, beside-apart}

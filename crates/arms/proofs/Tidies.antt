@@ -8,8 +8,8 @@ use Rattle.block.specs.Standing.{stateIn, Standing}
 
 module _ {bytes t types places s rs open-marks totals : List ℕ} {f at held sum visits : ℕ} (S : Standing bytes t types places s rs open-marks totals f at held sum visits)
     {u us : List ℕ} (T : Tidied s rs u us) where
-  pub tidied-state : stateIn bytes t u us open-marks totals f at visits ≡ stateIn bytes t s rs open-marks totals f at visits
-  tidied-state = rw (T .same)
+  pub tidied-state : (v : ℕ) → stateIn bytes t u us open-marks totals f at v ≡ stateIn bytes t s rs open-marks totals f at v
+  tidied-state v = rw (T .same)
 
   pub tidied-standing : Standing bytes t types places u us open-marks totals f at held sum visits
   tidied-standing = record {

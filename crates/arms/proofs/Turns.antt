@@ -35,11 +35,12 @@ use Rattle.block.proofs.Tops.{up, up-state, up-empty, put-below, popped-context
 use Rattle.block.proofs.Steps.{beside-same, beside-then, beside-context, beside-popped}
 use Rattle.block.proofs.Joining.{join-room, join-state, join-standing, join-beside}
 use Rattle.block.proofs.Unroll.{turns-none, turn-settled, turn-again}
+use Rattle.block.proofs.Answered.{pair-anywhere}
 use Rattle.arms.specs.Loops.{Turning, turnsIn, TurnsLeft, TurnWalked, TurnSettled, TurnAgain, turnOut, TurnEnding, TurnEnds}
 use Rattle.arms.specs.declared.loops.Turn.{Turn}
 use Rattle.arms.specs.declared.loops.Turn.the-variants.{Over, Settled, Again}
 use Rattle.arms.proofs.Tidies.{tidied-state, tidied-standing}
-use Rattle.arms.proofs.Unrolled.{turn-halt, turn-over, turn-ends, pair-fresh, turns-fresh}
+use Rattle.arms.proofs.Unrolled.{turn-halt, turn-over, turn-ends, turns-fresh}
 
 -- the upper of two contexts is forgotten: all below it is as it was
 beside-dropped : {bytes t : List ℕ} {f k : ℕ} {s rs open-marks u us : List ℕ} → stackSlot ≤ k → Popped s rs k (contextAt (read s rs) k) u us
@@ -76,9 +77,6 @@ module _ {bytes t types places s rs open-marks totals : List ℕ} {fr : Frame} {
 
   pub turns-weigh : Memory s rs × ((at + 4 ≤ length rs) × (sumFrom (read s rs) at 4 ≤ entriesCap))
   turns-weigh = (T .standing .ready .memory, (omega (arith, T .standing .ready .high), omega (arith, T .few, context-pieces (read s rs) at)))
-
-  pub turns-weigh-2 : Memory s rs × ((at + 4 + 4 ≤ length rs) × (sumFrom (read s rs) (at + 4) 4 ≤ entriesCap))
-  turns-weigh-2 = (T .standing .ready .memory, (T .standing .ready .high, omega (arith, T .working-few, context-pieces (read s rs) (at + 4))))
 
   pub turns-begin : TurnsLeft bytes t types places s rs open-marks totals fr b body continuing visits maxTurns visits sum s rs open-marks totals
   turns-begin = record { turning = T; beside = beside-same refl refl; rest = refl }
@@ -154,7 +152,7 @@ module _ {bytes t types places s rs open-marks totals : List ℕ} {fr : Frame} {
         pair-is =
             ap (λ (i : ℕ). addPair (blockIn bytes t f) body continuing (fr .held + a + c) (contextAt (read u us) (at + 4)) true (stateIn bytes t u us open-1 totals-1 f i v)) eight
             ∙ ap (λ (z : State). addPair (blockIn bytes t f) body continuing (fr .held + a + c) (contextAt (read u us) (at + 4)) true z) (up-state (L .turning .standing))
-            ∙ pair-fresh (T .standing .ready .was-read) f body continuing (fr .held + a + c) (contextAt (read u us) (at + 4)) true emptyContext start
+            ∙ pair-anywhere (T .standing .ready .was-read) f body continuing (fr .held + a + c) (contextAt (read u us) (at + 4)) emptyContext true start
             ∙ ap (λ (h : ℕ). addPair (blockIn bytes t f) body continuing h (contextAt (read u us) (at + 4)) true start) held-is
             ∙ ap (λ (d : RequiredContext). addPair (blockIn bytes t f) body continuing Held d true start) working-same
 
@@ -294,7 +292,7 @@ module _ {bytes t types places s rs open-marks totals : List ℕ} {fr : Frame} {
                     roomy = K .tidied .roomy;
                   };
                   beside = beside;
-                  rest = ap (turnsIn bytes t s rs fr body continuing (n - 1)) (tidied-state S (K .tidied) ∙ down-state J D)
+                  rest = ap (turnsIn bytes t s rs fr body continuing (n - 1)) (tidied-state S (K .tidied) (tally .visits) ∙ down-state J D)
                       ∙ fresh working
                       ∙ sym (fresh joint)
                       ∙ sym (turn-is J D (K .contains) ∙ turn-again working (turnsIn bytes t s rs fr body continuing (n - 1)) (withContext joint continued));

@@ -10,20 +10,18 @@ use borrow.Author.Tests.{eq-eqb, ne-eqb}
 use Rattle.part.specs.PartReq.{PartReq, all}
 use Rattle.module.specs.Module.{Module, ExpressionHandle, FunctionHandle, BlockHandle}
 use Rattle.module.specs.Decode.{optionOf}
-use Rattle.module.specs.Tables.{moduleOf}
 use Rattle.context.specs.RequiredContext.{RequiredContext, mergeContext, containsContext, pieces}
 use Rattle.context.specs.RequiredContext as context
 use Rattle.walk.specs.State.{State, Place, Out, went, halt, _>>=_, _>>_, withContext}
 use Rattle.walk.specs.StatementReq.{StatementReq}
 use Rattle.walk.specs.Expression.{addExpression}
-use Rattle.walk.specs.Statement.{BlockWalk, Frame, here, holding, askOptional, merged, endTurn, turns, startTurns, endLoop, addLoop, stepBlock}
-use Rattle.walk.specs.Function.{addFunction}
+use Rattle.walk.specs.Statement.{BlockWalk, Frame, here, holding, askOptional, merged, endTurn, turns, startTurns, endLoop, addLoop}
 use Rattle.walk.proofs.Bind.{then-then}
-use Rattle.sound.proofs.Walks.{block-is}
 use Rattle.state.specs.Ready.{WasRead}
 use Rattle.block.specs.Visiting.{blockIn}
 use Rattle.block.specs.Pairing.{addPair}
 use Rattle.block.proofs.Unroll.{merged-within, merged-over}
+use Rattle.block.proofs.Answered.{block-anywhere}
 use Rattle.arms.specs.Loops.{endPass}
 
 abbrev both : RequiredContext → Bool → RequiredContext × Bool
@@ -143,23 +141,10 @@ module _ (m : Module) (fr : Frame) (e : ℕ) (p : PartReq) (st : State) where
   unfolding optionOf askOptional
   optional-there h = rw (ne-eqb e absent h)
 
--- the context before a pair of blocks is of no account
+-- the context before a turn is of no account
 module _ {bytes t : List ℕ} (w : WasRead bytes t) (f : FunctionHandle) where
-  block-fresh : (b : BlockHandle) (held : ℕ) (base : RequiredContext) (r : Bool) (c : RequiredContext) (st : State)
-      → blockIn bytes t f b held base r (withContext c st) ≡ blockIn bytes t f b held base r st
-  unfolding stepBlock
-  block-fresh b held base r c st =
-      block-is bytes (moduleOf bytes t) (w .module-is) (addFunction (moduleOf bytes t)) f b held base r (withContext c st)
-      ∙ sym (block-is bytes (moduleOf bytes t) (w .module-is) (addFunction (moduleOf bytes t)) f b held base r st)
-
-  pub pair-fresh : (first second : BlockHandle) (held : ℕ) (base : RequiredContext) (r : Bool) (c : RequiredContext) (st : State)
-      → addPair (blockIn bytes t f) first second held base r (withContext c st) ≡ addPair (blockIn bytes t f) first second held base r st
-  unfolding addPair
-  pair-fresh first second held base r c st = rw (block-fresh first held base r c st)
-
-  -- nor that before a turn
   pub turns-fresh : (fr : Frame) (held : ℕ) (body continuing : BlockHandle) (working : RequiredContext) (n : ℕ) (c : RequiredContext) (st : State)
       → turns (blockIn bytes t f) fr held body continuing working n (withContext c st) ≡ turns (blockIn bytes t f) fr held body continuing working n st
   unfolding turns
   turns-fresh fr held body continuing working zero c st = refl
-  turns-fresh fr held body continuing working (suc n) c st = rw (block-fresh body held working true c st)
+  turns-fresh fr held body continuing working (suc n) c st = rw (block-anywhere w f body held working c true st)

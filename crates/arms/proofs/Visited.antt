@@ -31,13 +31,15 @@ use Rattle.state.specs.declared.answer.Place.the-variants as place
 use Rattle.state.specs.declared.frame.Frame.{Frame}
 use Rattle.expression.specs.Visits.{Counting, Allowed}
 use Rattle.expression.proofs.Visits.{is-allowed, not-allowed}
+use Rattle.expression.proofs.Walking.{visit-counting as ready-counting}
+use Rattle.statement.proofs.Uses.{row-statement}
 use Rattle.block.specs.Standing.{stateIn, Standing}
 use Rattle.block.specs.Blocks.{Beside, StatementEnds}
 use Rattle.block.specs.Visiting.{blockIn, marked, Visits, Arms, VisitEnds}
 use Rattle.block.proofs.Steps.{beside-same, beside-then}
 use Rattle.arms.specs.Visit.{LastAsked, last, LastEnds}
-use Rattle.arms.proofs.Marking.{row-statement}
-use Rattle.arms.proofs.Ending.{standing-count, standing-counting, tidied-standing}
+use Rattle.arms.proofs.Ending.{standing-count}
+use Rattle.arms.proofs.Tidies.{tidied-standing}
 
 -- a statement in a block is one of the function's
 pub statement-there : {bytes t : List ℕ} {f : FunctionHandle} {b : BlockHandle} {n : ℕ} → StatementIn bytes t f b n → n < rowAt t f .statements
@@ -76,7 +78,7 @@ later S l = record {
 -- 16 can be asked of what an arm has left
 pub last-asks : {bytes t types places s rs open-marks totals : List ℕ} {fr : Frame} {total : Out Bool} (r : Answered) {u us open-after totals-after : List ℕ}
     → StatementEnds bytes t types places s rs open-marks totals fr total (λ b. b) r u us open-after totals-after → LastAsked u us fr r
-last-asks (Went tally b) E = record { by = standing-counting (E .by .standing) }
+last-asks (Went tally b) E = record { by = ready-counting (E .by .standing .ready) }
 last-asks (Halt n here) E = record { by = tt }
 
 -- the same visit, from a memory that means the same
@@ -115,7 +117,7 @@ module _ {bytes t types places s rs open-marks totals : List ℕ} {fr : Frame} {
   Ends r u us open-after totals-after = VisitEnds bytes t types places s rs open-marks totals fr total r u us open-after totals-after
 
   pub visit-counting : Counting s rs (fr .at) (fr .held) sum
-  visit-counting = standing-counting (Q .standing)
+  visit-counting = ready-counting (Q .standing .ready)
 
   pub visit-17 : maxVisits ≤ visits → Ends (Halt 17 (place.Statement (fr .function) (fr .statement))) s rs open-marks totals
   unfolding visitStatement

@@ -51,7 +51,7 @@ module _ {bytes t : List ℕ} {f e : ℕ} (h : There bytes t f e) where
 
   function-valid : FunctionValid (length (moduleOf bytes t .types)) (length (moduleOf bytes t .globals)) (entriesBelow f (moduleOf bytes t .functions)) (functionAt (moduleOf bytes t) f)
   unfolding functionAt
-  function-valid = valid bytes (moduleOf bytes t) (h .read) .functions f _ (h .function)
+  function-valid = valid bytes (moduleOf bytes t) (h .was-read .module-is) .functions f _ (h .function)
 
   expression-valid : ExpressionValid (length (moduleOf bytes t .types)) (length (moduleOf bytes t .globals)) (length (functionAt (moduleOf bytes t) f .arguments)) (length (functionAt (moduleOf bytes t) f .locals)) e (getD (functionAt (moduleOf bytes t) f .expressions) e (record { type = 0; expression = Literal }))
   expression-valid = function-valid .parts .each-expression e (record { type = 0; expression = Literal }) (h .expression)
@@ -83,7 +83,7 @@ module _ {bytes t : List ℕ} {f e : ℕ} (h : There bytes t f e) where
             told = told;
             within =
                 arm-within (length (moduleOf bytes t .globals)) (length (functionAt (moduleOf bytes t) f .arguments)) (length (functionAt (moduleOf bytes t) f .locals)) e
-                (valid bytes (moduleOf bytes t) (h .read) .few-globals)
+                (valid bytes (moduleOf bytes t) (h .was-read .module-is) .few-globals)
                 (function-valid .parts .few-arguments)
                 (function-valid .parts .few-locals)
                 (expressionAt (moduleOf bytes t) f e)

@@ -6,12 +6,12 @@ use mathlib.Core.Option.{Option, some, none as nothing}
 use lib.ListN.{length, getD, getElem?}
 use Rattle.part.specs.PartReq.{spine}
 use Rattle.module.specs.Module.{Module}
-use Rattle.module.specs.File.{accepted, readModule}
 use Rattle.module.specs.Tables.{moduleOf}
 use Rattle.walk.specs.Resolve.{functionAt, expressionAt}
 use Rattle.walk.specs.Expression.{Ask, ofOperand, ofArgument, ofGlobal, ofLocal, refuse, armAsks}
 use Rattle.memory.specs.declared.want.Want.{Want}
 use Rattle.memory.specs.Want.{asked, Wants}
+use Rattle.state.specs.Ready.{WasRead}
 use Rattle.asks.specs.declared.what.What.{What}
 use Rattle.asks.specs.declared.what.What.the-variants.{Operand, Argument, Global, Local, Refuse, End}
 use Rattle.asks.specs.declared.what.Ask as declared
@@ -41,7 +41,7 @@ Within globals arguments locals e End = Unit {0}
 
 -- the module was read, and has the expression e of the function f
 pub record There (bytes t : List ℕ) (f e : ℕ) : Type 0 where
-  pub read : readModule bytes ≡ accepted (moduleOf bytes t)
+  pub was-read : WasRead bytes t
   pub function : f < length (moduleOf bytes t .functions)
   pub expression : e < length (functionAt (moduleOf bytes t) f .expressions)
 

@@ -24,6 +24,7 @@ use Rattle.state.specs.declared.answer.Tally.{Tally}
 use Rattle.state.specs.declared.answer.Place.{Place}
 use Rattle.block.specs.Blocks.{BlockEnded, BlockEnding, BlockEnds}
 use Rattle.block.specs.Visiting.{blockIn}
+use Rattle.block.specs.Pairing.{addPair}
 
 module _ {bytes t types places s rs open-marks totals : List ℕ} {f : FunctionHandle} {base at held own sum : ℕ} {total : Out Bool} {r : Answered} {u us open-after totals-after : List ℕ}
     (E : BlockEnds bytes t types places s rs open-marks totals f base at held own sum total r u us open-after totals-after) where
@@ -42,6 +43,11 @@ module _ {bytes t : List ℕ} (w : WasRead bytes t) (f : FunctionHandle) where
   block-anywhere b held base c r st =
       block-is bytes (moduleOf bytes t) (w .module-is) (addFunction (moduleOf bytes t)) f b held base r (withContext c st)
       ∙ sym (block-is bytes (moduleOf bytes t) (w .module-is) (addFunction (moduleOf bytes t)) f b held base r st)
+
+  pub pair-anywhere : (first second : BlockHandle) (held : ℕ) (base c : RequiredContext) (r : Bool) (st : State)
+      → addPair (blockIn bytes t f) first second held base r (withContext c st) ≡ addPair (blockIn bytes t f) first second held base r st
+  unfolding addPair
+  pair-anywhere first second held base c r st = rw (block-anywhere first held base c r st)
 
   -- the blocks of f, by its row
   pub blocks-there : f < length (moduleOf bytes t .functions) → rowAt t f .blocks ≡ length (functionAt (moduleOf bytes t) f .blocks)

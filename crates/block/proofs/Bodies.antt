@@ -11,8 +11,8 @@ use Rattle.field.specs.Limits.{maxPieces}
 use Rattle.part.specs.PartReq.{PartReq, none, entries}
 use Rattle.module.specs.Module.{FunctionHandle, BlockHandle, Function, Module}
 use Rattle.module.specs.Tables.{maxItems, rowAt, functionOf, moduleOf}
-use Rattle.context.specs.RequiredContext.{RequiredContext, emptyContext, mergeContext, pieces}
-use Rattle.walk.specs.State.{FunctionReq, State, Place, Out, went, halt, _>>_, overContext, limitedContext}
+use Rattle.context.specs.RequiredContext.{RequiredContext, emptyContext, mergeContext, pieces, overContext}
+use Rattle.walk.specs.State.{FunctionReq, State, Place, Out, went, halt, _>>_, limitedContext}
 use Rattle.walk.specs.State as walk
 use Rattle.walk.specs.Marks.{bodyOf, firstRay}
 use Rattle.walk.specs.Statement.{addBlock}

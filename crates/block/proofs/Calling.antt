@@ -1,7 +1,6 @@
 -- A call: the called function g, below f, begins with its base context above the current one, with no records and no marks. What f has recorded is held meanwhile.
-use Prim.Native.Nat.{ℕ, zero, suc, _+_, _<_, _≤_}
+use Prim.Native.Nat.{ℕ, _+_, _<_, _≤_}
 use native.Mathlib.Omega.{arith}
-use native.Mathlib.Decide.{ℕ-discrete}
 use mathlib.Core.Path.{_≡_, refl, sym, ap, _∙_}
 use mathlib.Core.List.{List}
 use mathlib.Core.Option.{none as nothing}
@@ -9,10 +8,10 @@ use lib.ListN.{length, getD, replicate}
 use Rattle.part.specs.PartReq.{none, entries}
 use Rattle.part.specs.StoreLimits.{entriesCap}
 use Rattle.module.specs.Module.{FunctionHandle, Function, Module}
-use Rattle.module.specs.Tables.{word, rowAt, headAt, expressionsFrom, itemsTo, moduleOf}
+use Rattle.module.specs.Tables.{rowAt, expressionsFrom, itemsTo, moduleOf}
 use Rattle.access.proofs.Access.{functions-are, expressions-are}
-use Rattle.access.specs.Laid.{Laid}
-use Rattle.context.specs.RequiredContext.{RequiredContext, emptyContext, pieces}
+use Rattle.access.proofs.Laid.{earlier}
+use Rattle.context.specs.RequiredContext.{RequiredContext, pieces}
 use Rattle.walk.specs.State.{recordPieces}
 use Rattle.walk.specs.Resolve.{functionAt}
 use Rattle.walk.specs.Marks.{stretch, writeMarks}
@@ -32,18 +31,9 @@ use Rattle.marks.proofs.Buffers.{cleared-own}
 use Rattle.state.specs.State.{recordsIn}
 use Rattle.block.specs.Standing.{stateIn, Standing}
 use Rattle.block.specs.Saved.{Saved}
-use Rattle.block.proofs.Same.{total-slots, functions-same, totals-same}
-use Rattle.block.proofs.Tops.{empty-pieces, put-below, put-above, counted-put}
-
--- the items of a lower function come before
-pub items-before : (t : List ℕ) → Laid t → (g f : ℕ) → g < f → f < word t (headAt + 2) → itemsTo (rowAt t g) ≤ rowAt t f .items
-items-before t v g zero l h = absurd (omega arith)
-items-before t v g (suc f) l h =
-    let n = v .next f h in
-    elim (ℕ-discrete g f) [
-      | yes e ↦ rw e n
-      | no ne ↦ let i = items-before t v g f (omega arith) (omega arith) in omega arith
-    ]
+use Rattle.block.proofs.Same.{functions-same, totals-same, sum-kept, unwalked-kept}
+use Rattle.block.proofs.Tops.{put-below, put-above, counted-put, up-empty}
+use Rattle.block.proofs.Steps.{items-within}
 
 module _ {bytes t types places s rs open-marks totals : List ℕ} {f at held sum visits : ℕ} (S : Standing bytes t types places s rs open-marks totals f at held sum visits)
     {g : FunctionHandle} (lower : g < f) {base : RequiredContext} {u us : List ℕ} (d : Saved s rs (at + 4) base u us) (high : at + 8 ≤ length rs)
@@ -55,10 +45,10 @@ module _ {bytes t types places s rs open-marks totals : List ℕ} {f at held sum
   there = omega (arith, S .ready .function)
 
   before : itemsTo (rowAt t g) ≤ rowAt t f .items
-  before = let n = functions-are t bytes in let l = S .ready .function in items-before t (S .ready .was-read .laid) g f lower (omega arith)
+  before = let n = functions-are t bytes in let l = S .ready .function in earlier t (S .ready .was-read .laid) g f lower (omega arith)
 
   within : exprsSlot + itemsTo (rowAt t f) ≤ totalsSlot
-  within = let h = S .ready .was-read .laid .within f (rw (functions-are t bytes) (S .ready .function)) in omega arith
+  within = items-within f (S .ready .was-read) (S .ready .function)
 
   same : (k : ℕ) → k < at + 4 → getD (read u us) k none ≡ getD (read s rs) k none
   same k l = rw (d .reads) (put-below (read s rs) (at + 4) base k l)
@@ -98,11 +88,7 @@ module _ {bytes t types places s rs open-marks totals : List ℕ} {f at held sum
   counts =
       let l = low in
       let h = read-long s rs in
-      let none-there : pieces (contextAt (read s rs) (at + 4)) ≡ 0 = ap pieces above-empty ∙ empty-pieces in
-      omega (arith, ap counted (d .reads), counted-put (read s rs) (at + 4) base (omega arith) (omega arith))
-    where
-      above-empty : contextAt (read s rs) (at + 4) ≡ emptyContext
-      above-empty = rw (S .above (at + 4) (omega arith), S .above (at + 4 + 1) (omega arith), S .above (at + 4 + 2) (omega arith), S .above (at + 4 + 3) (omega arith))
+      omega (arith, ap counted (d .reads), counted-put (read s rs) (at + 4) base (omega arith) (omega arith), up-empty S)
 
   pub entered-standing : {less : ℕ} → less + recordPieces (recordsIn t exprsSlot f (read s rs)) ≡ sum → Sound m → FineContext m g base
       → held + pieces (contextAt (read s rs) at) + recordPieces (recordsIn t exprsSlot f (read s rs)) + (pieces base + less) ≤ entriesCap
@@ -133,8 +119,8 @@ module _ {bytes t types places s rs open-marks totals : List ℕ} {f at held sum
         placed = S .placed;
         open-long = omega (arith, S .open-long, ap length marks, write-long open-marks (startIn places g) (replicate (sizeIn places g) 0));
         totals-long = S .totals-long;
-        totals-sum = rw (functions-same (read s rs) (read u us) w totals-kept totals, totals-same (read s rs) (read u us) w totals-kept) (S .totals-sum);
-        unwalked = λ h x n. rw (total-slots (read s rs) (read u us) w totals-kept h x .0, total-slots (read s rs) (read u us) w totals-kept h x .1) (S .unwalked h x n);
+        totals-sum = sum-kept (read s rs) (read u us) w totals-kept totals (S .totals-sum);
+        unwalked = unwalked-kept (read s rs) (read u us) w totals-kept totals (S .unwalked);
         proper = rw entered-state
             (unfold entered in
             state m sound 0 g (entered m g base st)

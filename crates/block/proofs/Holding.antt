@@ -7,7 +7,6 @@ use lib.ListN.{getD}
 use Rattle.part.specs.PartReq.{PartReq, none}
 use Rattle.module.specs.Module.{Module, ExpressionHandle}
 use Rattle.module.specs.Tables.{rowAt, itemsTo, moduleOf}
-use Rattle.access.proofs.Access.{functions-are}
 use Rattle.context.specs.RequiredContext.{pieces}
 use Rattle.walk.specs.State.{Out, went}
 use Rattle.walk.specs.Expression.{addExpression}
@@ -16,10 +15,12 @@ use Rattle.walk.proofs.Proper.{expression-proper}
 use Rattle.sound.proofs.Walks.{module-sound}
 use Rattle.memory.specs.Layout.{exprsSlot, totalsSlot, stackSlot}
 use Rattle.memory.specs.Memory.{read, contextAt}
+use Rattle.memory.proofs.Runs.{context-same}
 use Rattle.state.specs.Ready.{Ready, Ended}
 use Rattle.block.specs.Standing.{restIn, stateIn, Standing}
 use Rattle.block.specs.Blocks.{contextIn, Beside}
-use Rattle.block.proofs.Same.{context-same, total-slots, functions-same, totals-same}
+use Rattle.block.proofs.Same.{functions-same, sum-kept, unwalked-kept}
+use Rattle.block.proofs.Steps.{items-within}
 
 module _ {bytes t types places s rs open-marks totals : List ℕ} {f sum visits : ℕ} (at held : ℕ)
     (S : Standing bytes t types places s rs open-marks totals f (at + 4 + 4) (held + contextIn s rs at + contextIn s rs (at + 4)) sum visits) (low : stackSlot ≤ at) where
@@ -47,7 +48,7 @@ module _ {bytes t types places s rs open-marks totals : List ℕ} {f sum visits 
 
   module _ (e : ExpressionHandle) (p : PartReq) {v n : ℕ} {u us : List ℕ} (E : Ended bytes t f at both-held s rs (restIn m t f (read s rs) open-marks totals) (HeldAsks e p) v n u us) where
     items : exprsSlot + itemsTo (rowAt t f) ≤ totalsSlot
-    items = let h = S .ready .was-read .laid .within f (rw (functions-are t bytes) (S .ready .function)) in omega arith
+    items = items-within f (S .ready .was-read) (S .ready .function)
 
     totals-kept : (k : ℕ) → totalsSlot ≤ k → k < stackSlot → getD (read u us) k none ≡ getD (read s rs) k none
     totals-kept k a b =
@@ -120,8 +121,8 @@ module _ {bytes t types places s rs open-marks totals : List ℕ} {f sum visits 
             placed = S .placed;
             open-long = S .open-long;
             totals-long = S .totals-long;
-            totals-sum = rw (functions-same (read s rs) (read u us) w totals-kept totals, totals-same (read s rs) (read u us) w totals-kept) (S .totals-sum);
-            unwalked = λ g l x. rw (total-slots (read s rs) (read u us) w totals-kept g l .0, total-slots (read s rs) (read u us) w totals-kept g l .1) (S .unwalked g l x);
+            totals-sum = sum-kept (read s rs) (read u us) w totals-kept totals (S .totals-sum);
+            unwalked = unwalked-kept (read s rs) (read u us) w totals-kept totals (S .unwalked);
             proper = record {
               context = rw held-second (S .proper .context);
               exprs = left .exprs;

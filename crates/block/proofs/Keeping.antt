@@ -21,6 +21,7 @@ use Rattle.walk.proofs.Counts.{totalPieces-set}
 use Rattle.memory.specs.Layout.{globalsSlot, exprsSlot, totalsSlot, functionsSlot, stackSlot}
 use Rattle.memory.specs.Memory.{read, sumFrom, counted, Recorded, contextAt, Memory}
 use Rattle.memory.proofs.Slots.{read-at, read-long, slot-low, counted-split}
+use Rattle.memory.proofs.Runs.{records-same, context-same}
 use Rattle.valid.proofs.Accepted.{valid}
 use Rattle.marks.specs.Report.{hasTotal}
 use Rattle.marks.specs.Report as report
@@ -30,7 +31,6 @@ use Rattle.state.proofs.Others.{sum-same}
 use Rattle.block.specs.Standing.{totalOf, totalIn, functionsIn, stateIn, Standing}
 use Rattle.block.specs.Blocks.{Beside}
 use Rattle.block.specs.Total.{NewTotal, totalCount}
-use Rattle.block.proofs.Same.{records-same, context-same}
 use Rattle.block.proofs.Totalled.{functions-set, other-count, total-sums}
 
 -- the slots of totals have records

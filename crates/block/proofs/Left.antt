@@ -10,6 +10,7 @@ use Rattle.part.specs.PartReq.{PartReq, none}
 use Rattle.module.specs.Module.{FunctionHandle, Module}
 use Rattle.module.specs.Tables.{rowAt, expressionsFrom, itemsTo, moduleOf}
 use Rattle.access.proofs.Access.{functions-are}
+use Rattle.access.proofs.Laid.{earlier}
 use Rattle.context.specs.RequiredContext.{RequiredContext, emptyContext, pieces}
 use Rattle.walk.specs.State.{recordPieces}
 use Rattle.walk.specs.Marks.{stretch, writeMarks}
@@ -19,7 +20,7 @@ use Rattle.memory.specs.Memory.{read, contextAt, withContext}
 use Rattle.memory.specs.Stretches.{fourSet, forgotten}
 use Rattle.memory.proofs.Slots.{read-long}
 use Rattle.memory.proofs.Records.{records-pieces}
-use Rattle.memory.proofs.Runs.{context-put, clear-read}
+use Rattle.memory.proofs.Runs.{context-put, clear-read, records-same, context-same}
 use Rattle.marks.specs.Places.{slice, startOf, startIn, sizeIn}
 use Rattle.marks.proofs.Write.{write-long, write-after, slice-more}
 use Rattle.marks.proofs.Placed.{start-within}
@@ -32,10 +33,9 @@ use Rattle.block.specs.Standing.{functionsIn, stateIn, Standing}
 use Rattle.block.specs.Blocks.{Beside}
 use Rattle.block.specs.Saved.{Saved}
 use Rattle.block.specs.Left.{Left}
-use Rattle.block.proofs.Same.{records-same, context-same, total-slots, functions-same, totals-same}
+use Rattle.block.proofs.Same.{functions-same, totals-same, unwalked-kept}
 use Rattle.block.proofs.Tops.{empty-slots, put-below}
 use Rattle.block.proofs.Steps.{items-within}
-use Rattle.block.proofs.Calling.{items-before}
 
 -- bytes that are the same from `from` on
 slice-same : (xs ys : List ℕ) (from n : ℕ) → from + n ≤ length xs → length ys ≡ length xs → ((k : ℕ) → from ≤ k → getD ys k 0 ≡ getD xs k 0) → slice ys from n ≡ slice xs from n
@@ -68,7 +68,7 @@ module _ {bytes t types places s rs open-marks totals : List ℕ} {f at held sum
   before =
       let n = functions-are t bytes in
       let l = L .caller .ready .function in
-      items-before t (L .caller .ready .was-read .laid) g f (L .lower) (omega arith)
+      earlier t (L .caller .ready .was-read .laid) g f (L .lower) (omega arith)
 
   within : exprsSlot + itemsTo (rowAt t f) ≤ totalsSlot
   within = items-within f (L .caller .ready .was-read) (L .caller .ready .function)
@@ -232,7 +232,7 @@ module _ {bytes t types places s rs open-marks totals : List ℕ} {f at held sum
         open-long = L .callee .open-long;
         totals-long = L .callee .totals-long;
         totals-sum = rw (functions-left, totals-same (read u us) (read u left) w totals-kept) (L .callee .totals-sum);
-        unwalked = λ h x n. rw (total-slots (read u us) (read u left) w totals-kept h x .0, total-slots (read u us) (read u left) w totals-kept h x .1) (L .callee .unwalked h x n);
+        unwalked = unwalked-kept (read u us) (read u left) w totals-kept totals-after (L .callee .unwalked);
         proper = rw left-state
             (record {
               context = L .caller .proper .context;

@@ -2,15 +2,13 @@
 -- changes.
 use Prim.Native.Nat.{ℕ, _+_, _*_, _<_, _≤_}
 use native.Mathlib.Omega.{arith}
-use native.Mathlib.Decide.{decLt}
-use mathlib.Core.Path.{_≡_, refl, sym, ap, _∙_}
+use mathlib.Core.Path.{_≡_, sym, ap, _∙_}
 use mathlib.Core.Bool.{Bool}
 use mathlib.Core.List.{List}
-use lib.ListN.{length, getD, List·getD-eq-default}
+use lib.ListN.{length, getD}
 use Rattle.part.specs.PartReq.{PartReq, none}
-use Rattle.part.specs.Store.{part, Good, Room}
+use Rattle.part.specs.Store.{Good, Room}
 use Rattle.module.specs.Module.{FunctionHandle}
-use Rattle.module.specs.declared.tables.Row.{Row}
 use Rattle.module.specs.Tables.{rowAt, expressionsFrom}
 use Rattle.context.specs.RequiredContext.{RequiredContext, mergeContext, overContext, pieces}
 use Rattle.context.specs.Contexts.{contextOf, HasContext, MadeContext}
@@ -18,28 +16,13 @@ use Rattle.context.specs.declared.required_context.RequiredContext.{RequiredCon
 use Rattle.memory.specs.Layout.{exprsSlot, totalsSlot, functionsSlot}
 use Rattle.memory.specs.Memory.{read, recordsOf, contextAt, Memory}
 use Rattle.memory.specs.Stretches.{fourSet, copied}
-use Rattle.memory.proofs.Slots.{read-at, read-long}
-use Rattle.memory.proofs.Runs.{four-outside, context-put, copied-long, copied-outside, copied-records, copied-memory}
+use Rattle.memory.proofs.Slots.{read-long}
+use Rattle.memory.proofs.Runs.{four-outside, context-put, copied-long, copied-outside, copied-records, copied-memory, four-long, records-same, context-same, read-still}
+use Rattle.leave.specs.Leave.{RecordsAt}
+use Rattle.leave.specs.declared.leave.Stretch.{Stretch}
 use Rattle.block.specs.Saved.{Saved, Loaded}
-use Rattle.block.specs.Total.{RecordsAt, Totalling, TotalMade, TotalKept, TotalJoined}
-use Rattle.block.specs.declared.total.Stretch.{Stretch}
-use Rattle.block.proofs.Same.{records-same, context-same}
-use Rattle.block.proofs.Saving.{loaded-is, loaded-has, four-long, saved-copy, saved-made}
-
--- slots that name the same piece mean the same
-read-outside : (s rs us : List ℕ) (k : ℕ) → length us ≡ length rs → getD us k 0 ≡ getD rs k 0 → getD (read s us) k none ≡ getD (read s rs) k none
-read-outside s rs us k l e =
-    elim (decLt k (length rs)) [
-      | yes h ↦ let i : k < length us = omega arith in read-at s us k i ∙ ap (part s) e ∙ sym (read-at s rs k h)
-      | no n ↦
-          let a : length (read s us) ≤ k = omega (arith, read-long s us) in
-          let b : length (read s rs) ≤ k = omega (arith, read-long s rs) in
-          List·getD-eq-default (read s us) none a ∙ sym (List·getD-eq-default (read s rs) none b)
-    ]
-
--- the records of a function, by its row
-pub records-are : (t : List ℕ) (f : FunctionHandle) (row : Row) → row ≡ rowAt t f → RecordsAt t f (record { from = row .items + row .arguments + row .locals; n = row .expressions })
-records-are t f row e = rw e (record { from = refl; n = refl })
+use Rattle.block.specs.Total.{Totalling, TotalMade, TotalKept, TotalJoined}
+use Rattle.block.proofs.Saving.{loaded-is, loaded-has, saved-copy, saved-made}
 
 module _ {t : List ℕ} {f : FunctionHandle} {r : Stretch} (R : RecordsAt t f r) {rs : List ℕ} {at : ℕ} (T : Totalling t rs f at) where
   -- the copies stay within the records
@@ -63,7 +46,7 @@ module _ {t : List ℕ} {f : FunctionHandle} {r : Stretch} (R : RecordsAt t f r)
       let low = T .low in
       let top-slot = T .high in
       let kept : (k : ℕ) → ((i : ℕ) → i < n → to + i ≡ k → ⊥) → getD (read u us) k none ≡ getD (read u vs) k none
-      = λ k h. read-outside u vs us k long (ap (λ (xs : List ℕ). getD xs k 0) e ∙ copied-outside vs from to n k h) in
+      = λ k h. read-still u vs us k long (ap (λ (xs : List ℕ). getD xs k 0) e ∙ copied-outside vs from to n k h) in
       let put : (k : ℕ) → ((i : ℕ) → i < 4 → functionsSlot + 4 * f + i ≡ k → ⊥) → getD (read u vs) k none ≡ getD (read s rs) k none
       = λ k h. ap (λ (ps : List PartReq). getD ps k none) (d .reads) ∙ four-outside (read s rs) (functionsSlot + 4 * f) (c .globals) (c .locals) (c .args) (c .retval) none k h in
       let before : (base : ℕ) → base + n ≤ functionsSlot → recordsOf (read u vs) base n ≡ recordsOf (read s rs) base n

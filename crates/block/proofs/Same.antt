@@ -1,7 +1,8 @@
 -- Slots that mean the same where a state looks give the same state: its context, its records, its totals, and what these count for.
-use Prim.Native.Nat.{ℕ, zero, suc, _+_, _*_, _<_, _≤_}
+use Prim.Native.Nat.{ℕ, _+_, _*_, _<_, _≤_}
 use native.Mathlib.Omega.{arith}
-use mathlib.Core.Path.{_≡_, refl}
+use mathlib.Core.Path.{_≡_}
+use mathlib.Core.Bool.{false}
 use mathlib.Core.List.{List}
 use lib.ListN.{length, getD}
 use Rattle.field.specs.Limits.{maxFunctions}
@@ -10,32 +11,22 @@ use Rattle.module.specs.Module.{FunctionHandle}
 use Rattle.module.specs.Tables.{rowAt, expressionsFrom, maxItems, moduleOf}
 use Rattle.module.proofs.Tab.{tab-same}
 use Rattle.valid.proofs.Accepted.{valid}
+use Rattle.context.specs.RequiredContext.{pieces}
+use Rattle.walk.specs.State.{recordPieces, totalPieces}
 use Rattle.memory.specs.Layout.{globalsSlot, exprsSlot, totalsSlot, functionsSlot, stackSlot}
-use Rattle.memory.specs.Memory.{recordsOf, contextAt}
+use Rattle.memory.specs.Memory.{contextAt}
+use Rattle.memory.proofs.Runs.{records-same, context-same}
 use Rattle.state.specs.State.{recordsIn, totalsSum, stateOf, sumIn}
 use Rattle.state.specs.Ready.{WasRead}
 use Rattle.state.proofs.Own.{fits}
 use Rattle.state.proofs.Others.{sum-same}
+use Rattle.marks.specs.Report.{hasTotal}
 use Rattle.block.specs.Standing.{totalIn, functionsIn, restIn}
 
 abbrev Same : (ps qs : List PartReq) → ℕ → Type 0
 Same ps qs k = getD qs k none ≡ getD ps k none
 
 module _ (ps qs : List PartReq) where
-  pub records-same : (base n : ℕ) → ((e : ℕ) → e < n → Same ps qs (base + e)) → recordsOf qs base n ≡ recordsOf ps base n
-  unfolding recordsOf
-  records-same base zero h = refl
-  records-same base (suc n) h =
-      let z : base + 0 ≡ base = omega arith in
-      let y : Same ps qs base = rw z at (h 0 (omega arith)) in
-      rw (y, records-same (suc base) n (λ e l. let x : suc base + e ≡ base + suc e = omega arith in rw x (h (suc e) (omega arith))))
-
-  pub context-same : (k : ℕ) → ((i : ℕ) → i < 4 → Same ps qs (k + i)) → contextAt qs k ≡ contextAt ps k
-  context-same k h =
-      let z : k + 0 ≡ k = omega arith in
-      let y : Same ps qs k = rw z at (h 0 (omega arith)) in
-      rw (y, h 1 (omega arith), h 2 (omega arith), h 3 (omega arith))
-
   -- the totals stand between the records and the stack
   module _ {bytes t : List ℕ} (w : WasRead bytes t) (h : (k : ℕ) → totalsSlot ≤ k → k < stackSlot → Same ps qs k) where
     few-functions : length (moduleOf bytes t .functions) ≤ maxFunctions
@@ -46,8 +37,8 @@ module _ (ps qs : List PartReq) where
     total-slots g l =
         let f = fits g w l in
         let few = few-functions in (
-          context-same (functionsSlot + 4 * g) (λ i b. h (functionsSlot + 4 * g + i) (omega arith) (omega arith)),
-          records-same (totalsSlot + expressionsFrom (rowAt t g)) (rowAt t g .expressions) (λ e b. h (totalsSlot + expressionsFrom (rowAt t g) + e) (omega arith) (omega arith)),
+          context-same ps qs (functionsSlot + 4 * g) (λ i b. h (functionsSlot + 4 * g + i) (omega arith) (omega arith)),
+          records-same ps qs (totalsSlot + expressionsFrom (rowAt t g)) (rowAt t g .expressions) (λ e b. h (totalsSlot + expressionsFrom (rowAt t g) + e) (omega arith) (omega arith)),
         )
 
     total-same : (totals : List ℕ) (g : FunctionHandle) → g < length (moduleOf bytes t .functions) → totalIn (moduleOf bytes t) t qs totals g ≡ totalIn (moduleOf bytes t) t ps totals g
@@ -66,13 +57,22 @@ module _ (ps qs : List PartReq) where
           sum-same qs ps functionsSlot (4 * maxFunctions) (λ j l. h (functionsSlot + j) (omega arith) (omega arith)),
         )
 
+    -- of a state that stands
+    pub sum-kept : (totals : List ℕ) → totalPieces (functionsIn (moduleOf bytes t) t ps totals) ≡ totalsSum ps → totalPieces (functionsIn (moduleOf bytes t) t qs totals) ≡ totalsSum qs
+    sum-kept totals e = rw (functions-same totals, totals-same) e
+
+    pub unwalked-kept : (totals : List ℕ)
+        → ((g : ℕ) → g < length (moduleOf bytes t .functions) → hasTotal totals g ≡ false → recordPieces (recordsIn t totalsSlot g ps) + pieces (contextAt ps (functionsSlot + 4 * g)) ≡ 0)
+        → (g : ℕ) → g < length (moduleOf bytes t .functions) → hasTotal totals g ≡ false → recordPieces (recordsIn t totalsSlot g qs) + pieces (contextAt qs (functionsSlot + 4 * g)) ≡ 0
+    unwalked-kept totals old g l z = rw (total-slots g l .0, total-slots g l .1) (old g l z)
+
   -- slots that differ on the stack alone
   module _ {bytes t : List ℕ} (w : WasRead bytes t) (f : FunctionHandle) (there : f < length (moduleOf bytes t .functions))
       (h : (k : ℕ) → globalsSlot ≤ k → k < stackSlot → Same ps qs k) where
     pub own-records : recordsIn t exprsSlot f qs ≡ recordsIn t exprsSlot f ps
     own-records =
         let l = fits f w there in
-        records-same (exprsSlot + expressionsFrom (rowAt t f)) (rowAt t f .expressions) (λ e b. h (exprsSlot + expressionsFrom (rowAt t f) + e) (omega arith) (omega arith))
+        records-same ps qs (exprsSlot + expressionsFrom (rowAt t f)) (rowAt t f .expressions) (λ e b. h (exprsSlot + expressionsFrom (rowAt t f) + e) (omega arith) (omega arith))
 
     pub own-sum : sumIn t f qs ≡ sumIn t f ps
     own-sum = rw (own-records, h globalsSlot (omega arith) (omega arith), totals-same w (λ k a b. h k (omega arith) b))

@@ -17,12 +17,8 @@ use Rattle.memory.specs.Layout.{functionsSlot, stackSlot}
 use Rattle.memory.specs.Memory.{read, contextAt, withContext, Memory}
 use Rattle.memory.specs.Stretches.{fourSet}
 use Rattle.memory.proofs.Slots.{read-at, kept-memory, kept-read}
-use Rattle.memory.proofs.Runs.{four-read, copy-read, clear-read, four-memory}
+use Rattle.memory.proofs.Runs.{four-read, copy-read, clear-read, four-memory, four-long}
 use Rattle.block.specs.Saved.{Saved, Popped, Loaded, Lowered, Dropped, Joined}
-
-pub four-long : {A : Type 0} (xs : List A) (k : ℕ) (a b c d : A) → length (set (set (set (set xs k a) (k + 1) b) (k + 2) c) (k + 3) d) ≡ length xs
-four-long xs k a b c d =
-    length-set (set (set (set xs k a) (k + 1) b) (k + 2) c) (k + 3) d ∙ length-set (set (set xs k a) (k + 1) b) (k + 2) c ∙ length-set (set xs k a) (k + 1) b ∙ length-set xs k a
 
 set-again : (ps : List PartReq) (k : ℕ) → set ps k (getD ps k none) ≡ ps
 set-again ps k =

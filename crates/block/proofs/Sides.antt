@@ -22,10 +22,10 @@ use Rattle.memory.specs.Layout.{result, stackSlot}
 use Rattle.memory.specs.Memory.{read, contextAt, Memory}
 use Rattle.memory.specs.Stretches.{fourSet}
 use Rattle.memory.proofs.Slots.{slot-low, kept-memory, set-read, hold-memory}
-use Rattle.memory.proofs.Runs.{four-read, four-memory}
+use Rattle.memory.proofs.Runs.{four-read, four-memory, four-long}
 use Rattle.block.specs.Saved.{Saved, Loaded}
 use Rattle.block.specs.Aside.{aside, orNone, fromAside, Asiding, Aside, Entry}
-use Rattle.block.proofs.Saving.{loaded-is, loaded-has, four-long}
+use Rattle.block.proofs.Saving.{loaded-is, loaded-has}
 
 pub aside-back : (c : RequiredContext) → fromAside (aside c) ≡ c
 unfolding aside fromAside orNone getSubpart

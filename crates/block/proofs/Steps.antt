@@ -1,7 +1,9 @@
 -- Steps of the walk of blocks over a state that stands: a block begins, an arm without blocks ends, and what each step leaves of the slots below and of other functions.
 use Prim.Native.Nat.{ℕ, _+_, _*_, _<_, _≤_}
+use native.Mathlib.Nat.{le-refl}
 use native.Mathlib.Omega.{arith}
 use mathlib.Core.Path.{_≡_, refl, sym, ap, _∙_}
+use mathlib.Core.Bool.{Bool}
 use mathlib.Core.List.{List}
 use lib.ListN.{length, getD}
 use Rattle.field.specs.Limits.{maxPieces}
@@ -12,15 +14,20 @@ use Rattle.module.specs.Tables.{rowAt, expressionsFrom, itemsTo, moduleOf}
 use Rattle.access.proofs.Access.{functions-are}
 use Rattle.context.specs.RequiredContext.{RequiredContext}
 use Rattle.walk.specs.Proper.{FineContext, ProperState}
+use Rattle.walk.specs.State.{Out}
 use Rattle.memory.specs.Layout.{exprsSlot, totalsSlot, stackSlot, room}
 use Rattle.memory.specs.Memory.{read, contextAt}
+use Rattle.memory.proofs.Runs.{context-same}
 use Rattle.state.specs.State.{stateOf}
 use Rattle.state.specs.Ready.{WasRead, Ready}
 use Rattle.state.specs.Frame.{Apart}
+use Rattle.state.specs.declared.answer.Answered.{Answered}
+use Rattle.state.specs.declared.answer.Answered.the-variants.{Went, Halt}
+use Rattle.state.specs.declared.frame.Frame.{Frame}
 use Rattle.block.specs.Standing.{restIn, stateIn, Standing}
 use Rattle.block.specs.Saved.{Popped}
-use Rattle.block.specs.Blocks.{contextIn, Deep, Entered, Beside}
-use Rattle.block.proofs.Same.{context-same, total-slots, functions-same, totals-same}
+use Rattle.block.specs.Blocks.{contextIn, Deep, Entered, Beside, StatementEnds}
+use Rattle.block.proofs.Same.{functions-same, sum-kept, unwalked-kept}
 use Rattle.block.proofs.Tops.{up, up-empty, popped-below}
 
 -- all items of a function have numbers
@@ -52,6 +59,16 @@ module _ {bytes t : List ℕ} {f : FunctionHandle} where
   pub beside-context : {at : ℕ} {s rs open-marks u us open-after : List ℕ} → Beside bytes t f at s rs open-marks u us open-after → (k : ℕ) → stackSlot ≤ k → k + 4 ≤ at
       → contextAt (read u us) k ≡ contextAt (read s rs) k
   beside-context {s = s} {rs = rs} {u = u} {us = us} b k l h = context-same (read s rs) (read u us) k (λ i x. b .stack (k + i) (omega arith) (omega arith))
+
+-- a statement's end, as one of a statement that began before
+pub ends-from : {A : Type 0} {bytes t types places s rs open-marks totals u us open-1 totals-1 : List ℕ} {fr : Frame} {first total : Out A} {answer : Bool → A} (r : Answered) {x xs open-2 totals-2 : List ℕ}
+    → Beside bytes t (fr .function .0) (fr .at) s rs open-marks u us open-1 → first ≡ total
+    → StatementEnds bytes t types places u us open-1 totals-1 fr first answer r x xs open-2 totals-2
+    → StatementEnds bytes t types places s rs open-marks totals fr total answer r x xs open-2 totals-2
+ends-from {fr = fr} (Went tally b) k e E = record {
+  by = record { is = E .by .is ∙ e; standing = E .by .standing; beside = beside-then (fr .at) k (E .by .beside) (le-refl (fr .at)) };
+}
+ends-from (Halt n place) k e E = record { by = E .by ∙ e }
 
 -- the two contexts at the top made one, where k is the lower of them
 pub beside-popped : {bytes t types places s rs open-marks totals : List ℕ} {f k outer sum visits : ℕ} {c : RequiredContext} {u us : List ℕ}
@@ -105,8 +122,8 @@ module _ {bytes t types places s rs open-marks totals : List ℕ} {f at held sum
           placed = S .placed;
           open-long = S .open-long;
           totals-long = S .totals-long;
-          totals-sum = rw (functions-same (read s rs) (read u us) w totals-kept totals, totals-same (read s rs) (read u us) w totals-kept) (S .totals-sum);
-          unwalked = λ g l n. rw (total-slots (read s rs) (read u us) w totals-kept g l .0, total-slots (read s rs) (read u us) w totals-kept g l .1) (S .unwalked g l n);
+          totals-sum = sum-kept (read s rs) (read u us) w totals-kept totals (S .totals-sum);
+          unwalked = unwalked-kept (read s rs) (read u us) w totals-kept totals (S .unwalked);
           proper = p;
           closed = λ k x y.
               a .same k (omega arith) (record { no-total = omega arith; no-record = λ e i z. omega arith; no-context = λ i j z. omega arith })

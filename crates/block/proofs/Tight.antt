@@ -19,13 +19,13 @@ use Rattle.memory.proofs.Slots.{read-long, counted-split}
 use Rattle.memory.proofs.Records.{records-pieces}
 use Rattle.memory.proofs.Runs.{context-pieces}
 use Rattle.state.proofs.Own.{fits, records-there}
+use Rattle.leave.proofs.Sums.{sum-stretch}
 use Rattle.block.specs.Standing.{Standing}
 use Rattle.block.specs.Blocks.{contextIn, Entered, Beside, BlockEnded}
-use Rattle.block.proofs.Totalled.{sum-stretch}
 
 module _ {bytes t types places s rs open-marks totals : List ℕ} {f at held sum visits : ℕ} (S : Standing bytes t types places s rs open-marks totals f at held sum visits) where
   -- the same state where something else is held
-  pub owning : (own : ℕ) → counted (read s rs) ≤ own + (pieces (contextAt (read s rs) at) + sum) → own + (pieces (contextAt (read s rs) at) + sum) ≤ entriesCap
+  owning : (own : ℕ) → counted (read s rs) ≤ own + (pieces (contextAt (read s rs) at) + sum) → own + (pieces (contextAt (read s rs) at) + sum) ≤ entriesCap
       → Standing bytes t types places s rs open-marks totals f at own sum visits
   owning own owned small = record {
     ready = record {
@@ -49,8 +49,9 @@ module _ {bytes t types places s rs open-marks totals : List ℕ} {f at held sum
     above = S .above;
   }
 
+module _ {bytes t types places s rs open-marks totals : List ℕ} {f at held sum visits : ℕ} (S : Standing bytes t types places s rs open-marks totals f at held sum visits) where
   pub looser : (more : ℕ) → held ≤ more → more + (pieces (contextAt (read s rs) at) + sum) ≤ entriesCap → Standing bytes t types places s rs open-marks totals f at more sum visits
-  looser more l small = owning more (omega (arith, S .ready .owned)) small
+  looser more l small = owning S more (omega (arith, S .ready .owned)) small
 
   module _ {open-after totals-after u us : List ℕ} {other m v : ℕ} (U : Standing bytes t types places u us open-after totals-after f at other m v)
       (B : Beside bytes t f at s rs open-marks u us open-after) where
@@ -103,27 +104,7 @@ module _ {bytes t types places s rs open-marks totals : List ℕ} {f at held sum
         )
 
     pub tighter : (own : ℕ) → counted (read s rs) ≤ own + (pieces (contextAt (read s rs) at) + sum) → own ≤ other → Standing bytes t types places u us open-after totals-after f at own m v
-    tighter own owned l = let c = counts-kept in record {
-      ready = record {
-        was-read = U .ready .was-read;
-        function = U .ready .function;
-        memory = U .ready .memory;
-        low = U .ready .low;
-        high = U .ready .high;
-        sums = U .ready .sums;
-        owned = omega arith;
-        small = omega (arith, U .ready .small);
-      };
-      typed = U .typed;
-      placed = U .placed;
-      open-long = U .open-long;
-      totals-long = U .totals-long;
-      totals-sum = U .totals-sum;
-      unwalked = U .unwalked;
-      proper = U .proper;
-      closed = U .closed;
-      above = U .above;
-    }
+    tighter own owned l = owning U own (omega (arith, counts-kept)) (omega (arith, U .ready .small))
 
 -- a block that holds its base once more
 module _ {bytes t types places s rs open-marks totals : List ℕ} {f : FunctionHandle} {b : BlockHandle} {base at held own sum visits : ℕ}

@@ -19,11 +19,10 @@ use Rattle.walk.specs.Proper.{FineContext}
 use Rattle.memory.specs.Layout.{globalsSlot, totalsSlot, stackSlot}
 use Rattle.memory.specs.Memory.{read, sumFrom, counted, contextAt, withContext, Memory}
 use Rattle.memory.proofs.Slots.{read-long}
-use Rattle.memory.proofs.Runs.{four-outside, context-put, sum-context}
+use Rattle.memory.proofs.Runs.{four-outside, context-put, sum-context, four-long, context-same}
 use Rattle.block.specs.Standing.{stateIn, Standing}
 use Rattle.block.specs.Saved.{Saved, Popped}
-use Rattle.block.proofs.Same.{context-same, total-slots, functions-same, totals-same, own-sum, state-same}
-use Rattle.block.proofs.Saving.{four-long}
+use Rattle.block.proofs.Same.{own-sum, state-same, sum-kept, unwalked-kept}
 
 -- the empty context
 pub empty-fine : (m : Module) (f : FunctionHandle) → FineContext m f emptyContext
@@ -123,8 +122,8 @@ module _ {bytes t types places s rs open-marks totals : List ℕ} {f at held sum
           placed = S .placed;
           open-long = S .open-long;
           totals-long = S .totals-long;
-          totals-sum = rw (functions-same (read s rs) (read u us) w totals-kept totals, totals-same (read s rs) (read u us) w totals-kept) (S .totals-sum);
-          unwalked = λ g l n. rw (total-slots (read s rs) (read u us) w totals-kept g l .0, total-slots (read s rs) (read u us) w totals-kept g l .1) (S .unwalked g l n);
+          totals-sum = sum-kept (read s rs) (read u us) w totals-kept totals (S .totals-sum);
+          unwalked = unwalked-kept (read s rs) (read u us) w totals-kept totals (S .unwalked);
           proper = rw (moved-state to)
               (record {
                 context = fine;

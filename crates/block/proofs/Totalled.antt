@@ -1,6 +1,6 @@
 -- A new total of a function: the totals of the state are `set`, those of other functions stay, and what the slots count for changes by that of f alone. Slots
 -- of different functions lie apart.
-use Prim.Native.Nat.{ℕ, _+_, _-_, _*_, _<_, _≤_}
+use Prim.Native.Nat.{ℕ, _+_, _*_, _<_, _≤_}
 use native.Mathlib.Omega.{arith}
 use native.Mathlib.Decide.{ℕ-discrete}
 use mathlib.Core.Path.{_≡_, sym, ap, _∙_}
@@ -19,38 +19,16 @@ use Rattle.context.specs.RequiredContext.{RequiredContext, pieces}
 use Rattle.walk.specs.State.{Records, FunctionReq, recordPieces}
 use Rattle.valid.proofs.Accepted.{valid}
 use Rattle.memory.specs.Layout.{totalsSlot, functionsSlot}
-use Rattle.memory.specs.Memory.{sumFrom, Recorded, contextAt}
-use Rattle.memory.proofs.Slots.{sum-split}
+use Rattle.memory.specs.Memory.{Recorded, contextAt}
 use Rattle.memory.proofs.Records.{records-pieces}
-use Rattle.memory.proofs.Runs.{context-pieces}
+use Rattle.memory.proofs.Runs.{context-pieces, records-same, context-same}
 use Rattle.marks.specs.Report as report
 use Rattle.state.specs.State.{recordsIn, totalsSum}
 use Rattle.state.specs.Ready.{WasRead}
 use Rattle.state.proofs.Own.{fits}
-use Rattle.state.proofs.Others.{sum-same}
+use Rattle.leave.proofs.Sums.{sum-stretch}
 use Rattle.block.specs.Standing.{totalOf, totalIn, functionsIn}
 use Rattle.block.specs.Total.{NewTotal, totalCount}
-use Rattle.block.proofs.Same.{records-same, context-same}
-
--- slots that differ in one stretch alone count for what that changes
-pub sum-stretch : (ps qs : List PartReq) (a n b k : ℕ) → a ≤ b → b + k ≤ a + n → ((j : ℕ) → a ≤ j → j < a + n → (b ≤ j → j < b + k → ⊥) → getD qs j none ≡ getD ps j none)
-    → sumFrom qs a n + sumFrom ps b k ≡ sumFrom ps a n + sumFrom qs b k
-sum-stretch ps qs a n b k l h same =
-    let e : n ≡ (b - a) + (k + (n - (b - a) - k)) = omega arith in
-    let f : a + (b - a) ≡ b = omega arith in
-    omega (
-      arith,
-      ap (λ (x : ℕ). sumFrom qs a x) e,
-      ap (λ (x : ℕ). sumFrom ps a x) e,
-      sum-split qs a (b - a) (k + (n - (b - a) - k)),
-      sum-split ps a (b - a) (k + (n - (b - a) - k)),
-      ap (λ (x : ℕ). sumFrom qs x (k + (n - (b - a) - k))) f,
-      ap (λ (x : ℕ). sumFrom ps x (k + (n - (b - a) - k))) f,
-      sum-split qs b k (n - (b - a) - k),
-      sum-split ps b k (n - (b - a) - k),
-      sum-same qs ps a (b - a) (λ j i. same (a + j) (omega arith) (omega arith) (λ x y. omega arith)),
-      sum-same qs ps (b + k) (n - (b - a) - k) (λ j i. same (b + k + j) (omega arith) (omega arith) (λ x y. omega arith)),
-    )
 
 module _ {bytes t : List ℕ} {f : FunctionHandle} {ps qs : List PartReq} {c : RequiredContext} {es : Records} (w : WasRead bytes t) (there : f < length (moduleOf bytes t .functions))
     (N : NewTotal t f ps qs c es) where

@@ -14,8 +14,9 @@ use Rattle.memory.proofs.Slots.{read-at, slot-low}
 use Rattle.memory.proofs.Records.{records-pieces}
 use Rattle.memory.proofs.Runs.{context-pieces}
 use Rattle.state.specs.State.{recordsIn}
-use Rattle.block.specs.Total.{totalCount, RecordsAt, Weighing}
-use Rattle.block.specs.declared.total.Stretch.{Stretch}
+use Rattle.leave.specs.Leave.{RecordsAt}
+use Rattle.leave.specs.declared.leave.Stretch.{Stretch}
+use Rattle.block.specs.Total.{totalCount, Weighing}
 
 module _ {t s rs : List ℕ} {f : FunctionHandle} {r : Stretch} (W : Weighing t s rs f) (R : RecordsAt t f r) where
   abbrev place : ℕ

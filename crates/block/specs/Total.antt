@@ -7,7 +7,6 @@ use lib.ListN.{length, getD}
 use Rattle.part.specs.PartReq.{PartReq, none}
 use Rattle.module.specs.Module.{FunctionHandle}
 use Rattle.module.specs.Tables.{rowAt, expressionsFrom, itemsTo, maxItems}
-use Rattle.block.specs.declared.total.Stretch.{Stretch}
 use Rattle.field.specs.Limits.{maxFunctions}
 use Rattle.part.specs.Store.{top}
 use Rattle.part.specs.StoreLimits.{entriesCap}
@@ -29,11 +28,6 @@ pub record NewTotal (t : List ℕ) (f : FunctionHandle) (ps qs : List PartReq) (
 -- what the slots of the total of f count for
 abbrev pub totalCount : (t : List ℕ) → FunctionHandle → List PartReq → ℕ
 totalCount t f ps = recordPieces (recordsIn t totalsSlot f ps) + pieces (contextAt ps (functionsSlot + 4 * f))
-
--- the records of f, from its first on
-pub record RecordsAt (t : List ℕ) (f : FunctionHandle) (r : Stretch) : Type 0 where
-  pub from : r .from ≡ expressionsFrom (rowAt t f)
-  pub n : r .n ≡ rowAt t f .expressions
 
 -- what a new total asks of the slots: the current context stands at `at`
 pub record Totalling (t rs : List ℕ) (f : FunctionHandle) (at : ℕ) : Type 0 where

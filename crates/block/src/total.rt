@@ -1,5 +1,6 @@
 // The total of a function in its slots: the context, and the records.
 use crate::stack::load_context;
+use leave::leave::records_of;
 use memory::layout::EXPRS;
 use memory::layout::FUNCTIONS;
 use memory::layout::TOTALS;
@@ -8,32 +9,13 @@ use memory::stretches::copy_context;
 use memory::stretches::extend;
 use memory::stretches::save_context;
 use module::handles::FunctionHandle;
-use module::tables::row_at;
 ghost use mathlib.Core.Path.{_≡_};
 ghost use Prim.Native.Nat.{_+_, _*_};
 ghost use Rattle.part.specs.Store.{Room};
 ghost use Rattle.context.specs.RequiredContext.{pieces};
 ghost use Rattle.memory.specs.Layout.{functionsSlot};
 ghost use Rattle.memory.specs.Memory.{read, contextAt, Memory};
-ghost use Rattle.block.specs.Total.{totalCount, RecordsAt, Totalling, TotalKept, TotalJoined, Weighing};
-
-// Slots of records, from the first of a region on.
-pub struct Stretch {
-    pub from: usize,
-    pub n: usize,
-}
-
-// Those of f.
-pub fn records_of(t: &[u32], f: FunctionHandle) -> Stretch
-    ensures { λ r. ⌜ RecordsAt (now (t .entry)) (f .0) r ⌝ }
-{
-    let row = row_at(t, f.0);
-    let from = (row.items as usize) + (row.arguments as usize) + (row.locals as usize);
-    Stretch {
-        from: from,
-        n: row.expressions as usize,
-    }
-}
+ghost use Rattle.block.specs.Total.{totalCount, Totalling, TotalKept, TotalJoined, Weighing};
 
 // The first total of f: the context at `at`, and the records of the open function.
 pub fn keep_total(t: &[u32], slots: &mut [u32], f: FunctionHandle, at: usize)

@@ -27,11 +27,11 @@ use Rattle.state.specs.declared.answer.Answered.{Answered}
 use Rattle.state.specs.declared.answer.Walked.{Walked}
 use Rattle.state.specs.declared.answer.Walked.the-variants.{Went, Halt}
 use Rattle.state.specs.declared.frame.Frame.{Frame}
-use Rattle.state.proofs.Others.{ready-fits}
+use Rattle.state.proofs.Others.{ready-fits, apart-totals}
 use Rattle.statement.specs.Asks.{Open, Asked, maybeAsk, answerOf}
 use Rattle.statement.proofs.Asking.{began}
 use Rattle.call.specs.Calls.{frameOver, argumentsOf, Calling, Passable, Passes, AskedArguments, EndsCall}
-use Rattle.call.proofs.Passing.{apart-totals, beside-self, goes-passes}
+use Rattle.call.proofs.Passing.{beside-self, goes-passes}
 
 -- the definition
 result-none : (m : Module) (fr : walk.Frame) (o : Option ℕ) (st : State) → askResult m fr o gone st ≡ went st tt

@@ -1,4 +1,3 @@
-pub mod Rests
 pub mod Passing
 pub mod Rows
 pub mod Ending

@@ -1,20 +1,19 @@
 -- The asks of arguments, one after the other: each is put into the slot that is asked with, and leaves what is needed of the others as it was.
-use Prim.Native.Nat.{ℕ, suc, _+_, _*_, _<_, _≤_}
+use Prim.Native.Nat.{ℕ, suc, _+_, _<_, _≤_}
 use native.Mathlib.Omega.{arith}
 use mathlib.Core.Path.{_≡_, refl, sym, ap, subst, _∙_}
 use mathlib.Core.List.{List, [], _∷_, _++_}
 use lib.ListN.{length, getD, set}
 use lib.Seq.{getD-set-other}
-use Rattle.field.specs.Limits.{maxFunctions}
-use Rattle.part.specs.PartReq.{PartReq, none, entries, Subpart, gone, there, getSubpart, spine}
+use Rattle.part.specs.PartReq.{PartReq, entries, Subpart, gone, there, getSubpart, spine}
 use Rattle.part.specs.Store.{top, part, Good}
 use Rattle.module.specs.Module.{Module}
 use Rattle.module.specs.Decode.{tab}
-use Rattle.module.specs.Tables.{maxItems, moduleOf}
+use Rattle.module.specs.Tables.{moduleOf}
 use Rattle.module.proofs.Tab.{length-tab}
 use Rattle.access.specs.Access.{operandAt}
 use Rattle.access.specs.declared.kinded.Kinded.{Kinded}
-use Rattle.context.specs.RequiredContext.{RequiredContext, variable}
+use Rattle.context.specs.RequiredContext.{RequiredContext, emptyContext, variable}
 use Rattle.walk.specs.State.{State, Out, went, _>>_, totalPieces}
 use Rattle.walk.specs.Expression.{addExpression}
 use Rattle.walk.specs.Statement.{askNeeded, askArguments}
@@ -23,37 +22,22 @@ use Rattle.walk.specs.Proper.{Fine}
 use Rattle.walk.proofs.Bind.{next-went, next-halt, next-next, next-self, next-same}
 use Rattle.walk.proofs.Keeps.{Needs}
 use Rattle.walk.proofs.Parts.{variables-subpart}
-use Rattle.memory.specs.Layout.{ask, result, returned, totalsSlot, functionsSlot, stackSlot}
+use Rattle.memory.specs.Layout.{ask, result, returned, stackSlot}
 use Rattle.memory.specs.Memory.{read, Memory}
 use Rattle.state.specs.State.{Rest, stateOf, totalsSum}
 use Rattle.state.specs.Ready.{Ready, Others}
-use Rattle.state.specs.Frame.{Apart}
 use Rattle.state.specs.declared.answer.Tally.{Tally}
 use Rattle.state.specs.declared.answer.Place.{Place}
 use Rattle.state.specs.declared.answer.Walked.{Walked}
 use Rattle.state.specs.declared.answer.Walked.the-variants.{Went, Halt}
 use Rattle.state.specs.declared.frame.Frame.{Frame}
-use Rattle.state.proofs.Own.{Fits}
-use Rattle.state.proofs.Others.{sum-same, others-still, ready-fits}
+use Rattle.state.proofs.Others.{others-still, ready-fits, others-apart, apart-trans, apart-totals}
+use Rattle.state.proofs.Rests.{someRest, rest-counts}
 use Rattle.statement.specs.Asks.{Open, Goes, Asked}
-use Rattle.statement.proofs.Placed.{others-apart, apart-trans}
 use Rattle.statement.proofs.Asking.{began, begins}
 use Rattle.statement.proofs.Holding.{Holdable, hold-ready, hold-state, hold-totals, hold-apart, hold-part}
 use Rattle.statement.proofs.Uses.{sub-few}
 use Rattle.call.specs.Calls.{frameOver, argumentsOf, Needed, Calling, PassableAs, Passable, Beside, Passed, Passing, Passes, Argued, AskedArguments}
-use Rattle.call.proofs.Rests.{emptyContext, someRest, rest-counts}
-
--- what stands apart counts for the same
-pub apart-totals : {t : List ℕ} {f at : ℕ} {s rs u us : List ℕ} → Fits t f → stackSlot ≤ at → Apart t f at s rs u us → totalsSum (read u us) ≡ totalsSum (read s rs)
-apart-totals {t} {f} {at} {s} {rs} {u} {us} room low o =
-    rw (
-      sum-same (read u us) (read s rs) totalsSlot maxItems (λ j l. kept (totalsSlot + j) (omega arith) (omega arith)),
-      sum-same (read u us) (read s rs) functionsSlot (4 * maxFunctions) (λ j l. kept (functionsSlot + j) (omega arith) (omega arith)),
-    )
-  where
-    kept : (k : ℕ) → totalsSlot ≤ k → k < stackSlot → getD (read u us) k none ≡ getD (read s rs) k none
-    kept k a b =
-        o .same k (omega arith) (record { no-total = omega arith; no-record = λ e l z. omega arith; no-context = λ i l z. omega arith })
 
 module _ {t : List ℕ} {f at : ℕ} where
   pub beside-self : {s rs : List ℕ} → Beside t f at s rs s rs

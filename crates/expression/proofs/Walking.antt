@@ -1,15 +1,15 @@
 -- The walk of an expression: how a visit begins, and the ways through a turn of its loop. What is left of the asks gives the whole (`Left`): an operand's
 -- walk leaves one ask less, and what ends an arm ends the visit.
-use Prim.Native.Nat.{ℕ, zero, suc, _+_, _<_, _≤_}
+use Prim.Native.Nat.{ℕ, suc, _+_, _<_, _≤_}
 use native.Mathlib.Omega.{arith}
 use native.Mathlib.Numerals.{add-one}
 use mathlib.Core.Path.{_≡_, refl, sym, ap, subst, _∙_}
 use mathlib.Core.Bool.{Bool, true, false}
-use mathlib.Core.List.{List, [], _∷_}
-use mathlib.Core.Option.{some, none as nothing}
-use lib.ListN.{length, getElem?, replicate}
+use mathlib.Core.List.{List, []}
+use mathlib.Core.Option.{none as nothing}
+use lib.ListN.{length, getElem?}
 use Rattle.field.specs.Limits.{maxPieces, maxVisits, maxDepth, maxComponents}
-use Rattle.part.specs.PartReq.{PartReq, all, none, entries, spine}
+use Rattle.part.specs.PartReq.{PartReq, entries, spine}
 use Rattle.module.specs.Module.{Function}
 use Rattle.module.specs.Tables.{rowAt, moduleOf}
 use Rattle.module.specs.declared.handles.ExpressionHandle.{ExpressionHandle}
@@ -22,7 +22,7 @@ use Rattle.valid.proofs.Accepted.{valid}
 use Rattle.sound.proofs.There.{function-valid}
 use Rattle.sound.proofs.Lower.{lower}
 use Rattle.context.specs.RequiredContext.{pieces}
-use Rattle.walk.specs.State.{State, Walk, _>>_, recordPieces, functionPieces, totalPieces}
+use Rattle.walk.specs.State.{State, Walk, _>>_}
 use Rattle.walk.specs.Resolve.{functionAt, expressionAt}
 use Rattle.walk.specs.Lower.{LowerExpression}
 use Rattle.walk.specs.Expression.{Ask, armAsks, addExpression}
@@ -31,7 +31,7 @@ use Rattle.memory.specs.Memory.{read, contextAt, Memory, Tidied}
 use Rattle.memory.specs.Want.{asked, Wants, Still}
 use Rattle.memory.specs.declared.want.Want.{Want}
 use Rattle.memory.proofs.Slots.{asked-small, wants-still, asked-still, tidied-still, still-trans}
-use Rattle.state.specs.State.{Rest, stateOf, totalsSum}
+use Rattle.state.specs.State.{stateOf, totalsSum}
 use Rattle.state.specs.Ready.{Ready, Ended}
 use Rattle.state.specs.declared.answer.Place.{Place}
 use Rattle.state.specs.declared.answer.Place.the-variants as place
@@ -39,6 +39,7 @@ use Rattle.state.specs.declared.answer.Tally.{Tally}
 use Rattle.state.specs.declared.answer.Walked.{Walked}
 use Rattle.state.specs.declared.answer.Walked.the-variants.{Went, Halt}
 use Rattle.state.proofs.Others.{others-same, others-still, others-totals, count-is, ready-fits, ready-tidied}
+use Rattle.state.proofs.Rests.{someRest, rest-counts}
 use Rattle.state.proofs.Ends.{ends-went, ends-halt, halts, ends-after}
 use Rattle.asks.specs.Asks.{said, Within, There, Asks}
 use Rattle.asks.specs.declared.what.What.{What}
@@ -49,22 +50,6 @@ use Rattle.expression.specs.Visits.{Counting, Allowed, Closing, Visiting
 use Rattle.expression.proofs.Arms.{arm, there-inside}
 use Rattle.expression.proofs.Turns.{visit-17, visit-16, visit-asks, turn-operand, turn-refuse, turn-end, turn-argument, turn-local, turn-global}
 use Rattle.expression.proofs.Visits.{is-allowed, not-allowed}
-
--- something that no walk of an expression looks at, which counts for n
-someRest : ℕ → Rest
-someRest n = record {
-  marks = [];
-  functions = some (record { marks = []; context = record { globals = none; locals = none; args = none; retval = none }; exprs = replicate n (some all) }) ∷ [];
-}
-
-records-count : (n : ℕ) → recordPieces (replicate n (some all)) ≡ n
-unfolding recordPieces entries
-records-count zero = refl
-records-count (suc n) = omega (arith, records-count n)
-
-rest-counts : (n : ℕ) → totalPieces (someRest n .functions) ≡ n
-unfolding someRest totalPieces functionPieces pieces entries
-rest-counts n = omega (arith, records-count n)
 
 -- the same walk, said otherwise
 pub walks-as : {bytes t : List ℕ} {f at held : ℕ} {s rs : List ℕ} {walk : Walk (Unit {0})} {visits : ℕ} {r : Walked} {u us : List ℕ} (other : Walk (Unit {0}))
@@ -180,7 +165,7 @@ module _ {bytes t : List ℕ} {f e at held : ℕ} {s rs : List ℕ} {w : Want} {
     components-now = components (l .ready) e (b .there)
 
     pub left-ask : There bytes t f e × (Memory z zs × Wants z zs w)
-    left-ask = (record { read = l .ready .was-read .module-is; function = l .ready .function; expression = b .there }, (l .ready .memory, wants-now))
+    left-ask = (record { was-read = l .ready .was-read; function = l .ready .function; expression = b .there }, (l .ready .memory, wants-now))
 
     pub left-closing : Closing t f e at held z zs w m
     left-closing = record { bytes = bytes; ready = l .ready; there = row-there (l .ready) e (b .there); wants = wants-now; roomy = omega (arith, l .roomy) }

@@ -12,80 +12,63 @@ use Rattle.part.specs.Store.{top, part}
 use Rattle.part.specs.StoreLimits.{entriesCap}
 use Rattle.part.proofs.Pieces.{part-2}
 use Rattle.module.specs.Tables.{rowAt, expressionsFrom, maxItems, moduleOf}
+use Rattle.module.specs.declared.tables.Row.{Row}
 use Rattle.context.specs.RequiredContext.{pieces}
 use Rattle.walk.specs.State.{recordPieces}
 use Rattle.memory.specs.Layout.{globalsSlot, exprsSlot, totalsSlot, functionsSlot, stackSlot, returned}
 use Rattle.memory.specs.Memory.{read, sumFrom, counted, contextAt, Memory}
 use Rattle.memory.specs.Stretches.{fourSet, forgotten}
 use Rattle.memory.proofs.Slots.{read-at, read-long, read-set, sum-outside, hold-memory}
-use Rattle.memory.proofs.Runs.{four-outside, four-memory, sum-context, clear-read, forgotten-long, forgotten-outside, forgotten-memory}
+use Rattle.memory.proofs.Runs.{four-outside, four-memory, sum-context, clear-read, forgotten-long, forgotten-outside, forgotten-memory, four-long, read-still, context-same, records-same}
 use Rattle.access.proofs.Access.{functions-are}
 use Rattle.access.proofs.Laid.{number-once}
 use Rattle.state.specs.State.{recordsIn, sumIn}
 use Rattle.state.proofs.Others.{sum-same}
 use Rattle.state.proofs.Own.{fits}
-use Rattle.leave.specs.Leave.{RecordsOf, Placed, ownIn, leftSlots, Leaving}
-use Rattle.leave.proofs.Sums.{records-same, sum-change, sum-empty}
-use native.Mathlib.Decide.{ℕ-discrete, decLt}
-use lib.ListN.{length, getD, set, length-set, List·getD-eq-default}
+use Rattle.leave.specs.Leave.{RecordsAt, Placed, ownIn, leftSlots, Leaving}
+use Rattle.leave.proofs.Sums.{sum-stretch, sum-empty}
+use Rattle.leave.specs.declared.leave.Stretch.{Stretch}
 
--- a slot with the piece that it had
-read-still : (s rs us : List ℕ) (k : ℕ) → length us ≡ length rs → getD us k 0 ≡ getD rs k 0 → getD (read s us) k none ≡ getD (read s rs) k none
-read-still s rs us k l e =
-    elim (decLt k (length rs)) [
-      | yes h ↦
-          let i : k < length us = omega arith in
-          read-at s us k i ∙ rw e (sym (read-at s rs k h))
-      | no h ↦
-          List·getD-eq-default (read s us) none (omega (arith, read-long s us)) ∙ sym (List·getD-eq-default (read s rs) none (omega (arith, read-long s rs)))
-    ]
+-- the records of a function, by its row
+pub records-are : (t : List ℕ) (f : ℕ) (row : Row) → row ≡ rowAt t f → RecordsAt t f (record { from = row .items + row .arguments + row .locals; n = row .expressions })
+records-are t f row e = rw e (record { from = refl; n = refl })
 
-four-size : (rs : List ℕ) (at a b c d : ℕ) → length (fourSet rs at a b c d) ≡ length rs
-four-size rs at a b c d =
-    length-set (set (set (set rs at a) (at + 1) b) (at + 2) c) (at + 3) d ∙ length-set (set (set rs at a) (at + 1) b) (at + 2) c ∙ length-set (set rs at a) (at + 1) b ∙ length-set rs at a
-
-context-same : (ps qs : List PartReq) (at : ℕ) → ((i : ℕ) → i < 4 → getD qs (at + i) none ≡ getD ps (at + i) none) → contextAt qs at ≡ contextAt ps at
-context-same ps qs at h =
-    let z : at + 0 ≡ at = omega arith in
-    let y : getD qs at none ≡ getD ps at none = rw z at (h 0 (omega arith)) in
-    rw (y, h 1 (omega arith), h 2 (omega arith), h 3 (omega arith))
-
--- the slots of a function's records
-module _ {t : List ℕ} {f first count : ℕ} (o : RecordsOf t f first count) where
-  pub own-fit : {rs : List ℕ} → Placed t rs f → exprsSlot + first + count ≤ length rs
+-- their slots
+module _ {t : List ℕ} {f : ℕ} {r : Stretch} (o : RecordsAt t f r) where
+  own-fit : {rs : List ℕ} → Placed t rs f → exprsSlot + r .from + r .n ≤ length rs
   own-fit p =
       let x = p .records in
       let y = p .slots in
-      let a = o .first-is in
-      let b = o .count-is in
+      let a = o .from in
+      let b = o .n in
       omega arith
 
   pub weigh-own : {s rs : List ℕ} → Memory s rs → Placed t rs f → ownIn t s rs f ≤ entriesCap
-      → Memory s rs × ((exprsSlot + first + count ≤ length rs) × (sumFrom (read s rs) (exprsSlot + first) count ≤ entriesCap))
-  weigh-own m p h = (m, (own-fit p, rw (o .first-is, o .count-is) h))
+      → Memory s rs × ((exprsSlot + r .from + r .n ≤ length rs) × (sumFrom (read s rs) (exprsSlot + r .from) (r .n) ≤ entriesCap))
+  weigh-own m p h = (m, (own-fit p, rw (o .from, o .n) h))
 
-  pub own-is : (s rs : List ℕ) (r : ℕ) → r ≡ sumFrom (read s rs) (exprsSlot + first) count → r ≡ ownIn t s rs f
-  own-is s rs r e = e ∙ rw (o .first-is, o .count-is)
+  pub own-is : (s rs : List ℕ) (k : ℕ) → k ≡ sumFrom (read s rs) (exprsSlot + r .from) (r .n) → k ≡ ownIn t s rs f
+  own-is s rs k e = e ∙ rw (o .from, o .n)
 
-  pub forget-fit : {rs : List ℕ} (k x : ℕ) → Placed t rs f → exprsSlot + first + count ≤ length (set rs k x)
+  pub forget-fit : {rs : List ℕ} (k x : ℕ) → Placed t rs f → exprsSlot + r .from + r .n ≤ length (set rs k x)
   forget-fit {rs} k x p = omega (arith, own-fit p, length-set rs k x)
 
-  pub left-is : (rs us vs ws : List ℕ) (base at : ℕ) → us ≡ forgotten (set rs returned (getD rs (at + 2) 0)) (exprsSlot + first) count → vs ≡ fourSet us base 2 2 2 2 → ws ≡ fourSet vs at 2 2 2 2 → ws ≡ leftSlots t rs f base at
-  left-is rs us vs ws base at a b c = c ∙ rw (b, a, o .first-is, o .count-is)
+  pub left-is : (rs us vs ws : List ℕ) (base at : ℕ) → us ≡ forgotten (set rs returned (getD rs (at + 2) 0)) (exprsSlot + r .from) (r .n) → vs ≡ fourSet us base 2 2 2 2 → ws ≡ fourSet vs at 2 2 2 2 → ws ≡ leftSlots t rs f base at
+  left-is rs us vs ws base at a b c = c ∙ rw (b, a, o .from, o .n)
 
 -- no such step changes how many slots there are
 pub forgot-long : (rs us : List ℕ) (k x from n : ℕ) → us ≡ forgotten (set rs k x) from n → length us ≡ length rs
 forgot-long rs us k x from n e = ap length e ∙ forgotten-long (set rs k x) from n ∙ length-set rs k x
 
 pub cleared-long : (us vs : List ℕ) (at : ℕ) → vs ≡ fourSet us at 2 2 2 2 → length vs ≡ length us
-cleared-long us vs at e = ap length e ∙ four-size us at 2 2 2 2
+cleared-long us vs at e = ap length e ∙ four-long us at 2 2 2 2
 
 pub left-long : (t rs : List ℕ) (f base at : ℕ) → length (leftSlots t rs f base at) ≡ length rs
 left-long t rs f base at =
     let first = exprsSlot + expressionsFrom (rowAt t f) in
     let n = rowAt t f .expressions in
     let us = forgotten (set rs returned (getD rs (at + 2) 0)) first n in
-    four-size (fourSet us base 2 2 2 2) at 2 2 2 2 ∙ four-size us base 2 2 2 2 ∙ forgot-long rs us returned (getD rs (at + 2) 0) first n refl
+    four-long (fourSet us base 2 2 2 2) at 2 2 2 2 ∙ four-long us base 2 2 2 2 ∙ forgot-long rs us returned (getD rs (at + 2) 0) first n refl
 
 -- a record that is forgotten
 forgotten-slot : (rs : List ℕ) (from : ℕ) (s : List ℕ) (n : ℕ) → from + n ≤ length rs → (e : ℕ) → e < n → getD (read s (forgotten rs from n)) (from + e) none ≡ none
@@ -125,7 +108,7 @@ module _ {bytes t s rs : List ℕ} {f base at : ℕ} (d : Leaving bytes t s rs f
   forgot-size = forgot-long rs forgot returned (getD rs (at + 2) 0) from n refl
 
   cleared-size : length cleared ≡ length rs
-  cleared-size = four-size forgot base 2 2 2 2 ∙ forgot-size
+  cleared-size = four-long forgot base 2 2 2 2 ∙ forgot-size
 
   args-is : getD (read s rs) (at + 2) none ≡ part s (getD rs (at + 2) 0)
   args-is = let h = d .high in read-at s rs (at + 2) (omega arith)
@@ -210,8 +193,8 @@ module _ {bytes t s rs : List ℕ} {f base at : ℕ} (d : Leaving bytes t s rs f
         let c = forgot-own in
         omega (
           arith,
-          sum-change (read s held) (read s forgot) globalsSlot size from n (omega arith) (omega arith)
-              (λ j x y h. read-still s held forgot j (forgotten-long held from n) (forgotten-outside held from n j h)),
+          sum-stretch (read s held) (read s forgot) globalsSlot size from n (omega arith) (omega arith)
+              (λ j x y h. read-still s held forgot j (forgotten-long held from n) (forgotten-outside held from n j (λ e u v. h (omega arith) (omega arith)))),
         )
 
     forgot-context : (k : ℕ) → stackSlot ≤ k → contextAt (read s forgot) k ≡ contextAt (read s rs) k
@@ -222,7 +205,7 @@ module _ {bytes t s rs : List ℕ} {f base at : ℕ} (d : Leaving bytes t s rs f
 
     cleared-context : contextAt (read s cleared) at ≡ contextAt (read s rs) at
     cleared-context =
-        context-same (read s forgot) (read s cleared) at (λ i j. read-still s forgot cleared (at + i) (four-size forgot base 2 2 2 2) (four-outside forgot base 2 2 2 2 0 (at + i) (λ k u v. omega arith)))
+        context-same (read s forgot) (read s cleared) at (λ i j. read-still s forgot cleared (at + i) (four-long forgot base 2 2 2 2) (four-outside forgot base 2 2 2 2 0 (at + i) (λ k u v. omega arith)))
         ∙ forgot-context at (d .low)
 
     emptied : (vs : List ℕ) (k : ℕ) → stackSlot ≤ k → k + 4 ≤ length rs → length vs ≡ length rs → sumFrom (read s (fourSet vs k 2 2 2 2)) globalsSlot size + pieces (contextAt (read s vs) k) ≡ sumFrom (read s vs) globalsSlot size

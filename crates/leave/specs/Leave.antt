@@ -12,11 +12,12 @@ use Rattle.memory.specs.Layout.{exprsSlot, totalsSlot, stackSlot, returned}
 use Rattle.memory.specs.Memory.{read, sumFrom, Memory}
 use Rattle.memory.specs.Stretches.{fourSet, forgotten}
 use Rattle.state.specs.Ready.{WasRead}
+use Rattle.leave.specs.declared.leave.Stretch.{Stretch}
 
--- the records of f stand from `first` on among those of all functions, and are `count`
-pub record RecordsOf (t : List ℕ) (f : FunctionHandle) (first count : ℕ) : Type 0 where
-  pub first-is : first ≡ expressionsFrom (rowAt t f)
-  pub count-is : count ≡ rowAt t f .expressions
+-- the records of f, from its first on among those of all functions
+pub record RecordsAt (t : List ℕ) (f : FunctionHandle) (r : Stretch) : Type 0 where
+  pub from : r .from ≡ expressionsFrom (rowAt t f)
+  pub n : r .n ≡ rowAt t f .expressions
 
 -- f has slots for its records, and for a total
 pub record Placed (t rs : List ℕ) (f : FunctionHandle) : Type 0 where

@@ -1,11 +1,9 @@
 // The end of a called function, once its total is joined: of its context what it needs of its arguments is kept.
-use access::kinded::expression_number;
 use memory::layout::EXPRS;
 use memory::layout::RETURNED;
 use memory::memory::weigh;
 use memory::stretches::clear_context;
 use memory::stretches::forget;
-use module::handles::ExpressionHandle;
 use module::handles::FunctionHandle;
 use module::tables::row_at;
 ghost use mathlib.Core.Path.{_≡_};
@@ -13,21 +11,23 @@ ghost use Prim.Native.Nat.{_+_, _≤_};
 ghost use lib.ListN.{length};
 ghost use Rattle.part.specs.StoreLimits.{entriesCap};
 ghost use Rattle.memory.specs.Memory.{Memory};
-ghost use Rattle.leave.specs.Leave.{RecordsOf, Placed, ownIn, leftSlots};
+ghost use Rattle.leave.specs.Leave.{RecordsAt, Placed, ownIn, leftSlots};
 
-// The slots of a function's records among those of all functions.
-pub struct Own {
-    pub first: usize,
-    pub count: usize,
+// Slots of records, from the first of a region on.
+pub struct Stretch {
+    pub from: usize,
+    pub n: usize,
 }
 
-pub fn records_of(t: &[u32], f: FunctionHandle) -> Own
-    ensures { λ r. ⌜ RecordsOf (now (t .entry)) (f .0) (r .first) (r .count) ⌝ }
+// Those of f.
+pub fn records_of(t: &[u32], f: FunctionHandle) -> Stretch
+    ensures { λ r. ⌜ RecordsAt (now (t .entry)) (f .0) r ⌝ }
 {
     let row = row_at(t, f.0);
-    Own {
-        first: expression_number(t, f, ExpressionHandle(0)),
-        count: row.expressions as usize,
+    let from = (row.items as usize) + (row.arguments as usize) + (row.locals as usize);
+    Stretch {
+        from: from,
+        n: row.expressions as usize,
     }
 }
 
@@ -38,7 +38,7 @@ pub fn own_pieces(t: &[u32], cells: &[u32], slots: &[u32], f: FunctionHandle) ->
     ensures { λ r. ⌜ r ≡ ownIn (now (t .entry)) (now (cells .entry)) (now (slots .entry)) (f .0) ⌝ }
 {
     let own = records_of(t, f);
-    weigh(cells, slots, EXPRS + own.first, own.count)
+    weigh(cells, slots, EXPRS + own.from, own.n)
 }
 
 // f ends, with its context in the slots from `at` on: what it needs of its arguments is returned, and its records and contexts are forgotten.
@@ -48,7 +48,7 @@ pub fn leave(t: &[u32], slots: &mut [u32], f: FunctionHandle, base: usize, at: u
 {
     let own = records_of(t, f);
     slots[RETURNED] = slots[at + 2];
-    forget(slots, EXPRS + own.first, own.count);
+    forget(slots, EXPRS + own.from, own.n);
     clear_context(slots, base);
     clear_context(slots, at);
 }

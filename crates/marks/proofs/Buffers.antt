@@ -10,7 +10,7 @@ use lib.Dec.{eqb}
 use lib.ListN.{length, getD, replicate, length-replicate}
 use borrow.Author.Tests.{ne-eqb}
 use Rattle.field.specs.Limits.{minReport}
-use Rattle.part.specs.PartReq.{PartReq, isAll, isExist}
+use Rattle.part.specs.PartReq.{isAll, isExist}
 use Rattle.part.specs.Store.{top, part, Good}
 use Rattle.part.proofs.Pieces.{part-0, part-1, part-2}
 use Rattle.part.proofs.Write.{seen}
@@ -24,9 +24,10 @@ use Rattle.walk.specs.Resolve.{functionAt, isThere}
 use Rattle.walk.specs.Marks.{stretch, writeMarks, statementAt}
 use Rattle.walk.specs.Statement.{needOf, areRecorded}
 use Rattle.memory.specs.Layout.{exprsSlot, functionsSlot}
-use Rattle.memory.specs.Memory.{read, Recorded, missing, present, recordOf, recordsOf, Memory}
+use Rattle.memory.specs.Memory.{read, Recorded, recordOf, recordsOf, Memory}
 use Rattle.memory.proofs.Slots.{read-at}
 use Rattle.memory.proofs.Records.{records-at}
+use Rattle.memory.proofs.Runs.{not-plain}
 use Rattle.state.specs.State.{recordsIn}
 use Rattle.state.specs.Ready.{WasRead}
 use Rattle.marks.specs.Places.{slice, startOf, markPlace, startIn, sizeIn, Places, Inside, AllInside, recordedIn}
@@ -128,10 +129,6 @@ module _ (bytes t places : List ℕ) (was : WasRead bytes t) (p : Places bytes t
         (slice-written xs (startOf m f) (replicate (stretch m f) 0) (omega arith)))
 
 -- a slot's piece says whether there is a record
-not-plain : {q : PartReq} → Recorded q → (isAll q ≡ false) × (isExist q ≡ false)
-not-plain missing = (refl, refl)
-not-plain (present p) = (refl, refl)
-
 recorded-one : (s : List ℕ) (x : ℕ) → Good s → x < top s → Recorded (part s x) → not (eqb x 2) ≡ isThere (needOf (recordOf (part s x)))
 recorded-one s zero g l h =
     let z : true ≡ false = ap isAll (sym (part-0 s)) ∙ not-plain h .0 in

@@ -1,5 +1,5 @@
 -- The table of the marks' places, filled function by function and statement by statement, and what it says then.
-use mathlib.Core.Path.{_≡_, refl, sym, ap, _∙_, subst}
+use mathlib.Core.Path.{_≡_, refl, ap, _∙_, subst}
 use mathlib.Core.Logic.{⊎-elim}
 use mathlib.Core.List.{List, [], _∷_}
 use Prim.Native.Nat.{ℕ, zero, suc, _+_, _<_, _≤_}
@@ -14,6 +14,7 @@ use Rattle.module.specs.Marks.{markCount, marksBefore}
 use Rattle.module.specs.Tables.{rowAt, itemsTo, maxItems, functionOf, moduleOf}
 use Rattle.access.specs.Access.{statementNumber, statementAt}
 use Rattle.access.proofs.Access.{function-is, statement-is, functions-are, statements-are}
+use Rattle.access.proofs.Laid.{earlier}
 use Rattle.valid.proofs.Accepted.{valid}
 use Rattle.walk.specs.Resolve.{functionAt}
 use Rattle.walk.specs.Marks.{stretch}
@@ -163,20 +164,9 @@ module _ (bytes t : List ℕ) (was : WasRead bytes t) where
   pub placed-all : (f : ℕ) (places left : List ℕ) (s at : ℕ) → f < count → s ≡ rowAt t f .statements → left ≡ placedIn bytes t f places s → at ≡ markPlace m f s → (left ≡ placedIn bytes t f places (rowAt t f .statements)) × (at ≡ startOf m (f + 1))
   placed-all f places left s at hf e p q = (rw e at p, (rw e at q) ∙ place-end f hf)
 
-  -- the items of a function end before those of a later one begin, and before the starts
+  -- the items of a function end before the starts
   pub within : (f : ℕ) → f < count → itemsTo (rowAt t f) ≤ maxItems
   within f h = was .laid .within f (rw (functions-are t bytes) h)
-
-  earlier : (f g : ℕ) → f < g → g < count → itemsTo (rowAt t f) ≤ rowAt t g .items
-  earlier f zero l h = absurd (omega arith)
-  earlier f (suc g) l h =
-      let n = was .laid .next g (rw (functions-are t bytes) h) in
-      ⊎-elim
-      (λ e. subst (λ (k : ℕ). itemsTo (rowAt t k) ≤ rowAt t (suc g) .items) (sym e) n)
-      (λ k.
-      let i = earlier f g k (omega arith) in
-      omega arith)
-      (eq-or-lt-of-le (le-of-suc-le-suc l))
 
   module _ (places : List ℕ) (long : placesSize ≤ length places) where
     begun-long : (f : ℕ) → length (set (placedTo bytes t places f) (startsAt + f) (startOf m f)) ≡ length places
@@ -207,7 +197,7 @@ module _ (bytes t : List ℕ) (was : WasRead bytes t) where
         let i : s < rowAt t f .statements = subst (λ (k : ℕ). s < rowAt t k .statements) e hs in
         rw e (placed-at f (set (placedTo bytes t places f) (startsAt + f) (startOf m f)) (rowAt t f .statements) s (omega (arith, begun-long f)) i))
         (λ k.
-        let before = earlier g f k (omega arith) in
+        let before = earlier t (was .laid) g f k (rw (functions-are t bytes) (omega arith)) in
         let w = within g (omega arith) in
         let ne : statementNumber t g s ≡ startsAt + f → ⊥ = omega arith in
         placed-outside f (set (placedTo bytes t places f) (startsAt + f) (startOf m f)) (rowAt t f .statements) (statementNumber t g s) (λ j i z. omega arith)

@@ -3,13 +3,13 @@
 use Prim.Native.Nat.{ℕ, zero, suc, _+_, _<_, _≤_}
 use native.Mathlib.Omega.{arith}
 use native.Mathlib.Numerals.{add-one}
-use native.Mathlib.Decide.{ℕ-discrete}
+use native.Mathlib.Decide.{ℕ-discrete, decLt}
 use mathlib.Core.Path.{_≡_, refl, sym, ap, _∙_}
 use mathlib.Core.Bool.{true, false, cond}
 use mathlib.Core.List.{List, [], _∷_}
 use mathlib.Core.Option.{Option, none as nothing}
 use lib.Dec.{eqb}
-use lib.ListN.{length, getD, set, length-set}
+use lib.ListN.{length, getD, set, length-set, List·getD-eq-default}
 use lib.Seq.{getD-set-same, getD-set-other, ext-getD}
 use borrow.Author.Tests.{eq-eqb, ne-eqb}
 use Rattle.part.specs.PartReq.{PartReq, none, more, entries, isAll, isExist}
@@ -23,7 +23,7 @@ use Rattle.walk.specs.Function.{latest, extend}
 use Rattle.memory.specs.Layout.{globalsSlot, exprsSlot, functionsSlot}
 use Rattle.memory.specs.Memory.{read, sumFrom, Recorded, missing, present, recordOf, recordsOf, contextAt, withContext, Memory}
 use Rattle.memory.specs.Stretches.{fourSet, copied, forgotten}
-use Rattle.memory.proofs.Slots.{read-at, read-set, sum-none, sum-suc, sum-set, set-memory}
+use Rattle.memory.proofs.Slots.{read-at, read-long, read-set, sum-none, sum-suc, sum-set, set-memory}
 use Rattle.memory.proofs.Records.{records-long, records-at}
 
 -- a slot outside the four
@@ -34,6 +34,40 @@ module _ {A : Type 0} (xs : List A) (at : ℕ) (a b c d e : A) where
       ∙ getD-set-other (set (set xs at a) (at + 1) b) (at + 2) k c e (λ z. h 2 (omega arith) (omega arith))
       ∙ getD-set-other (set xs at a) (at + 1) k b e (λ z. h 1 (omega arith) (omega arith))
       ∙ getD-set-other xs at k a e (λ z. h 0 (omega arith) (omega arith))
+
+pub four-long : {A : Type 0} (xs : List A) (at : ℕ) (a b c d : A) → length (set (set (set (set xs at a) (at + 1) b) (at + 2) c) (at + 3) d) ≡ length xs
+four-long xs at a b c d =
+    length-set (set (set (set xs at a) (at + 1) b) (at + 2) c) (at + 3) d
+    ∙ length-set (set (set xs at a) (at + 1) b) (at + 2) c
+    ∙ length-set (set xs at a) (at + 1) b
+    ∙ length-set xs at a
+
+-- a slot with the piece that it had
+pub read-still : (s rs us : List ℕ) (k : ℕ) → length us ≡ length rs → getD us k 0 ≡ getD rs k 0 → getD (read s us) k none ≡ getD (read s rs) k none
+read-still s rs us k l e =
+    elim (decLt k (length rs)) [
+      | yes h ↦
+          let i : k < length us = omega arith in
+          read-at s us k i ∙ rw e (sym (read-at s rs k h))
+      | no h ↦
+          List·getD-eq-default (read s us) none (omega (arith, read-long s us)) ∙ sym (List·getD-eq-default (read s rs) none (omega (arith, read-long s rs)))
+    ]
+
+-- slots that mean the same hold the same context and records
+module _ (ps qs : List PartReq) where
+  pub context-same : (at : ℕ) → ((i : ℕ) → i < 4 → getD qs (at + i) none ≡ getD ps (at + i) none) → contextAt qs at ≡ contextAt ps at
+  context-same at h =
+      let z : at + 0 ≡ at = omega arith in
+      let y : getD qs at none ≡ getD ps at none = rw z at (h 0 (omega arith)) in
+      rw (y, h 1 (omega arith), h 2 (omega arith), h 3 (omega arith))
+
+  pub records-same : (base n : ℕ) → ((e : ℕ) → e < n → getD qs (base + e) none ≡ getD ps (base + e) none) → recordsOf qs base n ≡ recordsOf ps base n
+  unfolding recordsOf
+  records-same base zero h = refl
+  records-same base (suc n) h =
+      let z : base + 0 ≡ base = omega arith in
+      let y : getD qs base none ≡ getD ps base none = rw z at (h 0 (omega arith)) in
+      rw (y, records-same (suc base) n (λ e l. let x : suc base + e ≡ base + suc e = omega arith in rw x (h (suc e) (omega arith))))
 
 -- the context that was put there
 module _ (ps : List PartReq) (at : ℕ) (c : RequiredContext) (l : at + 4 ≤ length ps) where
@@ -206,7 +240,7 @@ latest-cell : (old : Option PartReq) (i : ℕ) (p r : PartReq) → latest old (r
 unfolding latest recordOf
 latest-cell old i p r = refl
 
-not-plain : {q : PartReq} → Recorded q → (isAll q ≡ false) × (isExist q ≡ false)
+pub not-plain : {q : PartReq} → Recorded q → (isAll q ≡ false) × (isExist q ≡ false)
 not-plain missing = (refl, refl)
 not-plain (present p) = (refl, refl)
 

@@ -22,6 +22,7 @@ use Rattle.sound.proofs.There.{function-valid}
 use Rattle.sound.proofs.Walks.{module-valid}
 use Rattle.memory.specs.Layout.{totalsSlot, functionsSlot}
 use Rattle.memory.specs.Memory.{read, contextAt, Memory}
+use Rattle.memory.proofs.Runs.{context-same}
 use Rattle.marks.specs.Places.{slice, startIn, sizeIn, Inside}
 use Rattle.marks.specs.Report.{totalsAt, Sized, hasTotal}
 use Rattle.marks.specs.Report as report
@@ -30,10 +31,9 @@ use Rattle.marks.proofs.Buffers.{inside, size-is}
 use Rattle.marks.proofs.Sums.{total-missing, kept-own, kept-other}
 use Rattle.state.specs.State.{recordsIn}
 use Rattle.state.proofs.Own.{fits}
+use Rattle.leave.specs.Leave.{RecordsAt}
+use Rattle.leave.specs.declared.leave.Stretch.{Stretch}
 use Rattle.block.specs.Standing.{totalOf, totalIn}
-use Rattle.block.specs.Total.{RecordsAt}
-use Rattle.block.specs.declared.total.Stretch.{Stretch}
-use Rattle.block.proofs.Same.{context-same}
 use Rattle.pruner.specs.Form.{only, readMarks, readRecords, knownIn, readKept}
 use Rattle.pruner.specs.Stored.{HasTotals}
 use Rattle.pruner.specs.Reading.{RoomBeside, MarksAre, MarksWereRead, TooMany, RecordsBy, RecordsWereRead, ContextIs, ContextBy, ContextWasStored, keptPieces, KeptBy, KeptWasRead}

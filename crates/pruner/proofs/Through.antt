@@ -26,7 +26,7 @@ use Rattle.memory.specs.Layout.{totalsSlot, functionsSlot, stackSlot}
 use Rattle.memory.specs.Memory.{read, sumFrom, contextAt, Memory}
 use Rattle.memory.proofs.Slots.{read-long}
 use Rattle.memory.proofs.Records.{records-none}
-use Rattle.memory.proofs.Runs.{context-pieces}
+use Rattle.memory.proofs.Runs.{context-pieces, records-same, context-same}
 use Rattle.marks.specs.Report.{hasTotal}
 use Rattle.marks.specs.Report as report
 use Rattle.marks.proofs.Placed.{few}
@@ -36,7 +36,6 @@ use Rattle.state.specs.Ready.{WasRead}
 use Rattle.state.proofs.Own.{fits}
 use Rattle.block.specs.Standing.{totalIn, functionsIn}
 use Rattle.block.specs.Total.{NewTotal, totalCount}
-use Rattle.block.proofs.Same.{records-same, context-same}
 use Rattle.block.proofs.Totalled.{other-count, total-sums}
 use Rattle.block.proofs.Keeping.{totals-recorded}
 use Rattle.pruner.specs.Form.{readTotal, readTotals}

@@ -33,9 +33,9 @@ use Rattle.marks.proofs.Placed.{few}
 use Rattle.marks.proofs.Buffers.{inside, size-is}
 use Rattle.marks.proofs.Sums.{total-there, total-missing}
 use Rattle.state.proofs.Own.{fits}
+use Rattle.leave.specs.Leave.{RecordsAt}
+use Rattle.leave.specs.declared.leave.Stretch.{Stretch}
 use Rattle.block.specs.Standing.{totalOf, totalIn, functionsIn}
-use Rattle.block.specs.Total.{RecordsAt}
-use Rattle.block.specs.declared.total.Stretch.{Stretch}
 use Rattle.pruner.specs.Form.{minPruner, writeTotal, writeTotals, writeBody, writePruner}
 use Rattle.pruner.specs.Stored as stored
 use Rattle.pruner.specs.Stored.{Stored, prunerIn, HasTotals}

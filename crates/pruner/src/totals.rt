@@ -1,9 +1,9 @@
 // All totals written from a walk's memory into a lent buffer: the body, function by function, and then the header before it.
 use crate::write::write_total;
 use access::whole::functions;
-use block::total::records_of;
 use field::field::write;
 use field::field::write_word;
+use leave::leave::records_of;
 use marks::places::start;
 use marks::report::TOTALS;
 use memory::layout::FUNCTIONS;

@@ -22,10 +22,10 @@ use Rattle.walk.specs.State.{Records, recordPieces}
 use Rattle.walk.specs.StatementReq.{mark}
 use Rattle.memory.specs.Layout.{exprsSlot}
 use Rattle.memory.specs.Memory.{read, recordsOf, contextAt}
+use Rattle.leave.specs.Leave.{RecordsAt}
+use Rattle.leave.specs.declared.leave.Stretch.{Stretch}
 use Rattle.pruner.specs.Form.{writeRecords}
 use Rattle.pruner.proofs.Room.{lists-long, records-long}
-use Rattle.block.specs.Total.{RecordsAt}
-use Rattle.block.specs.declared.total.Stretch.{Stretch}
 use Rattle.requests.specs.Answer.{minAnswer, answerBody, writeAnswer, answerIn}
 
 abbrev verdict : Bool → ℕ → List ℕ

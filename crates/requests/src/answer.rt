@@ -1,7 +1,7 @@
 // The answer of a request, as bytes: whether the function is required, the visits, its input context, and its records.
-use block::total::records_of;
 use field::field::write;
 use field::field::write_word;
+use leave::leave::records_of;
 use memory::layout::EXPRS;
 use module::handles::FunctionHandle;
 use pruner::write::write_lists;

@@ -4,7 +4,7 @@ use mathlib.Core.Path.{_≡_, subst}
 use mathlib.Core.Bool.{false}
 use mathlib.Core.List.{List}
 use mathlib.Core.Option.{Option}
-use Prim.Native.Nat.{ℕ, zero, suc, pred, _+_, _<_}
+use Prim.Native.Nat.{ℕ, zero, suc, pred, _<_}
 use native.Mathlib.Omega.{arith}
 use lib.ListN.{length, length-map, List·getD-map}
 use Rattle.module.specs.Module.{ExpressionHandle, FunctionHandle, BlockHandle, Module, SwitchCase, Statement, Emit, Block, If, Switch, Loop, Break, Continue, Return, Kill, ControlBarrier, MemoryBarrier, ImageAtomic, Store, AtomicStatement, Call, ImageStore, RayQuery, WorkGroupUniformLoad, SubgroupBallot, SubgroupGather, SubgroupCollectiveOperation}
@@ -12,10 +12,9 @@ use Rattle.module.specs.Blocks.{held}
 use Rattle.valid.specs.Valid.{EachBelow, UsesBelow, entriesBelow, Valid}
 use Rattle.valid.proofs.Uses.{callable, has-body}
 use Rattle.walk.specs.Resolve.{functionAt}
-use Rattle.walk.specs.Marks.{statementAt, blockAt, bodyOf}
+use Rattle.walk.specs.Marks.{statementAt, bodyOf}
 use Rattle.sound.specs.Holds.{HoldsBelow}
 use Rattle.sound.proofs.There.{function-valid, uses-below}
-use Rattle.sound.proofs.Lower.{block-holds}
 
 holds : (b : BlockHandle) (s : Statement) → EachBelow b (held s) → HoldsBelow b s
 unfolding held
@@ -51,9 +50,6 @@ module _ (m : Module) (v : Valid m) where
   pub body-there : (f : FunctionHandle) → f < length (m .functions) → bodyOf m f < length (functionAt m f .blocks)
   unfolding bodyOf
   body-there f l = pred-below (length (functionAt m f .blocks)) (has-body (functionAt m f) (function-valid m v f l .blocks))
-
-  pub holds-below : (f : FunctionHandle) (b : BlockHandle) (k : ℕ) → k < blockAt m f b .count → HoldsBelow b (statementAt m f (blockAt m f b .first + k))
-  holds-below f b k l = holds b (statementAt m f (blockAt m f b .first + k)) (block-holds m v f b k l)
 
   pub callee : (f : FunctionHandle) (s : ℕ) (g : FunctionHandle) (arguments : List ExpressionHandle) (result : Option ExpressionHandle) → statementAt m f s ≡ Call g arguments result → (g < f) × (functionAt m g .entry ≡ false)
   unfolding functionAt

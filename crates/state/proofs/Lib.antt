@@ -1,3 +1,4 @@
 pub mod Own
 pub mod Others
 pub mod Ends
+pub mod Rests

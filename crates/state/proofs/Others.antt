@@ -20,6 +20,7 @@ use Rattle.state.specs.State.{Rest, totalsSum, stateOf, sumIn}
 use Rattle.state.specs.Ready.{Ready, Elsewhere, Others}
 use Rattle.state.specs.Stored.{Stored}
 use Rattle.state.proofs.Own.{recordSlot, Fits, fits}
+use Rattle.state.specs.Frame.{Apart}
 
 -- slots that mean the same count for the same
 pub sum-same : (ps qs : List PartReq) (a n : ℕ) → ((j : ℕ) → j < n → getD ps (a + j) none ≡ getD qs (a + j) none) → sumFrom ps a n ≡ sumFrom qs a n
@@ -58,16 +59,27 @@ module _ {t : List ℕ} {f at : ℕ} where
       still-read m (o .long)
       (λ k h. o .same k (record { no-total = omega arith; no-record = λ e l z. omega arith; no-context = λ i l z. omega arith }))
 
+  -- slots that are kept are kept apart
+  pub others-apart : {s rs u us : List ℕ} → Others t f at s rs u us → Apart t f at s rs u us
+  others-apart o = record { long = o .long; same = λ k l e. o .same k e }
+
+  pub apart-trans : {s rs u us v vs : List ℕ} → Apart t f at s rs u us → Apart t f at u us v vs → Apart t f at s rs v vs
+  apart-trans a b = record { long = b .long ∙ a .long; same = λ k l e. b .same k l e ∙ a .same k l e }
+
   -- the totals
-  pub others-totals : {s rs u us : List ℕ} → Fits t f → stackSlot ≤ at → Others t f at s rs u us → totalsSum (read u us) ≡ totalsSum (read s rs)
-  others-totals {s} {rs} {u} {us} room low o =
+  pub apart-totals : {s rs u us : List ℕ} → Fits t f → stackSlot ≤ at → Apart t f at s rs u us → totalsSum (read u us) ≡ totalsSum (read s rs)
+  apart-totals {s} {rs} {u} {us} room low o =
       rw (
         sum-same (read u us) (read s rs) totalsSlot maxItems (λ j l. kept (totalsSlot + j) (omega arith) (omega arith)),
         sum-same (read u us) (read s rs) functionsSlot (4 * maxFunctions) (λ j l. kept (functionsSlot + j) (omega arith) (omega arith)),
       )
     where
       kept : (k : ℕ) → totalsSlot ≤ k → k < stackSlot → getD (read u us) k none ≡ getD (read s rs) k none
-      kept k a b = o .same k (record { no-total = omega arith; no-record = λ e l z. omega arith; no-context = λ i l z. omega arith })
+      kept k a b =
+          o .same k (omega arith) (record { no-total = omega arith; no-record = λ e l z. omega arith; no-context = λ i l z. omega arith })
+
+  pub others-totals : {s rs u us : List ℕ} → Fits t f → stackSlot ≤ at → Others t f at s rs u us → totalsSum (read u us) ≡ totalsSum (read s rs)
+  others-totals room low o = apart-totals room low (others-apart o)
 
 -- what 16 counts
 pub count-is : (t : List ℕ) (f at held : ℕ) (ps : List PartReq) (rest : Rest) (v sum : ℕ) → sum ≡ sumIn t f ps → totalPieces (rest .functions) ≡ totalsSum ps

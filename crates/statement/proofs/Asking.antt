@@ -3,18 +3,17 @@ use Prim.Native.Nat.{ℕ, zero, suc, _<_, _≤_}
 use native.Mathlib.Omega.{arith}
 use mathlib.Core.Path.{_≡_, refl, sym, subst, _∙_}
 use mathlib.Core.Bool.{Bool, false}
-use mathlib.Core.List.{List, [], _∷_}
+use mathlib.Core.List.{List}
 use mathlib.Core.Option.{Option, some, none as nothing}
 use lib.ListN.{getD}
 use borrow.Author.Tests.{eq-eqb, ne-eqb}
 use Rattle.field.specs.Limits.{absent}
-use Rattle.part.specs.PartReq.{PartReq, all, none, over, entries}
+use Rattle.part.specs.PartReq.{PartReq, over}
 use Rattle.part.specs.Store.{part}
 use Rattle.module.specs.Decode.{optionOf}
 use Rattle.module.specs.Tables.{moduleOf}
-use Rattle.context.specs.RequiredContext.{pieces}
 use Rattle.valid.specs.Valid.{MaybeBelow}
-use Rattle.walk.specs.State.{Records, State, Out, went, Walk, _>>_, recordPieces, functionPieces, totalPieces}
+use Rattle.walk.specs.State.{State, Out, went, Walk, _>>_}
 use Rattle.walk.specs.Expression.{addExpression}
 use Rattle.walk.specs.Statement.{askOptional}
 use Rattle.walk.specs.Statement as walk
@@ -31,30 +30,10 @@ use Rattle.state.specs.declared.answer.Place.{Place}
 use Rattle.state.specs.declared.answer.Walked.{Walked}
 use Rattle.state.specs.declared.answer.Walked.the-variants.{Went, Halt}
 use Rattle.state.specs.declared.frame.Frame.{Frame}
-use Rattle.state.proofs.Others.{others-same, others-trans, others-still, others-totals, ready-fits}
+use Rattle.state.proofs.Others.{others-same, others-trans, others-still, others-totals, ready-fits, others-apart, apart-trans}
+use Rattle.state.proofs.Rests.{someRest, rest-counts}
 use Rattle.expression.specs.Walks.{Walks}
 use Rattle.statement.specs.Asks.{Opening, Open, Going, Goes, Asked, maybeAsk, answerOf}
-use Rattle.statement.proofs.Placed.{others-apart, apart-trans}
-
--- there are totals that count for any number
-abbrev ones : ℕ → Records
-ones zero = []
-ones (suc n) = some all ∷ ones n
-
-ones-count : (n : ℕ) → recordPieces (ones n) ≡ n
-unfolding recordPieces entries
-ones-count zero = refl
-ones-count (suc n) = omega (arith, ones-count n)
-
-abbrev some-rest : ℕ → Rest
-some-rest n = record {
-  marks = [];
-  functions = some (record { marks = []; context = record { globals = none; locals = none; args = none; retval = none }; exprs = ones n }) ∷ [];
-}
-
-rest-counts : (n : ℕ) → totalPieces (some-rest n .functions) ≡ n
-unfolding totalPieces functionPieces pieces entries
-rest-counts n = omega (arith, ones-count n)
 
 -- the slots that a statement asks with have parts within the limits
 pub slot-wants : {s rs : List ℕ} → Memory s rs → (k : ℕ) → k ≤ returned → Wants s rs (wantOf k)
@@ -92,7 +71,7 @@ module _ {bytes t s rs : List ℕ} {fr : Frame} {before : Walked} where
   ask-went {tally} e k {r} {u} {us} is o l w =
       let ready = open-went is o in
       record {
-        opens = opens-after r (w .by (some-rest (totalsSum (read s rs))) (rest-counts (totalsSum (read s rs))));
+        opens = opens-after r (w .by (someRest (totalsSum (read s rs))) (rest-counts (totalsSum (read s rs))));
         by = λ z zs rest total m h g.
             let x = subst (λ (b : Walked). Going bytes t z zs fr rest total b s rs) is (g .by) in
             let still = others-still (ready .low) m (x .others) in

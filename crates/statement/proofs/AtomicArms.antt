@@ -42,7 +42,7 @@ use Rattle.state.specs.declared.answer.Place.the-variants as place
 use Rattle.state.specs.declared.answer.Walked.{Walked}
 use Rattle.state.specs.declared.answer.Walked.the-variants.{Went}
 use Rattle.state.specs.declared.frame.Frame as declared
-use Rattle.state.proofs.Others.{others-same}
+use Rattle.state.proofs.Others.{others-same, others-apart, apart-trans}
 use Rattle.target.specs.declared.resolve.Target as resolve
 use Rattle.target.proofs.Checking.{need-fine}
 use Rattle.statement.specs.Leaf.{leafReq, Arm, Leaves}
@@ -51,7 +51,6 @@ use Rattle.statement.specs.Aim.{Aiming, Aimed, AimIs, Aims}
 use Rattle.statement.specs.Aside.{asideField, asideSlots, someField, Loading}
 use Rattle.statement.specs.declared.aim.Aim.{Aim}
 use Rattle.statement.specs.declared.aim.Aim.the-variants as aims
-use Rattle.statement.proofs.Placed.{others-apart, apart-trans}
 use Rattle.statement.proofs.Holding.{Holdable, hold-ready, hold-state, hold-totals, hold-apart}
 use Rattle.statement.proofs.Asking.{begins, began, ends}
 use Rattle.statement.proofs.Aiming.{kept-ready}

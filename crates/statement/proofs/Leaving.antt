@@ -11,15 +11,15 @@ use Rattle.walk.specs.State.{State, went, withContext}
 use Rattle.walk.specs.Statement.{FunctionWalk, BlockWalk, addStatement}
 use Rattle.memory.specs.Memory.{read, contextAt}
 use Rattle.memory.specs.Stretches.{fourSet}
-use Rattle.memory.proofs.Runs.{copy-read, four-memory}
+use Rattle.memory.proofs.Runs.{copy-read, four-memory, four-long}
 use Rattle.state.specs.State.{Rest, stateOf}
 use Rattle.state.specs.Frame.{Begun, frameOf}
 use Rattle.state.specs.declared.answer.Answered.the-variants.{Went, Halt}
 use Rattle.state.specs.declared.answer.Place.the-variants as place
 use Rattle.state.specs.declared.frame.Frame.{Frame}
-use Rattle.state.proofs.Others.{others-same}
+use Rattle.state.proofs.Others.{others-same, others-apart}
 use Rattle.statement.specs.Leaf.{leafReq, Leaves}
-use Rattle.statement.proofs.Placed.{Placed, four-long, placed-state, placed-ready, placed-others, others-apart}
+use Rattle.statement.proofs.Placed.{Placed, placed-state, placed-ready, placed-others}
 
 module _ {bytes t s rs : List ℕ} {fr : Frame} {sum : ℕ} (b : Begun bytes t s rs fr sum) (visits : ℕ) where
   base-inside : fr .base + 4 ≤ length rs

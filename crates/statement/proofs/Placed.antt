@@ -3,7 +3,7 @@ use Prim.Native.Nat.{ℕ, _+_, _-_, _*_, _<_, _≤_}
 use native.Mathlib.Omega.{arith}
 use mathlib.Core.Path.{_≡_, sym, ap, _∙_}
 use mathlib.Core.List.{List}
-use lib.ListN.{length, getD, set, length-set}
+use lib.ListN.{length, getD, set}
 use Rattle.field.specs.Limits.{maxFunctions}
 use Rattle.part.specs.PartReq.{PartReq, none}
 use Rattle.part.specs.StoreLimits.{entriesCap}
@@ -14,10 +14,9 @@ use Rattle.memory.specs.Layout.{globalsSlot, exprsSlot, totalsSlot, functionsSl
 use Rattle.memory.specs.Memory.{read, sumFrom, counted, contextAt, withContext, Memory}
 use Rattle.memory.proofs.Slots.{read-long}
 use Rattle.memory.proofs.Records.{records-outside}
-use Rattle.memory.proofs.Runs.{four-outside, context-put, sum-context}
+use Rattle.memory.proofs.Runs.{four-outside, context-put, sum-context, four-long}
 use Rattle.state.specs.State.{Rest, recordsIn, totalsSum, stateOf}
 use Rattle.state.specs.Ready.{Ready, Others}
-use Rattle.state.specs.Frame.{Apart}
 use Rattle.state.proofs.Own.{Fits}
 use Rattle.state.proofs.Others.{sum-same, ready-fits}
 
@@ -26,13 +25,6 @@ pub record Placed (s rs : List ℕ) (at : ℕ) (c : RequiredContext) (u us : Lis
   pub memory : Memory u us
   pub reads : read u us ≡ withContext (read s rs) at c
   pub long : length us ≡ length rs
-
-pub four-long : {A : Type 0} (xs : List A) (at : ℕ) (a b c d : A) → length (set (set (set (set xs at a) (at + 1) b) (at + 2) c) (at + 3) d) ≡ length xs
-four-long xs at a b c d =
-    length-set (set (set (set xs at a) (at + 1) b) (at + 2) c) (at + 3) d
-    ∙ length-set (set (set xs at a) (at + 1) b) (at + 2) c
-    ∙ length-set (set xs at a) (at + 1) b
-    ∙ length-set xs at a
 
 -- the slots
 module _ (t : List ℕ) (f at : ℕ) (ps : List PartReq) (c : RequiredContext) (room : Fits t f) (low : stackSlot ≤ at) (high : at + 4 ≤ length ps) where
@@ -114,10 +106,3 @@ module _ {bytes t s rs : List ℕ} {f at held sum : ℕ} (r : Ready bytes t s rs
         ap (λ (ps : List PartReq). getD ps k none) (d .reads)
         ∙ outside t f at (read s rs) c (ready-fits r) (r .low) high k (λ j l z. e .no-context j l (sym z));
   }
-
--- slots that are kept are kept apart
-pub others-apart : {t : List ℕ} {f at : ℕ} {s rs u us : List ℕ} → Others t f at s rs u us → Apart t f at s rs u us
-others-apart o = record { long = o .long; same = λ k l e. o .same k e }
-
-pub apart-trans : {t : List ℕ} {f at : ℕ} {s rs u us v vs : List ℕ} → Apart t f at s rs u us → Apart t f at u us v vs → Apart t f at s rs v vs
-apart-trans a b = record { long = b .long ∙ a .long; same = λ k l e. b .same k l e ∙ a .same k l e }

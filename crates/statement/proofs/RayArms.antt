@@ -37,7 +37,7 @@ use Rattle.state.specs.declared.answer.Place.the-variants as place
 use Rattle.state.specs.declared.answer.Walked.{Walked}
 use Rattle.state.specs.declared.answer.Walked.the-variants.{Went}
 use Rattle.state.specs.declared.frame.Frame as declared
-use Rattle.state.proofs.Others.{others-same}
+use Rattle.state.proofs.Others.{others-same, others-apart}
 use Rattle.target.specs.declared.resolve.Target as resolve
 use Rattle.statement.specs.Leaf.{leafReq, Arm, Leaves}
 use Rattle.statement.specs.Asks.{Open, Asked, maybeAsk, answerOf}
@@ -45,7 +45,6 @@ use Rattle.statement.specs.Aim.{Aiming, Aimed, AimIs, Aims}
 use Rattle.statement.specs.Rays.{RayKind, query, load, ballot, gather, collective, Ray, gatherFields, rayFields, RayBelow}
 use Rattle.statement.specs.declared.aim.Aim.{Aim}
 use Rattle.statement.specs.declared.aim.Aim.the-variants as aims
-use Rattle.statement.proofs.Placed.{others-apart}
 use Rattle.statement.proofs.Asking.{begins, began, ends, optional-is}
 use Rattle.statement.proofs.Aiming.{kept-ready}
 use Rattle.statement.proofs.Uses.{arm-uses}

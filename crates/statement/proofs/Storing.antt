@@ -24,7 +24,7 @@ use Rattle.memory.proofs.Slots.{kept-read}
 use Rattle.state.specs.State.{stateOf}
 use Rattle.state.specs.Frame.{frameOf}
 use Rattle.state.specs.declared.frame.Frame as declared
-use Rattle.state.proofs.Others.{others-same}
+use Rattle.state.proofs.Others.{others-same, others-apart, apart-trans}
 use Rattle.target.specs.declared.resolve.Target as resolve
 use Rattle.target.proofs.Checking.{need-fine}
 use Rattle.statement.specs.Aim.{Aiming, Aimed, AimIs, Aims}
@@ -33,7 +33,6 @@ use Rattle.statement.specs.declared.aim.Aim.{Aim}
 use Rattle.statement.specs.declared.aim.Aim.the-variants as aims
 use Rattle.statement.specs.declared.store.Need.{Need}
 use Rattle.statement.specs.declared.store.Need.the-variants.{Refuse, Nothing, Part}
-use Rattle.statement.proofs.Placed.{others-apart, apart-trans}
 use Rattle.statement.proofs.Aiming.{kept-ready}
 
 -- the definition, once the target is known

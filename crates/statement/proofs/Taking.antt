@@ -25,18 +25,18 @@ use Rattle.memory.specs.Layout.{ask}
 use Rattle.memory.specs.Memory.{read, contextAt}
 use Rattle.memory.specs.Stretches.{fourSet}
 use Rattle.memory.proofs.Slots.{kept-read, kept-memory}
-use Rattle.memory.proofs.Runs.{four-read, four-memory}
+use Rattle.memory.proofs.Runs.{four-read, four-memory, four-long}
 use Rattle.state.specs.State.{stateOf}
 use Rattle.state.specs.Ready.{Ready}
 use Rattle.state.specs.Frame.{frameOf}
 use Rattle.state.specs.declared.frame.Frame as declared
-use Rattle.state.proofs.Others.{others-totals, ready-fits}
+use Rattle.state.proofs.Others.{others-totals, ready-fits, others-apart, apart-trans}
 use Rattle.target.specs.Target.{HasTarget}
 use Rattle.target.specs.declared.resolve.Target.{Target}
 use Rattle.statement.specs.Aim.{piecesAt}
 use Rattle.statement.specs.Stores.{Taking, Takes}
 use Rattle.statement.specs.declared.store.Need.the-variants.{Refuse, Part}
-use Rattle.statement.proofs.Placed.{Placed, four-long, placed-state, placed-ready, placed-others, others-apart, apart-trans}
+use Rattle.statement.proofs.Placed.{Placed, placed-state, placed-ready, placed-others}
 use Rattle.statement.proofs.Holding.{Holdable, hold-inside, hold-ready, hold-state, hold-totals, hold-apart, hold-part}
 use Rattle.statement.proofs.Aiming.{pieces-has, pieces-are}
 

@@ -1,5 +1,5 @@
 -- What the fields of a statement name is there; and a part that is found in a map is no larger than that.
-use Prim.Native.Nat.{ℕ, _≤_}
+use Prim.Native.Nat.{ℕ, _<_, _≤_}
 use native.Mathlib.Omega.{arith}
 use mathlib.Core.Path.{_≡_, refl, subst, _∙_}
 use mathlib.Core.List.{List}
@@ -8,8 +8,8 @@ use Rattle.part.specs.PartReq.{PartReq, all, exist, none, more, entries, Subpar
 use Rattle.part.proofs.Equations.{way, before, after, at, getSubpart-all, getSubpart-exist, getSubpart-none, getSubpart-before, getSubpart-at, getSubpart-after}
 use Rattle.module.specs.Module.{Statement, Kill}
 use Rattle.module.specs.Decode.{statementOf}
-use Rattle.module.specs.Tables.{moduleOf, rowAt}
-use Rattle.access.specs.Access.{operandAt}
+use Rattle.module.specs.Tables.{moduleOf, functionOf, rowAt}
+use Rattle.access.specs.Access.{operandAt, statementRow}
 use Rattle.access.specs.declared.kinded.Kinded.{Kinded}
 use Rattle.access.proofs.Access.{statements-are, statement-at}
 use Rattle.valid.specs.Valid.{UsesBelow, entriesBelow}
@@ -19,14 +19,21 @@ use Rattle.walk.specs.Resolve.{functionAt}
 use Rattle.walk.specs.Marks.{statementAt}
 use Rattle.walk.proofs.Keeps.{Needs}
 use Rattle.state.specs.declared.frame.Frame.{Frame}
+use Rattle.state.specs.Ready.{WasRead}
 use Rattle.statement.specs.Leaf.{Arm}
+
+-- the statement n of f, by its row
+module _ {bytes t : List ℕ} {f : ℕ} (was : WasRead bytes t) (function : f < length (moduleOf bytes t .functions)) {n : ℕ} (there : n < rowAt t f .statements) where
+  pub in-function : n < length (functionOf bytes t f .statements)
+  in-function = omega (arith, there, statements-are t f (rowAt t f) refl bytes)
+
+  pub row-statement : (row : Kinded) → row ≡ statementRow bytes t f n → statementAt (moduleOf bytes t) f n ≡ statementOf (row .kind) (operandAt bytes row)
+  unfolding statementAt functionAt
+  row-statement row is = statement-at bytes t f n (row .kind) row _ Kill function in-function is refl
 
 module _ {bytes t s rs : List ℕ} {fr : Frame} {row : Kinded} {sum : ℕ} (a : Arm bytes t s rs fr row sum) where
   pub arm-statement : statementAt (moduleOf bytes t) (fr .function .0) (fr .statement) ≡ statementOf (row .kind) (operandAt bytes row)
-  unfolding statementAt functionAt
-  arm-statement =
-      statement-at bytes t (fr .function .0) (fr .statement) (row .kind) row _ Kill (a .begun .ready .function)
-      (omega (arith, a .begun .statement, statements-are t (fr .function .0) (rowAt t (fr .function .0)) refl bytes)) (a .is) refl
+  arm-statement = row-statement (a .begun .ready .was-read) (a .begun .ready .function) (a .begun .statement) row (a .is)
 
   -- the expressions that the statement names
   pub arm-uses : (x : Statement) → statementOf (row .kind) (operandAt bytes row) ≡ x → UsesBelow (length (functionAt (moduleOf bytes t) (fr .function .0) .expressions)) (entriesBelow (fr .function .0) (moduleOf bytes t .functions)) x

@@ -1,6 +1,7 @@
 -- `arms::calls::begin_call` meets its contract.
 use native.Mathlib.Omega.{arith}
-use Rattle.arms.proofs.CallBegins.{begin-few, begin-own, begin-weigh, begin-held, begin-loads, begin-asks, begin-enters, begin-tidies, call-begun}
+use Rattle.block.proofs.Nested.{arm-weighs}
+use Rattle.arms.proofs.CallBegins.{begin-few, begin-own, begin-held, begin-loads, begin-asks, begin-enters, begin-tidies, call-begun}
 use borrow.Author.Needs.{needs}
 use Rattle.arms.proofs.calls.begin_call.Statement.{statement}
 use Rattle.arms.proofs.calls.begin_call.Tie as tie
@@ -32,7 +33,7 @@ own-pieces-requires : tie.Need-own-pieces-requires
 own-pieces-requires c κs = begin-own (c .before .before .before .before .before .before .before .before .before .before .before .before .pre)
 
 weigh-requires : tie.Need-weigh-requires
-weigh-requires c κs = begin-weigh (c .before .before .before .before .before .before .before .before .before .before .before .before .before .before .before .pre)
+weigh-requires c κs = arm-weighs (c .before .before .before .before .before .before .before .before .before .before .before .before .before .before .before .pre .arms)
 
 add-held : tie.Need-add-held
 add-held c = omega (arith, begin-held (c .before .before .before .before .before .before .before .before .before .before .before .before .before .before .before .before .before .pre), c .before .weigh .ensures)

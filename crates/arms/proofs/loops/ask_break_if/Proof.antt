@@ -1,5 +1,6 @@
 -- `arms::loops::ask_break_if` meets its contract.
-use Rattle.arms.proofs.Passes.{first-weighs, second-weighs, break-absent, break-fits, break-asks, break-asked}
+use Rattle.block.proofs.Paired.{weighs}
+use Rattle.arms.proofs.Passes.{first-weighs, break-absent, break-fits, break-asks, break-asked}
 use native.Mathlib.Omega.{arith}
 use borrow.Author.Needs.{needs}
 use Rattle.arms.proofs.loops.ask_break_if.Statement.{statement}
@@ -23,7 +24,7 @@ add-weigh : tie.Need-add-weigh
 add-weigh c = search needs
 
 weigh-requires-2 : tie.Need-weigh-requires-2
-weigh-requires-2 c κs = second-weighs (c .before .before .before .before .before .before .before .before .before .before .before .before .pre)
+weigh-requires-2 c κs = weighs (c .before .before .before .before .before .before .before .before .before .before .before .before .pre .branched .standing)
 
 add-held : tie.Need-add-held
 add-held c = let h = break-fits (c .before .before .before .before .before .before .before .before .before .before .before .before .before .pre) (c .before .before .before .weigh .ensures) (c .weigh2 .ensures) in omega (arith, h .0)

@@ -5,7 +5,7 @@ use lib.ListN.{length}
 use native.Mathlib.Omega.{arith}
 use Rattle.call.specs.Calls.{AskedArguments}
 use Rattle.call.proofs.Passing.{arguments-none, arguments-next, arguments-whole}
-use Rattle.call.proofs.Rows.{few-arguments, argument-there}
+use Rattle.call.proofs.Rows.{call-row, few-arguments, argument-there}
 use borrow.Author.Needs.{needs}
 use Rattle.call.proofs.arguments.ask_arguments.Statement.{statement}
 use Rattle.call.proofs.arguments.ask_arguments.Tie as tie
@@ -28,16 +28,16 @@ loop-holds : tie.Need-loop-holds Inv-loop μ-loop
 loop-holds c = (omega arith, (arguments-none (c .before .before .before .before .before .pre), (refl, refl)))
 
 add-expression-operand : tie.Need-add-expression-operand Inv-loop μ-loop
-add-expression-operand c = omega (arith, few-arguments (c .before .before .before .before .before .before .before .pre), c .before .before .operand .ensures, c .loop-test .taken)
+add-expression-operand c = omega (arith, few-arguments (call-row (c .before .before .before .before .before .before .before .pre)), c .before .before .operand .ensures, c .loop-test .taken)
 
 expression-operand-requires : tie.Need-expression-operand-requires Inv-loop μ-loop
 expression-operand-requires c κs = search needs
 
 then-argument-requires : tie.Need-then-argument-requires Inv-loop μ-loop
-then-argument-requires c κs = (c .before .before .before .before .loop .inv .1 .0 .opens, rw (c .before .before .expression-operand .ensures) (argument-there (c .before .before .before .before .before .before .before .before .before .before .pre) (c .before .before .before .before .loop .i) (omega (arith, c .before .before .before .before .before .operand .ensures, c .before .before .before .loop-test .taken))))
+then-argument-requires c κs = (c .before .before .before .before .loop .inv .1 .0 .opens, rw (c .before .before .expression-operand .ensures) (argument-there (call-row (c .before .before .before .before .before .before .before .before .before .before .pre)) (c .before .before .before .before .loop .i) (omega (arith, c .before .before .before .before .before .operand .ensures, c .before .before .before .loop-test .taken))))
 
 add-i : tie.Need-add-i Inv-loop μ-loop
-add-i c = omega (arith, few-arguments (c .before .before .before .before .before .before .before .before .before .before .before .before .before .before .before .pre), c .before .before .before .before .before .before .before .before .before .before .operand .ensures, c .before .before .before .before .before .before .before .before .loop-test .taken)
+add-i c = omega (arith, few-arguments (call-row (c .before .before .before .before .before .before .before .before .before .before .before .before .before .before .before .pre)), c .before .before .before .before .before .before .before .before .before .before .operand .ensures, c .before .before .before .before .before .before .before .before .loop-test .taken)
 
 loop-less : tie.Need-loop-less Inv-loop μ-loop
 loop-less c = omega (arith, c .before .before .before .before .before .before .before .before .loop-test .taken)

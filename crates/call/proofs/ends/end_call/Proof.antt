@@ -1,6 +1,6 @@
 -- `call::ends::end_call` meets its contract. Assumes nothing.
 use native.Mathlib.Omega.{arith}
-use Rattle.call.proofs.Rows.{few-arguments, result-there}
+use Rattle.call.proofs.Rows.{call-row, few-arguments, result-there}
 use Rattle.call.proofs.Ending.{passable-open, end-unasked, end-asked}
 use borrow.Author.Needs.{needs}
 use Rattle.call.proofs.ends.end_call.Statement.{statement}
@@ -20,13 +20,13 @@ operand-requires : tie.Need-operand-requires
 operand-requires c κs = search needs
 
 add-expression-operand : tie.Need-add-expression-operand
-add-expression-operand c = omega (arith, few-arguments (c .before .before .before .before .before .before .before .before .before .before .before .before .before .pre), c .operand .ensures)
+add-expression-operand c = omega (arith, few-arguments (call-row (c .before .before .before .before .before .before .before .before .before .before .before .before .before .pre)), c .operand .ensures)
 
 expression-operand-requires : tie.Need-expression-operand-requires
 expression-operand-requires c κs = search needs
 
 then-maybe-requires : tie.Need-then-maybe-requires
-then-maybe-requires c κs = (passable-open _ (c .before .before .before .before .before .before .before .before .before .ask-arguments .ensures .opens), (rw (c .before .before .expression-operand .ensures, c .before .before .before .operand .ensures) (result-there (c .before .before .before .before .before .before .before .before .before .before .before .before .before .before .before .before .pre)), omega arith))
+then-maybe-requires c κs = (passable-open _ (c .before .before .before .before .before .before .before .before .before .ask-arguments .ensures .opens), (rw (c .before .before .expression-operand .ensures, c .before .before .before .operand .ensures) (result-there (call-row (c .before .before .before .before .before .before .before .before .before .before .before .before .before .before .before .before .pre))), omega arith))
 
 answer-requires : tie.Need-answer-requires
 answer-requires c κs = search needs

@@ -1,17 +1,17 @@
 -- The one proof of the walks of blocks, statements and functions: each need is answered by a law of crates block and arms. A number falls: that of the block among the blocks of its
 -- function, below the numbers of all higher functions.
 use Prim.Native.Nat.{_*_, _+_, ℕ, _<_}
-use Rattle.arms.proofs.AddIf.{if-asked, if-ends, if-few, if-halts, if-paired, if-weighs}
+use Rattle.arms.proofs.AddIf.{if-asked, if-ends, if-few, if-halts, if-paired}
 use Rattle.arms.proofs.ByArm.{emit-arm, emit-asks, holder-kind, if-arm, leaf-asks, leaf-ends, loop-arm, loop-kind, mark-asks, mark-ends, nested-arm, switch-arm}
 use Rattle.arms.proofs.CallSteps.{call-begins, call-ended, call-high, call-leaves, call-own, call-returns, call-stops, call-sum, callee-below, function-enters}
-use Rattle.arms.proofs.Looping.{loop-dropped, loop-drops, loop-ends, loop-fits, loop-halts, loop-paired, loop-pass-halts, loop-passing, loop-turning, loop-weighs}
-use Rattle.arms.proofs.SwitchCases.{CasesGo, began, body-lower, case-ends, case-enters, case-halts, case-limit, cases-begin, cases-next, copy-asks, held-fits, outside-few, switch-asks, switch-whole, weigh-asks}
-use Rattle.arms.proofs.Turns.{turn-goes-on, turn-halts, turn-limits, turn-paired, turn-settles, turn-walked, turns-begin, turns-fit, turns-fit-2, turns-over, turns-weigh, turns-weigh-2}
+use Rattle.arms.proofs.Looping.{loop-dropped, loop-drops, loop-ends, loop-fits, loop-halts, loop-paired, loop-pass-halts, loop-passing, loop-turning}
+use Rattle.arms.proofs.SwitchCases.{CasesGo, began, body-lower, case-ends, case-enters, case-halts, case-limit, cases-begin, cases-next, copy-asks, held-fits, outside-few, switch-asks, switch-whole}
+use Rattle.arms.proofs.Turns.{turn-goes-on, turn-halts, turn-limits, turn-paired, turn-settles, turn-walked, turns-begin, turns-fit, turns-fit-2, turns-over, turns-weigh}
 use Rattle.arms.proofs.Visited.{last-asks, visit-16, visit-17, visit-arms, visit-counting, visit-ends}
 use Rattle.arms.specs.Loops.{TurnsLeft}
 use Rattle.block.proofs.Bodies.{body-asked, body-below, body-enters, function-ends, function-halt, function-halt-2}
 use Rattle.block.proofs.Nested.{arm-high, arm-small, arm-weighs, nested-ends, nested-enters, nested-lower, nested-lowers, nested-stops}
-use Rattle.block.proofs.Paired.{pair-ends, pair-first, pair-halt, pair-halt-2, pair-second, pair-small, pair-weighs}
+use Rattle.block.proofs.Paired.{pair-ends, pair-first, pair-halt, pair-halt-2, pair-second, pair-small, pair-weighs, weighs}
 use Rattle.block.proofs.Statements.{StatementsLeft, all-left, base-copies, base-small, base-weighs, none-left, statement-low, statement-visits, statements-next, statements-stop}
 use Rattle.block.specs.Standing.{stateIn}
 use Rattle.block.specs.Visiting.{blockIn}
@@ -452,7 +452,7 @@ add-if-block-operand-requires-2 : (t : ℕ) → add-if-lts.Need-block-operand-re
 add-if-block-operand-requires-2 t c κs = search needs
 
 add-if-weigh-requires : (t : ℕ) → add-if-lts.Need-weigh-requires (add-if-called t) (add-if-at t) add-if.Post
-add-if-weigh-requires t c κs = if-weighs (c .before .before .before .before .before .before .before .before .before .pre .1 .0) (c .before .before .before .before .before .before .before .before .before .pre .1 .1)
+add-if-weigh-requires t c κs = arm-weighs (c .before .before .before .before .before .before .before .before .before .pre .1 .0)
 
 add-if-add-held : (t : ℕ) → add-if-lts.Need-add-held (add-if-called t) (add-if-at t) add-if.Post
 add-if-add-held t c = omega (arith, if-few (c .before .before .before .before .before .before .before .before .before .before .before .pre .1 .0) (c .before .before .before .before .before .before .before .before .before .before .before .pre .1 .1) (c .before .weigh .ensures))
@@ -488,13 +488,13 @@ add-loop-block-operand-requires-2 : (t : ℕ) → add-loop-lts.Need-block-operan
 add-loop-block-operand-requires-2 t c κs = search needs
 
 add-loop-weigh-requires : (t : ℕ) → add-loop-lts.Need-weigh-requires (add-loop-called t) (add-loop-at t) add-loop.Post
-add-loop-weigh-requires t c κs = loop-weighs (c .before .before .before .before .before .before .before .before .before .pre .1 .0) (c .before .before .before .before .before .before .before .before .before .pre .1 .1)
+add-loop-weigh-requires t c κs = arm-weighs (c .before .before .before .before .before .before .before .before .before .pre .1 .0)
 
 add-loop-add-held : (t : ℕ) → add-loop-lts.Need-add-held (add-loop-called t) (add-loop-at t) add-loop.Post
 add-loop-add-held t c = omega (arith, loop-fits (c .before .before .before .before .before .before .before .before .before .before .before .pre .1 .0) (c .before .before .before .before .before .before .before .before .before .before .before .pre .1 .1) (c .before .weigh .ensures))
 
 add-loop-add-add-pair : (t : ℕ) → add-loop-lts.Need-add-add-pair (add-loop-called t) (add-loop-at t) add-loop.Post
-add-loop-add-add-pair t c = omega (arith, loop-weighs (c .before .before .before .before .before .before .before .before .before .before .before .before .before .before .before .pre .1 .0) (c .before .before .before .before .before .before .before .before .before .before .before .before .before .before .before .pre .1 .1) .1 .0, c .before .before .before .before .before .before .weigh-arg4 .given .0)
+add-loop-add-add-pair t c = omega (arith, arm-weighs (c .before .before .before .before .before .before .before .before .before .before .before .before .before .before .before .pre .1 .0) .1 .0, c .before .before .before .before .before .before .weigh-arg4 .given .0)
 
 add-loop-add-pair-requires : (t : ℕ) → add-loop-lts.Need-add-pair-requires (add-loop-called t) (add-loop-at t) add-loop.Post
 add-loop-add-pair-requires t c κs = (omega (arith, c .before .before .before .before .before .before .before .before .before .before .before .before .before .before .before .pre .0), loop-paired (c .before .before .before .before .before .before .before .before .before .before .before .before .before .before .before .pre .1 .0) (c .before .before .before .before .before .before .before .before .before .before .before .before .before .before .before .pre .1 .1) (c .before .before .before .before .before .weigh .ensures) (c .before .before .before .before .before .before .before .before .before .before .before .block-operand .ensures) (c .before .before .before .before .before .before .before .before .before .before .block-operand2 .ensures))
@@ -635,7 +635,7 @@ abbrev add-switch-μ-loop : add-switch-lts.MeasureT-loop
 add-switch-μ-loop bytes t types places cells₀ slots₀ open₀ totals₀ fr row visits sum f at outside v₀ m₀ any₀ n₀ cells slots «open» totals v m any n = n
 
 add-switch-weigh-requires : (t : ℕ) → add-switch-lts.Need-weigh-requires (add-switch-called t) (add-switch-at t) add-switch.Post add-switch-Inv-loop add-switch-μ-loop
-add-switch-weigh-requires t c κs = weigh-asks (c .before .before .before .before .before .before .before .pre .1 .0 .begins .standing)
+add-switch-weigh-requires t c κs = arm-weighs (c .before .before .before .before .before .before .before .pre .1 .0)
 
 add-switch-add-outside : (t : ℕ) → add-switch-lts.Need-add-outside (add-switch-called t) (add-switch-at t) add-switch.Post add-switch-Inv-loop add-switch-μ-loop
 add-switch-add-outside t c = omega (arith, outside-few (c .before .before .before .before .before .before .before .before .before .pre .1 .0) (c .before .weigh .ensures))
@@ -662,7 +662,7 @@ add-switch-add-weigh : (t : ℕ) → add-switch-lts.Need-add-weigh (add-switch-c
 add-switch-add-weigh t c = omega (arith, copy-asks (c .before .before .before .before .before .before .before .before .before .before .before .before .before .before .before .before .before .before .before .pre .1 .0) .1, c .before .before .before .before .before .before .before .before .before .before .before .before .weigh-arg4 .given .0)
 
 add-switch-weigh-requires-2 : (t : ℕ) → add-switch-lts.Need-weigh-requires-2 (add-switch-called t) (add-switch-at t) add-switch.Post add-switch-Inv-loop add-switch-μ-loop
-add-switch-weigh-requires-2 t c κs = weigh-asks (c .before .before .before .before .before .before .loop .inv .by _ _ (began (c .before .before .before .before .before .before .before .before .before .before .before .before .before .before .before .before .before .before .before .pre .1 .0) (c .before .before .before .before .before .before .before .before .before .before .before .before .before .before .before .before .before .before .before .pre .1 .1) (c .before .before .before .before .before .before .before .before .copy-context .ensures) (c .before .before .before .before .before .before .before .before .before .before .before .weigh .ensures)) .switched .standing)
+add-switch-weigh-requires-2 t c κs = weighs (c .before .before .before .before .before .before .loop .inv .by _ _ (began (c .before .before .before .before .before .before .before .before .before .before .before .before .before .before .before .before .before .before .before .pre .1 .0) (c .before .before .before .before .before .before .before .before .before .before .before .before .before .before .before .before .before .before .before .pre .1 .1) (c .before .before .before .before .before .before .before .before .copy-context .ensures) (c .before .before .before .before .before .before .before .before .before .before .before .weigh .ensures)) .switched .standing)
 
 add-switch-add-held : (t : ℕ) → add-switch-lts.Need-add-held (add-switch-called t) (add-switch-at t) add-switch.Post add-switch-Inv-loop add-switch-μ-loop
 add-switch-add-held t c = let G = began (c .before .before .before .before .before .before .before .before .before .before .before .before .before .before .before .before .before .before .before .before .pre .1 .0) (c .before .before .before .before .before .before .before .before .before .before .before .before .before .before .before .before .before .before .before .before .pre .1 .1) (c .before .before .before .before .before .before .before .before .before .copy-context .ensures) (c .before .before .before .before .before .before .before .before .before .before .before .before .weigh .ensures) in omega (arith, held-fits (c .before .before .before .before .before .before .before .before .before .before .before .before .before .before .before .before .before .before .before .before .pre .1 .0) (c .before .before .before .before .before .before .before .loop .inv .by _ _ G) (c .before .before .before .before .before .before .before .before .before .before .before .before .before .before .before .before .before .before .before .before .pre .1 .1) (G .outside-is) (c .weigh2 .ensures))
@@ -725,7 +725,7 @@ add-turns-add-weigh : (t : ℕ) → add-turns-lts.Need-add-weigh (add-turns-call
 add-turns-add-weigh t c = omega (arith, turns-weigh (c .before .before .before .before .before .before .before .before .before .before .before .before .before .pre .1) .1 .0, c .before .before .before .before .before .before .weigh-arg4 .given .0)
 
 add-turns-weigh-requires-2 : (t : ℕ) → add-turns-lts.Need-weigh-requires-2 (add-turns-called t) (add-turns-at t) add-turns.Post add-turns-Inv-loop add-turns-μ-loop
-add-turns-weigh-requires-2 t c κs = turns-weigh-2 (c .before .before .before .before .before .before .before .before .before .before .before .before .before .pre .1)
+add-turns-weigh-requires-2 t c κs = weighs (c .before .before .before .before .before .before .before .before .before .before .before .before .before .pre .1 .standing)
 
 add-turns-add-held-2 : (t : ℕ) → add-turns-lts.Need-add-held-2 (add-turns-called t) (add-turns-at t) add-turns.Post add-turns-Inv-loop add-turns-μ-loop
 add-turns-add-held-2 t c = omega (arith, turns-fit-2 (c .before .before .before .before .before .before .before .before .before .before .before .before .before .before .pre .1) (c .before .before .before .before .before .before .weigh .ensures) (c .weigh2 .ensures))
@@ -734,10 +734,10 @@ add-turns-loop-holds : (t : ℕ) → add-turns-lts.Need-loop-holds (add-turns-ca
 add-turns-loop-holds t c = turns-begin (c .before .before .before .before .before .before .before .before .before .before .before .before .before .before .pre .1)
 
 add-turns-add-add-pair : (t : ℕ) → add-turns-lts.Need-add-add-pair (add-turns-called t) (add-turns-at t) add-turns.Post add-turns-Inv-loop add-turns-μ-loop
-add-turns-add-add-pair t c = omega (arith, turns-weigh-2 (c .before .before .before .before .before .before .before .before .before .before .before .before .before .before .before .before .before .before .before .before .pre .1) .1 .0, c .before .before .before .before .before .before .before .before .before .before .before .before .before .weigh-arg4 .given .0)
+add-turns-add-add-pair t c = omega (arith, weighs (c .before .before .before .before .before .before .before .before .before .before .before .before .before .before .before .before .before .before .before .before .pre .1 .standing) .1 .0, c .before .before .before .before .before .before .before .before .before .before .before .before .before .weigh-arg4 .given .0)
 
 add-turns-add-add-pair-2 : (t : ℕ) → add-turns-lts.Need-add-add-pair-2 (add-turns-called t) (add-turns-at t) add-turns.Post add-turns-Inv-loop add-turns-μ-loop
-add-turns-add-add-pair-2 t c = omega (arith, turns-weigh-2 (c .before .before .before .before .before .before .before .before .before .before .before .before .before .before .before .before .before .before .before .before .pre .1) .1 .0, c .before .before .before .before .before .before .before .before .before .before .before .before .before .weigh-arg4 .given .0)
+add-turns-add-add-pair-2 t c = omega (arith, weighs (c .before .before .before .before .before .before .before .before .before .before .before .before .before .before .before .before .before .before .before .before .pre .1 .standing) .1 .0, c .before .before .before .before .before .before .before .before .before .before .before .before .before .weigh-arg4 .given .0)
 
 add-turns-add-pair-requires : (t : ℕ) → add-turns-lts.Need-add-pair-requires (add-turns-called t) (add-turns-at t) add-turns.Post add-turns-Inv-loop add-turns-μ-loop
 add-turns-add-pair-requires t c κs = (omega (arith, c .before .before .before .before .before .before .before .before .before .before .before .before .before .before .before .before .before .before .before .before .pre .0), turn-paired (c .before .before .before .before .before .before .before .before .before .before .before .before .before .before .before .before .before .before .before .before .pre .1) (c .before .before .before .before .before .before .before .before .before .before .before .before .weigh .ensures) (c .before .before .before .before .before .before .weigh2 .ensures) (c .before .before .before .before .before .loop .inv))

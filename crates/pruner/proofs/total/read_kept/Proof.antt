@@ -11,7 +11,7 @@ use Rattle.pruner.proofs.total.read_kept.Lts as lts
 use Rattle.access.proofs.function.arguments.Reads as arguments-reads
 use Rattle.access.proofs.function.locals.Reads as locals-reads
 use Rattle.access.proofs.whole.globals.Reads as globals-reads
-use Rattle.block.proofs.total.records_of.Reads as records-of-reads
+use Rattle.leave.proofs.leave.records_of.Reads as records-of-reads
 use Rattle.marks.proofs.places.start.Reads as start-reads
 use Rattle.pruner.proofs.kept.read_context.Reads as read-context-reads
 use Rattle.pruner.proofs.kept.read_records.Reads as read-records-reads

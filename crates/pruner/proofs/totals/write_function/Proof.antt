@@ -6,7 +6,7 @@ use Rattle.pruner.proofs.totals.write_function.Statement.{statement}
 use Rattle.pruner.proofs.totals.write_function.Tie as tie
 use Rattle.pruner.proofs.totals.write_function.Reads as reads
 use Rattle.pruner.proofs.totals.write_function.Lts as lts
-use Rattle.block.proofs.total.records_of.Reads as records-of-reads
+use Rattle.leave.proofs.leave.records_of.Reads as records-of-reads
 use Rattle.field.proofs.field.write.Reads as write-reads
 use Rattle.marks.proofs.places.start.Reads as start-reads
 use Rattle.pruner.proofs.write.write_total.Reads as write-total-reads

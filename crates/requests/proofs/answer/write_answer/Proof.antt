@@ -7,7 +7,7 @@ use Rattle.requests.proofs.answer.write_answer.Statement.{statement}
 use Rattle.requests.proofs.answer.write_answer.Tie as tie
 use Rattle.requests.proofs.answer.write_answer.Reads as reads
 use Rattle.requests.proofs.answer.write_answer.Lts as lts
-use Rattle.block.proofs.total.records_of.Reads as records-of-reads
+use Rattle.leave.proofs.leave.records_of.Reads as records-of-reads
 use Rattle.field.proofs.field.write_word.Reads as write-word-reads
 use Rattle.pruner.proofs.write.write_lists.Reads as write-lists-reads
 use Rattle.pruner.proofs.write.write_records.Reads as write-records-reads
