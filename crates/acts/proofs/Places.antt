@@ -95,15 +95,15 @@ module _ {bytes t : List ℕ} {f : ℕ} {types alike paths : List ℕ} (w : Worl
   world-framing =
       let g = w .given in
       record {
-        read = g .read;
-        there = g .there;
+        read = g .of .read;
+        there = g .of .there;
         same = g .values .same;
         lower = g .shapes .lower;
-        sized = subst AllSized (g .values .same) (all-sized (moduleOf bytes t) (valid bytes (moduleOf bytes t) (g .read)));
+        sized = subst AllSized (g .values .same) (all-sized (moduleOf bytes t) (valid bytes (moduleOf bytes t) (g .of .read)));
       }
 
   pub world-few : length (functionOf bytes t f .expressions) ≤ 1024
-  world-few = few bytes t f (w .given .read) (w .given .there)
+  world-few = few bytes t f (w .given .of .read) (w .given .of .there)
 
   pub target-placed : (e : ExpressionHandle) → e < length (functionOf bytes t f .expressions) → isPath (scopeAt bytes t f) e ≡ true → Placed (scopeAt bytes t f) (target (pathOf (scopeAt bytes t f) e))
   target-placed e l h = landed (scopeAt bytes t f) (w .read) (w .judged) e l h .place

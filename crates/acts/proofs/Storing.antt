@@ -168,8 +168,8 @@ module _ {bytes tab : List ℕ} {f : ℕ} {types alike paths s rs path : List �
     pub store-pointer : Pointer bytes tab f p
     unfolding fitsStatement
     store-pointer = record {
-      read = g .world .given .read;
-      function = g .world .given .there;
+      read = g .world .given .of .read;
+      function = g .world .given .of .there;
       there = h .pointer;
       path = both-true (isPath (scopeAt bytes tab f) p) _ (both-true (isValue (scopeAt bytes tab f) v) _ (h .fits) .1) .0;
     }

@@ -66,7 +66,7 @@ module _ {bytes t : List ℕ} {f : ℕ} {types alike paths firsts s rs path : Li
       uses : UsesBelow (length (F .expressions)) (entriesBelow f (moduleOf bytes t .functions)) (Store (o 0) (o 1))
       uses =
           subst (λ (k : Statement). UsesBelow (length (F .expressions)) (entriesBelow f (moduleOf bytes t .functions)) k) (decoded (r .statement) (r .is) 12 h)
-          (function-valid bytes t f (g .world .given .read) (g .world .given .there) .parts .each-statement l Kill (in-function (r .statement)) .uses)
+          (function-valid bytes t f (g .world .given .of .read) (g .world .given .of .there) .parts .each-statement l Kill (in-function (r .statement)) .uses)
 
   -- What it comes to
   module _ (marks : List ℕ) where

@@ -47,7 +47,7 @@ module _ {bytes t : List ℕ} {f : ℕ} {types alike paths firsts s rs path : Li
 
   condition-there : o 0 < length (F .expressions)
   unfolding statementOf
-  condition-there = uses-of r 2 h (g .world .given .read) (g .world .given .there)
+  condition-there = uses-of r 2 h (g .world .given .of .read) (g .world .given .of .there)
 
   pub if-copy : (n - 1 < length rs) × (n < length rs)
   if-copy = (omega arith, omega arith)

@@ -54,7 +54,7 @@ module _ {bytes t : List ℕ} {f : ℕ} {types alike paths firsts s rs path : Li
 
   test-there : MaybeBelow (length (F .expressions)) (optionOf (o 2))
   unfolding statementOf
-  test-there = uses-of r 4 h (g .world .given .read) (g .world .given .there)
+  test-there = uses-of r 4 h (g .world .given .of .read) (g .world .given .of .there)
 
   module _ {v : ℕ} (j : v ≡ o 2) where
     pub begin-asks : BeginGiven S l s rs n v

@@ -170,7 +170,7 @@ module _ {bytes t : List ℕ} {f : ℕ} {types alike paths firsts s rs path : Li
 
     selector-there : o 0 < length (F .expressions)
     unfolding statementOf
-    selector-there = uses-of r 3 h (g .world .given .read) (g .world .given .there) .0
+    selector-there = uses-of r 3 h (g .world .given .of .read) (g .world .given .of .there) .0
 
     module _ {us : List ℕ} (c : us ≡ set rs n 2) {y : Exits} (e : y ≡ caseExits n x) where
       first-long : length us ≡ length rs

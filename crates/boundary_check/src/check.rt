@@ -1,66 +1,20 @@
 // From the bytes of a module, a request, a report and a context to the check's number. Nothing of theirs is written.
 use checking::words::REFUSAL;
-use context::remove::TYPE_WORDS;
-use field::limits::MAX_EXPRESSIONS;
-use field::limits::MAX_STATEMENTS;
-use field::limits::MAX_TYPES;
 use memory::layout::CELLS;
 use memory::layout::SLOTS;
 use module::tables::WORDS;
 use reading::read::HELD;
 use reading::read::SEEN;
 use reading::read::read;
-use verdict::verdict::check_read;
+use verdict::check::check_in;
 ghost use mathlib.Core.Path.{_≡_};
 ghost use Prim.Native.Nat.{_≤_};
 ghost use lib.ListN.{length};
 ghost use Rattle.module.specs.Scan.{values};
-ghost use Rattle.module.specs.Tables.{words, maxItems, moduleOf};
-ghost use Rattle.request.specs.Request.{requestOf};
-ghost use Rattle.request.specs.Context.{contextOf};
+ghost use Rattle.module.specs.Tables.{words, maxItems};
 ghost use Rattle.reading.specs.Reads.{Reads};
-ghost use Rattle.state.specs.Ready.{WasRead};
-ghost use Rattle.checking.specs.Check.{meaningBy, answerTo, check};
+ghost use Rattle.checking.specs.Check.{check};
 ghost use Rattle.checking.specs.Word.{checkWord};
-
-// A path has an index for each expression, and two more.
-const PATH: usize = MAX_EXPRESSIONS + 2;
-
-// Of a module that was read, with tables of its own.
-fn check_in(
-    bytes: &[u8],
-    t: &[u32; WORDS],
-    cells: &mut [u32; CELLS],
-    slots: &mut [u32; SLOTS],
-    request: &[u8],
-    report: &[u8],
-    context: &[u8],
-) -> u64
-    requires { ⌜ WasRead (now bytes) (now t) ⌝ }
-    ensures { λ r. ⌜ r ≡ checkWord (answerTo (meaningBy (moduleOf (now (bytes .entry)) (now (t .entry))) (now (report .entry)) (requestOf (now (request .entry))) (contextOf (now (context .entry))))) ⌝ }
-{
-    let mut rows: [u32; TYPE_WORDS * MAX_TYPES] = [0; TYPE_WORDS * MAX_TYPES];
-    let mut alike: [u32; MAX_TYPES] = [0; MAX_TYPES];
-    let mut held: [u32; MAX_TYPES] = [0; MAX_TYPES];
-    let mut paths: [u32; MAX_EXPRESSIONS] = [0; MAX_EXPRESSIONS];
-    let mut firsts: [u32; MAX_STATEMENTS] = [0; MAX_STATEMENTS];
-    let mut path: [u32; PATH] = [0; PATH];
-    check_read(
-        bytes,
-        t,
-        &mut rows,
-        &mut alike,
-        &mut held,
-        &mut paths,
-        &mut firsts,
-        cells,
-        slots,
-        &mut path,
-        request,
-        report,
-        context,
-    )
-}
 
 // The module is read in the memory of the rounds.
 fn read_file(bytes: &[u8], t: &mut [u32], cells: &mut [u32], slots: &mut [u32]) -> u32

@@ -15,12 +15,13 @@ use Rattle.module.specs.Marks.{markCount, marksBefore}
 use Rattle.module.specs.Tables.{functionOf, moduleOf}
 use Rattle.access.specs.Access.{statementAt}
 use Rattle.access.proofs.Access.{function-is, statement-is}
+use Rattle.valid.specs.There.{There}
 use Rattle.walk.specs.Resolve.{functionAt}
 use Rattle.walk.specs.Marks.{stretch}
 use Rattle.marks.specs.Places.{startOf}
 use Rattle.marks.proofs.Fit.{marks-fit, start-suc}
 use Rattle.marks.proofs.Placed.{marks-suc, marks-within, start-within}
-use Rattle.checking.specs.Stretch.{There, Firsts}
+use Rattle.checking.specs.Stretch.{Firsts}
 
 -- the marks of the first s of n statements
 pub record Counted (bytes t : List ℕ) (f n at s : ℕ) : Type 0 where

@@ -11,13 +11,14 @@ use lib.ListN.{length, getD, drop, length-drop}
 use lib.Seq.{drop-cons, drop-nil, take-nil, take-all}
 use borrow.Author.Tests.{lt-ltb, le-ltb, eq-eqb}
 use Rattle.module.specs.Tables.{functionOf, moduleOf}
+use Rattle.valid.specs.There.{There}
 use Rattle.walk.specs.Marks.{stretch}
 use Rattle.marks.specs.Places.{slice, startOf}
 use Rattle.marks.proofs.Write.{slice-long}
 use Rattle.clearance.specs.Judged.{every}
 use Rattle.clearance.specs.Verdict.{hasShape}
 use Rattle.checking.specs.Check.{cutShort}
-use Rattle.checking.specs.Stretch.{There, marksIn, MarksFound}
+use Rattle.checking.specs.Stretch.{marksIn, MarksFound}
 use Rattle.checking.proofs.Counting.{stretch-is}
 
 none-left : (xs : List ℕ) (n : ℕ) → length xs ≤ n → drop n xs ≡ []

@@ -6,18 +6,12 @@ use mathlib.Core.List.{List}
 use lib.ListN.{length, getD}
 use Rattle.module.specs.Module.{Statement}
 use Rattle.module.specs.Marks.{marksBefore}
-use Rattle.module.specs.File.{accepted, readModule}
 use Rattle.module.specs.Tables.{functionOf, moduleOf}
 use Rattle.walk.specs.Marks.{stretch}
 use Rattle.marks.specs.Places.{slice, startOf}
 use Rattle.clearance.specs.Verdict.{hasShape}
 use Rattle.checking.specs.Check.{cutShort}
 use Rattle.checking.specs.declared.shape.MarksAt.{MarksAt}
-
--- the function f of a module that was read
-pub record There (bytes t : List ℕ) (f : ℕ) : Type 0 where
-  pub read : readModule bytes ≡ accepted (moduleOf bytes t)
-  pub there : f < length (moduleOf bytes t .functions)
 
 -- each statement's first mark, in the function's stretch
 pub record Firsts (ss : List Statement) (firsts : List ℕ) : Type 0 where

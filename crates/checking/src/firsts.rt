@@ -5,7 +5,8 @@ use module::handles::FunctionHandle;
 ghost use Prim.Native.Nat.{_≤_};
 ghost use lib.ListN.{length};
 ghost use Rattle.module.specs.Tables.{functionOf};
-ghost use Rattle.checking.specs.Stretch.{There, Firsts};
+ghost use Rattle.valid.specs.There.{There};
+ghost use Rattle.checking.specs.Stretch.{Firsts};
 
 pub fn fill_firsts(bytes: &[u8], t: &[u32], f: FunctionHandle, firsts: &mut [u32])
     requires { ⌜ There (now bytes) (now t) (f .0) × (length (functionOf (now bytes) (now t) (f .0) .statements) ≤ length (now firsts)) ⌝ }

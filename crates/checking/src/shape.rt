@@ -6,10 +6,11 @@ ghost use mathlib.Core.Path.{_≡_};
 ghost use Prim.Native.Nat.{min};
 ghost use lib.Dec.{ltb};
 ghost use Rattle.module.specs.Tables.{moduleOf};
+ghost use Rattle.valid.specs.There.{There};
 ghost use Rattle.walk.specs.Marks.{stretch};
 ghost use Rattle.marks.specs.Places.{startOf};
 ghost use Rattle.clearance.specs.Judged.{every};
-ghost use Rattle.checking.specs.Stretch.{There, MarksFound};
+ghost use Rattle.checking.specs.Stretch.{MarksFound};
 
 // The function's part of the buffer, as far as the buffer goes, and whether the marks there have the function's shape.
 pub struct MarksAt {

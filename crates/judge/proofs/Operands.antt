@@ -58,7 +58,7 @@ module _ {bytes t : List ℕ} {f : ℕ} {types alike paths : List ℕ} (G : Give
   pub type-low : (x : ℕ) → x < n → typeOf S x < length (typesOf types)
   unfolding typeOf typed
   type-low x l =
-      rw (← G .values .same) (function-valid bytes t f (G .read) (G .there) .parts .each-expression x noExpression l .type)
+      rw (← G .values .same) (function-valid bytes t f (G .of .read) (G .of .there) .parts .each-expression x noExpression l .type)
 
   pub alike-types : (x y : ℕ) {a b : ℕ} {r : Bool} → x < n → y < n → a ≡ typeOf S x → b ≡ typeOf S y → r ≡ byTable alike a b → r ≡ alikeIn S (typeOf S x) (typeOf S y)
   alike-types x y l m h k q =
@@ -84,7 +84,7 @@ module _ {bytes t : List ℕ} {f : ℕ} {types alike paths : List ℕ} {e : ℕ}
   o = operandAt bytes row
 
   abbrev valid-here : ExpressionValid (length (moduleOf bytes t .types)) (length (moduleOf bytes t .globals)) (length (F G .arguments)) (length (F G .locals)) e (getD (F G .expressions) e noExpression)
-  valid-here = function-valid bytes t f (G .read) (G .there) .parts .each-expression e noExpression (R .there)
+  valid-here = function-valid bytes t f (G .of .read) (G .of .there) .parts .each-expression e noExpression (R .there)
 
   row-is : (k : ℕ) → row .kind ≡ k → getD (F G .expressions) e noExpression .expression ≡ expressionOf k o
   row-is k h = ap (λ (x : Typed). x .expression) (typed-is bytes t f e noExpression (R .there)) ∙ expression-of bytes t f e k row (R .is) h
@@ -154,7 +154,7 @@ module _ {bytes t : List ℕ} {f : ℕ} {types alike paths : List ℕ} {e : ℕ}
 
       pub global-low : (g < length (typesOf types)) × (a < length (typesOf types))
       global-low =
-          (rw (q, at, ← global-is bytes t (o 0) 0 there-global, ← G .values .same) (valid bytes (moduleOf bytes t) (G .read) .globals (o 0) 0 there-global), own-low)
+          (rw (q, at, ← global-is bytes t (o 0) 0 there-global, ← G .values .same) (valid bytes (moduleOf bytes t) (G .of .read) .globals (o 0) 0 there-global), own-low)
 
       pub fits-global : {r : Bool} → r ≡ not (isPointer (inner (S G) g)) && same (S G) (inner (S G) g) (pointeeType (S G) (inner (S G) a)) → Fits bytes t f e r
       unfolding expressionOf fitsExpression fitsVariable pointee innerOf
@@ -166,7 +166,7 @@ module _ {bytes t : List ℕ} {f : ℕ} {types alike paths : List ℕ} {e : ℕ}
 
       pub local-low : (g < length (typesOf types)) × (a < length (typesOf types))
       local-low =
-          (rw (q, at, ← local-is bytes t f (o 0) 0 there-local, ← G .values .same) (function-valid bytes t f (G .read) (G .there) .parts .each-local (o 0) 0 there-local), own-low)
+          (rw (q, at, ← local-is bytes t f (o 0) 0 there-local, ← G .values .same) (function-valid bytes t f (G .of .read) (G .of .there) .parts .each-local (o 0) 0 there-local), own-low)
 
       pub fits-local : {r : Bool} → r ≡ not (isPointer (inner (S G) g)) && same (S G) (inner (S G) g) (pointeeType (S G) (inner (S G) a)) → Fits bytes t f e r
       unfolding expressionOf fitsExpression fitsVariable pointee innerOf
@@ -180,7 +180,7 @@ module _ {bytes t : List ℕ} {f : ℕ} {types alike paths : List ℕ} {e : ℕ}
         let is : getD (F G .arguments) (o 0) d ≡ d = argument-is bytes t f (o 0) d there ∙ sym (p ∙ ap (argumentAt bytes t f) at) in
         let ty : argumentType (F G .arguments) (o 0) ≡ b .ty .0 = argument-type (F G .arguments) d (o 0) there ∙ ap (λ (y : FunctionArg). y .type) is in
         let low : b .ty .0 < length (typesOf types) =
-        rw (← ap (λ (y : FunctionArg). y .type) is, ← G .values .same) (function-valid bytes t f (G .read) (G .there) .parts .each-argument (o 0) d there .0) in
+        rw (← ap (λ (y : FunctionArg). y .type) is, ← G .values .same) (function-valid bytes t f (G .of .read) (G .of .there) .parts .each-argument (o 0) d there .0) in
         by-kind 9 h (q ∙ rw (v, s, G .shapes .table .is (S G) (G .values .same) (b .ty .0) a low own-low, ty, own))
 
     pub load-low : row .kind ≡ 12 → (x < n G) × (e < n G)

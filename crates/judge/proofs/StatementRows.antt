@@ -63,7 +63,7 @@ module _ {bytes t : List ℕ} {f : ℕ} {types alike paths : List ℕ} (given : 
         let there : v < n given = there-returned (n given) v h l in
         let some-is = rw (ne-eqb (b .ty .0) absent d) at q in
         let ty : b .ty .0 < length (typesOf types) =
-        rw (← given .values .same) (result-low (length (moduleOf bytes t .types)) (functionOf bytes t f .result) some-is (function-valid bytes t f (given .read) (given .there) .result)) in
+        rw (← given .values .same) (result-low (length (moduleOf bytes t .types)) (functionOf bytes t f .result) some-is (function-valid bytes t f (given .of .read) (given .of .there) .result)) in
         let likes = given .shapes .table .is T (given .values .same) (b .ty .0) a ty (omega (arith, ta, type-low given v there)) in
         some-returned T (functionOf bytes t f .result) v h some-is (z ∙ rw (u, s, likes, ta))
 
@@ -77,7 +77,7 @@ module _ {bytes t : List ℕ} {f : ℕ} {types alike paths : List ℕ} (given : 
     uses : (k : ℕ) → row .kind ≡ k → UsesBelow (n given) (entriesBelow f (moduleOf bytes t .functions)) (statementOf k o)
     uses k h =
         subst (UsesBelow (n given) (entriesBelow f (moduleOf bytes t .functions))) (statement-is bytes t f s Kill there ∙ statement-of bytes t f s k row is h)
-        (function-valid bytes t f (given .read) (given .there) .parts .each-statement s Kill there .uses)
+        (function-valid bytes t f (given .of .read) (given .of .there) .parts .each-statement s Kill there .uses)
 
     last-kinds : (j : ℕ) → true ≡ fitsStatement T (statementOf (past 21 j) o)
     unfolding statementOf fitsStatement

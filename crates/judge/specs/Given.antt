@@ -4,10 +4,10 @@ use mathlib.Core.Path.{_≡_}
 use mathlib.Core.Bool.{Bool}
 use mathlib.Core.List.{List}
 use lib.ListN.{length}
-use Rattle.module.specs.File.{accepted, readModule}
 use Rattle.module.specs.Tables.{functionOf, moduleOf}
 use Rattle.access.specs.declared.kinded.Kinded.{Kinded}
 use Rattle.access.specs.Access.{typedAt, operandAt, expressionRow, statementAt}
+use Rattle.valid.specs.There.{There}
 use Rattle.context.specs.Types.{typesOf}
 use Rattle.clearance.specs.Scope.{Scope}
 use Rattle.clearance.specs.Judged.{fitsIndex, fitsExpression, fitsStatement}
@@ -24,8 +24,7 @@ pub record Values (bytes t : List ℕ) (f : ℕ) (types paths : List ℕ) : Type
   pub table : PathTable (functionOf bytes t f .expressions) paths
 
 pub record Given (bytes t : List ℕ) (f : ℕ) (types alike paths : List ℕ) : Type 0 where
-  pub read : readModule bytes ≡ accepted (moduleOf bytes t)
-  pub there : f < length (moduleOf bytes t .functions)
+  pub of : There bytes t f
   pub values : Values bytes t f types paths
   pub shapes : Shapes types alike
 

@@ -123,7 +123,7 @@ module _ {bytes t : List ℕ} {f : ℕ} {types alike paths s rs : List ℕ} {n :
       uses : UsesBelow (length (functionOf bytes t f .expressions)) (entriesBelow f (moduleOf bytes t .functions)) (statementOf 7 o)
       uses =
           subst (λ (z : Statement). UsesBelow (length (functionOf bytes t f .expressions)) (entriesBelow f (moduleOf bytes t .functions)) z) (decoded 7 h)
-          (function-valid bytes t f (g .world .given .read) (g .world .given .there) .parts .each-statement l Kill (g .there) .uses)
+          (function-valid bytes t f (g .world .given .of .read) (g .world .given .of .there) .parts .each-statement l Kill (g .there) .uses)
 
       pub value-fits : fitsStatement S (Return (present v)) ≡ true
       unfolding statementOf

@@ -211,8 +211,8 @@ module _ {bytes t : List ℕ} {f : ℕ} {types alike paths : List ℕ} {e : ℕ}
         let j = subst (λ y. JudgedExpression S e y) (typed-as 12 h) (expression-exactly S e .0 (g .asks .judged .each e (R .there))) in
         rw q
         (record {
-          read = R .given .read;
-          function = R .given .there;
+          read = R .given .of .read;
+          function = R .given .of .there;
           there = omega (arith, operands R 12 h, R .there);
           path = path-exactly S (o 0) .1 (j .loadsPath (o 0) refl);
         })

@@ -108,7 +108,7 @@ module _ {bytes t : List ℕ} {f : ℕ} {types alike paths : List ℕ} (w : Worl
   uses : (k : ℕ) → row .kind ≡ k → UsesBelow (length (functionOf bytes t f .expressions)) (entriesBelow f (moduleOf bytes t .functions)) (statementOf k o)
   uses k h =
       subst (λ (x : Statement). UsesBelow (length (functionOf bytes t f .expressions)) (entriesBelow f (moduleOf bytes t .functions)) x) (decoded k h)
-      (function-valid bytes t f (w .given .read) (w .given .there) .parts .each-statement s Kill l .uses)
+      (function-valid bytes t f (w .given .of .read) (w .given .of .there) .parts .each-statement s Kill l .uses)
 
   pub last-there : {last : ℕ} → row .kind ≡ 0 → last ≡ o 1 → last < length (functionOf bytes t f .expressions)
   unfolding statementOf
@@ -121,8 +121,8 @@ module _ {bytes t : List ℕ} {f : ℕ} {types alike paths : List ℕ} (w : Worl
       let fits : fitsStatement S (statementOf 12 o) ≡ true = subst (λ (x : Statement). fitsStatement S x ≡ true) (statement-of bytes t f s 12 row is h) (w .fit s l) in
       rw q
       record {
-        read = w .given .read;
-        function = w .given .there;
+        read = w .given .of .read;
+        function = w .given .of .there;
         there = uses 12 h .0;
         path = both-true (isPath S (o 0)) _ (both-true (isValue S (o 1)) _ fits .1) .0;
       }

@@ -113,7 +113,7 @@ module _ {bytes t : List ℕ} {f : ℕ} {types alike paths firsts s rs path : Li
 
   module _ {b : ℕ} (e : b ≡ length (functionOf bytes t f .blocks) - 1) where
     pub round-block : BlockOf bytes t f b
-    round-block = body-there (g .world .given .read) (g .world .given .there) e
+    round-block = body-there (g .world .given .of) e
 
     pub round-room : stackSlot + 1 + (3 * b + 12) ≤ length rs
     round-room = omega (arith, g .slots)

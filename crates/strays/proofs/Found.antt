@@ -8,22 +8,22 @@ use Rattle.field.specs.Limits.{maxStatements}
 use Rattle.module.specs.Module.{BlockRange, SwitchCase, Statement, Function, Break, Kill}
 use Rattle.module.specs.Blocks.{held}
 use Rattle.module.specs.Decode.{tab, caseOf, statementOf}
-use Rattle.module.specs.File.{accepted, readModule}
-use Rattle.module.specs.Tables.{functionOf, moduleOf}
+use Rattle.module.specs.Tables.{functionOf}
 use Rattle.module.proofs.Tab.{length-tab, getD-tab, map-tab}
 use Rattle.access.specs.declared.kinded.Kinded.{Kinded}
 use Rattle.access.specs.Access.{operandAt, statementRow, rangeAt}
 use Rattle.access.proofs.Access.{statement-is, statement-of, range-is}
 use Rattle.valid.specs.Valid.{EachBelow}
+use Rattle.valid.specs.There.{There}
 use Rattle.valid.proofs.Uses.{held-below, has-body}
 use Rattle.judge.proofs.PathSteps.{function-valid}
 use Rattle.strays.specs.Places.{BlockOf, StatementIn, CasesIn}
 
 -- the body
-pub body-there : {bytes t : List ℕ} {f b : ℕ} → readModule bytes ≡ accepted (moduleOf bytes t) → f < length (moduleOf bytes t .functions) → b ≡ length (functionOf bytes t f .blocks) - 1 → BlockOf bytes t f b
-body-there {bytes} {t} {f} read there h =
-    let l = has-body (functionOf bytes t f) (function-valid bytes t f read there .blocks) in
-    record { read = read; function = there; block = omega arith }
+pub body-there : {bytes t : List ℕ} {f b : ℕ} → There bytes t f → b ≡ length (functionOf bytes t f .blocks) - 1 → BlockOf bytes t f b
+body-there {bytes} {t} {f} T h =
+    let l = has-body (functionOf bytes t f) (function-valid bytes t f (T .read) (T .there) .blocks) in
+    record { of = T; block = omega arith }
 
 module _ {bytes t : List ℕ} {f b : ℕ} (p : BlockOf bytes t f b) where
   pub statement-in : (r : BlockRange) (k : ℕ) → r ≡ rangeAt t f b → k < r .count → StatementIn bytes t f b (r .first + k)
@@ -41,7 +41,7 @@ module _ {bytes t : List ℕ} {f b s : ℕ} (p : StatementIn bytes t f b s) wher
 
   pub in-function : s < length (F .statements)
   in-function =
-      let a = function-valid bytes t f (p .of-block .read) (p .of-block .function) .ranges b (rangeAt t f b) (p .of-block .block) in
+      let a = function-valid bytes t f (p .of-block .of .read) (p .of-block .of .there) .ranges b (rangeAt t f b) (p .of-block .block) in
       let x = ap (λ (r : BlockRange). r .first) range in
       let y = ap (λ (r : BlockRange). r .count) range in
       let l = p .low in
@@ -50,7 +50,7 @@ module _ {bytes t : List ℕ} {f b s : ℕ} (p : StatementIn bytes t f b s) wher
 
   pub statement-small : s < maxStatements
   statement-small =
-      omega (arith, function-valid bytes t f (p .of-block .read) (p .of-block .function) .parts .few-statements, in-function)
+      omega (arith, function-valid bytes t f (p .of-block .of .read) (p .of-block .of .there) .parts .few-statements, in-function)
 
   module _ {row : Kinded} (is : row ≡ statementRow bytes t f s) where
     abbrev o : ℕ → ℕ
@@ -66,7 +66,7 @@ module _ {bytes t : List ℕ} {f b s : ℕ} (p : StatementIn bytes t f b s) wher
         let l = p .low in
         let u = p .high in
         let z : getD (F .blocks) b (rangeAt t f b) .first + (s - rangeAt t f b .first) ≡ s = omega arith in
-        let lower = held-below F (function-valid bytes t f (p .of-block .read) (p .of-block .function) .blocks) b (s - rangeAt t f b .first) (rangeAt t f b) (p .of-block .block) (omega arith) in
+        let lower = held-below F (function-valid bytes t f (p .of-block .of .read) (p .of-block .of .there) .blocks) b (s - rangeAt t f b .first) (rangeAt t f b) (p .of-block .block) (omega arith) in
         let same : getD (F .statements) s Break ≡ statementOf k o = statement-is bytes t f s Break in-function ∙ statement-of bytes t f s k row is h in
         subst (λ (x : Statement). EachBelow b (held x)) same (rw z at lower)
 
@@ -74,7 +74,7 @@ module _ {bytes t : List ℕ} {f b s : ℕ} (p : StatementIn bytes t f b s) wher
     pub there : {x : ℕ} (j : ℕ) → x ≡ o j → o j < b → (x < b) × BlockOf bytes t f x
     there j at l =
         let k = p .of-block .block in
-        (omega arith, record { read = p .of-block .read; function = p .of-block .function; block = omega arith })
+        (omega arith, record { of = p .of-block .of; block = omega arith })
 
     pub block-low : row .kind ≡ 1 → o 0 < b
     unfolding statementOf held
@@ -112,7 +112,7 @@ pub case-there : {bytes t : List ℕ} {f b : ℕ} {row : Kinded} → CasesIn byt
 case-there p i l e =
     let k = p .of-block .block in
     let h = p .each i l in
-    (omega arith, record { read = p .of-block .read; function = p .of-block .function; block = omega arith })
+    (omega arith, record { of = p .of-block .of; block = omega arith })
 
 -- the kind that is left
 pub loop-kind : {k : ℕ} → k ≤ 4 → (k ≡ 0 → ⊥) → (k ≡ 1 → ⊥) → (k ≡ 2 → ⊥) → (k ≡ 3 → ⊥) → k ≡ 4

@@ -1,16 +1,15 @@
 -- A function's blocks, their statements and a switch's cases: where they are, and what strays in each. The trees have no marks, which
 -- play no part.
 use Prim.Native.Nat.{ℕ, _+_, _*_, _<_, _≤_}
-use mathlib.Core.Path.{_≡_}
 use mathlib.Core.Bool.{Bool}
 use mathlib.Core.List.{List, []}
 use lib.ListN.{length, getD}
 use Rattle.module.specs.Module.{FunctionHandle, BlockHandle, Function, Kill}
 use Rattle.module.specs.Knot.{knot, below}
-use Rattle.module.specs.File.{accepted, readModule}
-use Rattle.module.specs.Tables.{functionOf, moduleOf}
+use Rattle.module.specs.Tables.{functionOf}
 use Rattle.access.specs.declared.kinded.Kinded.{Kinded}
 use Rattle.access.specs.Access.{operandAt, rangeAt}
+use Rattle.valid.specs.There.{There}
 use Rattle.clearance.specs.Tree.{Tree, nop, statement, blockTree}
 use Rattle.clearance.specs.Needs.{Exit, concat}
 use Rattle.clearance.specs.Judged.{strays}
@@ -31,8 +30,7 @@ strayCases f o n e = concat n (λ i. strayBlock f (o (3 + 2 * i)) e)
 
 -- b is a block of the function f
 pub record BlockOf (bytes t : List ℕ) (f : FunctionHandle) (b : BlockHandle) : Type 0 where
-  pub read : readModule bytes ≡ accepted (moduleOf bytes t)
-  pub function : f < length (moduleOf bytes t .functions)
+  pub of : There bytes t f
   pub block : b < length (functionOf bytes t f .blocks)
 
 -- and s a statement in it

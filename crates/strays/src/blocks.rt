@@ -2,12 +2,11 @@
 ghost use mathlib.Core.Path.{_≡_};
 ghost use mathlib.Core.List.{List, []};
 ghost use Prim.Native.Nat.{ℕ, _+_, _*_, _<_};
-ghost use lib.ListN.{length};
 ghost use Rattle.module.specs.Module.{BlockHandle as Handle, Function};
 ghost use Rattle.module.specs.Decode.{statementOf};
-ghost use Rattle.module.specs.File.{accepted, readModule};
-ghost use Rattle.module.specs.Tables.{functionOf, moduleOf};
+ghost use Rattle.module.specs.Tables.{functionOf};
 ghost use Rattle.access.specs.Access.{operandAt};
+ghost use Rattle.valid.specs.There.{There};
 ghost use Rattle.clearance.specs.Tree.{Tree, bodyTree, statement as statementTree};
 ghost use Rattle.clearance.specs.Judged.{atTop, strays as straysOf, lowest};
 ghost use Rattle.judge.specs.Blamed.{blamed};
@@ -154,8 +153,7 @@ fn stray_block(
 
 // Of the body of f, whatever its marks.
 pub fn strays(bytes: &[u8], t: &[u32], f: FunctionHandle) -> Blamed
-    requires { ⌜ readModule (now bytes) ≡ accepted (moduleOf (now bytes) (now t)) ⌝ }
-    requires { ⌜ f .0 < length (moduleOf (now bytes) (now t) .functions) ⌝ }
+    requires { ⌜ There (now bytes) (now t) (f .0) ⌝ }
     ensures { λ r. ⌜ ((marks : List ℕ) → blamed r ≡ lowest (straysOf (bodyTree (functionOf (now (bytes .entry)) (now (t .entry)) (f .0)) marks) atTop)) ⌝ }
 {
     let b = body_block(t, f);

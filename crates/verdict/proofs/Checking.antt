@@ -13,6 +13,7 @@ use Rattle.module.specs.Tables.{maxItems, functionOf, moduleOf}
 use Rattle.module.specs.declared.handles.FunctionHandle.{FunctionHandle as Handle}
 use Rattle.access.proofs.Access.{function-is, statement-is}
 use Rattle.valid.specs.Valid.{FunctionValid, entriesBelow}
+use Rattle.valid.specs.There.{There}
 use Rattle.valid.proofs.Accepted.{valid}
 use Rattle.context.specs.Types.{typeWords}
 use Rattle.context.specs.RequiredContext.{RequiredContext}
@@ -35,7 +36,7 @@ use Rattle.framed.proofs.Given.{read-function, judged-function, statements-fit}
 use Rattle.standing.specs.World.{World}
 use Rattle.checking.specs.Check.{scopeOf, valueOf, cutShort, onBuffer, meaningBy, answerTo}
 use Rattle.checking.specs.Word.{refusalUnit, checkWord}
-use Rattle.checking.specs.Stretch.{There, Firsts, marksIn, MarksFound}
+use Rattle.checking.specs.Stretch.{Firsts, marksIn, MarksFound}
 use Rattle.checking.specs.declared.shape.MarksAt.{MarksAt}
 use Rattle.rounds.specs.Settling.{askedBy, reported, Settling, Settled}
 use Rattle.verdict.specs.Heard.{asksBy, Accepted, Hears}

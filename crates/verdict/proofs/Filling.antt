@@ -6,6 +6,7 @@ use mathlib.Core.List.{List}
 use lib.ListN.{length}
 use Rattle.field.specs.Limits.{maxTypes}
 use Rattle.module.specs.Tables.{functionOf, moduleOf}
+use Rattle.valid.specs.There.{There}
 use Rattle.valid.proofs.Accepted.{valid}
 use Rattle.context.specs.Types.{typeWords, typeCount, typesOf, AllSized}
 use Rattle.type_table.proofs.AllSized.{all-sized}
@@ -21,7 +22,6 @@ use Rattle.judge.specs.declared.expressions.Blamed.{Blamed}
 use Rattle.judge.specs.declared.expressions.Blamed.the-variants.{Nothing, At}
 use Rattle.judge.proofs.Equivalence.{lower-types}
 use Rattle.checking.specs.Word.{unjudgedExpressionBase, unjudgedStatementBase}
-use Rattle.checking.specs.Stretch.{There}
 use Rattle.verdict.specs.Tables.{Tables, unjudged, Judges}
 
 module _ {bytes t : List ℕ} {f : ℕ} (T : There bytes t f) where
@@ -41,8 +41,7 @@ module _ {bytes t : List ℕ} {f : ℕ} (T : There bytes t f) where
     pub filled : {alike held paths : List ℕ} → AlikeTable (typesOf types) alike → UnsizedTable (typesOf types) held → PathTable (functionOf bytes t f .expressions) paths → Tables bytes t f types alike held paths
     filled A U P = record {
       given = record {
-        read = T .read;
-        there = T .there;
+        of = T;
         values = record { same = sym rows; table = P };
         shapes = record { lower = lower; table = A };
       };

@@ -38,7 +38,7 @@ use Rattle.requests.proofs.Few.{base-few}
 use Rattle.context_bytes.specs.Checked.{statusOf}
 use Rattle.checking.specs.Check.{unread, scopeOf, valueOf, reportBy, cutShort, onBuffer, meaningOf, meaningBy}
 use Rattle.checking.specs.Check as check
-use Rattle.checking.specs.Stretch.{There}
+use Rattle.valid.specs.There.{There}
 use Rattle.checking.proofs.Meaning as meaning
 use Rattle.rounds.specs.Settling.{askedBy}
 use Rattle.verdict.specs.Heard.{Store, Pieces, Loaded, ValuePiece, noSuch, Accepted, Hears}

@@ -18,7 +18,7 @@ ghost use Rattle.module.specs.Tables.{moduleOf};
 ghost use Rattle.request.specs.Context.{readContext, contextOf};
 ghost use Rattle.walk.specs.Resolve.{functionAt};
 ghost use Rattle.context_bytes.specs.Checked.{statusOf};
-ghost use Rattle.checking.specs.Stretch.{There};
+ghost use Rattle.valid.specs.There.{There};
 ghost use Rattle.state.specs.Ready.{WasRead};
 ghost use Rattle.verdict.specs.Heard.{Store, Loaded, ValuePiece, noSuch, Hears};
 

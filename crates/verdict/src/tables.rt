@@ -4,7 +4,7 @@ use judge::paths::fill_paths;
 use judge::unsized_types::fill_unsized;
 use module::handles::FunctionHandle;
 use type_table::fill;
-ghost use Rattle.checking.specs.Stretch.{There};
+ghost use Rattle.valid.specs.There.{There};
 ghost use Rattle.verdict.specs.Tables.{Sized, Tables};
 
 pub fn fill_tables(

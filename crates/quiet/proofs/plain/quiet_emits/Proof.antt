@@ -32,7 +32,7 @@ returns : tie.Need-returns Inv-loop μ-loop
 returns c = emits-stop _ _ _ _ (omega (arith, c .before .before .before .before .before .if1 .taken)) (c .before .before .before .before .before .before .before .loop .inv) (c .before .before .before .emit-idle .ensures) (not-true _ (c .if2 .taken))
 
 add-e : tie.Need-add-e Inv-loop μ-loop
-add-e c = omega (arith, c .before .before .before .before .before .if1 .taken, c .before .before .before .before .before .before .before .before .before .before .before .before .before .before .before .pre .1 .0, few _ _ _ (c .before .before .before .before .before .before .before .before .before .before .before .before .before .before .before .pre .0 .world .given .read) (c .before .before .before .before .before .before .before .before .before .before .before .before .before .before .before .pre .0 .world .given .there))
+add-e c = omega (arith, c .before .before .before .before .before .if1 .taken, c .before .before .before .before .before .before .before .before .before .before .before .before .before .before .before .pre .1 .0, few _ _ _ (c .before .before .before .before .before .before .before .before .before .before .before .before .before .before .before .pre .0 .world .given .of .read) (c .before .before .before .before .before .before .before .before .before .before .before .before .before .before .before .pre .0 .world .given .of .there))
 
 loop-less : tie.Need-loop-less Inv-loop μ-loop
 loop-less c = omega (arith, c .before .before .before .before .before .if1 .taken)

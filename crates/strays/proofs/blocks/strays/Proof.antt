@@ -18,7 +18,7 @@ at-top-requires : tie.Need-at-top-requires
 at-top-requires c κs = search needs
 
 stray-block-requires : tie.Need-stray-block-requires
-stray-block-requires c κs = body-there (c .before .before .before .before .pre .0) (c .before .before .before .before .pre .1) (omega (arith, c .before .body-block .ensures (c .before .before .before .before .args .bytes .now)))
+stray-block-requires c κs = body-there (c .before .before .before .before .pre) (omega (arith, c .before .body-block .ensures (c .before .before .before .before .args .bytes .now)))
 
 returns : tie.Need-returns
 returns c = body-strays _ _ _ _ (omega (arith, c .before .before .body-block .ensures (c .before .before .before .before .before .args .bytes .now))) (c .before .at-top .ensures) (c .stray-block .ensures)

@@ -1,10 +1,10 @@
--- `check_text::check::check_bytes` meets its contract: the arrays are as long as a check asks.
+-- `verdict::check::check_in` meets its contract: the arrays are as long as a check asks.
 use borrow.Author.Needs.{needs}
-use Rattle.check_text.proofs.check.check_bytes.Statement.{statement}
-use Rattle.check_text.proofs.check.check_bytes.Tie as tie
-use Rattle.check_text.proofs.check.check_bytes.Reads as reads
-use Rattle.check_text.proofs.check.check_bytes.Lts as lts
+use Rattle.verdict.proofs.check.check_in.Statement.{statement}
+use Rattle.verdict.proofs.check.check_in.Tie as tie
+use Rattle.verdict.proofs.check.check_in.Reads as reads
+use Rattle.verdict.proofs.check.check_in.Lts as lts
 use Rattle.verdict.proofs.verdict.check_read.Reads as check-read-reads
 
 slice-aggregate-check-read : tie.Need-slice-aggregate-check-read
 slice-aggregate-check-read c = search needs
@@ -30,8 +30,8 @@ check-read-requires c κs = (c .before .before .before .before .before .before .
 returns : tie.Need-returns
 returns c = search needs
 
-pub check-bytes-spec : {M : Type 1} → statement M
-check-bytes-spec =
+pub check-in-spec : {M : Type 1} → statement M
+check-in-spec =
     tie.close
     (tie.spec
     slice-aggregate-check-read
