@@ -82,7 +82,7 @@ module _ (m : Module) (v : Valid m) where
       let there : allBelow (variable (length (m .globals))) gs ≡ true = all-below _ spine gs (h .globals) in
       let same : (i : ℕ) → i ≡ i + 0 = λ i. omega arith in
       let each : (i : ℕ) → FineTotal m (i + 0) (getD ts i nothing) = λ i. subst (λ (g : ℕ). FineTotal m g (getD ts i nothing)) (same i) (h .functions .each i) in
-      let globals = readVariables-writeVariables gs hs (variables-filed _ gs (omega (arith, v .few-globals)) (h .globals)) in
+      let globals = readVariables-writeVariables gs hs (variables-filed (length (m .globals)) gs (omega (arith, v .few-globals)) (h .globals)) in
       rw (append-assoc (writeVariables gs) (writeTotals ts) fs, globals, only-got (allBelow (variable (length (m .globals)))) gs hs there, ← h .functions .long, totals-back 0 ts fs each)
 
 two : (n : ℕ) → leb 2 (suc (suc n)) ≡ true

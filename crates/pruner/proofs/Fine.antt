@@ -111,7 +111,7 @@ module _ (m : Module) (f : FunctionHandle) (c : RequiredContext) (h : FineContex
   pub context-filed : Valid m → FiledContext c
   context-filed v =
       record {
-        globals = variables-filed _ (c .globals) (omega (arith, v .few-globals)) (h .globals);
+        globals = variables-filed (length (m .globals)) (c .globals) (omega (arith, v .few-globals)) (h .globals);
         args = variables-filed _ (c .args) (few m v f .arguments) (h .args);
         locals = variables-filed _ (c .locals) (few m v f .locals) (h .locals);
         retval = return-filed (c .retval) (h .retval);

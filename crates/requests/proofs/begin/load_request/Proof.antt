@@ -5,6 +5,12 @@ use native.Mathlib.Omega.{arith}
 use borrow.Author.Needs.{needs}
 use Rattle.requests.proofs.begin.load_request.Statement.{statement}
 use Rattle.requests.proofs.begin.load_request.Tie as tie
+use Rattle.requests.proofs.begin.load_request.Reads as reads
+use Rattle.requests.proofs.begin.load_request.Lts as lts
+use Rattle.field.proofs.field.get.Reads as get-reads
+use Rattle.memory.proofs.memory.init_memory.Reads as init-memory-reads
+use Rattle.request.proofs.requests.read_request.Reads as read-request-reads
+use Rattle.requests.proofs.begin.load_base.Reads as load-base-reads
 
 init-memory-requires : tie.Need-init-memory-requires
 init-memory-requires c κs = (c .before .before .before .before .before .pre .0, omega (arith, c .before .before .before .before .before .pre .1 .0))
@@ -79,7 +85,7 @@ same-length-10 : tie.Need-same-length-10
 same-length-10 c = search needs
 
 returns-5 : tie.Need-returns-5
-returns-5 c = loaded-request (c .before .before .before .before .before .before .before .before .before .before .before .before .before .before .before .before .before .before .before .before .init-memory .ensures) (c .before .before .before .before .before .before .before .before .before .before .before .before .before .before .before .before .before .before .before .before .before .before .before .before .before .before .args .request .now) (c .before .before .before .before .before .before .before .before .before .before .before .before .before .before .before .before .before .before .before .before .before .before .before .before .before .before .args .functions) (c .before .before .before .before .before .before .before .before .before .before .before .before .before .before .before .before .before .before .before .before .before .before .before .before .before .before .args .globals) (c .before .before .before .before .before .before .before .before .before .before .before .before .before .before .before .before .before .before .before .before .before .before .before .before .before .before .args .report) (omega (arith, c .before .before .before .before .before .before .before .before .before .before .before .before .before .before .if1 .left, c .before .before .before .before .before .before .before .before .before .before .before .before .before .before .before .get .ok)) (c .before .before .before .before .before .before .before .before .before .before .before .before .read-request .ensures) (c .before .before .before .before .before .before .before .before .answer .given .1) (omega (arith, c .before .before .before .before .before .before .before .before .before .before .before .before .before .before .before .before .before .before .before .before .init-memory .kept .1 .0, c .before .before .before .before .before .before .before .before .before .before .before .before .before .before .before .before .before .before .before .before .before .before .before .before .before .before .pre .1 .0)) (c .before .before .before .before .load-base .ensures) refl
+returns-5 c = loaded-request (c .before .before .before .before .before .before .before .before .before .before .before .before .before .before .before .before .before .before .before .before .before .init-memory .ensures) (c .before .before .before .before .before .before .before .before .before .before .before .before .before .before .before .before .before .before .before .before .before .before .before .before .before .before .before .args .request .now) (c .before .before .before .before .before .before .before .before .before .before .before .before .before .before .before .before .before .before .before .before .before .before .before .before .before .before .before .args .functions) (c .before .before .before .before .before .before .before .before .before .before .before .before .before .before .before .before .before .before .before .before .before .before .before .before .before .before .before .args .globals) (c .before .before .before .before .before .before .before .before .before .before .before .before .before .before .before .before .before .before .before .before .before .before .before .before .before .before .before .args .report) (omega (arith, c .before .before .before .before .before .before .before .before .before .before .before .before .before .before .before .if1 .left, c .before .before .before .before .before .before .before .before .before .before .before .before .before .before .before .before .get .ok)) (c .before .before .before .before .before .before .before .before .before .before .before .before .before .read-request .ensures) (c .before .before .before .before .before .before .before .before .before .answer .given .1) (omega (arith, c .before .before .before .before .before .before .before .before .before .before .before .before .before .before .before .before .before .before .before .before .before .init-memory .kept .1 .0, c .before .before .before .before .before .before .before .before .before .before .before .before .before .before .before .before .before .before .before .before .before .before .before .before .before .before .before .pre .1 .0)) (c .before .before .before .before .before .load-base .ensures) refl
 
 pub load-request-spec : {M : Type 1} → statement M
 load-request-spec =

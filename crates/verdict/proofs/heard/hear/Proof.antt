@@ -40,13 +40,13 @@ enum-known-q : tie.Need-enum-known-q
 enum-known-q c = search needs
 
 context-status-requires : tie.Need-context-status-requires
-context-status-requires c κs = record { read = c .before .before .before .before .before .before .before .before .before .before .before .before .before .before .pre .0 .module-is; there = function-there _ _ (c .before .before .before .before .before .before .before .before .before .before .before .before .before .before .pre .0 .module-is) (c .before .before .before .before .before .before .before .before .before .before .before .before .before .before .args .request .now) (c .before .before .before .before .before .before .before .before .before .before .before .before .before .before .args .context .now) (c .before .before .before .before .before .before .before .before .functions .ensures (c .before .before .before .before .before .before .before .before .before .before .before .before .before .before .args .bytes .now)) (c .before .before .before .before .before .before .globals .ensures (c .before .before .before .before .before .before .before .before .before .before .before .before .before .before .args .bytes .now)) (c .before .before .before .before .before .load-request .ensures) (c .before .q .given .1) }
+context-status-requires c κs = record { read = c .before .before .before .before .before .before .before .before .before .before .before .before .before .before .before .pre .0 .module-is; there = function-there _ _ (c .before .before .before .before .before .before .before .before .before .before .before .before .before .before .before .pre .0 .module-is) (c .before .before .before .before .before .before .before .before .before .before .before .before .before .before .before .args .request .now) (c .before .before .before .before .before .before .before .before .before .before .before .before .before .before .before .args .context .now) (c .before .before .before .before .before .before .before .before .before .functions .ensures (c .before .before .before .before .before .before .before .before .before .before .before .before .before .before .before .args .bytes .now)) (c .before .before .before .before .before .before .before .globals .ensures (c .before .before .before .before .before .before .before .before .before .before .before .before .before .before .before .args .bytes .now)) (c .before .before .before .before .before .before .load-request .ensures) (c .before .before .q .given .1) }
 
 same-length : tie.Need-same-length
 same-length c = search needs
 
 returns : tie.Need-returns
-returns c = hears-refused _ _ (c .before .before .before .before .before .before .before .before .before .before .before .before .before .before .before .before .pre .0 .module-is) (c .before .before .before .before .before .before .before .before .before .before .before .before .before .before .before .before .args .request .now) (c .before .before .before .before .before .before .before .before .before .before .before .before .before .before .before .before .args .context .now) (c .before .before .before .before .before .before .before .before .before .before .functions .ensures (c .before .before .before .before .before .before .before .before .before .before .before .before .before .before .before .before .args .bytes .now)) (c .before .before .before .before .before .before .before .before .globals .ensures (c .before .before .before .before .before .before .before .before .before .before .before .before .before .before .before .before .args .bytes .now)) (c .before .before .before .before .before .before .before .load-request .ensures) (c .before .before .before .q .given .1) (c .before .context-status .ensures) (c .if1 .taken)
+returns c = hears-refused _ _ (c .before .before .before .before .before .before .before .before .before .before .before .before .before .before .before .before .before .pre .0 .module-is) (c .before .before .before .before .before .before .before .before .before .before .before .before .before .before .before .before .before .args .request .now) (c .before .before .before .before .before .before .before .before .before .before .before .before .before .before .before .before .before .args .context .now) (c .before .before .before .before .before .before .before .before .before .before .before .functions .ensures (c .before .before .before .before .before .before .before .before .before .before .before .before .before .before .before .before .before .args .bytes .now)) (c .before .before .before .before .before .before .before .before .before .globals .ensures (c .before .before .before .before .before .before .before .before .before .before .before .before .before .before .before .before .before .args .bytes .now)) (c .before .before .before .before .before .before .before .before .load-request .ensures) (c .before .before .before .before .q .given .1) (c .before .context-status .ensures) (c .if1 .taken)
 
 value-piece-requires : tie.Need-value-piece-requires
 value-piece-requires c κs = search needs
@@ -73,7 +73,7 @@ same-length-5 : tie.Need-same-length-5
 same-length-5 c = search needs
 
 returns-5 : tie.Need-returns-5
-returns-5 c = hears _ _ (c .before .before .before .before .before .before .before .before .before .before .before .before .before .before .before .before .before .pre .0 .module-is) (c .before .before .before .before .before .before .before .before .before .before .before .before .before .before .before .before .before .args .request .now) (c .before .before .before .before .before .before .before .before .before .before .before .before .before .before .before .before .before .args .context .now) (c .before .before .before .before .before .before .before .before .before .before .before .functions .ensures (c .before .before .before .before .before .before .before .before .before .before .before .before .before .before .before .before .before .args .bytes .now)) (c .before .before .before .before .before .before .before .before .before .globals .ensures (c .before .before .before .before .before .before .before .before .before .before .before .before .before .before .before .before .before .args .bytes .now)) (c .before .before .before .before .before .before .before .before .load-request .ensures) (c .before .before .before .before .q .given .1) (c .before .before .context-status .ensures) (omega (arith, c .before .if1 .left)) (c .value-piece .ensures) refl
+returns-5 c = hears _ _ (c .before .before .before .before .before .before .before .before .before .before .before .before .before .before .before .before .before .before .pre .0 .module-is) (c .before .before .before .before .before .before .before .before .before .before .before .before .before .before .before .before .before .before .args .request .now) (c .before .before .before .before .before .before .before .before .before .before .before .before .before .before .before .before .before .before .args .context .now) (c .before .before .before .before .before .before .before .before .before .before .before .before .functions .ensures (c .before .before .before .before .before .before .before .before .before .before .before .before .before .before .before .before .before .before .args .bytes .now)) (c .before .before .before .before .before .before .before .before .before .before .globals .ensures (c .before .before .before .before .before .before .before .before .before .before .before .before .before .before .before .before .before .before .args .bytes .now)) (c .before .before .before .before .before .before .before .before .before .load-request .ensures) (c .before .before .before .before .before .q .given .1) (c .before .before .context-status .ensures) (omega (arith, c .before .if1 .left)) (c .value-piece .ensures) refl
 
 pub hear-spec : {M : Type 1} → statement M
 hear-spec =
