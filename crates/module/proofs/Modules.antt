@@ -1,4 +1,4 @@
--- What the module of a file's tables has at each handle: the record that the tables find there, decoded.
+-- A block's range from where it and the next one start: the statements between, and none where the next starts before it.
 use mathlib.Core.Path.{_≡_, refl, _∙_}
 use mathlib.Core.List.{List, [], _∷_}
 use Prim.Native.Nat.{ℕ, zero, suc, _+_, _-_, _<_}

@@ -1,5 +1,4 @@
--- The cells that requirements reach, each once (`cellsOf`): no more than their entries in sum, nor than 16 counts for them; what is reached already adds
--- nothing. What reaches a cell reaches its child and its rest, so that a store whose cells are just those that are reached has as many.
+-- The cells that requirements reach, each once (`cellsOf`): no more than their entries in sum, nor than 16 counts for them. What reaches a cell reaches its child and its rest, so that a store whose cells are just those that are reached has as many.
 use Prim.Native.Nat.{ℕ, zero, suc, _+_, _<_, _≤_}
 use native.Mathlib.Omega.{arith}
 use native.Mathlib.Decide.{decLt, ℕ-discrete}

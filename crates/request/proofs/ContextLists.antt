@@ -1,4 +1,4 @@
--- What the three lists of a context come to: a law for each way that the code can end, from what `Judged` says of a list.
+-- What the bytes of a context come to, as far as its return part: 12, or what its lists come to. By unfolding the definition.
 use Prim.Native.Nat.{ℕ, _≤_}
 use mathlib.Core.Path.{_≡_, sym, _∙_}
 use mathlib.Core.Bool.{Bool, true, false}

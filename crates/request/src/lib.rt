@@ -1,4 +1,4 @@
-// Requests and contexts as records: read into the store of pieces, and written from it.
+// Requests and contexts as records: requests are read into the store of pieces, both are written from it.
 pub mod lists;
 pub mod parts;
 pub mod record;

@@ -1,4 +1,4 @@
--- A context that was read is fine in its function: its parts are, and the variables that it names are there.
+-- A context whose bytes were read has fine parts, and is fine in its function where the variables that it names are there.
 use mathlib.Core.Path.{_≡_, refl}
 use mathlib.Core.Bool.{Bool, true, false, cond, _&&_}
 use mathlib.Core.List.{List}

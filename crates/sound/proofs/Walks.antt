@@ -1,5 +1,5 @@
--- The walk's laws for a module that was read: its recursions are steps of themselves, requests that were read leave a fine pruner, and the bytes of a report fit
--- its buffer. Each from the walk's own law, with `Sound` and `LowerModule` as reading gives them.
+-- The walk's laws for a module that was read: its recursions are steps of themselves, and requests that were read leave a fine
+-- pruner. Each from the walk's own law, with `Sound` and `LowerModule` as reading gives them.
 use mathlib.Core.Path.{_≡_}
 use mathlib.Core.Bool.{Bool}
 use mathlib.Core.List.{List, [], _∷_}

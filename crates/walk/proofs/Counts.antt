@@ -1,4 +1,4 @@
--- What 16 counts after each change of a state, as sums without differences; each by induction over the list that is changed.
+-- What 16 counts of records and totals: of none, of one more, of records joined, of a total set; each by induction over the list.
 use mathlib.Core.Path.{_≡_, refl}
 use mathlib.Core.List.{List, [], _∷_}
 use mathlib.Core.Option.{Option, some, none as nothing}
