@@ -100,7 +100,7 @@ pub fn expression_type(
 }
 
 // The statements of a block: `count` of them, from `first` on.
-#[derive(Drop)]
+#[derive(Clone, Copy)]
 pub struct BlockRange {
     pub first: u32,
     pub count: u32,

@@ -7,7 +7,7 @@ use module::record::body;
 use module::tables::{ITEMS, row_at, word};
 
 // The kind of a record, its place, and how many fields stand before its operands.
-#[derive(Drop)]
+#[derive(Clone, Copy)]
 pub struct Kinded {
     pub kind: u16,
     pub offset: u32,

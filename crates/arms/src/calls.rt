@@ -23,7 +23,7 @@ use state::frame::Frame;
 use statement::atomic::record_of;
 
 // What frames hold while the called function is walked, and what of it the caller's records are.
-#[derive(Drop)]
+#[derive(Clone, Copy)]
 pub struct Begun {
     pub held: usize,
     pub own: usize,

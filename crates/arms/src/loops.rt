@@ -11,7 +11,7 @@ use state::answer::{Place, Tally, Walked};
 use state::frame::Frame;
 
 // How a turn has ended: 15, the working context contains it, or another one follows.
-#[derive(Drop)]
+#[derive(Clone, Copy)]
 pub enum Turn {
     Over,
     Settled,

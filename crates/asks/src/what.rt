@@ -2,7 +2,7 @@
 use memory::want::Want;
 use module::handles::{ExpressionHandle, GlobalHandle, LocalHandle};
 
-#[derive(Drop)]
+#[derive(Clone, Copy)]
 pub enum What {
     Operand(ExpressionHandle),
     Argument(u32),
@@ -13,7 +13,7 @@ pub enum What {
     End,
 }
 
-#[derive(Drop)]
+#[derive(Clone, Copy)]
 pub struct Ask {
     pub what: What,
     pub want: Want,

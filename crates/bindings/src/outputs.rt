@@ -25,7 +25,7 @@ use part::req::join;
 use part::store::{entries, make, over};
 
 // Refused by 15 and 16; or the piece of the returned value's entry.
-#[derive(Drop)]
+#[derive(Clone, Copy)]
 pub enum Asking {
     PastLimits,
     PastPieces,

@@ -7,7 +7,7 @@ use context::remove::TYPE_WORDS;
 use module::handles::TypeHandle;
 
 // A member of a struct, as its row has it.
-#[derive(Drop)]
+#[derive(Clone, Copy)]
 pub struct Member {
     pub ty: TypeHandle,
     pub binding: u32,

@@ -10,7 +10,7 @@ use module::handles::FunctionHandle;
 use request::write::write_request;
 
 // Refused by a number, by a number and an argument; or how many bytes were written.
-#[derive(Drop)]
+#[derive(Clone, Copy)]
 pub enum Bytes {
     Refused(u32),
     RefusedAt(u32, u32),

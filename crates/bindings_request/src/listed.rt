@@ -5,7 +5,7 @@ ghost use Rattle.bindings_request.specs.Listed.{SetIs};
 use bindings::set::{BINDINGS, own_binding};
 
 // The list does not ascend, or has a binding above 63; or the set.
-#[derive(Drop)]
+#[derive(Clone, Copy)]
 pub enum Set {
     Malformed,
     Of(u64),

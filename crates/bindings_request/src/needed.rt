@@ -19,7 +19,7 @@ use field::limits::ABSENT;
 use module::handles::TypeHandle;
 
 // The bindings that are needed, or the argument at which the Rust asserts.
-#[derive(Drop)]
+#[derive(Clone, Copy)]
 pub enum Needed {
     Bindings(u64),
     Asserts(u32),

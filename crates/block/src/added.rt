@@ -11,7 +11,7 @@ use marks::set::{add_marks, keep_marks};
 use module::handles::FunctionHandle;
 
 // What records and totals count for, or that a limit is passed.
-#[derive(Drop)]
+#[derive(Clone, Copy)]
 pub enum Joint {
     Sum(usize),
     Over,

@@ -12,7 +12,7 @@ use marks::places::mark_count;
 use module::handles::FunctionHandle;
 
 // The function's part of the buffer, as far as the buffer goes, and whether the marks there have the function's shape.
-#[derive(Drop)]
+#[derive(Clone, Copy)]
 pub struct MarksAt {
     pub from: usize,
     pub to: usize,

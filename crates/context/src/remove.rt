@@ -14,21 +14,21 @@ use part::store::{look, make, remake};
 pub const TYPE_WORDS: usize = 2 + 2 * MAX_MEMBERS;
 
 // The type of a requirement, where it is known.
-#[derive(Drop)]
+#[derive(Clone, Copy)]
 pub enum Typed {
     Unknown,
     Is(TypeHandle),
 }
 
 // The type of a subpart, or that the struct has no such member.
-#[derive(Drop)]
+#[derive(Clone, Copy)]
 pub enum Subtype {
     Gone,
     There(Typed),
 }
 
 // What is left, or the panic at a struct member that is not there.
-#[derive(Drop)]
+#[derive(Clone, Copy)]
 pub enum Reduced {
     Left(u32),
     Panic,

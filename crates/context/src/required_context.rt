@@ -18,7 +18,7 @@ use part::req::{Found, add, contains, get};
 use part::store::{look, over, remake};
 
 // A context, by the pieces of its maps.
-#[derive(Drop)]
+#[derive(Clone, Copy)]
 pub struct RequiredContext {
     pub globals: u32,
     pub locals: u32,
@@ -26,14 +26,14 @@ pub struct RequiredContext {
     pub retval: u32,
 }
 
-#[derive(Drop)]
+#[derive(Clone, Copy)]
 pub enum VarRef {
     Global(GlobalHandle),
     Local(LocalHandle),
 }
 
 // What is left, or the panic at a struct member that is not there.
-#[derive(Drop)]
+#[derive(Clone, Copy)]
 pub enum Removed {
     Left(RequiredContext),
     Panic,

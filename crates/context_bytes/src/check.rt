@@ -12,14 +12,14 @@ use field::limits::MAX_DEPTH;
 use request::record::{ends, is_record};
 
 // Where the next field stands.
-#[derive(Drop)]
+#[derive(Clone, Copy)]
 pub enum Skipped {
     Malformed,
     Next(usize),
 }
 
 // Whether every index is below a limit, and where the next field stands.
-#[derive(Drop)]
+#[derive(Clone, Copy)]
 pub enum Checked {
     Malformed,
     Next(bool, usize),

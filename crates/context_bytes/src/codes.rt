@@ -7,7 +7,7 @@ use field::limits::{ABSENT, MAX_ENTRIES};
 use request::record::ends;
 
 // What a part's code says: of code 2, how many entries follow it.
-#[derive(Drop)]
+#[derive(Clone, Copy)]
 pub enum Code {
     Malformed,
     All,
@@ -15,7 +15,7 @@ pub enum Code {
     Entries(usize),
 }
 
-#[derive(Drop)]
+#[derive(Clone, Copy)]
 pub enum Index {
     Malformed,
     Is(u32),

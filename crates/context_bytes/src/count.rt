@@ -11,7 +11,7 @@ use field::limits::MAX_DEPTH;
 use request::record::ends;
 
 // How many there are, and where the next field stands.
-#[derive(Drop)]
+#[derive(Clone, Copy)]
 pub enum Counted {
     Malformed,
     Next(usize, usize),

@@ -15,14 +15,14 @@ use part::store::look;
 use request::record::ends;
 
 // What a need asks of a list's first entry and of those after it; or that it asks what such a list lacks.
-#[derive(Drop)]
+#[derive(Clone, Copy)]
 pub enum Asks {
     Other,
     Of(u32, u32),
 }
 
 // Where the next field stands, if all that is asked was there.
-#[derive(Drop)]
+#[derive(Clone, Copy)]
 pub enum Covered {
     No,
     Next(usize),

@@ -10,7 +10,7 @@ use field::limits::MAX_DEPTH;
 use request::record::ends;
 
 // Where the part stands, and how deep it may be.
-#[derive(Drop)]
+#[derive(Clone, Copy)]
 pub enum Found {
     Gone,
     There(usize, usize),

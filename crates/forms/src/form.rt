@@ -13,7 +13,7 @@ use module::handles::TypeHandle;
 use part::limits::SPINE;
 
 // Nothing, a number, a vector of so many components, or what a type has.
-#[derive(Drop)]
+#[derive(Clone, Copy)]
 pub enum Form {
     Void,
     Number,
@@ -22,7 +22,7 @@ pub enum Form {
 }
 
 // How all of a value is split: not at all, or into so many parts.
-#[derive(Drop)]
+#[derive(Clone, Copy)]
 pub enum Split {
     Whole,
     Into(u32),

@@ -18,7 +18,7 @@ use access::kinded::expression;
 use module::handles::{ExpressionHandle, FunctionHandle};
 
 // The lowest expression or statement that fails, if one does.
-#[derive(Drop)]
+#[derive(Clone, Copy)]
 pub enum Blamed {
     Nothing,
     At(u32),

@@ -11,7 +11,7 @@ use module::handles::FunctionHandle;
 use module::tables::row_at;
 
 // Slots of records, from the first of a region on.
-#[derive(Drop)]
+#[derive(Clone, Copy)]
 pub struct Stretch {
     pub from: usize,
     pub n: usize,

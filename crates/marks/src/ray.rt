@@ -13,7 +13,7 @@ use access::function::{block, body_block};
 use access::kinded::{Kinded, block_operand, operand, statement};
 use module::handles::{BlockHandle, FunctionHandle};
 
-#[derive(Drop)]
+#[derive(Clone, Copy)]
 pub enum Ray {
     At(u32),
     Nothing,

@@ -162,7 +162,7 @@ pub fn join_asked(cells: &mut [u32], slots: &[u32], n: u32, i: u32, w: Want) -> 
 }
 
 // The globals' map of a context, and what records and totals count for.
-#[derive(Drop)]
+#[derive(Clone, Copy)]
 pub struct Totals {
     pub globals: u32,
     pub sum: usize,

@@ -14,7 +14,7 @@ use field::limits::{MAX_DEPTH, MAX_ENTRIES};
 use part::store::{depth, look, make};
 
 // The part of a slot, `down` positions of entries on the way into it, and `up` indexes wrapped around, from path[MAX_DEPTH] on.
-#[derive(Drop)]
+#[derive(Clone, Copy)]
 pub struct Want {
     pub slot: usize,
     pub path: [u32; PATH],
@@ -23,7 +23,7 @@ pub struct Want {
 }
 
 // An entry of a part, if there is one.
-#[derive(Drop)]
+#[derive(Clone, Copy)]
 pub struct Item {
     pub there: bool,
     pub index: u32,
@@ -281,7 +281,7 @@ fn flat_slot(digits: [usize; 4]) -> usize
 }
 
 // The slot of what a swizzle asks of its vector, or a panic.
-#[derive(Drop)]
+#[derive(Clone, Copy)]
 pub struct Picked {
     pub panics: bool,
     pub slot: usize,

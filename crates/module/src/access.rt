@@ -54,7 +54,7 @@ fn block_start(t: &[u32], row: Row, b: u32) -> u32
 }
 
 // The statements of a block: `count` of them, from `first` on.
-#[derive(Drop)]
+#[derive(Clone, Copy)]
 pub struct Range {
     pub first: u32,
     pub count: u32,

@@ -15,14 +15,14 @@ use field::limits::ABSENT;
 const BINDINGS: u32 = 64;
 
 // What is left of the fields, where they are allowed.
-#[derive(Drop)]
+#[derive(Clone, Copy)]
 pub enum Left {
     Fields(usize),
     Nothing,
 }
 
 // What a field must be.
-#[derive(Drop)]
+#[derive(Clone, Copy)]
 pub enum Test {
     Below(u32),
     BelowOrAbsent(u32),

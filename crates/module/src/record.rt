@@ -2,7 +2,7 @@
 ghost use Rattle.std.specs.Prelude.{◌≡◌, get_or};
 ghost use Rattle.module.specs.Record.{mark_of, known, body_at};
 
-#[derive(Drop)]
+#[derive(Clone, Copy)]
 pub enum Mark {
     TY,
     GV,
@@ -14,7 +14,7 @@ pub enum Mark {
     ST,
 }
 
-#[derive(Drop)]
+#[derive(Clone, Copy)]
 pub enum Known {
     Mark(Mark),
     Unknown,

@@ -24,7 +24,7 @@ pub const HEAD: usize = MARKS + MAX_EXPRESSIONS;
 pub const WORDS: usize = HEAD + 3;
 
 // Of a function: the offset of its FN, how many items and blocks there are before it, and how many of each it has.
-#[derive(Drop)]
+#[derive(Clone, Copy)]
 pub struct Row {
     pub offset: u32,
     pub items: u32,
@@ -37,7 +37,7 @@ pub struct Row {
 }
 
 // How far a file has come, how many of each there are, and the row of the open function.
-#[derive(Drop)]
+#[derive(Clone, Copy)]
 pub struct Counts {
     pub stage: u32,
     pub types: u32,

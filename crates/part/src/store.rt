@@ -10,7 +10,7 @@ use crate::limits::{CELL_WORDS, ENTRIES_CAP, SPINE, TABLE_WORDS};
 use field::limits::{MAX_DEPTH, MAX_ENTRIES};
 
 // An entry and those after it.
-#[derive(Drop)]
+#[derive(Clone, Copy)]
 pub struct Cell {
     pub index: u32,
     pub child: u32,
@@ -19,7 +19,7 @@ pub struct Cell {
 
 // What limits ask of a requirement: its entries at every depth (as far as they are counted), its depth, the entries on its first
 // level, and whether a part at or below passes a limit.
-#[derive(Drop)]
+#[derive(Clone, Copy)]
 pub struct Sizes {
     pub entries: u32,
     pub depth: u32,

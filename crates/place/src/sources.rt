@@ -23,7 +23,7 @@ const LOAD: u16 = 12;
 const DERIVATIVE: u16 = 19;
 
 // A value that is fixed, an argument, what the expression's own emit leaves.
-#[derive(Drop)]
+#[derive(Clone, Copy)]
 pub enum Source {
     Given,
     Argument(u16),

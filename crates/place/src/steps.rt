@@ -8,7 +8,7 @@ use module::handles::{ExpressionHandle, FunctionHandle};
 const ACCESS: u16 = 4;
 
 // What a pointer is: a variable, a constant index of a base, a dynamic index of a base.
-#[derive(Drop)]
+#[derive(Clone, Copy)]
 pub enum Step {
     Variable,
     Constant(ExpressionHandle),

@@ -16,7 +16,7 @@ const LOCAL_VARIABLE: u16 = 11;
 const SPINE: u32 = 65536;
 
 // What counts of a lent path, path[from..to], and whether an index on the way is dynamic.
-#[derive(Drop)]
+#[derive(Clone, Copy)]
 pub struct Target {
     pub from: usize,
     pub to: usize,
@@ -24,7 +24,7 @@ pub struct Target {
 }
 
 // The variable at which a pointer's operands end, and what was written of the indexes on the way.
-#[derive(Drop)]
+#[derive(Clone, Copy)]
 pub struct Reached {
     pub variable: ExpressionHandle,
     pub from: usize,

@@ -15,7 +15,7 @@ use part::store::entries;
 use request::parts::ReadPart;
 
 // Refused, or where the next field stands and how many pieces there are.
-#[derive(Drop)]
+#[derive(Clone, Copy)]
 pub enum Next {
     Refused,
     At(usize, usize),

@@ -19,7 +19,7 @@ use request::parts::ReadPart;
 use request::record::ends;
 
 // The pieces of a context, and where the next field stands.
-#[derive(Drop)]
+#[derive(Clone, Copy)]
 pub enum ReadLists {
     Malformed,
     Got(RequiredContext, usize),

@@ -10,7 +10,7 @@ use module::handles::BlockHandle;
 use module::tables::{Row, put, word};
 
 // The blocks that a statement holds: `count` of them, the first in the field `first`, the next ones `stride` fields on.
-#[derive(Drop)]
+#[derive(Clone, Copy)]
 pub struct Holding {
     pub count: u16,
     pub first: u32,

@@ -7,7 +7,7 @@ use module::record::Mark;
 use module::tables::{Counts, set_row};
 
 // What comes of a record: the counts with it, or the number by which the file is refused.
-#[derive(Drop)]
+#[derive(Clone, Copy)]
 pub enum Step {
     Go(Counts),
     Stop(u32),

@@ -28,7 +28,7 @@ use state::answer::{Answered, Place};
 use type_table::fill;
 
 // 01's number; or the asked function, of which memory has a report, and whether it is required.
-#[derive(Drop)]
+#[derive(Clone, Copy)]
 pub enum Outcome {
     Refused(u32),
     Reported(FunctionHandle, bool),

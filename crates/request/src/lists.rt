@@ -15,14 +15,14 @@ use part::limits::SPINE;
 use part::store::make;
 
 // A requirement's piece, where there is one.
-#[derive(Drop)]
+#[derive(Clone, Copy)]
 pub enum Optional {
     Nothing,
     Piece(u32),
 }
 
 // What was read, and where the next field stands.
-#[derive(Drop)]
+#[derive(Clone, Copy)]
 pub enum ReadOption {
     Malformed,
     Got(Optional, usize),

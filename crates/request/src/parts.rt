@@ -10,7 +10,7 @@ use field::limits::{ABSENT, MAX_ENTRIES};
 use part::store::make;
 
 // A requirement's piece, and where the next field stands.
-#[derive(Drop)]
+#[derive(Clone, Copy)]
 pub enum ReadPart {
     Malformed,
     Got(u32, usize),

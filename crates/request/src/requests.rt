@@ -12,7 +12,7 @@ use field::limits::{ABSENT, MIN_REPORT};
 use module::handles::FunctionHandle;
 
 // What is asked: pieces of the store.
-#[derive(Drop)]
+#[derive(Clone, Copy)]
 pub struct Request {
     pub function: FunctionHandle,
     pub retval: Optional,
@@ -20,7 +20,7 @@ pub struct Request {
 }
 
 // Refused by 12, 11 and 18; or the request.
-#[derive(Drop)]
+#[derive(Clone, Copy)]
 pub enum RequestAnswer {
     Malformed,
     NoSuch,

@@ -20,14 +20,14 @@ use request::lists::returned;
 use request::requests::{Request, RequestAnswer, read_request};
 
 // 01's number, or the asked function.
-#[derive(Drop)]
+#[derive(Clone, Copy)]
 pub enum Asked {
     Refused(u32),
     Of(FunctionHandle),
 }
 
 // 01's number, or the asked function and what the totals count for.
-#[derive(Drop)]
+#[derive(Clone, Copy)]
 pub enum Begun {
     Refused(u32),
     Ready(FunctionHandle, usize),

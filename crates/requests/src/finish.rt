@@ -11,7 +11,7 @@ use pruner::totals::write_pruner;
 use state::answer::Place;
 
 // What a caller hears: the visits, or 01's number and its place.
-#[derive(Drop)]
+#[derive(Clone, Copy)]
 pub enum Reply {
     Visits(usize),
     Refused(u32, Place),

@@ -3,7 +3,7 @@
 ghost use Rattle.std.specs.Prelude.{◌≡◌, true};
 // The bound was passed (then nothing else counts); the lowest statement so far that breaks its rule, or 65535; whether each loop's needs held; whether
 // the needs were past 15, and past 16, at some point.
-#[derive(Drop)]
+#[derive(Clone, Copy)]
 pub struct Passing {
     pub full: bool,
     pub fault: u16,
@@ -13,7 +13,7 @@ pub struct Passing {
 }
 
 // The slots of the needs after a break, a continue and a return. Those at the end of a statement stand in the last slot.
-#[derive(Drop)]
+#[derive(Clone, Copy)]
 pub struct Exits {
     pub broke: usize,
     pub continued: usize,

@@ -3,7 +3,7 @@ use module::handles::FunctionHandle;
 
 // The open function and the statement; the slots of the base of its block, which is `break_context`, and of the current context; what frames hold beside the
 // latter; `break_required`.
-#[derive(Drop)]
+#[derive(Clone, Copy)]
 pub struct Frame {
     pub function: FunctionHandle,
     pub statement: u32,

@@ -11,7 +11,7 @@ use target::resolve::{Target, VarRefPart, resolve_var};
 use target::store::store_required;
 
 // 13 at a pointer that names no variable, 15 at a path that is too long.
-#[derive(Drop)]
+#[derive(Clone, Copy)]
 pub enum Aim {
     Refuse(u32),
     At(Target, Found),

@@ -16,7 +16,7 @@ use state::answer::{Answered, Place, Tally, Walked};
 use state::frame::Frame;
 
 // The target, and what is asked of where it is needed, absent where a kind has no such field.
-#[derive(Drop)]
+#[derive(Clone, Copy)]
 pub struct Ray {
     pub target: ExpressionHandle,
     pub first: ExpressionHandle,

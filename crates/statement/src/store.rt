@@ -16,7 +16,7 @@ use target::resolve::Target;
 use target::store::take_out;
 
 // What is needed of the target: that is refused, nothing, or a part, which the slot ASK has then.
-#[derive(Drop)]
+#[derive(Clone, Copy)]
 pub enum Need {
     Refuse(u32),
     Nothing,

@@ -16,7 +16,7 @@ use state::answer::{Answered, Place, Tally, Walked};
 use state::frame::Frame;
 
 // The fields of a store: coordinate and array index are an image's, absent where it is none.
-#[derive(Drop)]
+#[derive(Clone, Copy)]
 pub struct Fields {
     pub pointer: ExpressionHandle,
     pub coordinate: ExpressionHandle,

@@ -4,7 +4,7 @@ ghost use Rattle.clearance.specs.Needs.{only_next};
 ghost use Rattle.clearance.specs.Judged.{at_top, in_case, in_body};
 ghost use Rattle.strays.specs.Exits.{exits_of};
 
-#[derive(Drop)]
+#[derive(Clone, Copy)]
 pub struct Exits {
     pub broke: bool,
     pub continued: bool,

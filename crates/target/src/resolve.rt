@@ -21,14 +21,14 @@ ghost use Rattle·walk.specs.Resolve.{functionAt};
 ghost use Rattle·target·specs.Target.{follows, basePart, Resolves};
 
 // A variable, and the piece of its part.
-#[derive(Drop)]
+#[derive(Clone, Copy)]
 pub struct Target {
     pub var: VarRef,
     pub part: u32,
 }
 
 // `VarRefPart`; or that the pointer names no variable.
-#[derive(Drop)]
+#[derive(Clone, Copy)]
 pub enum VarRefPart {
     Resolved(Target),
     Unresolved,

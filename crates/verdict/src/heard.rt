@@ -20,7 +20,7 @@ use request::lists::Optional;
 use request::requests::{RequestAnswer, read_request};
 
 // 01's number; or the asked function, and the pieces that are asked of the globals and of the value.
-#[derive(Drop)]
+#[derive(Clone, Copy)]
 pub enum Heard {
     Refused(u32),
     Of(FunctionHandle, u32, u32),
