@@ -2,7 +2,7 @@
 ghost use Rattle.std.specs.Prelude.{◌≡◌, ◌+◌, ◌<◌, length};
 ghost use Rattle.part.specs.Store.{Made};
 ghost use Rattle.walk.specs.Statement.{retval_of};
-ghost use Rattle.memory.specs.Layout.{result};
+ghost use Rattle.memory.specs.Layout.{result as result_slot};
 ghost use Rattle.statement.specs.Aside.{aside_slots};
 ghost use Rattle.arms.specs.Calls.{found_part, was_found, Asking, CallBegins, CallBegan, LeavesCall, LeftCall, Returns, Returned, call_marks};
 
@@ -32,7 +32,7 @@ pub struct Begun {
 // What is asked of the returned value, where this was found of the result.
 fn asked_of(cells: &mut [u32], found: Found) -> u32
     requires { Asking cells.old found }
-    ensures* { λ r. ⌜ Made cells.old cells.new (retval_of (found_part cells.old found)) 1 r ⌝ }
+    ensures { Made cells.old cells.new (retval_of (found_part cells.old found)) 1 result }
 {
     match found {
         Found::Gone => 2,
@@ -53,7 +53,7 @@ pub fn begin_call(
     sum: usize,
 ) -> Begun
     requires { CallBegins bytes.now t.now places.now cells.old slots.old «open».old fr row sum }
-    ensures* { λ r. ⌜ CallBegan bytes.now t.now places.now cells.old slots.old «open».old fr row r.held r.own cells.new slots.new «open».new ⌝ }
+    ensures { CallBegan bytes.now t.now places.now cells.old slots.old «open».old fr row result.held result.own cells.new slots.new «open».new }
 {
     let f = fr.function;
     let at = fr.at;
@@ -82,7 +82,7 @@ pub fn leave_call(
     sum: usize,
 ) -> usize
     requires { LeavesCall t.now cells.now slots.old g.0 at sum }
-    ensures* { λ m. ⌜ LeftCall t.now cells.now slots.old g.0 at sum m slots.new ⌝ }
+    ensures { LeftCall t.now cells.now slots.old g.0 at sum result slots.new }
 {
     let less = own_pieces(t, cells, slots, g);
     leave(t, slots, g, at + 4, at + 8);
@@ -91,8 +91,8 @@ pub fn leave_call(
 
 // What was found of the result is what it is to be asked for. Whether anything was.
 fn hold_result(slots: &mut [u32], found: Found) -> bool
-    requires { result < length slots.old }
-    ensures* { λ r. ⌜ (r ≡ was_found found) × (slots.new ≡ aside_slots slots.old result found) ⌝ }
+    requires { result_slot < length slots.old }
+    ensures { (result ≡ was_found found) × (slots.new ≡ aside_slots slots.old result_slot found) }
 {
     match found {
         Found::Gone => false,
@@ -106,7 +106,7 @@ fn hold_result(slots: &mut [u32], found: Found) -> bool
 // The marks of a call, where it went.
 fn mark_call(open: &mut [u8], at: usize, res: bool, r: Answered) -> Answered
     requires { at + 1 < length «open».old }
-    ensures* { λ a. ⌜ (a ≡ r) × («open».new ≡ call_marks «open».old at res r) ⌝ }
+    ensures { (result ≡ r) × («open».new ≡ call_marks «open».old at res r) }
 {
     match r {
         Answered::Went(tally, b) => {
@@ -132,7 +132,7 @@ pub fn return_call(
     sum: usize,
 ) -> Answered
     requires { Returns bytes.now t.now places.now cells.old slots.old «open».old fr row visits sum }
-    ensures* { λ r. ⌜ Returned bytes.now t.now places.now cells.old slots.old «open».old fr row required visits sum r cells.new slots.new «open».new ⌝ }
+    ensures { Returned bytes.now t.now places.now cells.old slots.old «open».old fr row required visits sum result cells.new slots.new «open».new }
 {
     let f = fr.function;
     let at = place(t, places, f, fr.statement);

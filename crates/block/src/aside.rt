@@ -3,7 +3,7 @@ ghost use Rattle.std.specs.Prelude.{◌+◌, ◌≤◌, ◌<◌, length, get_or}
 ghost use Rattle.part.specs.PartReq.{get_subpart};
 ghost use Rattle.part.specs.Store.{top, part, Good};
 ghost use Rattle.context.specs.RequiredContext.{variable};
-ghost use Rattle.memory.specs.Layout.{result, stack_slot};
+ghost use Rattle.memory.specs.Layout.{result as result_slot, stack_slot};
 ghost use Rattle.memory.specs.Memory.{Memory};
 ghost use Rattle.block.specs.Saved.{Saved};
 ghost use Rattle.block.specs.Aside.{or_none, from_aside, Asiding, Aside, Entry};
@@ -18,7 +18,7 @@ use part::store::make;
 // The context at k.
 pub fn put_aside(cells: &mut [u32], slots: &mut [u32], k: usize)
     requires { Asiding cells.old slots.old k }
-    ensures* { λ _. ⌜ Aside cells.old slots.old k cells.new slots.new ⌝ }
+    ensures { Aside cells.old slots.old k cells.new slots.new }
 {
     let c = load_context(slots, k);
     let retval = make(cells, SPINE + 3, c.retval, 2);
@@ -32,7 +32,7 @@ pub fn put_aside(cells: &mut [u32], slots: &mut [u32], k: usize)
 fn map_of(cells: &[u32], a: u32, i: u32) -> u32
     requires good { Good cells.now }
     requires a_bound { (a < top cells.now) × (i < 4) }
-    ensures* { λ r. ⌜ Entry cells.now (or_none (get_subpart (part cells.now a) (variable i))) r ⌝ }
+    ensures { Entry cells.now (or_none (get_subpart (part cells.now a) (variable i))) result }
 {
     let f = get(cells, a, SPINE + i);
     match f {
@@ -45,7 +45,7 @@ fn map_of(cells: &[u32], a: u32, i: u32) -> u32
 pub fn take_back(cells: &[u32], slots: &mut [u32], k: usize)
     requires memory { Memory cells.now slots.old }
     requires stack_slot_le_k { (stack_slot ≤ k) × (k + 4 ≤ length slots.old) }
-    ensures* { λ _. ⌜ Saved cells.now slots.old k (from_aside (part cells.now (get_or slots.old result 0))) cells.now slots.new ⌝ }
+    ensures { Saved cells.now slots.old k (from_aside (part cells.now (get_or slots.old result_slot 0))) cells.now slots.new }
 {
     let a = slots[RESULT];
     let globals = map_of(cells, a, 0);
