@@ -92,6 +92,16 @@ def spelled(name, kind, statement):
     return new
 
 
+def imported():
+    """What files take from the kit: its names keep their spelling."""
+    own = {c for c in os.listdir('crates')}
+    for path in files('.antt', '.rt'):
+        for m in re.finditer(r'\buse ([\w.]+)\.\{([^}]*)\}', open(path).read()):
+            home = m[1].split('.')
+            if not (home[0] == 'Rattle' and home[1] in own):
+                yield from (it.split(' as ')[0].strip() for it in m[2].split(','))
+
+
 def table():
     found, protected, fields = collections.defaultdict(dict), set(), set()
     for path in files('.antt'):
@@ -100,13 +110,14 @@ def table():
                 protected.add(name)
             elif name != '-' and (re.search('[A-Z-]', name) and re.match('[a-zA-Z]', name)):
                 found[name].setdefault(kind, []).append(spelled(name, kind, statement))
+    kept = set(imported())
     turned = {'rangeIs': 'RangeIs'}
     for path in files('.antt'):
         for name in WORD.findall(re.sub('--.*', '', open(path).read())):
-            if re.match('[a-z]+[A-Z][a-zA-Z0-9]*$', name) and name not in found and name != 'rangeIs':
+            if re.match('[a-z]+[A-Z][a-zA-Z0-9]*$', name) and name not in found and name not in kept and name != 'rangeIs':
                 turned[name] = snake(name)
     for name, kinds in found.items():
-        if name in protected and '-' in name:
+        if name in protected and '-' in name or name in kept:
             continue
         all_of = [s for k in kinds for s in kinds[k]]
         fields.update([name] if set(kinds) == {'field'} else [])

@@ -106,9 +106,9 @@ module _ (tbl : List ℕ) (required : Bindings) {s t parts : List ℕ} {n ty b q
         }
 
 -- 15 and 16
-or_true : (x : Bool) → x || true ≡ true
-or_true true = refl
-or_true false = refl
+or-true : (x : Bool) → x || true ≡ true
+or-true true = refl
+or-true false = refl
 
 module _ (new c : RequiredContext) where
   past_new : over new.retval ≡ true → refused 15 ≡ as_request new c
@@ -117,7 +117,7 @@ module _ (new c : RequiredContext) where
 
   past_sum : over c.retval ≡ true → refused 15 ≡ as_request new c
   unfolding as_request
-  past_sum h = rw (h, or_true)
+  past_sum h = rw (h, or-true)
 
   module _ (h : over new.retval ≡ false) (g : over c.retval ≡ false) where
     past_pieces : max_pieces < pieces c → refused 16 ≡ as_request new c

@@ -46,8 +46,8 @@ present_own b n h =
     (mod-eq_of_lt (omega (arith, pow-le-pow_right {n = 2} (omega arith) {i = suc b} {j = 64} fits, two-pow-succ b, one-le-pow b 2 (omega arith))))
 
 -- the kinds
-not_true : {A : Type 0} → false ≡ true → A
-not_true e = absurd (false≢true e)
+not-true : {A : Type 0} → false ≡ true → A
+not-true e = absurd (false≢true e)
 
 module _ (o : ℕ → ℕ) where
   members : ℕ → List Member
@@ -69,15 +69,15 @@ module _ (o : ℕ → ℕ) where
   module _ (get : TypeHandle → PartReq → Bindings) (p : PartReq) where
     inner_base : (k : ℕ) → is_base k ≡ true → get (o 0) p ≡ inner_bindings get (type_inner_of k o) p
     unfolding is_base type_inner_of inner_bindings
-    inner_base zero h = not_true h
-    inner_base (suc zero) h = not_true h
-    inner_base (suc (suc zero)) h = not_true h
-    inner_base (suc (suc (suc zero))) h = not_true h
+    inner_base zero h = not-true h
+    inner_base (suc zero) h = not-true h
+    inner_base (suc (suc zero)) h = not-true h
+    inner_base (suc (suc (suc zero))) h = not-true h
     inner_base (suc (suc (suc (suc zero)))) h = refl
     inner_base (suc (suc (suc (suc (suc zero))))) h = refl
-    inner_base (suc (suc (suc (suc (suc (suc zero)))))) h = not_true h
+    inner_base (suc (suc (suc (suc (suc (suc zero)))))) h = not-true h
     inner_base (suc (suc (suc (suc (suc (suc (suc zero))))))) h = refl
-    inner_base (suc (suc (suc (suc (suc (suc (suc (suc k)))))))) h = not_true (sym (past_base (suc (suc (suc (suc (suc (suc (suc (suc k)))))))) (omega arith)) ∙ h)
+    inner_base (suc (suc (suc (suc (suc (suc (suc (suc k)))))))) h = not-true (sym (past_base (suc (suc (suc (suc (suc (suc (suc (suc k)))))))) (omega arith)) ∙ h)
 
     inner_members : (k : ℕ) → is_base k ≡ false → members_bindings get p 0 (members k) ≡ inner_bindings get (type_inner_of k o) p
     unfolding is_base type_inner_of inner_bindings members tab members_bindings
@@ -85,10 +85,10 @@ module _ (o : ℕ → ℕ) where
     inner_members (suc zero) h = refl
     inner_members (suc (suc zero)) h = refl
     inner_members (suc (suc (suc zero))) h = refl
-    inner_members (suc (suc (suc (suc zero)))) h = not_true (sym h)
-    inner_members (suc (suc (suc (suc (suc zero))))) h = not_true (sym h)
+    inner_members (suc (suc (suc (suc zero)))) h = not-true (sym h)
+    inner_members (suc (suc (suc (suc (suc zero))))) h = not-true (sym h)
     inner_members (suc (suc (suc (suc (suc (suc zero)))))) h = refl
-    inner_members (suc (suc (suc (suc (suc (suc (suc zero))))))) h = not_true (sym h)
+    inner_members (suc (suc (suc (suc (suc (suc (suc zero))))))) h = not-true (sym h)
     inner_members (suc (suc (suc (suc (suc (suc (suc (suc k)))))))) h = rw (past_members (suc (suc (suc (suc (suc (suc (suc (suc k)))))))) (omega arith), past_kind k)
 
   module _ (from : TypeHandle → Option PartReq) (required : Bindings) where

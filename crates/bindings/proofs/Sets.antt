@@ -72,13 +72,13 @@ set_append (x ∷ bs) cs b =
     rw (contains-union (single x) (set_of (bs ++ cs)) b, contains-union (single x) (set_of bs) b, set_append bs cs b)
     (sym (or_assoc (contains (single x) b) (contains (set_of bs) b) (contains (set_of cs) b)))
 
-or_false : (a : Bool) → (a || false) ≡ a
-or_false true = refl
-or_false false = refl
+or-false : (a : Bool) → (a || false) ≡ a
+or-false true = refl
+or-false false = refl
 
 one_more : (l : List Binding) (n : ℕ) (b : Binding) → contains (set_of (l ++ (n ∷ []))) b ≡ (contains (set_of l) b || contains (single n) b)
 unfolding set_of
-one_more l n b = set_append l (n ∷ []) b ∙ rw (contains-union (single n) empty b, contains-empty b, or_false (contains (single n) b))
+one_more l n b = set_append l (n ∷ []) b ∙ rw (contains-union (single n) empty b, contains-empty b, or-false (contains (single n) b))
 
 -- l is the list of what is in s below n
 record Lists (n : ℕ) (s : Bindings) (l : List Binding) : Type 0 where
@@ -104,7 +104,7 @@ module _ (n : ℕ) (s : Bindings) (l : List Binding) (L : Lists n s l) where
             one_more l n b
             ∙ elim (ℕ_discrete b n) [
               | yes same ↦ rw (same, L.past n (omega arith), contains-single n, e)
-              | no other ↦ rw (contains-other n b other, L.has b (omega arith)) (or_false (contains s b))
+              | no other ↦ rw (contains-other n b other, L.has b (omega arith)) (or-false (contains s b))
             ];
         past = λ b h. one_more l n b ∙ rw (L.past b (omega arith), contains-other n b (omega arith));
         low = λ i h.

@@ -15,15 +15,15 @@ use Rattle.bindings.specs.Bindings.{own_binding, set_of}
 use Rattle.bindings.specs.ContextBindings.{binding_after, are_bindings}
 use Rattle.bindings.proofs.Returning.{own_single}
 
-and_false : (x : Bool) → x && false ≡ false
-and_false true = refl
-and_false false = refl
+and-false : (x : Bool) → x && false ≡ false
+and-false true = refl
+and-false false = refl
 
 pub not_below : (bs : List ℕ) (i : ℕ) {b : ℕ} → i < length bs → b ≡ get_or bs i 0 → binding_after (drop (suc i) bs) ≤ b → are_bindings bs ≡ false
 unfolding are_bindings
 not_below [] i h e l = absurd (omega arith)
 not_below (c ∷ bs) zero h e l = rw (le-ltb c (binding_after bs) (rw (← e) l))
-not_below (c ∷ bs) (suc i) h e l = rw (not_below bs i (omega arith) e l) (and_false (ltb c (binding_after bs)))
+not_below (c ∷ bs) (suc i) h e l = rw (not_below bs i (omega arith) e l) (and-false (ltb c (binding_after bs)))
 
 pub record Reading (bs : List ℕ) (i after s : ℕ) : Type 0 where
   pub low : i ≤ length bs

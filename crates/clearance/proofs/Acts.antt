@@ -6,7 +6,7 @@ use mathlib.Core.Bool.{true, false}
 use mathlib.Core.List.{List, [], ◌∷◌, ◌++◌, map}
 use mathlib.Core.Option.{Option, some as present, none as nothing}
 use lib.Dec.{eqb}
-use borrow.Author.Tests.{not_true}
+use borrow.Author.Tests.{not-true}
 use Rattle.part.specs.PartReq.{PartReq}
 use Rattle.part.proofs.Equations.{never}
 use Rattle.module.specs.Module.{ExpressionHandle}
@@ -144,4 +144,4 @@ module _ (S : Scope) where
 
     pub perform-idle : (x : Act) (n : PartReq) (s : State) → idle S x n ≡ true → Agree S n s (perform S ops s x)
     unfolding idle
-    perform-idle x n s h = perform-spared x n s (not_true _ h)
+    perform-idle x n s h = perform-spared x n s (not-true _ h)

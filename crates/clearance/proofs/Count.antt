@@ -202,8 +202,8 @@ first_need t i p r f = record { ascends = f.ascends.0; tidy = f.tidy.1.0 }
 pub later_need : (t : Shape) (i : ℕ) (p r : PartReq) → IsNeed t (more i p r) → IsNeed t r
 later_need t i p r f = record { ascends = from_ascending (suc i) r f.ascends.1; tidy = f.tidy.1.1 }
 
-and_false : (a b : Bool) → a && b ≡ false → a ≡ true → b ≡ false
-and_false a b h e = rw e at h
+and-false : (a b : Bool) → a && b ≡ false → a ≡ true → b ≡ false
+and-false a b h e = rw e at h
 
 missing : (j : ℕ) (p s : PartReq) (t : Shape) (m : PartReq) → IsNeed t (more j p s) → ((q : List ℕ) → cov m (j ∷ q) ≡ false) → Tells (more j p s) t m
 unfolding Tells
@@ -217,7 +217,7 @@ unfolding TellsAll Tells
 tells_level j p s tp ts p' r t f g h =
     cases (within p p')
     (λ e.
-    let z = ts t r (later_need t j p s f) (later_need t j p' r g) (and_false (within p p') _ h e) in
+    let z = ts t r (later_need t j p s f) (later_need t j p' r g) (and-false (within p p') _ h e) in
     let o = f.ascends.1 in
     (z.0, z.1, tail_off (suc j) j s p s z.0 o (omega arith) z.2 ∙ z.2, tail_off (suc j) j s p' r z.0 o (omega arith) z.2 ∙ z.3))
     (λ e.

@@ -3,7 +3,7 @@ use Prim.Native.Nat.{ℕ, zero, suc, ◌+◌, ◌-◌, ◌<◌, ◌≤◌}
 use native.Mathlib.Omega.{arith}
 use native.Mathlib.Decide.{ℕ_discrete, dec_lt}
 use mathlib.Core.Path.{◌≡◌, refl, sym, ap, ◌∙◌}
-use mathlib.Core.Bool.{Bool, true, false, cond, ◌||◌, or_true, or_false}
+use mathlib.Core.Bool.{Bool, true, false, cond, ◌||◌, or-true, or-false}
 use mathlib.Core.List.{List, [], ◌∷◌, ◌++◌}
 use lib.Dec.{eqb}
 use borrow.Author.Tests.{lt-ltb, le-ltb, eq-eqb, eqb-true}
@@ -65,7 +65,7 @@ all_add (more i p r) (more j q s) =
 with_both : (f : PartReq → Bool) → ((a b : PartReq) → f (add a b) ≡ f a || f b) → (x y : Subpart) → with_part (add_subpart x y) f ≡ with_part x f || with_part y f
 unfolding add_subpart
 with_both f h gone y = refl
-with_both f h (there a) gone = sym (or_false (f a))
+with_both f h (there a) gone = sym (or-false (f a))
 with_both f h (there a) (there b) = h a b
 
 pub cov-add : (p q : PartReq) (r : List ℕ) → cov (add p q) r ≡ cov p r || cov q r
@@ -77,7 +77,7 @@ pub cov-add-left : (p q : PartReq) (r : List ℕ) → cov p r ≡ true → cov (
 cov-add-left p q r h = cov-add p q r ∙ rw h
 
 pub cov-add-right : (p q : PartReq) (r : List ℕ) → cov q r ≡ true → cov (add p q) r ≡ true
-cov-add-right p q r h = cov-add p q r ∙ rw h (or_true (cov p r))
+cov-add-right p q r h = cov-add p q r ∙ rw h (or-true (cov p r))
 
 module _ (i j : ℕ) (p r : PartReq) (q : List ℕ) where
   pub cov-after : i < j → cov (more i p r) (j ∷ q) ≡ cov r (j ∷ q)

@@ -9,7 +9,7 @@ use mathlib.Core.Logic.{◌↔◌}
 use mathlib.Core.Option.{Option}
 use lib.Dec.{ltb}
 use lib.ListN.{length}
-use borrow.Author.Tests.{ltb-true, ltb-false, not_true}
+use borrow.Author.Tests.{ltb-true, ltb-false, not-true}
 use Rattle.part.specs.PartReq.{PartReq, all, exist, none, more, spine}
 use Rattle.part.proofs.Equations.{never}
 use Rattle.module.specs.Module.{ExpressionHandle}
@@ -30,7 +30,7 @@ use Rattle.clearance.proofs.Count.{tidy_seen, struct-index, struct_at, later_nee
 
 quiet-acts : (S : Scope) (x : Act) (a : Tree) (m : PartReq) (e : Exit → Bool) → StandsIn x a → quiet S m a e ≡ true → some (overlap S x m) ≡ false
 unfolding quiet idle
-quiet-acts S x a m e itself q = not_true _ q
+quiet-acts S x a m e itself q = not-true _ q
 quiet-acts S x a m e (first h) q = quiet-acts S x _ m e h (both_true _ _ q).0
 quiet-acts S x a m e (second {a = b} h) q = quiet-acts S x _ m e h (both_true (quiet S m b e) _ q).1
 quiet-acts S x a m e (in_accept h) q = quiet-acts S x _ m e h (both_true _ _ q).0

@@ -9,7 +9,7 @@ use mathlib.Core.Logic.{◌↔◌, ◌⊎◌, inl, inr}
 use mathlib.Core.Option.{Option, some, none as nothing}
 use lib.Dec.{ltb, eqb}
 use lib.ListN.{length}
-use borrow.Author.Tests.{ltb-true, lt-ltb, not_true}
+use borrow.Author.Tests.{ltb-true, lt-ltb, not-true}
 use Rattle.part.proofs.Equations.{never}
 use Rattle.module.specs.Module.{TypeHandle, TypeInner, Vector, Pointer}
 use Rattle.module.specs.Module.{ExpressionHandle, Expression}
@@ -242,8 +242,8 @@ module _ (S : Scope) where
 
     path_end_of : (x : Expression) → fits_expression S e x ≡ true → (t : TypeHandle) → Declares S x t → (u : TypeHandle) → inner S t ≡ Pointer u → ⊥
     unfolding fits_expression fits_variable
-    path_end_of x h t global = is_no_pointer S _ (not_true _ (both_true _ _ h).0)
-    path_end_of x h t local = is_no_pointer S _ (not_true _ (both_true _ _ h).0)
+    path_end_of x h t global = is_no_pointer S _ (not-true _ (both_true _ _ h).0)
+    path_end_of x h t local = is_no_pointer S _ (not-true _ (both_true _ _ h).0)
 
     variable-of : (x : Expression) → fits_expression S e x ≡ true → (t : TypeHandle) → Declares S x t → same S (inner S t) (pointee S e) ≡ true
     unfolding fits_expression fits_variable

@@ -7,7 +7,7 @@ use mathlib.Core.Bool.{Bool, true, false, cond}
 use mathlib.Core.List.{List, [], ◌∷◌, ◌++◌, map}
 use mathlib.Core.Option.{Option, some as present, none as nothing}
 use lib.Dec.{ltb}
-use borrow.Author.Tests.{lt-ltb, le-ltb, eq-eqb, not_true}
+use borrow.Author.Tests.{lt-ltb, le-ltb, eq-eqb, not-true}
 use Rattle.part.specs.PartReq.{PartReq, all, exist, none, more, there, get_subpart, is_all, add}
 use Rattle.part.specs.Ascending.{Ascending, From}
 use Rattle.part.proofs.Equations.{before as less, after as greater, at as level, way, get_subpart-at, get_subpart-after, never}
@@ -518,12 +518,12 @@ module _ (S : Scope) where
   unfolding idle
   idle-less x m n h i =
       cases (some (overlap S x m))
-      (λ e. never (sym (not_true (some (overlap S x n)) i) ∙ overlap-some x m n h e))
+      (λ e. never (sym (not-true (some (overlap S x n)) i) ∙ overlap-some x m n h e))
       (λ e. rw e)
 
   pub before-idle : (x : Act) (m : PartReq) → IsNeed (frame S) m → idle S x m ≡ true → Le (frame S) m (before S x m)
   unfolding idle before
-  before-idle x m f i = rw (not_true (some (overlap S x m)) i) (le_self (frame S) m f)
+  before-idle x m f i = rw (not-true (some (overlap S x m)) i) (le_self (frame S) m f)
 
   pub turning-mono : (c : Option ExpressionHandle) (i j m n : PartReq) → Le (frame S) i j → Le (frame S) m n → Le (frame S) (turning S i c m) (turning S j c n)
   unfolding turning

@@ -5,7 +5,7 @@ use mathlib.Core.Path.{◌≡◌, refl, sym, ◌∙◌}
 use mathlib.Core.Bool.{Bool, true, false, not, ◌||◌}
 use mathlib.Core.Logic.{◌↔◌}
 use lib.ListN.{length}
-use borrow.Author.Tests.{not_true}
+use borrow.Author.Tests.{not-true}
 use Rattle.part.specs.PartReq.{PartReq}
 use Rattle.part.proofs.Equations.{never}
 use Rattle.clearance.specs.Tree.{Tree, nop, seq, act, branch, switch, loop, break, continue, return, unmarked}
@@ -23,7 +23,7 @@ some_of (suc n) f h =
 
 of_some : (n : ℕ) (f : ℕ → Bool) (i : ℕ) → i < n → f i ≡ true → not (each n (λ i. not (f i))) ≡ true
 of_some n f i l h =
-    cases (each n (λ i. not (f i))) (λ e. never (sym (not_true _ (each_at n (λ i. not (f i)) e i l)) ∙ h)) (λ e. rw e)
+    cases (each n (λ i. not (f i))) (λ e. never (sym (not-true _ (each_at n (λ i. not (f i)) e i l)) ∙ h)) (λ e. rw e)
 
 either : {A : Type 0} (a b : Bool) → a || b ≡ true → (a ≡ true → A) → (b ≡ true → A) → A
 either true b h f g = f refl

@@ -7,7 +7,7 @@ use mathlib.Core.List.{[], ◌∷◌}
 use mathlib.Core.Logic.{◌↔◌}
 use mathlib.Core.Option.{Option, some, none as nothing}
 use lib.Dec.{ltb}
-use borrow.Author.Tests.{ltb-true, ltb-false, lt-ltb, le-ltb, not_true}
+use borrow.Author.Tests.{ltb-true, ltb-false, lt-ltb, le-ltb, not-true}
 use Rattle.field.specs.Limits.{max_pieces}
 use Rattle.part.specs.PartReq.{PartReq, contains, over}
 use Rattle.part.proofs.Order.{antisymmetric}
@@ -142,7 +142,7 @@ module _ (S : Scope) (R : Request) (P : Report) where
           (λ h.
               let y = both_true (not (needs_expression n)) _ h in
               let z = both_true (contains P.globals (below n (variable 0 ∷ []))) _ y.1 in
-              record { evaluations = evaluations_none n (not_true _ y.0); globals = z.0; args = z.1 }),
+              record { evaluations = evaluations_none n (not-true _ y.0); globals = z.0; args = z.1 }),
           (λ m. rw (no_evaluation S n (start_need S R P o t e) m.evaluations, m.globals, m.args)),
         )
 

@@ -9,7 +9,7 @@ use mathlib.Core.Logic.{◌↔◌, ◌⊎◌, inl, inr}
 use mathlib.Core.Option.{Option, some, none as nothing}
 use lib.Dec.{ltb, eqb}
 use lib.ListN.{length, get_or}
-use borrow.Author.Tests.{ltb-true, lt-ltb, eqb-true, eq-eqb, not_true}
+use borrow.Author.Tests.{ltb-true, lt-ltb, eqb-true, eq-eqb, not-true}
 use Rattle.part.proofs.Equations.{never}
 use Rattle.module.specs.Module.{TypeHandle, TypeInner, Scalar, Vector, Matrix, Atomic, Pointer, Array, Struct, BindingArray, Opaque, Member as TypeMember}
 use Rattle.module.specs.Module.{ExpressionHandle, Expression}
@@ -165,8 +165,8 @@ module _ (S : Scope) where
     (λ h.
         let z = both_true (not (is_path S e)) _ h in
         record {
-          no_path = λ p. impossible (sym (not_true _ z.0) ∙ (path_exactly e).1 p);
-          no_pointer = is_no_pointer (inner_of S e) (not_true _ z.1);
+          no_path = λ p. impossible (sym (not-true _ z.0) ∙ (path_exactly e).1 p);
+          no_pointer = is_no_pointer (inner_of S e) (not-true _ z.1);
         }),
     (λ v.
         let p : is_path S e ≡ false = cases (is_path S e) (λ h. absurd (v.no_path ((path_exactly e).0 h))) (λ h. h) in
@@ -458,8 +458,8 @@ module _ (S : Scope) where
   unfolding holds_either
   sized_exactly t = (
     (λ h. (
-      (λ g. impossible (sym (not_true _ h) ∙ either_left _ _ (of_holds t g))),
-      (λ u e g. impossible (sym (not_true _ h) ∙ either_right (holds_unsized S t) _ (of_pointee _ u e g))),
+      (λ g. impossible (sym (not-true _ h) ∙ either_left _ _ (of_holds t g))),
+      (λ u e g. impossible (sym (not-true _ h) ∙ either_right (holds_unsized S t) _ (of_pointee _ u e g))),
     )),
     (λ z. cases (holds_unsized S t) (λ e. absurd (z.0 ((holds_exactly t).0 e)))
         (λ e. cases (pointee_holds (holds_unsized S) (inner S t)) (λ g. let y = pointee_of _ g in absurd (z.1 y.0 y.1 y.2)) (λ g. rw (e, g)))),

@@ -128,9 +128,9 @@ unfolding conj
 conj-true malformed = refl
 conj-true (got x fs) = refl
 
-and_true : (a : Bool) → a && true ≡ a
-and_true true = refl
-and_true false = refl
+and-true : (a : Bool) → a && true ≡ a
+and-true true = refl
+and-true false = refl
 
 and_assoc : (a b c : Bool) → (a && b) && c ≡ a && (b && c)
 and_assoc true b c = refl
@@ -176,7 +176,7 @@ module _ {b : List ℕ} {at d limit n next low left : ℕ} {known : Bool} (so : 
             λ base.
             record {
               is =
-                  rw (← and_true known)
+                  rw (← and-true known)
                   (sym (ap (λ x. conj known (checked (base + limit) x)) (entries_none (read_part d) base low left (from b next) e)) ∙ so.rest base);
               placed = (so.further, so.inside);
             };

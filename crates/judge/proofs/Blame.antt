@@ -3,7 +3,7 @@ use Prim.Native.Nat.{ℕ, zero, suc, ◌+◌, ◌-◌, ◌<◌, ◌≤◌}
 use native.Mathlib.Omega.{arith}
 use native.Mathlib.Decide.{ℕ_discrete}
 use mathlib.Core.Path.{◌≡◌, refl, sym, ap, ◌∙◌}
-use mathlib.Core.Bool.{Bool, true, false, ◌||◌, and_true, and_false}
+use mathlib.Core.Bool.{Bool, true, false, ◌||◌, and-true, and-false}
 use mathlib.Core.List.{List, [], ◌∷◌}
 use mathlib.Core.Option.{Option, some, none as nothing}
 use lib.ListN.{length, get_or}
@@ -87,12 +87,12 @@ module _ {bytes t : List ℕ} {f : ℕ} {types alike paths : List ℕ} (given : 
 
   pub judged_unsized : w ≡ true → false ≡ judged_expression (S given) e
   unfolding judged_expression
-  judged_unsized h = sym (rw (← held_is, h) (and_false (fits_expression (S given) e (typed (S given) e).expression)))
+  judged_unsized h = sym (rw (← held_is, h) (and-false (fits_expression (S given) e (typed (S given) e).expression)))
 
   pub judged_fits : {r : Bool} → w ≡ false → Fits bytes t f e r → r ≡ judged_expression (S given) e
   unfolding judged_expression typed
   judged_fits h q =
-      q ∙ sym (rw (← held_is, h, typed_is bytes t f e no_expression there) (and_true (fits_expression (S given) e (typed_at bytes t f e).expression)))
+      q ∙ sym (rw (← held_is, h, typed_is bytes t f e no_expression there) (and-true (fits_expression (S given) e (typed_at bytes t f e).expression)))
 
 -- the lowest that fails a test of its number
 module _ {A : Type 0} (p : ℕ → Bool) where

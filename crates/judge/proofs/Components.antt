@@ -3,7 +3,7 @@ use Prim.Native.Nat.{ℕ, zero, suc, ◌+◌, ◌*◌, ◌<◌, ◌≤◌}
 use native.Mathlib.Omega.{arith}
 use native.Mathlib.Numerals.{add-one}
 use mathlib.Core.Path.{◌≡◌, refl, sym, ap, ◌∙◌}
-use mathlib.Core.Bool.{Bool, true, false, ◌&&◌, ◌||◌, and_false}
+use mathlib.Core.Bool.{Bool, true, false, ◌&&◌, ◌||◌, and-false}
 use mathlib.Core.List.{List, [], ◌∷◌, ◌++◌}
 use lib.Dec.{ltb, eqb}
 use lib.ListN.{length, get_or}
@@ -175,7 +175,7 @@ module _ (S : Scope) (L : Lower S.program.types) where
   pairs_differ [] (c ∷ cs) h = refl
   pairs_differ (x ∷ ms) [] h = refl
   pairs_differ (x ∷ ms) (c ∷ cs) h =
-      rw (pairs_differ ms cs (λ q. h (ap suc q))) (and_false (alike_in S x.type (type_of S c)))
+      rw (pairs_differ ms cs (λ q. h (ap suc q))) (and-false (alike_in S x.type (type_of S c)))
 
   module _ (m : ℕ) (g : ℕ → ℕ) where
     abbrev parts : TypeInner → Bool
@@ -248,7 +248,7 @@ module _ {bytes t : List ℕ} {f : ℕ} {types alike paths : List ℕ} {e : ℕ}
     pub swizzle_other : (k ≡ 1 → ⊥) → Fits bytes t f e false
     unfolding expression_of fits_expression inner_of
     swizzle_other d =
-        by-kind R 7 h (sym (rw (← at, ← ta, no_size (inner T a) (λ size. every (λ i. ltb i size) (tab (o R 1) (λ i. o R (2 + i))) && fits T (Vector (length (tab (o R 1) (λ i. o R (2 + i))))) (type_of T e)) (other types T p a e1 d)) (and_false (is_value T x))))
+        by-kind R 7 h (sym (rw (← at, ← ta, no_size (inner T a) (λ size. every (λ i. ltb i size) (tab (o R 1) (λ i. o R (2 + i))) && fits T (Vector (length (tab (o R 1) (λ i. o R (2 + i))))) (type_of T e)) (other types T p a e1 d)) (and-false (is_value T x))))
 
     pub fits-swizzle : {w c b : ℕ} {s u v m r : Bool} → k ≡ 1 → w ≡ type_word types a 1 → s ≡ every (λ i. ltb i w) (tab (o R 1) (λ i. o R (2 + i))) → c ≡ o R 1 → b ≡ type_of T e → u ≡ same T (Vector c) (inner T b) → v ≡ is_value T x → m ≡ s && u → r ≡ v && m → Fits bytes t f e r
     unfolding expression_of fits_expression inner_of fits same has_vector_size
@@ -274,12 +274,12 @@ module _ {bytes t : List ℕ} {f : ℕ} {types alike paths : List ℕ} {e : ℕ}
     pub compose_wrong : {c m : ℕ} → c ≡ part_count (get_or (types_of types) a Opaque) → m ≡ o R 0 → (c ≡ m → ⊥) → (k ≡ 1 → ⊥) → Fits bytes t f e false
     compose_wrong c m d n =
         composed (compose_differs T L (o R 0) g (inner T a) (λ q. d (c ∙ (ap part_count (sym (inner_is types T p a)) ∙ (q ∙ sym m)))) (other types T p a e1 n))
-        (sym (and_false v))
+        (sym (and-false v))
 
     pub compose_none : (k ≡ 1 → ⊥) → (k ≡ 2 → ⊥) → (k ≡ 5 → ⊥) → (k ≡ 6 → ⊥) → Fits bytes t f e false
     compose_none x y z u =
         composed (compose_other T L (o R 0) g (inner T a) (other types T p a e1 x) (other types T p a e1 y) (other types T p a e1 z) (other types T p a e1 u))
-        (sym (and_false v))
+        (sym (and-false v))
 
     -- a matrix (2), an array (5) or a struct (6)
     pub compose_as : {c m : ℕ} {s r : Bool} (x : ℕ) → c ≡ part_count (get_or (types_of types) a Opaque) → m ≡ o R 0 → c ≡ m → s ≡ every (λ i. same_part T (part_type T (inner T a) i) (inner_of T (g i))) (tab (o R 0) (λ i. i)) → r ≡ v && s → k ≡ x → (x ≡ 0 → ⊥) → (x ≡ 1 → ⊥) → (x ≡ 3 → ⊥) → (x ≡ 4 → ⊥) → (x ≡ 7 → ⊥) → (x ≡ 8 → ⊥) → Fits bytes t f e r

@@ -2,7 +2,7 @@
 use Prim.Native.Nat.{ℕ, zero, suc, ◌+◌, ◌<◌, ◌≤◌}
 use native.Mathlib.Omega.{arith}
 use mathlib.Core.Path.{◌≡◌, refl, sym, ap, subst, ◌∙◌}
-use mathlib.Core.Bool.{Bool, false, not, ◌&&◌, and_true}
+use mathlib.Core.Bool.{Bool, false, not, ◌&&◌, and-true}
 use mathlib.Core.List.{List, [], ◌∷◌}
 use lib.ListN.{length, get_or}
 use borrow.Author.Tests.{ne_eqb}
@@ -141,7 +141,7 @@ module _ {bytes t : List ℕ} {f : ℕ} {types alike paths : List ℕ} {e : ℕ}
       let below = operands 18 h in
       let first = alike-types G y e (omega (arith, R.there, below.1)) R.there ta tc s1 in
       let second = alike-types G z e (omega (arith, R.there, below.2)) R.there tb tc s2 in
-      by-kind 18 h (q ∙ rw (m4, m3, m2, m1, v, first, second, w, w1, w2, ax, ay, az, and_true (is_value (S G) (o 2))))
+      by-kind 18 h (q ∙ rw (m4, m3, m2, m1, v, first, second, w, w1, w2, ax, ay, az, and-true (is_value (S G) (o 2))))
 
   -- what is named
   module _ {a : ℕ} (own : a ≡ type_of (S G) e) {x : ℕ} (at : x ≡ o 0) where

@@ -2,7 +2,7 @@
 use Prim.Native.Nat.{ℕ, zero, suc, ◌+◌, ◌<◌, ◌≤◌}
 use native.Mathlib.Omega.{arith}
 use mathlib.Core.Path.{◌≡◌, refl, sym, ap, subst, ◌∙◌}
-use mathlib.Core.Bool.{Bool, true, false, and_true}
+use mathlib.Core.Bool.{Bool, true, false, and-true}
 use mathlib.Core.List.{List, [], ◌∷◌, map}
 use mathlib.Core.Option.{some, none as nothing}
 use lib.Dec.{eqb}
@@ -47,7 +47,7 @@ no_vector S n Opaque h = refl
 
 a-vector : (S : Scope) (n m : ℕ) → eqb n m ≡ same S (Vector n) (Vector m)
 unfolding same alike_inner pairwise kind bases
-a-vector S n m = sym (and_true _ ∙ and_true (eqb n m))
+a-vector S n m = sym (and-true _ ∙ and-true (eqb n m))
 
 -- elements and parts by the kind
 no_element : (S : Scope) (x y : TypeInner) → (number x ≡ 1 → ⊥) → (number x ≡ 2 → ⊥) → (number x ≡ 5 → ⊥) → false ≡ same_part S (element_type S x) y

@@ -2,7 +2,7 @@
 use Prim.Native.Nat.{ℕ, zero, suc, ◌-◌, ◌<◌, ◌≤◌}
 use native.Mathlib.Omega.{arith}
 use mathlib.Core.Path.{◌≡◌, refl, sym, ap, subst, ◌∙◌}
-use mathlib.Core.Bool.{Bool, true, false, ◌&&◌, and_false}
+use mathlib.Core.Bool.{Bool, true, false, ◌&&◌, and-false}
 use mathlib.Core.List.{List}
 use mathlib.Core.Option.{Option, some, none as nothing}
 use lib.ListN.{length}
@@ -29,7 +29,7 @@ use Rattle.judge.proofs.Operands.{S, F, n, type_low}
 module _ (S : Scope) (declared : Option FunctionResult) (v : ℕ) (h : v ≡ absent → ⊥) where
   none_returned : nothing ≡ declared → false ≡ presently (λ v. is_value S v && fits_return S declared v) (option_of v)
   unfolding presently option_of fits_return
-  none_returned q = sym (rw (ne_eqb v absent h, ← q) (and_false (is_value S v)))
+  none_returned q = sym (rw (ne_eqb v absent h, ← q) (and-false (is_value S v)))
 
   some-returned : {x : FunctionResult} {r : Bool} → some x ≡ declared → r ≡ is_value S v && alike_in S x.type (type_of S v) → r ≡ presently (λ v. is_value S v && fits_return S declared v) (option_of v)
   unfolding presently option_of fits_return

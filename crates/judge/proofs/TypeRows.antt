@@ -3,7 +3,7 @@ use Prim.Native.Nat.{ℕ, zero, suc, ◌+◌, ◌*◌, ◌<◌, ◌≤◌}
 use native.Mathlib.Omega.{arith}
 use native.Mathlib.Decide.{dec_lt}
 use mathlib.Core.Path.{◌≡◌, refl, sym, ap, ◌∙◌}
-use mathlib.Core.Bool.{Bool, true, false, and_true}
+use mathlib.Core.Bool.{Bool, true, false, and-true}
 use mathlib.Core.List.{List, [], ◌∷◌}
 use lib.Dec.{eqb}
 use lib.ListN.{length, get_or, get_or-eq_default}
@@ -165,7 +165,7 @@ module _ (table : List ℕ) (a b : ℕ) where
 
     pub same-vectors : {r s : ℕ} → k ≡ 1 → r ≡ type_word table a 1 → s ≡ type_word table b 1 → eqb r s ≡ same
     same-vectors {r} {s} q u v =
-        sym (same_rows 1 (omega arith) q ∙ (unfold type_inner_of kind pairwise in rw (← u, ← v) (and_true (eqb r s))))
+        sym (same_rows 1 (omega arith) q ∙ (unfold type_inner_of kind pairwise in rw (← u, ← v) (and-true (eqb r s))))
 
     pub other_columns : {r s : ℕ} → k ≡ 2 → r ≡ type_word table a 1 → s ≡ type_word table b 1 → (r ≡ s → ⊥) → false ≡ same
     other_columns {r} {s} q u v n =
@@ -173,8 +173,8 @@ module _ (table : List ℕ) (a b : ℕ) where
 
     pub same-matrices : {r s c d : ℕ} → k ≡ 2 → c ≡ type_word table a 1 → d ≡ type_word table b 1 → c ≡ d → r ≡ type_word table a 2 → s ≡ type_word table b 2 → eqb r s ≡ same
     same-matrices {r} {s} {c} {d} q x y n u v =
-        sym (same_rows 2 (omega arith) q ∙ (unfold type_inner_of kind pairwise in rw (← x, ← y, eq-eqb c d n, ← u, ← v) (and_true (eqb r s))))
+        sym (same_rows 2 (omega arith) q ∙ (unfold type_inner_of kind pairwise in rw (← x, ← y, eq-eqb c d n, ← u, ← v) (and-true (eqb r s))))
 
     pub same-arrays : {r s : ℕ} → k ≡ 5 → r ≡ type_word table a 2 → s ≡ type_word table b 2 → eqb r s ≡ same
     same-arrays {r} {s} q u v =
-        sym (same_rows 5 (omega arith) q ∙ (unfold type_inner_of kind pairwise in rw (← u, ← v) (and_true (eqb r s))))
+        sym (same_rows 5 (omega arith) q ∙ (unfold type_inner_of kind pairwise in rw (← u, ← v) (and-true (eqb r s))))

@@ -4,7 +4,7 @@ use Prim.Native.Nat.{ℕ, zero, suc, ◌+◌, ◌<◌, ◌≤◌}
 use native.Mathlib.Omega.{arith}
 use native.Mathlib.Decide.{ℕ_discrete}
 use mathlib.Core.Path.{◌≡◌, refl, sym, ap, ap₂, ◌∙◌}
-use mathlib.Core.Bool.{Bool, true, false, not, ◌&&◌, ◌||◌, and_false, or_false}
+use mathlib.Core.Bool.{Bool, true, false, not, ◌&&◌, ◌||◌, and-false, or-false}
 use mathlib.Core.List.{List, [], ◌∷◌, map}
 use lib.Dec.{eqb}
 use lib.ListN.{length, get_or}
@@ -38,7 +38,7 @@ every-false : (p : ℕ → Bool) (xs : List ℕ) (i : ℕ) → i < length xs →
 unfolding every
 every-false p [] i l h = absurd (omega arith)
 every-false p (x ∷ xs) zero l h = rw h
-every-false p (x ∷ xs) (suc i) l h = rw (every-false p xs i (omega arith) h) (and_false (p x))
+every-false p (x ∷ xs) (suc i) l h = rw (every-false p xs i (omega arith) h) (and-false (p x))
 
 every-member : (ms : List Member) → every (λ m. true) ms ≡ true
 unfolding every
@@ -132,7 +132,7 @@ itself-plain Opaque n = refl
 
 module _ (rows : List ℕ) (t : ℕ) {k : ℕ} (e : k ≡ number (get_or (types_of rows) t Opaque)) where
   pub itself-array : {r : ℕ} → k ≡ 5 → r ≡ type_word rows t 2 → eqb r 0 ≡ itself (get_or (types_of rows) t Opaque)
-  itself-array {r} h w = sym (rw (row_is rows t 5 (omega arith) e h) (unfold type_inner_of holds_in in rw (← w) (or_false (eqb r 0))))
+  itself-array {r} h w = sym (rw (row_is rows t 5 (omega arith) e h) (unfold type_inner_of holds_in in rw (← w) (or-false (eqb r 0))))
 
   pub itself-other : (k ≡ 5 → ⊥) → eqb k 7 ≡ itself (get_or (types_of rows) t Opaque)
   itself-other n = rw e (itself-plain (get_or (types_of rows) t Opaque) (λ q. n (e ∙ q)))

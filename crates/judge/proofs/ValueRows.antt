@@ -3,7 +3,7 @@ use Prim.Native.Nat.{ℕ, zero, suc, ◌+◌, ◌<◌, ◌≤◌}
 use native.Mathlib.Omega.{arith}
 use native.Mathlib.Decide.{dec_lt}
 use mathlib.Core.Path.{◌≡◌, refl, sym, ap, ◌∙◌}
-use mathlib.Core.Bool.{Bool, true, false, not, ◌&&◌, and_false}
+use mathlib.Core.Bool.{Bool, true, false, not, ◌&&◌, and-false}
 use mathlib.Core.List.{List, [], ◌∷◌, ◌++◌}
 use lib.Dec.{eqb}
 use lib.ListN.{length, get_or, get_or-eq_default}
@@ -58,7 +58,7 @@ every-not p zero g i l h = absurd (omega arith)
 every-not p (suc n) g i l h =
     elim (dec_lt i n) [
       | yes m ↦ every-last p n g ∙ rw (every-not p n g i m h)
-      | no m ↦ let z : i ≡ n = omega arith in every-last p n g ∙ (rw (← z, h) (and_false (every p (tab i g))))
+      | no m ↦ let z : i ≡ n = omega arith in every-last p n g ∙ (rw (← z, h) (and-false (every p (tab i g))))
     ]
 
 module _ (p : ℕ → Bool) (n : ℕ) (g : ℕ → ℕ) where

@@ -5,7 +5,7 @@ use mathlib.Core.List.{List, [], ◌∷◌, ◌++◌}
 use native.Mathlib.Numerals.{add-one}
 use native.Mathlib.Omega.{arith}
 use lib.ListN.{length, get_or, take, drop, drop_of_length-le}
-use lib.Seq.{drop-cons, take-nil, drop-nil, take-take, drop_drop}
+use lib.Seq.{drop-cons, take-nil, drop-nil, take-take, drop-drop}
 use Rattle.module.specs.Module.{Statement}
 use Rattle.module.specs.Marks.{mark_count, marks_before}
 use Rattle.module.specs.Tables.{function_of, module_of}
@@ -51,7 +51,7 @@ left_behind : (ms : List ℕ) (from a b n c : ℕ) → b ≡ a + c → b ≤ n �
 left_behind ms from a b n c e h =
     let cut : n - a ≡ c + (n - b) = omega arith in
     let place : from + a + c ≡ from + b = omega arith in
-    rw (cut, drop_take c (n - b) (drop (from + a) ms), drop_drop c (from + a) ms, place)
+    rw (cut, drop_take c (n - b) (drop (from + a) ms), drop-drop c (from + a) ms, place)
 
 first_line : (k : ℕ) (s : Statement) (ss : List Statement) (xs ys zs : List ℕ) → take (mark_count s) xs ≡ take (mark_count s) ys → drop (mark_count s) xs ≡ zs → statements_text k (s ∷ ss) xs ≡ statement_text k s ys ++ statements_text (suc k) ss zs
 unfolding statements_text

@@ -5,7 +5,7 @@ use Prim.Native.Nat.{ℕ, suc, ◌+◌, ◌<◌, ◌≤◌}
 use native.Mathlib.Numerals.{add-one}
 use native.Mathlib.Omega.{arith}
 use lib.ListN.{length, get_or, take, drop, set, replicate, length-drop, drop_of_length-le, replicate-append-replicate}
-use lib.Seq.{sets, length-sets, sets-eq, take-set-le, take-set-lt, drop-set-lt, drop-set-add, take-suc, get_or-drop, drop_drop, length-take-le, get_or-set_other}
+use lib.Seq.{sets, length-sets, sets-eq, take-set-le, take-set-lt, drop-set-lt, drop-set-add, take-suc, get_or-drop, drop-drop, length-take-le, get_or-set_other}
 use Rattle.walk.specs.Marks.{write_marks, add_mark, add_marks}
 use Rattle.marks.specs.Places.{slice}
 
@@ -26,7 +26,7 @@ pub write_lent : (xs : List ℕ) (at k : ℕ) (ys : List ℕ) → length ys ≡ 
 write_lent xs at k ys e h =
     sym
     (write_cut xs at ys (omega arith)
-    ∙ rw (e, append_assoc (take at xs) ys (drop (at + k) xs), drop_drop k at xs))
+    ∙ rw (e, append_assoc (take at xs) ys (drop (at + k) xs), drop-drop k at xs))
 
 pub write_all : (xs ys : List ℕ) → length ys ≡ length xs → write_marks xs 0 ys ≡ ys
 write_all xs ys e =

@@ -151,9 +151,9 @@ record_first : {q : PartReq} {j : ℕ} {p r : PartReq} → Recorded q → q ≡ 
 record_first missing e = let z : ◌≡◌ {A = ℕ} 0 1 = cc in absurd (omega arith)
 record_first (present p) e = (cc, cc)
 
-and_true : (b : Bool) → b && true ≡ b
-and_true true = refl
-and_true false = refl
+and-true : (b : Bool) → b && true ≡ b
+and-true true = refl
+and-true false = refl
 
 pub record_none : (s : List ℕ) (n p : ℕ) → n < 3 → false ≡ same (part s n) (more 0 (part s p) none)
 unfolding same
@@ -167,7 +167,7 @@ unfolding same
 record_cell {s} {n} {j} {c} {r} {p} g h x =
     let a = record_first h.1 x.is in
     let l : c < top s = omega (arith, x.child_low) in
-    same-pieces g c p l h.0.1 ∙ rw (x.is, a.0, a.1) (sym (and_true (same (part s c) (part s p))))
+    same-pieces g c p l h.0.1 ∙ rw (x.is, a.0, a.1) (sym (and-true (same (part s c) (part s p))))
 
 -- `note`
 set_there : (ps : List PartReq) (k : ℕ) (q : PartReq) → k < length ps → get_or ps k none ≡ q → set ps k q ≡ ps

@@ -26,9 +26,9 @@ and_not : (b : Bool) → b && false ≡ false
 and_not true = refl
 and_not false = refl
 
-and_true : (b : Bool) → b && true ≡ b
-and_true true = refl
-and_true false = refl
+and-true : (b : Bool) → b && true ≡ b
+and-true true = refl
+and-true false = refl
 
 module _ {s : List ℕ} {m i p n : ℕ} (g : Passing s m i p n) where
   pub passed_end : n ≤ 2 → eqb n 0 ≡ contains (part s m) (more i (part s p) none)
@@ -53,7 +53,7 @@ module _ {s : List ℕ} {m i p n : ℕ} (g : Passing s m i p n) where
         sym (at e ∙ ap (λ b. contains (part s c) (part s p) && not b) bare ∙ and_not (contains (part s c) (part s p))) ∙ g.is
 
     pub passed_at : i ≡ j → (r ≡ 1 → ⊥) → {b : Bool} → b ≡ contains (part s c) (part s p) → b ≡ contains (part s m) (more i (part s p) none)
-    passed_at e ne h = h ∙ sym (at e ∙ rw (not_exist s r ne) (and_true _)) ∙ g.is
+    passed_at e ne h = h ∙ sym (at e ∙ rw (not_exist s r ne) (and-true _)) ∙ g.is
 
     pub passed_asks : Good s → p < top s → Good s × ((c < top s) × (p < top s))
     passed_asks w h = (w, (omega (arith, g.inside, x.child_low), h))

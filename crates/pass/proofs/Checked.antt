@@ -4,7 +4,7 @@ use Prim.Native.Nat.{ℕ, zero, suc, ◌≤◌}
 use native.Mathlib.Omega.{arith}
 use native.Mathlib.Decide.{dec_lt}
 use mathlib.Core.Path.{◌≡◌, refl, sym, ap, ◌∙◌}
-use mathlib.Core.Bool.{Bool, true, false, cond, ◌&&◌, or_false}
+use mathlib.Core.Bool.{Bool, true, false, cond, ◌&&◌, or-false}
 use mathlib.Core.List.{List, [], ◌∷◌}
 use mathlib.Core.Option.{Option, some, none as nothing}
 use mathlib.Core.Logic.{◌⊎◌, inl, inr, ⊎_elim}
@@ -87,7 +87,7 @@ lowest-of (n ∷ ns) = ap (lower n) (lowest-of ns)
 module _ (S : Scope) (R : Request) (P : Report) where
   answer_is : (t : Table) → answer_of P (outcome (setting S R) (body S P) (ending S R) (some t)) ≡ answer_by S R P (some t)
   unfolding answer_of outcome answer_by
-  answer_is t = unfold after carry fresh limited at_point too_many faults start_needs in simp (or_false, lowest-of)
+  answer_is t = unfold after carry fresh limited at_point too_many faults start_needs in simp (or-false, lowest-of)
 
   last_agrees : Agree (setting S R) (body S P) (ending S R) (last_pass S R P) (settle (setting S R) (body S P) (ending S R) max_rounds [])
   unfolding last_pass

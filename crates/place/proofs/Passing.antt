@@ -40,13 +40,13 @@ any_last : (xs : List ℕ) (e : ℕ) → any (xs ++ (e ∷ [])) ≡ true
 any_last [] e = refl
 any_last (x ∷ xs) e = refl
 
-or_true : (b : Bool) → b || true ≡ true
-or_true true = refl
-or_true false = refl
+or-true : (b : Bool) → b || true ≡ true
+or-true true = refl
+or-true false = refl
 
-or_false : (b : Bool) → b || false ≡ b
-or_false true = refl
-or_false false = refl
+or-false : (b : Bool) → b || false ≡ b
+or-false true = refl
+or-false false = refl
 
 -- a word put in front of a part
 part_none : (path : List ℕ) (n : ℕ) → part path n n ≡ []
@@ -98,7 +98,7 @@ module _ (U : Scope) where
           low = omega arith;
           high = simp length-set (omega (arith, P.low, P.high));
           rest = rw (part_none (set path next w) next, ← then_dynamic (path_of U b).steps i (part path from to)) (rw q at P.rest);
-          found = sym (or_true d) ∙ (rw (← any_last (indexes (path_of U b).steps) i, ← indexes-dynamic (path_of U b).steps i) (rw q at P.found));
+          found = sym (or-true d) ∙ (rw (← any_last (indexes (path_of U b).steps) i, ← indexes-dynamic (path_of U b).steps i) (rw q at P.found));
         }
 
 module _ {bytes t : List ℕ} {f h : ℕ} {row : Kinded} (R : At bytes t f h row) {e from to : ℕ} {path : List ℕ} {d : Bool} (P : Passed (S R) e path h from to d) where
@@ -159,6 +159,6 @@ module _ {bytes t : List ℕ} {f h : ℕ} {row : Kinded} (R : At bytes t f h row
           low = omega (arith, P.low, P.room);
           high = simp length-set P.high;
           is = put_two ∙ (rw (root_is, last) at P.rest);
-          dynamic = sym (or_false d) ∙ (rw last at P.found);
+          dynamic = sym (or-false d) ∙ (rw last at P.found);
           long = simp length-set l;
         }

@@ -1,7 +1,7 @@
 -- What is written of a pruner is read back, whatever follows it in the buffer: field by field, each part by the law of its own form.
 use Prim.Native.Nat.{ℕ, suc, ◌+◌, ◌*◌, ◌≤◌}
 use native.Mathlib.Omega.{arith}
-use native.Mathlib.Nat.{zero_add}
+use native.Mathlib.Nat.{zero-add}
 use mathlib.Core.Path.{◌≡◌, refl, ap, sym, subst, ◌∙◌}
 use mathlib.Core.Bool.{Bool, true, false}
 use mathlib.Core.List.{List, [], ◌∷◌, ◌++◌, append_assoc, append-nil}
@@ -68,7 +68,7 @@ module _ (m : Module) (v : Valid m) where
   unfolding read_totals write_totals
   totals_back f [] fs h = refl
   totals_back f (t ∷ ts) fs h =
-      let first : FineTotal m f t = subst (λ (g : ℕ). FineTotal m g t) (zero_add f) (h 0) in
+      let first : FineTotal m f t = subst (λ (g : ℕ). FineTotal m g t) (zero-add f) (h 0) in
       let next : (i : ℕ) → suc i + f ≡ i + suc f = λ i. omega arith in
       let later : (i : ℕ) → FineTotal m (i + suc f) (get_or ts i nothing) = λ i. subst (λ (g : ℕ). FineTotal m g (get_or ts i nothing)) (next i) (h (suc i)) in
       rw (append_assoc (write_total t) (write_totals ts) fs, total_back f t (write_totals ts ++ fs) first, totals_back (suc f) ts fs later)

@@ -40,11 +40,11 @@ use Rattle.pruner.specs.Reading.{RoomBeside, MarksAre, MarksWereRead, TooMany, R
 use Rattle.pruner.specs.declared.kept.Next.{Next}
 use Rattle.pruner.specs.declared.kept.Next.TheVariants.{Refused, At}
 
-drop_drop : (n m : ℕ) (xs : List ℕ) → drop m (drop n xs) ≡ drop (n + m) xs
-drop_drop zero m xs = let z : 0 + m ≡ m = omega arith in rw z refl
-drop_drop (suc n) zero [] = let z : suc n + 0 ≡ suc n = omega arith in rw z refl
-drop_drop (suc n) (suc m) [] = let z : suc n + suc m ≡ suc (n + suc m) = omega arith in rw z refl
-drop_drop (suc n) m (x ∷ xs) = let z : suc n + m ≡ suc (n + m) = omega arith in rw z (drop_drop n m xs)
+drop-drop : (n m : ℕ) (xs : List ℕ) → drop m (drop n xs) ≡ drop (n + m) xs
+drop-drop zero m xs = let z : 0 + m ≡ m = omega arith in rw z refl
+drop-drop (suc n) zero [] = let z : suc n + 0 ≡ suc n = omega arith in rw z refl
+drop-drop (suc n) (suc m) [] = let z : suc n + suc m ≡ suc (n + suc m) = omega arith in rw z refl
+drop-drop (suc n) m (x ∷ xs) = let z : suc n + m ≡ suc (n + m) = omega arith in rw z (drop-drop n m xs)
 
 -- what counts for too much with more after it
 module _ (marks : List ℕ) (sum : ℕ) where
@@ -147,7 +147,7 @@ module _ {bytes t places s rs totals : List ℕ} (h : HasTotals bytes t places s
         marks_is : own-marks ≡ slice (drop totals_at after) (start_in places f) (size_in places f)
         marks_is =
             let one : to - from' ≡ size_in places f = omega arith in
-            rw (one, a) (ap (take (size_in places f)) (sym (drop_drop totals_at (start_in places f) after)))
+            rw (one, a) (ap (take (size_in places f)) (sym (drop-drop totals_at (start_in places f) after)))
 
         sized : Sized (drop totals_at after) totals
         sized = record { marks_long = omega (arith, length-drop totals_at after, after-long, h.totals_long); totals_long = h.totals_long }

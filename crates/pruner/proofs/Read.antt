@@ -1,7 +1,7 @@
 -- What is read is fine, and 16 allows it: so that any buffer that is accepted is a pruner that a request can begin with. From what is read as a part, list by list.
 use Prim.Native.Nat.{ℕ, zero, suc, ◌+◌, ◌≤◌}
 use native.Mathlib.Omega.{arith}
-use native.Mathlib.Nat.{zero_add, add-zero}
+use native.Mathlib.Nat.{zero-add, add-zero}
 use mathlib.Core.Path.{◌≡◌, refl, sym, subst}
 use mathlib.Core.Bool.{Bool, true, false, cond}
 use mathlib.Core.List.{List, [], ◌∷◌}
@@ -101,7 +101,7 @@ module _ (m : Module) where
     pub each : (i : ℕ) → FineTotal m (i + f) (get_or ts i nothing)
 
   each_next : (f : FunctionHandle) (t : Option FunctionReq) (ts : List (Option FunctionReq)) → FineTotal m f t → ((i : ℕ) → FineTotal m (i + suc f) (get_or ts i nothing)) → (i : ℕ) → FineTotal m (i + f) (get_or (t ∷ ts) i nothing)
-  each_next f t ts h k zero = subst (λ (g : ℕ). FineTotal m g t) (sym (zero_add f)) h
+  each_next f t ts h k zero = subst (λ (g : ℕ). FineTotal m g t) (sym (zero-add f)) h
   each_next f t ts h k (suc i) =
       let next : i + suc f ≡ suc i + f = omega arith in
       subst (λ (g : ℕ). FineTotal m g (get_or ts i nothing)) next (k i)

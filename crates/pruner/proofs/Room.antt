@@ -2,7 +2,7 @@
 -- file has few; and five for each function.
 use Prim.Native.Nat.{ℕ, suc, ◌+◌, ◌*◌, ◌<◌, ◌≤◌}
 use native.Mathlib.Omega.{arith}
-use native.Mathlib.Nat.{zero_add, add-zero}
+use native.Mathlib.Nat.{zero-add, add-zero}
 use mathlib.Core.Path.{◌≡◌, refl, ap, sym, subst, ◌∙◌}
 use mathlib.Core.List.{List, [], ◌∷◌, ◌++◌}
 use mathlib.Core.Option.{Option, some, none as nothing}
@@ -71,7 +71,7 @@ module _ (m : Module) where
   module _ (bytes : List ℕ) (read : read_module bytes ≡ accepted m) where
     room-few : {d : Function} {f : FunctionHandle} {x : Function} {fs : List Function} → Functions d f (x ∷ fs) → room f ≤ 5 + 2 * records_of x
     room-few {d} {f} {x} {fs} h =
-        let here : function_at m f ≡ x = ap (function_at m) (sym (zero_add f)) ∙ h.each 0 (omega arith) in
+        let here : function_at m f ≡ x = ap (function_at m) (sym (zero-add f)) ∙ h.each 0 (omega arith) in
         let few = stretch-few bytes m read f (omega (arith, h.there)) in
         let same : records_of (function_at m f) ≡ records_of x = ap records_of here in
         omega arith
@@ -83,7 +83,7 @@ module _ (m : Module) where
     totals_long f [] (t ∷ ts) h e k = absurd (omega arith)
     totals_long f (x ∷ fs) [] h e k = absurd (omega arith)
     totals_long f (x ∷ fs) (t ∷ ts) h e k =
-        let first : FineTotal m f t = subst (λ (g : ℕ). FineTotal m g t) (zero_add f) (k 0) in
+        let first : FineTotal m f t = subst (λ (g : ℕ). FineTotal m g t) (zero-add f) (k 0) in
         let later : (i : ℕ) → FineTotal m (i + suc f) (get_or ts i nothing) = λ i. subst (λ (g : ℕ). FineTotal m g (get_or ts i nothing)) (sym (next i f)) (k (suc i)) in
         let long : length ts ≡ length fs = omega arith in
         omega (arith, length-append (write_total t) (write_totals ts), total_long f t first, room-few h, totals_long (suc f) fs ts (functions_next h) long later)

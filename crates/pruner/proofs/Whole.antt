@@ -1,7 +1,7 @@
 -- What the code writes of all totals: a function's is there or 0 stands for it, one function after the other, and then the header before the body.
 use Prim.Native.Nat.{ℕ, zero, suc, ◌+◌, ◌-◌, ◌*◌, ◌<◌, ◌≤◌}
 use native.Mathlib.Omega.{arith}
-use native.Mathlib.Nat.{zero_add}
+use native.Mathlib.Nat.{zero-add}
 use native.Mathlib.Decide.{dec_lt}
 use native.Mathlib.Numerals.{add-one}
 use mathlib.Core.Path.{◌≡◌, refl, ap, sym, ◌∙◌}
@@ -214,4 +214,4 @@ module _ {bytes t places s rs totals : List ℕ} (h : HasTotals bytes t places s
         pub pruner-written : {u : List ℕ} → u ≡ set_word (set (set q 0 80) 1 78) 2 (end - 6) → u ≡ write_pruner pruner ++ drop (length (write_pruner pruner)) o
         pruner-written e =
             pruner-set e ∙ sets-eq (write_pruner pruner) o 0 (omega arith)
-            ∙ ap (λ (k : ℕ). write_pruner pruner ++ drop k o) (zero_add (length (write_pruner pruner)))
+            ∙ ap (λ (k : ℕ). write_pruner pruner ++ drop k o) (zero-add (length (write_pruner pruner)))

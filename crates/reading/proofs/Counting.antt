@@ -1,7 +1,7 @@
 -- Counting, block by block: what has been counted so far, and whether all of it is below its holder.
 use mathlib.Core.Path.{◌≡◌, refl, sym, ◌∙◌}
 use mathlib.Core.Logic.{◌≢◌}
-use mathlib.Core.Bool.{Bool, true, false, ◌&&◌, and_assoc, and_true}
+use mathlib.Core.Bool.{Bool, true, false, ◌&&◌, and_assoc, and-true}
 use mathlib.Core.List.{List, [], ◌∷◌, ◌++◌, append-nil, append_assoc}
 use Prim.Native.Nat.{ℕ, zero, suc, ◌+◌, ◌-◌, ◌<◌, ◌≤◌}
 use native.Mathlib.Omega.{arith}
@@ -45,7 +45,7 @@ and_these {b} {first} {seen} {seen2} {below} {below2} {hs} {ks} c d =
 
 one : (b k : ℕ) (seen : List ℕ) → Counted b seen (set seen k (more (get_or seen k 0))) (ltb k b) (k ∷ [])
 unfolding counted all_below
-one b k seen = record { words = refl; answer = sym (and_true (ltb k b)) }
+one b k seen = record { words = refl; answer = sym (and-true (ltb k b)) }
 
 module _ {b : ℕ} {first seen : List ℕ} {below : Bool} (f : ℕ → ℕ) (i : ℕ) {k : ℕ} (is : k ≡ f i) (c : Counted b first seen below (tab i f)) where
   next : Counted b first (set seen k (more (get_or seen k 0))) (below && ltb k b) (tab (suc i) f)

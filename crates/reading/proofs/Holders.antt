@@ -1,6 +1,6 @@
 -- All blocks, one by one: what they hold so far, and whether it is below its holders.
 use mathlib.Core.Path.{◌≡◌, refl, sym, ◌∙◌}
-use mathlib.Core.Bool.{Bool, true, ◌&&◌, and_assoc, and_true}
+use mathlib.Core.Bool.{Bool, true, ◌&&◌, and_assoc, and-true}
 use mathlib.Core.List.{List, [], ◌∷◌, ◌++◌, append-nil, append_assoc}
 use Prim.Native.Nat.{ℕ, suc, ◌+◌, ◌≤◌}
 use native.Mathlib.Omega.{arith}
@@ -17,7 +17,7 @@ module _ (sts : List Statement) where
   unfolding holders_above
   above_next b c [] x e =
       let o : c ≡ b = omega arith in
-      rw o (and_true (all_below b (held_in sts x)))
+      rw o (and-true (all_below b (held_in sts x)))
   above_next b c (y ∷ ys) x e = rw (above_next (suc b) c ys x (omega arith)) (sym (and_assoc (all_below b (held_in sts y)) (holders_above sts (suc b) ys) (all_below c (held_in sts x))))
 
   all_next : (xs : List BlockRange) (x : BlockRange) → held_in_all sts (xs ++ (x ∷ [])) ≡ held_in_all sts xs ++ held_in sts x

@@ -1,7 +1,7 @@
 -- A whole input: its module and its request are the parts that the code lends on, and the text is the definition's; written, it stands at the front of the buffer.
 use Prim.Native.Nat.{ℕ, ◌+◌, ◌-◌, ◌<◌, ◌≤◌}
 use native.Mathlib.Omega.{arith}
-use native.Mathlib.Nat.{sub-zero, zero_add}
+use native.Mathlib.Nat.{sub-zero, zero-add}
 use mathlib.Core.Path.{◌≡◌, sym, ap, ◌∙◌}
 use mathlib.Core.Bool.{Bool}
 use mathlib.Core.List.{List, ◌++◌}
@@ -76,7 +76,7 @@ module _ {text bytes t asked-bytes places s rs open_marks : List ℕ} {a : Outco
 -- a text behind a text
 front-then : {xs ys zs text more : List ℕ} {n r : ℕ} → Front xs ys text n → Wrote ys zs n more r → length text + length more ≤ length xs → Front xs zs (text ++ more) r
 front-then {xs} {ys} {zs} {text} {more} {n} {r} F W l =
-    let all = sets-eq text xs 0 (omega arith) ∙ ap (λ (e : ℕ). text ++ drop e xs) (zero_add (length text)) in
+    let all = sets-eq text xs 0 (omega arith) ∙ ap (λ (e : ℕ). text ++ drop e xs) (zero-add (length text)) in
     let first : Wrote xs ys 0 text n = record { is = F.is ∙ sym all; behind = omega (arith, F.behind) } in
     wrote_front (wrote_then first W) (omega (arith, length-append text more))
 

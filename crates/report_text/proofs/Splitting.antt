@@ -6,7 +6,7 @@ use mathlib.Core.Path.{◌≡◌, refl, sym, ap, ◌∙◌}
 use mathlib.Core.Bool.{true, false}
 use mathlib.Core.List.{List, [], ◌∷◌}
 use lib.ListN.{length, drop, length-drop}
-use lib.Seq.{drop_drop, get_or-drop}
+use lib.Seq.{drop-drop, get_or-drop}
 use borrow.Author.Tests.{le-leb, lt-leb, eq-eqb, ne_eqb}
 use Rattle.field.specs.Field.{field_at}
 use Rattle.report_text.specs.Split.{request_mark, heads_request, module_bytes}
@@ -103,5 +103,5 @@ module _ {s : List ℕ} {at : ℕ} (p : Passed s at) where
       inside = omega (arith, p.inside);
       is =
           let gone = rest (drop at s) (4 + field_at s (at + 2)) (omega (arith, left)) in
-          omega (arith, p.is, onward, gone, ap (λ (xs : List ℕ). module_bytes xs 0) (drop_drop (4 + field_at s (at + 2)) at s));
+          omega (arith, p.is, onward, gone, ap (λ (xs : List ℕ). module_bytes xs 0) (drop-drop (4 + field_at s (at + 2)) at s));
     }

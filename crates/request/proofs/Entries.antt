@@ -2,7 +2,7 @@
 use Prim.Native.Nat.{ℕ, zero, suc, ◌+◌, ◌-◌, ◌≤◌, ◌<◌}
 use native.Mathlib.Omega.{arith}
 use native.Mathlib.Numerals.{add-one}
-use native.Mathlib.Nat.{zero_add}
+use native.Mathlib.Nat.{zero-add}
 use mathlib.Core.Path.{◌≡◌, refl, ap, sym, subst, ◌∙◌}
 use mathlib.Core.Bool.{Bool, true, false, ◌&&◌}
 use mathlib.Core.List.{List, ◌∷◌}
@@ -21,9 +21,9 @@ use Rattle.request.specs.Answers.{from, RoomFor, Spent, part_read, PartPlaced, P
 use Rattle.part.proofs.Pieces.{part-0, part-1, part-2}
 use Rattle.request.proofs.Bytes.{from_cons, from_end}
 
-and_false : (a : Bool) → a && false ≡ false
-and_false true = refl
-and_false false = refl
+and-false : (a : Bool) → a && false ≡ false
+and-false true = refl
+and-false false = refl
 
 module _ (part' : List ℕ → Read PartReq) (base low n : ℕ) where
   pub entries_none : (fs : List ℕ) → n ≡ 0 → read_entries part' base low n fs ≡ got none fs
@@ -42,7 +42,7 @@ module _ (part' : List ℕ → Read PartReq) (base low n : ℕ) where
 
       pub entries_absent : absent ≤ field_at b at → read_entries part' base low n (from b at) ≡ malformed
       unfolding read_entries
-      entries_absent h = rw (some, from_cons b at inside, le-ltb (field_at b at) absent h, and_false (leb low (field_at b at)))
+      entries_absent h = rw (some, from_cons b at inside, le-ltb (field_at b at) absent h, and-false (leb low (field_at b at)))
 
       pub entries_next : low ≤ field_at b at → field_at b at < absent
           → read_entries part' base low n (from b at)
@@ -186,7 +186,7 @@ module _ (d : ℕ) {s t u b : List ℕ} {at low n i k next end p r : ℕ} {a c :
       let child : read_part d (from b (at + 2)) ≡ got (part u p) (from b next) = part-read first e ∙ rw same in
       record {
         kept = kept_on first.kept (kept_on later.kept made.kept);
-        is = rw made.is (sym (index_rest x 0 d child (part-read later f) ∙ rw (zero_add i)));
+        is = rw made.is (sym (index_rest x 0 d child (part-read later f) ∙ rw (zero-add i)));
         placed = (made.piece, record { further = omega (arith, held.1, also.1); inside = also.1.inside; cost = omega (arith, held.1, also.1, made.cost) });
       }
 

@@ -54,9 +54,9 @@ pub is_some : (b : Bool) (q g : PartReq) → cond b (some q) nothing ≡ some g 
 is_some true q g e = (refl, cc)
 is_some false q g e = let z : ◌≡◌ {A = ℕ} 0 1 = cc in absurd (omega arith)
 
-and_false : (a : Bool) → a && false ≡ false
-and_false true = refl
-and_false false = refl
+and-false : (a : Bool) → a && false ≡ false
+and-false true = refl
+and-false false = refl
 
 -- a piece that may be nothing means the same later
 pub optional-kept : {s t : List ℕ} → Kept s t → (o : Optional) → Held s o → optional t o ≡ optional s o
@@ -97,7 +97,7 @@ module _ (functions globals report f : ℕ) {s t b : List ℕ} {at : ℕ} (o : O
       unfolding judge known
       globals_unknown z =
           let below : all_below (variable globals) read_list.list ≡ false = not_some _ _ (read_list.chosen ∙ ap (optional t) z) in
-          refuse_request requests.NoSuch (sym (ends_with ∙ rw (below, and_false (ltb f functions)))) tt
+          refuse_request requests.NoSuch (sym (ends_with ∙ rw (below, and-false (ltb f functions)))) tt
 
       module _ {n : ℕ} (z : g ≡ Piece n) where
         all_known : (all_below (variable globals) read_list.list ≡ true) × (read_list.list ≡ part t n)

@@ -1,7 +1,7 @@
 -- The end of a request in code: what its calls ask, from the walk that has ended, and that the reply and the buffers are the definition's.
 use Prim.Native.Nat.{ℕ, suc, ◌+◌, ◌-◌, ◌<◌, ◌≤◌}
 use native.Mathlib.Omega.{arith}
-use native.Mathlib.Nat.{le_refl, zero_add}
+use native.Mathlib.Nat.{le_refl, zero-add}
 use mathlib.Core.Path.{◌≡◌, refl, sym, ap, ◌∙◌}
 use mathlib.Core.Bool.{Bool}
 use mathlib.Core.List.{List, [], ◌∷◌, ◌++◌}
@@ -189,7 +189,7 @@ module _ {bytes t places s rs open_marks totals : List ℕ} {f : FunctionHandle}
         reported ∙ ap (λ (g : ℕ). write_marks report 0 (report_in places open_marks totals g n)) (sym same) ∙ report_set E.standing report n count in
         let to-pruner : pruner-after ≡ sets pruner 0 (write_pruner (pruner_in bytes t s rs totals)) =
         totalled
-        ∙ ap (λ (k : ℕ). write_pruner (pruner_in bytes t s rs totals) ++ drop k pruner) (sym (zero_add (length (write_pruner (pruner_in bytes t s rs totals)))))
+        ∙ ap (λ (k : ℕ). write_pruner (pruner_in bytes t s rs totals) ++ drop k pruner) (sym (zero-add (length (write_pruner (pruner_in bytes t s rs totals)))))
         ∙ sym (sets-eq (write_pruner (pruner_in bytes t s rs totals)) pruner 0 (omega (arith, F.pruner_long))) in
         let to-answer : answer-after ≡ sets answer 0 (answer_in t s rs q.function (base + 4) required visits) =
         answered ∙ ap (λ (g : ℕ). sets answer 0 (answer_in t s rs g (base + 4) required visits)) (sym same) in

@@ -34,7 +34,7 @@ stretches_few m f (x ∷ fs) d h few =
 pub few_bytes : (bytes : List ℕ) (m : Module) → read_module bytes ≡ accepted m → stretches_from m 0 m.functions ≤ min_report
 unfolding function_at
 few_bytes bytes m e =
-    omega (arith, few_records bytes m e, stretches_few m 0 m.functions _ (λ i l. ap (function_at m) (zero_add i)) (each_few bytes m e))
+    omega (arith, few_records bytes m e, stretches_few m 0 m.functions _ (λ i l. ap (function_at m) (zero-add i)) (each_few bytes m e))
   where
-    zero_add : (i : ℕ) → 0 + i ≡ i
-    zero_add i = omega arith
+    zero-add : (i : ℕ) → 0 + i ≡ i
+    zero-add i = omega arith

@@ -9,7 +9,7 @@ use native.Mathlib.Omega.{arith}
 use lib.Dec.{ltb, leb}
 use lib.ListN.{length, get_or, set, length-append, length-set}
 use lib.Seq.{get_or-set_other}
-use borrow.Author.Tests.{ltb-true, leb-true, ne_eqb, not_true}
+use borrow.Author.Tests.{ltb-true, leb-true, ne_eqb, not-true}
 use Rattle.module.specs.Module.{Statement, Function, Module}
 use Rattle.module.specs.declared.record.Mark.{Mark}
 use Rattle.module.specs.declared.record.Mark.TheVariants.{TY, GV, FN, AR, LV, EX, BK, ST}
@@ -62,7 +62,7 @@ emit-ticked : (bs : List Bool) (e n : ℕ) → unemitted bs e n ≡ true → e +
 unfolding emit unemitted
 emit-ticked bs e zero h l = omega arith
 emit-ticked bs e (suc n) h l =
-    let free : get_or bs e false ≡ false = not_true _ (and_left (not (get_or bs e false)) (unemitted bs (suc e) n) h) in
+    let free : get_or bs e false ≡ false = not-true _ (and_left (not (get_or bs e false)) (unemitted bs (suc e) n) h) in
     let later : unemitted (set bs e true) (suc e) n ≡ true =
     unemitted-set bs e (suc e) n (omega arith) ∙ and_right (not (get_or bs e false)) (unemitted bs (suc e) n) h in
     let one = ticked-set bs e (omega arith) free in

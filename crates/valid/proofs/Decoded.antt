@@ -8,7 +8,7 @@ use Prim.Native.Nat.{ℕ, zero, suc, ◌+◌, ◌*◌, ◌<◌, ◌≤◌}
 use native.Mathlib.Omega.{arith}
 use lib.Dec.{ltb, leb, eqb}
 use lib.ListN.{length, get_or}
-use borrow.Author.Tests.{ltb-true, leb-true, not_true}
+use borrow.Author.Tests.{ltb-true, leb-true, not-true}
 use Rattle.field.specs.Limits.{absent, max_members, max_components, max_arguments}
 use Rattle.module.specs.Module.{Member, SwitchCase}
 use Rattle.module.specs.Shape.{never, type_shapes, expression_shapes, statement_shapes, type_shape, expression_shape, statement_shape}
@@ -114,7 +114,7 @@ module _ (s : Scope) (o : ℕ → ℕ) where
       let n = s.expressions in
       let e : (i : ℕ) → 1 + (1 + i) ≡ 2 + i = λ i. omega arith in
       let g : 1 + (1 + o 1 + 0) ≡ 2 + o 1 = omega arith in
-      (not_true (get_or s.entries (o 0) true) h.0, each_tab n (o 1) (λ i. o (2 + i)) (λ i l. subst (λ (k : ℕ). ltb (o k) n ≡ true) (e i) (h.1.0 i l)), maybe n (o (2 + o 1)) (subst (λ (k : ℕ). below_or_absent n (o k) ≡ true) g h.1.1.0))
+      (not-true (get_or s.entries (o 0) true) h.0, each_tab n (o 1) (λ i. o (2 + i)) (λ i l. subst (λ (k : ℕ). ltb (o k) n ≡ true) (e i) (h.1.0 i l)), maybe n (o (2 + o 1)) (subst (λ (k : ℕ). below_or_absent n (o k) ≡ true) g h.1.1.0))
 
   gather_fine : Fits (statement_shape 19) s o → ModeBelow s.expressions (mode_of (o 0) (o 1)) × (o (1 + get_or mode_handles (o 0) 0) < s.expressions) × (o (2 + get_or mode_handles (o 0) 0) < s.expressions)
   unfolding statement_shapes

@@ -12,7 +12,7 @@ use native.Mathlib.Omega.{arith}
 use lib.Dec.{ltb, leb, eqb}
 use lib.ListN.{length, get_or, set, length-set, get_or-append}
 use lib.Seq.{get_or_at, get_or-set_same}
-use borrow.Author.Tests.{ltb-true, not_true}
+use borrow.Author.Tests.{ltb-true, not-true}
 use Rattle.module.specs.Module.{Statement, Emit}
 use Rattle.module.specs.declared.record.Mark.TheVariants.{ST}
 use Rattle.module.specs.Kinds.{statement_kind}
@@ -77,7 +77,7 @@ unfolding unemitted
 unemitted-free bs e zero k u l h = absurd (omega arith)
 unemitted-free bs e (suc n) k u l h =
     elim (ℕ_discrete k e) [
-      | yes q ↦ rw q (not_true (get_or bs e false) (and_left (not (get_or bs e false)) (unemitted bs (suc e) n) u))
+      | yes q ↦ rw q (not-true (get_or bs e false) (and_left (not (get_or bs e false)) (unemitted bs (suc e) n) u))
       | no ne ↦ unemitted-free bs (suc e) n k (and_right (not (get_or bs e false)) (unemitted bs (suc e) n) u) (omega arith) (omega arith)
     ]
 

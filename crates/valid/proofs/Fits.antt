@@ -8,8 +8,8 @@ use Prim.Native.Nat.{ℕ, zero, suc, ◌+◌, ◌*◌, ◌-◌, ◌<◌}
 use native.Mathlib.Omega.{arith}
 use lib.Dec.{ltb, leb, eqb}
 use lib.ListN.{get_or, drop}
-use lib.Seq.{get_or-drop, drop_drop}
-use borrow.Author.Tests.{not_true}
+use lib.Seq.{get_or-drop, drop-drop}
+use borrow.Author.Tests.{not-true}
 use Rattle.field.specs.Limits.{absent}
 use Rattle.module.specs.Decode.{level_handles, mode_handles}
 use Rattle.module.specs.Shape.{Operand, expression, optional, index, list, pattern, level, mode, argument, global, local, block, cases, function, range, type, size, members, binding, flag, result, never}
@@ -109,7 +109,7 @@ each_suc P n z s (suc i) h = s i (omega arith)
 drop-suc : (n : ℕ) (xs : List ℕ) → drop n (drop 1 xs) ≡ drop (suc n) xs
 drop-suc n xs =
     let e : 1 + n ≡ suc n = omega arith in
-    drop_drop n 1 xs ∙ ap (λ (k : ℕ). drop k xs) e
+    drop-drop n 1 xs ∙ ap (λ (k : ℕ). drop k xs) e
 
 get_d_drop_one : (xs : List ℕ) (i : ℕ) → get_or (drop 1 xs) i 0 ≡ get_or xs (suc i) 0
 get_d_drop_one xs i =
@@ -133,7 +133,7 @@ pairs-fits p q (suc n) xs k h =
     (sym (then-on_left (one p xs) (λ ys. then (one q ys) (pairs p q n)) k) ∙ h) in
     let b = one-fits q (drop 1 xs) (λ ys. on_left (pairs p q n ys) k) (sym (then-on_left (one q (drop 1 xs)) (pairs p q n) k) ∙ a.1) in
     let t = pairs-fits p q n (drop 1 (drop 1 xs)) k b.1 in
-    let two : drop 1 (drop 1 xs) ≡ drop 2 xs = drop_drop 1 1 xs in
+    let two : drop 1 (drop 1 xs) ≡ drop 2 xs = drop-drop 1 1 xs in
     let d : (j : ℕ) → get_or (drop 1 (drop 1 xs)) j 0 ≡ get_or xs (2 + j) 0 =
     λ j. ap (λ (ys : List ℕ). get_or ys j 0) two ∙ get_or-drop 2 xs j 0 in
     let e : (i : ℕ) → 2 + 2 * i ≡ 2 * suc i = λ i. omega arith in
@@ -144,7 +144,7 @@ pairs-fits p q (suc n) xs k h =
           n
           (a.0, sym (ap q (get_d_drop_one xs 0)) ∙ b.0)
           (λ i l. (sym (ap p (d (2 * i) ∙ ap (numbers xs) (e i))) ∙ (t.0 i l).0, sym (ap q (d (1 + 2 * i) ∙ ap (numbers xs) (f i))) ∙ (t.0 i l).1)),
-      sym (ap k (ap (drop (2 * n)) two ∙ drop_drop (2 * n) 2 xs ∙ ap (λ (m : ℕ). drop m xs) g)) ∙ t.1,
+      sym (ap k (ap (drop (2 * n)) two ∙ drop-drop (2 * n) 2 xs ∙ ap (λ (m : ℕ). drop m xs) g)) ∙ t.1,
     )
 
 -- the values stand at every second field
@@ -164,8 +164,8 @@ cases_fits earlier (suc n) (v ∷ b ∷ xs) k h =
     let a = given-true (not (elem v earlier)) (cases_after (v ∷ earlier) n xs) k h in
     let c = cases_fits (v ∷ earlier) n xs k a.1 in
     let g : 2 + 2 * n ≡ 2 * suc n = omega arith in (
-      cases_more earlier n (λ i. numbers (v ∷ b ∷ xs) (2 * i)) (not_true (elem v earlier) a.0) (values_after (v ∷ earlier) n v b xs c.0),
-      sym (ap k (drop_drop (2 * n) 2 (v ∷ b ∷ xs) ∙ ap (λ (m : ℕ). drop m (v ∷ b ∷ xs)) g)) ∙ c.1,
+      cases_more earlier n (λ i. numbers (v ∷ b ∷ xs) (2 * i)) (not-true (elem v earlier) a.0) (values_after (v ∷ earlier) n v b xs c.0),
+      sym (ap k (drop-drop (2 * n) 2 (v ∷ b ∷ xs) ∙ ap (λ (m : ℕ). drop m (v ∷ b ∷ xs)) g)) ∙ c.1,
     )
 
 range_fits : (n : ℕ) (emitted : List Bool) (xs : List ℕ) (k : List ℕ → Bool) → on_left (range_in n emitted xs) k ≡ true → ((leb (numbers xs 0) (numbers xs 1) ≡ true) × (ltb (numbers xs 1) n ≡ true)) × (k (drop 2 xs) ≡ true)
@@ -188,7 +188,7 @@ result_fits n (x ∷ y ∷ xs) k h =
 behind : (p : ℕ → Bool) (n : ℕ) (xs : List ℕ) (k : List ℕ → Bool) → on_left (many p n (drop 1 xs)) k ≡ true → ((i : ℕ) → i < n → p (numbers xs (1 + i)) ≡ true) × (k (drop (1 + n) xs) ≡ true)
 behind p n xs k h =
     let a = many-fits p n (drop 1 xs) k h in
-    (λ i l. sym (ap p (get_or-drop 1 xs i 0)) ∙ a.0 i l, sym (ap k (drop_drop n 1 xs)) ∙ a.1)
+    (λ i l. sym (ap p (get_or-drop 1 xs i 0)) ∙ a.0 i l, sym (ap k (drop-drop n 1 xs)) ∙ a.1)
 
 -- what is left of the fields after an operand, and what is true of it
 pub class_fits : (c : Operand) (s : Scope) (xs : List ℕ) (k : List ℕ → Bool) → on_left (taken c s xs) k ≡ true → Fit c s (numbers xs) × (k (drop (width c (numbers xs)) xs) ≡ true)
@@ -220,7 +220,7 @@ class_fits local s xs k h = one-fits (below s.locals) xs k h
 class_fits block s xs k h = (tt, (one-fits (λ x. true) xs k h).1)
 class_fits cases s xs k h =
     let a = cases_fits [] (numbers xs 0) (drop 1 xs) k (counted-fits (cases_after []) xs k h) in
-    (subst (CasesRead [] (numbers xs 0)) (fun_ext (λ i. get_or-drop 1 xs (2 * i) 0)) a.0, sym (ap k (drop_drop (2 * numbers xs 0) 1 xs)) ∙ a.1)
+    (subst (CasesRead [] (numbers xs 0)) (fun_ext (λ i. get_or-drop 1 xs (2 * i) 0)) a.0, sym (ap k (drop-drop (2 * numbers xs 0) 1 xs)) ∙ a.1)
 class_fits function s xs k h = one-fits (λ x. not (get_or s.entries x true)) xs k h
 class_fits range s xs k h = range_fits s.expressions s.emitted xs k h
 class_fits type s xs k h = one-fits (below s.types) xs k h
@@ -230,7 +230,7 @@ class_fits members s xs k h =
     pairs-fits (below s.types) (below_or_absent bindings) (numbers xs 0) (drop 1 xs) k
     (counted-fits (pairs (below s.types) (below_or_absent bindings)) xs k h) in
     let e : (i : ℕ) → 1 + (1 + 2 * i) ≡ 2 + 2 * i = λ i. omega arith in
-    (λ i l. (sym (ap (below s.types) (get_or-drop 1 xs (2 * i) 0)) ∙ (a.0 i l).0, sym (ap (below_or_absent bindings) (get_or-drop 1 xs (1 + 2 * i) 0 ∙ ap (numbers xs) (e i))) ∙ (a.0 i l).1), sym (ap k (drop_drop (2 * numbers xs 0) 1 xs)) ∙ a.1)
+    (λ i l. (sym (ap (below s.types) (get_or-drop 1 xs (2 * i) 0)) ∙ (a.0 i l).0, sym (ap (below_or_absent bindings) (get_or-drop 1 xs (1 + 2 * i) 0 ∙ ap (numbers xs) (e i))) ∙ (a.0 i l).1), sym (ap k (drop-drop (2 * numbers xs 0) 1 xs)) ∙ a.1)
 class_fits binding s xs k h = one-fits (below_or_absent bindings) xs k h
 class_fits flag s xs k h = one-fits (below 2) xs k h
 class_fits result s xs k h = result_fits s.types xs k h

@@ -1,6 +1,6 @@
 -- `acts::emits::act_emit` meets its contract: nothing is needed, or the expression's slot is taken out and its operands are asked (Emit).
 use mathlib.Core.Path.{◌∙◌}
-use borrow.Author.Tests.{not_true, not-false}
+use borrow.Author.Tests.{not-true, not-false}
 use Rattle.acts.proofs.Steps.{needs_some, acted_none}
 use Rattle.acts.proofs.Storing.{act_needing}
 use Rattle.acts.proofs.Emit.{emit-take, emit-full, operands_given, operands_full, emit_copy, emit-left}
@@ -45,7 +45,7 @@ same-length-2 : tie.Need-same-length-2
 same-length-2 c = search rules
 
 returns : tie.Need-returns
-returns c = acted_none c.before.before.before.before.before.before.before.before.before.before.before.before.before.before.before.before.requires.0.ready c.before.before.before.before.emit-overlap.ensures c.before.is_some.ensures (not_true _ c.if1.true)
+returns c = acted_none c.before.before.before.before.before.before.before.before.before.before.before.before.before.before.before.before.requires.0.ready c.before.before.before.before.emit-overlap.ensures c.before.is_some.ensures (not-true _ c.if1.true)
 
 evaluated-path-requires : tie.Need-evaluated-path-requires
 evaluated-path-requires c κs = omega (arith, c.before.before.before.before.before.before.before.before.before.before.before.before.before.before.before.before.before.requires.0.room, c.before.before.before.before.before.emit-overlap.ensures.long)
@@ -72,7 +72,7 @@ same-length-5 : tie.Need-same-length-5
 same-length-5 c = search rules
 
 returns-2 : tie.Need-returns-2
-returns-2 c = record { step = emit-full c.before.before.before.before.before.before.before.before.before.before.before.before.before.before.before.before.before.before.before.before.before.before.before.before.before.before.before.before.before.before.requires.0 c.before.before.before.before.before.before.before.before.before.before.before.before.before.before.before.before.before.before.before.before.before.before.before.before.before.before.before.before.before.before.requires.1 (needs_some c.before.before.before.before.before.before.before.before.before.before.before.before.before.before.before.before.before.before.emit-overlap.ensures c.before.before.before.before.before.before.before.before.before.before.before.before.before.before.before.is_some.ensures (not-false _ c.before.before.before.before.before.before.before.before.before.before.before.before.before.before.if1.false)) c.before.before.before.before.before.before.before.before.before.before.before.before.evaluated-path.ensures.is c.before.before.before.before.before.take_out.ensures (not_true _ c.if2.true); long = c.before.before.before.before.before.before.before.before.before.before.before.before.evaluated-path.ensures.long ∙ c.before.before.before.before.before.before.before.before.before.before.before.before.before.before.before.before.before.before.emit-overlap.ensures.long }
+returns-2 c = record { step = emit-full c.before.before.before.before.before.before.before.before.before.before.before.before.before.before.before.before.before.before.before.before.before.before.before.before.before.before.before.before.before.before.requires.0 c.before.before.before.before.before.before.before.before.before.before.before.before.before.before.before.before.before.before.before.before.before.before.before.before.before.before.before.before.before.before.requires.1 (needs_some c.before.before.before.before.before.before.before.before.before.before.before.before.before.before.before.before.before.before.emit-overlap.ensures c.before.before.before.before.before.before.before.before.before.before.before.before.before.before.before.is_some.ensures (not-false _ c.before.before.before.before.before.before.before.before.before.before.before.before.before.before.if1.false)) c.before.before.before.before.before.before.before.before.before.before.before.before.evaluated-path.ensures.is c.before.before.before.before.before.take_out.ensures (not-true _ c.if2.true); long = c.before.before.before.before.before.before.before.before.before.before.before.before.evaluated-path.ensures.long ∙ c.before.before.before.before.before.before.before.before.before.before.before.before.before.before.before.before.before.before.emit-overlap.ensures.long }
 
 ask-emitted-requires : tie.Need-ask-emitted-requires
 ask-emitted-requires c κs = (operands_given c.before.before.before.before.before.before.before.before.before.before.before.before.before.before.before.before.before.before.before.before.before.before.before.before.before.before.before.before.before.before.before.before.before.requires.0 c.before.before.before.before.before.before.before.before.before.before.before.before.before.before.before.before.before.before.before.before.before.before.before.before.before.before.before.before.before.before.before.before.before.requires.1 (needs_some c.before.before.before.before.before.before.before.before.before.before.before.before.before.before.before.before.before.before.before.before.before.emit-overlap.ensures c.before.before.before.before.before.before.before.before.before.before.before.before.before.before.before.before.before.before.is_some.ensures (not-false _ c.before.before.before.before.before.before.before.before.before.before.before.before.before.before.before.before.before.if1.false)) c.before.before.before.before.before.before.before.before.before.before.before.before.before.before.before.evaluated-path.ensures.is c.before.before.before.before.before.before.before.before.take_out.ensures (not-false _ c.before.before.before.if2.false), omega (arith, c.before.before.before.before.before.before.before.before.before.before.before.before.before.before.before.before.before.before.before.before.before.before.before.before.before.before.before.before.before.before.before.before.before.requires.0.room, c.before.before.before.before.before.before.before.before.before.before.before.before.before.before.before.evaluated-path.ensures.long, c.before.before.before.before.before.before.before.before.before.before.before.before.before.before.before.before.before.before.before.before.before.emit-overlap.ensures.long))
@@ -87,7 +87,7 @@ same-length-8 : tie.Need-same-length-8
 same-length-8 c = search rules
 
 returns-3 : tie.Need-returns-3
-returns-3 c = record { step = operands_full c.before.before.before.before.before.before.before.before.before.before.before.before.before.before.before.before.before.before.before.before.before.before.before.before.before.before.before.before.before.before.before.before.before.before.before.before.before.before.before.before.before.requires.0 c.before.before.before.before.before.before.before.before.before.before.before.before.before.before.before.before.before.before.before.before.before.before.before.before.before.before.before.before.before.before.before.before.before.before.before.before.before.before.before.before.before.requires.1 (needs_some c.before.before.before.before.before.before.before.before.before.before.before.before.before.before.before.before.before.before.before.before.before.before.before.before.before.before.before.before.before.emit-overlap.ensures c.before.before.before.before.before.before.before.before.before.before.before.before.before.before.before.before.before.before.before.before.before.before.before.before.before.before.is_some.ensures (not-false _ c.before.before.before.before.before.before.before.before.before.before.before.before.before.before.before.before.before.before.before.before.before.before.before.before.before.if1.false)) c.before.before.before.before.before.before.before.before.before.before.before.before.before.before.before.before.before.before.before.before.before.before.before.evaluated-path.ensures.is c.before.before.before.before.before.before.before.before.before.before.before.before.before.before.before.before.take_out.ensures (not-false _ c.before.before.before.before.before.before.before.before.before.before.before.if2.false) c.before.before.before.before.before.before.before.ask-emitted.ensures (not_true _ c.if3.true); long = c.before.before.before.before.before.before.before.ask-emitted.auto.1.1.1.1.1.1.1.1.0 ∙ (c.before.before.before.before.before.before.before.before.before.before.before.before.before.before.before.before.before.before.before.before.before.before.before.evaluated-path.ensures.long ∙ c.before.before.before.before.before.before.before.before.before.before.before.before.before.before.before.before.before.before.before.before.before.before.before.before.before.before.before.before.before.emit-overlap.ensures.long) }
+returns-3 c = record { step = operands_full c.before.before.before.before.before.before.before.before.before.before.before.before.before.before.before.before.before.before.before.before.before.before.before.before.before.before.before.before.before.before.before.before.before.before.before.before.before.before.before.before.before.requires.0 c.before.before.before.before.before.before.before.before.before.before.before.before.before.before.before.before.before.before.before.before.before.before.before.before.before.before.before.before.before.before.before.before.before.before.before.before.before.before.before.before.before.requires.1 (needs_some c.before.before.before.before.before.before.before.before.before.before.before.before.before.before.before.before.before.before.before.before.before.before.before.before.before.before.before.before.before.emit-overlap.ensures c.before.before.before.before.before.before.before.before.before.before.before.before.before.before.before.before.before.before.before.before.before.before.before.before.before.before.is_some.ensures (not-false _ c.before.before.before.before.before.before.before.before.before.before.before.before.before.before.before.before.before.before.before.before.before.before.before.before.before.if1.false)) c.before.before.before.before.before.before.before.before.before.before.before.before.before.before.before.before.before.before.before.before.before.before.before.evaluated-path.ensures.is c.before.before.before.before.before.before.before.before.before.before.before.before.before.before.before.before.take_out.ensures (not-false _ c.before.before.before.before.before.before.before.before.before.before.before.if2.false) c.before.before.before.before.before.before.before.ask-emitted.ensures (not-true _ c.if3.true); long = c.before.before.before.before.before.before.before.ask-emitted.auto.1.1.1.1.1.1.1.1.0 ∙ (c.before.before.before.before.before.before.before.before.before.before.before.before.before.before.before.before.before.before.before.before.before.before.before.evaluated-path.ensures.long ∙ c.before.before.before.before.before.before.before.before.before.before.before.before.before.before.before.before.before.before.before.before.before.before.before.before.before.before.before.before.before.emit-overlap.ensures.long) }
 
 copy-requires : tie.Need-copy-requires
 copy-requires c κs = emit_copy c.before.before.before.before.before.before.before.before.before.before.before.before.before.before.before.before.before.before.before.before.before.before.before.before.before.before.before.before.before.before.before.before.before.before.before.before.before.before.before.before.before.before.requires.0 c.before.before.before.before.before.before.before.before.before.before.before.before.before.before.before.before.before.before.before.before.before.before.before.before.before.before.before.before.before.before.before.before.before.before.before.before.before.before.before.before.before.before.requires.1 (needs_some c.before.before.before.before.before.before.before.before.before.before.before.before.before.before.before.before.before.before.before.before.before.before.before.before.before.before.before.before.before.before.emit-overlap.ensures c.before.before.before.before.before.before.before.before.before.before.before.before.before.before.before.before.before.before.before.before.before.before.before.before.before.before.before.is_some.ensures (not-false _ c.before.before.before.before.before.before.before.before.before.before.before.before.before.before.before.before.before.before.before.before.before.before.before.before.before.before.if1.false)) c.before.before.before.before.before.before.before.before.before.before.before.before.before.before.before.before.before.before.before.before.before.before.before.before.evaluated-path.ensures.is c.before.before.before.before.before.before.before.before.before.before.before.before.before.before.before.before.before.take_out.ensures (not-false _ c.before.before.before.before.before.before.before.before.before.before.before.before.if2.false) c.before.before.before.before.before.before.before.before.ask-emitted.ensures (not-false _ c.before.if3.false)

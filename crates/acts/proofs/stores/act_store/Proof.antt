@@ -1,6 +1,6 @@
 -- `acts::stores::act_store` meets its contract: nothing is needed, or the store has a dynamic index, or it has none (Storing).
 use mathlib.Core.Path.{sym, ◌∙◌}
-use borrow.Author.Tests.{not_true, not-false}
+use borrow.Author.Tests.{not-true, not-false}
 use Rattle.acts.proofs.Steps.{needs_some, acted_none}
 use Rattle.acts.proofs.Storing.{act_needing, store_pointer, known_asks, somewhere_asks, known_acted, somewhere_acted}
 use native.Mathlib.Omega.{arith}
@@ -37,7 +37,7 @@ same-length-2 : tie.Need-same-length-2
 same-length-2 c = search rules
 
 returns : tie.Need-returns
-returns c = acted_none c.before.before.before.before.before.before.before.before.before.before.before.before.before.before.before.before.requires.0.ready (c.before.before.before.before.store-overlap.ensures c.before.before.before.before.before.before.before.before.before.before.before.before.before.before.before.before.args.v.0) c.before.is_some.ensures (not_true _ c.if1.true)
+returns c = acted_none c.before.before.before.before.before.before.before.before.before.before.before.before.before.before.before.before.requires.0.ready (c.before.before.before.before.store-overlap.ensures c.before.before.before.before.before.before.before.before.before.before.before.before.before.before.before.before.args.v.0) c.before.is_some.ensures (not-true _ c.if1.true)
 
 find-target-requires : tie.Need-find-target-requires
 find-target-requires c κs = (store_pointer c.before.before.before.before.before.before.before.before.before.before.before.before.before.before.before.before.before.requires.0 c.before.before.before.before.before.before.before.before.before.before.before.before.before.before.before.before.before.requires.1, omega (arith, c.before.before.before.before.before.before.before.before.before.before.before.before.before.before.before.before.before.requires.0.room, (c.before.before.before.before.before.store-overlap.ensures 0).long))

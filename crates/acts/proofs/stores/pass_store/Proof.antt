@@ -1,5 +1,5 @@
 -- `acts::stores::pass_store` meets its contract: marked, idle, or walked and blamed (Marked).
-use borrow.Author.Tests.{not_true, not-false}
+use borrow.Author.Tests.{not-true, not-false}
 use Rattle.acts.proofs.Storing.{store_pointer}
 use Rattle.acts.proofs.Marked.{here_given, hand_needing, above_asks, above_given, marked_on, marked_full, obeys_on, breaks_full, back_asks, breaks_on}
 use borrow.Author.Rules.{rules}
@@ -86,7 +86,7 @@ same-length-11 : tie.Need-same-length-11
 same-length-11 c = search rules
 
 returns-4 : tie.Need-returns-4
-returns-4 c = breaks_full c.before.before.before.before.before.before.before.before.before.before.before.before.before.before.before.before.before.before.before.before.before.before.before.before.before.before.before.before.before.before.before.before.requires.0.ready _ (c.before.before.before.before.before.before.before.before.before.before.before.before.before.before.before.before.before.before.before.store-idle.ensures c.before.before.before.before.before.before.before.before.before.before.before.before.before.before.before.before.before.before.before.before.before.before.before.before.before.before.before.before.before.before.before.before.args.v.0) c.before.before.before.before.before.before.before.before.before.before.before.before.before.before.before.before.if3.false (above_asks c.before.before.before.before.before.before.before.before.before.before.before.before.before.before.before.before.before.before.before.before.before.before.before.before.before.before.before.before.before.before.before.before.requires.0).1 c.before.before.before.before.before.before.before.before.before.before.before.before.before.before.copy.ensures c.before.before.before.before.before.before.before.before.act-store2.ensures c.before.before.before.before.before.before.before.before.before.before.before.before.before.before.before.before.before.before.before.before.before.before.before.if1.false (not_true _ c.before.if4.true) c.filled2.ensures
+returns-4 c = breaks_full c.before.before.before.before.before.before.before.before.before.before.before.before.before.before.before.before.before.before.before.before.before.before.before.before.before.before.before.before.before.before.before.before.requires.0.ready _ (c.before.before.before.before.before.before.before.before.before.before.before.before.before.before.before.before.before.before.before.store-idle.ensures c.before.before.before.before.before.before.before.before.before.before.before.before.before.before.before.before.before.before.before.before.before.before.before.before.before.before.before.before.before.before.before.before.args.v.0) c.before.before.before.before.before.before.before.before.before.before.before.before.before.before.before.before.if3.false (above_asks c.before.before.before.before.before.before.before.before.before.before.before.before.before.before.before.before.before.before.before.before.before.before.before.before.before.before.before.before.before.before.before.before.requires.0).1 c.before.before.before.before.before.before.before.before.before.before.before.before.before.before.copy.ensures c.before.before.before.before.before.before.before.before.act-store2.ensures c.before.before.before.before.before.before.before.before.before.before.before.before.before.before.before.before.before.before.before.before.before.before.before.if1.false (not-true _ c.before.if4.true) c.filled2.ensures
 
 copy-requires-2 : tie.Need-copy-requires-2
 copy-requires-2 c κs = back_asks c.before.before.before.before.before.before.before.before.before.before.before.before.before.before.before.before.before.before.before.before.before.before.before.before.before.before.before.before.before.before.before.before.requires.0.ready c.before.before.before.before.before.before.before.before.before.before.before.before.before.before.before.before.before.before.before.before.before.before.before.before.before.before.before.before.before.before.before.before.args.l (c.before.before.before.before.before.before.before.before.before.before.before.before.before.before.before.before.before.before.before.store-idle.ensures c.before.before.before.before.before.before.before.before.before.before.before.before.before.before.before.before.before.before.before.before.before.before.before.before.before.before.before.before.before.before.before.before.args.v.0) c.before.before.before.before.before.before.before.before.before.before.before.before.before.before.before.before.if3.false (above_asks c.before.before.before.before.before.before.before.before.before.before.before.before.before.before.before.before.before.before.before.before.before.before.before.before.before.before.before.before.before.before.before.before.requires.0).1 c.before.before.before.before.before.before.before.before.before.before.before.before.before.before.copy.ensures c.before.before.before.before.before.before.before.before.act-store2.ensures (not-false _ c.before.if4.false)

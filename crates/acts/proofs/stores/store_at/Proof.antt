@@ -1,5 +1,5 @@
 -- `acts::stores::store_at` meets its contract: a place taken out, and one ask (Storing).
-use borrow.Author.Tests.{not_true, not-false}
+use borrow.Author.Tests.{not-true, not-false}
 use Rattle.acts.proofs.Storing.{known_full, known_given, value_full, value_copy, known_left}
 use borrow.Author.Rules.{rules}
 use Rattle.acts.proofs.stores.store_at.Statement.{statement}
@@ -38,7 +38,7 @@ same-length-2 : tie.Need-same-length-2
 same-length-2 c = search rules
 
 returns : tie.Need-returns
-returns c = known_full c.before.before.before.before.before.before.before.before.before.before.before.before.before.before.before.requires.0 c.before.before.before.before.before.take_out.ensures (not_true _ c.if1.true)
+returns c = known_full c.before.before.before.before.before.before.before.before.before.before.before.before.before.before.before.requires.0 c.before.before.before.before.before.take_out.ensures (not-true _ c.if1.true)
 
 mul-part : tie.Need-overflow-mul-part
 mul-part c = search rules
@@ -59,7 +59,7 @@ same-length-4 : tie.Need-same-length-4
 same-length-4 c = search rules
 
 returns-2 : tie.Need-returns-2
-returns-2 c = value_full c.before.before.before.before.before.before.before.before.before.before.before.before.before.before.before.before.before.before.before.before.before.before.before.before.requires.0 c.before.before.before.before.before.before.before.before.before.before.before.before.before.before.take_out.ensures (not-false _ c.before.before.before.before.before.before.before.before.before.if1.false) c.before.before.before.before.before.ask-value.ensures (not_true _ c.if2.true)
+returns-2 c = value_full c.before.before.before.before.before.before.before.before.before.before.before.before.before.before.before.before.before.before.before.before.before.before.before.before.requires.0 c.before.before.before.before.before.before.before.before.before.before.before.before.before.before.take_out.ensures (not-false _ c.before.before.before.before.before.before.before.before.before.if1.false) c.before.before.before.before.before.ask-value.ensures (not-true _ c.if2.true)
 
 copy-requires : tie.Need-copy-requires
 copy-requires c κs = value_copy c.before.before.before.before.before.before.before.before.before.before.before.before.before.before.before.before.before.before.before.before.before.before.before.before.before.requires.0 c.before.before.before.before.before.before.before.before.before.before.before.before.before.before.before.take_out.ensures (not-false _ c.before.before.before.before.before.before.before.before.before.before.if1.false) c.before.before.before.before.before.before.ask-value.ensures (not-false _ c.before.if2.false)

@@ -1,5 +1,5 @@
 -- `acts::stores::store_somewhere` meets its contract: a copy of the needs, and asks (Storing).
-use borrow.Author.Tests.{not_true, not-false}
+use borrow.Author.Tests.{not-true, not-false}
 use Rattle.acts.proofs.Storing.{same_asks, indexes_given, indexes_full, stored_given, stored_full, stored_copy, somewhere_left}
 use borrow.Author.Rules.{rules}
 use Rattle.acts.proofs.stores.store_somewhere.Statement.{statement}
@@ -29,7 +29,7 @@ same-length-2 : tie.Need-same-length-2
 same-length-2 c = search rules
 
 returns : tie.Need-returns
-returns c = indexes_full c.before.before.before.before.before.before.before.before.before.before.before.before.before.before.before.before.requires c.before.before.before.before.before.before.before.before.before.before.copy.ensures c.before.before.before.before.before.ask-indexes.ensures (not_true _ c.if1.true)
+returns c = indexes_full c.before.before.before.before.before.before.before.before.before.before.before.before.before.before.before.before.requires c.before.before.before.before.before.before.before.before.before.before.copy.ensures c.before.before.before.before.before.ask-indexes.ensures (not-true _ c.if1.true)
 
 add-ask-value : tie.Need-overflow-add-ask-value
 add-ask-value c = search rules
@@ -44,7 +44,7 @@ same-length-4 : tie.Need-same-length-4
 same-length-4 c = search rules
 
 returns-2 : tie.Need-returns-2
-returns-2 c = stored_full c.before.before.before.before.before.before.before.before.before.before.before.before.before.before.before.before.before.before.before.before.before.before.before.before.requires c.before.before.before.before.before.before.before.before.before.before.before.before.before.before.before.before.before.before.copy.ensures c.before.before.before.before.before.before.before.before.before.before.before.before.before.ask-indexes.ensures (not-false _ c.before.before.before.before.before.before.before.before.if1.false) c.before.before.before.before.before.ask-value.ensures (not_true _ c.if2.true)
+returns-2 c = stored_full c.before.before.before.before.before.before.before.before.before.before.before.before.before.before.before.before.before.before.before.before.before.before.before.before.requires c.before.before.before.before.before.before.before.before.before.before.before.before.before.before.before.before.before.before.copy.ensures c.before.before.before.before.before.before.before.before.before.before.before.before.before.ask-indexes.ensures (not-false _ c.before.before.before.before.before.before.before.before.if1.false) c.before.before.before.before.before.ask-value.ensures (not-true _ c.if2.true)
 
 copy-requires-2 : tie.Need-copy-requires-2
 copy-requires-2 c κs = stored_copy c.before.before.before.before.before.before.before.before.before.before.before.before.before.before.before.before.before.before.before.before.before.before.before.before.before.requires c.before.before.before.before.before.before.before.before.before.before.before.before.before.before.before.before.before.before.before.copy.ensures c.before.before.before.before.before.before.before.before.before.before.before.before.before.before.ask-indexes.ensures (not-false _ c.before.before.before.before.before.before.before.before.before.if1.false) c.before.before.before.before.before.before.ask-value.ensures (not-false _ c.before.if2.false)

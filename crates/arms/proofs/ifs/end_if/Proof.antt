@@ -1,5 +1,5 @@
 -- `arms::ifs::end_if` meets its contract. Assumes nothing.
-use borrow.Author.Tests.{not_true, not-false}
+use borrow.Author.Tests.{not-true, not-false}
 use Rattle.arms.proofs.EndIf.{join-asked, ends_dropped, ends_over, condition_asked, ends_asked}
 use borrow.Author.Rules.{rules}
 use Rattle.arms.proofs.ifs.end_if.Statement.{statement}
@@ -19,7 +19,7 @@ same_length : tie.Need-same-length
 same_length c = search rules
 
 returns : tie.Need-returns
-returns c = ends_dropped c.before.before.before.before.before.before.before.before.before.before.requires.0 (not_true _ c.before.before.before.before.if1.true) c.before.before.drop-both.ensures
+returns c = ends_dropped c.before.before.before.before.before.before.before.before.before.before.requires.0 (not-true _ c.before.before.before.before.if1.true) c.before.before.drop-both.ensures
 
 join-up-requires : tie.Need-join-up-requires
 join-up-requires c κs = join-asked c.before.before.before.before.before.before.before.before.requires.0

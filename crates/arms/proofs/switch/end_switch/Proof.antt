@@ -1,7 +1,7 @@
 -- `arms::switch::end_switch` meets its contract: the joined cases are forgotten, or put aside while the selector is asked.
 use Rattle.arms.proofs.Switching.{aside_asks, selector_asks, back_asks, switch_drops, switch_halts, switch_takes}
 use native.Mathlib.Omega.{arith}
-use borrow.Author.Tests.{not_true, not-false}
+use borrow.Author.Tests.{not-true, not-false}
 use borrow.Author.Rules.{rules}
 use Rattle.arms.proofs.switch.end_switch.Statement.{statement}
 use Rattle.arms.proofs.switch.end_switch.Tie as tie
@@ -20,7 +20,7 @@ same_length : tie.Need-same-length
 same_length c = search rules
 
 returns : tie.Need-returns
-returns c = switch_drops _ (not_true _ c.before.before.before.before.if1.true) c.before.before.drop.ensures
+returns c = switch_drops _ (not-true _ c.before.before.before.before.if1.true) c.before.before.drop.ensures
 
 add-put-aside : tie.Need-overflow-add-put-aside
 add-put-aside c = search rules

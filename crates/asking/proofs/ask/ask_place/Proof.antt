@@ -1,6 +1,6 @@
 -- `asking::ask::ask_place` meets its contract.
 use mathlib.Core.Path.{sym, ◌∙◌}
-use borrow.Author.Tests.{not_true, not-false}
+use borrow.Author.Tests.{not-true, not-false}
 use Rattle.asking.proofs.Steps.{asks_none, wanted_asks, under_asks, push_asks, first_full, sum_asks, second_full, copy_asks, asks_sum}
 use borrow.Author.Rules.{rules}
 use Rattle.asking.proofs.ask.ask_place.Statement.{statement}
@@ -20,7 +20,7 @@ same_length : tie.Need-same-length
 same_length c = search rules
 
 returns : tie.Need-returns
-returns c = asks_none c.before.before.before.before.before.before.requires (sym c.before.is-wanted.ensures ∙ not_true _ c.if1.true)
+returns c = asks_none c.before.before.before.before.before.before.requires (sym c.before.is-wanted.ensures ∙ not-true _ c.if1.true)
 
 under-requires : tie.Need-under-requires
 under-requires c κs = under_asks c.before.before.before.before.before.before.before.requires
@@ -35,7 +35,7 @@ same-length-3 : tie.Need-same-length-3
 same-length-3 c = search rules
 
 returns-2 : tie.Need-returns-2
-returns-2 c = first_full c.before.before.before.before.before.before.before.before.before.before.before.before.before.before.before.before.before.before.requires c.before.before.before.before.before.before.before.before.before.before.under.ensures (sym c.before.before.before.before.before.before.before.before.before.before.before.before.before.is-wanted.ensures ∙ not-false _ c.before.before.before.before.before.before.before.before.before.before.before.before.if1.false) c.before.before.before.before.before.push.ensures (not_true _ c.if2.true)
+returns-2 c = first_full c.before.before.before.before.before.before.before.before.before.before.before.before.before.before.before.before.before.before.requires c.before.before.before.before.before.before.before.before.before.before.under.ensures (sym c.before.before.before.before.before.before.before.before.before.before.before.before.before.is-wanted.ensures ∙ not-false _ c.before.before.before.before.before.before.before.before.before.before.before.before.if1.false) c.before.before.before.before.before.push.ensures (not-true _ c.if2.true)
 
 add-push-sum : tie.Need-overflow-add-push-sum
 add-push-sum c = search rules
@@ -53,7 +53,7 @@ same-length-5 : tie.Need-same-length-5
 same-length-5 c = search rules
 
 returns-3 : tie.Need-returns-3
-returns-3 c = second_full c.before.before.before.before.before.before.before.before.before.before.before.before.before.before.before.before.before.before.before.before.before.before.before.before.before.before.requires c.before.before.before.before.before.before.before.before.before.before.before.before.before.before.before.before.before.before.under.ensures (sym c.before.before.before.before.before.before.before.before.before.before.before.before.before.before.before.before.before.before.before.before.before.is-wanted.ensures ∙ not-false _ c.before.before.before.before.before.before.before.before.before.before.before.before.before.before.before.before.before.before.before.before.if1.false) c.before.before.before.before.before.before.before.before.before.before.before.before.before.push.ensures (not-false _ c.before.before.before.before.before.before.before.before.if2.false) c.before.before.before.before.before.push-sum.ensures (not_true _ c.if3.true)
+returns-3 c = second_full c.before.before.before.before.before.before.before.before.before.before.before.before.before.before.before.before.before.before.before.before.before.before.before.before.before.before.requires c.before.before.before.before.before.before.before.before.before.before.before.before.before.before.before.before.before.before.under.ensures (sym c.before.before.before.before.before.before.before.before.before.before.before.before.before.before.before.before.before.before.before.before.before.is-wanted.ensures ∙ not-false _ c.before.before.before.before.before.before.before.before.before.before.before.before.before.before.before.before.before.before.before.before.if1.false) c.before.before.before.before.before.before.before.before.before.before.before.before.before.push.ensures (not-false _ c.before.before.before.before.before.before.before.before.if2.false) c.before.before.before.before.before.push-sum.ensures (not-true _ c.if3.true)
 
 add-copy : tie.Need-overflow-add-copy
 add-copy c = search rules

@@ -1,7 +1,7 @@
 -- The proof of the cycle of calls over blocks, statements and what they hold: the block's number falls. Each member's steps stand in a file of laws: Statements, Holders, Ifs, Switches, Loops.
 use Prim.Native.Nat.{◌+◌, ◌*◌, ◌-◌, ◌≤◌, ℕ, ◌<◌}
 use mathlib.Core.Path.{refl}
-use borrow.Author.Tests.{not_true, not-false}
+use borrow.Author.Tests.{not-true, not-false}
 use Rattle.module.specs.Tables.{function_of}
 use Rattle.access.specs.Access.{operand_at}
 use Rattle.judge.specs.Given.{scope_at}
@@ -398,7 +398,7 @@ pass-cases-same-length-6 : (t : ℕ) → pass-cases-lts.Need-same-length-6 (pass
 pass-cases-same-length-6 t c = (case_lengths c.before.before.before.before.before.before.before.before.before.before.before.before.before.before.before.before.before.before.before.before.before.before.before.before.before.before.before.before.before.before.before.before.before.before.before.before.before.before.requires.1.0 c.before.before.before.before.before.before.before.before.before.before.before.before.before.before.before.before.before.before.before.before.before.before.before.before.before.before.before.before.before.before.before.before.before.before.before.before.before.before.requires.1.1.1.0 c.before.before.before.before.before.before.before.before.before.before.before.before.before.before.before.before.before.before.before.before.before.before.before.before.before.before.before.before.before.before.before.before.before.before.before.before.before.before.requires.1.1.1.1.0 c.before.before.before.before.before.before.before.before.before.before.before.before.before.before.before.before.before.before.before.before.before.before.before.before.before.before.before.before.before.before.before.before.before.before.before.before.before.before.args.marks.now c.before.before.before.before.before.before.before.before.before.before.before.before.before.before.before.before.before.before.before.before.before.before.before.before.before.before.before.before.before.before.before.before.before.before.before.before.before.before.requires.1.1.0 _ c.before.before.before.before.before.before.before.before.before.before.before.before.before.before.before.before.before.before.before.before.before.before.before.before.before.before.loop.invariant.0 (omega (arith, c.before.before.before.before.before.before.before.before.before.before.before.before.before.before.before.before.before.before.before.before.before.before.before.before.before.loop-test.true, c.before.before.before.before.before.before.before.before.before.before.before.before.before.before.before.before.before.before.before.before.before.before.before.before.before.before.before.operand.ensures)) c.before.before.before.before.before.before.before.before.before.before.before.before.before.before.before.before.before.before.before.before.before.before.before.copy.ensures c.before.before.before.before.before.before.before.before.before.before.before.before.before.before.before.before.before.before.before.before.block-operand.ensures c.before.before.before.before.before.before.before.before.before.before.before.before.before.before.before.before.pass-around.ensures c.before.before.before.before.before.before.before.before.before.if1.false c.before.before.before.before.before.before.merge.ensures).1.1
 
 pass-cases-returns-2 : (t : ℕ) → pass-cases-lts.Need-returns-2 (pass_cases_called t) (pass_cases_at t) pass-cases.Post pass-cases-Inv-loop pass-cases-μ-loop
-pass-cases-returns-2 t c = case_ends_full c.before.before.before.before.before.before.before.before.before.before.before.before.before.before.before.before.before.before.before.before.before.before.before.before.before.before.before.before.before.before.before.before.before.before.before.before.before.before.requires.1.0 c.before.before.before.before.before.before.before.before.before.before.before.before.before.before.before.before.before.before.before.before.before.before.before.before.before.before.before.before.before.before.before.before.before.before.before.before.before.before.requires.1.1.1.0 c.before.before.before.before.before.before.before.before.before.before.before.before.before.before.before.before.before.before.before.before.before.before.before.before.before.before.before.before.before.before.before.before.before.before.before.before.before.before.requires.1.1.1.1.0 c.before.before.before.before.before.before.before.before.before.before.before.before.before.before.before.before.before.before.before.before.before.before.before.before.before.before.before.before.before.before.before.before.before.before.before.before.before.before.args.marks.now c.before.before.before.before.before.before.before.before.before.before.before.before.before.before.before.before.before.before.before.before.before.before.before.before.before.before.before.before.before.before.before.before.before.before.before.before.before.before.requires.1.1.0 _ c.before.before.before.before.before.before.before.before.before.before.before.before.before.before.before.before.before.before.before.before.before.before.before.before.before.before.loop.invariant.0 (omega (arith, c.before.before.before.before.before.before.before.before.before.before.before.before.before.before.before.before.before.before.before.before.before.before.before.before.before.loop-test.true, c.before.before.before.before.before.before.before.before.before.before.before.before.before.before.before.before.before.before.before.before.before.before.before.before.before.before.before.operand.ensures)) c.before.before.before.before.before.before.before.before.before.before.before.before.before.before.before.before.before.before.before.before.before.before.before.copy.ensures c.before.before.before.before.before.before.before.before.before.before.before.before.before.before.before.before.before.before.before.before.block-operand.ensures c.before.before.before.before.before.before.before.before.before.before.before.before.before.before.before.before.pass-around.ensures c.before.before.before.before.before.before.before.before.before.if1.false c.before.before.before.before.before.before.merge.ensures (not_true _ c.before.if2.true) c.filled.ensures
+pass-cases-returns-2 t c = case_ends_full c.before.before.before.before.before.before.before.before.before.before.before.before.before.before.before.before.before.before.before.before.before.before.before.before.before.before.before.before.before.before.before.before.before.before.before.before.before.before.requires.1.0 c.before.before.before.before.before.before.before.before.before.before.before.before.before.before.before.before.before.before.before.before.before.before.before.before.before.before.before.before.before.before.before.before.before.before.before.before.before.before.requires.1.1.1.0 c.before.before.before.before.before.before.before.before.before.before.before.before.before.before.before.before.before.before.before.before.before.before.before.before.before.before.before.before.before.before.before.before.before.before.before.before.before.before.requires.1.1.1.1.0 c.before.before.before.before.before.before.before.before.before.before.before.before.before.before.before.before.before.before.before.before.before.before.before.before.before.before.before.before.before.before.before.before.before.before.before.before.before.before.args.marks.now c.before.before.before.before.before.before.before.before.before.before.before.before.before.before.before.before.before.before.before.before.before.before.before.before.before.before.before.before.before.before.before.before.before.before.before.before.before.before.requires.1.1.0 _ c.before.before.before.before.before.before.before.before.before.before.before.before.before.before.before.before.before.before.before.before.before.before.before.before.before.before.loop.invariant.0 (omega (arith, c.before.before.before.before.before.before.before.before.before.before.before.before.before.before.before.before.before.before.before.before.before.before.before.before.before.loop-test.true, c.before.before.before.before.before.before.before.before.before.before.before.before.before.before.before.before.before.before.before.before.before.before.before.before.before.before.before.operand.ensures)) c.before.before.before.before.before.before.before.before.before.before.before.before.before.before.before.before.before.before.before.before.before.before.before.copy.ensures c.before.before.before.before.before.before.before.before.before.before.before.before.before.before.before.before.before.before.before.before.block-operand.ensures c.before.before.before.before.before.before.before.before.before.before.before.before.before.before.before.before.pass-around.ensures c.before.before.before.before.before.before.before.before.before.if1.false c.before.before.before.before.before.before.merge.ensures (not-true _ c.before.if2.true) c.filled.ensures
 
 pass-cases-add-i : (t : ℕ) → pass-cases-lts.Need-overflow-add-i (pass_cases_called t) (pass_cases_at t) pass-cases.Post pass-cases-Inv-loop pass-cases-μ-loop
 pass-cases-add-i t c = omega (arith, c.before.before.before.before.before.before.before.before.before.before.before.before.before.before.before.before.before.before.before.before.before.before.before.before.loop-test.true, c.before.before.before.before.before.before.before.before.before.before.before.before.before.before.before.before.before.before.before.before.before.before.before.before.before.before.operand.type-inv)
@@ -626,7 +626,7 @@ pass-loop-same-length-2 : (t : ℕ) → pass-loop-lts.Need-same-length-2 (pass_l
 pass-loop-same-length-2 t c = c.before.before.before.before.before.before.begin-loop.ensures.slots
 
 pass-loop-returns : (t : ℕ) → pass-loop-lts.Need-returns (pass_loop_called t) (pass_loop_at t) pass-loop.Post
-pass-loop-returns t c = loop_begun_full c.before.before.before.before.before.before.before.before.before.before.before.before.before.before.before.before.before.before.before.before.requires.1.0 c.before.before.before.before.before.before.before.before.before.before.before.before.before.before.before.before.before.before.before.before.requires.1.1.0 c.before.before.before.before.before.before.before.before.before.before.before.before.before.before.before.before.before.before.before.before.requires.1.1.1.0 c.before.before.before.before.before.before.before.before.before.before.before.before.before.before.before.before.before.before.before.before.requires.1.1.1.1 c.before.before.before.before.before.before.before.before.before.before.before.before.before.before.before.before.before.before.before.before.args.marks.now c.before.before.before.before.before.before.before.before.before.expression-operand.ensures c.before.before.before.before.before.before.begin-loop.ensures (not_true _ c.before.if1.true) c.filled.ensures
+pass-loop-returns t c = loop_begun_full c.before.before.before.before.before.before.before.before.before.before.before.before.before.before.before.before.before.before.before.before.requires.1.0 c.before.before.before.before.before.before.before.before.before.before.before.before.before.before.before.before.before.before.before.before.requires.1.1.0 c.before.before.before.before.before.before.before.before.before.before.before.before.before.before.before.before.before.before.before.before.requires.1.1.1.0 c.before.before.before.before.before.before.before.before.before.before.before.before.before.before.before.before.before.before.before.before.requires.1.1.1.1 c.before.before.before.before.before.before.before.before.before.before.before.before.before.before.before.before.before.before.before.before.args.marks.now c.before.before.before.before.before.before.before.before.before.expression-operand.ensures c.before.before.before.before.before.before.begin-loop.ensures (not-true _ c.before.if1.true) c.filled.ensures
 
 pass-loop-in-switch-requires : (t : ℕ) → pass-loop-lts.Need-in-switch-requires (pass_loop_called t) (pass_loop_at t) pass-loop.Post
 pass-loop-in-switch-requires t c κs = omega (arith, c.before.before.before.before.before.before.before.before.before.before.before.before.before.before.before.before.before.before.before.requires.1.0.ready.high)

@@ -1,5 +1,5 @@
 -- `context_bytes::check::check_context` meets its contract: one law for each way.
-use borrow.Author.Tests.{not_true, not-false}
+use borrow.Author.Tests.{not-true, not-false}
 use Rattle.request.proofs.ContextLists.{context_inside}
 use Rattle.context_bytes.proofs.Checked.{skip_placed}
 use Rattle.context_bytes.proofs.Lists.{no_record, no_return, status_read}
@@ -16,7 +16,7 @@ is-context-requires : tie.Need-is-context-requires
 is-context-requires c κs = search rules
 
 returns : tie.Need-returns
-returns c = no_record _ _ _ _ c.before.is-context.ensures (not_true _ c.if1.true)
+returns c = no_record _ _ _ _ c.before.is-context.ensures (not-true _ c.if1.true)
 
 skip-return-requires : tie.Need-skip-return-requires
 skip-return-requires c κs = context_inside 0 0 0 c.before.before.before.args.bytes.now c.before.is-context.ensures (not-false _ c.if1.false)

@@ -1,6 +1,6 @@
 -- `context_bytes::check::check_lists` meets its contract: one law for each way.
 use mathlib.Core.Path.{◌∙◌}
-use borrow.Author.Tests.{not_true, not-false}
+use borrow.Author.Tests.{not-true, not-false}
 use Rattle.request.proofs.Entries.{ended, goes_on}
 use Rattle.context_bytes.proofs.Checked.{check_placed}
 use Rattle.context_bytes.proofs.Lists.{no_globals, no_args, no_locals, lists_left, lists_known, lists_unknown}
@@ -53,7 +53,7 @@ ends-requires : tie.Need-ends-requires
 ends-requires c κs = (check_placed c.before.before.before.check-variables3.ensures c.before.l.given.1).1
 
 returns-4 : tie.Need-returns-4
-returns-4 c = lists_left _ _ _ c.before.before.before.before.before.before.before.before.before.before.before.before.before.check-variables.ensures c.before.before.before.before.before.before.before.before.before.before.before.g.given.1 c.before.before.before.before.before.before.before.before.before.check-variables2.ensures c.before.before.before.before.before.before.before.x.given.1 c.before.before.before.before.before.check-variables3.ensures c.before.before.before.l.given.1 (goes_on c.before.before.before.before.before.before.before.before.before.before.before.before.before.before.before.args.bytes.now _ c.before.ends.ensures (not_true _ c.if1.true))
+returns-4 c = lists_left _ _ _ c.before.before.before.before.before.before.before.before.before.before.before.before.before.check-variables.ensures c.before.before.before.before.before.before.before.before.before.before.before.g.given.1 c.before.before.before.before.before.before.before.before.before.check-variables2.ensures c.before.before.before.before.before.before.before.x.given.1 c.before.before.before.before.before.check-variables3.ensures c.before.before.before.l.given.1 (goes_on c.before.before.before.before.before.before.before.before.before.before.before.before.before.before.before.args.bytes.now _ c.before.ends.ensures (not-true _ c.if1.true))
 
 both-requires : tie.Need-both-requires
 both-requires c κs = search rules

@@ -1,5 +1,5 @@
 -- `context_bytes::count::count_context` meets its contract: one law for each way.
-use borrow.Author.Tests.{not_true, not-false}
+use borrow.Author.Tests.{not-true, not-false}
 use Rattle.request.proofs.ContextLists.{context_inside}
 use Rattle.context_bytes.proofs.Counted.{count_placed, no_frame, no_return, no_globals, no_args, no_locals, pieces_fit, pieces_are}
 use native.Mathlib.Omega.{arith}
@@ -16,7 +16,7 @@ is-context-requires : tie.Need-is-context-requires
 is-context-requires c κs = search rules
 
 returns : tie.Need-returns
-returns c = no_frame _ c.before.is-context.ensures (not_true _ c.if1.true)
+returns c = no_frame _ c.before.is-context.ensures (not-true _ c.if1.true)
 
 count-return-requires : tie.Need-count-return-requires
 count-return-requires c κs = (omega arith, context_inside 0 0 0 c.before.before.before.args.bytes.now c.before.is-context.ensures (not-false _ c.if1.false))

@@ -1,5 +1,5 @@
 -- `context_bytes::starts::context_covers` meets its contract: one law for each way.
-use borrow.Author.Tests.{not_true, not-false}
+use borrow.Author.Tests.{not-true, not-false}
 use Rattle.request.proofs.ContextLists.{context_inside}
 use Rattle.context_bytes.proofs.Checked.{skip_placed}
 use Rattle.context_bytes.proofs.Starting.{start_expression, start_unframed, start_no_return, start_lists}
@@ -24,7 +24,7 @@ is-context-requires : tie.Need-is-context-requires
 is-context-requires c κs = search rules
 
 returns-2 : tie.Need-returns-2
-returns-2 c = start_unframed _ _ _ c.before.is-context.ensures (not_true _ c.if2.true)
+returns-2 c = start_unframed _ _ _ c.before.is-context.ensures (not-true _ c.if2.true)
 
 skip-return-requires : tie.Need-skip-return-requires
 skip-return-requires c κs = context_inside 0 0 0 c.before.before.before.before.before.before.args.context.now c.before.is-context.ensures (not-false _ c.if2.false)

@@ -1,5 +1,5 @@
 -- From its steps (Holds).
-use borrow.Author.Tests.{not_true, not-false}
+use borrow.Author.Tests.{not-true, not-false}
 use Rattle.ends.proofs.Holds.{loop_plain, sum_asks, loop_short, loop_given, loop_begins}
 use borrow.Author.Rules.{rules}
 use Rattle.ends.proofs.held.begin_loop.Statement.{statement}
@@ -32,7 +32,7 @@ same-length-3 : tie.Need-same-length-3
 same-length-3 c = search rules
 
 returns-2 : tie.Need-returns-2
-returns-2 c = loop_short c.before.before.before.before.before.before.before.before.before.before.before.before.before.before.requires c.before.before.before.before.before.before.before.before.if1.false c.before.before.before.before.before.push-sum.ensures (not_true _ c.if2.true)
+returns-2 c = loop_short c.before.before.before.before.before.before.before.before.before.before.before.before.before.before.requires c.before.before.before.before.before.before.before.before.if1.false c.before.before.before.before.before.push-sum.ensures (not-true _ c.if2.true)
 
 add-ask-whole : tie.Need-overflow-add-ask-whole
 add-ask-whole c = search rules

@@ -1,5 +1,5 @@
 -- From its steps (Holds).
-use borrow.Author.Tests.{not_true, not-false}
+use borrow.Author.Tests.{not-true, not-false}
 use Rattle.ends.proofs.Holds.{merge_asks, if_given, if_ends, if_short}
 use borrow.Author.Rules.{rules}
 use Rattle.ends.proofs.held.end_if.Statement.{statement}
@@ -22,7 +22,7 @@ same-length-2 : tie.Need-same-length-2
 same-length-2 c = search rules
 
 returns : tie.Need-returns
-returns c = if_short c.before.before.before.before.before.before.before.before.before.before.before.before.requires c.before.before.before.before.before.merge.ensures (not_true _ c.if1.true)
+returns c = if_short c.before.before.before.before.before.before.before.before.before.before.before.before.requires c.before.before.before.before.before.merge.ensures (not-true _ c.if1.true)
 
 ask-whole-requires : tie.Need-ask-whole-requires
 ask-whole-requires c κs = if_given c.before.before.before.before.before.before.before.before.before.before.before.before.before.before.requires c.before.before.before.before.before.before.before.merge.ensures (not-false _ c.before.before.if1.false)

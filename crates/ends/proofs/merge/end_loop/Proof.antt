@@ -1,6 +1,6 @@
 -- From the copies, the sum and the comparison (LoopEnd).
 use mathlib.Core.Path.{refl}
-use borrow.Author.Tests.{not_true, not-false}
+use borrow.Author.Tests.{not-true, not-false}
 use Rattle.ends.proofs.LoopEnd.{sum_asks, loop_full, covers_asks, loop_ends}
 use borrow.Author.Rules.{rules}
 use Rattle.ends.proofs.merge.end_loop.Statement.{statement}
@@ -38,7 +38,7 @@ same-length-2 : tie.Need-same-length-2
 same-length-2 c = search rules
 
 returns : tie.Need-returns
-returns c = loop_full c.before.before.before.before.before.before.before.before.before.before.before.before.before.before.before.requires.0 c.before.before.before.before.before.before.before.before.before.before.before.before.before.before.before.requires.1.0 c.before.before.before.before.before.before.before.before.before.before.before.before.before.before.before.requires.1.1 c.before.before.before.before.before.before.before.before.before.before.before.copy.ensures c.before.before.before.before.before.before.push-sum.ensures (not_true _ c.before.if1.true) c.filled.ensures
+returns c = loop_full c.before.before.before.before.before.before.before.before.before.before.before.before.before.before.before.requires.0 c.before.before.before.before.before.before.before.before.before.before.before.before.before.before.before.requires.1.0 c.before.before.before.before.before.before.before.before.before.before.before.before.before.before.before.requires.1.1 c.before.before.before.before.before.before.before.before.before.before.before.copy.ensures c.before.before.before.before.before.before.push-sum.ensures (not-true _ c.before.if1.true) c.filled.ensures
 
 copy-requires-2 : tie.Need-copy-requires-2
 copy-requires-2 c κs = search rules

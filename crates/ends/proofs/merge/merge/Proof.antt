@@ -1,5 +1,5 @@
 -- From what was pushed (Merges).
-use borrow.Author.Tests.{not_true, not-false}
+use borrow.Author.Tests.{not-true, not-false}
 use Rattle.ends.proofs.Merges.{merged_full, merged}
 use borrow.Author.Rules.{rules}
 use Rattle.ends.proofs.merge.merge.Statement.{statement}
@@ -22,7 +22,7 @@ same-length-2 : tie.Need-same-length-2
 same-length-2 c = search rules
 
 returns : tie.Need-returns
-returns c = merged_full _ _ c.before.before.before.before.before.before.before.before.before.before.requires.1.0.0 c.before.before.before.before.before.push-sum.ensures (not_true _ c.if1.true)
+returns c = merged_full _ _ c.before.before.before.before.before.before.before.before.before.before.requires.1.0.0 c.before.before.before.before.before.push-sum.ensures (not-true _ c.if1.true)
 
 sub-last : tie.Need-overflow-sub-last
 sub-last c = search rules

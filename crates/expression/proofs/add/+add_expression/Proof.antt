@@ -3,7 +3,7 @@
 use mathlib.Core.Path.{refl, ◌∙◌}
 use Prim.Native.Nat.{◌-◌, ℕ, ◌<◌}
 use lib.ListN.{length}
-use borrow.Author.Tests.{not_true, not-false}
+use borrow.Author.Tests.{not-true, not-false}
 use Rattle.module.specs.Tables.{module_of}
 use Rattle.walk.specs.Resolve.{expression_at}
 use Rattle.walk.specs.Expression.{arm_asks}
@@ -67,7 +67,7 @@ add-expression-same-length-2 : (t : ℕ) → add-expression-lts.Need-same-length
 add-expression-same-length-2 t c = c.before.before.before.before.before.allowed.auto.1.0
 
 add-expression-returns-2 : (t : ℕ) → add-expression-lts.Need-returns-2 (add_expression_called t) (add_expression_at t) add-expression.Post add-expression-Inv-loop add-expression-μ-loop
-add-expression-returns-2 t c = walk_16 c.before.before.before.before.before.before.before.before.before.before.before.before.before.requires.1.0 c.before.before.before.before.before.before.before.before.before.before.before.before.before.args.e.0 c.before.before.before.before.before.before.before.before.before.before.before.before.before.args.visits c.before.before.before.before.before.before.before.before.before.before.before.before.before.args.w refl refl c.before.before.before.before.before.before.before.before.if1.false c.before.before.before.before.before.allowed.ensures (not_true _ c.if2.true)
+add-expression-returns-2 t c = walk_16 c.before.before.before.before.before.before.before.before.before.before.before.before.before.requires.1.0 c.before.before.before.before.before.before.before.before.before.before.before.before.before.args.e.0 c.before.before.before.before.before.before.before.before.before.before.before.before.before.args.visits c.before.before.before.before.before.before.before.before.before.before.before.before.before.args.w refl refl c.before.before.before.before.before.before.before.before.if1.false c.before.before.before.before.before.allowed.ensures (not-true _ c.if2.true)
 
 add-expression-add-v : (t : ℕ) → add-expression-lts.Need-overflow-add-v (add_expression_called t) (add_expression_at t) add-expression.Post add-expression-Inv-loop add-expression-μ-loop
 add-expression-add-v t c = omega (arith, c.before.before.before.before.before.before.before.before.if1.false)

@@ -17,7 +17,7 @@ use Rattle.block.specs.Standing.{state_in}
 use Rattle.block.specs.Visiting.{block_in}
 use Rattle.module.specs.Tables.{max_items}
 use Rattle.memory.specs.Memory.{context_at, read}
-use borrow.Author.Tests.{not-false, not_true}
+use borrow.Author.Tests.{not-false, not-true}
 use native.Mathlib.Omega.{arith}
 use borrow.Author.Rules.{rules}
 use borrow.Fn.Kinds.{In}
@@ -509,7 +509,7 @@ add-loop-drop-both-requires : (t : ℕ) → add-loop-lts.Need-drop-both-requires
 add-loop-drop-both-requires t c κs = loop_drops c.before.before.before.before.before.before.before.before.before.before.before.before.before.before.before.before.before.before.before.before.before.requires.1.0 c.before.before.before.before.before.before.before.before.before.before.before.before.before.before.before.before.before.before.before.before.before.requires.1.1 c.before.before.before.before.before.before.before.before.before.before.before.weigh.ensures c.before.before.before.before.before.before.before.before.before.before.before.before.before.before.before.before.before.block-operand.ensures c.before.before.before.before.before.before.before.before.before.before.before.before.before.before.before.before.block-operand2.ensures c.before.before.before.before.before.add-pair.ensures c.before.before.before.r2.given.1
 
 add-loop-returns : (t : ℕ) → add-loop-lts.Need-returns (add_loop_called t) (add_loop_at t) add-loop.Post
-add-loop-returns t c = loop_dropped c.before.before.before.before.before.before.before.before.before.before.before.before.before.before.before.before.before.before.before.before.before.before.requires.1.0 c.before.before.before.before.before.before.before.before.before.before.before.before.before.before.before.before.before.before.before.before.before.before.requires.1.1 c.before.before.before.before.before.before.before.before.before.before.before.before.weigh.ensures c.before.before.before.before.before.before.before.before.before.before.before.before.before.before.before.before.before.before.block-operand.ensures c.before.before.before.before.before.before.before.before.before.before.before.before.before.before.before.before.before.block-operand2.ensures c.before.before.before.before.before.before.add-pair.ensures c.before.before.before.before.r2.given.1 (not_true _ c.before.before.if1.true) c.drop-both.ensures
+add-loop-returns t c = loop_dropped c.before.before.before.before.before.before.before.before.before.before.before.before.before.before.before.before.before.before.before.before.before.before.requires.1.0 c.before.before.before.before.before.before.before.before.before.before.before.before.before.before.before.before.before.before.before.before.before.before.requires.1.1 c.before.before.before.before.before.before.before.before.before.before.before.before.weigh.ensures c.before.before.before.before.before.before.before.before.before.before.before.before.before.before.before.before.before.before.block-operand.ensures c.before.before.before.before.before.before.before.before.before.before.before.before.before.before.before.before.before.block-operand2.ensures c.before.before.before.before.before.before.add-pair.ensures c.before.before.before.before.r2.given.1 (not-true _ c.before.before.if1.true) c.drop-both.ensures
 
 add-loop-expression-operand-requires : (t : ℕ) → add-loop-lts.Need-expression-operand-requires (add_loop_called t) (add_loop_at t) add-loop.Post
 add-loop-expression-operand-requires t c κs = search rules
@@ -611,7 +611,7 @@ add-statement-allowed-requires : (t : ℕ) → add-statement-lts.Need-allowed-re
 add-statement-allowed-requires t c κs = visit_counting c.before.before.before.before.before.before.requires.1
 
 add-statement-returns-2 : (t : ℕ) → add-statement-lts.Need-returns-2 (add_statement_called t) (add_statement_at t) add-statement.Post
-add-statement-returns-2 t c = visit_16 c.before.before.before.before.before.before.before.before.requires.1 c.before.before.before.before.if1.false c.before.allowed.ensures (not_true _ c.if2.true)
+add-statement-returns-2 t c = visit_16 c.before.before.before.before.before.before.before.before.requires.1 c.before.before.before.before.if1.false c.before.allowed.ensures (not-true _ c.if2.true)
 
 add-statement-statement-requires : (t : ℕ) → add-statement-lts.Need-statement-requires (add_statement_called t) (add_statement_at t) add-statement.Post
 add-statement-statement-requires t c κs = search rules

@@ -1,6 +1,6 @@
 -- `judge::expressions::blamed_expression` meets its contract. The invariant: the expressions below e are judged.
 use Prim.Native.Nat.{◌-◌}
-use borrow.Author.Tests.{not_true, not-false}
+use borrow.Author.Tests.{not-true, not-false}
 use Rattle.clearance.specs.Judged.{judged_expression}
 use Rattle.judge.specs.Given.{scope_at}
 use Rattle.judge.proofs.ValueRows.{Each, each_none, each_next}
@@ -30,7 +30,7 @@ judged-expression-requires : tie.Need-judged-expression-requires invariant-loop 
 judged-expression-requires c κs = (c.before.before.before.before.before.before.before.before.before.requires.0, (c.before.before.before.before.before.before.before.before.before.requires.1, there_below (c.before.before.expressions.ensures _) c.loop-test.true))
 
 returns : tie.Need-returns invariant-loop decreases-loop
-returns c = blamed_at _ (c.before.before.before.before.expressions.ensures _) c.before.before.loop-test.true c.before.before.before.loop.invariant c.before.judged-expression.ensures (not_true _ c.if1.true)
+returns c = blamed_at _ (c.before.before.before.before.expressions.ensures _) c.before.before.loop-test.true c.before.before.before.loop.invariant c.before.judged-expression.ensures (not-true _ c.if1.true)
 
 add-e : tie.Need-overflow-add-e invariant-loop decreases-loop
 add-e c = omega (arith, c.before.before.loop-test.true)

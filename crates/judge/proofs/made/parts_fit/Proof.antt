@@ -1,6 +1,6 @@
 -- `judge::made::parts_fit` meets its contract. The invariant: the first i fit.
 use Prim.Native.Nat.{◌+◌, ◌-◌}
-use borrow.Author.Tests.{not_true, not-false}
+use borrow.Author.Tests.{not-true, not-false}
 use Rattle.access.specs.Access.{operand_at}
 use Rattle.clearance.specs.Scope.{inner, inner_of}
 use Rattle.clearance.specs.Judged.{part_type, same_part}
@@ -46,7 +46,7 @@ same-part-requires : tie.Need-same-part-requires invariant-loop decreases-loop
 same-part-requires c κs = (c.before.before.before.before.before.before.before.before.before.before.requires.0.given.shapes, (c.before.before.before.before.before.before.before.before.before.before.requires.1.1, part_low c.before.before.before.before.before.before.before.before.before.before.requires.0 c.before.before.before.before.before.before.before.before.before.before.requires.1.0 c.before.before.before.before.operand.ensures c.before.before.loop-test.true c.before.expression-operand.ensures c.type-of.ensures))
 
 returns : tie.Need-returns invariant-loop decreases-loop
-returns c = each_fails _ _ (λ i. i) c.before.before.before.before.before.before.operand.ensures c.before.before.before.before.loop-test.true (part_here c.before.before.before.before.before.before.before.before.before.before.before.before.requires.0 _ _ c.before.before.before.expression-operand.ensures c.before.before.type-of.ensures (c.before.same-part.ensures _ c.before.before.before.before.before.before.before.before.before.before.before.before.requires.0.given.values.same)) (not_true _ c.if1.true)
+returns c = each_fails _ _ (λ i. i) c.before.before.before.before.before.before.operand.ensures c.before.before.before.before.loop-test.true (part_here c.before.before.before.before.before.before.before.before.before.before.before.before.requires.0 _ _ c.before.before.before.expression-operand.ensures c.before.before.type-of.ensures (c.before.same-part.ensures _ c.before.before.before.before.before.before.before.before.before.before.before.before.requires.0.given.values.same)) (not-true _ c.if1.true)
 
 add-i : tie.Need-overflow-add-i invariant-loop decreases-loop
 add-i c = omega (arith, c.before.before.before.before.loop-test.true)

@@ -1,6 +1,6 @@
 -- `judge::statements::unfit_statement` meets its contract. The invariant: the statements below s fit.
 use Prim.Native.Nat.{◌-◌}
-use borrow.Author.Tests.{not_true, not-false}
+use borrow.Author.Tests.{not-true, not-false}
 use Rattle.access.specs.Access.{statement_at}
 use Rattle.clearance.specs.Judged.{fits_statement}
 use Rattle.judge.specs.Given.{scope_at}
@@ -31,7 +31,7 @@ fits-statement-requires : tie.Need-fits-statement-requires invariant-loop decrea
 fits-statement-requires c κs = (c.before.before.before.before.before.before.before.before.requires, there_below (c.before.before.statements.ensures _) c.loop-test.true)
 
 returns : tie.Need-returns invariant-loop decreases-loop
-returns c = unfit-at _ _ _ (c.before.before.before.before.statements.ensures _) c.before.before.loop-test.true c.before.before.before.loop.invariant c.before.fits-statement.ensures (not_true _ c.if1.true)
+returns c = unfit-at _ _ _ (c.before.before.before.before.statements.ensures _) c.before.before.loop-test.true c.before.before.before.loop.invariant c.before.fits-statement.ensures (not-true _ c.if1.true)
 
 add-s : tie.Need-overflow-add-s invariant-loop decreases-loop
 add-s c = omega (arith, c.before.before.loop-test.true)

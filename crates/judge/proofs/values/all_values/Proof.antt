@@ -1,7 +1,7 @@
 -- `judge::values::all_values` meets its contract. The invariant: the first i are values.
 use Prim.Native.Nat.{◌+◌, ◌-◌}
 use mathlib.Core.Path.{ap, ◌∙◌}
-use borrow.Author.Tests.{not_true, not-false}
+use borrow.Author.Tests.{not-true, not-false}
 use Rattle.access.specs.Access.{operand_at}
 use Rattle.clearance.specs.Judged.{is_value}
 use Rattle.judge.specs.Given.{scope_at}
@@ -38,7 +38,7 @@ is-value-requires : tie.Need-is-value-requires invariant-loop decreases-loop
 is-value-requires c κs = c.before.before.before.before.before.before.before.before.requires
 
 returns : tie.Need-returns invariant-loop decreases-loop
-returns c = each_fails _ _ _ c.before.before.before.before.before.operand.ensures c.before.before.before.loop-test.true (c.before.is-value.ensures ∙ ap (is_value _) c.before.before.expression-operand.ensures) (not_true _ c.if1.true)
+returns c = each_fails _ _ _ c.before.before.before.before.before.operand.ensures c.before.before.before.loop-test.true (c.before.is-value.ensures ∙ ap (is_value _) c.before.before.expression-operand.ensures) (not-true _ c.if1.true)
 
 add-i : tie.Need-overflow-add-i invariant-loop decreases-loop
 add-i c = omega (arith, c.before.before.before.loop-test.true)

@@ -1,6 +1,6 @@
 -- `operands::load::ask_indexes` meets its contract. The invariant: the indexes after those of h are asked.
 use mathlib.Core.Path.{refl}
-use borrow.Author.Tests.{not_true, not-false}
+use borrow.Author.Tests.{not-true, not-false}
 use Rattle.part.proofs.Pieces.{part-0}
 use Rattle.operands.proofs.Lists.{value_given, value_all, all_piece}
 use Rattle.operands.proofs.Loads.{Left, left_start, left_done, constant_less, left_constant, dynamic_less, left_given, left_full, left_dynamic}
@@ -58,7 +58,7 @@ same-length-4 : tie.Need-same-length-4 invariant-loop decreases-loop
 same-length-4 c = search rules
 
 returns-2 : tie.Need-returns-2 invariant-loop decreases-loop
-returns-2 c = left_full c.before.before.before.before.before.before.before.before.before.before.before.before.before.before.before.before.before.requires.1 c.before.before.before.before.before.before.before.before.before.before.before.before.before.before.before.before.before.requires.0 c.before.before.before.before.before.before.before.before.before.before.before.before.loop.invariant c.before.before.before.before.before.before.before.before.before.before.before.step_down.ensures c.before.before.before.before.before.before.before.before.before.step2.given.1 (value_all (left_given c.before.before.before.before.before.before.before.before.before.before.before.before.before.before.before.before.before.requires.1 c.before.before.before.before.before.before.before.before.before.before.before.before.before.before.before.before.before.requires.0 c.before.before.before.before.before.before.before.before.before.before.before.before.loop.invariant c.before.before.before.before.before.before.before.before.before.before.before.step_down.ensures c.before.before.before.before.before.before.before.before.before.step2.given.1) refl 0 (part-0 _) c.before.before.before.before.before.ask-value.ensures) (not_true _ c.if1.true)
+returns-2 c = left_full c.before.before.before.before.before.before.before.before.before.before.before.before.before.before.before.before.before.requires.1 c.before.before.before.before.before.before.before.before.before.before.before.before.before.before.before.before.before.requires.0 c.before.before.before.before.before.before.before.before.before.before.before.before.loop.invariant c.before.before.before.before.before.before.before.before.before.before.before.step_down.ensures c.before.before.before.before.before.before.before.before.before.step2.given.1 (value_all (left_given c.before.before.before.before.before.before.before.before.before.before.before.before.before.before.before.before.before.requires.1 c.before.before.before.before.before.before.before.before.before.before.before.before.before.before.before.before.before.requires.0 c.before.before.before.before.before.before.before.before.before.before.before.before.loop.invariant c.before.before.before.before.before.before.before.before.before.before.before.step_down.ensures c.before.before.before.before.before.before.before.before.before.step2.given.1) refl 0 (part-0 _) c.before.before.before.before.before.ask-value.ensures) (not-true _ c.if1.true)
 
 loop-less-2 : tie.Need-loop-smaller-2 invariant-loop decreases-loop
 loop-less-2 c = dynamic_less c.before.before.before.before.before.before.before.before.before.before.before.before.before.before.before.before.before.requires.1 c.before.before.before.before.before.before.before.before.before.before.before.before.before.before.before.before.before.requires.0 c.before.before.before.before.before.before.before.before.before.before.before.before.loop.invariant c.before.before.before.before.before.before.before.before.before.before.before.step_down.ensures c.before.before.before.before.before.before.before.before.before.step2.given.1

@@ -1,5 +1,5 @@
 -- `operands::load::ask_load` meets its contract.
-use borrow.Author.Tests.{not_true, not-false}
+use borrow.Author.Tests.{not-true, not-false}
 use Rattle.operands.proofs.Loads.{load_first, load_full, load_asks, load_all}
 use borrow.Author.Rules.{rules}
 use Rattle.operands.proofs.load.ask_load.Statement.{statement}
@@ -21,7 +21,7 @@ same-length-2 : tie.Need-same-length-2
 same-length-2 c = search rules
 
 returns : tie.Need-returns
-returns c = load_full c.before.before.before.before.before.before.before.before.before.before.before.before.before.args.p.0 c.before.before.before.before.before.before.before.before.before.before.before.before.before.requires.0 c.before.before.before.before.before.ask-indexes.ensures (not_true _ c.if1.true)
+returns c = load_full c.before.before.before.before.before.before.before.before.before.before.before.before.before.args.p.0 c.before.before.before.before.before.before.before.before.before.before.before.before.before.requires.0 c.before.before.before.before.before.ask-indexes.ensures (not-true _ c.if1.true)
 
 find-target-requires : tie.Need-find-target-requires
 find-target-requires c κs = (c.before.before.before.before.before.before.before.before.before.before.before.before.before.before.requires.1.0, c.before.before.before.before.before.before.before.before.before.before.before.before.before.before.requires.1.1.enough)

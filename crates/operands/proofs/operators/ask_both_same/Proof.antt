@@ -1,6 +1,6 @@
 -- `operands::operators::ask_both_same` meets its contract.
 use mathlib.Core.List.{[], ◌∷◌}
-use borrow.Author.Tests.{not_true, not-false}
+use borrow.Author.Tests.{not-true, not-false}
 use Rattle.operands.proofs.Lists.{given_right, all_full, same_next, same_then}
 use borrow.Author.Rules.{rules}
 use Rattle.operands.proofs.operators.ask_both_same.Statement.{statement}
@@ -19,7 +19,7 @@ same-length-2 : tie.Need-same-length-2
 same-length-2 c = search rules
 
 returns : tie.Need-returns
-returns c = all_full c.before.before.before.before.before.ask-same.ensures (_ ∷ []) (not_true _ c.if1.true)
+returns c = all_full c.before.before.before.before.before.ask-same.ensures (_ ∷ []) (not-true _ c.if1.true)
 
 ask-same-requires-2 : tie.Need-ask-same-requires-2
 ask-same-requires-2 c κs = same_next c.before.before.before.before.before.before.before.ask-same.ensures (not-false _ c.before.before.if1.false) [] c.before.before.before.before.before.before.before.before.before.before.before.before.before.before.requires

@@ -1,6 +1,6 @@
 -- `operands::operators::ask_select` meets its contract.
 use mathlib.Core.List.{[], ◌∷◌}
-use borrow.Author.Tests.{not_true, not-false}
+use borrow.Author.Tests.{not-true, not-false}
 use Rattle.operands.proofs.Lists.{given_right, all_full, same_next, same_then, list_next, list_then}
 use borrow.Author.Rules.{rules}
 use Rattle.operands.proofs.operators.ask_select.Statement.{statement}
@@ -20,7 +20,7 @@ same-length-2 : tie.Need-same-length-2
 same-length-2 c = search rules
 
 returns : tie.Need-returns
-returns c = all_full c.before.before.before.before.before.ask-same.ensures (_ ∷ _ ∷ []) (not_true _ c.if1.true)
+returns c = all_full c.before.before.before.before.before.ask-same.ensures (_ ∷ _ ∷ []) (not-true _ c.if1.true)
 
 ask-same-requires-2 : tie.Need-ask-same-requires-2
 ask-same-requires-2 c κs = same_next c.before.before.before.before.before.before.before.ask-same.ensures (not-false _ c.before.before.if1.false) (_ ∷ []) c.before.before.before.before.before.before.before.before.before.before.before.before.before.before.requires
@@ -32,7 +32,7 @@ same-length-4 : tie.Need-same-length-4
 same-length-4 c = search rules
 
 returns-2 : tie.Need-returns-2
-returns-2 c = all_full (same_then c.before.before.before.before.before.before.before.before.before.before.before.before.before.ask-same.ensures (not-false _ c.before.before.before.before.before.before.before.before.if1.false) c.before.before.before.before.before.before.before.before.before.before.before.before.before.before.before.before.before.before.before.before.requires c.before.before.before.before.before.ask-same2.ensures) (_ ∷ []) (not_true _ c.if2.true)
+returns-2 c = all_full (same_then c.before.before.before.before.before.before.before.before.before.before.before.before.before.ask-same.ensures (not-false _ c.before.before.before.before.before.before.before.before.if1.false) c.before.before.before.before.before.before.before.before.before.before.before.before.before.before.before.before.before.before.before.before.requires c.before.before.before.before.before.ask-same2.ensures) (_ ∷ []) (not-true _ c.if2.true)
 
 ask-whole-requires : tie.Need-ask-whole-requires
 ask-whole-requires c κs = list_next (same_then c.before.before.before.before.before.before.before.before.before.before.before.before.before.before.before.ask-same.ensures (not-false _ c.before.before.before.before.before.before.before.before.before.before.if1.false) c.before.before.before.before.before.before.before.before.before.before.before.before.before.before.before.before.before.before.before.before.before.before.requires c.before.before.before.before.before.before.before.ask-same2.ensures) (not-false _ c.before.before.if2.false) [] c.before.before.before.before.before.before.before.before.before.before.before.before.before.before.before.before.before.before.before.before.before.before.requires

@@ -1,6 +1,6 @@
 -- `covers` meets its contract. Each turn of the loop keeps the answer (`Covering`); the left piece's number falls, along the list and into an entry.
 use mathlib.Core.Path.{sym, ◌∙◌}
-use borrow.Author.Tests.{not_true, not-false}
+use borrow.Author.Tests.{not-true, not-false}
 use Rattle.part.proofs.Covering.{Covering, covered_same, covered_plain, covered_known, covering_start, covered_end, known_asks, covered_yes, equal_yes, covered_gt, covering_call, covering_next, covered_not, covering_both}
 use borrow.Author.Rules.{rules}
 use Prim.Native.Nat.{ℕ, ◌<◌}
@@ -104,7 +104,7 @@ covers-same-length-7 : (t : ℕ) → covers-lts.Need-same-length-7 (covers_calle
 covers-same-length-7 t c = c.before.before.before.covers.ensures.remembered.kept.long ∙ c.before.before.before.before.before.before.before.before.before.before.before.before.before.before.before.before.before.before.loop.invariant.remembered.kept.long
 
 covers-returns-8 : (t : ℕ) → covers-lts.Need-returns-8 (covers_called t) (covers_at t) covers.Post covers-Inv-loop covers-μ-loop
-covers-returns-8 t c = covered_not c.before.before.before.before.before.before.before.before.before.before.before.before.before.before.before.before.before.before.before.before.before.before.before.before.before.before.requires.1 c.before.before.before.before.before.before.before.before.before.before.before.before.before.before.before.before.before.before.loop.invariant c.before.before.before.before.before.before.before.before.before.before.before.before.before.look.ensures c.before.before.before.before.before.before.before.before.before.before.before.look2.ensures c.before.before.before.before.before.if8.true c.before.before.before.covers.ensures (not_true _ c.if9.true)
+covers-returns-8 t c = covered_not c.before.before.before.before.before.before.before.before.before.before.before.before.before.before.before.before.before.before.before.before.before.before.before.before.before.before.requires.1 c.before.before.before.before.before.before.before.before.before.before.before.before.before.before.before.before.before.before.loop.invariant c.before.before.before.before.before.before.before.before.before.before.before.before.before.look.ensures c.before.before.before.before.before.before.before.before.before.before.before.look2.ensures c.before.before.before.before.before.if8.true c.before.before.before.covers.ensures (not-true _ c.if9.true)
 
 covers-loop-less : (t : ℕ) → covers-lts.Need-loop-smaller (covers_called t) (covers_at t) covers.Post covers-Inv-loop covers-μ-loop
 covers-loop-less t c = c.before.before.before.before.before.before.before.before.before.before.before.before.before.look.ensures.rest_low
@@ -125,7 +125,7 @@ covers-same-length-8 : (t : ℕ) → covers-lts.Need-same-length-8 (covers_calle
 covers-same-length-8 t c = c.before.before.before.before.loop.invariant.remembered.kept.long
 
 covers-returns-9 : (t : ℕ) → covers-lts.Need-returns-9 (covers_called t) (covers_at t) covers.Post covers-Inv-loop covers-μ-loop
-covers-returns-9 t c = covered_end c.before.before.before.before.before.before.before.before.before.before.before.before.requires.1 c.before.before.before.before.loop.invariant (sym (not_true _ c.if10.true) ∙ c.before.contains4.ensures)
+covers-returns-9 t c = covered_end c.before.before.before.before.before.before.before.before.before.before.before.before.requires.1 c.before.before.before.before.loop.invariant (sym (not-true _ c.if10.true) ∙ c.before.contains4.ensures)
 
 covers-remember-requires-2 : (t : ℕ) → covers-lts.Need-remember-requires-2 (covers_called t) (covers_at t) covers.Post covers-Inv-loop covers-μ-loop
 covers-remember-requires-2 t c κs = known_asks c.before.before.before.before.before.before.before.before.before.before.before.before.before.requires.1 c.before.before.before.before.before.loop.invariant (sym c.before.before.contains4.ensures ∙ not-false _ c.before.if10.false)

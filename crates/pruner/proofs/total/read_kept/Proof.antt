@@ -1,5 +1,5 @@
 -- `pruner::total::read_kept` meets its contract: the marks, the context and the records, one law for each way.
-use borrow.Author.Tests.{not_true, not-false}
+use borrow.Author.Tests.{not-true, not-false}
 use Rattle.pruner.proofs.Whole.{flag_there, starts_there}
 use Rattle.pruner.proofs.Keeping.{limits, context_inside, ascending, behind_flags, few_marks, kept_no_marks, lists-inside, lists-room, kept_no_context, context_memory, context_few, records_from, base_inside, kept_read}
 use native.Mathlib.Omega.{arith}
@@ -42,10 +42,10 @@ read-marks-requires : tie.Need-read-marks-requires
 read-marks-requires c κs = (c.before.before.before.before.before.before.before.before.before.before.before.requires.1.0, behind_flags c.before.before.before.before.before.before.before.before.before.before.before.requires.0.0 c.before.before.before.before.before.before.before.before.before.before.before.args.f.0 c.before.before.before.before.before.before.before.before.before.before.before.requires.0.1 c.before.before.start.ensures c.before.start2.ensures)
 
 same_length : tie.Need-same-length
-same_length c = (kept_no_marks c.before.before.before.before.before.before.before.before.before.before.before.before.before.before.before.requires.0.0 c.before.before.before.before.before.before.before.before.before.before.before.before.before.before.before.args.f.0 c.before.before.before.before.before.before.before.before.before.before.before.before.before.before.before.requires.0.1 c.before.before.before.before.before.before.start.ensures c.before.before.before.before.before.start2.ensures c.before.before.before.before.before.before.before.before.before.before.before.before.before.before.before.args.sum c.before.before.before.read-marks.ensures c.before.before.before.before.before.before.before.before.before.before.before.before.before.before.before.requires.0.0.memory (not_true _ c.if1.true)).marks_long
+same_length c = (kept_no_marks c.before.before.before.before.before.before.before.before.before.before.before.before.before.before.before.requires.0.0 c.before.before.before.before.before.before.before.before.before.before.before.before.before.before.before.args.f.0 c.before.before.before.before.before.before.before.before.before.before.before.before.before.before.before.requires.0.1 c.before.before.before.before.before.before.start.ensures c.before.before.before.before.before.start2.ensures c.before.before.before.before.before.before.before.before.before.before.before.before.before.before.before.args.sum c.before.before.before.read-marks.ensures c.before.before.before.before.before.before.before.before.before.before.before.before.before.before.before.requires.0.0.memory (not-true _ c.if1.true)).marks_long
 
 returns : tie.Need-returns
-returns c = kept_no_marks c.before.before.before.before.before.before.before.before.before.before.before.before.before.before.before.requires.0.0 c.before.before.before.before.before.before.before.before.before.before.before.before.before.before.before.args.f.0 c.before.before.before.before.before.before.before.before.before.before.before.before.before.before.before.requires.0.1 c.before.before.before.before.before.before.start.ensures c.before.before.before.before.before.start2.ensures c.before.before.before.before.before.before.before.before.before.before.before.before.before.before.before.args.sum c.before.before.before.read-marks.ensures c.before.before.before.before.before.before.before.before.before.before.before.before.before.before.before.requires.0.0.memory (not_true _ c.if1.true)
+returns c = kept_no_marks c.before.before.before.before.before.before.before.before.before.before.before.before.before.before.before.requires.0.0 c.before.before.before.before.before.before.before.before.before.before.before.before.before.before.before.args.f.0 c.before.before.before.before.before.before.before.before.before.before.before.before.before.before.before.requires.0.1 c.before.before.before.before.before.before.start.ensures c.before.before.before.before.before.start2.ensures c.before.before.before.before.before.before.before.before.before.before.before.before.before.before.before.args.sum c.before.before.before.read-marks.ensures c.before.before.before.before.before.before.before.before.before.before.before.before.before.before.before.requires.0.0.memory (not-true _ c.if1.true)
 
 mul-slot : tie.Need-overflow-mul-slot
 mul-slot c = search rules

@@ -1,5 +1,5 @@
 -- `quiet::acts::emit_overlap` meets its contract: an emit that gives no value gives nothing, else the place is the expression's.
-use borrow.Author.Tests.{not_true, not-false}
+use borrow.Author.Tests.{not-true, not-false}
 use Rattle.quiet.proofs.Overlaps.{emit_none, emit-some}
 use borrow.Author.Rules.{rules}
 use Rattle.quiet.proofs.acts.emit_overlap.Statement.{statement}
@@ -14,7 +14,7 @@ gives-value-requires : tie.Need-gives-value-requires
 gives-value-requires c κs = search rules
 
 returns : tie.Need-returns
-returns c = emit_none c.before.before.before.before.before.before.before.before.before.requires.0 c.before.before.before.before.before.before.before.before.before.requires.1.0 c.before.gives-value.ensures (not_true _ c.if1.true)
+returns c = emit_none c.before.before.before.before.before.before.before.before.before.requires.0 c.before.before.before.before.before.before.before.before.before.requires.1.0 c.before.gives-value.ensures (not-true _ c.if1.true)
 
 evaluated-path-requires : tie.Need-evaluated-path-requires
 evaluated-path-requires c κs = search rules

@@ -2,7 +2,7 @@
 -- between. The loops' invariants: what is left says the whole.
 use Prim.Native.Nat.{◌+◌, ◌*◌, ◌-◌, ◌≤◌, ℕ, ◌<◌}
 use mathlib.Core.Path.{refl, ◌∙◌}
-use borrow.Author.Tests.{not_true, not-false}
+use borrow.Author.Tests.{not-true, not-false}
 use Rattle.part.specs.Store.{part}
 use Rattle.access.specs.Access.{operand_at}
 use Rattle.judge.specs.Given.{scope_at}
@@ -105,7 +105,7 @@ quiet-block-same-length : (t : ℕ) → quiet-block-lts.Need-same-length (quiet_
 quiet-block-same-length t c = c.before.before.before.quiet-statement.ensures.long ∙ c.before.before.before.before.before.before.loop.invariant.long
 
 quiet-block-returns : (t : ℕ) → quiet-block-lts.Need-returns (quiet_block_called t) (quiet_block_at t) quiet-block.Post quiet-block-Inv-loop quiet-block-μ-loop
-quiet-block-returns t c = stops c.before.before.before.before.before.before.loop.invariant (statement_first _ _ _ _ _ _ c.before.before.before.before.before.loop-test.true) c.before.before.before.quiet-statement.ensures (not_true _ c.if1.true)
+quiet-block-returns t c = stops c.before.before.before.before.before.before.loop.invariant (statement_first _ _ _ _ _ _ c.before.before.before.before.before.loop-test.true) c.before.before.before.quiet-statement.ensures (not-true _ c.if1.true)
 
 quiet-block-add-k : (t : ℕ) → quiet-block-lts.Need-overflow-add-k (quiet_block_called t) (quiet_block_at t) quiet-block.Post quiet-block-Inv-loop quiet-block-μ-loop
 quiet-block-add-k t c = omega (arith, c.before.before.before.before.before.loop-test.true)
@@ -156,7 +156,7 @@ quiet-cases-same-length : (t : ℕ) → quiet-cases-lts.Need-same-length (quiet_
 quiet-cases-same-length t c = c.before.before.before.quiet-block.ensures.long ∙ c.before.before.before.before.before.before.before.loop.invariant.1.long
 
 quiet-cases-returns : (t : ℕ) → quiet-cases-lts.Need-returns (quiet_cases_called t) (quiet_cases_at t) quiet-cases.Post quiet-cases-Inv-loop quiet-cases-μ-loop
-quiet-cases-returns t c = stops c.before.before.before.before.before.before.before.loop.invariant.1 (case_first c.before.before.before.before.before.before.before.before.before.before.before.before.before.before.before.before.requires.1.1.1 (part c.before.before.before.before.before.before.before.before.before.before.before.before.before.before.before.before.args.cells.now c.before.before.before.before.before.before.before.before.before.before.before.before.before.before.before.before.args.m) (exits_of c.before.before.before.before.before.before.before.before.before.before.before.before.before.before.before.before.args.e) c.before.before.before.before.before.before.loop-test.true c.before.before.before.before.before.block-operand.ensures) c.before.before.before.quiet-block.ensures (not_true _ c.if1.true)
+quiet-cases-returns t c = stops c.before.before.before.before.before.before.before.loop.invariant.1 (case_first c.before.before.before.before.before.before.before.before.before.before.before.before.before.before.before.before.requires.1.1.1 (part c.before.before.before.before.before.before.before.before.before.before.before.before.before.before.before.before.args.cells.now c.before.before.before.before.before.before.before.before.before.before.before.before.before.before.before.before.args.m) (exits_of c.before.before.before.before.before.before.before.before.before.before.before.before.before.before.before.before.args.e) c.before.before.before.before.before.before.loop-test.true c.before.before.before.before.before.block-operand.ensures) c.before.before.before.quiet-block.ensures (not-true _ c.if1.true)
 
 quiet-cases-loop-less : (t : ℕ) → quiet-cases-lts.Need-loop-smaller (quiet_cases_called t) (quiet_cases_at t) quiet-cases.Post quiet-cases-Inv-loop quiet-cases-μ-loop
 quiet-cases-loop-less t c = omega (arith, c.before.before.before.before.before.before.loop-test.true)
@@ -195,7 +195,7 @@ quiet-statement-same-length-2 : (t : ℕ) → quiet-statement-lts.Need-same-leng
 quiet-statement-same-length-2 t c = c.before.before.before.quiet-block2.ensures.long
 
 quiet-statement-returns-2 : (t : ℕ) → quiet-statement-lts.Need-returns-2 (quiet_statement_called t) (quiet_statement_at t) quiet-statement.Post
-quiet-statement-returns-2 t c = stops (at_first _ _) (quiet_if c.before.before.before.before.before.before.before.before.before.before.before.before.before.before.before.before.requires.1.1.1 c.before.before.before.before.before.before.before.before.statement.ensures _ _ c.before.before.before.before.before.before.if2.true c.before.before.before.before.before.block-operand2.ensures refl) c.before.before.before.quiet-block2.ensures (not_true _ c.if3.true)
+quiet-statement-returns-2 t c = stops (at_first _ _) (quiet_if c.before.before.before.before.before.before.before.before.before.before.before.before.before.before.before.before.requires.1.1.1 c.before.before.before.before.before.before.before.before.statement.ensures _ _ c.before.before.before.before.before.before.if2.true c.before.before.before.before.before.block-operand2.ensures refl) c.before.before.before.quiet-block2.ensures (not-true _ c.if3.true)
 
 quiet-statement-block-operand-requires-3 : (t : ℕ) → quiet-statement-lts.Need-block-operand-requires-3 (quiet_statement_called t) (quiet_statement_at t) quiet-statement.Post
 quiet-statement-block-operand-requires-3 t c κs = search rules
@@ -234,7 +234,7 @@ quiet-statement-same-length-5 : (t : ℕ) → quiet-statement-lts.Need-same-leng
 quiet-statement-same-length-5 t c = c.before.before.before.quiet-block4.ensures.long
 
 quiet-statement-returns-5 : (t : ℕ) → quiet-statement-lts.Need-returns-5 (quiet_statement_called t) (quiet_statement_at t) quiet-statement.Post
-quiet-statement-returns-5 t c = stops (at_first _ _) (quiet_loop c.before.before.before.before.before.before.before.before.before.before.before.before.before.before.before.before.before.before.before.requires.1.1.1 c.before.before.before.before.before.before.before.before.before.before.before.statement.ensures _ _ c.before.before.before.before.before.before.before.if5.true c.before.before.before.before.before.before.block-operand4.ensures c.before.before.before.before.before.in_Body.ensures refl refl) c.before.before.before.quiet-block4.ensures (not_true _ c.if6.true)
+quiet-statement-returns-5 t c = stops (at_first _ _) (quiet_loop c.before.before.before.before.before.before.before.before.before.before.before.before.before.before.before.before.before.before.before.requires.1.1.1 c.before.before.before.before.before.before.before.before.before.before.before.statement.ensures _ _ c.before.before.before.before.before.before.before.if5.true c.before.before.before.before.before.before.block-operand4.ensures c.before.before.before.before.before.in_Body.ensures refl refl) c.before.before.before.quiet-block4.ensures (not-true _ c.if6.true)
 
 quiet-statement-block-operand-requires-5 : (t : ℕ) → quiet-statement-lts.Need-block-operand-requires-5 (quiet_statement_called t) (quiet_statement_at t) quiet-statement.Post
 quiet-statement-block-operand-requires-5 t c κs = search rules

@@ -1,7 +1,7 @@
 -- `quiet::plain::quiet_emits` meets its contract. The invariant: what is left says the whole.
 use Prim.Native.Nat.{◌+◌, ◌-◌}
 use mathlib.Core.Path.{◌∙◌}
-use borrow.Author.Tests.{not_true, not-false}
+use borrow.Author.Tests.{not-true, not-false}
 use Rattle.part.specs.Store.{part}
 use Rattle.judge.specs.Given.{scope_at}
 use Rattle.judge.proofs.PathSteps.{few}
@@ -29,7 +29,7 @@ same_length : tie.Need-same-length invariant-loop decreases-loop
 same_length c = c.before.before.before.emit-idle.ensures.long ∙ c.before.before.before.before.before.before.before.loop.invariant.long
 
 returns : tie.Need-returns invariant-loop decreases-loop
-returns c = emits_stop _ _ _ _ (omega (arith, c.before.before.before.before.before.if1.true)) c.before.before.before.before.before.before.before.loop.invariant c.before.before.before.emit-idle.ensures (not_true _ c.if2.true)
+returns c = emits_stop _ _ _ _ (omega (arith, c.before.before.before.before.before.if1.true)) c.before.before.before.before.before.before.before.loop.invariant c.before.before.before.emit-idle.ensures (not-true _ c.if2.true)
 
 add-e : tie.Need-overflow-add-e invariant-loop decreases-loop
 add-e c = omega (arith, c.before.before.before.before.before.if1.true, c.before.before.before.before.before.before.before.before.before.before.before.before.before.before.before.requires.1.0, few _ _ _ c.before.before.before.before.before.before.before.before.before.before.before.before.before.before.before.requires.0.world.given.of.read c.before.before.before.before.before.before.before.before.before.before.before.before.before.before.before.requires.0.world.given.of.there)

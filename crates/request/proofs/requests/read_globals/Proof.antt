@@ -1,7 +1,7 @@
 -- `request::requests::read_globals` meets its contract: one law for each way.
 use mathlib.Core.Path.{refl}
 use Rattle.request.proofs.Entries.{ended, goes_on}
-use borrow.Author.Tests.{not_true, not-false}
+use borrow.Author.Tests.{not-true, not-false}
 use Rattle.request.proofs.Judged.{globals_malformed, globals_left, globals_unknown, globals_function, globals_report, globals-accepted}
 use Rattle.request.proofs.Variables.{list_placed}
 use borrow.Author.Rules.{rules}
@@ -34,7 +34,7 @@ same-length-2 : tie.Need-same-length-2
 same-length-2 c = search rules
 
 returns-2 : tie.Need-returns-2
-returns-2 c = globals_left _ _ _ _ c.before.before.before.before.before.before.before.before.before.before.before.args.retval c.before.before.before.before.before.before.before.read-variables.ensures c.before.before.before.o.given.1 (goes_on c.before.before.before.before.before.before.before.before.before.before.before.args.bytes.now c.before.before.before.o.given.0.1.0 c.before.ends.ensures (not_true _ c.if1.true))
+returns-2 c = globals_left _ _ _ _ c.before.before.before.before.before.before.before.before.before.before.before.args.retval c.before.before.before.before.before.before.before.read-variables.ensures c.before.before.before.o.given.1 (goes_on c.before.before.before.before.before.before.before.before.before.before.before.args.bytes.now c.before.before.before.o.given.0.1.0 c.before.ends.ensures (not-true _ c.if1.true))
 
 enum-known-o-2 : tie.Need-enum-known-o-2
 enum-known-o-2 c = search rules

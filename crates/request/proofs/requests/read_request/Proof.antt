@@ -1,6 +1,6 @@
 -- `request::requests::read_request` meets its contract: one law for each way.
 use Rattle.request.proofs.Entries.{ended, goes_on, field_read, kept_same}
-use borrow.Author.Tests.{not_true, not-false}
+use borrow.Author.Tests.{not-true, not-false}
 use Rattle.request.proofs.Judged.{request_malformed, request_on, not_request, request_inside, request_empty, request_absent, request_no_return, request_finish}
 use Rattle.request.proofs.Variables.{no_list, list_read, list_placed}
 use native.Mathlib.Omega.{arith}
@@ -19,7 +19,7 @@ is-request-requires : tie.Need-is-request-requires
 is-request-requires c κs = search rules
 
 returns : tie.Need-returns
-returns c = request_malformed (kept_same c.before.before.before.before.requires.0) (not_request _ _ _ _ c.before.is-request.ensures (not_true _ c.if1.true))
+returns c = request_malformed (kept_same c.before.before.before.before.requires.0) (not_request _ _ _ _ c.before.is-request.ensures (not-true _ c.if1.true))
 
 ends-requires : tie.Need-ends-requires
 ends-requires c κs = request_inside 0 0 0 c.before.before.before.before.args.bytes.now c.before.is-request.ensures (not-false _ c.if1.false)

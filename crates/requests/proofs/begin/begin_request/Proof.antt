@@ -1,7 +1,7 @@
 -- `requests::begin::begin_request` meets its contract: the request's refusal, 19 of the totals, or a memory in which both stand.
 use native.Mathlib.Omega.{arith}
 use mathlib.Core.Path.{◌∙◌}
-use borrow.Author.Tests.{not_true, not-false}
+use borrow.Author.Tests.{not-true, not-false}
 use Rattle.requests.proofs.Beginning.{few_globals, begins_refused, has_totals, untold, begins_19, clear_asks, tidy_asks, weighs, begins}
 use borrow.Author.Rules.{rules}
 use Rattle.requests.proofs.begin.begin_request.Statement.{statement}
@@ -35,7 +35,7 @@ same-length-3 : tie.Need-same-length-3
 same-length-3 c = c.before.before.before.before.before.before.before.read-pruner.auto.1.1.1.1.1.0
 
 returns : tie.Need-returns
-returns c = begins_19 c.before.before.before.before.before.before.before.before.before.before.before.before.before.before.before.before.before.before.before.before.before.before.before.before.before.before.before.before.before.before.before.before.requires c.before.before.before.before.before.before.before.before.before.before.before.before.before.before.before.before.before.before.before.before.before.before.before.before.before.before.before.before.before.before.before.before.args.report c.before.before.before.before.before.before.before.before.before.before.before.before.before.before.before.before.before.before.before.before.before.before.before.before.before.before.before.before.before.before.before.before.args.request.now c.before.before.before.before.before.before.before.before.before.before.before.before.before.before.before.before.before.before.before.before.before.before.before.before.before.before.before.before.before.before.before.before.args.pruner.now (c.before.before.before.before.before.before.before.before.before.before.before.before.before.before.before.before.before.before.before.before.before.before.functions.ensures c.before.before.before.before.before.before.before.before.before.before.before.before.before.before.before.before.before.before.before.before.before.before.before.before.before.before.before.before.before.before.before.before.args.bytes.now) (c.before.before.before.before.before.before.before.before.before.before.before.before.before.before.before.before.before.before.before.globals.ensures c.before.before.before.before.before.before.before.before.before.before.before.before.before.before.before.before.before.before.before.before.before.before.before.before.before.before.before.before.before.before.before.before.args.bytes.now) c.before.before.before.before.before.before.before.before.before.before.before.before.before.before.before.before.before.before.load-request.ensures c.before.before.before.before.before.before.before.before.before.before.before.before.f.given.1 c.before.before.before.before.before.before.before.read-pruner.ensures (not_true c.before.before.before.before.before.before.before.read-pruner.result c.if1.true)
+returns c = begins_19 c.before.before.before.before.before.before.before.before.before.before.before.before.before.before.before.before.before.before.before.before.before.before.before.before.before.before.before.before.before.before.before.before.requires c.before.before.before.before.before.before.before.before.before.before.before.before.before.before.before.before.before.before.before.before.before.before.before.before.before.before.before.before.before.before.before.before.args.report c.before.before.before.before.before.before.before.before.before.before.before.before.before.before.before.before.before.before.before.before.before.before.before.before.before.before.before.before.before.before.before.before.args.request.now c.before.before.before.before.before.before.before.before.before.before.before.before.before.before.before.before.before.before.before.before.before.before.before.before.before.before.before.before.before.before.before.before.args.pruner.now (c.before.before.before.before.before.before.before.before.before.before.before.before.before.before.before.before.before.before.before.before.before.before.functions.ensures c.before.before.before.before.before.before.before.before.before.before.before.before.before.before.before.before.before.before.before.before.before.before.before.before.before.before.before.before.before.before.before.before.args.bytes.now) (c.before.before.before.before.before.before.before.before.before.before.before.before.before.before.before.before.before.before.before.globals.ensures c.before.before.before.before.before.before.before.before.before.before.before.before.before.before.before.before.before.before.before.before.before.before.before.before.before.before.before.before.before.before.before.before.args.bytes.now) c.before.before.before.before.before.before.before.before.before.before.before.before.before.before.before.before.before.before.load-request.ensures c.before.before.before.before.before.before.before.before.before.before.before.before.f.given.1 c.before.before.before.before.before.before.before.read-pruner.ensures (not-true c.before.before.before.before.before.before.before.read-pruner.result c.if1.true)
 
 clear-marks-requires : tie.Need-clear-marks-requires
 clear-marks-requires c κs = clear_asks c.before.before.before.before.before.before.before.before.before.before.before.before.before.before.before.before.before.before.before.before.before.before.before.before.before.before.before.before.before.before.before.before.before.requires c.before.before.before.before.before.before.before.before.before.before.before.before.before.before.before.before.before.before.before.before.before.before.before.before.before.before.before.before.before.before.before.before.before.args.report c.before.before.before.before.before.before.before.before.before.before.before.before.before.before.before.before.before.before.before.before.before.before.before.before.before.before.before.before.before.before.before.before.before.args.request.now c.before.before.before.before.before.before.before.before.before.before.before.before.before.before.before.before.before.before.before.before.before.before.before.before.before.before.before.before.before.before.before.before.before.args.pruner.now (c.before.before.before.before.before.before.before.before.before.before.before.before.before.before.before.before.before.before.before.before.before.before.before.functions.ensures c.before.before.before.before.before.before.before.before.before.before.before.before.before.before.before.before.before.before.before.before.before.before.before.before.before.before.before.before.before.before.before.before.before.args.bytes.now) (c.before.before.before.before.before.before.before.before.before.before.before.before.before.before.before.before.before.before.before.before.globals.ensures c.before.before.before.before.before.before.before.before.before.before.before.before.before.before.before.before.before.before.before.before.before.before.before.before.before.before.before.before.before.before.before.before.before.args.bytes.now) c.before.before.before.before.before.before.before.before.before.before.before.before.before.before.before.before.before.before.before.load-request.ensures c.before.before.before.before.before.before.before.before.before.before.before.before.before.f.given.1 c.before.before.before.before.before.before.before.before.read-pruner.ensures (not-false c.before.before.before.before.before.before.before.before.read-pruner.result c.before.if1.false)

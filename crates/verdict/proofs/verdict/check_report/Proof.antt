@@ -1,6 +1,6 @@
 -- `verdict::verdict::check_report` meets its contract: 21, or what is answered of the marks.
 use Rattle.verdict.proofs.Checking.{asked_there, few_types, few_expressions, marked, refused_21, report-checked}
-use borrow.Author.Tests.{not_true, not-false}
+use borrow.Author.Tests.{not-true, not-false}
 use native.Mathlib.Omega.{arith}
 use borrow.Author.Rules.{rules}
 use Rattle.verdict.proofs.verdict.check_report.Statement.{statement}
@@ -19,7 +19,7 @@ mul-result : tie.Need-overflow-mul-result
 mul-result c = search rules
 
 returns : tie.Need-returns
-returns c = refused_21 c.before.before.before.before.before.before.before.before.before.before.before.before.before.before.before.requires c.before.before.before.before.before.before.before.before.before.before.before.before.before.before.before.args.report.now c.before.before.before.before.before.before.before.before.before.before.before.before.before.before.before.args.context.now c.before.before.marks-shape.ensures (not_true _ c.if1.true)
+returns c = refused_21 c.before.before.before.before.before.before.before.before.before.before.before.before.before.before.before.requires c.before.before.before.before.before.before.before.before.before.before.before.before.before.before.before.args.report.now c.before.before.before.before.before.before.before.before.before.before.before.before.before.before.before.args.context.now c.before.before.marks-shape.ensures (not-true _ c.if1.true)
 
 types-requires : tie.Need-types-requires
 types-requires c κs = search rules

@@ -1,5 +1,5 @@
 -- `context::required_context::RequiredContext::contains` meets its contract: map by map.
-use borrow.Author.Tests.{not_true, not-false}
+use borrow.Author.Tests.{not-true, not-false}
 use Rattle.context.specs.RequiredContext.{contains_context}
 use borrow.Author.Rules.{rules}
 use Rattle.context.proofs.required_context.RequiredContext.contains.Statement.{statement}
@@ -13,21 +13,21 @@ contains-requires c κs = search rules
 
 returns : tie.Need-returns
 unfolding contains_context
-returns c = rw (← c.before.contains.ensures, not_true c.before.contains.result c.if1.true)
+returns c = rw (← c.before.contains.ensures, not-true c.before.contains.result c.if1.true)
 
 contains-requires-2 : tie.Need-contains-requires-2
 contains-requires-2 c κs = search rules
 
 returns-2 : tie.Need-returns-2
 unfolding contains_context
-returns-2 c = rw (← c.before.before.before.contains.ensures, not-false c.before.before.before.contains.result c.before.before.if1.false, ← c.before.contains2.ensures, not_true c.before.contains2.result c.if2.true)
+returns-2 c = rw (← c.before.before.before.contains.ensures, not-false c.before.before.before.contains.result c.before.before.if1.false, ← c.before.contains2.ensures, not-true c.before.contains2.result c.if2.true)
 
 contains-requires-3 : tie.Need-contains-requires-3
 contains-requires-3 c κs = search rules
 
 returns-3 : tie.Need-returns-3
 unfolding contains_context
-returns-3 c = rw (← c.before.before.before.before.before.contains.ensures, not-false c.before.before.before.before.before.contains.result c.before.before.before.before.if1.false, ← c.before.before.before.contains2.ensures, not-false c.before.before.before.contains2.result c.before.before.if2.false, ← c.before.contains3.ensures, not_true c.before.contains3.result c.if3.true)
+returns-3 c = rw (← c.before.before.before.before.before.contains.ensures, not-false c.before.before.before.before.before.contains.result c.before.before.before.before.if1.false, ← c.before.before.before.contains2.ensures, not-false c.before.before.before.contains2.result c.before.before.if2.false, ← c.before.contains3.ensures, not-true c.before.contains3.result c.if3.true)
 
 contains-requires-4 : tie.Need-contains-requires-4
 contains-requires-4 c κs = search rules
