@@ -41,10 +41,13 @@ either_right false b h = h
 
 -- Lists
 
-pub every-at : (test : ℕ → Bool) (l : List ℕ) → every test l ≡ true → (x : ℕ) → Member x l → test x ≡ true
+every_member : (test : ℕ → Bool) (x : ℕ) (l : List ℕ) → Member x l → every test l ≡ true → test x ≡ true
 unfolding every
-every-at test l h x here = (both_true _ _ h).0
-every-at test l h x (later {m = m} i) = every-at test _ (both_true (test m) _ h).1 x i
+every_member test x l here h = (both_true _ _ h).0
+every_member test x l (later {m = m} i) h = every_member test x _ i (both_true (test m) _ h).1
+
+pub every-at : (test : ℕ → Bool) (l : List ℕ) → every test l ≡ true → (x : ℕ) → Member x l → test x ≡ true
+every-at test l h x i = every_member test x l i h
 
 pub every-from : (test : ℕ → Bool) (l : List ℕ) → ((x : ℕ) → Member x l → test x ≡ true) → every test l ≡ true
 unfolding every

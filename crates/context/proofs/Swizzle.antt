@@ -90,7 +90,14 @@ once n k c (more i p m) f h =
 
 -- the letters, as numbers
 named-low : (l : Letter) → named l < 4
-named-low l = elim l [ x ↦ omega arith | y ↦ omega arith | z ↦ omega arith | w ↦ omega arith | r ↦ omega arith | g ↦ omega arith | b ↦ omega arith | a ↦ omega arith ]
+named-low x = omega arith
+named-low y = omega arith
+named-low z = omega arith
+named-low w = omega arith
+named-low r = omega arith
+named-low g = omega arith
+named-low b = omega arith
+named-low a = omega arith
 
 abbrev letter_at : List Letter → ℕ → ℕ
 letter_at letters i = get_or (map named letters) i 0

@@ -61,6 +61,10 @@ times-nil (suc n) k p = refl
 pub component_listed : (t : Shape) (path : List ℕ) → Component t path → times (type_to_parts (type_of t)) path ≡ 1
 unfolding type_to_parts
 component_listed scalar [] itself = unfold times in refl
+component_listed scalar (i ∷ path) h = elim h [ ]
+component_listed (vec size) [] h = elim h [ ]
+component_listed (vec size) (i ∷ (j ∷ path)) h = elim h [ ]
+component_listed (mat columns rows) [] h = elim h [ ]
 component_listed (vec size) (i ∷ []) (component h) = each_at all i [] size 0 (omega arith) (omega arith) ∙ unfold times in refl
 component_listed (mat columns rows) (c ∷ path) (column h k) =
     each_at (each 0 rows all) c path columns 0 (omega arith) (omega arith) ∙ component_listed (vec rows) path k

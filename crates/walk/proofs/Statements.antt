@@ -84,7 +84,7 @@ module _ {m : Module} (K : Kept m) where
   unfolding end_if
   if_ends fr e before accepted true st hb ha h =
       ends_next (λ left. went left (StatementReq.If true))
-      (ends_next (ask m fr e all) (merged-goes fr accepted st.context st ha h.context h) (λ joined hj. ask-goes fr e all joined K.all-Asked hj))
+      (ends_next (ask m fr e all) (merged-goes fr accepted st.context st ha h.context h) (λ joined hj. ask-goes fr e all joined K.all_asked hj))
       (λ left hl. ends hl)
   if_ends fr e before accepted false st hb ha h = ends (good_context K fr.function before st h hb)
 
@@ -117,7 +117,7 @@ module _ {m : Module} (K : Kept m) where
   unfolding end_switch
   switch-ends fr e before true st hb h =
       ends_next (λ asked. went (with_context st.context asked) (StatementReq.Switch true))
-      (ask-goes fr e all (with_context before st) K.all-Asked (good_context K fr.function before st h hb))
+      (ask-goes fr e all (with_context before st) K.all_asked (good_context K fr.function before st h hb))
       (λ asked ha. ends (good_context K fr.function st.context asked ha h.context))
   switch-ends fr e before false st hb h = ends (good_context K fr.function before st h hb)
 
@@ -162,7 +162,7 @@ module _ {m : Module} (K : Kept m) where
   loop_ends block fr body continuing o before walked true st hb hbefore hw h =
       ends_next
       (λ asked. merged fr walked st.context asked >> start_turns block fr (pieces asked.context) body continuing)
-      (optional_goes (holding (pieces walked + pieces st.context) fr) o all (with_context before st) K.all-Asked (good_context K fr.function before st h hbefore))
+      (optional_goes (holding (pieces walked + pieces st.context) fr) o all (with_context before st) K.all_asked (good_context K fr.function before st h hbefore))
       (λ asked ha.
       ends_next (start_turns block fr (pieces asked.context) body continuing)
       (merged-goes fr walked st.context asked hw h.context ha)
@@ -296,7 +296,7 @@ module _ {m : Module} (K : Kept m) where
   pub mode-goes : (fr : Frame) (mode : GatherMode) (st : State) → Good K fr.function st → Goes K fr.function (ask_mode m fr mode st)
   unfolding ask_mode
   mode-goes fr BroadcastFirst st h = ends h
-  mode-goes fr (Broadcast e) st h = ask-goes fr e all st K.all-Asked h
+  mode-goes fr (Broadcast e) st h = ask-goes fr e all st K.all_asked h
 
   -- every arm
   pub statement_goes : (call : FunctionWalk) (block : BlockWalk) (fr : Frame) (s : Statement) (st : State) → ((g : FunctionHandle) → Calls g (call g)) → ((b : BlockHandle) → Blocks fr.function (block b)) → K.Context fr.function fr.base → Good K fr.function st → Goes K fr.function (add_statement m call block fr s st)
@@ -321,18 +321,18 @@ module _ {m : Module} (K : Kept m) where
   statement_goes call block fr (ImageStore image coordinate array_index value) st hc hb hbase h =
       ends_then (λ left r. went left (StatementReq.ImageStore r))
       (store_goes fr image (λ asked. ask m fr coordinate all asked >> ask_optional m fr array_index exist) value st
-      (λ s hs. ends_next (ask_optional m fr array_index exist) (ask-goes fr coordinate all s K.all-Asked hs) (λ t ht. optional_goes fr array_index exist t K.exist_asked ht)) h)
+      (λ s hs. ends_next (ask_optional m fr array_index exist) (ask-goes fr coordinate all s K.all_asked hs) (λ t ht. optional_goes fr array_index exist t K.exist_asked ht)) h)
       (λ left r hl. ends hl)
   statement_goes call block fr (RayQuery query) st hc hb hbase h = ray-goes fr query (λ asked. went asked tt) st (λ s hs. ends hs) h
   statement_goes call block fr (WorkGroupUniformLoad pointer result) st hc hb hbase h =
-      ray-goes fr result (ask m fr pointer all) st (λ s hs. ask-goes fr pointer all s K.all-Asked hs) h
+      ray-goes fr result (ask m fr pointer all) st (λ s hs. ask-goes fr pointer all s K.all_asked hs) h
   statement_goes call block fr (SubgroupBallot result predicate) st hc hb hbase h =
-      ray-goes fr result (ask_optional m fr predicate all) st (λ s hs. optional_goes fr predicate all s K.all-Asked hs) h
+      ray-goes fr result (ask_optional m fr predicate all) st (λ s hs. optional_goes fr predicate all s K.all_asked hs) h
   statement_goes call block fr (SubgroupGather mode argument result) st hc hb hbase h =
       ray-goes fr result (λ asked. ask_mode m fr mode asked >> ask m fr argument all) st
-      (λ s hs. ends_next (ask m fr argument all) (mode-goes fr mode s hs) (λ t ht. ask-goes fr argument all t K.all-Asked ht)) h
+      (λ s hs. ends_next (ask m fr argument all) (mode-goes fr mode s hs) (λ t ht. ask-goes fr argument all t K.all_asked ht)) h
   statement_goes call block fr (SubgroupCollectiveOperation argument result) st hc hb hbase h =
-      ray-goes fr result (ask m fr argument all) st (λ s hs. ask-goes fr argument all s K.all-Asked hs) h
+      ray-goes fr result (ask m fr argument all) st (λ s hs. ask-goes fr argument all s K.all_asked hs) h
 
   pub good_marked : (f : FunctionHandle) (from : ℕ) (r : StatementReq) (st : State) → Good K f st → Good K f (with_marks (write_marks st.marks from (own_marks r)) st)
   good_marked f from r st h =
