@@ -33,7 +33,7 @@ TAKEN = {
 def files(*kinds):
     for top in ('crates', 'docs', 'host', 'tests', 'examples', '.'):
         for folder, folders, names in os.walk(top):
-            folders[:] = sorted(f for f in folders if f not in ('out', 'target', '.git')) if top != '.' else []
+            folders[:] = sorted(f for f in folders if f not in ('out', '.git') and not (f == 'target' and top == 'host')) if top != '.' else []
             for name in sorted(names):
                 if name.endswith(kinds):
                     yield os.path.join(folder, name)

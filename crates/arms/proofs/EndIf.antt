@@ -69,7 +69,7 @@ module _ {bytes t types places s rs open_marks totals : List ℕ} {fr : Frame} {
     low = omega (arith, B.low)
 
     joined : Standing bytes t types places x J.between open_marks totals f (at + 4) (fr.held + context_in s rs at) sum visits
-    joined = join_standing B.standing low J.joined (fr.held + context_in s rs at) refl B.first_Fine e
+    joined = join_standing B.standing low J.joined (fr.held + context_in s rs at) refl B.first_fine e
 
     between : Beside bytes t f (at + 4) s rs open_marks x J.between open_marks
     between = join_beside B.standing low J.joined

@@ -36,7 +36,7 @@ module _ {bytes t types places s rs open_marks totals : List ℕ} {fr : Frame} {
   upper = D.upper.is s B.standing.ready.memory low
 
   down : Standing bytes t types places s D.between open_marks totals fr.function.0 (at + 4) (fr.held + context_in s rs at) sum visits
-  down = popped_standing B.standing upper low (fr.held + context_in s rs at) refl B.first_Fine (omega (arith, B.standing.ready.small))
+  down = popped_standing B.standing upper low (fr.held + context_in s rs at) refl B.first_fine (omega (arith, B.standing.ready.small))
 
   down_beside : Beside bytes t fr.function.0 (at + 4) s rs open_marks s D.between open_marks
   down_beside = beside_popped B.standing upper low

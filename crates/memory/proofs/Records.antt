@@ -2,9 +2,9 @@
 -- counts of the records, and a copy of those that are there is `extend`. Each law is one induction along the slots.
 use Prim.Native.Nat.{ℕ, zero, suc, ◌+◌, ◌<◌}
 use native.Mathlib.Omega.{arith}
-use mathlib.Core.Path.{◌≡◌, refl, ap}
+use mathlib.Core.Path.{◌≡◌, refl, ap, ◌∙◌}
 use mathlib.Core.List.{List, ◌∷◌}
-use mathlib.Core.Option.{some, none as nothing}
+use mathlib.Core.Option.{Option, some, none as nothing}
 use lib.ListN.{length, get_or, set, replicate}
 use lib.Seq.{get_or-set_same, get_or-set_other}
 use Rattle.part.specs.PartReq.{PartReq, none, more, entries}
@@ -43,11 +43,12 @@ records_set ps base zero e q l h = absurd (omega arith)
 records_set ps base (suc n) zero q l h =
     let z : base + 0 ≡ base = omega arith in
     let b : base < length ps = omega arith in
-    rw (z, get_or-set_same ps base q none b, records_outside ps (suc base) n base q (λ e i x. omega arith))
+    rw (z, get_or-set_same ps base q none b) (ap (λ (r : List (Option PartReq)). record_of q ∷ r) (ap (λ (k : ℕ). records_of (set ps k q) (suc base) n) z ∙ records_outside ps (suc base) n base q (λ e i x. omega arith)))
 records_set ps base (suc n) (suc e) q l h =
     let z : base + suc e ≡ suc base + e = omega arith in
     let ne : base ≡ suc base + e → ⊥ = omega arith in
-    rw (z, get_or-set_other ps (suc base + e) base q none ne, records_set ps (suc base) n e q (omega arith) (omega arith))
+    rw (z, get_or-set_other ps (suc base + e) base q none ne)
+        (ap (λ (r : List (Option PartReq)). record_of (get_or ps base none) ∷ r) (ap (λ (k : ℕ). records_of (set ps k q) (suc base) n) z ∙ records_set ps (suc base) n e q (omega arith) (omega arith)))
 
 -- the record of a part
 pub record_present : (p : PartReq) → record_of (more 0 p none) ≡ some p

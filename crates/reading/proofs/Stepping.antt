@@ -176,10 +176,10 @@ module _ (bytes t : List ℕ) (c : Counts) (at : ℕ) where
     unfolding record_next
     cut_off seen h = rw (le-ltb (length bytes) (at + 4) header, lt-ltb (length bytes) (after bytes at) h) (stops bytes t seen at 2 (stop 2) refl)
 
-    module _ (whole : after bytes at ≤ length bytes) (letters : ℕ) (k : Known) (is-letters : letters ≡ field_at bytes at) (is_Known : known k ≡ mark_of letters) where
+    module _ (whole : after bytes at ≤ length bytes) (letters : ℕ) (k : Known) (is-letters : letters ≡ field_at bytes at) (is_known : known k ≡ mark_of letters) where
       headed : record_next bytes at (reading_of bytes t c) ≡ mark_next bytes at (known k) (reading_of bytes t c)
       unfolding record_next
-      headed = rw (le-ltb (length bytes) (at + 4) header, le-ltb (length bytes) (after bytes at) whole, is_Known, is-letters)
+      headed = rw (le-ltb (length bytes) (at + 4) header, le-ltb (length bytes) (after bytes at) whole, is_known, is-letters)
 
       pub no_mark : (seen : List ℕ) → k ≡ Unknown → Stepped bytes t seen at (record_next bytes at (reading_of bytes t c)) (Stop 3)
       unfolding known mark_next

@@ -44,7 +44,7 @@ use Rattle.state.specs.declared.answer.Walked.TheVariants.{Went}
 use Rattle.state.specs.declared.frame.Frame as declared
 use Rattle.state.proofs.Others.{others_same, others_apart, apart_trans}
 use Rattle.target.specs.declared.resolve.Target as resolve
-use Rattle.target.proofs.Checking.{need-fine}
+use Rattle.target.proofs.Checking.{need_fine}
 use Rattle.statement.specs.Leaf.{leaf_req, Arm, Leaves}
 use Rattle.statement.specs.Asks.{Open, Asked, maybe_ask, answer_of}
 use Rattle.statement.specs.Aim.{Aiming, Aimed, AimIs, Aims}
@@ -215,7 +215,7 @@ module _ {bytes t s rs : List ℕ} {fr : declared.Frame} {row : Kinded} {sum : �
           go : (found : Found) → Got u need_sub found → Holds u layout.ask found
           go Gone g = tt
           go (There i) g =
-              let f = need-fine (module_of bytes t) (module_sound bytes (module_of bytes t) a.begun.ready.was_read.module_is) fr.function.0 (context_at (read s rs) fr.at) (variable_of y.var) (part u y.part) u i a.begun.fine g in
+              let f = need_fine (module_of bytes t) (module_sound bytes (module_of bytes t) a.begun.ready.was_read.module_is) fr.function.0 (context_at (read s rs) fr.at) (variable_of y.var) (part u y.part) u i a.begun.fine g in
               record { low = omega arith; high = omega arith; piece = g.0; few = omega (arith, f.few, a.begun.few); fine = f.fine.within }
 
       abbrev us1 : List ℕ

@@ -26,7 +26,7 @@ use Rattle.state.specs.Frame.{frame_of}
 use Rattle.state.specs.declared.frame.Frame as declared
 use Rattle.state.proofs.Others.{others_same, others_apart, apart_trans}
 use Rattle.target.specs.declared.resolve.Target as resolve
-use Rattle.target.proofs.Checking.{need-fine}
+use Rattle.target.proofs.Checking.{need_fine}
 use Rattle.statement.specs.Aim.{Aiming, Aimed, AimIs, Aims}
 use Rattle.statement.specs.Stores.{Taking, TakeIs, Takes, Stores}
 use Rattle.statement.specs.declared.aim.Aim.{Aim}
@@ -85,7 +85,7 @@ module _ {bytes t s rs : List ℕ} {fr : declared.Frame} {e : ℕ} (q : Aiming b
       pub store_takes : {types : List ℕ} → types_of types ≡ (module_of bytes t).types → Taking bytes t types u rs fr y n
       store_takes typed =
           let fine =
-          need-fine (module_of bytes t) (module_sound bytes (module_of bytes t) q.begun.ready.was_read.module_is) fr.function.0 (context_at (read s rs) fr.at) (variable_of y.var) (part u y.part) u n q.begun.fine needed in
+          need_fine (module_of bytes t) (module_sound bytes (module_of bytes t) q.begun.ready.was_read.module_is) fr.function.0 (context_at (read s rs) fr.at) (variable_of y.var) (part u y.part) u n q.begun.fine needed in
           record {
             sum = q.sum;
             ready = kept_ready q.begun.ready x.kept;

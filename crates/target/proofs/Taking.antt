@@ -1,53 +1,53 @@
--- The type of a target's variable, and that the context without the target is `removeVar`'s.
-use Prim.Native.Nat.{ℕ, _<_}
-use mathlib.Core.Path.{_≡_, sym, ap, _∙_, subst}
+-- The type of a target's variable, and that the context without the target is `remove_var`'s.
+use Prim.Native.Nat.{ℕ, ◌<◌}
+use mathlib.Core.Path.{◌≡◌, sym, ap, ◌∙◌, subst}
 use mathlib.Core.List.{List}
-use lib.ListN.{length, getD}
-use Rattle·part.specs.PartReq.{PartReq, spine}
-use Rattle·part.specs.Store.{top, part, Good, Room}
-use Rattle·module.specs.Module.{FunctionHandle, Function, TypeInner}
-use Rattle·module.specs.declared.handles.GlobalHandle.{GlobalHandle}
-use Rattle·module.specs.declared.handles.LocalHandle.{LocalHandle}
-use Rattle·module.specs.File.{accepted, readModule}
-use Rattle·module.specs.Tables.{functionOf, moduleOf}
-use Rattle·access.specs.Access.{globalAt, localAt}
-use Rattle·access.proofs.Access.{global-is, function-is, local-is}
-use Rattle·valid.proofs.Accepted.{valid}
-use Rattle·context.specs.Types.{typesOf, AllSized}
-use Rattle·context.specs.RequiredContext.{RequiredContext, VarRef, handle, variableType, removeTyped, removeVar}
-use Rattle·context.specs.Contexts.{contextOf, HasContext, variableOf, TookContext, takeRoom}
-use Rattle·context.specs.declared.required_context.RequiredContext.{RequiredContext as Pieces}
-use Rattle·context.specs.declared.required_context.VarRef.{VarRef as Variable}
-use Rattle·context.specs.declared.required_context.VarRef.the-variants as variables
-use Rattle·context.specs.declared.required_context.Removed.{Removed}
-use Rattle·type_table.proofs.AllSized.{all-sized}
-use Rattle·walk.specs.Resolve.{functionAt}
-use Rattle·target·specs.Target.{Sees, HasTarget}
-use Rattle·target·specs.declared.resolve.Target.{Target}
+use lib.ListN.{length, get_or}
+use Rattle.part.specs.PartReq.{PartReq, spine}
+use Rattle.part.specs.Store.{top, part, Good, Room}
+use Rattle.module.specs.Module.{FunctionHandle, Function, TypeInner}
+use Rattle.module.specs.declared.handles.GlobalHandle.{GlobalHandle}
+use Rattle.module.specs.declared.handles.LocalHandle.{LocalHandle}
+use Rattle.module.specs.File.{accepted, read_module}
+use Rattle.module.specs.Tables.{function_of, module_of}
+use Rattle.access.specs.Access.{global_at, local_at}
+use Rattle.access.proofs.Access.{global_is, function_is, local_is}
+use Rattle.valid.proofs.Accepted.{valid}
+use Rattle.context.specs.Types.{types_of, AllSized}
+use Rattle.context.specs.RequiredContext.{RequiredContext, VarRef, handle, variable_type, remove_typed, remove_var}
+use Rattle.context.specs.Contexts.{context_of, HasContext, variable_of, TookContext, take_room}
+use Rattle.context.specs.declared.required_context.RequiredContext.{RequiredContext as Pieces}
+use Rattle.context.specs.declared.required_context.VarRef.{VarRef as Variable}
+use Rattle.context.specs.declared.required_context.VarRef.TheVariants as variables
+use Rattle.context.specs.declared.required_context.Removed.{Removed}
+use Rattle.type_table.proofs.AllSized.{all_sized}
+use Rattle.walk.specs.Resolve.{function_at}
+use Rattle.target.specs.Target.{Sees, HasTarget}
+use Rattle.target.specs.declared.resolve.Target.{Target}
 
 module _ (bytes t : List ℕ) (f : FunctionHandle) {var : Variable} {r : ℕ} where
-  pub global-type : {g : GlobalHandle} → var ≡ variables.Global g → Sees (moduleOf bytes t) f (variableOf var) → r ≡ globalAt bytes t (g .0) → r ≡ variableType (moduleOf bytes t) (functionAt (moduleOf bytes t) f) (variableOf var)
+  pub global-type : {g : GlobalHandle} → var ≡ variables.Global g → Sees (module_of bytes t) f (variable_of var) → r ≡ global_at bytes t g.0 → r ≡ variable_type (module_of bytes t) (function_at (module_of bytes t) f) (variable_of var)
   global-type {g} e h q =
-      let there : g .0 < length (moduleOf bytes t .globals) = rw e at h in
-      rw e (q ∙ sym (global-is bytes t (g .0) 0 there))
+      let there : g.0 < length (module_of bytes t).globals = rw e at h in
+      rw e (q ∙ sym (global_is bytes t g.0 0 there))
 
-  pub local-type : {l : LocalHandle} → f < length (moduleOf bytes t .functions) → var ≡ variables.Local l → Sees (moduleOf bytes t) f (variableOf var) → r ≡ localAt bytes t f (l .0) → r ≡ variableType (moduleOf bytes t) (functionAt (moduleOf bytes t) f) (variableOf var)
-  unfolding functionAt
-  local-type {l} k e h q =
-      let same = function-is bytes t f _ k in
-      let there : l .0 < length (functionAt (moduleOf bytes t) f .locals) = rw e at h in
-      let inside : l .0 < length (functionOf bytes t f .locals) = subst (λ (x : Function). l .0 < length (x .locals)) same there in
-      rw e (q ∙ sym (ap (λ (x : Function). getD (x .locals) (l .0) 0) same ∙ local-is bytes t f (l .0) 0 inside))
+  pub local_type : {l : LocalHandle} → f < length (module_of bytes t).functions → var ≡ variables.Local l → Sees (module_of bytes t) f (variable_of var) → r ≡ local_at bytes t f l.0 → r ≡ variable_type (module_of bytes t) (function_at (module_of bytes t) f) (variable_of var)
+  unfolding function_at
+  local_type {l} k e h q =
+      let same = function_is bytes t f _ k in
+      let there : l.0 < length (function_at (module_of bytes t) f).locals = rw e at h in
+      let inside : l.0 < length (function_of bytes t f).locals = subst (λ (x : Function). l.0 < length x.locals) same there in
+      rw e (q ∙ sym (ap (λ (x : Function). get_or x.locals l.0 0) same ∙ local_is bytes t f l.0 0 inside))
 
-module _ (bytes t types : List ℕ) (table : typesOf types ≡ moduleOf bytes t .types) {s : List ℕ} {c : Pieces} {f : FunctionHandle} {x : Target} where
-  pub take-asks : readModule bytes ≡ accepted (moduleOf bytes t) → Good s → HasContext s c → HasTarget (moduleOf bytes t) f s x → Room s (takeRoom (contextOf s c) (part s (x .part)))
-      → Good s × (AllSized (typesOf types) × ((HasContext s c × ((handle (variableOf (x .var)) < spine) × (x .part < top s))) × Room s (takeRoom (contextOf s c) (part s (x .part)))))
-  take-asks read g h a room =
-      (g, (rw table (all-sized (moduleOf bytes t) (valid bytes (moduleOf bytes t) read)), ((h, (a .low, a .piece)), room)))
+module _ (bytes t types : List ℕ) (table : types_of types ≡ (module_of bytes t).types) {s : List ℕ} {c : Pieces} {f : FunctionHandle} {x : Target} where
+  pub take_asks : read_module bytes ≡ accepted (module_of bytes t) → Good s → HasContext s c → HasTarget (module_of bytes t) f s x → Room s (take_room (context_of s c) (part s x.part))
+      → Good s × (AllSized (types_of types) × ((HasContext s c × ((handle (variable_of x.var) < spine) × (x.part < top s))) × Room s (take_room (context_of s c) (part s x.part))))
+  take_asks read g h a room =
+      (g, (rw table (all_sized (module_of bytes t) (valid bytes (module_of bytes t) read)), ((h, (a.low, a.piece)), room)))
 
-module _ (bytes t types : List ℕ) (table : typesOf types ≡ moduleOf bytes t .types) (f : FunctionHandle) (d : RequiredContext) (var : VarRef) (q : PartReq) where
-  pub taken : {s u : List ℕ} {k ty : ℕ} {r : Removed} → ty ≡ variableType (moduleOf bytes t) (functionAt (moduleOf bytes t) f) var → TookContext s u (removeTyped (typesOf types) d var ty q) k r → TookContext s u (removeVar (moduleOf bytes t) (functionAt (moduleOf bytes t) f) d var q) k r
-  unfolding removeVar
+module _ (bytes t types : List ℕ) (table : types_of types ≡ (module_of bytes t).types) (f : FunctionHandle) (d : RequiredContext) (var : VarRef) (q : PartReq) where
+  pub taken : {s u : List ℕ} {k ty : ℕ} {r : Removed} → ty ≡ variable_type (module_of bytes t) (function_at (module_of bytes t) f) var → TookContext s u (remove_typed (types_of types) d var ty q) k r → TookContext s u (remove_var (module_of bytes t) (function_at (module_of bytes t) f) d var q) k r
+  unfolding remove_var
   taken {s} {u} {k} {ty} {r} e h =
-      subst (λ (y : ℕ). TookContext s u (removeTyped (moduleOf bytes t .types) d var y q) k r) e
-      (subst (λ (ts : List TypeInner). TookContext s u (removeTyped ts d var ty q) k r) table h)
+      subst (λ (y : ℕ). TookContext s u (remove_typed (module_of bytes t).types d var y q) k r) e
+      (subst (λ (ts : List TypeInner). TookContext s u (remove_typed ts d var ty q) k r) table h)

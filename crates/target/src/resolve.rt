@@ -1,24 +1,19 @@
 // `resolve_var`: from a store's pointer down to the variable. The part grows on the way, a piece for each index.
-use access::kinded::Kinded;
-use access::kinded::expression;
-use access::kinded::expression_operand;
-use access::kinded::global_operand;
-use access::kinded::local_operand;
-use access::kinded::operand;
+ghost use Rattle.std.specs.Prelude.{◌≡◌, ◌<◌, length};
+ghost use Rattle.field.specs.Limits.{max_expressions};
+ghost use Rattle.part.specs.Store.{top, part, Good, Room, Made};
+ghost use Rattle.module.specs.File.{accepted, read_module};
+ghost use Rattle.module.specs.Tables.{module_of};
+ghost use Rattle.access.specs.Access.{operand_at};
+ghost use Rattle.walk.specs.Resolve.{function_at};
+ghost use Rattle.target.specs.Target.{follows, base_part, Resolves};
+
+use access::kinded::{
+    Kinded, expression, expression_operand, global_operand, local_operand, operand,
+};
 use context::required_context::VarRef;
-use module::handles::ExpressionHandle;
-use module::handles::FunctionHandle;
+use module::handles::{ExpressionHandle, FunctionHandle};
 use part::store::make;
-ghost use mathlib.Core.Path.{_≡_};
-ghost use Prim.Native.Nat.{_<_};
-ghost use lib.ListN.{length};
-ghost use Rattle·field.specs.Limits.{maxExpressions};
-ghost use Rattle·part.specs.Store.{top, part, Good, Room, Made};
-ghost use Rattle·module.specs.File.{accepted, readModule};
-ghost use Rattle·module.specs.Tables.{moduleOf};
-ghost use Rattle·access.specs.Access.{operandAt};
-ghost use Rattle·walk.specs.Resolve.{functionAt};
-ghost use Rattle·target·specs.Target.{follows, basePart, Resolves};
 
 // A variable, and the piece of its part.
 #[derive(Clone, Copy)]
@@ -44,7 +39,7 @@ const LOCAL_VARIABLE: u16 = 11;
 
 // Whether the way goes on to the base.
 fn follows(kind: u16) -> bool
-    ensures { λ r. ⌜ r ≡ follows kind ⌝ }
+    ensures { result ≡ follows kind }
 {
     if kind == ACCESS_INDEX {
         return true;
@@ -54,9 +49,9 @@ fn follows(kind: u16) -> bool
 
 // The part of the base, where p is the access's own: an index wraps it, and an access by a value takes all.
 fn base_part(bytes: &[u8], cells: &mut [u32], row: Kinded, p: u32) -> u32
-    requires { ⌜ Good (now cells) ⌝ }
-    requires { ⌜ Room (now cells) 1 × (p < top (now cells)) ⌝ }
-    ensures { λ r. ⌜ Made (now (cells .entry)) (now (cells .exit)) (basePart (row .kind) (operandAt (now (bytes .entry)) row) (part (now (cells .entry)) p)) 1 r ⌝ }
+    requires good { Good cells.old }
+    requires room { Room cells.old 1 × (p < top cells.old) }
+    ensures { Made cells.old cells.new (base_part row.kind (operand_at bytes.now row) (part cells.old p)) 1 result }
 {
     if row.kind == ACCESS {
         return 0;
@@ -73,11 +68,11 @@ pub fn resolve_var(
     f: FunctionHandle,
     e: ExpressionHandle,
 ) -> VarRefPart
-    requires { ⌜ readModule (now bytes) ≡ accepted (moduleOf (now bytes) (now t)) ⌝ }
-    requires { ⌜ e .0 < length (functionAt (moduleOf (now bytes) (now t)) (f .0) .expressions) ⌝ }
-    requires { ⌜ Good (now cells) ⌝ }
-    requires { ⌜ Room (now cells) maxExpressions ⌝ }
-    ensures { λ r. ⌜ Resolves (moduleOf (now (bytes .entry)) (now (t .entry))) (f .0) (e .0) (now (cells .entry)) (now (cells .exit)) r ⌝ }
+    requires bytes_value { read_module bytes.now ≡ accepted (module_of bytes.now t.now) }
+    requires e_in_bounds { e.0 < length (function_at (module_of bytes.now t.now) f.0).expressions }
+    requires good { Good cells.old }
+    requires room { Room cells.old max_expressions }
+    ensures { Resolves (module_of bytes.now t.now) f.0 e.0 cells.old cells.new result }
 {
     let mut x = e;
     let mut p = 0;

@@ -1,34 +1,29 @@
 // What is needed of a store's target, and the context without it.
+ghost use Rattle.std.specs.Prelude.{◌≡◌, ◌<◌, length};
+ghost use Rattle.part.specs.PartReq.{spine};
+ghost use Rattle.part.specs.Store.{top, part, Good, Room};
+ghost use Rattle.part.specs.Found.{Got};
+ghost use Rattle.module.specs.File.{accepted, read_module};
+ghost use Rattle.module.specs.Tables.{module_of};
+ghost use Rattle.context.specs.Types.{types_of};
+ghost use Rattle.context.specs.RequiredContext.{handle, variable_type, remove_var};
+ghost use Rattle.context.specs.Contexts.{context_of, HasContext, variable_of, TookContext, take_room};
+ghost use Rattle.walk.specs.Resolve.{function_at, check_part, store_required};
+ghost use Rattle.target.specs.Target.{Sees, HasTarget, subpart_of, HasFound};
+
 use crate::resolve::Target;
 use access::function::local;
 use access::whole::global;
-use context::required_context::Removed;
-use context::required_context::RequiredContext;
-use context::required_context::VarRef;
-use module::handles::FunctionHandle;
-use module::handles::TypeHandle;
-use part::req::Found;
-use part::req::get;
+use context::required_context::{Removed, RequiredContext, VarRef};
+use module::handles::{FunctionHandle, TypeHandle};
+use part::req::{Found, get};
 use part::store::look;
-ghost use mathlib.Core.Path.{_≡_};
-ghost use Prim.Native.Nat.{_<_};
-ghost use lib.ListN.{length};
-ghost use Rattle·part.specs.PartReq.{spine};
-ghost use Rattle·part.specs.Store.{top, part, Good, Room};
-ghost use Rattle·part.specs.Found.{Got};
-ghost use Rattle·module.specs.File.{accepted, readModule};
-ghost use Rattle·module.specs.Tables.{moduleOf};
-ghost use Rattle·context.specs.Types.{typesOf};
-ghost use Rattle·context.specs.RequiredContext.{handle, variableType, removeVar};
-ghost use Rattle·context.specs.Contexts.{contextOf, HasContext, variableOf, TookContext, takeRoom};
-ghost use Rattle·walk.specs.Resolve.{functionAt, checkPart, storeRequired};
-ghost use Rattle·target·specs.Target.{Sees, HasTarget, subpartOf, HasFound};
 
 // `check_part`: what is needed of the part q, where required is needed of the whole. A path has one entry on each level.
 pub fn check_part(cells: &[u32], q: u32, required: Found) -> Found
-    requires { ⌜ Good (now cells) ⌝ }
-    requires { ⌜ (q < top (now cells)) × HasFound (now cells) required ⌝ }
-    ensures { λ r. ⌜ Got (now (cells .entry)) (checkPart (part (now (cells .entry)) q) (subpartOf (now (cells .entry)) required)) r ⌝ }
+    requires good { Good cells.now }
+    requires q_bound { (q < top cells.now) × HasFound cells.now required }
+    ensures { Got cells.now (check_part (part cells.now q) (subpart_of cells.now required)) result }
 {
     let Found::There(whole) = required else {
         return Found::Gone;
@@ -57,10 +52,10 @@ pub fn check_part(cells: &[u32], q: u32, required: Found) -> Found
 
 // `store_required`
 pub fn store_required(cells: &[u32], c: RequiredContext, target: Target) -> Found
-    requires { ⌜ Good (now cells) ⌝ }
-    requires { ⌜ HasContext (now cells) c ⌝ }
-    requires { ⌜ (target .part < top (now cells)) × (handle (variableOf (target .var)) < spine) ⌝ }
-    ensures { λ r. ⌜ Got (now (cells .entry)) (storeRequired (contextOf (now (cells .entry)) c) (variableOf (target .var)) (part (now (cells .entry)) (target .part))) r ⌝ }
+    requires good { Good cells.now }
+    requires has_context { HasContext cells.now c }
+    requires part_bound { (target.part < top cells.now) × (handle (variable_of target.var) < spine) }
+    ensures { Got cells.now (store_required (context_of cells.now c) (variable_of target.var) (part cells.now target.part)) result }
 {
     let var = target.var;
     let required = c.get(cells, var);
@@ -69,9 +64,9 @@ pub fn store_required(cells: &[u32], c: RequiredContext, target: Target) -> Foun
 
 // The type of a variable.
 fn variable_type(bytes: &[u8], t: &[u32], f: FunctionHandle, var: VarRef) -> TypeHandle
-    requires { ⌜ f .0 < length (moduleOf (now bytes) (now t) .functions) ⌝ }
-    requires { ⌜ Sees (moduleOf (now bytes) (now t)) (f .0) (variableOf var) ⌝ }
-    ensures { λ r. ⌜ r .0 ≡ variableType (moduleOf (now (bytes .entry)) (now (t .entry))) (functionAt (moduleOf (now (bytes .entry)) (now (t .entry))) (f .0)) (variableOf var) ⌝ }
+    requires f_in_bounds { f.0 < length (module_of bytes.now t.now).functions }
+    requires sees { Sees (module_of bytes.now t.now) f.0 (variable_of var) }
+    ensures { result.0 ≡ variable_type (module_of bytes.now t.now) (function_at (module_of bytes.now t.now) f.0) (variable_of var) }
 {
     match var {
         VarRef::Global(g) => global(bytes, t, g),
@@ -89,13 +84,13 @@ pub fn take_out(
     c: RequiredContext,
     target: Target,
 ) -> Removed
-    requires { ⌜ readModule (now bytes) ≡ accepted (moduleOf (now bytes) (now t)) ⌝ }
-    requires { ⌜ f .0 < length (moduleOf (now bytes) (now t) .functions) ⌝ }
-    requires { ⌜ typesOf (now types) ≡ moduleOf (now bytes) (now t) .types ⌝ }
-    requires { ⌜ Good (now cells) ⌝ }
-    requires { ⌜ HasContext (now cells) c × HasTarget (moduleOf (now bytes) (now t)) (f .0) (now cells) target ⌝ }
-    requires { ⌜ Room (now cells) (takeRoom (contextOf (now cells) c) (part (now cells) (target .part))) ⌝ }
-    ensures { λ r. ⌜ TookContext (now (cells .entry)) (now (cells .exit)) (removeVar (moduleOf (now (bytes .entry)) (now (t .entry))) (functionAt (moduleOf (now (bytes .entry)) (now (t .entry))) (f .0)) (contextOf (now (cells .entry)) c) (variableOf (target .var)) (part (now (cells .entry)) (target .part))) (takeRoom (contextOf (now (cells .entry)) c) (part (now (cells .entry)) (target .part))) r ⌝ }
+    requires bytes_value { read_module bytes.now ≡ accepted (module_of bytes.now t.now) }
+    requires f_in_bounds { f.0 < length (module_of bytes.now t.now).functions }
+    requires types_value { types_of types.now ≡ (module_of bytes.now t.now).types }
+    requires good { Good cells.old }
+    requires has_context { HasContext cells.old c × HasTarget (module_of bytes.now t.now) f.0 cells.old target }
+    requires room { Room cells.old (take_room (context_of cells.old c) (part cells.old target.part)) }
+    ensures { TookContext cells.old cells.new (remove_var (module_of bytes.now t.now) (function_at (module_of bytes.now t.now) f.0) (context_of cells.old c) (variable_of target.var) (part cells.old target.part)) (take_room (context_of cells.old c) (part cells.old target.part)) result }
 {
     let var = target.var;
     let ty = variable_type(bytes, t, f, var);
