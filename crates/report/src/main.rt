@@ -17,18 +17,39 @@ use marks::places::PLACES;
 use memory::layout::{CELLS, SLOTS};
 use module::tables::WORDS;
 use report_text::split::MAX_INPUT;
+use std::io;
+use std::io::Read;
+
+// What one read puts at the start of input; 0 where the input ends or the read fails.
+fn read_some(reader: &mut impl Read, input: &mut [u8]) -> usize
+    ensures { IsPrefixLen result input.new }
+{
+    match reader.read(input) {
+        Ok(n) => n,
+        Err(_) => 0,
+    }
+}
 
 // The input, or as much of it as can change the answer.
-fn read_input(input: &mut [u8]) -> usize
+fn read_input(reader: &mut impl Read, input: &mut [u8]) -> usize
     requires { max_input ≤ length input.old }
     ensures { IsPrefixLen result input.new }
 {
-    io::read_full(0, input)
+    let mut done = 0;
+    while done < input.len() {
+        let n = read_some(reader, &mut input[done..]);
+        if n == 0 {
+            break;
+        }
+        done += n;
+    }
+    done
 }
 
 // The arrays of the text and of the check are needed only when the walk has ended. Called from two places, this stays a function of its own, so that they are not on
 // the stack during the walk.
 fn print(
+    rt: &impl Print,
     input: &[u8],
     t: &[u32],
     places: &[u32],
@@ -36,25 +57,27 @@ fn print(
     slots: &mut [u32; SLOTS],
     open: &[u8],
     outcome: Outcome,
-)
+) -> io::Result<()>
     requires { TextIs (report_input input.now) (module_in input.now) t.now (request_in input.now) places.now cells.old slots.old «open».now outcome }
 {
     let mut text: [u8; MAX_TEXT + MAX_LINE] = [0; MAX_TEXT + MAX_LINE];
     let n = write_text(&mut text, input, t, places, cells, slots, open, outcome);
-    io::write_all(1, &text[0..n]);
+    rt.write_all(&text[0..n])
 }
 
 fn answer(
+    rt: &impl Print,
     input: &[u8],
     t: &mut [u32; WORDS],
     places: &mut [u32; PLACES],
     cells: &mut [u32; CELLS],
     slots: &mut [u32; SLOTS],
     open: &mut [u8; MIN_REPORT],
-) {
+) -> io::Result<()> {
     let refusal = read_front(input, t, cells, slots);
     if 0 < refusal {
-        print(
+        return print(
+            rt,
             input,
             t,
             places,
@@ -63,30 +86,30 @@ fn answer(
             open,
             Outcome::Refused(refusal),
         );
-        return;
     }
     let outcome = walk_input(input, t, places, cells, slots, open);
-    print(input, t, places, cells, slots, open, outcome);
+    print(rt, input, t, places, cells, slots, open, outcome)
 }
 
-fn report(input: &[u8]) {
+fn report(rt: &impl Print, input: &[u8]) -> io::Result<()> {
     let mut t: [u32; WORDS] = [0; WORDS];
     let mut places: [u32; PLACES] = [0; PLACES];
     let mut cells: [u32; CELLS] = [0; CELLS];
     let mut slots: [u32; SLOTS] = [0; SLOTS];
     let mut open: [u8; MIN_REPORT] = [0; MIN_REPORT];
     answer(
+        rt,
         input,
         &mut t,
         &mut places,
         &mut cells,
         &mut slots,
         &mut open,
-    );
+    )
 }
 
-fn main() {
+fn main(rt: HostRuntime) -> io::Result<()> {
     let mut input: [u8; MAX_INPUT] = [0; MAX_INPUT];
-    let n = read_input(&mut input);
-    report(&input[0..n]);
+    let n = read_input(&mut rt.stdin(), &mut input);
+    report(&rt, &input[0..n])
 }
