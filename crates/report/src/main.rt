@@ -2,8 +2,7 @@
 mod outcome;
 mod text;
 
-ghost use Rattle.std.specs.Prelude.{◌≤◌, length};
-ghost use Rattle.io.specs.Counts.{IsPrefixLen};
+ghost use Rattle.std.specs.Prelude.{◌≡◌, ◌≤◌, length, take};
 ghost use Rattle.report_text.specs.Split.{module_in, request_in};
 ghost use Rattle.report_text.specs.Input.{max_input, report_input};
 ghost use Rattle.report.specs.Outcome.{TextIs};
@@ -22,7 +21,8 @@ use std::io::Read;
 
 // What one read puts at the start of input; 0 where the input ends or the read fails.
 fn read_some(reader: &mut impl Read, input: &mut [u8]) -> usize
-    ensures { IsPrefixLen result input.new }
+    ensures in_bounds { result ≤ length input.new }
+    ensures prefix_len { result ≡ length (take result input.new) }
 {
     match reader.read(input) {
         Ok(n) => n,
@@ -33,7 +33,8 @@ fn read_some(reader: &mut impl Read, input: &mut [u8]) -> usize
 // The input, or as much of it as can change the answer.
 fn read_input(reader: &mut impl Read, input: &mut [u8]) -> usize
     requires { max_input ≤ length input.old }
-    ensures { IsPrefixLen result input.new }
+    ensures in_bounds { result ≤ length input.new }
+    ensures prefix_len { result ≡ length (take result input.new) }
 {
     let mut done = 0;
     while done < input.len() {
