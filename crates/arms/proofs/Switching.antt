@@ -6,6 +6,7 @@ use mathlib.Core.Path.{◌≡◌, refl, sym, ap, subst, ◌∙◌}
 use mathlib.Core.Bool.{Bool, true, false}
 use mathlib.Core.List.{List}
 use lib.ListN.{length, get_or}
+use Rattle.walk.specs.Resolve.{function_at}
 use lib.Seq.{get_or-set_same, get_or-set_other}
 use borrow.Author.Tests.{le-ltb}
 use Rattle.part.specs.PartReq.{PartReq, all, exist, none, more, over, spine}
@@ -81,12 +82,12 @@ variables_within n k (more i p r) l h =
 
 context_within : {m : Module} {f : ℕ} (c : RequiredContext) → FineContext m f c → over_context c ≡ false
 unfolding over_context
-context_within c h =
+context_within {m} {f} c h =
     rw (
-      variables_within _ spine c.globals (le_refl spine) h.globals,
-      variables_within _ spine c.locals (le_refl spine) h.locals,
-      variables_within _ spine c.args (le_refl spine) h.args,
-      variables_within _ spine c.retval (le_refl spine) h.retval,
+      variables_within (length m.globals) spine c.globals (le_refl spine) h.globals,
+      variables_within (length (function_at m f).locals) spine c.locals (le_refl spine) h.locals,
+      variables_within (length (function_at m f).arguments) spine c.args (le_refl spine) h.args,
+      variables_within 1 spine c.retval (le_refl spine) h.retval,
     )
 
 -- the definition's end

@@ -98,7 +98,7 @@ context_long : (m : Module) (f : FunctionHandle) (c : RequiredContext) → FineC
 unfolding context_text pieces
 context_long m f c fine g a l =
     let globals = variables_long global_word _ _ c.globals (omega arith) g fine.globals in
-    let retval = retval_long _ _ c.retval fine.retval in
+    let retval = retval_long 1 spine c.retval fine.retval in
     let args = variables_long arg_word _ _ c.args (omega arith) a fine.args in
     let locals = variables_long local_word _ _ c.locals (omega arith) l fine.locals in
     let first = length-append (variables_text global_word c.globals) (retval_text c.retval ++ (variables_text arg_word c.args ++ variables_text local_word c.locals)) in

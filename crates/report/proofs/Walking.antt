@@ -78,7 +78,7 @@ module _ {bytes t types places s rs open_marks totals : List ℕ} {q : Request} 
 
 module _ {bytes t types places s rs open_marks totals : List ℕ} {h : Handle} {sum : ℕ} (A : Asked bytes t types places s rs open_marks totals h.0 sum) where
   pub walk_enters : FunctionEntered bytes t types places s rs open_marks totals h.0 stack_slot 0 sum 0
-  walk_enters = rw (← A.function_is, A.sum_is_lem) (enters A.loaded)
+  walk_enters = rw (← A.function_is, A.sum_is) (enters A.loaded)
 
   module _ {a : Answered} {u us open_after totals-after : List ℕ}
       (E : FunctionEnds bytes t types places s rs open_marks totals h.0 stack_slot 0 (walk_in bytes t s rs open_marks totals h.0) a u us open_after totals-after) where
