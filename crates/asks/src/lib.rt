@@ -1,4 +1,6 @@
 // What the arm of an expression asks, one thing at a time.
+#![tactic(auto)]
+
 pub mod arms;
 pub mod ask;
 pub mod fields;

@@ -1,4 +1,6 @@
 // One pass over a body, last statement first: what is needed before it, and what is carried along.
+#![tactic(auto)]
+
 pub mod blocks;
 pub mod plain;
 pub mod slots;

@@ -1,4 +1,6 @@
 // The walk of blocks.
+#![tactic(auto)]
+
 pub mod add_total;
 pub mod added;
 pub mod aside;

@@ -1,4 +1,6 @@
 // Behind the C boundary: each operation from bytes to a number and bytes, over arrays that `tickingtor` has.
+#![tactic(auto)]
+
 pub mod add;
 pub mod answer;
 pub mod input;

@@ -1,1 +1,2 @@
 // The clearance: the definitions stand in specs/.
+#![tactic(auto)]

@@ -1,4 +1,6 @@
 // A context's record checked and compared where it stands: nothing is read into a store, so there is no bound on its bytes.
+#![tactic(auto)]
+
 pub mod check;
 pub mod codes;
 pub mod count;

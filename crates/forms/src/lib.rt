@@ -1,4 +1,6 @@
 // Types as shapes, taking a part out of a need, and trimming what a request asks.
+#![tactic(auto)]
+
 pub mod form;
 pub mod place;
 pub mod take;

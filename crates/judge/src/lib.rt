@@ -1,4 +1,6 @@
 // The clearance's code.
+#![tactic(auto)]
+
 pub mod alike;
 pub mod expressions;
 pub mod indexes;

@@ -1,2 +1,4 @@
 // A called function is left.
+#![tactic(auto)]
+
 pub mod leave;

@@ -1,4 +1,6 @@
 // The report's lines, written into a lent buffer.
+#![tactic(auto)]
+
 pub mod contexts;
 pub mod names;
 pub mod own_marks;

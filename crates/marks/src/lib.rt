@@ -1,4 +1,6 @@
 // The marks of statements in byte buffers: where they stand, how they are set and joined, and the report.
+#![tactic(auto)]
+
 pub mod lent;
 pub mod places;
 pub mod ray;

@@ -48,7 +48,7 @@ records_set ps base (suc n) (suc e) q l h =
     let z : base + suc e ≡ suc base + e = omega arith in
     let ne : base ≡ suc base + e → ⊥ = omega arith in
     rw (z, get_or-set_other ps (suc base + e) base q none ne)
-        (ap (λ (r : List (Option PartReq)). record_of (get_or ps base none) ∷ r) (ap (λ (k : ℕ). records_of (set ps k q) (suc base) n) z ∙ records_set ps (suc base) n e q (omega arith) (omega arith)))
+    (ap (λ (r : List (Option PartReq)). record_of (get_or ps base none) ∷ r) (ap (λ (k : ℕ). records_of (set ps k q) (suc base) n) z ∙ records_set ps (suc base) n e q (omega arith) (omega arith)))
 
 -- the record of a part
 pub record_present : (p : PartReq) → record_of (more 0 p none) ≡ some p

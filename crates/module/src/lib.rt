@@ -1,4 +1,6 @@
 // The module that a file's bytes mean.
+#![tactic(auto)]
+
 pub mod access;
 pub mod checks;
 pub mod handles;

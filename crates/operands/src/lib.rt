@@ -1,4 +1,6 @@
 // What the need of an emitted expression asks of its operands, over memory.
+#![tactic(auto)]
+
 pub mod expression;
 pub mod indexes;
 pub mod load;

@@ -1,4 +1,6 @@
 // The pruner's totals as bytes: specs/ says how, and proofs/ that they are read back.
+#![tactic(auto)]
+
 pub mod buffer;
 pub mod frame;
 pub mod kept;

@@ -1,4 +1,6 @@
 // Reads a module and then one request from standard input, and prints the lines of its report and of its check, or the line of its refusal.
+#![tactic(auto)]
+
 mod outcome;
 mod text;
 

@@ -1,4 +1,6 @@
 // Requests and contexts as records: requests are read into the store of pieces, both are written from it.
+#![tactic(auto)]
+
 pub mod lists;
 pub mod parts;
 pub mod record;

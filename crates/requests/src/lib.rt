@@ -1,4 +1,6 @@
 // A request from bytes to bytes.
+#![tactic(auto)]
+
 pub mod answer;
 pub mod begin;
 pub mod finish;

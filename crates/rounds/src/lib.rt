@@ -1,3 +1,5 @@
 // Passes over a function's body until each loop's needs hold on re-entry, and the number of the answer.
+#![tactic(auto)]
+
 pub mod begin;
 pub mod settle;

@@ -1,4 +1,6 @@
 // The arms of the statements that hold no block and call no function.
+#![tactic(auto)]
+
 pub mod aim;
 pub mod ask;
 pub mod atomic;

@@ -1,4 +1,6 @@
 // What a program in C or Rust calls, on byte slices and numbers. No function here asks anything of its caller.
+#![tactic(auto)]
+
 pub mod add;
 pub mod check;
 pub mod file;

@@ -1,4 +1,6 @@
 // The types of a module that was read as a table of numbers, a row for each, which is how crate `context` takes them.
+#![tactic(auto)]
+
 ghost use Rattle.std.specs.Prelude.{◌≡◌, ◌*◌, ◌≤◌, length};
 ghost use Rattle.field.specs.Limits.{max_types};
 ghost use Rattle.module.specs.Tables.{module_of};

@@ -1,4 +1,6 @@
 // The check's number, of a module that was read: what is asked, the tables of the function, whether it is judged, and the rounds.
+#![tactic(auto)]
+
 pub mod check;
 pub mod heard;
 pub mod judged;

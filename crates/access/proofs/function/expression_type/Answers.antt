@@ -1,0 +1,7 @@
+-- `access::function::expression_type` meets its contract.
+use Rattle.access.proofs.Access.{expression_type_read}
+use Rattle.access.proofs.function.expression_type.Goals as goal
+
+pub returns : goal.returns
+returns c =
+    expression_type_read _ _ _ c.row_at-row.ensures _ _ _ _ c.word-offset.ensures c.body.ensures

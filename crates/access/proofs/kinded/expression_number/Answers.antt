@@ -1,0 +1,5 @@
+-- `access::kinded::expression_number` meets its contract.
+use Rattle.access.proofs.kinded.expression_number.Goals as goal
+
+pub returns : goal.returns
+returns c = rw c.row_at-row.ensures

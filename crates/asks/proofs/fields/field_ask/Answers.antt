@@ -1,0 +1,27 @@
+-- `asks::fields::field_ask` meets its contract. The invariant: what is left of the fields gives the whole. Assumes nothing.
+use Prim.Native.Nat.{◌-◌}
+use mathlib.Core.Path.{refl}
+use mathlib.Core.Logic.{⊎_elim}
+use Rattle.asks.proofs.FieldAsks.{fields-first, fields_none, fields-end, fields_found, fields_later, fields_skip}
+use Rattle.asks.proofs.Telling.{told_end, told_operand}
+use Rattle.asks.proofs.fields.field_ask.Goals as goal
+
+pub loop-k-init : goal.loop-k-init
+loop-k-init c = fields-first _ _ _ _ _ c.ways-rest.ensures
+
+pub returns-then-rest-eq0 : goal.returns-then-rest-eq0
+returns-then-rest-eq0 c = told_end c.requires.1 (fields_none c.loop-k.invariant c.if-rest-eq0.true)
+
+pub want_by-want-requires : goal.want_by-want-requires
+want_by-want-requires c = c.requires
+
+pub returns-then-skip-eq0 : goal.returns-then-skip-eq0
+returns-then-skip-eq0 c =
+    told_operand _ c.want_by-want.ensures (fields_found c.loop-k.invariant c.loop-k-test.true c.expression_operand-x.ensures refl c.asks_by.ensures c.if-asks_by.true c.if-skip-eq0.true)
+
+pub loop-k-preserved : goal.loop-k-preserved
+loop-k-preserved c =
+    ⊎_elim (λ w. fields_later c.loop-k.invariant c.loop-k-test.true c.expression_operand-x.ensures refl c.asks_by.ensures w.0.taken w.1.left w.2) (λ w. fields_skip c.loop-k.invariant c.loop-k-test.true c.expression_operand-x.ensures refl c.asks_by.ensures w.0.left w.1) c.if-asks_by.branch
+
+pub returns : goal.returns
+returns c = told_end c.requires.1 (fields-end c.loop-k.invariant c.loop-k-test.false)

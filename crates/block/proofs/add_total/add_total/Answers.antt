@@ -1,0 +1,19 @@
+-- `block::add_total::add_total` meets its contract, answer by answer.
+use mathlib.Core.Path.{refl}
+use Rattle.block.proofs.Answers.{total_first, total_ray, total_over, total_later}
+use Rattle.block.proofs.add_total.add_total.Goals as goal
+
+pub returns-then-totals-i-eq0 : goal.returns-then-totals-i-eq0
+returns-then-totals-i-eq0 c = total_first _ _ c.if-totals-i-eq0.true c.first_total-first.ensures
+
+pub returns-in-At : goal.returns-in-At
+returns-in-At c =
+    total_ray _ _ c.if-totals-i-eq0.false c.first_ray-ray.result c.first_ray-ray.ensures refl c.in-At.is
+
+pub returns-in-Over : goal.returns-in-Over
+returns-in-Over c =
+    total_over _ _ c.if-totals-i-eq0.false c.first_ray-ray.result c.first_ray-ray.ensures c.later_total-joint.result c.later_total-joint.ensures c.in_default.is c.in-Over.is
+
+pub returns-in-Sum : goal.returns-in-Sum
+returns-in-Sum c =
+    total_later _ _ c.if-totals-i-eq0.false c.first_ray-ray.result c.first_ray-ray.ensures c.later_total-joint.result c.later_total-joint.ensures c.in_default.is c.in-Sum.is

@@ -1,0 +1,19 @@
+-- `expression::add::add_expression` meets its contract, by the number of the expression, which falls. Its loop keeps what is left of the asks (`Left`). Assumes
+-- nothing.
+use Prim.Native.Nat.{◌-◌}
+use lib.ListN.{length}
+use Rattle.module.specs.Tables.{module_of}
+use Rattle.walk.specs.Resolve.{expression_at}
+use Rattle.walk.specs.Expression.{arm_asks}
+use Rattle.memory.specs.Want.{asked}
+use Rattle.expression.specs.Walks.{Left}
+use Rattle.expression.proofs.add.+add_expression.Given as goal
+
+abbrev pub invariant-loop-h : goal.invariant-loop-h
+invariant-loop-h l = Left l.bytes l.t l.f.0 l.e.0 l.at l.held l.initial.cells l.initial.slots l.w l.initial.v l.j l.v l.m l.cells l.slots
+
+abbrev pub decreases-loop-h : goal.decreases-loop-h
+decreases-loop-h l = length (arm_asks (expression_at (module_of l.bytes l.t) l.f.0 l.e.0) (asked l.initial.cells l.initial.slots l.w)) - l.j
+
+abbrev pub decreases-add_expression : goal.decreases-add_expression
+decreases-add_expression l = l.e.0

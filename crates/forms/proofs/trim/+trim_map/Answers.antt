@@ -1,0 +1,33 @@
+-- `forms::trim::trim_map` meets its contract. The measure is the map's number.
+use Rattle.forms.proofs.Trimming.{globals_all, trimmed_low, child_asks, rest_call, keep_asks, trimmed_entry}
+use Rattle.forms.specs.Frames.{globals_shape}
+use Rattle.forms.proofs.trim.+trim_map.Goals as goal
+
+pub returns-then-p-eq0 : goal.returns-then-p-eq0
+returns-then-p-eq0 t c =
+    globals_all _ _ _ (c.requires.good, (c.requires.lower, c.requires.p_bound)) c.if-p-eq0.true
+
+pub returns-then-p-lt3 : goal.returns-then-p-lt3
+returns-then-p-lt3 t c =
+    trimmed_low _ (c.requires.good, (c.requires.lower, c.requires.p_bound)) _ c.if-p-eq0.false c.if-p-lt3.true
+
+pub look-x-requires : goal.look-x-requires
+look-x-requires t c = record { good = c.requires.good; lt_n = (c.if-p-lt3.false, c.requires.p_bound.0) }
+
+pub trim_part-c-requires : goal.trim_part-c-requires
+trim_part-c-requires t c =
+    let q9 = child_asks _ (c.requires.good, (c.requires.lower, c.requires.p_bound)) (globals_shape c.args.bytes.now c.args.t.now c.args.types.now) c.look-x.ensures in
+    record { good = q9.0; lower = q9.1.0; p_bound = q9.1.1 }
+
+pub trim_map-r-requires : goal.trim_map-r-requires
+trim_map-r-requires t c =
+    rest_call _ (c.requires.good, (c.requires.lower, c.requires.p_bound)) _ c.look-x.ensures _ c.global_form-m.ensures c.trim_part-c.ensures c.decreases
+
+pub keep-requires : goal.keep-requires
+keep-requires t c =
+    let q9 = keep_asks _ (c.requires.good, (c.requires.lower, c.requires.p_bound)) _ c.look-x.ensures _ c.global_form-m.ensures c.trim_part-c.ensures c.trim_map-r.ensures in
+    record { good = q9.0; room = q9.1.0; child_bound = q9.1.1 }
+
+pub returns : goal.returns
+returns t c =
+    trimmed_entry _ (c.requires.good, (c.requires.lower, c.requires.p_bound)) _ c.look-x.ensures _ c.global_form-m.ensures c.trim_part-c.ensures c.trim_map-r.ensures c.keep.ensures

@@ -1,0 +1,39 @@
+-- `forms::trim::trim_part` meets its contract. The measure is the requirement's number.
+use Rattle.forms.proofs.Trimming.{trimmed_void, trimmed_all, trimmed_low, child_call, rest_call, keep_asks, trimmed_entry}
+use Rattle.forms.specs.ShapeBy.{shape_by}
+use Rattle.forms.proofs.trim.+trim_part.Goals as goal
+
+pub returns-then-is_void : goal.returns-then-is_void
+returns-then-is_void t c =
+    trimmed_void _ (c.requires.good, (c.requires.lower, c.requires.p_bound)) _ c.if-p-eq0.true c.is_void.ensures c.if-is_void.true
+
+pub returns-then-p-eq0 : goal.returns-then-p-eq0
+returns-then-p-eq0 t c =
+    trimmed_all _ (c.requires.good, (c.requires.lower, c.requires.p_bound)) _ c.if-p-eq0.true c.is_void.ensures c.if-is_void.false
+
+pub returns-then-p-lt3 : goal.returns-then-p-lt3
+returns-then-p-lt3 t c =
+    trimmed_low _ (c.requires.good, (c.requires.lower, c.requires.p_bound)) _ c.if-p-eq0.false c.if-p-lt3.true
+
+pub look-x-requires : goal.look-x-requires
+look-x-requires t c = record { good = c.requires.good; lt_n = (c.if-p-lt3.false, c.requires.p_bound.0) }
+
+pub member_form-m-requires : goal.member_form-m-requires
+member_form-m-requires t c = c.requires.lower
+
+pub trim_part-c-requires : goal.trim_part-c-requires
+trim_part-c-requires t c =
+    child_call _ (c.requires.good, (c.requires.lower, c.requires.p_bound)) (shape_by c.args.types.now c.args.form) c.look-x.ensures c.decreases
+
+pub trim_part-r-requires : goal.trim_part-r-requires
+trim_part-r-requires t c =
+    rest_call _ (c.requires.good, (c.requires.lower, c.requires.p_bound)) _ c.look-x.ensures _ c.member_form-m.ensures c.trim_part-c.ensures c.decreases
+
+pub keep-requires : goal.keep-requires
+keep-requires t c =
+    let q9 = keep_asks _ (c.requires.good, (c.requires.lower, c.requires.p_bound)) _ c.look-x.ensures _ c.member_form-m.ensures c.trim_part-c.ensures c.trim_part-r.ensures in
+    record { good = q9.0; room = q9.1.0; child_bound = q9.1.1 }
+
+pub returns : goal.returns
+returns t c =
+    trimmed_entry _ (c.requires.good, (c.requires.lower, c.requires.p_bound)) _ c.look-x.ensures _ c.member_form-m.ensures c.trim_part-c.ensures c.trim_part-r.ensures c.keep.ensures

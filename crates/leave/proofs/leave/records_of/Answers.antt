@@ -1,0 +1,6 @@
+-- `records_of` meets its contract, by the row.
+use Rattle.leave.proofs.Leaving.{records_are}
+use Rattle.leave.proofs.leave.records_of.Goals as goal
+
+pub returns : goal.returns
+returns c = records_are _ _ c.row_at-row.result c.row_at-row.ensures

@@ -1,0 +1,31 @@
+-- `lines::contexts::write_retval` meets its contract.
+use mathlib.Core.Path.{sym}
+use Rattle.lines.proofs.Writing.{wrote_then, wrote_as, wrote_long, rooms_first, rooms_then}
+use Rattle.lines.proofs.Rows.{no_retval, retval_line, retval_rooms, wrote_none}
+use native.Mathlib.Omega.{arith}
+use Rattle.lines.proofs.contexts.write_retval.Goals as goal
+
+pub returns-then-map-lt3 : goal.returns-then-map-lt3
+returns-then-map-lt3 c = wrote_none (no_retval _ _ c.if-map-lt3.true)
+
+pub look-x-requires : goal.look-x-requires
+look-x-requires c = record { good = c.requires.good; lt_n = (c.if-map-lt3.false, c.requires.map_bound.0) }
+
+pub write_word-part-requires : goal.write_word-part-requires
+write_word-part-requires c = rooms_first (retval_rooms c.look-x.ensures c.requires.map_bound.1)
+
+pub write_part-end-requires : goal.write_part-end-requires
+write_part-end-requires c =
+    record { good = c.requires.good; n_bound = (omega (arith, c.look-x.ensures.child_low, c.requires.map_bound.0), rooms_first (rooms_then (retval_rooms c.look-x.ensures c.requires.map_bound.1) c.write_word-part.ensures)) }
+
+pub write_byte-requires : goal.write_byte-requires
+write_byte-requires c =
+    rooms_first (rooms_then (rooms_then (retval_rooms c.look-x.ensures c.requires.map_bound.1) c.write_word-part.ensures) c.write_part-end.ensures)
+
+pub shape_of-out : goal.shape_of-out
+shape_of-out c =
+    wrote_long (wrote_then c.write_word-part.ensures (wrote_then c.write_part-end.ensures c.write_byte.ensures))
+
+pub returns : goal.returns
+returns c =
+    wrote_as (sym (retval_line c.look-x.ensures)) (wrote_then c.write_word-part.ensures (wrote_then c.write_part-end.ensures c.write_byte.ensures))

@@ -1,0 +1,7 @@
+-- `marks::set::add_marks` meets its contract. Assumes nothing.
+use Rattle.marks.proofs.Stretches.{lent_added}
+use Rattle.marks.proofs.set.add_marks.Goals as goal
+
+pub returns : goal.returns
+returns c =
+    lent_added _ _ _ _ _ _ c.requires.0 c.requires.1 c.start-from.ensures c.start-to.ensures _ c.add.ensures

@@ -1,0 +1,12 @@
+-- `module::operands::cases` meets its contract: what is left of the scan gives the whole.
+use mathlib.Core.List.{[]}
+use Rattle.module.specs.Record.{fields_to}
+use Rattle.module.specs.Operands.{cases_after}
+use Rattle.module.proofs.Cases.{Cases}
+use Rattle.module.proofs.operands.cases.Given as goal
+
+abbrev pub invariant-loop-more : goal.invariant-loop-more
+invariant-loop-more l = Cases l.bytes l.end l.stamp l.initial.seen (cases_after [] l.initial.more (fields_to l.bytes l.end l.initial.left)) l.seen l.left l.more
+
+abbrev pub decreases-loop-more : goal.decreases-loop-more
+decreases-loop-more l = l.more

@@ -1,0 +1,21 @@
+-- `module::operands::level` meets its contract.
+use Rattle.module.specs.Decode.{level_handles}
+use Rattle.module.specs.Operands.{code_after}
+use Rattle.module.specs.Scan.{pass_of}
+use Rattle.module.proofs.Scanning.{by_def}
+use Rattle.module.proofs.Counted.{refusal, counted_none, counted-by, code_high, code_is, level_count}
+use native.Mathlib.Omega.{arith}
+use Rattle.module.proofs.operands.level.Goals as goal
+
+pub returns-then-n-eq0 : goal.returns-then-n-eq0
+returns-then-n-eq0 c = counted_none _ _ _ _ c.if-n-eq0.true
+
+pub returns-then-code-gt4 : goal.returns-then-code-gt4
+unfolding level_handles
+returns-then-code-gt4 c =
+    counted-by _ _ (code_after c.args.expressions level_handles) _ _ _ (omega arith) c.get-code.ensures (refusal (code_high _ level_handles _ _ c.if-code-gt4.true))
+
+pub returns : goal.returns
+unfolding level_handles pass_of
+returns c =
+    counted-by _ _ (code_after c.args.expressions level_handles) _ _ _ (omega arith) c.get-code.ensures (by_def (code_is _ level_handles _ _ _ (omega (arith, c.if-code-gt4.false)) (level_count _ c.if-code-gt4.false)) c.many.ensures)

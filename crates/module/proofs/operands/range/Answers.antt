@@ -1,0 +1,24 @@
+-- `module::operands::range` meets its contract.
+use mathlib.Core.Path.{◌∙◌}
+use borrow.Author.Tests.{le-ltb, le-leb, lt-leb}
+use Rattle.module.proofs.Counted.{range_short, range_yes, range_no, range_free}
+use Rattle.module.proofs.operands.range.Goals as goal
+
+pub returns-then-n-lt2 : goal.returns-then-n-lt2
+returns-then-n-lt2 c = range_short _ _ _ _ _ c.if-n-lt2.true
+
+pub returns-then-last-first : goal.returns-then-last-first
+returns-then-last-first c =
+    range_no _ _ _ _ _ _ _ c.if-n-lt2.false c.get-first.ensures c.get-last.ensures (rw (lt-leb _ _ c.if-last-first.true))
+
+pub returns-then-expressions-last : goal.returns-then-expressions-last
+returns-then-expressions-last c =
+    range_no _ _ _ _ _ _ _ c.if-n-lt2.false c.get-first.ensures c.get-last.ensures (rw (le-leb _ _ c.if-last-first.false, le-ltb _ _ c.if-expressions-last.true))
+
+pub returns-then-unemitted : goal.returns-then-unemitted
+returns-then-unemitted c =
+    range_yes _ _ _ _ _ _ _ c.requires c.if-n-lt2.false c.get-first.ensures c.get-last.ensures (range_free _ _ _ _ c.if-last-first.false c.if-expressions-last.false _ c.unemitted.ensures ∙ c.if-unemitted.true)
+
+pub returns : goal.returns
+returns c =
+    range_no _ _ _ _ _ _ _ c.if-n-lt2.false c.get-first.ensures c.get-last.ensures (range_free _ _ _ _ c.if-last-first.false c.if-expressions-last.false _ c.unemitted.ensures ∙ c.if-unemitted.false)

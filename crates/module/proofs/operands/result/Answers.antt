@@ -1,0 +1,34 @@
+-- `module::operands::result` meets its contract.
+use mathlib.Core.Path.{sym, ◌∙◌}
+use borrow.Author.Tests.{lt-ltb, le-ltb, eq-eqb, ne_eqb}
+use Rattle.module.specs.Scan.{pass_of}
+use Rattle.module.proofs.Counted.{result_short, result_yes, result_no}
+use Rattle.module.proofs.operands.result.Goals as goal
+
+pub returns-then-n-lt2 : goal.returns-then-n-lt2
+returns-then-n-lt2 c = result_short _ _ _ _ c.if-n-lt2.true
+
+pub returns-then-ty-lt-ABSENT : goal.returns-then-ty-lt-ABSENT
+unfolding pass_of
+returns-then-ty-lt-ABSENT c =
+    result_yes _ _ _ _ _ _ c.requires c.if-n-lt2.false c.get-ty.ensures c.get-binding.ensures (rw (sym c.passes.ensures ∙ c.if-passes.true, sym c.passes-then-passes.ensures ∙ c.if-passes-2.true, lt-ltb _ 65535 c.if-ty-lt-ABSENT.true))
+
+pub returns-then-binding : goal.returns-then-binding
+unfolding pass_of
+returns-then-binding c =
+    result_yes _ _ _ _ _ _ c.requires c.if-n-lt2.false c.get-ty.ensures c.get-binding.ensures (rw (sym c.passes.ensures ∙ c.if-passes.true, sym c.passes-then-passes.ensures ∙ c.if-passes-2.true, le-ltb _ 65535 c.if-ty-lt-ABSENT.false, eq-eqb _ 65535 c.if-binding.true))
+
+pub returns-else-binding : goal.returns-else-binding
+unfolding pass_of
+returns-else-binding c =
+    result_no _ _ _ _ _ _ c.if-n-lt2.false c.get-ty.ensures c.get-binding.ensures (rw (sym c.passes.ensures ∙ c.if-passes.true, sym c.passes-then-passes.ensures ∙ c.if-passes-2.true, le-ltb _ 65535 c.if-ty-lt-ABSENT.false, ne_eqb _ 65535 c.if-binding.false))
+
+pub returns-else-passes-2 : goal.returns-else-passes-2
+unfolding pass_of
+returns-else-passes-2 c =
+    result_no _ _ _ _ _ _ c.if-n-lt2.false c.get-ty.ensures c.get-binding.ensures (rw (sym c.passes.ensures ∙ c.if-passes.true, sym c.passes-then-passes.ensures ∙ c.if-passes-2.false))
+
+pub returns-else-passes : goal.returns-else-passes
+unfolding pass_of
+returns-else-passes c =
+    result_no _ _ _ _ _ _ c.if-n-lt2.false c.get-ty.ensures c.get-binding.ensures (rw (sym c.passes.ensures ∙ c.if-passes.false))

@@ -1,0 +1,26 @@
+-- `find` meets its contract: what is asked for is at n or below. The measure is the number of the piece.
+use Rattle.part.specs.Store.{linked_in}
+use mathlib.Core.Path.{refl}
+use Rattle.part.proofs.Chains.{searching_start, searching_more, searching_found, searching_end}
+use Rattle.part.proofs.store.find.Goals as goal
+
+pub loop-n-init : goal.loop-n-init
+loop-n-init c = searching_start c.requires c.hash-h.ensures refl
+
+pub look-x-requires : goal.look-x-requires
+look-x-requires c = record { good = c.requires; lt_n = (c.loop-n-test.true, c.loop-n.invariant.inside) }
+
+pub returns-then-is : goal.returns-then-is
+returns-then-is c =
+    searching_found c.requires c.loop-n.invariant c.loop-n-test.true c.look-x.ensures.index_is c.look-x.ensures.child_is c.look-x.ensures.rest_is c.is.ensures c.if-is.true
+
+pub loop-n-smaller : goal.loop-n-smaller
+loop-n-smaller c =
+    rw c.word-n.ensures ((linked_in c.requires.unique).next_low _ c.loop-n-test.true c.loop-n.invariant.inside)
+
+pub loop-n-preserved : goal.loop-n-preserved
+loop-n-preserved c =
+    searching_more c.requires c.loop-n.invariant c.loop-n-test.true c.look-x.ensures.index_is c.look-x.ensures.child_is c.look-x.ensures.rest_is c.is.ensures c.if-is.false c.word-n.ensures
+
+pub returns : goal.returns
+returns c = searching_end c.requires c.loop-n.invariant c.loop-n-test.false

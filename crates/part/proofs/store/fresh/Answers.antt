@@ -1,0 +1,39 @@
+-- `fresh` meets its contract.
+use Rattle.part.proofs.Write.{made_fresh, made_long, found_fresh}
+use Rattle.part.proofs.Measures.{small, packed_small}
+use native.Mathlib.Omega.{arith}
+use Rattle.part.proofs.store.fresh.Goals as goal
+
+pub returns-then-old-gt2 : goal.returns-then-old-gt2
+returns-then-old-gt2 c = found_fresh c.requires.good c.find-old.ensures c.if-old-gt2.true
+
+pub sizes_of-m-requires : goal.sizes_of-m-requires
+sizes_of-m-requires c =
+    let p = small c.requires.good c.requires.child_bound.0 c.measure-p.ensures in
+    let r = small c.requires.good c.requires.child_bound.1 c.measure-r.ensures in
+    record { entries_le_entries_cap = (p.entries_small, r.entries_small); depth_le_store_words = (p.depth_small, r.width_small) }
+
+pub overflow_mul-m : goal.overflow_mul-m
+overflow_mul-m c =
+    omega (arith, packed_small c.requires.good c.requires.child_bound.1 c.measure-p.ensures c.measure-r.ensures c.sizes_of-m.ensures)
+
+pub overflow_add-m : goal.overflow_add-m
+overflow_add-m c =
+    omega (arith, packed_small c.requires.good c.requires.child_bound.1 c.measure-p.ensures c.measure-r.ensures c.sizes_of-m.ensures)
+
+pub link-requires : goal.link-requires
+link-requires c = omega (arith, c.put.ensures.long, c.requires.room)
+
+pub overflow_add-cells : goal.overflow_add-cells
+overflow_add-cells c = omega (arith, c.requires.good.fits, c.requires.room)
+
+pub bounds-cells-0-2 : goal.bounds-cells-0-2
+bounds-cells-0-2 c =
+    omega (arith, c.link.ensures.long, c.put.ensures.long, c.requires.good.room, c.requires.good.base)
+
+pub shape_of-cells : goal.shape_of-cells
+shape_of-cells c = made_long c.put.ensures c.link.ensures
+
+pub returns : goal.returns
+returns c =
+    made_fresh c.requires.good c.requires.room c.requires.child_bound.0 c.requires.child_bound.1 c.find-old.ensures c.if-old-gt2.false c.measure-p.ensures c.measure-r.ensures c.sizes_of-m.ensures c.put.ensures c.link.ensures

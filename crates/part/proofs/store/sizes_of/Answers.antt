@@ -1,0 +1,7 @@
+-- `sizes_of` meets its contract.
+use Rattle.part.proofs.Measures.{sizes-of}
+use mathlib.Core.Path.{refl}
+use Rattle.part.proofs.store.sizes_of.Goals as goal
+
+pub returns : goal.returns
+returns c = sizes-of c.least-entries.ensures c.greatest-depth.ensures refl c.passes-over.ensures

@@ -1,0 +1,154 @@
+-- The proof of the cycle of calls {quiet_block, quiet_cases, quiet_statement}: the block's number falls, and a statement and a switch's cases stand
+-- between. The loops' invariants: what is left says the whole.
+use Prim.Native.Nat.{◌-◌}
+use mathlib.Core.Path.{refl, ◌∙◌}
+use Rattle.part.specs.Store.{part}
+use Rattle.strays.specs.Exits.{exits_of}
+use Rattle.strays.proofs.Found.{in_function, statement_in, statement_small, there, block_low, accept_low, reject_low, body_low, continuing_low, cases_in, case_there}
+use Rattle.quiet.specs.Places.{quiet_block, quiet_cases}
+use Rattle.quiet.proofs.Steps.{at_first, stops, goes_on, ends, is_last, statement_first, no_statement, all_statements, case_first, no_case, all_cases, quiet_inner, quiet_if, quiet_loop, quiet_switch, plain_kind}
+use native.Mathlib.Omega.{arith}
+use Rattle.quiet.proofs.blocks.+quiet_block_quiet_cases_quiet_statement.Goals as goal
+
+pub quiet_block-loop-k-init : goal.quiet_block-loop-k-init
+quiet_block-loop-k-init t c = all_statements c.requires.block_of _ _ _ c.block-range.ensures
+
+pub quiet_block-overflow_add-first : goal.quiet_block-overflow_add-first
+quiet_block-overflow_add-first t c =
+    omega (arith, statement_small (statement_in c.requires.block_of _ c.loop-k.k c.block-range.ensures c.loop-k-test.true))
+
+pub quiet_block-quiet_statement-requires : goal.quiet_block-quiet_statement-requires
+quiet_block-quiet_statement-requires t c =
+    (omega (arith, c.decreases), (c.requires.needing, (omega (arith, c.loop-k.invariant.long, c.requires.f_in_bounds), statement_in c.requires.block_of _ _ c.block-range.ensures c.loop-k-test.true)))
+
+pub quiet_block-shape_of-path-then-not-quiet_statement : goal.quiet_block-shape_of-path-then-not-quiet_statement
+quiet_block-shape_of-path-then-not-quiet_statement t c = c.quiet_statement.ensures.long ∙ c.loop-k.invariant.long
+
+pub quiet_block-returns-then-not-quiet_statement : goal.quiet_block-returns-then-not-quiet_statement
+quiet_block-returns-then-not-quiet_statement t c =
+    stops c.loop-k.invariant (statement_first _ _ _ _ _ _ c.loop-k-test.true) c.quiet_statement.ensures c.if-not-quiet_statement.true
+
+pub quiet_block-overflow_add-k : goal.quiet_block-overflow_add-k
+quiet_block-overflow_add-k t c = omega (arith, c.loop-k-test.true)
+
+pub quiet_block-loop-k-smaller : goal.quiet_block-loop-k-smaller
+quiet_block-loop-k-smaller t c = omega (arith, c.loop-k-test.true)
+
+pub quiet_block-loop-k-preserved : goal.quiet_block-loop-k-preserved
+quiet_block-loop-k-preserved t c =
+    goes_on c.loop-k.invariant (statement_first _ _ _ _ _ _ c.loop-k-test.true) c.quiet_statement.ensures c.if-not-quiet_statement.false
+
+pub quiet_block-shape_of-path : goal.quiet_block-shape_of-path
+quiet_block-shape_of-path t c = c.loop-k.invariant.long
+
+pub quiet_block-returns : goal.quiet_block-returns
+quiet_block-returns t c = ends c.loop-k.invariant (no_statement _ _ _ _ _ _ c.loop-k-test.false)
+
+pub quiet_cases-loop-i-init : goal.quiet_cases-loop-i-init
+quiet_cases-loop-i-init t c =
+    (omega (arith, c.operand-i.ensures), all_cases c.requires.cases_in (part c.args.cells.now c.args.m) (exits_of c.args.e) c.operand-i.ensures _)
+
+pub quiet_cases-overflow_sub-i : goal.quiet_cases-overflow_sub-i
+quiet_cases-overflow_sub-i t c = omega (arith, c.loop-i-test.true)
+
+pub quiet_cases-quiet_block-requires : goal.quiet_cases-quiet_block-requires
+quiet_cases-quiet_block-requires t c =
+    let h = case_there c.requires.cases_in (c.loop-i.i - 1) (omega (arith, c.loop-i.invariant.0, c.loop-i-test.true)) c.block_operand-case.ensures in (omega (arith, h.0, c.decreases), (c.requires.needing, (omega (arith, c.loop-i.invariant.1.long, c.requires.f_in_bounds), h.1)))
+
+pub quiet_cases-shape_of-path-then-not-quiet_block : goal.quiet_cases-shape_of-path-then-not-quiet_block
+quiet_cases-shape_of-path-then-not-quiet_block t c = c.quiet_block.ensures.long ∙ c.loop-i.invariant.1.long
+
+pub quiet_cases-returns-then-not-quiet_block : goal.quiet_cases-returns-then-not-quiet_block
+quiet_cases-returns-then-not-quiet_block t c =
+    stops c.loop-i.invariant.1 (case_first c.requires.cases_in (part c.args.cells.now c.args.m) (exits_of c.args.e) c.loop-i-test.true c.block_operand-case.ensures) c.quiet_block.ensures c.if-not-quiet_block.true
+
+pub quiet_cases-loop-i-smaller : goal.quiet_cases-loop-i-smaller
+quiet_cases-loop-i-smaller t c = omega (arith, c.loop-i-test.true)
+
+pub quiet_cases-loop-i-preserved : goal.quiet_cases-loop-i-preserved
+quiet_cases-loop-i-preserved t c =
+    (omega (arith, c.loop-i.invariant.0), goes_on c.loop-i.invariant.1 (case_first c.requires.cases_in (part c.args.cells.now c.args.m) (exits_of c.args.e) c.loop-i-test.true c.block_operand-case.ensures) c.quiet_block.ensures c.if-not-quiet_block.false)
+
+pub quiet_cases-shape_of-path : goal.quiet_cases-shape_of-path
+quiet_cases-shape_of-path t c = c.loop-i.invariant.1.long
+
+pub quiet_cases-returns : goal.quiet_cases-returns
+quiet_cases-returns t c =
+    ends c.loop-i.invariant.1 (no_case c.requires.cases_in (part c.args.cells.now c.args.m) (exits_of c.args.e) (omega (arith, c.loop-i-test.false)))
+
+pub quiet_statement-quiet_block-requires : goal.quiet_statement-quiet_block-requires
+quiet_statement-quiet_block-requires t c =
+    let h = there c.requires.statement_in c.statement-row.ensures 0 c.block_operand-inner.ensures (block_low c.requires.statement_in c.statement-row.ensures c.if-kind-eq-BLOCK.true) in (omega (arith, h.0, c.decreases), (c.requires.needing, (c.requires.f_in_bounds, h.1)))
+
+pub quiet_statement-shape_of-path-then-kind-eq-BLOCK : goal.quiet_statement-shape_of-path-then-kind-eq-BLOCK
+quiet_statement-shape_of-path-then-kind-eq-BLOCK t c = c.quiet_block.ensures.long
+
+pub quiet_statement-returns-then-kind-eq-BLOCK : goal.quiet_statement-returns-then-kind-eq-BLOCK
+quiet_statement-returns-then-kind-eq-BLOCK t c =
+    is_last (quiet_inner c.requires.statement_in c.statement-row.ensures _ _ c.if-kind-eq-BLOCK.true c.block_operand-inner.ensures _) c.quiet_block.ensures
+
+pub quiet_statement-quiet_block-requires-then-kind-eq-IF : goal.quiet_statement-quiet_block-requires-then-kind-eq-IF
+quiet_statement-quiet_block-requires-then-kind-eq-IF t c =
+    let h = there c.requires.statement_in c.statement-row.ensures 1 c.block_operand-accept.ensures (accept_low c.requires.statement_in c.statement-row.ensures c.if-kind-eq-IF.true) in (omega (arith, h.0, c.decreases), (c.requires.needing, (c.requires.f_in_bounds, h.1)))
+
+pub quiet_statement-shape_of-path-then-not-quiet_block : goal.quiet_statement-shape_of-path-then-not-quiet_block
+quiet_statement-shape_of-path-then-not-quiet_block t c = c.quiet_block-then-kind-eq-IF.ensures.long
+
+pub quiet_statement-returns-then-not-quiet_block : goal.quiet_statement-returns-then-not-quiet_block
+quiet_statement-returns-then-not-quiet_block t c =
+    stops (at_first _ _) (quiet_if c.requires.statement_in c.statement-row.ensures _ _ c.if-kind-eq-IF.true c.block_operand-accept.ensures refl) c.quiet_block-then-kind-eq-IF.ensures c.if-not-quiet_block.true
+
+pub quiet_statement-quiet_block-requires-then-kind-eq-IF-2 : goal.quiet_statement-quiet_block-requires-then-kind-eq-IF-2
+quiet_statement-quiet_block-requires-then-kind-eq-IF-2 t c =
+    let h = there c.requires.statement_in c.statement-row.ensures 2 c.block_operand-reject.ensures (reject_low c.requires.statement_in c.statement-row.ensures c.if-kind-eq-IF.true) in (omega (arith, h.0, c.decreases), (c.requires.needing, (omega (arith, c.quiet_block-then-kind-eq-IF.ensures.long, c.requires.f_in_bounds), h.1)))
+
+pub quiet_statement-shape_of-path-then-kind-eq-IF : goal.quiet_statement-shape_of-path-then-kind-eq-IF
+quiet_statement-shape_of-path-then-kind-eq-IF t c = c.quiet_block-then-kind-eq-IF-2.ensures.long ∙ c.quiet_block-then-kind-eq-IF.ensures.long
+
+pub quiet_statement-returns-then-kind-eq-IF : goal.quiet_statement-returns-then-kind-eq-IF
+quiet_statement-returns-then-kind-eq-IF t c =
+    is_last (goes_on (at_first _ _) (quiet_if c.requires.statement_in c.statement-row.ensures _ _ c.if-kind-eq-IF.true c.block_operand-accept.ensures c.block_operand-reject.ensures) c.quiet_block-then-kind-eq-IF.ensures c.if-not-quiet_block.false) c.quiet_block-then-kind-eq-IF-2.ensures
+
+pub quiet_statement-quiet_cases-requires : goal.quiet_statement-quiet_cases-requires
+quiet_statement-quiet_cases-requires t c =
+    (omega (arith, c.decreases), (c.requires.needing, (c.requires.f_in_bounds, cases_in c.requires.statement_in c.statement-row.ensures c.if-kind-eq-SWITCH.true)))
+
+pub quiet_statement-shape_of-path-then-kind-eq-SWITCH : goal.quiet_statement-shape_of-path-then-kind-eq-SWITCH
+quiet_statement-shape_of-path-then-kind-eq-SWITCH t c = c.quiet_cases.ensures.long
+
+pub quiet_statement-returns-then-kind-eq-SWITCH : goal.quiet_statement-returns-then-kind-eq-SWITCH
+quiet_statement-returns-then-kind-eq-SWITCH t c =
+    is_last (quiet_switch c.requires.statement_in c.statement-row.ensures _ _ c.if-kind-eq-SWITCH.true c.in_case-x.ensures _) c.quiet_cases.ensures
+
+pub quiet_statement-quiet_block-requires-then-kind-eq-LOOP : goal.quiet_statement-quiet_block-requires-then-kind-eq-LOOP
+quiet_statement-quiet_block-requires-then-kind-eq-LOOP t c =
+    let h = there c.requires.statement_in c.statement-row.ensures 0 c.block_operand-body.ensures (body_low c.requires.statement_in c.statement-row.ensures c.if-kind-eq-LOOP.true) in (omega (arith, h.0, c.decreases), (c.requires.needing, (c.requires.f_in_bounds, h.1)))
+
+pub quiet_statement-shape_of-path-then-not-quiet_block-2 : goal.quiet_statement-shape_of-path-then-not-quiet_block-2
+quiet_statement-shape_of-path-then-not-quiet_block-2 t c = c.quiet_block-then-kind-eq-LOOP.ensures.long
+
+pub quiet_statement-returns-then-not-quiet_block-2 : goal.quiet_statement-returns-then-not-quiet_block-2
+quiet_statement-returns-then-not-quiet_block-2 t c =
+    stops (at_first _ _) (quiet_loop c.requires.statement_in c.statement-row.ensures _ _ c.if-kind-eq-LOOP.true c.block_operand-body.ensures c.in_body-x.ensures refl refl) c.quiet_block-then-kind-eq-LOOP.ensures c.if-not-quiet_block-2.true
+
+pub quiet_statement-quiet_block-requires-then-kind-eq-LOOP-2 : goal.quiet_statement-quiet_block-requires-then-kind-eq-LOOP-2
+quiet_statement-quiet_block-requires-then-kind-eq-LOOP-2 t c =
+    let h = there c.requires.statement_in c.statement-row.ensures 1 c.block_operand-last.ensures (continuing_low c.requires.statement_in c.statement-row.ensures c.if-kind-eq-LOOP.true) in (omega (arith, h.0, c.decreases), (c.requires.needing, (omega (arith, c.quiet_block-then-kind-eq-LOOP.ensures.long, c.requires.f_in_bounds), h.1)))
+
+pub quiet_statement-shape_of-path-then-kind-eq-LOOP : goal.quiet_statement-shape_of-path-then-kind-eq-LOOP
+quiet_statement-shape_of-path-then-kind-eq-LOOP t c =
+    c.quiet_block-then-kind-eq-LOOP-2.ensures.long ∙ c.quiet_block-then-kind-eq-LOOP.ensures.long
+
+pub quiet_statement-returns-then-kind-eq-LOOP : goal.quiet_statement-returns-then-kind-eq-LOOP
+quiet_statement-returns-then-kind-eq-LOOP t c =
+    is_last (goes_on (at_first _ _) (quiet_loop c.requires.statement_in c.statement-row.ensures _ _ c.if-kind-eq-LOOP.true c.block_operand-body.ensures c.in_body-x.ensures c.block_operand-last.ensures c.in_case-y.ensures) c.quiet_block-then-kind-eq-LOOP.ensures c.if-not-quiet_block-2.false) c.quiet_block-then-kind-eq-LOOP-2.ensures
+
+pub quiet_statement-quiet_plain-requires : goal.quiet_statement-quiet_plain-requires
+quiet_statement-quiet_plain-requires t c =
+    record { needing = c.requires.needing; f_in_bounds = c.requires.f_in_bounds; s_in_bounds = in_function c.requires.statement_in; row_value = c.statement-row.ensures; lt_kind = plain_kind c.if-kind-eq-BLOCK.false c.if-kind-eq-IF.false c.if-kind-eq-SWITCH.false c.if-kind-eq-LOOP.false }
+
+pub quiet_statement-shape_of-path : goal.quiet_statement-shape_of-path
+quiet_statement-shape_of-path t c = (c.quiet_plain.ensures c.args.b.0).long
+
+pub quiet_statement-returns : goal.quiet_statement-returns
+quiet_statement-returns t c = c.quiet_plain.ensures c.args.b.0

@@ -1,0 +1,31 @@
+-- The proof of the cycle of calls {quiet_block, quiet_cases, quiet_statement}: the block's number falls, and a statement and a switch's cases stand
+-- between. The loops' invariants: what is left says the whole.
+use Prim.Native.Nat.{◌+◌, ◌*◌, ◌-◌, ◌≤◌}
+use Rattle.part.specs.Store.{part}
+use Rattle.access.specs.Access.{operand_at}
+use Rattle.judge.specs.Given.{scope_at}
+use Rattle.strays.specs.Exits.{exits_of}
+use Rattle.quiet.specs.Places.{quiet_block, quiet_cases}
+use Rattle.quiet.proofs.Steps.{Left, later}
+use Rattle.quiet.proofs.blocks.+quiet_block_quiet_cases_quiet_statement.Given as goal
+
+abbrev pub invariant-quiet_block-loop-k : goal.invariant-quiet_block-loop-k
+invariant-quiet_block-loop-k l = Left (quiet_block (scope_at l.bytes l.t l.f.0) (part l.cells l.m) l.b.0 (exits_of l.e)) (later (scope_at l.bytes l.t l.f.0) (part l.cells l.m) l.b.0 l.first l.count (exits_of l.e) l.k) l.initial.path l.path
+
+abbrev pub decreases-quiet_block-loop-k : goal.decreases-quiet_block-loop-k
+decreases-quiet_block-loop-k l = l.count - l.k
+
+abbrev pub invariant-quiet_cases-loop-i : goal.invariant-quiet_cases-loop-i
+invariant-quiet_cases-loop-i l = (l.i ≤ operand_at l.bytes l.row 1) × Left (quiet_cases (scope_at l.bytes l.t l.f.0) (part l.cells l.m) (operand_at l.bytes l.row) (operand_at l.bytes l.row 1) (exits_of l.e)) (quiet_cases (scope_at l.bytes l.t l.f.0) (part l.cells l.m) (operand_at l.bytes l.row) l.i (exits_of l.e)) l.initial.path l.path
+
+abbrev pub decreases-quiet_cases-loop-i : goal.decreases-quiet_cases-loop-i
+decreases-quiet_cases-loop-i l = l.i
+
+abbrev pub decreases-quiet_block : goal.decreases-quiet_block
+decreases-quiet_block l = 3 * l.b.0 + 2
+
+abbrev pub decreases-quiet_cases : goal.decreases-quiet_cases
+decreases-quiet_cases l = 3 * l.b.0
+
+abbrev pub decreases-quiet_statement : goal.decreases-quiet_statement
+decreases-quiet_statement l = 3 * l.b.0 + 1

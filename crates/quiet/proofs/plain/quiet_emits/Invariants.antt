@@ -1,0 +1,12 @@
+-- `quiet::plain::quiet_emits` meets its contract. The invariant: what is left says the whole.
+use Prim.Native.Nat.{◌+◌, ◌-◌}
+use Rattle.part.specs.Store.{part}
+use Rattle.judge.specs.Given.{scope_at}
+use Rattle.quiet.proofs.Leaves.{Passed}
+use Rattle.quiet.proofs.plain.quiet_emits.Given as goal
+
+abbrev pub invariant-loop-e : goal.invariant-loop-e
+invariant-loop-e l = Passed (scope_at l.bytes l.t l.f.0) (part l.cells l.m) l.initial.e ((l.last.0 + 1) - l.initial.e) l.e ((l.last.0 + 1) - l.e) l.initial.path l.path
+
+abbrev pub decreases-loop-e : goal.decreases-loop-e
+decreases-loop-e l = (l.last.0 + 1) - l.e

@@ -1,0 +1,35 @@
+-- `reading::add::types_by` meets its contract, mark by mark.
+use Rattle.reading.specs.Progress.{types_by}
+use Rattle.reading.proofs.add.types_by.Goals as goal
+
+pub returns-in-TY : goal.returns-in-TY
+unfolding types_by
+returns-in-TY c = rw c.in-TY.is
+
+pub returns-in-GV : goal.returns-in-GV
+unfolding types_by
+returns-in-GV c = rw c.in-GV.is
+
+pub returns-in-FN : goal.returns-in-FN
+unfolding types_by
+returns-in-FN c = rw c.in-FN.is
+
+pub returns-in-AR : goal.returns-in-AR
+unfolding types_by
+returns-in-AR c = rw c.in-AR.is
+
+pub returns-in-LV : goal.returns-in-LV
+unfolding types_by
+returns-in-LV c = rw c.in-LV.is
+
+pub returns-in-EX : goal.returns-in-EX
+unfolding types_by
+returns-in-EX c = rw c.in-EX.is
+
+pub returns-in-BK : goal.returns-in-BK
+unfolding types_by
+returns-in-BK c = rw c.in-BK.is
+
+pub returns-in-ST : goal.returns-in-ST
+unfolding types_by
+returns-in-ST c = rw c.in-ST.is

@@ -1,0 +1,15 @@
+-- `report::answer` meets its contract: what is printed is the text of the input.
+use native.Mathlib.Omega.{arith}
+use Rattle.report.proofs.Whole.{input-refused, was_read}
+use Rattle.report.proofs.answer.Goals as goal
+
+pub print-requires : goal.print-requires
+print-requires c =
+    input-refused c.args.input.now c.read_front-refusal.ensures (omega (arith, c.if-refusal-gt0.true))
+
+pub walk_input-outcome-requires : goal.walk_input-outcome-requires
+walk_input-outcome-requires c =
+    was_read c.args.input.now c.read_front-refusal.ensures (omega (arith, c.if-refusal-gt0.false))
+
+pub print-requires-2 : goal.print-requires-2
+print-requires-2 c = c.walk_input-outcome.ensures

@@ -1,0 +1,33 @@
+-- `report::outcome::walk_request` meets its contract: the request's refusal, or what its walk comes to.
+use native.Mathlib.Omega.{arith}
+use Rattle.report.proofs.Requesting.{fill_asks, request_refused, request_asked, request_walked}
+use borrow.Author.Rules.{rules}
+use Rattle.report.proofs.outcome.walk_request.Goals as goal
+
+pub place_marks-requires : goal.place_marks-requires
+place_marks-requires c = (c.requires.0, search rules)
+
+pub fill-requires : goal.fill-requires
+fill-requires c =
+    let q9 = fill_asks c.requires.0 c.requires.1 in
+    record { table_len = q9.0; table_len_bound = q9.1.0; all_sized = q9.1.1 }
+
+pub begin_request-requires : goal.begin_request-requires
+begin_request-requires c =
+    record { was_read = c.requires.0; placed = c.place_marks.ensures; cells_long = search rules; cells_fit = search rules; slots_long = search rules; open_long = search rules; totals_long = search rules }
+
+pub walk_function-requires : goal.walk_function-requires
+walk_function-requires c = request_asked c.begin_request.ensures c.in-Ready.is c.fill.ensures
+
+pub shape_of-table-in-Refused : goal.shape_of-table-in-Refused
+shape_of-table-in-Refused c = omega (arith, c.fill.auto)
+
+pub returns-in-Refused : goal.returns-in-Refused
+returns-in-Refused c = request_refused c.begin_request.ensures c.in-Refused.is
+
+pub shape_of-table-in-Ready : goal.shape_of-table-in-Ready
+shape_of-table-in-Ready c = omega (arith, c.fill.auto)
+
+pub returns-in-Ready : goal.returns-in-Ready
+returns-in-Ready c =
+    request_walked c.begin_request.ensures c.in-Ready.is c.fill.ensures c.walk_function.ensures

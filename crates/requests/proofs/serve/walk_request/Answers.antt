@@ -1,0 +1,16 @@
+-- `requests::serve::walk_request` meets its contract: the walk's refusal, or how the request ends.
+use Rattle.requests.proofs.Serving.{walk_enters, walk_halted, walk_finishes, walk_finished}
+use borrow.Author.Rules.{rules}
+use Rattle.requests.proofs.serve.walk_request.Goals as goal
+
+pub add_function-requires : goal.add_function-requires
+add_function-requires c = record { function_entered = walk_enters c.requires; base_bound = search rules }
+
+pub finish_request-requires : goal.finish_request-requires
+finish_request-requires c = walk_finishes c.requires c.add_function.ensures c.in-Went.is
+
+pub returns-in-Halt : goal.returns-in-Halt
+returns-in-Halt c = walk_halted c.requires c.add_function.ensures c.in-Halt.is
+
+pub returns-in-Went : goal.returns-in-Went
+returns-in-Went c = walk_finished c.requires c.add_function.ensures c.in-Went.is c.finish_request.ensures

@@ -1,0 +1,27 @@
+-- `statement::rays::add_ray` meets its contract. Assumes nothing.
+use Rattle.statement.proofs.RayArms.{ray_aims, ray_refuses, ray_unneeded, ray_begins, ray_below, ray_asks}
+use native.Mathlib.Omega.{arith}
+use Rattle.statement.proofs.rays.add_ray.Goals as goal
+
+pub target_of-aimed-requires : goal.target_of-aimed-requires
+target_of-aimed-requires c = ray_aims c.requires.arm c.requires.ray_kind 0 c.ray_fields-x.ensures
+
+pub then_maybe-a-requires : goal.then_maybe-a-requires
+then_maybe-a-requires c =
+    record { fact = ray_begins c.requires.arm c.requires.ray_kind _ c.ray_fields-x.ensures c.target_of-aimed.ensures c.in-At.is; maybe_below = ((ray_below c.requires.arm c.requires.ray_kind 0 c.ray_fields-x.ensures c.target_of-aimed.ensures c.in-At.is).first, omega arith) }
+
+pub then_maybe-b-requires : goal.then_maybe-b-requires
+then_maybe-b-requires c =
+    record { fact = c.then_maybe-a.ensures.opens; maybe_below = ((ray_below c.requires.arm c.requires.ray_kind 0 c.ray_fields-x.ensures c.target_of-aimed.ensures c.in-At.is).second, omega arith) }
+
+pub returns-in-Refuse : goal.returns-in-Refuse
+returns-in-Refuse c =
+    ray_refuses c.requires.arm c.requires.ray_kind _ c.ray_fields-x.ensures c.target_of-aimed.ensures c.in-Refuse.is
+
+pub returns-in-Gone : goal.returns-in-Gone
+returns-in-Gone c =
+    ray_unneeded c.requires.arm c.requires.ray_kind _ c.ray_fields-x.ensures c.target_of-aimed.ensures c.in-At.is c.in-Gone.is
+
+pub returns-in-There : goal.returns-in-There
+returns-in-There c =
+    ray_asks c.requires.arm c.requires.ray_kind _ c.ray_fields-x.ensures c.target_of-aimed.ensures c.in-At.is c.in-There.is c.then_maybe-a.ensures c.then_maybe-b.ensures c.answer.ensures

@@ -1,0 +1,6 @@
+-- `strays::exits::in_case` meets its contract.
+use Rattle.strays.proofs.Allowed.{case_is}
+use Rattle.strays.proofs.exits.in_case.Goals as goal
+
+pub returns : goal.returns
+returns c = case_is _

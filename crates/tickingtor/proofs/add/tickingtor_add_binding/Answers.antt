@@ -1,0 +1,7 @@
+-- `tickingtor_add_binding` meets its contract: it is `add_in` over arrays of its own.
+use borrow.Author.Rules.{rules}
+use Rattle.tickingtor.proofs.add.tickingtor_add_binding.Goals as goal
+
+pub add_in-requires : goal.add_in-requires
+add_in-requires c =
+    record { words_in_bounds = (search rules, (search rules, search rules)); max_types_in_bounds = (search rules, search rules); cells_len_bound = (search rules, search rules) }

@@ -1,0 +1,36 @@
+-- `verdict::verdict::check_report` meets its contract: 21, or what is answered of the marks.
+use Rattle.verdict.proofs.Checking.{asked_there, few_types, few_expressions, marked, refused_21, report-checked}
+use borrow.Author.Tests.{not-true, not-false}
+use native.Mathlib.Omega.{arith}
+use Rattle.verdict.proofs.verdict.check_report.Goals as goal
+
+pub marks_shape-at-requires : goal.marks_shape-at-requires
+marks_shape-at-requires c = asked_there c.requires
+
+pub returns-then-not-at : goal.returns-then-not-at
+returns-then-not-at c =
+    refused_21 c.requires c.args.report.now c.args.context.now c.marks_shape-at.ensures (not-true _ c.if-not-at.true)
+
+pub slice_bounds-check_marks-end : goal.slice_bounds-check_marks-end
+slice_bounds-check_marks-end c =
+    omega (arith, few_types c.requires (c.types-n.ensures c.args.bytes.now), c.requires.working.rows_long)
+
+pub slice_bounds-check_marks-end-2 : goal.slice_bounds-check_marks-end-2
+slice_bounds-check_marks-end-2 c =
+    omega (arith, few_types c.requires (c.types-n.ensures c.args.bytes.now), c.requires.working.alike_long)
+
+pub slice_bounds-check_marks-end-3 : goal.slice_bounds-check_marks-end-3
+slice_bounds-check_marks-end-3 c =
+    omega (arith, few_types c.requires (c.types-n.ensures c.args.bytes.now), c.requires.working.held_long)
+
+pub slice_bounds-check_marks-end-4 : goal.slice_bounds-check_marks-end-4
+slice_bounds-check_marks-end-4 c =
+    omega (arith, few_expressions c.requires (c.expressions-e.ensures c.args.bytes.now), c.requires.working.paths_long)
+
+pub check_marks-requires : goal.check_marks-requires
+check_marks-requires c =
+    marked c.requires (c.types-n.ensures c.args.bytes.now) (c.expressions-e.ensures c.args.bytes.now)
+
+pub returns : goal.returns
+returns c =
+    report-checked c.requires c.args.report.now c.args.context.now c.marks_shape-at.ensures (not-false _ c.if-not-at.false) c.check_marks.ensures
