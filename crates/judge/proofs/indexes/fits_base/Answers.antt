@@ -13,8 +13,8 @@ pointee-requires-then-is_path c = c.requires.row.given.shapes.lower
 
 pub same_index-requires : goal.same_index-requires
 same_index-requires c =
-    let q9 = (c.requires.row.given.shapes, led_low c.requires.row c.requires.le_kind c.requires.kind_bound c.expression_operand-base.ensures c.operand-i.ensures c.type_of-a.ensures c.type_of-b.ensures c.is_path.ensures c.pointee.ensures c.pointee-then-is_path.ensures) in
-    record { shapes = q9.0; a_in_bounds = q9.1.0; b_in_bounds = q9.1.1 }
+    let q9 = led_low c.requires.row c.requires.le_kind c.requires.kind_bound c.expression_operand-base.ensures c.operand-i.ensures c.type_of-a.ensures c.type_of-b.ensures c.is_path.ensures c.pointee.ensures c.pointee-then-is_path.ensures in
+    record { shapes = c.requires.row.given.shapes; a_in_bounds = q9.0; b_in_bounds = q9.1 }
 
 pub returns-then-is_path : goal.returns-then-is_path
 returns-then-is_path c =
@@ -28,8 +28,8 @@ is_value-requires-2 c = c.requires.row.given.values
 
 pub same_index-requires-2 : goal.same_index-requires-2
 same_index-requires-2 c =
-    let q9 = (c.requires.row.given.shapes, types-low c.requires.row c.requires.le_kind c.requires.kind_bound c.expression_operand-base.ensures c.operand-i.ensures c.type_of-a.ensures c.type_of-b.ensures) in
-    record { shapes = q9.0; a_in_bounds = q9.1.0; b_in_bounds = q9.1.1 }
+    let q9 = types-low c.requires.row c.requires.le_kind c.requires.kind_bound c.expression_operand-base.ensures c.operand-i.ensures c.type_of-a.ensures c.type_of-b.ensures in
+    record { shapes = c.requires.row.given.shapes; a_in_bounds = q9.0; b_in_bounds = q9.1 }
 
 pub returns : goal.returns
 returns c =

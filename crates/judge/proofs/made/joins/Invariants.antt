@@ -6,7 +6,7 @@ use Rattle.judge.proofs.Components.{Joined}
 use Rattle.judge.proofs.made.joins.Given as goal
 
 abbrev pub invariant-loop-i : goal.invariant-loop-i
-invariant-loop-i l = Joined (scope_at l.bytes l.t l.f.0) (λ l.i. operand_at l.bytes l.row (1 + l.i)) l.i l.total × (l.i ≤ l.count)
+invariant-loop-i l = Joined (scope_at l.bytes l.t l.f.0) (λ k. operand_at l.bytes l.row (1 + k)) l.i l.total × (l.i ≤ l.count)
 
 abbrev pub decreases-loop-i : goal.decreases-loop-i
 decreases-loop-i l = l.count - l.i

@@ -4,8 +4,8 @@ use Rattle.judge.proofs.named.fits_named.Goals as goal
 
 pub fits_variable-requires : goal.fits_variable-requires
 fits_variable-requires c =
-    let q9 = (c.requires.row.given.shapes, global_low c.requires.row c.type_of-own.ensures c.global_operand.ensures c.if-row-eq-GLOBAL_VARIABLE.true c.global-a.ensures) in
-    record { shapes = q9.0; a_in_bounds = q9.1.0; b_in_bounds = q9.1.1 }
+    let q9 = global_low c.requires.row c.type_of-own.ensures c.global_operand.ensures c.if-row-eq-GLOBAL_VARIABLE.true c.global-a.ensures in
+    record { shapes = c.requires.row.given.shapes; a_in_bounds = q9.0; b_in_bounds = q9.1 }
 
 pub returns-then-row-eq-GLOBAL_VARIABLE : goal.returns-then-row-eq-GLOBAL_VARIABLE
 returns-then-row-eq-GLOBAL_VARIABLE c =
@@ -13,8 +13,8 @@ returns-then-row-eq-GLOBAL_VARIABLE c =
 
 pub fits_variable-requires-then-row-eq-LOCAL_VARIABLE : goal.fits_variable-requires-then-row-eq-LOCAL_VARIABLE
 fits_variable-requires-then-row-eq-LOCAL_VARIABLE c =
-    let q9 = (c.requires.row.given.shapes, local_low c.requires.row c.type_of-own.ensures c.local_operand.ensures c.if-row-eq-LOCAL_VARIABLE.true c.local-a.ensures) in
-    record { shapes = q9.0; a_in_bounds = q9.1.0; b_in_bounds = q9.1.1 }
+    let q9 = local_low c.requires.row c.type_of-own.ensures c.local_operand.ensures c.if-row-eq-LOCAL_VARIABLE.true c.local-a.ensures in
+    record { shapes = c.requires.row.given.shapes; a_in_bounds = q9.0; b_in_bounds = q9.1 }
 
 pub returns-then-row-eq-LOCAL_VARIABLE : goal.returns-then-row-eq-LOCAL_VARIABLE
 returns-then-row-eq-LOCAL_VARIABLE c =
@@ -29,8 +29,8 @@ returns-then-row-eq-FUNCTION_ARGUMENT c =
 
 pub leads_to-requires : goal.leads_to-requires
 leads_to-requires c =
-    let q9 = (c.requires.row.given, load_low c.requires.row c.type_of-own.ensures c.expression_operand-pointer.ensures (load_left c.requires.le_kind c.requires.kind_bound c.if-row-eq-GLOBAL_VARIABLE.false c.if-row-eq-LOCAL_VARIABLE.false c.if-row-eq-FUNCTION_ARGUMENT.false)) in
-    record { given = q9.0; p_in_bounds = q9.1.0; v_in_bounds = q9.1.1 }
+    let q9 = load_low c.requires.row c.type_of-own.ensures c.expression_operand-pointer.ensures (load_left c.requires.le_kind c.requires.kind_bound c.if-row-eq-GLOBAL_VARIABLE.false c.if-row-eq-LOCAL_VARIABLE.false c.if-row-eq-FUNCTION_ARGUMENT.false) in
+    record { given = c.requires.row.given; p_in_bounds = q9.0; v_in_bounds = q9.1 }
 
 pub returns : goal.returns
 returns c =

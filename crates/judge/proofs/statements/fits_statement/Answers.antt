@@ -8,8 +8,8 @@ returns-then-row-gt20 c =
 
 pub leads_to-led-requires : goal.leads_to-led-requires
 leads_to-led-requires c =
-    let q9 = (c.requires.given, store_low c.requires.given _ c.requires.s_in_bounds c.statement-row.ensures c.expression_operand-pointer.ensures c.if-row-eq-STORE.true c.expression_operand-value.ensures) in
-    record { given = q9.0; p_in_bounds = q9.1.0; v_in_bounds = q9.1.1 }
+    let q9 = store_low c.requires.given _ c.requires.s_in_bounds c.statement-row.ensures c.expression_operand-pointer.ensures c.if-row-eq-STORE.true c.expression_operand-value.ensures in
+    record { given = c.requires.given; p_in_bounds = q9.0; v_in_bounds = q9.1 }
 
 pub is_value-requires : goal.is_value-requires
 is_value-requires c = c.requires.given.values
