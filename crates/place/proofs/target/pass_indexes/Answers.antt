@@ -1,7 +1,7 @@
 -- `place::target::pass_indexes` meets its contract. The invariant: what is left of the pointer and what is written give the whole.
 use mathlib.Core.Path.{refl}
 use lib.ListN.{length-set}
-use Rattle.place.proofs.Passing.{none_passed, passed-lower, passed-next}
+use Rattle.place.proofs.Passing.{none_passed, passed_lower, passed_next}
 use Rattle.place.proofs.Paths.{no_steps}
 use native.Mathlib.Omega.{arith}
 use Rattle.place.proofs.target.pass_indexes.Goals as goal
@@ -19,11 +19,11 @@ bounds-path-next c =
 
 pub loop-row-smaller : goal.loop-row-smaller
 loop-row-smaller c =
-    passed-lower (record { read = c.requires.pointer.read; function = c.requires.pointer.function; there = c.loop-row.invariant.0.there; is = c.loop-row.invariant.1 }) c.loop-row.invariant.0 c.loop-row-test.true c.expression_operand-h.ensures
+    passed_lower (record { read = c.requires.pointer.read; function = c.requires.pointer.function; there = c.loop-row.invariant.0.there; is = c.loop-row.invariant.1 }) c.loop-row.invariant.0 c.loop-row-test.true c.expression_operand-h.ensures
 
 pub loop-row-preserved : goal.loop-row-preserved
 loop-row-preserved c =
-    (passed-next (record { read = c.requires.pointer.read; function = c.requires.pointer.function; there = c.loop-row.invariant.0.there; is = c.loop-row.invariant.1 }) c.loop-row.invariant.0 c.loop-row-test.true c.expression_operand-h.ensures c.operand.ensures refl c.end_after-to.ensures c.dynamic_after-dynamic.ensures, c.expression-row-in-loop-row.ensures, simp length-set c.loop-row.invariant.2)
+    (passed_next (record { read = c.requires.pointer.read; function = c.requires.pointer.function; there = c.loop-row.invariant.0.there; is = c.loop-row.invariant.1 }) c.loop-row.invariant.0 c.loop-row-test.true c.expression_operand-h.ensures c.operand.ensures refl c.end_after-to.ensures c.dynamic_after-dynamic.ensures, c.expression-row-in-loop-row.ensures, simp length-set c.loop-row.invariant.2)
 
 pub returns : goal.returns
 returns c =
