@@ -15,11 +15,11 @@ ask_global-r-requires c = visit_totalling c.requires.visiting _ c.requires.g_lt_
 
 pub bounds-slots-at-in-Gone : goal.bounds-slots-at-in-Gone
 bounds-slots-at-in-Gone c =
-    first_store c.requires.visiting _ c.requires.g_lt_spine c.ask_global-r.ensures (got_gone _ _ c.in-Gone.is c.get-seen.ensures)
+    first_store c.requires.visiting _ c.requires.g_lt_spine c.ask_global-r.ensures (got_gone c.args.cells.now _ c.in-Gone.is c.get-seen.ensures)
 
 pub close-requires : goal.close-requires
 close-requires c =
-    first_closing c.requires.visiting _ c.requires.g_lt_spine c.ask_global-r.ensures (got_gone _ _ c.in-Gone.is c.get-seen.ensures)
+    first_closing c.requires.visiting _ c.requires.g_lt_spine c.ask_global-r.ensures (got_gone c.args.cells.now _ c.in-Gone.is c.get-seen.ensures)
 
 pub bounds-slots-86-in-There : goal.bounds-slots-86-in-There
 bounds-slots-86-in-There c = (global_over c.requires.visiting _ c.requires.g_lt_spine c.ask_global-r.ensures).1.0
@@ -31,11 +31,11 @@ over-requires c =
 
 pub returns-then-over : goal.returns-then-over
 returns-then-over c =
-    λ bytes r. later_15 c.requires.visiting _ c.requires.g_lt_spine c.ask_global-r.ensures (got_there _ _ c.in-There.is c.get-seen.ensures).1 _ c.over.ensures c.if-over.true refl refl
+    λ bytes r. later_15 c.requires.visiting _ c.requires.g_lt_spine c.ask_global-r.ensures (got_there c.args.cells.now _ c.in-There.is c.get-seen.ensures).1 _ c.over.ensures c.if-over.true refl refl
 
 pub close-requires-in-There : goal.close-requires-in-There
 close-requires-in-There c =
-    later_closing c.requires.visiting _ c.requires.g_lt_spine c.ask_global-r.ensures (got_there _ _ c.in-There.is c.get-seen.ensures).1
+    later_closing c.requires.visiting _ c.requires.g_lt_spine c.ask_global-r.ensures (got_there c.args.cells.now _ c.in-There.is c.get-seen.ensures).1
 
 pub shape_of-slots-in-Gone : goal.shape_of-slots-in-Gone
 shape_of-slots-in-Gone c =
@@ -43,8 +43,8 @@ shape_of-slots-in-Gone c =
 
 pub returns-in-Gone : goal.returns-in-Gone
 returns-in-Gone c =
-    λ bytes r. first_ends c.requires.visiting _ c.requires.g_lt_spine c.ask_global-r.ensures (got_gone _ _ c.in-Gone.is c.get-seen.ensures) _ r c.close.ensures
+    λ bytes r. first_ends c.requires.visiting _ c.requires.g_lt_spine c.ask_global-r.ensures (got_gone c.args.cells.now _ c.in-Gone.is c.get-seen.ensures) _ r c.close.ensures
 
 pub returns-else-over : goal.returns-else-over
 returns-else-over c =
-    λ bytes r. later_ends c.requires.visiting _ c.requires.g_lt_spine c.ask_global-r.ensures (got_there _ _ c.in-There.is c.get-seen.ensures).1 _ c.over.ensures c.if-over.false r c.close-in-There.ensures
+    λ bytes r. later_ends c.requires.visiting _ c.requires.g_lt_spine c.ask_global-r.ensures (got_there c.args.cells.now _ c.in-There.is c.get-seen.ensures).1 _ c.over.ensures c.if-over.false r c.close-in-There.ensures

@@ -22,7 +22,7 @@ then_ask-r-requires c =
 
 pub returns-in-Gone : goal.returns-in-Gone
 returns-in-Gone c =
-    rw c.leave-in-Gone.ensures.0 (return_none_leaves c.requires.arm c.requires.kind_value _ c.leave-in-Gone.ensures.1 (got_gone _ _ c.in-Gone.is c.get-asked.ensures))
+    rw c.leave-in-Gone.ensures.0 (return_none_leaves c.requires.arm c.requires.kind_value _ c.leave-in-Gone.ensures.1 (got_gone c.args.cells.now _ c.in-Gone.is c.get-asked.ensures))
 
 pub shape_of-slots-in-There : goal.shape_of-slots-in-There
 shape_of-slots-in-There c = c.then_ask-r.auto.slots ∙ length-set c.args.slots.now 2 c.in-There.p
