@@ -1,0 +1,474 @@
+-- The one proof of the walks of blocks, statements and functions: each need is answered by a law of crates block and arms. A number falls: that of the block among the blocks of its
+-- function, below the numbers of all higher functions.
+use Rattle.arms.proofs.AddIf.{if_asked, if_ends, if_few, if_halts, if_paired}
+use Rattle.arms.proofs.ByArm.{emit_arm, emit_asks, holder_kind, if_arm, leaf_asks, leaf_ends, loop_arm, loop_kind, mark_asks, mark_ends, nested_arm, switch_arm}
+use Rattle.arms.proofs.CallSteps.{call_begins, call_ended, call_high, call_leaves, call_own, call_returns, call_stops, call_sum, callee_below, function_enters}
+use Rattle.arms.proofs.Looping.{loop_dropped, loop_drops, loop_ends, loop_fits, loop_halts, loop_paired, loop_pass_halts, loop_passing, loop_turning}
+use Rattle.arms.proofs.SwitchCases.{began, body_lower, case-ends, case_enters, case_halts, case_limit, cases_begin, cases_next, copy_asks, held_fits, outside_few, switch_asks, switch_whole}
+use Rattle.arms.proofs.Turns.{turn_goes_on, turn_halts, turn_limits, turn_paired, turn_settles, turn_walked, turns_begin, turns_fit, turns_fit_2, turns_over, turns_weigh}
+use Rattle.arms.proofs.Visited.{last_asks, visit_16, visit_17, visit_arms, visit_counting, visit_ends}
+use Rattle.block.proofs.Bodies.{body_asked, body_below, body_enters, function_ends, function_halt, function_halt_2}
+use Rattle.block.proofs.Nested.{arm_high, arm_small, arm_weighs, nested_ends, nested_enters, nested_lower, nested_lowers, nested_stops}
+use Rattle.block.proofs.Paired.{pair_ends, pair_first, pair_halt, pair_halt_2, pair_second, pair_small, pair_weighs, weighs}
+use Rattle.block.proofs.Statements.{all_left, base-copies, base-small, base-weighs, none_left, statement_low, statement_visits, statements_next, statements_stop}
+use native.Mathlib.Omega.{arith}
+use Rattle.function.proofs.add.+add_arm_add_block_add_call_add_function_add_holder_add_if_add_loop_add_nested_add_pair_add_statement_add_switch_add_turns.Goals as goal
+
+pub add_arm-add_emit-requires : goal.add_arm-add_emit-requires
+add_arm-add_emit-requires t c = emit_asks c.requires c.if-kind-eq-EMIT.true
+
+pub add_arm-returns-then-kind-eq-EMIT : goal.add_arm-returns-then-kind-eq-EMIT
+add_arm-returns-then-kind-eq-EMIT t c = emit_arm c.requires c.add_emit.ensures
+
+pub add_arm-add_call-requires : goal.add_arm-add_call-requires
+add_arm-add_call-requires t c = (omega (arith, c.decreases), (c.requires, c.if-kind-eq-CALL.true))
+
+pub add_arm-returns-then-kind-eq-CALL : goal.add_arm-returns-then-kind-eq-CALL
+add_arm-returns-then-kind-eq-CALL t c = c.add_call.ensures
+
+pub add_arm-add_holder-requires : goal.add_arm-add_holder-requires
+add_arm-add_holder-requires t c =
+    (omega (arith, c.decreases), (c.requires, holder_kind _ c.if-kind-eq-EMIT.false c.if-kind-lt-BREAK.true))
+
+pub add_arm-returns-then-kind-lt-BREAK : goal.add_arm-returns-then-kind-lt-BREAK
+add_arm-returns-then-kind-lt-BREAK t c = c.add_holder.ensures
+
+pub add_arm-add_leaf-r-requires : goal.add_arm-add_leaf-r-requires
+add_arm-add_leaf-r-requires t c =
+    let q9 = leaf_asks c.requires c.if-kind-lt-BREAK.false c.if-kind-eq-CALL.false in
+    record { arm = q9.0; types_value = q9.1.0; leaf_kind = q9.1.1 }
+
+pub add_arm-mark_statement-requires : goal.add_arm-mark_statement-requires
+add_arm-mark_statement-requires t c = mark_asks c.requires _ (leaf_ends c.requires _ c.add_leaf-r.ensures)
+
+pub add_arm-returns : goal.add_arm-returns
+add_arm-returns t c =
+    mark_ends c.requires c.mark_statement.ensures (leaf_ends c.requires _ c.add_leaf-r.ensures)
+
+pub add_block-weigh-requires : goal.add_block-weigh-requires
+add_block-weigh-requires t c =
+    let q9 = base-weighs c.args.f c.requires in
+    record { memory = q9.0; n_in_bounds = q9.1 }
+
+pub add_block-overflow_add-inner : goal.add_block-overflow_add-inner
+add_block-overflow_add-inner t c = let h = base-small c.args.f c.requires c.weigh.ensures in omega (arith, h)
+
+pub add_block-copy_context-requires : goal.add_block-copy_context-requires
+add_block-copy_context-requires t c = base-copies c.args.f c.requires
+
+pub add_block-loop-n-init : goal.add_block-loop-n-init
+add_block-loop-n-init t c =
+    all_left c.args.f c.requires c.args.break_required c.copy_context.ensures c.block-range.result c.block-range.ensures c.weigh.ensures
+
+pub add_block-overflow_sub-k : goal.add_block-overflow_sub-k
+add_block-overflow_sub-k t c = omega (arith, c.loop-n-test.true)
+
+pub add_block-overflow_add-fr : goal.add_block-overflow_add-fr
+add_block-overflow_add-fr t c =
+    let h = statement_low c.args.f c.requires c.args.break_required c.copy_context.ensures c.loop-n.invariant c.loop-n-test.true in omega (arith, h)
+
+pub add_block-add_statement-requires : goal.add_block-add_statement-requires
+add_block-add_statement-requires t c =
+    (omega (arith, c.decreases), statement_visits c.args.f c.requires c.args.break_required c.copy_context.ensures c.loop-n.invariant c.loop-n-test.true)
+
+pub add_block-returns-in-Halt : goal.add_block-returns-in-Halt
+add_block-returns-in-Halt t c =
+    statements_stop c.args.f c.requires c.args.break_required c.copy_context.ensures c.loop-n.invariant c.loop-n-test.true c.add_statement.ensures c.in-Halt.is
+
+pub add_block-loop-n-smaller : goal.add_block-loop-n-smaller
+add_block-loop-n-smaller t c = omega (arith, c.loop-n-test.true)
+
+pub add_block-loop-n-preserved : goal.add_block-loop-n-preserved
+add_block-loop-n-preserved t c =
+    statements_next c.args.f c.requires c.args.break_required c.copy_context.ensures c.loop-n.invariant c.loop-n-test.true c.add_statement.ensures c.in-Went.is c.or-behind.ensures c.or-required.ensures
+
+pub add_block-returns : goal.add_block-returns
+add_block-returns t c =
+    none_left c.args.f c.requires c.args.break_required c.copy_context.ensures c.loop-n.invariant (omega (arith, c.loop-n-test.false))
+
+pub add_call-begin_call-begun-requires : goal.add_call-begin_call-begun-requires
+add_call-begin_call-begun-requires t c = call_begins c.requires.arms c.requires.kind_value
+
+pub add_call-overflow_add-at : goal.add_call-overflow_add-at
+add_call-overflow_add-at t c =
+    omega (arith, call_high c.requires.arms c.requires.kind_value, c.begin_call-arg-4-1.given.0.1)
+
+pub add_call-overflow_sub-sum : goal.add_call-overflow_sub-sum
+add_call-overflow_sub-sum t c =
+    omega (arith, call_own c.requires.arms c.requires.kind_value c.function_operand-g.ensures c.begin_call-begun.ensures)
+
+pub add_call-add_function-r-requires : goal.add_call-add_function-r-requires
+add_call-add_function-r-requires t c =
+    (omega (arith, c.decreases, callee_below c.requires.arms c.requires.kind_value, c.function_operand-g.ensures), (function_enters c.requires.arms c.requires.kind_value c.function_operand-g.ensures c.begin_call-begun.ensures, omega (arith, call_high c.requires.arms c.requires.kind_value, c.begin_call-arg-4-1.given.0.1)))
+
+pub add_call-overflow_add-tally : goal.add_call-overflow_add-tally
+add_call-overflow_add-tally t c =
+    omega (arith, call_sum c.requires.arms c.requires.kind_value c.function_operand-g.ensures c.begin_call-begun.ensures c.add_function-r.ensures c.in-Went.is)
+
+pub add_call-leave_call-left-requires : goal.add_call-leave_call-left-requires
+add_call-leave_call-left-requires t c =
+    call_leaves c.requires.arms c.requires.kind_value c.function_operand-g.ensures c.begin_call-begun.ensures c.add_function-r.ensures c.in-Went.is
+
+pub add_call-return_call-requires : goal.add_call-return_call-requires
+add_call-return_call-requires t c =
+    call_returns c.requires.arms c.requires.kind_value c.function_operand-g.ensures c.begin_call-begun.ensures c.add_function-r.ensures c.in-Went.is c.leave_call-left.ensures
+
+pub add_call-returns-in-Halt : goal.add_call-returns-in-Halt
+add_call-returns-in-Halt t c =
+    call_stops c.requires.arms c.requires.kind_value c.function_operand-g.ensures c.begin_call-begun.ensures c.add_function-r.ensures c.in-Halt.is
+
+pub add_call-returns-in-Went : goal.add_call-returns-in-Went
+add_call-returns-in-Went t c =
+    call_ended c.requires.arms c.requires.kind_value c.function_operand-g.ensures c.begin_call-begun.ensures c.add_function-r.ensures c.in-Went.is c.leave_call-left.ensures c.return_call.ensures
+
+pub add_function-overflow_add-at : goal.add_function-overflow_add-at
+add_function-overflow_add-at t c = omega (arith, c.requires.base_bound)
+
+pub add_function-add_block-requires : goal.add_function-add_block-requires
+add_function-add_block-requires t c =
+    (omega (arith, c.decreases, body_below c.requires.function_entered (c.body_block-b.ensures _)), body_enters c.requires.function_entered (c.body_block-b.ensures _))
+
+pub add_function-add_total-r-requires : goal.add_function-add_total-r-requires
+add_function-add_total-r-requires t c =
+    body_asked c.requires.function_entered (c.body_block-b.ensures _) c.args.here c.add_block.ensures c.in-Went.is
+
+pub add_function-returns-in-Halt : goal.add_function-returns-in-Halt
+add_function-returns-in-Halt t c =
+    function_halt c.requires.function_entered (c.body_block-b.ensures _) c.args.here c.add_block.ensures c.in-Halt.is
+
+pub add_function-returns-in-Halt-r : goal.add_function-returns-in-Halt-r
+add_function-returns-in-Halt-r t c =
+    function_halt_2 c.requires.function_entered (c.body_block-b.ensures _) c.args.here c.add_block.ensures c.in-Went.is c.add_total-r.ensures c.in-Halt-r.is
+
+pub add_function-returns-in-Went-r : goal.add_function-returns-in-Went-r
+add_function-returns-in-Went-r t c =
+    function_ends c.requires.function_entered (c.body_block-b.ensures _) c.args.here c.add_block.ensures c.in-Went.is c.add_total-r.ensures c.in-Went-r.is
+
+pub add_holder-add_nested-r-requires : goal.add_holder-add_nested-r-requires
+add_holder-add_nested-r-requires t c = (omega (arith, c.decreases), (c.requires.arms, c.if-kind-eq-BLOCK.true))
+
+pub add_holder-mark_statement-requires : goal.add_holder-mark_statement-requires
+add_holder-mark_statement-requires t c =
+    mark_asks c.requires.arms _ (nested_arm c.requires.arms c.if-kind-eq-BLOCK.true c.add_nested-r.ensures)
+
+pub add_holder-returns-then-kind-eq-BLOCK : goal.add_holder-returns-then-kind-eq-BLOCK
+add_holder-returns-then-kind-eq-BLOCK t c =
+    mark_ends c.requires.arms c.mark_statement.ensures (nested_arm c.requires.arms c.if-kind-eq-BLOCK.true c.add_nested-r.ensures)
+
+pub add_holder-add_if-r-requires : goal.add_holder-add_if-r-requires
+add_holder-add_if-r-requires t c = (omega (arith, c.decreases), (c.requires.arms, c.if-kind-eq-IF.true))
+
+pub add_holder-mark_statement-requires-then-kind-eq-IF : goal.add_holder-mark_statement-requires-then-kind-eq-IF
+add_holder-mark_statement-requires-then-kind-eq-IF t c =
+    mark_asks c.requires.arms _ (if_arm c.requires.arms c.if-kind-eq-IF.true c.add_if-r.ensures)
+
+pub add_holder-returns-then-kind-eq-IF : goal.add_holder-returns-then-kind-eq-IF
+add_holder-returns-then-kind-eq-IF t c =
+    mark_ends c.requires.arms c.mark_statement-then-kind-eq-IF.ensures (if_arm c.requires.arms c.if-kind-eq-IF.true c.add_if-r.ensures)
+
+pub add_holder-add_switch-r-requires : goal.add_holder-add_switch-r-requires
+add_holder-add_switch-r-requires t c = (omega (arith, c.decreases), (c.requires.arms, c.if-kind-eq-SWITCH.true))
+
+pub add_holder-mark_statement-requires-then-kind-eq-SWITCH : goal.add_holder-mark_statement-requires-then-kind-eq-SWITCH
+add_holder-mark_statement-requires-then-kind-eq-SWITCH t c =
+    mark_asks c.requires.arms _ (switch_arm c.requires.arms c.if-kind-eq-SWITCH.true c.add_switch-r.ensures)
+
+pub add_holder-returns-then-kind-eq-SWITCH : goal.add_holder-returns-then-kind-eq-SWITCH
+add_holder-returns-then-kind-eq-SWITCH t c =
+    mark_ends c.requires.arms c.mark_statement-then-kind-eq-SWITCH.ensures (switch_arm c.requires.arms c.if-kind-eq-SWITCH.true c.add_switch-r.ensures)
+
+pub add_holder-add_loop-r-requires : goal.add_holder-add_loop-r-requires
+add_holder-add_loop-r-requires t c =
+    (omega (arith, c.decreases), (c.requires.arms, loop_kind _ c.requires.le_kind c.if-kind-eq-BLOCK.false c.if-kind-eq-IF.false c.if-kind-eq-SWITCH.false))
+
+pub add_holder-mark_statement-requires-2 : goal.add_holder-mark_statement-requires-2
+add_holder-mark_statement-requires-2 t c =
+    mark_asks c.requires.arms _ (loop_arm c.requires.arms (loop_kind _ c.requires.le_kind c.if-kind-eq-BLOCK.false c.if-kind-eq-IF.false c.if-kind-eq-SWITCH.false) c.add_loop-r.ensures)
+
+pub add_holder-returns : goal.add_holder-returns
+add_holder-returns t c =
+    mark_ends c.requires.arms c.mark_statement-2.ensures (loop_arm c.requires.arms (loop_kind _ c.requires.le_kind c.if-kind-eq-BLOCK.false c.if-kind-eq-IF.false c.if-kind-eq-SWITCH.false) c.add_loop-r.ensures)
+
+pub add_if-weigh-requires : goal.add_if-weigh-requires
+add_if-weigh-requires t c =
+    let q9 = arm_weighs c.requires.arms in
+    record { memory = q9.0; n_in_bounds = q9.1 }
+
+pub add_if-overflow_add-held : goal.add_if-overflow_add-held
+add_if-overflow_add-held t c = omega (arith, if_few c.requires.arms c.requires.kind_value c.weigh.ensures)
+
+pub add_if-overflow_add-at : goal.add_if-overflow_add-at
+add_if-overflow_add-at t c = omega (arith, c.requires.arms.begins.standing.ready.high, c.weigh-arg-4-1.given.0)
+
+pub add_if-add_pair-r-requires : goal.add_if-add_pair-r-requires
+add_if-add_pair-r-requires t c =
+    (omega (arith, c.decreases), if_paired c.requires.arms c.requires.kind_value c.weigh.ensures c.block_operand-accept.ensures c.block_operand-reject.ensures)
+
+pub add_if-end_if-requires : goal.add_if-end_if-requires
+add_if-end_if-requires t c =
+    let q9 = if_asked c.requires.arms c.requires.kind_value c.weigh.ensures c.block_operand-accept.ensures c.block_operand-reject.ensures c.add_pair-r.ensures c.in-Went.is c.expression_operand-condition.ensures in
+    record { if_asked = q9.0; condition_in_bounds = q9.1 }
+
+pub add_if-returns-in-Halt : goal.add_if-returns-in-Halt
+add_if-returns-in-Halt t c =
+    if_halts c.requires.arms c.requires.kind_value c.weigh.ensures c.block_operand-accept.ensures c.block_operand-reject.ensures c.add_pair-r.ensures c.in-Halt.is
+
+pub add_if-returns-in-Went : goal.add_if-returns-in-Went
+add_if-returns-in-Went t c =
+    if_ends c.requires.arms c.requires.kind_value c.weigh.ensures c.block_operand-accept.ensures c.block_operand-reject.ensures c.add_pair-r.ensures c.in-Went.is c.expression_operand-condition.ensures _ c.end_if.ensures
+
+pub add_loop-weigh-requires : goal.add_loop-weigh-requires
+add_loop-weigh-requires t c =
+    let q9 = arm_weighs c.requires.arms in
+    record { memory = q9.0; n_in_bounds = q9.1 }
+
+pub add_loop-overflow_add-held : goal.add_loop-overflow_add-held
+add_loop-overflow_add-held t c = omega (arith, loop_fits c.requires.arms c.requires.kind_value c.weigh.ensures)
+
+pub add_loop-overflow_add-at : goal.add_loop-overflow_add-at
+add_loop-overflow_add-at t c = omega (arith, (arm_weighs c.requires.arms).1.0, c.weigh-arg-4-1.given.0)
+
+pub add_loop-add_pair-r-requires : goal.add_loop-add_pair-r-requires
+add_loop-add_pair-r-requires t c =
+    (omega (arith, c.decreases), loop_paired c.requires.arms c.requires.kind_value c.weigh.ensures c.block_operand-body.ensures c.block_operand-continuing.ensures)
+
+pub add_loop-drop_both-requires : goal.add_loop-drop_both-requires
+add_loop-drop_both-requires t c =
+    loop_drops c.requires.arms c.requires.kind_value c.weigh.ensures c.block_operand-body.ensures c.block_operand-continuing.ensures c.add_pair-r.ensures c.in-Went.is
+
+pub add_loop-returns-then-not-required : goal.add_loop-returns-then-not-required
+add_loop-returns-then-not-required t c =
+    loop_dropped c.requires.arms c.requires.kind_value c.weigh.ensures c.block_operand-body.ensures c.block_operand-continuing.ensures c.add_pair-r.ensures c.in-Went.is c.if-not-required.true c.drop_both.ensures
+
+pub add_loop-end_pass-requires : goal.add_loop-end_pass-requires
+add_loop-end_pass-requires t c =
+    loop_passing c.requires.arms c.requires.kind_value c.weigh.ensures c.block_operand-body.ensures c.block_operand-continuing.ensures c.add_pair-r.ensures c.in-Went.is c.expression_operand-break_if.ensures
+
+pub add_loop-add_turns-requires : goal.add_loop-add_turns-requires
+add_loop-add_turns-requires t c =
+    (omega (arith, c.decreases), loop_turning c.requires.arms c.requires.kind_value c.weigh.ensures c.block_operand-body.ensures c.block_operand-continuing.ensures c.add_pair-r.ensures c.in-Went.is c.expression_operand-break_if.ensures c.if-not-required.false c.end_pass.ensures c.in-Went-end_pass.is)
+
+pub add_loop-returns-in-Halt : goal.add_loop-returns-in-Halt
+add_loop-returns-in-Halt t c =
+    loop_halts c.requires.arms c.requires.kind_value c.weigh.ensures c.block_operand-body.ensures c.block_operand-continuing.ensures c.add_pair-r.ensures c.in-Halt.is
+
+pub add_loop-returns-in-Halt-end_pass : goal.add_loop-returns-in-Halt-end_pass
+add_loop-returns-in-Halt-end_pass t c =
+    loop_pass_halts c.requires.arms c.requires.kind_value c.weigh.ensures c.block_operand-body.ensures c.block_operand-continuing.ensures c.add_pair-r.ensures c.in-Went.is c.expression_operand-break_if.ensures c.if-not-required.false c.end_pass.ensures c.in-Halt-end_pass.is
+
+pub add_loop-returns-in-Went-end_pass : goal.add_loop-returns-in-Went-end_pass
+add_loop-returns-in-Went-end_pass t c =
+    loop_ends c.requires.arms c.requires.kind_value c.weigh.ensures c.block_operand-body.ensures c.block_operand-continuing.ensures c.add_pair-r.ensures c.in-Went.is c.expression_operand-break_if.ensures c.if-not-required.false c.end_pass.ensures c.in-Went-end_pass.is _ c.add_turns.ensures
+
+pub add_nested-weigh-requires : goal.add_nested-weigh-requires
+add_nested-weigh-requires t c =
+    let q9 = arm_weighs c.requires.arms in
+    record { memory = q9.0; n_in_bounds = q9.1 }
+
+pub add_nested-overflow_add-held : goal.add_nested-overflow_add-held
+add_nested-overflow_add-held t c = let h = arm_small c.requires.arms c.weigh.ensures in omega (arith, h)
+
+pub add_nested-overflow_add-at : goal.add_nested-overflow_add-at
+add_nested-overflow_add-at t c = omega (arith, arm_high c.requires.arms, c.weigh-arg-4-1.given.0)
+
+pub add_nested-add_block-r-requires : goal.add_nested-add_block-r-requires
+add_nested-add_block-r-requires t c =
+    (omega (arith, c.decreases, nested_lower c.requires.arms c.requires.kind_value, c.block_operand-inner.ensures), nested_enters c.requires.arms c.requires.kind_value c.block_operand-inner.ensures c.weigh.ensures)
+
+pub add_nested-lower-requires : goal.add_nested-lower-requires
+add_nested-lower-requires t c =
+    nested_lowers c.requires.arms c.requires.kind_value c.block_operand-inner.ensures c.weigh.ensures c.add_block-r.ensures c.in-Went.is
+
+pub add_nested-returns-in-Halt : goal.add_nested-returns-in-Halt
+add_nested-returns-in-Halt t c =
+    nested_stops c.requires.arms c.requires.kind_value c.block_operand-inner.ensures c.weigh.ensures c.add_block-r.ensures c.in-Halt.is
+
+pub add_nested-returns-in-Went : goal.add_nested-returns-in-Went
+add_nested-returns-in-Went t c =
+    nested_ends c.requires.arms c.requires.kind_value c.block_operand-inner.ensures c.weigh.ensures c.add_block-r.ensures c.in-Went.is c.lower.ensures
+
+pub add_pair-add_block-requires : goal.add_pair-add_block-requires
+add_pair-add_block-requires t c = (omega (arith, c.decreases, c.requires.first_lower), pair_first c.requires)
+
+pub add_pair-weigh-requires : goal.add_pair-weigh-requires
+add_pair-weigh-requires t c =
+    let q9 = pair_weighs c.requires c.args.break_required c.add_block.ensures c.in-Went.is in
+    record { memory = q9.0; n_in_bounds = q9.1 }
+
+pub add_pair-overflow_add-more : goal.add_pair-overflow_add-more
+add_pair-overflow_add-more t c =
+    let h = pair_small c.requires c.args.break_required c.add_block.ensures c.in-Went.is c.weigh.ensures in omega (arith, h)
+
+pub add_pair-overflow_add-at : goal.add_pair-overflow_add-at
+add_pair-overflow_add-at t c =
+    omega (arith, (pair_weighs c.requires c.args.break_required c.add_block.ensures c.in-Went.is).1.0, c.weigh-arg-in-Went-3-1.given.0)
+
+pub add_pair-add_block-r-requires : goal.add_pair-add_block-r-requires
+add_pair-add_block-r-requires t c =
+    (omega (arith, c.decreases, c.requires.second_lower), pair_second c.requires c.args.break_required c.add_block.ensures c.in-Went.is c.weigh.ensures)
+
+pub add_pair-returns-in-Halt : goal.add_pair-returns-in-Halt
+add_pair-returns-in-Halt t c = pair_halt c.requires c.args.break_required c.add_block.ensures c.in-Halt.is
+
+pub add_pair-returns-in-Halt-r : goal.add_pair-returns-in-Halt-r
+add_pair-returns-in-Halt-r t c =
+    pair_halt_2 c.requires c.args.break_required c.add_block.ensures c.in-Went.is c.weigh.ensures c.add_block-r.ensures c.in-Halt-r.is
+
+pub add_pair-returns-in-Went-r : goal.add_pair-returns-in-Went-r
+add_pair-returns-in-Went-r t c =
+    pair_ends c.requires c.args.break_required c.add_block.ensures c.in-Went.is c.weigh.ensures c.add_block-r.ensures c.in-Went-r.is c.or.ensures
+
+pub add_statement-returns-then-visits-ge-MAX_VISITS : goal.add_statement-returns-then-visits-ge-MAX_VISITS
+add_statement-returns-then-visits-ge-MAX_VISITS t c = visit_17 c.requires c.if-visits-ge-MAX_VISITS.true
+
+pub add_statement-allowed-requires : goal.add_statement-allowed-requires
+add_statement-allowed-requires t c = visit_counting c.requires
+
+pub add_statement-returns-then-not-allowed : goal.add_statement-returns-then-not-allowed
+add_statement-returns-then-not-allowed t c =
+    visit_16 c.requires c.if-visits-ge-MAX_VISITS.false c.allowed.ensures c.if-not-allowed.true
+
+pub add_statement-overflow_add-visits : goal.add_statement-overflow_add-visits
+add_statement-overflow_add-visits t c = omega (arith, c.if-visits-ge-MAX_VISITS.false)
+
+pub add_statement-add_arm-r-requires : goal.add_statement-add_arm-r-requires
+add_statement-add_arm-r-requires t c =
+    (omega (arith, c.decreases), visit_arms c.requires c.if-visits-ge-MAX_VISITS.false c.allowed.ensures c.if-not-allowed.false _ c.statement-row.ensures)
+
+pub add_statement-end_statement-requires : goal.add_statement-end_statement-requires
+add_statement-end_statement-requires t c = last_asks _ c.add_arm-r.ensures
+
+pub add_statement-returns : goal.add_statement-returns
+add_statement-returns t c =
+    visit_ends c.requires c.if-visits-ge-MAX_VISITS.false c.allowed.ensures c.if-not-allowed.false _ _ c.statement-row.ensures c.add_arm-r.ensures c.end_statement.ensures
+
+pub add_switch-weigh-requires : goal.add_switch-weigh-requires
+add_switch-weigh-requires t c =
+    let q9 = arm_weighs c.requires.arms in
+    record { memory = q9.0; n_in_bounds = q9.1 }
+
+pub add_switch-overflow_add-outside : goal.add_switch-overflow_add-outside
+add_switch-overflow_add-outside t c = omega (arith, outside_few c.requires.arms c.weigh.ensures)
+
+pub add_switch-overflow_add-at : goal.add_switch-overflow_add-at
+add_switch-overflow_add-at t c = omega (arith, (copy_asks c.requires.arms).1, c.weigh-arg-4-1.given.0)
+
+pub add_switch-copy_context-requires : goal.add_switch-copy_context-requires
+add_switch-copy_context-requires t c = copy_asks c.requires.arms
+
+pub add_switch-loop-n-init : goal.add_switch-loop-n-init
+add_switch-loop-n-init t c = cases_begin c.operand-n.ensures
+
+pub add_switch-overflow_sub-k : goal.add_switch-overflow_sub-k
+add_switch-overflow_sub-k t c = omega (arith, c.loop-n-test.true)
+
+pub add_switch-overflow_add-at-in-loop-n : goal.add_switch-overflow_add-at-in-loop-n
+add_switch-overflow_add-at-in-loop-n t c = omega (arith, (copy_asks c.requires.arms).1, c.weigh-arg-4-1.given.0)
+
+pub add_switch-weigh-requires-in-loop-n : goal.add_switch-weigh-requires-in-loop-n
+add_switch-weigh-requires-in-loop-n t c =
+    let q9 = weighs (c.loop-n.invariant.by _ _ (began c.requires.arms c.requires.kind_value c.copy_context.ensures c.weigh.ensures)).switched.standing in
+    record { memory = q9.0; n_in_bounds = q9.1 }
+
+pub add_switch-overflow_add-held : goal.add_switch-overflow_add-held
+add_switch-overflow_add-held t c =
+    let G = began c.requires.arms c.requires.kind_value c.copy_context.ensures c.weigh.ensures in omega (arith, held_fits c.requires.arms (c.loop-n.invariant.by _ _ G) c.requires.kind_value G.outside_is c.weigh-in-loop-n.ensures)
+
+pub add_switch-overflow_add-at-in-loop-n-2 : goal.add_switch-overflow_add-at-in-loop-n-2
+add_switch-overflow_add-at-in-loop-n-2 t c = omega (arith, (copy_asks c.requires.arms).1, c.weigh-arg-4-1.given.0)
+
+pub add_switch-add_block-requires : goal.add_switch-add_block-requires
+add_switch-add_block-requires t c =
+    let G = began c.requires.arms c.requires.kind_value c.copy_context.ensures c.weigh.ensures in (omega (arith, c.decreases, body_lower c.requires.arms (c.loop-n.invariant.by _ _ G) c.requires.kind_value G.outside_is c.weigh-in-loop-n.ensures c.case_body-body.ensures (omega (arith, c.loop-n-test.true))), case_enters c.requires.arms (c.loop-n.invariant.by _ _ G) c.requires.kind_value G.outside_is c.weigh-in-loop-n.ensures c.case_body-body.ensures (omega (arith, c.loop-n-test.true)))
+
+pub add_switch-returns-in-Halt : goal.add_switch-returns-in-Halt
+add_switch-returns-in-Halt t c =
+    let G = began c.requires.arms c.requires.kind_value c.copy_context.ensures c.weigh.ensures in case_halts c.requires.arms (c.loop-n.invariant.by _ _ G) c.requires.kind_value G.outside_is c.weigh-in-loop-n.ensures c.case_body-body.ensures (omega (arith, c.loop-n-test.true)) c.add_block.ensures c.in-Halt.is
+
+pub add_switch-overflow_add-at-in-Went : goal.add_switch-overflow_add-at-in-Went
+add_switch-overflow_add-at-in-Went t c = omega (arith, (copy_asks c.requires.arms).1, c.weigh-arg-4-1.given.0)
+
+pub add_switch-end_case-requires : goal.add_switch-end_case-requires
+add_switch-end_case-requires t c =
+    let G = began c.requires.arms c.requires.kind_value c.copy_context.ensures c.weigh.ensures in case-ends c.requires.arms (c.loop-n.invariant.by _ _ G) c.requires.kind_value G.outside_is c.weigh-in-loop-n.ensures c.case_body-body.ensures (omega (arith, c.loop-n-test.true)) c.add_block.ensures c.in-Went.is
+
+pub add_switch-returns-then-end_case : goal.add_switch-returns-then-end_case
+add_switch-returns-then-end_case t c =
+    let G = began c.requires.arms c.requires.kind_value c.copy_context.ensures c.weigh.ensures in case_limit c.requires.arms (c.loop-n.invariant.by _ _ G) c.requires.kind_value G.outside_is c.weigh-in-loop-n.ensures c.case_body-body.ensures (omega (arith, c.loop-n-test.true)) c.add_block.ensures c.in-Went.is c.end_case.ensures c.if-end_case.true
+
+pub add_switch-loop-n-smaller : goal.add_switch-loop-n-smaller
+add_switch-loop-n-smaller t c = omega (arith, c.loop-n-test.true)
+
+pub add_switch-loop-n-preserved : goal.add_switch-loop-n-preserved
+add_switch-loop-n-preserved t c =
+    cases_next c.loop-n.invariant c.weigh-in-loop-n.ensures c.case_body-body.ensures (omega (arith, c.loop-n-test.true)) c.add_block.ensures c.in-Went.is c.end_case.ensures c.if-end_case.false c.or-any.ensures
+
+pub add_switch-end_switch-requires : goal.add_switch-end_switch-requires
+add_switch-end_switch-requires t c =
+    let G = began c.requires.arms c.requires.kind_value c.copy_context.ensures c.weigh.ensures in switch_asks c.requires.arms (c.loop-n.invariant.by _ _ G) c.requires.kind_value c.expression_operand-selector.ensures
+
+pub add_switch-returns : goal.add_switch-returns
+add_switch-returns t c =
+    let G = began c.requires.arms c.requires.kind_value c.copy_context.ensures c.weigh.ensures in switch_whole c.requires.arms (c.loop-n.invariant.by _ _ G) (omega (arith, c.loop-n-test.false)) c.expression_operand-selector.ensures c.end_switch.ensures
+
+pub add_turns-weigh-requires : goal.add_turns-weigh-requires
+add_turns-weigh-requires t c =
+    let q9 = turns_weigh c.requires in
+    record { memory = q9.0; n_in_bounds = q9.1 }
+
+pub add_turns-overflow_add-held : goal.add_turns-overflow_add-held
+add_turns-overflow_add-held t c = omega (arith, turns_fit c.requires c.weigh.ensures)
+
+pub add_turns-overflow_add-at : goal.add_turns-overflow_add-at
+add_turns-overflow_add-at t c = omega (arith, (turns_weigh c.requires).1.0, c.weigh-arg-4-1.given.0)
+
+pub add_turns-weigh-requires-2 : goal.add_turns-weigh-requires-2
+add_turns-weigh-requires-2 t c =
+    let q9 = weighs c.requires.standing in
+    record { memory = q9.0; n_in_bounds = q9.1 }
+
+pub add_turns-overflow_add-held-2 : goal.add_turns-overflow_add-held-2
+add_turns-overflow_add-held-2 t c = omega (arith, turns_fit_2 c.requires c.weigh.ensures c.weigh-2.ensures)
+
+pub add_turns-loop-left-init : goal.add_turns-loop-left-init
+add_turns-loop-left-init t c = turns_begin c.requires
+
+pub add_turns-overflow_add-at-in-loop-left : goal.add_turns-overflow_add-at-in-loop-left
+add_turns-overflow_add-at-in-loop-left t c = omega (arith, (weighs c.requires.standing).1.0, c.weigh-arg-4-1.given.0)
+
+pub add_turns-overflow_add-at-in-loop-left-2 : goal.add_turns-overflow_add-at-in-loop-left-2
+add_turns-overflow_add-at-in-loop-left-2 t c = omega (arith, (weighs c.requires.standing).1.0, c.weigh-arg-4-1.given.0)
+
+pub add_turns-add_pair-requires : goal.add_turns-add_pair-requires
+add_turns-add_pair-requires t c =
+    (omega (arith, c.decreases), turn_paired c.requires c.weigh.ensures c.weigh-2.ensures c.loop-left.invariant)
+
+pub add_turns-returns-in-Halt : goal.add_turns-returns-in-Halt
+add_turns-returns-in-Halt t c =
+    turn_halts c.requires c.weigh.ensures c.weigh-2.ensures c.loop-left.invariant c.loop-left-test.true c.add_pair.ensures c.in-Halt.is
+
+pub add_turns-end_turn-requires : goal.add_turns-end_turn-requires
+add_turns-end_turn-requires t c =
+    turn_walked c.requires c.weigh.ensures c.weigh-2.ensures c.loop-left.invariant c.loop-left-test.true c.add_pair.ensures c.in-Went.is
+
+pub add_turns-returns-in-Over : goal.add_turns-returns-in-Over
+add_turns-returns-in-Over t c =
+    turn_limits c.requires c.weigh.ensures c.weigh-2.ensures c.loop-left.invariant c.loop-left-test.true c.add_pair.ensures c.in-Went.is c.end_turn.ensures c.in-Over.is
+
+pub add_turns-returns-in-Settled : goal.add_turns-returns-in-Settled
+add_turns-returns-in-Settled t c =
+    turn_settles c.requires c.weigh.ensures c.weigh-2.ensures c.loop-left.invariant c.loop-left-test.true c.add_pair.ensures c.in-Went.is c.end_turn.ensures c.in-Settled.is
+
+pub add_turns-overflow_sub-left : goal.add_turns-overflow_sub-left
+add_turns-overflow_sub-left t c = omega (arith, c.loop-left-test.true)
+
+pub add_turns-loop-left-smaller : goal.add_turns-loop-left-smaller
+add_turns-loop-left-smaller t c = omega (arith, c.loop-left-test.true)
+
+pub add_turns-loop-left-preserved : goal.add_turns-loop-left-preserved
+add_turns-loop-left-preserved t c =
+    turn_goes_on c.requires c.weigh.ensures c.weigh-2.ensures c.loop-left.invariant c.loop-left-test.true c.add_pair.ensures c.in-Went.is c.end_turn.ensures c.in-Again.is
+
+pub add_turns-returns : goal.add_turns-returns
+add_turns-returns t c =
+    turns_over c.requires c.weigh.ensures c.weigh-2.ensures c.loop-left.invariant (omega (arith, c.loop-left-test.false))
