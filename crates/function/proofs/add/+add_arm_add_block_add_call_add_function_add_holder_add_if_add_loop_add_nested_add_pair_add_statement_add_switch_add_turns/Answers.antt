@@ -198,7 +198,7 @@ pub add_if-overflow_add-held : goal.add_if-overflow_add-held
 add_if-overflow_add-held t c = omega (arith, if_few c.requires.arms c.requires.kind_value c.weigh.ensures)
 
 pub add_if-overflow_add-at : goal.add_if-overflow_add-at
-add_if-overflow_add-at t c = omega (arith, c.requires.arms.begins.standing.ready.high, c.weigh-arg-4-1.given.0)
+add_if-overflow_add-at t c = omega (arith, c.requires.arms.begins.standing.ready.high)
 
 pub add_if-add_pair-r-requires : goal.add_if-add_pair-r-requires
 add_if-add_pair-r-requires t c =
@@ -226,7 +226,7 @@ pub add_loop-overflow_add-held : goal.add_loop-overflow_add-held
 add_loop-overflow_add-held t c = omega (arith, loop_fits c.requires.arms c.requires.kind_value c.weigh.ensures)
 
 pub add_loop-overflow_add-at : goal.add_loop-overflow_add-at
-add_loop-overflow_add-at t c = omega (arith, (arm_weighs c.requires.arms).1.0, c.weigh-arg-4-1.given.0)
+add_loop-overflow_add-at t c = omega (arith, (arm_weighs c.requires.arms).1.0)
 
 pub add_loop-add_pair-r-requires : goal.add_loop-add_pair-r-requires
 add_loop-add_pair-r-requires t c =
@@ -269,7 +269,7 @@ pub add_nested-overflow_add-held : goal.add_nested-overflow_add-held
 add_nested-overflow_add-held t c = let h = arm_small c.requires.arms c.weigh.ensures in omega (arith, h)
 
 pub add_nested-overflow_add-at : goal.add_nested-overflow_add-at
-add_nested-overflow_add-at t c = omega (arith, arm_high c.requires.arms, c.weigh-arg-4-1.given.0)
+add_nested-overflow_add-at t c = omega (arith, arm_high c.requires.arms)
 
 pub add_nested-add_block-r-requires : goal.add_nested-add_block-r-requires
 add_nested-add_block-r-requires t c =
@@ -301,7 +301,7 @@ add_pair-overflow_add-more t c =
 
 pub add_pair-overflow_add-at : goal.add_pair-overflow_add-at
 add_pair-overflow_add-at t c =
-    omega (arith, (pair_weighs c.requires c.args.break_required c.add_block.ensures c.in-Went.is).1.0, c.weigh-arg-in-Went-3-1.given.0)
+    omega (arith, (pair_weighs c.requires c.args.break_required c.add_block.ensures c.in-Went.is).1.0)
 
 pub add_pair-add_block-r-requires : goal.add_pair-add_block-r-requires
 add_pair-add_block-r-requires t c =
@@ -351,7 +351,7 @@ pub add_switch-overflow_add-outside : goal.add_switch-overflow_add-outside
 add_switch-overflow_add-outside t c = omega (arith, outside_few c.requires.arms c.weigh.ensures)
 
 pub add_switch-overflow_add-at : goal.add_switch-overflow_add-at
-add_switch-overflow_add-at t c = omega (arith, (copy_asks c.requires.arms).1, c.weigh-arg-4-1.given.0)
+add_switch-overflow_add-at t c = omega (arith, (copy_asks c.requires.arms).1)
 
 pub add_switch-copy_context-requires : goal.add_switch-copy_context-requires
 add_switch-copy_context-requires t c = copy_asks c.requires.arms
@@ -363,7 +363,7 @@ pub add_switch-overflow_sub-k : goal.add_switch-overflow_sub-k
 add_switch-overflow_sub-k t c = omega (arith, c.loop-n-test.true)
 
 pub add_switch-overflow_add-at-in-loop-n : goal.add_switch-overflow_add-at-in-loop-n
-add_switch-overflow_add-at-in-loop-n t c = omega (arith, (copy_asks c.requires.arms).1, c.weigh-arg-4-1.given.0)
+add_switch-overflow_add-at-in-loop-n t c = omega (arith, (copy_asks c.requires.arms).1)
 
 pub add_switch-weigh-requires-in-loop-n : goal.add_switch-weigh-requires-in-loop-n
 add_switch-weigh-requires-in-loop-n t c =
@@ -375,7 +375,7 @@ add_switch-overflow_add-held t c =
     let G = began c.requires.arms c.requires.kind_value c.copy_context.ensures c.weigh.ensures in omega (arith, held_fits c.requires.arms (c.loop-n.invariant.by _ _ G) c.requires.kind_value G.outside_is c.weigh-in-loop-n.ensures)
 
 pub add_switch-overflow_add-at-in-loop-n-2 : goal.add_switch-overflow_add-at-in-loop-n-2
-add_switch-overflow_add-at-in-loop-n-2 t c = omega (arith, (copy_asks c.requires.arms).1, c.weigh-arg-4-1.given.0)
+add_switch-overflow_add-at-in-loop-n-2 t c = omega (arith, (copy_asks c.requires.arms).1)
 
 pub add_switch-add_block-requires : goal.add_switch-add_block-requires
 add_switch-add_block-requires t c =
@@ -386,7 +386,7 @@ add_switch-returns-in-Halt t c =
     let G = began c.requires.arms c.requires.kind_value c.copy_context.ensures c.weigh.ensures in case_halts c.requires.arms (c.loop-n.invariant.by _ _ G) c.requires.kind_value G.outside_is c.weigh-in-loop-n.ensures c.case_body-body.ensures (omega (arith, c.loop-n-test.true)) c.add_block.ensures c.in-Halt.is
 
 pub add_switch-overflow_add-at-in-Went : goal.add_switch-overflow_add-at-in-Went
-add_switch-overflow_add-at-in-Went t c = omega (arith, (copy_asks c.requires.arms).1, c.weigh-arg-4-1.given.0)
+add_switch-overflow_add-at-in-Went t c = omega (arith, (copy_asks c.requires.arms).1)
 
 pub add_switch-end_case-requires : goal.add_switch-end_case-requires
 add_switch-end_case-requires t c =
@@ -420,7 +420,7 @@ pub add_turns-overflow_add-held : goal.add_turns-overflow_add-held
 add_turns-overflow_add-held t c = omega (arith, turns_fit c.requires c.weigh.ensures)
 
 pub add_turns-overflow_add-at : goal.add_turns-overflow_add-at
-add_turns-overflow_add-at t c = omega (arith, (turns_weigh c.requires).1.0, c.weigh-arg-4-1.given.0)
+add_turns-overflow_add-at t c = omega (arith, (turns_weigh c.requires).1.0)
 
 pub add_turns-weigh-requires-2 : goal.add_turns-weigh-requires-2
 add_turns-weigh-requires-2 t c =
@@ -434,10 +434,10 @@ pub add_turns-loop-left-init : goal.add_turns-loop-left-init
 add_turns-loop-left-init t c = turns_begin c.requires
 
 pub add_turns-overflow_add-at-in-loop-left : goal.add_turns-overflow_add-at-in-loop-left
-add_turns-overflow_add-at-in-loop-left t c = omega (arith, (weighs c.requires.standing).1.0, c.weigh-arg-4-1.given.0)
+add_turns-overflow_add-at-in-loop-left t c = omega (arith, (weighs c.requires.standing).1.0)
 
 pub add_turns-overflow_add-at-in-loop-left-2 : goal.add_turns-overflow_add-at-in-loop-left-2
-add_turns-overflow_add-at-in-loop-left-2 t c = omega (arith, (weighs c.requires.standing).1.0, c.weigh-arg-4-1.given.0)
+add_turns-overflow_add-at-in-loop-left-2 t c = omega (arith, (weighs c.requires.standing).1.0)
 
 pub add_turns-add_pair-requires : goal.add_turns-add_pair-requires
 add_turns-add_pair-requires t c =
