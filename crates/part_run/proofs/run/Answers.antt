@@ -5,38 +5,34 @@ use native.Mathlib.Omega.{arith}
 use Rattle.part_run.proofs.run.Goals as goal
 
 pub bounds-roots-1 : goal.bounds-roots-1
-bounds-roots-1 c = simp length-set (omega arith)
+bounds-roots-1 g c = simp length-set (omega arith)
 
 pub fill-requires : goal.fill-requires
-fill-requires c = live_start c.args.roots.now c.requires.roots_len c.path-p.ensures
+fill-requires g c = live_start c.args.roots.now c.requires.roots_len c.path-p.ensures
 
 pub show-requires : goal.show-requires
-show-requires c = record { live = c.fill.ensures.live; k_bound = omega arith }
+show-requires g c = record { live = c.fill.ensures.live; k_bound = omega arith }
 
 pub count-requires : goal.count-requires
-count-requires c = record { live = c.show.ensures.live; first_bound = omega arith }
+count-requires g c = record { live = c.show.ensures.live; first_bound = omega arith }
 
 pub count-requires-2 : goal.count-requires-2
-count-requires-2 c = record { live = c.count.ensures.live; first_bound = omega arith }
+count-requires-2 g c = record { live = c.count.ensures.live; first_bound = omega arith }
 
 pub cut_all-requires : goal.cut_all-requires
-cut_all-requires c = c.count-2.ensures.live
+cut_all-requires g c = c.count-2.ensures.live
 
 pub show-requires-2 : goal.show-requires-2
-show-requires-2 c = record { live = c.cut_all.ensures.live; k_bound = omega arith }
+show-requires-2 g c = record { live = c.cut_all.ensures.live; k_bound = omega arith }
 
 pub churn-requires : goal.churn-requires
-churn-requires c = c.show-2.ensures.live
+churn-requires g c = c.show-2.ensures.live
 
 pub show-requires-3 : goal.show-requires-3
-show-requires-3 c = record { live = c.churn.ensures.live; k_bound = omega arith }
+show-requires-3 g c = record { live = c.churn.ensures.live; k_bound = omega arith }
 
 pub show-requires-4 : goal.show-requires-4
-show-requires-4 c = record { live = c.show-3.ensures.live; k_bound = omega arith }
-
-pub shape_of-cells-in_err-show : goal.shape_of-cells-in_err-show
-shape_of-cells-in_err-show c =
-    omega (arith, c.init.ensures.2, c.path-p.ensures.kept.long, c.fill.ensures.long, c.show.ensures.long, c.count.ensures.long, c.count2.ensures.long, c.Cut-all.ensures.long, c.show.ensures.long, c.churn.ensures.long, c.show.ensures.long, c.show.ensures.long)
+show-requires-4 g c = record { live = c.show-3.ensures.live; k_bound = omega arith }
 
 pub shape_of-roots-in_err-show : goal.shape_of-roots-in_err-show
-shape_of-roots-in_err-show c = omega (arith, c.show.ensures.live.two, c.requires.roots_len)
+shape_of-roots-in_err-show g c = omega (arith, c.show.ensures.live.two, c.requires.roots_len)

@@ -4,28 +4,28 @@ use native.Mathlib.Omega.{arith}
 use Rattle.part_run.proofs.show.Goals as goal
 
 pub bounds-roots-k : goal.bounds-roots-k
-bounds-roots-k c =
+bounds-roots-k g c =
     omega (arith, (went_collected c.requires.live c.collect.ensures).live.two, c.requires.k_bound)
 
 pub entries-requires : goal.entries-requires
-entries-requires c =
+entries-requires g c =
     let w = went_collected c.requires.live c.collect.ensures in
     record { good = w.live.good; n_bound = root c.args.k w.live c.requires.k_bound }
 
 pub width-requires : goal.width-requires
-width-requires c =
+width-requires g c =
     let w = went_collected c.requires.live c.collect.ensures in
     record { good = w.live.good; n_bound = root c.args.k w.live c.requires.k_bound }
 
 pub depth-requires : goal.depth-requires
-depth-requires c =
+depth-requires g c =
     let w = went_collected c.requires.live c.collect.ensures in
     record { good = w.live.good; n_bound = root c.args.k w.live c.requires.k_bound }
 
 pub over-requires : goal.over-requires
-over-requires c =
+over-requires g c =
     let w = went_collected c.requires.live c.collect.ensures in
     record { good = w.live.good; n_bound = root c.args.k w.live c.requires.k_bound }
 
 pub returns-in_err-say : goal.returns-in_err-say
-returns-in_err-say c = went_collected c.requires.live c.collect.ensures
+returns-in_err-say g c = went_collected c.requires.live c.collect.ensures
