@@ -4,12 +4,12 @@ use Rattle.report.proofs.Whole.{input-refused, was_read}
 use Rattle.report.proofs.answer.Goals as goal
 
 pub print-requires : goal.print-requires
-print-requires c =
+print-requires g c =
     input-refused c.args.input.now c.read_front-refusal.ensures (omega (arith, c.if-refusal-gt0.true))
 
 pub walk_input-outcome-requires : goal.walk_input-outcome-requires
-walk_input-outcome-requires c =
+walk_input-outcome-requires g c =
     was_read c.args.input.now c.read_front-refusal.ensures (omega (arith, c.if-refusal-gt0.false))
 
 pub print-requires-2 : goal.print-requires-2
-print-requires-2 c = c.walk_input-outcome.ensures
+print-requires-2 g c = c.walk_input-outcome.ensures
