@@ -1,4 +1,4 @@
-//! The program `report`, on the stored lists, and on inputs past every limit, each with a stack of 8 MiB. `rt check report` makes it. What it prints are the oracle's
+//! The program `report`, on the stored lists, and on inputs past every limit, each with a stack of 8 MiB. `rt run` in crates/report makes it, and so does `rt ci`. What it prints are the oracle's
 //! lines, and the line of the second clearance.
 use host::assemble::assemble;
 use host::reported::printed;
@@ -14,7 +14,7 @@ fn folder() -> PathBuf {
 fn run(input: &[u8]) -> String {
     let mut child = Command::new("sh")
         .args(["-c", "ulimit -S -s 8192 && exec \"$0\""])
-        .arg(folder().join("target/bin/report"))
+        .arg(folder().join("crates/report/out/report"))
         .stdin(Stdio::piped())
         .stdout(Stdio::piped())
         .spawn()
