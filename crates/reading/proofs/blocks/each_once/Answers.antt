@@ -1,4 +1,5 @@
 -- `reading::blocks::each_once` meets its contract: word by word, from the last.
+use borrow.Author.Rules.{rules}
 use mathlib.Core.Path.{refl, sym, ◌∙◌}
 use native.Mathlib.Omega.{arith}
 use Rattle.reading.proofs.Counting.{one_again, not_one, no_ones}
@@ -16,7 +17,7 @@ loop-i-smaller c = omega (arith, c.loop-i-test.true)
 
 pub loop-i-preserved : goal.loop-i-preserved
 loop-i-preserved c =
-    (one_again _ _ _ _ c.loop-i-test.true c.word.ensures c.if-word-ne1.false c.loop-i.invariant.0, omega (arith, c.loop-i.invariant.1))
+    (one_again _ _ _ _ c.loop-i-test.true c.word.ensures (search rules) c.loop-i.invariant.0, omega (arith, c.loop-i.invariant.1))
 
 pub returns : goal.returns
 returns c = sym (no_ones _ _ c.loop-i-test.false) ∙ c.loop-i.invariant.0
