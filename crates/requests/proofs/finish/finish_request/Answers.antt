@@ -1,4 +1,5 @@
 -- `requests::finish::finish_request` meets its contract: 16 of the totals, then the three buffers.
+use borrow.Author.Rules.{rules}
 use Rattle.requests.proofs.Finishing.{finish_own, finish_sub, finish_high, finish_report, finish_pruner, finish_answer, finish_over, finish_went}
 use native.Mathlib.Omega.{arith}
 use Rattle.requests.proofs.finish.finish_request.Goals as goal
@@ -19,7 +20,7 @@ write_report-requires c = finish_report c.requires (c.functions.ensures c.args.b
 
 pub write_pruner-requires : goal.write_pruner-requires
 write_pruner-requires c =
-    let q9 = finish_pruner c.requires c.own_pieces-own.ensures c.if-sum-own-gt-MAX_PIECES.false in
+    let q9 = finish_pruner c.requires c.own_pieces-own.ensures (search rules) in
     record { has_totals = q9.0; min_pruner_in_bounds = q9.1 }
 
 pub overflow_add-base : goal.overflow_add-base
@@ -32,4 +33,4 @@ write_answer-requires c =
 
 pub returns : goal.returns
 returns c =
-    finish_went c.requires c.own_pieces-own.ensures c.if-sum-own-gt-MAX_PIECES.false (c.functions.ensures c.args.bytes.now) c.write_report.ensures c.write_pruner.ensures c.write_answer.ensures
+    finish_went c.requires c.own_pieces-own.ensures (search rules) (c.functions.ensures c.args.bytes.now) c.write_report.ensures c.write_pruner.ensures c.write_answer.ensures

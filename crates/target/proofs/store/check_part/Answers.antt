@@ -1,4 +1,5 @@
 -- `check_part` meets its contract. The invariant: what is left of the part, with what is needed there, gives the whole. The measure is the piece's number.
+use borrow.Author.Rules.{rules}
 use Rattle.target.proofs.Checking.{checking_none, checking_start, checked_all, checked_gone, checking_next, checked_part, checked_exist, checked_whole}
 use Rattle.target.proofs.store.check_part.Goals as goal
 
@@ -36,4 +37,4 @@ pub returns-then-p-eq1 : goal.returns-then-p-eq1
 returns-then-p-eq1 c = checked_exist c.in-There.is c.loop-n.invariant c.if-n-gt0.false c.if-p-eq1.true
 
 pub returns : goal.returns
-returns c = checked_whole c.in-There.is c.loop-n.invariant c.if-n-gt0.false c.if-p-eq1.false
+returns c = checked_whole c.in-There.is c.loop-n.invariant c.if-n-gt0.false (search rules)
