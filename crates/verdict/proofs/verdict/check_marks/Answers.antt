@@ -18,7 +18,7 @@ fill_firsts-requires c = firsts-asked c.requires
 
 pub settle-requires : goal.settle-requires
 settle-requires c =
-    settling c.requires c.unjudged-word.ensures (omega (arith, c.if-word-gt0.false)) c.fill_tables.ensures c.fill_firsts.ensures
+    settling c.requires c.unjudged-word.ensures (omega arith) c.fill_tables.ensures c.fill_firsts.ensures
 
 pub shape_of-types : goal.shape_of-types
 shape_of-types c = omega (arith, c.fill_tables.auto)
@@ -31,4 +31,4 @@ shape_of-held c = omega (arith, c.fill_tables.auto)
 
 pub returns : goal.returns
 returns c =
-    settled c.requires c.unjudged-word.ensures (omega (arith, c.if-word-gt0.false)) c.args.marks.now c.args.context.now c.settle.ensures
+    settled c.requires c.unjudged-word.ensures (omega arith) c.args.marks.now c.args.context.now c.settle.ensures
