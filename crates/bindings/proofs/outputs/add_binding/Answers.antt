@@ -1,4 +1,5 @@
 -- `bindings::outputs::add_binding` meets its contract: 15 of what is new and of the sum, 16 of the sum, by their sizes; then the sum.
+use borrow.Author.Rules.{rules}
 use native.Mathlib.Omega.{arith}
 use mathlib.Core.Path.{sym, ◌∙◌}
 use Rattle.bindings.proofs.Returning.{binding_bound, add_globals, add_past, add_past_sum, add_pieces, add-room, add-within}
@@ -35,4 +36,4 @@ join-requires c =
 
 pub returns : goal.returns
 returns c =
-    add-within _ c.own_binding.ensures c.requires.b_lt_bindings.0 _ _ _ _ c.returned_from-new.ensures c.requires.b_lt_bindings.1 (sym c.over.ensures ∙ c.if-over.false) c.sum_sizes-m.ensures c.if-m-gt0.false c.entries.ensures c.if-entries-m-gt-MAX_PIECES.false c.join.ensures
+    add-within _ c.own_binding.ensures c.requires.b_lt_bindings.0 _ _ _ _ c.returned_from-new.ensures c.requires.b_lt_bindings.1 (sym c.over.ensures ∙ c.if-over.false) c.sum_sizes-m.ensures (search rules) c.entries.ensures c.if-entries-m-gt-MAX_PIECES.false c.join.ensures

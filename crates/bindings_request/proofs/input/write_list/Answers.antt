@@ -1,4 +1,5 @@
 -- `bindings_request::input::write_list` meets its contract: by how many pieces the context has.
+use borrow.Author.Rules.{rules}
 use Rattle.bindings_request.proofs.Needing.{given_many, given_list}
 use Rattle.bindings_request.proofs.input.write_list.Goals as goal
 
@@ -10,4 +11,4 @@ list-requires c = c.requires
 
 pub returns : goal.returns
 returns c =
-    given_list _ _ c.count_context.ensures c.if-count_context-gt-MAX_PIECES.false c.requires c.list.ensures
+    given_list _ _ c.count_context.ensures (search rules) c.requires c.list.ensures

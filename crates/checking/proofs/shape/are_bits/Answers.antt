@@ -20,7 +20,7 @@ pub loop-k-smaller : goal.loop-k-smaller
 loop-k-smaller c = omega (arith, c.loop-k-test.true)
 
 pub loop-k-preserved : goal.loop-k-preserved
-loop-k-preserved c = bits_more c.loop-k.invariant c.loop-k-test.true (omega (arith, c.if-marks-k-ge2.false))
+loop-k-preserved c = bits_more c.loop-k.invariant c.loop-k-test.true (omega arith)
 
 pub returns : goal.returns
 returns c = bits_all c.loop-k.invariant (omega (arith, c.loop-k-test.false))

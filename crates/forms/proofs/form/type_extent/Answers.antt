@@ -1,4 +1,5 @@
 -- `forms::form::type_extent` meets its contract: by the kind, and of an array by its count.
+use borrow.Author.Rules.{rules}
 use Rattle.forms.proofs.Shapes.{extent-bound, extent-parts, extent_endless, extent_elements}
 use Rattle.forms.proofs.form.type_extent.Goals as goal
 
@@ -15,4 +16,4 @@ returns-then-n-eq0 c =
 
 pub returns : goal.returns
 returns c =
-    extent_elements _ _ c.kind_at-k.ensures c.part_count-n.ensures c.if-k-ne5.false c.if-n-eq0.false
+    extent_elements _ _ c.kind_at-k.ensures c.part_count-n.ensures c.if-k-ne5.false (search rules)
