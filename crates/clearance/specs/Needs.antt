@@ -209,8 +209,8 @@ kept (unmarked l mark a) after n = add after n
 
 -- After continuing stand the re-entry needs, and with `break_if` also the exit needs and the condition whole.
 unfoldable pub turning : Scope → PartReq → Option ExpressionHandle → PartReq → PartReq
-turning S again nothing exit = again
-turning S again (present c) exit = wholly S c (add exit again)
+turning S again nothing left = again
+turning S again (present c) left = wholly S c (add left again)
 
 -- a return's value: `asked` of it is needed
 unfoldable pub valued : Scope → PartReq → Option ExpressionHandle → PartReq → PartReq

@@ -118,8 +118,8 @@ acting S aside x n c =
 
 -- After continuing stand the re-entry needs, and with `break_if` also the exit needs and the condition whole.
 unfoldable pub turning_on : Scope → (aside : List PartReq) → (again : PartReq) → Option ExpressionHandle → (exit : PartReq) → Carried → Passed
-turning_on S aside again absent exit c = within aside again c
-turning_on S aside again (present x) exit c = joining aside exit again c >>= λ d m. asking S aside (ask_whole x) m d
+turning_on S aside again absent left c = within aside again c
+turning_on S aside again (present x) left c = joining aside left again c >>= λ d m. asking S aside (ask_whole x) m d
 
 -- a return's value
 unfoldable pub valuing : Scope → (aside : List PartReq) → (asked : PartReq) → Option ExpressionHandle → PartReq → Carried → Passed
