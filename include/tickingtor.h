@@ -22,7 +22,7 @@ uint32_t tickingtor_read(const uint8_t *bytes, size_t length);
  *   PN       the globals, a count and then number and part each; for each function 0, or 1, its marks, its context, and each expression's part.
  *   AN       0 or 1; the visits, low and high half; the context; each expression's part.
  * The buffers share no byte with each other or with the other slices. A call takes 3.4 MB of stack and what the walk's recursion needs, measured
- * up to 7.9 MB on the most deeply nested file: give its thread 16 MiB.
+ * up to 7.0 MB on the most deeply nested file: give its thread 16 MiB.
  */
 uint64_t tickingtor_request(const uint8_t *module, size_t module_length, const uint8_t *request, size_t request_length, uint8_t *pruner,
                             size_t pruner_length, uint8_t *report, size_t report_length, uint8_t *answer, size_t answer_length);
