@@ -1,10 +1,11 @@
 #!/usr/bin/env python3
-"""respell.py [--map FILE]
+"""respell.py [-x | --map FILE]
 
 Run once at the top of a checkout, after the kit's port.py: brings the names that this repository declares in antt to today's spelling.
 Words are in snake case, types and modules in camel case. Definitions, fields and constructors have no dash. A lemma keeps a dash behind a
 word of its statement, as `contains-exist`, and has else an underscore. It goes by whole words, in antt, in the clauses of .rt files, in must-fail
-edits and in the code spans of pages. --map writes what became what. Functions of src/, strings, inputs and outputs keep their names.
+edits and in the code spans of pages. --map writes what became what;
+-x writes nothing and lists the names that fall together. Functions of src/, strings, inputs and outputs keep their names.
 """
 import collections
 import os
@@ -14,7 +15,6 @@ import sys
 WORD = re.compile(r'[^\s(){}.;,@"«»]+')
 DECLARED = re.compile(r'^( *)((?:pub |abbrev |unfoldable )*)((?:[^\s(){}.;,@"«»]+ )*[^\s(){}.;,@"«»]+) :(?= |$)')
 BLOCK = re.compile(r'^( *)(?:pub )?(data|record) ')
-MODULE = re.compile(r'^( *)module _ ')
 QUIET = re.compile(r'"(?:[^"\\\n]|\\.)*"|--[^\n]*')
 CLAUSE = re.compile(r'ghost use [^;]*;|(?:requires|ensures)\*?(?: \w+)? \{|ghost (?:\w+: )?\{')
 # Lemmas that the kit's script gave the spelling of the definition that they are of.
