@@ -50,7 +50,7 @@ abbrev pub visit_one : (bytes t : List ℕ) → (f held : ℕ) → RequiredConte
 visit_one bytes t f held base s r =
     visit_statement (module_of bytes t) (add_function (module_of bytes t)) (block_in bytes t f) (record { function = f; statement = s; held = held + pieces base; base = base; break_required = r })
 
--- n statements from `first` on are left; s, rs, open-marks and totals are what the first visit found, with a copy of the base for the current context
+-- n statements from `first` on are left; s, rs, open_marks and totals are what the first visit found, with a copy of the base for the current context
 pub record StatementsLeft (bytes t types places s rs open_marks totals : List ℕ) (f : ℕ) (b : BlockHandle) (base at held sum : ℕ) (total : Out Bool) (first inner v m : ℕ) (behind required : Bool) (n : ℕ) (u us open_after totals-after : List ℕ) : Type 0 where
   pub holds : inner ≡ held + context_in s rs base
   pub within : (k : ℕ) → k < n → StatementIn bytes t f b (first + k)
