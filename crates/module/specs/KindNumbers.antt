@@ -1,10 +1,23 @@
 -- The numbers of the kinds that the code has as enums; Kinds has those of what they stand for.
 use Rattle.std.specs.Prelude.{◌≡◌, ◌<◌, ℕ, Result, MatchResult}
+use Rattle.module.specs.declared.kinds.TypeKind.{TypeKind}
+use Rattle.module.specs.declared.kinds.TypeKind.TheVariants as TypeKind
 use Rattle.module.specs.declared.kinds.ExpressionKind.{ExpressionKind}
 use Rattle.module.specs.declared.kinds.ExpressionKind.TheVariants as ExpressionKind
 use Rattle.module.specs.declared.kinds.StatementKind.{StatementKind}
 use Rattle.module.specs.declared.kinds.StatementKind.TheVariants as StatementKind
 use Rattle.module.specs.declared.kinds.NoKind.{NoKind}
+
+abbrev pub type_code : TypeKind → ℕ
+type_code TypeKind.Scalar = 0
+type_code TypeKind.Vector = 1
+type_code TypeKind.Matrix = 2
+type_code TypeKind.Atomic = 3
+type_code TypeKind.Pointer = 4
+type_code TypeKind.Array = 5
+type_code TypeKind.Struct = 6
+type_code TypeKind.BindingArray = 7
+type_code TypeKind.Opaque = 8
 
 abbrev pub expression_code : ExpressionKind → ℕ
 expression_code ExpressionKind.Literal = 0
@@ -64,6 +77,9 @@ statement_code StatementKind.SubgroupGather = 19
 statement_code StatementKind.SubgroupCollectiveOperation = 20
 
 -- the kind of this number, or that there is none
+abbrev pub TypeDecodes : ℕ → Result TypeKind NoKind → Type 0
+TypeDecodes n r = MatchResult r (λ kind. type_code kind ≡ n) (λ e. 8 < n)
+
 abbrev pub ExpressionDecodes : ℕ → Result ExpressionKind NoKind → Type 0
 ExpressionDecodes n r = MatchResult r (λ kind. expression_code kind ≡ n) (λ e. 31 < n)
 

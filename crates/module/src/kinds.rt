@@ -1,9 +1,44 @@
-// The kinds of expressions and statements, by 01's numbers: naga's variants in source order.
-ghost use Rattle.module.specs.KindNumbers.{ExpressionDecodes, StatementDecodes};
+// The kinds of types, expressions and statements, by 01's numbers: naga's variants in source order.
+ghost use Rattle.module.specs.KindNumbers.{TypeDecodes, ExpressionDecodes, StatementDecodes};
 
 // A number that is no kind's.
 #[derive(Clone, Copy, Debug, PartialEq, Eq)]
 pub struct NoKind;
+
+// What a type is. A row of the table of types has its number as a word.
+#[derive(Clone, Copy, Debug, PartialEq, Eq)]
+pub enum TypeKind {
+    Scalar,
+    Vector,
+    Matrix,
+    Atomic,
+    Pointer,
+    Array,
+    Struct,
+    BindingArray,
+    Opaque,
+}
+
+impl TryFrom<u32> for TypeKind {
+    type Error = NoKind;
+
+    ghost try_from_gives = { TypeDecodes };
+
+    fn try_from(number: u32) -> Result<Self, NoKind> {
+        match number {
+            0 => Ok(TypeKind::Scalar),
+            1 => Ok(TypeKind::Vector),
+            2 => Ok(TypeKind::Matrix),
+            3 => Ok(TypeKind::Atomic),
+            4 => Ok(TypeKind::Pointer),
+            5 => Ok(TypeKind::Array),
+            6 => Ok(TypeKind::Struct),
+            7 => Ok(TypeKind::BindingArray),
+            8 => Ok(TypeKind::Opaque),
+            _ => Err(NoKind),
+        }
+    }
+}
 
 // What an expression is.
 #[derive(Clone, Copy, Debug, PartialEq, Eq)]
