@@ -44,7 +44,12 @@ pub fn record_of(
 }
 
 // What was found is put into the slot k. The expression e, where it is to be asked.
-fn put_aside(slots: &mut [u32], k: usize, found: Option<u32>, e: ExpressionHandle) -> ExpressionHandle
+fn put_aside(
+    slots: &mut [u32],
+    k: usize,
+    found: Option<u32>,
+    e: ExpressionHandle,
+) -> ExpressionHandle
     requires { k < length slots.old }
     ensures { (result.0 ≡ aside_field found e.0) × (slots.new ≡ aside_slots slots.old k found) }
 {
