@@ -5,13 +5,12 @@ use mathlib.Core.Path.{◌≡◌, sym, ap, ◌∙◌}
 use mathlib.Core.List.{List, [], ◌∷◌}
 use mathlib.Core.Option.{Option, some, none as nothing}
 use lib.ListN.{length, get_or, replicate}
+use Rattle.std.specs.Prelude.{Option as Found, Some, None}
 use Rattle.field.specs.Limits.{max_pieces, max_arguments}
 use Rattle.part.specs.PartReq.{more, Subpart, entries}
 use Rattle.part.specs.Store.{top, part, Good, Room, Made}
 use Rattle.part.specs.StoreLimits.{entries_cap}
 use Rattle.part.specs.Found.{Got}
-use Rattle.part.specs.declared.req.Found.{Found}
-use Rattle.part.specs.declared.req.Found.TheVariants.{Gone, There}
 use Rattle.part.proofs.Pieces.{part-2}
 use Rattle.part.proofs.Write.{stay}
 use Rattle.module.specs.Module.{ExpressionHandle}
@@ -47,22 +46,22 @@ use Rattle.arms.specs.Calls.{result_need, found_part, Asking, called_context, Ca
 use Rattle.arms.proofs.CallRows.{callee_there, arm_row}
 
 -- what was found
-pub got_piece : (s : List ℕ) (p : Subpart) (found : Found) → Got s p found → (n : ℕ) → found ≡ There n → n < top s
+pub got_piece : (s : List ℕ) (p : Subpart) (found : Found ℕ) → Got s p found → (n : ℕ) → found ≡ Some n → n < top s
 got_piece s p found g n e = (rw e at g).0
 
-pub got_part : (s : List ℕ) (p : Subpart) (found : Found) → Got s p found → p ≡ found_part s found
-got_part s p Gone g = g
-got_part s p (There n) g = g.1
+pub got_part : (s : List ℕ) (p : Subpart) (found : Found ℕ) → Got s p found → p ≡ found_part s found
+got_part s p None g = g
+got_part s p (Some n) g = g.1
 
 -- what is asked of the returned value
-pub asked_none : {s : List ℕ} {found : Found} → Asking s found → found ≡ Gone → Made s s (retval_of (found_part s found)) 1 2
+pub asked_none : {s : List ℕ} {found : Found ℕ} → Asking s found → found ≡ None → Made s s (retval_of (found_part s found)) 1 2
 unfolding retval_of
 asked_none {s} a e = rw e (stay s _ 1 2 a.good (omega (arith, a.good.base)) (part-2 s))
 
-pub asked_makes : {s : List ℕ} {found : Found} {n : ℕ} → Asking s found → found ≡ There n → Good s × (Room s 1 × ((n < top s) × (2 < top s)))
+pub asked_makes : {s : List ℕ} {found : Found ℕ} {n : ℕ} → Asking s found → found ≡ Some n → Good s × (Room s 1 × ((n < top s) × (2 < top s)))
 asked_makes a e = (a.good, (a.roomy, (a.piece _ e, omega (arith, a.good.base))))
 
-pub asked_made : {s u : List ℕ} {found : Found} {n r : ℕ} → found ≡ There n → Made s u (more (variable 0) (part s n) (part s 2)) 1 r → Made s u (retval_of (found_part s found)) 1 r
+pub asked_made : {s u : List ℕ} {found : Found ℕ} {n r : ℕ} → found ≡ Some n → Made s u (more (variable 0) (part s n) (part s 2)) 1 r → Made s u (retval_of (found_part s found)) 1 r
 unfolding retval_of
 asked_made {s} e M = rw e (record { kept = M.kept; piece = M.piece; is = M.is ∙ rw (part-2 s); cost = M.cost })
 
@@ -145,7 +144,7 @@ module _ {bytes t places s rs open_marks : List ℕ} {fr : Frame} {row : Kinded}
       below = rw (field, count) (result_there (arm_row q.arms q.kind));
     }
 
-    module _ (found : Found) (got : Got s (record_of records (option_of d)) found) where
+    module _ (found : Found ℕ) (got : Got s (record_of records (option_of d)) found) where
       pub begin_asks : Asking s found
       begin_asks = record { good = ready.memory.good; piece = got_piece s _ found got; roomy = omega (arith, q.arms.begins.begun.roomy) }
 

@@ -6,12 +6,11 @@ use mathlib.Core.Bool.{Bool, true, false, not}
 use mathlib.Core.List.{List, [], ◌∷◌}
 use lib.ListN.{length, get_or, set}
 use lib.Seq.{get_or-set_other}
+use Rattle.std.specs.Prelude.{Option, Some, None}
 use Rattle.field.specs.Limits.{max_arguments}
 use Rattle.part.specs.PartReq.{PartReq, none, Subpart, there, entries}
 use Rattle.part.specs.Store.{part}
 use Rattle.part.specs.Found.{Got}
-use Rattle.part.specs.declared.req.Found.{Found}
-use Rattle.part.specs.declared.req.Found.TheVariants.{Gone, There}
 use Rattle.module.specs.Module.{Module}
 use Rattle.module.specs.Marks.{mark_count, marks_before}
 use Rattle.module.specs.Decode.{option_of}
@@ -56,7 +55,7 @@ use Rattle.arms.proofs.CallBegins.{got_piece, got_part, retval_few}
 use Rattle.arms.proofs.Marking.{written_state, written_standing, written_beside}
 
 -- what was found, put aside and marked
-pub result-held : {found : Found} {n : ℕ} (rs : List ℕ) → found ≡ There n → (true ≡ was_found found) × (set rs result n ≡ aside_slots rs result found)
+pub result-held : {found : Option ℕ} {n : ℕ} (rs : List ℕ) → found ≡ Some n → (true ≡ was_found found) × (set rs result n ≡ aside_slots rs result found)
 result-held rs e = rw e (refl, refl)
 
 pub call_marked : {r : Answered} {tally : Tally} {b : Bool} {after : List ℕ} (open_marks : List ℕ) (at : ℕ) (asked : Bool) → r ≡ Went tally b
@@ -74,17 +73,17 @@ is-required : (r : Bool) → not r ≡ false → r ≡ true
 is-required true h = refl
 is-required false h = sym h
 
-there_is : (s : List ℕ) (found : Found) → was_found found ≡ is_there (found_part s found)
+there_is : (s : List ℕ) (found : Option ℕ) → was_found found ≡ is_there (found_part s found)
 unfolding is_there
-there_is s Gone = refl
-there_is s (There n) = refl
+there_is s None = refl
+there_is s (Some n) = refl
 
 retval_there : (p : PartReq) (n : ℕ) → entries (retval_of (there p)) ≤ n → entries p ≤ n
 unfolding retval_of entries
 retval_there p n h = omega (arith, h)
 
 -- what was found, in the slot of the result
-record Held (bytes t s rs : List ℕ) (fr : Frame) (sum : ℕ) (found : Found) (vs : List ℕ) : Type 0 where
+record Held (bytes t s rs : List ℕ) (fr : Frame) (sum : ℕ) (found : Option ℕ) (vs : List ℕ) : Type 0 where
   pub ready : Ready bytes t s vs fr.function.0 fr.at fr.held sum
   pub apart : Apart t fr.function.0 fr.at s rs s vs
   pub state_same : (rest : Rest) (v : ℕ) → state_of t fr.function.0 fr.at (read s vs) rest v ≡ state_of t fr.function.0 fr.at (read s rs) rest v
@@ -92,9 +91,9 @@ record Held (bytes t s rs : List ℕ) (fr : Frame) (sum : ℕ) (found : Found) (
   pub returned_same : get_or vs returned 0 ≡ get_or rs returned 0
   pub requested_is : requested s vs (was_found found) ≡ found_part s found
 
-held_found : {bytes t s rs : List ℕ} {fr : Frame} {sum : ℕ} (found : Found) → Ready bytes t s rs fr.function.0 fr.at fr.held sum
-    → ((n : ℕ) → found ≡ There n → Holdable s result n) → Held bytes t s rs fr sum found (aside_slots rs result found)
-held_found Gone r h = record {
+held_found : {bytes t s rs : List ℕ} {fr : Frame} {sum : ℕ} (found : Option ℕ) → Ready bytes t s rs fr.function.0 fr.at fr.held sum
+    → ((n : ℕ) → found ≡ Some n → Holdable s result n) → Held bytes t s rs fr sum found (aside_slots rs result found)
+held_found None r h = record {
   ready = r;
   apart = record { long = refl; same = λ k l e. refl };
   state_same = λ rest v. refl;
@@ -102,7 +101,7 @@ held_found Gone r h = record {
   returned_same = refl;
   requested_is = refl;
 }
-held_found {rs = rs} (There n) r h =
+held_found {rs = rs} (Some n) r h =
     let q = h n refl in
     record {
       ready = hold_ready r q;
@@ -177,7 +176,7 @@ module _ {bytes t places s rs open_marks : List ℕ} {fr : Frame} {row : Kinded}
           };
         })
 
-    module _ {vs : List ℕ} {found : Found} (H : Held bytes t s rs fr sum found vs) where
+    module _ {vs : List ℕ} {found : Option ℕ} (H : Held bytes t s rs fr sum found vs) where
       kept_apart : {u us : List ℕ} → Apart t f fr.at s vs u us → Apart t f fr.at s rs u us
       kept_apart a = record { long = a.long ∙ H.apart.long; same = λ j l e. a.same j l e ∙ H.apart.same j l e }
 
@@ -217,12 +216,12 @@ module _ {bytes t places s rs open_marks : List ℕ} {fr : Frame} {row : Kinded}
         by = sym (then_halt (λ ended req. went (with_marks (write_marks ended.marks (marks_before (function_at def f).statements fr.statement) (own_marks req)) ended) (required req)) (sym E.by));
       }
 
-    module _ {n d : ℕ} (count : n ≡ operand_at bytes row 1) (field : d ≡ operand_at bytes row (2 + n)) (found : Found) (got : Got s (record_of (records_in t exprs_slot f (read s rs)) (option_of d)) found)
+    module _ {n d : ℕ} (count : n ≡ operand_at bytes row 1) (field : d ≡ operand_at bytes row (2 + n)) (found : Option ℕ) (got : Got s (record_of (records_in t exprs_slot f (read s rs)) (option_of d)) found)
         {vs : List ℕ} (slots : vs ≡ aside_slots rs result found) where
       need-is : found_part s found ≡ need
       need-is = sym (got_part s _ found got) ∙ rw (field, count)
 
-      holdable : (j : ℕ) → found ≡ There j → Holdable s result j
+      holdable : (j : ℕ) → found ≡ Some j → Holdable s result j
       holdable j e =
           let is : need ≡ there (part s j) = sym need-is ∙ rw e in
           let small : entries (retval_of (there (part s j))) ≤ record_pieces (records_in t exprs_slot f (read s rs)) = rw is at (retval_few (records_in t exprs_slot f (read s rs)) (result_of bytes row)) in

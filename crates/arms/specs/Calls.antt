@@ -1,12 +1,10 @@
 -- The statement Call, but for the walk of the called function: what its beginning, the end of that function and its own end ask and leave.
-use Rattle.std.specs.Prelude.{◌≡◌, Bool, true, false, List, [], ◌∷◌, ℕ, ◌+◌, ◌<◌, ◌≤◌, length, get_or, replicate}
+use Rattle.std.specs.Prelude.{◌≡◌, Bool, true, false, List, [], ◌∷◌, ℕ, ◌+◌, ◌<◌, ◌≤◌, length, get_or, replicate, Option as Found, Some, None}
 use Rattle.std.proofs.Math.Option.{Option}
 use Rattle.field.specs.Limits.{max_pieces}
 use Rattle.part.specs.PartReq.{none, Subpart, gone, there}
 use Rattle.part.specs.Store.{top, part, Good, Room}
 use Rattle.part.specs.StoreLimits.{entries_cap}
-use Rattle.part.specs.declared.req.Found.{Found}
-use Rattle.part.specs.declared.req.Found.TheVariants.{Gone, There}
 use Rattle.module.specs.Module.{FunctionHandle, ExpressionHandle}
 use Rattle.module.specs.Decode.{option_of}
 use Rattle.module.specs.Tables.{module_of, row_at}
@@ -44,18 +42,18 @@ abbrev pub result_need : (bytes t s rs : List ℕ) → FunctionHandle → Kinded
 result_need bytes t s rs f row = record_of (records_in t exprs_slot f (read s rs)) (result_of bytes row)
 
 -- the subpart that was found
-abbrev pub found_part : List ℕ → Found → Subpart
-found_part s Gone = gone
-found_part s (There n) = there (part s n)
+abbrev pub found_part : List ℕ → Found ℕ → Subpart
+found_part s None = gone
+found_part s (Some n) = there (part s n)
 
-abbrev pub was_found : Found → Bool
-was_found Gone = false
-was_found (There n) = true
+abbrev pub was_found : Found ℕ → Bool
+was_found None = false
+was_found (Some n) = true
 
 -- what was found is a piece, and one cell more fits
-pub record Asking (s : List ℕ) (found : Found) : Type 0 where
+pub record Asking (s : List ℕ) (found : Found ℕ) : Type 0 where
   pub good : Good s
-  pub piece : (n : ℕ) → found ≡ There n → n < top s
+  pub piece : (n : ℕ) → found ≡ Some n → n < top s
   pub roomy : Room s 1
 
 -- the context that the called function begins with: what is needed of the globals, and of the result

@@ -16,7 +16,6 @@ use memory::layout::RESULT;
 use memory::memory::{tidy, weigh};
 use module::handles::FunctionHandle;
 use part::limits::SPINE;
-use part::req::Found;
 use part::store::make;
 use state::answer::{Answered, Tally};
 use state::frame::Frame;
@@ -30,13 +29,13 @@ pub struct Begun {
 }
 
 // What is asked of the returned value, where this was found of the result.
-fn asked_of(cells: &mut [u32], found: Found) -> u32
+fn asked_of(cells: &mut [u32], found: Option<u32>) -> u32
     requires { Asking cells.old found }
     ensures { Made cells.old cells.new (retval_of (found_part cells.old found)) 1 result }
 {
     match found {
-        Found::Gone => 2,
-        Found::There(p) => make(cells, SPINE, p, 2),
+        None => 2,
+        Some(p) => make(cells, SPINE, p, 2),
     }
 }
 
@@ -90,13 +89,13 @@ pub fn leave_call(
 }
 
 // What was found of the result is what it is to be asked for. Whether anything was.
-fn hold_result(slots: &mut [u32], found: Found) -> bool
+fn hold_result(slots: &mut [u32], found: Option<u32>) -> bool
     requires { result_slot < length slots.old }
     ensures { (result ≡ was_found found) × (slots.new ≡ aside_slots slots.old result_slot found) }
 {
     match found {
-        Found::Gone => false,
-        Found::There(p) => {
+        None => false,
+        Some(p) => {
             slots[RESULT] = p;
             true
         }

@@ -5,12 +5,11 @@ use mathlib.Core.Path.{◌≡◌, refl, ap, subst, ◌∙◌}
 use mathlib.Core.Bool.{Bool, true, false, ◌||◌}
 use mathlib.Core.List.{List}
 use lib.ListN.{length, get_or, set, length-set}
+use Rattle.std.specs.Prelude.{Option, Some, None, unwrap_or}
 use Rattle.field.specs.Limits.{max_pieces}
 use Rattle.part.specs.PartReq.{PartReq, none, more, Subpart, gone, there, get_subpart, entries, over}
 use Rattle.part.specs.Store.{top, part, Good, Room, Made}
 use Rattle.part.specs.Found.{Got}
-use Rattle.part.specs.declared.req.Found.{Found}
-use Rattle.part.specs.declared.req.Found.TheVariants.{Gone, There}
 use Rattle.part.proofs.Pieces.{part-2}
 use Rattle.part.proofs.Making.{kept_trans}
 use Rattle.part.proofs.Write.{stay}
@@ -115,17 +114,10 @@ module _ {s rs : List ℕ} {k : ℕ} {c : Pieces} (A : Asiding s rs k) (h : Load
             }
 
 -- an entry
-pub entry_gone : {s : List ℕ} (p : Subpart) (f : Found) → Good s → Got s p f → f ≡ Gone → Entry s (or_none p) 2
+pub entry_found : {s : List ℕ} (p : Subpart) (f : Option ℕ) → Good s → Got s p f → Entry s (or_none p) (unwrap_or f 2)
 unfolding or_none
-entry_gone {s} p f g h e =
-    let z : p ≡ gone = subst (λ (x : Found). Got s p x) e h in
-    record { piece = omega (arith, g.base); is = rw z (part-2 s) }
-
-pub entry_there : {s : List ℕ} {n : ℕ} (p : Subpart) (f : Found) → Got s p f → f ≡ There n → Entry s (or_none p) n
-unfolding or_none
-entry_there {s} {n} p f h e =
-    let z : (n < top s) × (p ≡ there (part s n)) = subst (λ (x : Found). Got s p x) e h in
-    record { piece = z.0; is = rw z.1 }
+entry_found {s} p None g h = record { piece = omega (arith, g.base); is = rw h (part-2 s) }
+entry_found {s} p (Some n) g h = record { piece = h.0; is = rw h.1 }
 
 -- what was put aside is there
 pub map_asks : {s rs : List ℕ} {i : ℕ} → Memory s rs → i < 4 → Good s × ((get_or rs result 0 < top s) × (i < 4))

@@ -12,7 +12,7 @@ use crate::stack::load_context;
 use memory::layout::RESULT;
 use memory::stretches::save_context;
 use part::limits::SPINE;
-use part::req::{Found, get};
+use part::req::get;
 use part::store::make;
 
 // The context at k.
@@ -35,10 +35,7 @@ fn map_of(cells: &[u32], a: u32, i: u32) -> u32
     ensures { Entry cells.now (or_none (get_subpart (part cells.now a) (variable i))) result }
 {
     let f = get(cells, a, SPINE + i);
-    match f {
-        Found::Gone => 2,
-        Found::There(p) => p,
-    }
+    f.unwrap_or(2)
 }
 
 // Back to k.

@@ -9,7 +9,7 @@ use access::kinded::{Kinded, expression_operand, operand};
 use memory::layout::{ASK, RETURNED};
 use module::handles::ExpressionHandle;
 use part::limits::SPINE;
-use part::req::{Found, get};
+use part::req::get;
 use state::answer::{Tally, Walked};
 use state::frame::Frame;
 use statement::ask::then_ask;
@@ -33,8 +33,8 @@ fn then_argument(
         Walked::Went(tally) => {
             let needed = get(cells, slots[RETURNED], SPINE + (i as u32));
             match needed {
-                Found::Gone => Walked::Went(tally),
-                Found::There(p) => {
+                None => Walked::Went(tally),
+                Some(p) => {
                     slots[ASK] = p;
                     let began = Walked::Went(tally);
                     then_ask(bytes, t, cells, slots, fr, began, e, ASK)

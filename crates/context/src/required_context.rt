@@ -14,7 +14,7 @@ ghost use Rattle.context.specs.Contexts.{context_of, HasContext, MadeContext, va
 use crate::remove::{Reduced, Typed, remove};
 use module::handles::{GlobalHandle, LocalHandle, TypeHandle};
 use part::limits::SPINE;
-use part::req::{Found, add, contains, get};
+use part::req::{add, contains, get};
 use part::store::{look, over, remake};
 
 // A context, by the pieces of its maps.
@@ -125,7 +125,7 @@ impl RequiredContext {
     }
 
     // What is needed of a variable.
-    pub fn get(self, cells: &[u32], var: VarRef) -> Found
+    pub fn get(self, cells: &[u32], var: VarRef) -> Option<u32>
         requires good { Good cells.now }
         requires has_context { HasContext cells.now self × (handle (variable_of var) < spine) }
         ensures { Got cells.now (required (context_of cells.now self) (variable_of var)) result }

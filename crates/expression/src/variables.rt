@@ -14,7 +14,7 @@ use memory::memory::{ask_global, join_asked};
 use memory::want::Want;
 use module::handles::{ExpressionHandle, FunctionHandle, GlobalHandle, LocalHandle};
 use part::limits::SPINE;
-use part::req::{Found, get};
+use part::req::get;
 use part::store::over;
 use state::answer::{Place, Walked};
 
@@ -104,11 +104,11 @@ pub fn global(
     let n = slots[at];
     let r = ask_global(cells, slots, n, g, w, sum);
     match seen {
-        Found::Gone => {
+        None => {
             slots[at] = r.globals;
             close(t, cells, slots, f, at, held, e, w, visits, r.sum)
         }
-        Found::There(q) => {
+        Some(_) => {
             if over(cells, slots[GLOBALS]) {
                 let place = Place::Expression(f, e);
                 return Walked::Halt(15, place);

@@ -7,11 +7,10 @@ use mathlib.Core.Bool.{true, false}
 use mathlib.Core.List.{List, ◌∷◌}
 use lib.ListN.{length, get_or, drop, length-drop}
 use lib.Seq.{drop-cons}
+use Rattle.std.specs.Prelude.{Option, Some, None}
 use Rattle.part.specs.PartReq.{PartReq, all, exist, none, more, there, get_subpart, is_all, width, spine}
 use Rattle.part.specs.Store.{top, part, Good, Room, Made}
 use Rattle.part.specs.Found.{Got}
-use Rattle.part.specs.declared.req.Found.{Found}
-use Rattle.part.specs.declared.req.Found.TheVariants.{Gone, There}
 use Rattle.part.proofs.Equations.{before, after, at, way, get_subpart-exist, get_subpart-none, get_subpart_before, get_subpart-at, get_subpart-after}
 use Rattle.part.proofs.Write.{stay}
 use Rattle.part.proofs.Making.{kept_trans}
@@ -201,13 +200,13 @@ module _ {bytes t types s path : List ℕ} {f n : ℕ} (P : PlaceAsked bytes t f
   plain : is_all (part s n) ≡ false
   plain = framed_all (part s n) P.1.1.0.1
 
-  module _ {x : ℕ} (e : x ≡ get_or path 0 0) (g : Found) (a : Got s (get_subpart (part s n) x) g) where
-    pub map_gone : g ≡ Gone → Made s s (leaves whole (part s n) path) (place_cells path) n
+  module _ {x : ℕ} (e : x ≡ get_or path 0 0) (g : Option ℕ) (a : Got s (get_subpart (part s n) x) g) where
+    pub map_gone : g ≡ None → Made s s (leaves whole (part s n) path) (place_cells path) n
     map_gone b =
         stay s _ _ n P.0 P.1.1.0.0
         (sym (ap (leaves whole (part s n)) (rw (← e) at (two_first path P.1.0.1.long)) ∙ leaves-gone whole x _ (part s n) frame_whole plain (got_gone s (part s n) x g b a)))
 
-    pub map_there : {m : ℕ} → g ≡ There m → Map (scope_at bytes t f) s n x m
+    pub map_there : {m : ℕ} → g ≡ Some m → Map (scope_at bytes t f) s n x m
     map_there {m} b =
         let o = got_there s (part s n) x g b a in
         let w = need_entry whole (part s n) x (part s m) P.1.1.1.0 plain o.1 in
@@ -238,13 +237,13 @@ module _ {bytes t types s path : List ℕ} {f n : ℕ} (P : PlaceAsked bytes t f
     map_whole : is_whole (member whole x) ≡ false
     map_whole = rw M.slots.is (slots-whole M.slots.count M.slots.shape)
 
-    module _ (g : Found) (a : Got s (get_subpart (part s m) y) g) where
-      pub value_gone : g ≡ Gone → Made s s (leaves whole (part s n) path) (place_cells path) n
+    module _ (g : Option ℕ) (a : Got s (get_subpart (part s m) y) g) where
+      pub value_gone : g ≡ None → Made s s (leaves whole (part s n) path) (place_cells path) n
       value_gone b =
           let z = leaves-gone (member whole x) y (drop 2 path) (part s m) map_whole M.framed (got_gone s (part s m) y g b a) in
           stay s _ _ n P.0 P.1.1.0.0 (sym (outer ∙ (ap (λ o. change x (λ c. o) (part s n)) z ∙ change-same x (part s n) (part s m) M.entry M.some)))
 
-      pub value_there : {c : ℕ} → g ≡ There c → Value (scope_at bytes t f) s x m y c
+      pub value_there : {c : ℕ} → g ≡ Some c → Value (scope_at bytes t f) s x m y c
       value_there {c} b =
           let o = got_there s (part s m) y g b a in
           let w = need_entry (member whole x) (part s m) y (part s c) M.need M.framed o.1 in

@@ -9,11 +9,10 @@ use mathlib.Core.List.{List, ◌∷◌}
 use lib.ListN.{length, get_or, drop}
 use lib.Seq.{drop-cons, drop-length}
 use borrow.Author.Tests.{lt-ltb, eq-eqb, ne_eqb}
+use Rattle.std.specs.Prelude.{Option, Some, None}
 use Rattle.part.specs.PartReq.{PartReq, all, more, gone, there, get_subpart, width}
 use Rattle.part.specs.Store.{means, top, part, Good, Room, Made, Seen}
 use Rattle.part.specs.Found.{Got}
-use Rattle.part.specs.declared.req.Found.{Found}
-use Rattle.part.specs.declared.req.Found.TheVariants.{Gone, There}
 use Rattle.part.proofs.Pieces.{part-0, part-1, part-2, not_all}
 use Rattle.part.proofs.Write.{stay}
 use Rattle.part.proofs.Making.{kept_trans, then, MakeAsked, as_made}
@@ -197,10 +196,10 @@ parted_one v r e h = rw e at h
 pub parted_into : (v : Shape) (r : Split) {n : ℕ} → r ≡ Into n → Parted v r → Members v n
 parted_into v r e h = rw e at h
 
-pub got_gone : (s : List ℕ) (p : PartReq) (i : ℕ) (f : Found) → f ≡ Gone → Got s (get_subpart p i) f → get_subpart p i ≡ gone
+pub got_gone : (s : List ℕ) (p : PartReq) (i : ℕ) (f : Option ℕ) → f ≡ None → Got s (get_subpart p i) f → get_subpart p i ≡ gone
 got_gone s p i f e h = rw e at h
 
-pub got_there : (s : List ℕ) (p : PartReq) (i : ℕ) (f : Found) {c : ℕ} → f ≡ There c → Got s (get_subpart p i) f → (c < top s) × (get_subpart p i ≡ there (part s c))
+pub got_there : (s : List ℕ) (p : PartReq) (i : ℕ) (f : Option ℕ) {c : ℕ} → f ≡ Some c → Got s (get_subpart p i) f → (c < top s) × (get_subpart p i ≡ there (part s c))
 got_there s p i f e h = rw e at h
 
 module _ (types : List ℕ) {s : List ℕ} (v : Shape) {p : ℕ} (path : List ℕ) {k : ℕ} (P : OutAsked types s v p path k) where
@@ -218,7 +217,7 @@ module _ (types : List ℕ) {s : List ℕ} (v : Shape) {p : ℕ} (path : List �
     out_whole w b = stay s _ _ p P.0 P.1.1.0.0 (rw (first_index path h refl) (sym (leaves-whole v _ _ (part s p) (sym w ∙ b))))
 
     module _ {i : ℕ} (e : i ≡ get_or path k 0) {b : Bool} (w : b ≡ is_whole v) (no : b ≡ false) (z : p ≡ 0 → ⊥) where
-      pub out_gone : (f : Found) → f ≡ Gone → Got s (get_subpart (part s p) i) f → Left s s v (part s p) (drop k path) p
+      pub out_gone : (f : Option ℕ) → f ≡ None → Got s (get_subpart (part s p) i) f → Left s s v (part s p) (drop k path) p
       out_gone f a g =
           stay s _ _ p P.0 P.1.1.0.0
           (rw (first_index path h e) (sym (leaves-gone v i _ (part s p) (sym w ∙ no) (not_all s p z) (got_gone s (part s p) i f a g))))
@@ -226,7 +225,7 @@ module _ (types : List ℕ) {s : List ℕ} (v : Shape) {p : ℕ} (path : List �
       out_long : level_cells * length (drop k path) ≡ level_cells + level_cells * length (drop (k + 1) path)
       out_long = rw (first_index path h e) (omega arith)
 
-      module _ (m : Shape) (o : m ≡ member v i) (f : Found) {c : ℕ} (a : f ≡ There c) (g : Got s (get_subpart (part s p) i) f) where
+      module _ (m : Shape) (o : m ≡ member v i) (f : Option ℕ) {c : ℕ} (a : f ≡ Some c) (g : Got s (get_subpart (part s p) i) f) where
         pub out_call : {y : ℕ} → length path - k ≡ y → (length path - (k + 1) < y) × OutAsked types s m c path (k + 1)
         out_call q =
             let x = got_there s (part s p) i f a g in (

@@ -17,7 +17,7 @@ use access::whole::global;
 use judge::values::type_of;
 use module::handles::{ExpressionHandle, FunctionHandle, GlobalHandle, LocalHandle};
 use part::limits::SPINE;
-use part::req::{Found, get};
+use part::req::get;
 
 // The shape of the variable v of the kind k: a global (0), a local (1), or an evaluated expression, 32 to a kind (from 4 on).
 fn place_form(bytes: &[u8], t: &[u32], f: FunctionHandle, types: &[u32], k: u32, v: u32) -> Form
@@ -57,10 +57,10 @@ pub fn take_place(
 {
     let x = path[0];
     let y = path[1];
-    let Found::There(m) = get(cells, n, x) else {
+    let Some(m) = get(cells, n, x) else {
         return n;
     };
-    let Found::There(c) = get(cells, m, y) else {
+    let Some(c) = get(cells, m, y) else {
         return n;
     };
     let form = place_form(bytes, t, f, types, x - SPINE, y - SPINE);

@@ -11,7 +11,7 @@ ghost use Rattle.forms.specs.ShapeBy.{shape_by};
 ghost use Rattle.forms.specs.Narrow.{level_cells, Narrow, or_all};
 
 use crate::form::{Form, Split, is_whole, member_form, split_of};
-use part::req::{Found, get};
+use part::req::get;
 use part::store::{look, make};
 
 // The entry index: child before those of rest; rest alone, where the child needs nothing.
@@ -124,7 +124,7 @@ pub fn take_out(
         return p;
     }
     let i = path[at];
-    let Found::There(c) = get(cells, p, i) else {
+    let Some(c) = get(cells, p, i) else {
         return p;
     };
     let m = member_form(types, form, i);

@@ -6,13 +6,12 @@ use mathlib.Core.Path.{◌≡◌, refl, sym, ap, subst, ◌∙◌}
 use mathlib.Core.List.{List}
 use lib.ListN.{length, get_or}
 use borrow.Author.Tests.{lt-ltb, le-ltb}
+use Rattle.std.specs.Prelude.{Option, Some, None}
 use Rattle.field.specs.Limits.{max_depth, max_pieces}
 use Rattle.part.specs.PartReq.{PartReq, all, exist, none, more, Subpart, gone, there, get_subpart, entries, spine}
 use Rattle.part.specs.Insert.{insert}
 use Rattle.part.specs.Store.{top, part, Good, Kept, Room, Made}
 use Rattle.part.specs.Found.{Got}
-use Rattle.part.specs.declared.req.Found.{Found}
-use Rattle.part.specs.declared.req.Found.TheVariants.{Gone, There}
 use Rattle.part.proofs.Sizes.{sum_small}
 use Rattle.part.proofs.Making.{kept_trans}
 use Rattle.context.specs.RequiredContext.{variable}
@@ -75,10 +74,10 @@ after_there : {o : Subpart} {old : PartReq} (q c : PartReq) (g : ℕ) (p : PartR
 unfolding total_after globals_after
 after_there q c g p e = rw e (refl, refl)
 
-pub got_gone : (s : List ℕ) (p : Subpart) {f : Found} → f ≡ Gone → Got s p f → p ≡ gone
+pub got_gone : (s : List ℕ) (p : Subpart) {f : Option ℕ} → f ≡ None → Got s p f → p ≡ gone
 got_gone s p e g = subst (λ f. Got s p f) e g
 
-pub got_there : (s : List ℕ) (p : Subpart) {f : Found} {n : ℕ} → f ≡ There n → Got s p f → (n < top s) × (p ≡ there (part s n))
+pub got_there : (s : List ℕ) (p : Subpart) {f : Option ℕ} {n : ℕ} → f ≡ Some n → Got s p f → (n < top s) × (p ≡ there (part s n))
 got_there s p e g = subst (λ f. Got s p f) e g
 
 -- `ask_global`: p is the piece of what w asks
@@ -127,7 +126,7 @@ module _ {s rs : List ℕ} {n g : ℕ} {w : Want} {sum : ℕ} (h : Totalling s r
     totalled ld ed o = record { noted = noted_after join_room h.joining.memory old_low.0 k c (rw ex at o); piece = ld; is = ed }
 
   -- the first visit
-  module _ {f : Found} (got : Got t (get_subpart (part t (get_or rs globals_slot 0)) (spine + g)) f) (is-gone : f ≡ Gone) where
+  module _ {f : Option ℕ} (got : Got t (get_subpart (part t (get_or rs globals_slot 0)) (spine + g)) f) (is-gone : f ≡ None) where
     pub first_insert : Good t × (((n < top t) × (p < top t)) × Room t (1 + entries (part t n)))
     first_insert = (
       a.kept.good,
@@ -195,7 +194,7 @@ module _ {s rs : List ℕ} {n g : ℕ} {w : Want} {sum : ℕ} (h : Totalling s r
             o
 
   -- a later visit
-  module _ {f : Found} {o : ℕ} (got : Got t (get_subpart (part t (get_or rs globals_slot 0)) (spine + g)) f) (is-there : f ≡ There o) where
+  module _ {f : Option ℕ} {o : ℕ} (got : Got t (get_subpart (part t (get_or rs globals_slot 0)) (spine + g)) f) (is-there : f ≡ Some o) where
     pub later_join : Good t × ((((get_or rs globals_slot 0 < top t) × (p < top t)) × (g < spine)) × Room t (entries (part t (get_or rs globals_slot 0)) + entries (part t p) + 1))
     later_join = (
       a.kept.good,

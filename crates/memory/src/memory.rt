@@ -17,7 +17,7 @@ use module::handles::GlobalHandle;
 use part::collect::collect;
 use part::entry::add_entry;
 use part::limits::SPINE;
-use part::req::{Found, get, insert};
+use part::req::{get, insert};
 use part::store::{entries, init, look, make};
 
 // The flat part of n digits of the code c, from the component k on.
@@ -186,13 +186,13 @@ pub fn ask_global(
     let old = slots[GLOBALS];
     let f = get(cells, old, SPINE + g.0);
     match f {
-        Found::Gone => {
+        None => {
             let d = insert(cells, n, SPINE + g.0, p);
             let t = insert(cells, old, SPINE + g.0, p);
             let m = put(cells, slots, GLOBALS, t, sum);
             Totals { globals: d, sum: m }
         }
-        Found::There(q) => {
+        Some(_) => {
             let t = join_entry(cells, old, g.0, p);
             let m = put(cells, slots, GLOBALS, t, sum);
             Totals { globals: n, sum: m }

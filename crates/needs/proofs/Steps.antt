@@ -6,16 +6,15 @@ use mathlib.Core.Path.{◌≡◌, refl, sym, ◌∙◌}
 use mathlib.Core.List.{List}
 use lib.ListN.{length, get_or, drop}
 use lib.Seq.{drop-cons, drop-length}
+use Rattle.std.specs.Prelude.{Option, Some, None, unwrap_or}
 use Rattle.part.specs.PartReq.{PartReq, none, more, Subpart, get_subpart}
 use Rattle.part.specs.Store.{top, part, Good, Made}
 use Rattle.part.specs.Found.{Got}
-use Rattle.part.specs.declared.req.Found.{Found}
-use Rattle.part.specs.declared.req.Found.TheVariants.{Gone, There}
 use Rattle.part.proofs.Pieces.{part-2}
 use Rattle.part.proofs.Write.{stay}
 use Rattle.part.proofs.Making.{kept_trans}
 use Rattle.clearance.specs.Shape.{or_none, below, under}
-use Rattle.needs.specs.Path.{Piece, Taken}
+use Rattle.needs.specs.Path.{Piece}
 
 -- where `below` stands: so much of the path is left
 pub record Going (s : List ℕ) (n : ℕ) (path : List ℕ) (m k : ℕ) : Type 0 where
@@ -30,20 +29,14 @@ next_index : (p : PartReq) (path : List ℕ) (k : ℕ) → k < length path → b
 unfolding below
 next_index p path k h = rw (drop-cons path k 0 h, add-one)
 
-pub taken_none : (f : Found) → f ≡ Gone → Taken f 2
-taken_none f e = rw e refl
-
-pub taken_some : (f : Found) (c : ℕ) → f ≡ There c → Taken f c
-taken_some f c e = rw e refl
-
-found_is : (s : List ℕ) (q : Subpart) (f : Found) (m : ℕ) → Good s → Got s q f → Taken f m → (m < top s) × (part s m ≡ or_none q)
-found_is s q Gone m g a e = (omega (arith, g.base), rw (e, a) (part-2 s))
-found_is s q (There c) m g a e = rw (e, a.1) (a.0, refl)
+found_is : (s : List ℕ) (q : Subpart) (f : Option ℕ) → Good s → Got s q f → (unwrap_or f 2 < top s) × (part s (unwrap_or f 2) ≡ or_none q)
+found_is s q None g a = (omega (arith, g.base), rw a (part-2 s))
+found_is s q (Some c) g a = rw a.1 (a.0, refl)
 
 module _ {s : List ℕ} {n : ℕ} {path : List ℕ} {m k : ℕ} (g : Going s n path m k) where
-  pub going_more : (x o : ℕ) (f : Found) → Good s → k < length path → x ≡ get_or path k 0 → Got s (get_subpart (part s m) x) f → Taken f o → Going s n path o (k + 1)
-  going_more x o f w h e a t =
-      let z = found_is s (get_subpart (part s m) x) f o w a t in
+  pub going_more : (x : ℕ) (f : Option ℕ) → Good s → k < length path → x ≡ get_or path k 0 → Got s (get_subpart (part s m) x) f → Going s n path (unwrap_or f 2) (k + 1)
+  going_more x f w h e a =
+      let z = found_is s (get_subpart (part s m) x) f w a in
       record {
         inside = z.0;
         along = omega arith;

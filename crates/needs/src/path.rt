@@ -2,20 +2,10 @@
 ghost use Rattle.std.specs.Prelude.{◌<◌, length};
 ghost use Rattle.part.specs.Store.{top, part, Good, Room, Made};
 ghost use Rattle.clearance.specs.Shape.{below, under};
-ghost use Rattle.needs.specs.Path.{Piece, Taken};
+ghost use Rattle.needs.specs.Path.{Piece};
 
-use part::req::{Found, get};
+use part::req::get;
 use part::store::make;
-
-// What was found, or the empty part.
-fn or_none(f: Found) -> u32
-    ensures { Taken f result }
-{
-    match f {
-        Found::Gone => 2,
-        Found::There(c) => c,
-    }
-}
 
 // What the need n asks of the part at the path.
 pub fn below(cells: &[u32], n: u32, path: &[u32]) -> u32
@@ -24,11 +14,9 @@ pub fn below(cells: &[u32], n: u32, path: &[u32]) -> u32
     ensures { Piece cells.now (below (part cells.now n) path.now) result }
 {
     let mut m = n;
-    let mut k = 0;
-    while k < path.len() {
-        let f = get(cells, m, path[k]);
-        m = or_none(f);
-        k += 1;
+    for i in path {
+        let f = get(cells, m, *i);
+        m = f.unwrap_or(2);
     }
     m
 }
@@ -40,11 +28,8 @@ pub fn under(cells: &mut [u32], path: &[u32], a: u32) -> u32
     ensures { Made cells.old cells.new (under path.now (part cells.old a)) (length path.now) result }
 {
     let mut m = a;
-    let mut k = path.len();
-    while 0 < k {
-        let j = k - 1;
-        m = make(cells, path[j], m, 2);
-        k = j;
+    for k in (0..path.len()).rev() {
+        m = make(cells, path[k], m, 2);
     }
     m
 }

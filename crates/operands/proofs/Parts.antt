@@ -4,10 +4,9 @@ use native.Mathlib.Omega.{arith}
 use mathlib.Core.Path.{◌≡◌, refl, sym, ap, ◌∙◌}
 use mathlib.Core.List.{List, [], ◌∷◌, map}
 use lib.ListN.{length, get_or, length-map}
+use Rattle.std.specs.Prelude.{Option, Some, None, unwrap_or}
 use Rattle.part.specs.PartReq.{PartReq, none, more, get_subpart}
 use Rattle.part.specs.Store.{part, Good}
-use Rattle.part.specs.declared.req.Found.{Found}
-use Rattle.part.specs.declared.req.Found.TheVariants.{Gone, There}
 use Rattle.part.specs.Found.{Got}
 use Rattle.part.proofs.Pieces.{part-2}
 use Rattle.module.proofs.Tab.{length-tab, get_d_tab}
@@ -17,12 +16,9 @@ use Rattle.operands.specs.Lists.{letters, components, SubpartOf}
 use Rattle.operands.proofs.Loops.{Each}
 
 -- a part of a need
-module _ {s : List ℕ} {a k : ℕ} {x : Found} (g : Got s (get_subpart (part s a) k) x) where
-  pub subpart_gone : Good s → x ≡ Gone → SubpartOf s a k 2
-  subpart_gone h e = record { piece = omega (arith, h.base); is = part-2 s ∙ sym (ap or_none (rw e at g)) }
-
-  pub subpart_there : {c : ℕ} → x ≡ There c → SubpartOf s a k c
-  subpart_there e = let z = rw e at g in record { piece = z.0; is = sym (ap or_none z.1) }
+pub subpart_found : {s : List ℕ} {a k : ℕ} (x : Option ℕ) → Good s → Got s (get_subpart (part s a) k) x → SubpartOf s a k (unwrap_or x 2)
+subpart_found {s} None h g = record { piece = omega (arith, h.base); is = part-2 s ∙ sym (ap or_none g) }
+subpart_found (Some c) h g = record { piece = g.0; is = sym (ap or_none g.1) }
 
 -- Lists by number
 

@@ -12,7 +12,7 @@ use crate::operators::ask_whole;
 use access::kinded::{Kinded, expression_operand, operand};
 use asking::ask::ask_value;
 use module::handles::FunctionHandle;
-use part::req::{Found, get};
+use part::req::get;
 
 // The part k of a; nothing, where a has none.
 fn subpart(cells: &[u32], a: u32, k: u32) -> u32
@@ -21,14 +21,7 @@ fn subpart(cells: &[u32], a: u32, k: u32) -> u32
     ensures { SubpartOf cells.now a k result }
 {
     let found = get(cells, a, k);
-    match found {
-        Found::Gone => {
-            return 2;
-        }
-        Found::There(c) => {
-            return c;
-        }
-    }
+    found.unwrap_or(2)
 }
 
 // The part k of the result, of the component that the letter k names.

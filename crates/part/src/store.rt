@@ -58,11 +58,7 @@ pub(crate) fn empty(cells: &mut [u32])
     ensures { Emptied cells.old cells.new table_words }
 {
     let base = cells.len() - TABLE_WORDS;
-    let mut h = 0;
-    while h < TABLE_WORDS {
-        cells[base + h] = 0;
-        h += 1;
-    }
+    cells[base..].fill(0);
 }
 
 // Puts the cell n before the others of its chain.
@@ -85,10 +81,8 @@ fn relink(cells: &mut [u32])
     ensures { Rebuilt cells.old cells.new }
 {
     let end = cells[0];
-    let mut n = 3;
-    while n < end {
+    for n in 3..end {
         link(cells, n);
-        n += 1;
     }
 }
 

@@ -5,11 +5,11 @@ use mathlib.Core.Path.{◌≡◌, sym, ap, subst, ◌∙◌}
 use mathlib.Core.Bool.{Bool, true, false}
 use mathlib.Core.List.{List, []}
 use lib.ListN.{length}
+use Rattle.std.specs.Prelude.{Option}
 use Rattle.field.specs.Limits.{max_expressions}
 use Rattle.part.specs.PartReq.{PartReq, over, spine}
 use Rattle.part.specs.Store.{top, part, Good, Room, Kept}
 use Rattle.part.specs.Found.{Got}
-use Rattle.part.specs.declared.req.Found.{Found}
 use Rattle.module.specs.File.{accepted, read_module}
 use Rattle.module.specs.Tables.{module_of}
 use Rattle.context.specs.RequiredContext.{RequiredContext, handle}
@@ -123,7 +123,7 @@ module _ {bytes t s rs : List ℕ} {fr : Frame} {e : ℕ} (q : Aiming bytes t s 
         pub aim_needs : Good u × (HasContext u c × ((a.part < top u) × (handle (variable_of a.var) < spine)))
         aim_needs = (x.kept.good, (rw loaded (later_has q.begun.ready.memory x.kept fr.at aim_slots), (has.piece, has.low)))
 
-        pub aim_at : {o : Bool} {found : Found} → o ≡ over (part u a.part) → o ≡ false
+        pub aim_at : {o : Bool} {found : Option ℕ} → o ≡ over (part u a.part) → o ≡ false
             → Got u (store_required (context_of u c) (variable_of a.var) (part u a.part)) found → Aims bytes t s rs fr e (At a found) u
         aim_at i z g =
             let same : context_of u c ≡ context_at (read s rs) fr.at = rw loaded (later_are q.begun.ready.memory x.kept fr.at aim_slots) in

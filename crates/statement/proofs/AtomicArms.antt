@@ -8,12 +8,11 @@ use mathlib.Core.Option.{Option, some, none as nothing}
 use lib.ListN.{length, get_or}
 use lib.Seq.{get_or-set_same, get_or-set_other}
 use borrow.Author.Tests.{eq-eqb, ne_eqb}
+use Rattle.std.specs.Prelude.{Option as Found, Some, None}
 use Rattle.field.specs.Limits.{absent, max_pieces}
 use Rattle.part.specs.PartReq.{PartReq, entries, Subpart, gone, there}
 use Rattle.part.specs.Store.{part}
 use Rattle.part.specs.Found.{Got}
-use Rattle.part.specs.declared.req.Found.{Found}
-use Rattle.part.specs.declared.req.Found.TheVariants.{Gone, There}
 use Rattle.module.specs.Module.{Module, Statement, AtomicStatement}
 use Rattle.module.specs.Decode.{option_of, statement_of}
 use Rattle.module.specs.Tables.{module_of}
@@ -83,74 +82,74 @@ of-record P es h nothing = tt
 of-record P es h (some e) = h e
 
 -- what was found may be put aside
-abbrev Holds : List ℕ → ℕ → Found → Type 0
-Holds s k Gone = Unit {0}
-Holds s k (There n) = Holdable s k n
+abbrev Holds : List ℕ → ℕ → Found ℕ → Type 0
+Holds s k None = Unit {0}
+Holds s k (Some n) = Holdable s k n
 
 module _ {bytes t s rs : List ℕ} {f at held sum : ℕ} (h : Ready bytes t s rs f at held sum) (k : ℕ) where
-  aside_ready : (found : Found) → Holds s k found → Ready bytes t s (aside_slots rs k found) f at held sum
-  aside_ready Gone q = h
-  aside_ready (There n) q = hold_ready h q
+  aside_ready : (found : Found ℕ) → Holds s k found → Ready bytes t s (aside_slots rs k found) f at held sum
+  aside_ready None q = h
+  aside_ready (Some n) q = hold_ready h q
 
-  aside_state : (found : Found) → Holds s k found → (rest : Rest) (v : ℕ) → state_of t f at (read s (aside_slots rs k found)) rest v ≡ state_of t f at (read s rs) rest v
-  aside_state Gone q rest v = refl
-  aside_state (There n) q rest v = hold_state h q rest v
+  aside_state : (found : Found ℕ) → Holds s k found → (rest : Rest) (v : ℕ) → state_of t f at (read s (aside_slots rs k found)) rest v ≡ state_of t f at (read s rs) rest v
+  aside_state None q rest v = refl
+  aside_state (Some n) q rest v = hold_state h q rest v
 
-  aside_totals : (found : Found) → Holds s k found → totals_sum (read s (aside_slots rs k found)) ≡ totals_sum (read s rs)
-  aside_totals Gone q = refl
-  aside_totals (There n) q = hold_totals h q
+  aside_totals : (found : Found ℕ) → Holds s k found → totals_sum (read s (aside_slots rs k found)) ≡ totals_sum (read s rs)
+  aside_totals None q = refl
+  aside_totals (Some n) q = hold_totals h q
 
-  aside_apart : (found : Found) → Holds s k found → Apart t f at s rs s (aside_slots rs k found)
-  aside_apart Gone q = others_apart (others_same refl refl)
-  aside_apart (There n) q = hold_apart h q
+  aside_apart : (found : Found ℕ) → Holds s k found → Apart t f at s rs s (aside_slots rs k found)
+  aside_apart None q = others_apart (others_same refl refl)
+  aside_apart (Some n) q = hold_apart h q
 
 -- P is the part that was found
-abbrev Means : List ℕ → Found → PartReq → Type 0
-Means s Gone p = Unit {0}
-Means s (There n) p = p ≡ part s n
+abbrev Means : List ℕ → Found ℕ → PartReq → Type 0
+Means s None p = Unit {0}
+Means s (Some n) p = p ≡ part s n
 
-means_put : (s rs : List ℕ) (k : ℕ) → k < length rs → (found : Found) → Means s found (part s (get_or (aside_slots rs k found) k 0))
-means_put s rs k l Gone = tt
-means_put s rs k l (There n) = ap (part s) (get_or-set_same rs k n 0 l)
+means_put : (s rs : List ℕ) (k : ℕ) → k < length rs → (found : Found ℕ) → Means s found (part s (get_or (aside_slots rs k found) k 0))
+means_put s rs k l None = tt
+means_put s rs k l (Some n) = ap (part s) (get_or-set_same rs k n 0 l)
 
 -- a store into another slot
-means_kept : (s rs : List ℕ) (k j : ℕ) → (j ≡ k → ⊥) → (found other : Found) → Means s found (part s (get_or rs j 0)) → Means s found (part s (get_or (aside_slots rs k other) j 0))
-means_kept s rs k j ne Gone other h = tt
-means_kept s rs k j ne (There n) Gone h = h
-means_kept s rs k j ne (There n) (There i) h = ap (part s) (get_or-set_other rs k j i 0 ne) ∙ h
+means_kept : (s rs : List ℕ) (k j : ℕ) → (j ≡ k → ⊥) → (found other : Found ℕ) → Means s found (part s (get_or rs j 0)) → Means s found (part s (get_or (aside_slots rs k other) j 0))
+means_kept s rs k j ne None other h = tt
+means_kept s rs k j ne (Some n) None h = h
+means_kept s rs k j ne (Some n) (Some i) h = ap (part s) (get_or-set_other rs k j i 0 ne) ∙ h
 
 -- the asks of what was found are the definition's
 module _ (m : Module) (fr : Frame) (s : List ℕ) where
-  ask-result : (found : Found) (sub : Subpart) (e : ℕ) (p : PartReq) (st : State) → Got s sub found → Means s found p → ((n : ℕ) → found ≡ There n → e ≡ absent → ⊥)
+  ask-result : (found : Found ℕ) (sub : Subpart) (e : ℕ) (p : PartReq) (st : State) → Got s sub found → Means s found p → ((n : ℕ) → found ≡ Some n → e ≡ absent → ⊥)
       → maybe_ask m fr.function fr.held (option_of (aside_field found e)) p st ≡ ask_result m fr (option_of e) sub st
   unfolding maybe_ask ask_result ask_needed option_of
-  ask-result Gone sub e p st g z ne = rw g (none_asked (option_of e))
+  ask-result None sub e p st g z ne = rw g (none_asked (option_of e))
     where
       none_asked : (o : Option ℕ) → went st tt ≡ ask_result m fr o gone st
       none_asked nothing = refl
       none_asked (some x) = refl
-  ask-result (There n) sub e p st g z ne = rw (g.1, z, ne_eqb e absent (ne n refl))
+  ask-result (Some n) sub e p st g z ne = rw (g.1, z, ne_eqb e absent (ne n refl))
 
-  ask-value : (found : Found) (sub : Subpart) (e : ℕ) (p : PartReq) (st : State) → Got s sub found → Means s found p → (e ≡ absent → ⊥)
+  ask-value : (found : Found ℕ) (sub : Subpart) (e : ℕ) (p : PartReq) (st : State) → Got s sub found → Means s found p → (e ≡ absent → ⊥)
       → maybe_ask m fr.function fr.held (option_of (aside_field found e)) p st ≡ ask_needed m fr e sub st
   unfolding maybe_ask ask_needed option_of
-  ask-value Gone sub e p st g z ne = rw g
-  ask-value (There n) sub e p st g z ne = rw (g.1, z, ne_eqb e absent ne)
+  ask-value None sub e p st g z ne = rw g
+  ask-value (Some n) sub e p st g z ne = rw (g.1, z, ne_eqb e absent ne)
 
-some_is : (s : List ℕ) (load needed : Found) (x y : Subpart) (a b : ℕ) → Got s x load → Got s y needed → ((n : ℕ) → load ≡ There n → a ≡ absent → ⊥) → (b ≡ absent → ⊥)
+some_is : (s : List ℕ) (load needed : Found ℕ) (x y : Subpart) (a b : ℕ) → Got s x load → Got s y needed → ((n : ℕ) → load ≡ Some n → a ≡ absent → ⊥) → (b ≡ absent → ⊥)
     → some_field (aside_field load a) (aside_field needed b) ≡ (is_there x || is_there y)
 unfolding some_field is_there
-some_is s Gone Gone x y a b g h na nb = rw (g, h)
-some_is s Gone (There n) x y a b g h na nb = rw (g, h.1, ne_eqb b absent nb)
-some_is s (There n) needed x y a b g h na nb = rw (g.1, ne_eqb a absent (na n refl))
+some_is s None None x y a b g h na nb = rw (g, h)
+some_is s None (Some n) x y a b g h na nb = rw (g, h.1, ne_eqb b absent nb)
+some_is s (Some n) needed x y a b g h na nb = rw (g.1, ne_eqb a absent (na n refl))
 
-aside_below : (n : ℕ) (found : Found) (e : ℕ) → MaybeBelow n (option_of e) → MaybeBelow n (option_of (aside_field found e))
-aside_below n Gone e h = unfold option_of in tt
-aside_below n (There i) e h = h
+aside_below : (n : ℕ) (found : Found ℕ) (e : ℕ) → MaybeBelow n (option_of e) → MaybeBelow n (option_of (aside_field found e))
+aside_below n None e h = unfold option_of in tt
+aside_below n (Some i) e h = h
 
-holds : (s : List ℕ) (k : ℕ) → layout.ask ≤ k → k ≤ layout.returned → (found : Found) (sub : Subpart) → Got s sub found → Needs Fine sub → Needs (λ p. entries p ≤ max_pieces) sub → Holds s k found
-holds s k l b Gone sub g f e = tt
-holds s k l b (There n) sub g f e =
+holds : (s : List ℕ) (k : ℕ) → layout.ask ≤ k → k ≤ layout.returned → (found : Found ℕ) (sub : Subpart) → Got s sub found → Needs Fine sub → Needs (λ p. entries p ≤ max_pieces) sub → Holds s k found
+holds s k l b None sub g f e = tt
+holds s k l b (Some n) sub g f e =
     let fine : Fine (part s n) = subst (Needs Fine) g.1 f in
     let small : entries (part s n) ≤ max_pieces = subst (Needs (λ (p : PartReq). entries p ≤ max_pieces)) g.1 e in
     record { low = l; high = b; piece = g.0; few = omega arith; fine = fine.within }
@@ -194,7 +193,7 @@ module _ {bytes t s rs : List ℕ} {fr : declared.Frame} {row : Kinded} {sum : �
     abbrev load_sub : Subpart
     load_sub = record_of records (option_of (o 2))
 
-    module _ {y : resolve.Target} {found : Found} (load : Found) (h : aim ≡ aims.At y found) (got : Got u (record_of (records_in t exprs_slot fr.function.0 (read u rs)) (option_of (o 2))) load) where
+    module _ {y : resolve.Target} {found : Found ℕ} (load : Found ℕ) (h : aim ≡ aims.At y found) (got : Got u (record_of (records_in t exprs_slot fr.function.0 (read u rs)) (option_of (o 2))) load) where
       aimed : Aimed (module_of bytes t) (frame_of s rs fr) (o 0) (context_at (read s rs) fr.at) u y found
       aimed = subst (AimIs (module_of bytes t) (frame_of s rs fr) (o 0) (context_at (read s rs) fr.at) u) h d.by
 
@@ -212,9 +211,9 @@ module _ {bytes t s rs : List ℕ} {fr : declared.Frame} {row : Kinded} {sum : �
       hold_need : Holds u layout.ask found
       hold_need = go found aimed.needs
         where
-          go : (found : Found) → Got u need_sub found → Holds u layout.ask found
-          go Gone g = tt
-          go (There i) g =
+          go : (found : Found ℕ) → Got u need_sub found → Holds u layout.ask found
+          go None g = tt
+          go (Some i) g =
               let f = need_fine (module_of bytes t) (module_sound bytes (module_of bytes t) a.begun.ready.was_read.module_is) fr.function.0 (context_at (read s rs) fr.at) (variable_of y.var) (part u y.part) u i a.begun.fine g in
               record { low = omega arith; high = omega arith; piece = g.0; few = omega (arith, f.few, a.begun.few); fine = f.fine.within }
 
@@ -245,7 +244,7 @@ module _ {bytes t s rs : List ℕ} {fr : declared.Frame} {row : Kinded} {sum : �
       value_there : o 1 ≡ absent → ⊥
       value_there z = let l = uses.1 in omega (arith, few a)
 
-      result_there : (i : ℕ) → load ≡ There i → o 2 ≡ absent → ⊥
+      result_there : (i : ℕ) → load ≡ Some i → o 2 ≡ absent → ⊥
       unfolding record_of option_of
       result_there i e z =
           let g = subst (Got u load_sub) e loaded in

@@ -8,11 +8,10 @@ use mathlib.Core.Option.{none as nothing}
 use lib.Dec.{eqb}
 use lib.ListN.{length, get_or, set}
 use borrow.Author.Tests.{eq-eqb, ne_eqb}
+use Rattle.std.specs.Prelude.{Option, Some}
 use Rattle.field.specs.Limits.{absent}
 use Rattle.part.specs.PartReq.{none, gone, there}
 use Rattle.part.specs.Store.{top, part, Good}
-use Rattle.part.specs.declared.req.Found.{Found}
-use Rattle.part.specs.declared.req.Found.TheVariants.{There}
 use Rattle.part.proofs.Pieces.{part-0, part-1, part-2}
 use Rattle.part.proofs.Write.{seen}
 use Rattle.module.specs.Module.{Function}
@@ -92,7 +91,7 @@ module _ {bytes t s rs : List ℕ} {fr : Frame} {result : ℕ} (q : Loading byte
       load_there l h = (h.0, is ∙ high_there s (get_or rs (exprs_slot + n) 0) q.ready.memory.good l slot.1 ∙ ap there (sym h.1))
 
 -- what is put aside
-pub aside_there : {found : Found} {n : ℕ} (rs : List ℕ) (k e : ℕ) → found ≡ There n → (e ≡ aside_field found e) × (set rs k n ≡ aside_slots rs k found)
+pub aside_there : {found : Option ℕ} {n : ℕ} (rs : List ℕ) (k e : ℕ) → found ≡ Some n → (e ≡ aside_field found e) × (set rs k n ≡ aside_slots rs k found)
 aside_there rs k e h = rw h (refl, refl)
 
 pub some_first : {a : ℕ} (b : ℕ) → (a ≡ absent → ⊥) → true ≡ some_field a b

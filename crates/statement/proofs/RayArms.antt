@@ -7,12 +7,11 @@ use mathlib.Core.Bool.{Bool, true, false}
 use mathlib.Core.List.{List}
 use lib.ListN.{length, get_or}
 use borrow.Author.Tests.{ne_eqb, eq-eqb}
+use Rattle.std.specs.Prelude.{Option, Some, None}
 use Rattle.field.specs.Limits.{absent, max_expressions}
 use Rattle.part.specs.PartReq.{PartReq, all, Subpart, gone, there}
 use Rattle.part.specs.Store.{part}
 use Rattle.part.specs.Found.{Got}
-use Rattle.part.specs.declared.req.Found.{Found}
-use Rattle.part.specs.declared.req.Found.TheVariants.{Gone, There}
 use Rattle.module.specs.Module.{Module, Statement, ExpressionHandle}
 use Rattle.module.specs.Decode.{option_of, mode_of, mode_handles, statement_of}
 use Rattle.module.specs.Tables.{module_of}
@@ -226,14 +225,14 @@ module _ {bytes t s rs : List ℕ} {fr : declared.Frame} {row : Kinded} {sum : �
     after : Ready bytes t u rs fr.function.0 fr.at fr.held sum
     after = kept_ready a.begun.ready d.kept
 
-    module _ {y : resolve.Target} {found : Found} (h : aim ≡ aims.At y found) where
+    module _ {y : resolve.Target} {found : Option ℕ} (h : aim ≡ aims.At y found) where
       aimed : Aimed (module_of bytes t) (frame_of s rs fr) x.target (context_at (read s rs) fr.at) u y found
       aimed = subst (AimIs (module_of bytes t) (frame_of s rs fr) x.target (context_at (read s rs) fr.at) u) h d.by
 
       abbrev need : Subpart
       need = store_required (context_at (read s rs) fr.at) (variable_of y.var) (part u y.part)
 
-      pub ray_unneeded : found ≡ Gone → Leaves bytes t s rs fr statement visits (answered.Went (record { visits = visits; sum = sum }) false) u rs
+      pub ray_unneeded : found ≡ None → Leaves bytes t s rs fr statement visits (answered.Went (record { visits = visits; sum = sum }) false) u rs
       ray_unneeded z =
           let none_needed : need ≡ gone = subst (Got u need) z aimed.needs in
           record {
@@ -255,7 +254,7 @@ module _ {bytes t s rs : List ℕ} {fr : declared.Frame} {row : Kinded} {sum : �
       pub ray_below : RayBelow (length (function_at (module_of bytes t) fr.function.0).expressions) x
       ray_below = as_one.below
 
-      pub ray_asks : {n : ℕ} → found ≡ There n → {w z : Walked} {r : Answered} {s1 rs1 v vs : List ℕ}
+      pub ray_asks : {n : ℕ} → found ≡ Some n → {w z : Walked} {r : Answered} {s1 rs1 v vs : List ℕ}
           → Asked bytes t u rs fr (Went (record { visits = visits; sum = sum })) (maybe_ask (module_of bytes t) fr.function.0 fr.held (option_of x.first)) layout.all_slot w s1 rs1
           → Asked bytes t s1 rs1 fr w (maybe_ask (module_of bytes t) fr.function.0 fr.held (option_of x.second)) layout.all_slot z v vs
           → r ≡ answer_of z true → Leaves bytes t s rs fr statement visits r v vs

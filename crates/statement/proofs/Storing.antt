@@ -4,10 +4,9 @@ use native.Mathlib.Omega.{arith}
 use mathlib.Core.Path.{◌≡◌, refl, sym, ap, subst, ◌∙◌}
 use mathlib.Core.Bool.{true, false}
 use mathlib.Core.List.{List}
+use Rattle.std.specs.Prelude.{Option, Some, None}
 use Rattle.part.specs.PartReq.{PartReq, exist, Subpart, gone, there}
 use Rattle.part.specs.Store.{top, part}
-use Rattle.part.specs.declared.req.Found.{Found}
-use Rattle.part.specs.declared.req.Found.TheVariants.{Gone, There}
 use Rattle.part.specs.Found.{Got}
 use Rattle.module.specs.Module.{Module, ExpressionHandle}
 use Rattle.module.specs.Tables.{module_of}
@@ -59,14 +58,14 @@ module _ {bytes t s rs : List ℕ} {fr : declared.Frame} {e : ℕ} (q : Aiming b
       let f = subst (AimIs (module_of bytes t) (frame_of s rs fr) e (context_at (read s rs) fr.at) u) h x.by in
       record { by = λ accessors value rest v. store-halts (module_of bytes t) (frame_of s rs fr) e accessors value (state_of t fr.function.0 fr.at (read s rs) rest v) (f (state_of t fr.function.0 fr.at (read s rs) rest v) refl) }
 
-  module _ {y : resolve.Target} {found : Found} (h : a ≡ aims.At y found) where
+  module _ {y : resolve.Target} {found : Option ℕ} (h : a ≡ aims.At y found) where
     pub aimed : Aimed (module_of bytes t) (frame_of s rs fr) e (context_at (read s rs) fr.at) u y found
     aimed = subst (AimIs (module_of bytes t) (frame_of s rs fr) e (context_at (read s rs) fr.at) u) h x.by
 
     same : read u rs ≡ read s rs
     same = kept_read rs x.kept q.begun.ready.memory.below
 
-    pub store_none : found ≡ Gone → Stores bytes t s rs fr e Nothing u rs
+    pub store_none : found ≡ None → Stores bytes t s rs fr e Nothing u rs
     store_none z =
         let none_needed = subst (Got u (store_required (context_at (read s rs) fr.at) (variable_of y.var) (part u y.part))) z aimed.needs in
         record {
@@ -78,7 +77,7 @@ module _ {bytes t s rs : List ℕ} {fr : declared.Frame} {e : ℕ} (q : Aiming b
           );
         }
 
-    module _ {n : ℕ} (z : found ≡ There n) where
+    module _ {n : ℕ} (z : found ≡ Some n) where
       needed : (n < top u) × (store_required (context_at (read s rs) fr.at) (variable_of y.var) (part u y.part) ≡ there (part u n))
       needed = subst (Got u (store_required (context_at (read s rs) fr.at) (variable_of y.var) (part u y.part))) z aimed.needs
 

@@ -1,10 +1,9 @@
 -- A store's target as the code finds it: the variable and its part, and what is needed of that; or a refusal.
-use Rattle.std.specs.Prelude.{◌≡◌, List, ℕ, ◌+◌, ◌<◌, ◌≤◌, length, get_or}
+use Rattle.std.specs.Prelude.{◌≡◌, List, ℕ, ◌+◌, ◌<◌, ◌≤◌, length, get_or, Option}
 use Rattle.field.specs.Limits.{max_depth, max_expressions}
 use Rattle.part.specs.PartReq.{entries}
 use Rattle.part.specs.Store.{top, part, Kept}
 use Rattle.part.specs.Found.{Got}
-use Rattle.part.specs.declared.req.Found.{Found}
 use Rattle.module.specs.Module.{Module, ExpressionHandle}
 use Rattle.module.specs.Tables.{module_of}
 use Rattle.context.specs.RequiredContext.{RequiredContext}
@@ -33,7 +32,7 @@ pub record Aiming (bytes t s rs : List ℕ) (fr : Frame) (e : ExpressionHandle) 
   pub there : e < length (function_at (module_of bytes t) fr.function.0).expressions
 
 -- the target x of e, of which `found` is needed, in the context c and the store u
-pub record Aimed (m : Module) (fr : walk.Frame) (e : ExpressionHandle) (c : RequiredContext) (u : List ℕ) (x : Target) (found : Found) : Type 0 where
+pub record Aimed (m : Module) (fr : walk.Frame) (e : ExpressionHandle) (c : RequiredContext) (u : List ℕ) (x : Target) (found : Option ℕ) : Type 0 where
   pub has : HasTarget m fr.function u x
   pub needs : Got u (store_required c (variable_of x.var) (part u x.part)) found
   pub few : entries (part u x.part) ≤ max_depth

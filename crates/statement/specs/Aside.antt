@@ -1,8 +1,6 @@
 -- What is found, put aside into a slot to be asked: the field that is asked then is absent where nothing was found.
-use Rattle.std.specs.Prelude.{Bool, not, ◌||◌, List, ℕ, eqb, length, set}
+use Rattle.std.specs.Prelude.{Bool, not, ◌||◌, List, ℕ, eqb, length, set, Option, Some, None}
 use Rattle.field.specs.Limits.{absent}
-use Rattle.part.specs.declared.req.Found.{Found}
-use Rattle.part.specs.declared.req.Found.TheVariants.{Gone, There}
 use Rattle.module.specs.Decode.{option_of}
 use Rattle.module.specs.Tables.{module_of}
 use Rattle.valid.specs.Valid.{MaybeBelow}
@@ -10,13 +8,13 @@ use Rattle.walk.specs.Resolve.{function_at}
 use Rattle.state.specs.Ready.{Ready}
 use Rattle.state.specs.declared.frame.Frame.{Frame}
 
-abbrev pub aside_field : Found → ℕ → ℕ
-aside_field Gone e = absent
-aside_field (There n) e = e
+abbrev pub aside_field : Option ℕ → ℕ → ℕ
+aside_field None e = absent
+aside_field (Some n) e = e
 
-abbrev pub aside_slots : List ℕ → ℕ → Found → List ℕ
-aside_slots rs k Gone = rs
-aside_slots rs k (There n) = set rs k n
+abbrev pub aside_slots : List ℕ → ℕ → Option ℕ → List ℕ
+aside_slots rs k None = rs
+aside_slots rs k (Some n) = set rs k n
 
 -- whether one of two fields is there
 unfoldable pub some_field : ℕ → ℕ → Bool

@@ -4,7 +4,6 @@ ghost use Rattle.statement.specs.Aim.{pieces_at, Aiming, Aims};
 
 use context::required_context::RequiredContext;
 use module::handles::ExpressionHandle;
-use part::req::Found;
 use part::store::over;
 use state::frame::Frame;
 use target::resolve::{Target, VarRefPart, resolve_var};
@@ -14,7 +13,7 @@ use target::store::store_required;
 #[derive(Clone, Copy)]
 pub enum Aim {
     Refuse(u32),
-    At(Target, Found),
+    At(Target, Option<u32>),
 }
 
 // The context in the slots from `at` on.

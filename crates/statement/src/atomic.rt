@@ -16,7 +16,6 @@ use access::kinded::{Kinded, expression_number, expression_operand};
 use memory::layout::{ASK, EXPRS, RESULT};
 use memory::want::kid;
 use module::handles::{ExpressionHandle, NO_HANDLE};
-use part::req::Found;
 use state::answer::{Answered, Place, Tally, Walked};
 use state::frame::Frame;
 
@@ -28,30 +27,35 @@ pub fn record_of(
     slots: &[u32],
     fr: Frame,
     res: ExpressionHandle,
-) -> Found
+) -> Option<u32>
     requires { Loading bytes.now t.now cells.now slots.now fr res.0 }
     ensures { Got cells.now (record_of (records_in t.now exprs_slot fr.function.0 (read cells.now slots.now)) (option_of res.0)) result }
 {
     if res.0 == NO_HANDLE {
-        return Found::Gone;
+        return None;
     }
     let f = fr.function;
     let number = expression_number(t, f, res);
     let n = slots[EXPRS + number];
     if n < 3 {
-        return Found::Gone;
+        return None;
     }
-    Found::There(kid(cells, n))
+    Some(kid(cells, n))
 }
 
 // What was found is put into the slot k. The expression e, where it is to be asked.
-fn put_aside(slots: &mut [u32], k: usize, found: Found, e: ExpressionHandle) -> ExpressionHandle
+fn put_aside(
+    slots: &mut [u32],
+    k: usize,
+    found: Option<u32>,
+    e: ExpressionHandle,
+) -> ExpressionHandle
     requires { k < length slots.old }
     ensures { (result.0 ≡ aside_field found e.0) × (slots.new ≡ aside_slots slots.old k found) }
 {
     match found {
-        Found::Gone => ExpressionHandle(NO_HANDLE),
-        Found::There(n) => {
+        None => ExpressionHandle(NO_HANDLE),
+        Some(n) => {
             slots[k] = n;
             e
         }

@@ -11,7 +11,6 @@ use crate::ask::{answer, then_maybe};
 use access::kinded::{Kinded, expression_operand, operand};
 use memory::layout::ALL;
 use module::handles::{ExpressionHandle, NO_HANDLE};
-use part::req::Found;
 use state::answer::{Answered, Place, Tally, Walked};
 use state::frame::Frame;
 
@@ -107,8 +106,8 @@ pub fn add_ray(
         }
         Aim::At(target, needed) => {
             match needed {
-                Found::Gone => Answered::Went(tally, false),
-                Found::There(p) => {
+                None => Answered::Went(tally, false),
+                Some(p) => {
                     let began = Walked::Went(tally);
                     let a = then_maybe(bytes, t, cells, slots, fr, began, x.first, ALL);
                     let b = then_maybe(bytes, t, cells, slots, fr, a, x.second, ALL);

@@ -10,7 +10,7 @@ use access::kinded::{Kinded, expression_operand};
 use memory::layout::ASK;
 use module::handles::NO_HANDLE;
 use part::limits::SPINE;
-use part::req::{Found, get};
+use part::req::get;
 use state::answer::{Answered, Tally, Walked};
 use state::frame::Frame;
 
@@ -34,17 +34,14 @@ pub fn add_return(
         return leave(slots, fr, visits, sum);
     }
     let at = fr.at;
-    let asked = get(cells, slots[at + 3], SPINE);
-    match asked {
-        Found::Gone => leave(slots, fr, visits, sum),
-        Found::There(p) => {
-            slots[ASK] = p;
-            let began = Walked::Went(Tally {
-                visits: visits,
-                sum: sum,
-            });
-            let r = then_ask(bytes, t, cells, slots, fr, began, value, ASK);
-            answer(r, true)
-        }
-    }
+    let Some(p) = get(cells, slots[at + 3], SPINE) else {
+        return leave(slots, fr, visits, sum);
+    };
+    slots[ASK] = p;
+    let began = Walked::Went(Tally {
+        visits: visits,
+        sum: sum,
+    });
+    let r = then_ask(bytes, t, cells, slots, fr, began, value, ASK);
+    answer(r, true)
 }

@@ -10,7 +10,6 @@ use context::required_context::Removed;
 use memory::layout::ASK;
 use memory::stretches::save_context;
 use module::handles::ExpressionHandle;
-use part::req::Found;
 use state::frame::Frame;
 use target::resolve::Target;
 use target::store::take_out;
@@ -72,8 +71,8 @@ pub fn store(
         Aim::Refuse(n) => Need::Refuse(n),
         Aim::At(target, needed) => {
             match needed {
-                Found::Gone => Need::Nothing,
-                Found::There(p) => take(bytes, t, types, cells, slots, fr, target, p),
+                None => Need::Nothing,
+                Some(p) => take(bytes, t, types, cells, slots, fr, target, p),
             }
         }
     }

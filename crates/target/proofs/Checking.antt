@@ -6,9 +6,8 @@ use native.Mathlib.Decide.{ℕ_discrete}
 use mathlib.Core.Path.{◌≡◌, refl, sym, ◌∙◌, subst}
 use mathlib.Core.Bool.{false}
 use mathlib.Core.List.{List}
+use Rattle.std.specs.Prelude.{Option, Some, None}
 use Rattle.part.specs.PartReq.{PartReq, all, exist, none, more, Subpart, gone, there, get_subpart, is_all, is_exist, entries}
-use Rattle.part.specs.declared.req.Found.{Found}
-use Rattle.part.specs.declared.req.Found.TheVariants.{Gone, There}
 use Rattle.part.specs.Store.{top, part, Good, Seen}
 use Rattle.part.specs.Found.{Got}
 use Rattle.part.proofs.Pieces.{part-0, part-1, part-2, not_all, not_exist}
@@ -49,13 +48,13 @@ whole_needed none h = refl
 whole_needed (more i p r) h = refl
 
 -- what an answer of `get` is
-got_is : (s : List ℕ) (p : Subpart) (f : Found) → Got s p f → subpart_of s f ≡ p
-got_is s p Gone h = sym h
-got_is s p (There n) h = sym h.1
+got_is : (s : List ℕ) (p : Subpart) (f : Option ℕ) → Got s p f → subpart_of s f ≡ p
+got_is s p None h = sym h
+got_is s p (Some n) h = sym h.1
 
-got_has : (s : List ℕ) (p : Subpart) (f : Found) → Got s p f → HasFound s f
-got_has s p Gone h = tt
-got_has s p (There n) h = h.0
+got_has : (s : List ℕ) (p : Subpart) (f : Option ℕ) → Got s p f → HasFound s f
+got_has s p None h = tt
+got_has s p (Some n) h = h.0
 
 -- of the part q the piece n is left, and p is needed of what has that part
 pub record Checking (s : List ℕ) (q whole n p : ℕ) : Type 0 where
@@ -63,52 +62,52 @@ pub record Checking (s : List ℕ) (q whole n p : ℕ) : Type 0 where
   pub right_in : p < top s
   pub is : check_part (part s n) (there (part s p)) ≡ check_part (part s q) (there (part s whole))
 
-module _ (s : List ℕ) (q : ℕ) (f : Found) where
-  pub checking_none : f ≡ Gone → check_part (part s q) (subpart_of s f) ≡ gone
+module _ (s : List ℕ) (q : ℕ) (f : Option ℕ) where
+  pub checking_none : f ≡ None → check_part (part s q) (subpart_of s f) ≡ gone
   checking_none e = rw e (check_gone (part s q))
 
-  pub checking_start : {whole : ℕ} → q < top s → HasFound s f → f ≡ There whole → Checking s q whole q whole
+  pub checking_start : {whole : ℕ} → q < top s → HasFound s f → f ≡ Some whole → Checking s q whole q whole
   checking_start l h e = record { left_in = l; right_in = subst (HasFound s) e h; is = refl }
 
-module _ {s : List ℕ} {q whole n p : ℕ} {f : Found} (e : f ≡ There whole) (a : Checking s q whole n p) where
-  answer : (r : Found) → Got s (check_part (part s n) (there (part s p))) r → Got s (check_part (part s q) (subpart_of s f)) r
+module _ {s : List ℕ} {q whole n p : ℕ} {f : Option ℕ} (e : f ≡ Some whole) (a : Checking s q whole n p) where
+  answer : (r : Option ℕ) → Got s (check_part (part s n) (there (part s p))) r → Got s (check_part (part s q) (subpart_of s f)) r
   answer r h = subst (λ (x : Subpart). Got s x r) (a.is ∙ rw e) h
 
   -- the end of the part
-  pub checked_part : 0 < n → n ≤ 2 → Got s (check_part (part s q) (subpart_of s f)) Gone
+  pub checked_part : 0 < n → n ≤ 2 → Got s (check_part (part s q) (subpart_of s f)) None
   unfolding check_part
   checked_part l h =
-      answer Gone
+      answer None
       (elim (ℕ_discrete n 1) [
         | yes k ↦ rw (k, part-1 s)
         | no k ↦ let two : n ≡ 2 = omega arith in rw (two, part-2 s)
       ])
 
-  pub checked_exist : n ≤ 0 → p ≡ 1 → Got s (check_part (part s q) (subpart_of s f)) Gone
+  pub checked_exist : n ≤ 0 → p ≡ 1 → Got s (check_part (part s q) (subpart_of s f)) None
   unfolding check_part needed
-  checked_exist l k = let z : n ≡ 0 = omega arith in answer Gone (rw (z, k, part-0 s, part-1 s))
+  checked_exist l k = let z : n ≡ 0 = omega arith in answer None (rw (z, k, part-0 s, part-1 s))
 
-  pub checked_whole : n ≤ 0 → (p ≡ 1 → ⊥) → Got s (check_part (part s q) (subpart_of s f)) (There p)
+  pub checked_whole : n ≤ 0 → (p ≡ 1 → ⊥) → Got s (check_part (part s q) (subpart_of s f)) (Some p)
   unfolding check_part
   checked_whole l k =
       let z : n ≡ 0 = omega arith in
-      answer (There p) (a.right_in, rw (z, part-0 s) (whole_needed (part s p) (not_exist s p k)))
+      answer (Some p) (a.right_in, rw (z, part-0 s) (whole_needed (part s p) (not_exist s p k)))
 
   -- an entry
   module _ {i c r : ℕ} (x : Seen s n i c r) where
-    pub checked_all : Good s → p ≡ 0 → Got s (check_part (part s q) (subpart_of s f)) (There 0)
+    pub checked_all : Good s → p ≡ 0 → Got s (check_part (part s q) (subpart_of s f)) (Some 0)
     unfolding check_part needed_at
-    checked_all g k = answer (There 0) (omega (arith, g.base), rw (k, x.is, part-0 s))
+    checked_all g k = answer (Some 0) (omega (arith, g.base), rw (k, x.is, part-0 s))
 
     down : (p ≡ 0 → ⊥) → check_part (part s n) (there (part s p)) ≡ check_part (part s c) (get_subpart (part s p) i)
     down h = rw x.is (check_entry i (part s c) (part s r) (part s p) (not_all s p h))
 
-    pub checked_gone : {g : Found} → (p ≡ 0 → ⊥) → Got s (get_subpart (part s p) i) g → g ≡ Gone → Got s (check_part (part s q) (subpart_of s f)) Gone
-    checked_gone {g} h d k = answer Gone (down h ∙ rw (subst (λ (y : Found). Got s (get_subpart (part s p) i) y) k d) (check_gone (part s c)))
+    pub checked_gone : {g : Option ℕ} → (p ≡ 0 → ⊥) → Got s (get_subpart (part s p) i) g → g ≡ None → Got s (check_part (part s q) (subpart_of s f)) None
+    checked_gone {g} h d k = answer None (down h ∙ rw (subst (λ (y : Option ℕ). Got s (get_subpart (part s p) i) y) k d) (check_gone (part s c)))
 
-    pub checking_next : {g : Found} {b : ℕ} → (p ≡ 0 → ⊥) → Got s (get_subpart (part s p) i) g → g ≡ There b → Checking s q whole c b
+    pub checking_next : {g : Option ℕ} {b : ℕ} → (p ≡ 0 → ⊥) → Got s (get_subpart (part s p) i) g → g ≡ Some b → Checking s q whole c b
     checking_next {g} h d k =
-        let there_is = subst (λ (y : Found). Got s (get_subpart (part s p) i) y) k d in
+        let there_is = subst (λ (y : Option ℕ). Got s (get_subpart (part s p) i) y) k d in
         record { left_in = omega (arith, x.child_low, a.left_in); right_in = there_is.0; is = rw (← there_is.1) (sym (down h)) ∙ a.is }
 
 -- `store_required` is `check_part` of what is needed of the variable
@@ -117,11 +116,11 @@ unfolding store_required
 store_is c (Global g) q = refl
 store_is c (Local l) q = refl
 
-module _ (s : List ℕ) (c : Pieces) (x : Target) (g : Found) (h : Got s (required (context_of s c) (variable_of x.var)) g) where
+module _ (s : List ℕ) (c : Pieces) (x : Target) (g : Option ℕ) (h : Got s (required (context_of s c) (variable_of x.var)) g) where
   pub store_asks : Good s → x.part < top s → Good s × ((x.part < top s) × HasFound s g)
   store_asks good l = (good, (l, got_has s _ g h))
 
-  pub store_checks : (r : Found) → Got s (check_part (part s x.part) (subpart_of s g)) r → Got s (store_required (context_of s c) (variable_of x.var) (part s x.part)) r
+  pub store_checks : (r : Option ℕ) → Got s (check_part (part s x.part) (subpart_of s g)) r → Got s (store_required (context_of s c) (variable_of x.var) (part s x.part)) r
   store_checks r = subst (λ (p : Subpart). Got s p r) (rw (got_is s _ g h) (sym (store_is (context_of s c) (variable_of x.var) (part s x.part))))
 
 -- what is needed of a target of the context c
@@ -129,7 +128,7 @@ pub record FineNeed (c : RequiredContext) (p : PartReq) : Type 0 where
   pub fine : Fine p
   pub few : entries p ≤ pieces c
 
-pub need_fine : (m : Module) → Sound m → (f : FunctionHandle) (c : RequiredContext) (var : VarRef) (q : PartReq) (s : List ℕ) (n : ℕ) → FineContext m f c → Got s (store_required c var q) (There n) → FineNeed c (part s n)
+pub need_fine : (m : Module) → Sound m → (f : FunctionHandle) (c : RequiredContext) (var : VarRef) (q : PartReq) (s : List ℕ) (n : ℕ) → FineContext m f c → Got s (store_required c var q) (Some n) → FineNeed c (part s n)
 need_fine m sound f c var q s n h g =
     record {
       fine = asked_fine m sound 0 (part s n) (subst (Needs (proper m sound 0).Asked) g.1 ((proper m sound 0).store_need f c var q (fine_context m sound 0 f c h)));

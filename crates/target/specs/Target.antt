@@ -1,9 +1,7 @@
 -- A store's target in code: a variable of the module, and the piece of its part.
-use Rattle.std.specs.Prelude.{ℕ, ◌+◌, ◌<◌, ◌≤◌, ◌≡◌, Bool, false, cond, ◌||◌, List, [], eqb, length}
+use Rattle.std.specs.Prelude.{ℕ, ◌+◌, ◌<◌, ◌≤◌, ◌≡◌, Bool, false, cond, ◌||◌, List, [], eqb, length, Option, Some, None}
 use Rattle.field.specs.Limits.{max_depth, max_expressions}
 use Rattle.part.specs.PartReq.{PartReq, all, none, more, Subpart, gone, there, entries, over, spine}
-use Rattle.part.specs.declared.req.Found.{Found}
-use Rattle.part.specs.declared.req.Found.TheVariants.{Gone, There}
 use Rattle.part.specs.Store.{top, part, Kept}
 use Rattle.module.specs.Module.{FunctionHandle, ExpressionHandle, Module}
 use Rattle.context.specs.RequiredContext.{VarRef, Global, Local, handle}
@@ -51,10 +49,10 @@ pub record Resolves (m : Module) (f : FunctionHandle) (e : ExpressionHandle) (s 
   pub cost : top t ≤ top s + max_expressions
 
 -- the subpart that an answer of `get` is, in the store s
-abbrev pub subpart_of : List ℕ → Found → Subpart
-subpart_of s Gone = gone
-subpart_of s (There n) = there (part s n)
+abbrev pub subpart_of : List ℕ → Option ℕ → Subpart
+subpart_of s None = gone
+subpart_of s (Some n) = there (part s n)
 
-abbrev pub HasFound : List ℕ → Found → Type 0
-HasFound s Gone = Unit {0}
-HasFound s (There n) = n < top s
+abbrev pub HasFound : List ℕ → Option ℕ → Type 0
+HasFound s None = Unit {0}
+HasFound s (Some n) = n < top s

@@ -16,42 +16,37 @@ use access::function::local;
 use access::whole::global;
 use context::required_context::{Removed, RequiredContext, VarRef};
 use module::handles::{FunctionHandle, TypeHandle};
-use part::req::{Found, get};
+use part::req::get;
 use part::store::look;
 
 // `check_part`: what is needed of the part q, where required is needed of the whole. A path has one entry on each level.
-pub fn check_part(cells: &[u32], q: u32, required: Found) -> Found
+pub fn check_part(cells: &[u32], q: u32, required: Option<u32>) -> Option<u32>
     requires good { Good cells.now }
     requires q_bound { (q < top cells.now) × HasFound cells.now required }
     ensures { Got cells.now (check_part (part cells.now q) (subpart_of cells.now required)) result }
 {
-    let Found::There(whole) = required else {
-        return Found::Gone;
-    };
+    let whole = required?;
     let mut n = q;
     let mut p = whole;
     while 2 < n {
         let x = look(cells, n);
         if p == 0 {
-            return Found::There(0);
+            return Some(0);
         }
-        let Found::There(below) = get(cells, p, x.index) else {
-            return Found::Gone;
-        };
-        p = below;
+        p = get(cells, p, x.index)?;
         n = x.child;
     }
     if 0 < n {
-        return Found::Gone;
+        return None;
     }
     if p == 1 {
-        return Found::Gone;
+        return None;
     }
-    Found::There(p)
+    Some(p)
 }
 
 // `store_required`
-pub fn store_required(cells: &[u32], c: RequiredContext, target: Target) -> Found
+pub fn store_required(cells: &[u32], c: RequiredContext, target: Target) -> Option<u32>
     requires good { Good cells.now }
     requires has_context { HasContext cells.now c }
     requires part_bound { (target.part < top cells.now) × (handle (variable_of target.var) < spine) }

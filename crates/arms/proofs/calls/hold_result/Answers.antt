@@ -2,5 +2,5 @@
 use Rattle.arms.proofs.CallReturns.{result-held}
 use Rattle.arms.proofs.calls.hold_result.Goals as goal
 
-pub returns-in-There : goal.returns-in-There
-returns-in-There c = result-held _ c.in-There.is
+pub returns-in-Some : goal.returns-in-Some
+returns-in-Some c = result-held _ c.in-Some.is

@@ -19,18 +19,18 @@ bounds-slots-2 c = omega (arith, (argue_get 0 0 c.in-Went.is c.requires.passable
 
 pub then_ask-requires : goal.then_ask-requires
 then_ask-requires c =
-    record { fact = argue_begins 0 c.args.i c.in-Went.is c.requires.passable (got_there c.args.cells.now _ c.in-There.is c.get-needed.ensures); e_in_bounds = (c.requires.e_in_bounds, omega arith) }
+    record { fact = argue_begins 0 c.args.i c.in-Went.is c.requires.passable (got_there c.args.cells.now _ c.in-Some.is c.get-needed.ensures); e_in_bounds = (c.requires.e_in_bounds, omega arith) }
 
-pub returns-in-Gone : goal.returns-in-Gone
-returns-in-Gone c =
-    argue_none _ _ c.in-Went.is c.requires.passable (got_gone c.args.cells.now _ c.in-Gone.is c.get-needed.ensures)
+pub returns-in-None : goal.returns-in-None
+returns-in-None c =
+    argue_none _ _ c.in-Went.is c.requires.passable (got_gone c.args.cells.now _ c.in-None.is c.get-needed.ensures)
 
 pub shape_of-slots : goal.shape_of-slots
-shape_of-slots c = c.then_ask.auto.slots ∙ length-set c.args.slots.now 2 c.in-There.p
+shape_of-slots c = c.then_ask.auto.slots ∙ length-set c.args.slots.now 2 c.in-Some.p
 
-pub returns-in-There : goal.returns-in-There
-returns-in-There c =
-    argue_there _ _ c.in-Went.is c.requires.passable (got_there c.args.cells.now _ c.in-There.is c.get-needed.ensures) c.then_ask.ensures
+pub returns-in-Some : goal.returns-in-Some
+returns-in-Some c =
+    argue_there _ _ c.in-Went.is c.requires.passable (got_there c.args.cells.now _ c.in-Some.is c.get-needed.ensures) c.then_ask.ensures
 
 pub returns-in-Halt : goal.returns-in-Halt
 returns-in-Halt c = argue_halt _ _ c.in-Halt.is

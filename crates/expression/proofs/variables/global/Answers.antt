@@ -13,16 +13,16 @@ get-seen-requires c =
 pub ask_global-r-requires : goal.ask_global-r-requires
 ask_global-r-requires c = visit_totalling c.requires.visiting _ c.requires.g_lt_spine
 
-pub bounds-slots-at-in-Gone : goal.bounds-slots-at-in-Gone
-bounds-slots-at-in-Gone c =
-    first_store c.requires.visiting _ c.requires.g_lt_spine c.ask_global-r.ensures (got_gone c.args.cells.now _ c.in-Gone.is c.get-seen.ensures)
+pub bounds-slots-at-in-None : goal.bounds-slots-at-in-None
+bounds-slots-at-in-None c =
+    first_store c.requires.visiting _ c.requires.g_lt_spine c.ask_global-r.ensures (got_gone c.args.cells.now _ c.in-None.is c.get-seen.ensures)
 
 pub close-requires : goal.close-requires
 close-requires c =
-    first_closing c.requires.visiting _ c.requires.g_lt_spine c.ask_global-r.ensures (got_gone c.args.cells.now _ c.in-Gone.is c.get-seen.ensures)
+    first_closing c.requires.visiting _ c.requires.g_lt_spine c.ask_global-r.ensures (got_gone c.args.cells.now _ c.in-None.is c.get-seen.ensures)
 
-pub bounds-slots-86-in-There : goal.bounds-slots-86-in-There
-bounds-slots-86-in-There c = (global_over c.requires.visiting _ c.requires.g_lt_spine c.ask_global-r.ensures).1.0
+pub bounds-slots-86-in-Some : goal.bounds-slots-86-in-Some
+bounds-slots-86-in-Some c = (global_over c.requires.visiting _ c.requires.g_lt_spine c.ask_global-r.ensures).1.0
 
 pub over-requires : goal.over-requires
 over-requires c =
@@ -31,20 +31,20 @@ over-requires c =
 
 pub returns-then-over : goal.returns-then-over
 returns-then-over c =
-    λ bytes r. later_15 c.requires.visiting _ c.requires.g_lt_spine c.ask_global-r.ensures (got_there c.args.cells.now _ c.in-There.is c.get-seen.ensures).1 _ c.over.ensures c.if-over.true refl refl
+    λ bytes r. later_15 c.requires.visiting _ c.requires.g_lt_spine c.ask_global-r.ensures (got_there c.args.cells.now _ c.in-Some.is c.get-seen.ensures).1 _ c.over.ensures c.if-over.true refl refl
 
-pub close-requires-in-There : goal.close-requires-in-There
-close-requires-in-There c =
-    later_closing c.requires.visiting _ c.requires.g_lt_spine c.ask_global-r.ensures (got_there c.args.cells.now _ c.in-There.is c.get-seen.ensures).1
+pub close-requires-in-Some : goal.close-requires-in-Some
+close-requires-in-Some c =
+    later_closing c.requires.visiting _ c.requires.g_lt_spine c.ask_global-r.ensures (got_there c.args.cells.now _ c.in-Some.is c.get-seen.ensures).1
 
-pub shape_of-slots-in-Gone : goal.shape_of-slots-in-Gone
-shape_of-slots-in-Gone c =
+pub shape_of-slots-in-None : goal.shape_of-slots-in-None
+shape_of-slots-in-None c =
     c.close.auto.slots ∙ length-set c.ask_global-r.new.slots c.args.at c.ask_global-r.result.globals ∙ c.ask_global-r.auto.slots
 
-pub returns-in-Gone : goal.returns-in-Gone
-returns-in-Gone c =
-    λ bytes r. first_ends c.requires.visiting _ c.requires.g_lt_spine c.ask_global-r.ensures (got_gone c.args.cells.now _ c.in-Gone.is c.get-seen.ensures) _ r c.close.ensures
+pub returns-in-None : goal.returns-in-None
+returns-in-None c =
+    λ bytes r. first_ends c.requires.visiting _ c.requires.g_lt_spine c.ask_global-r.ensures (got_gone c.args.cells.now _ c.in-None.is c.get-seen.ensures) _ r c.close.ensures
 
 pub returns-else-over : goal.returns-else-over
 returns-else-over c =
-    λ bytes r. later_ends c.requires.visiting _ c.requires.g_lt_spine c.ask_global-r.ensures (got_there c.args.cells.now _ c.in-There.is c.get-seen.ensures).1 _ c.over.ensures c.if-over.false r c.close-in-There.ensures
+    λ bytes r. later_ends c.requires.visiting _ c.requires.g_lt_spine c.ask_global-r.ensures (got_there c.args.cells.now _ c.in-Some.is c.get-seen.ensures).1 _ c.over.ensures c.if-over.false r c.close-in-Some.ensures

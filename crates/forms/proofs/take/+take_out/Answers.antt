@@ -30,13 +30,13 @@ returns-in_default t c =
 
 pub take_out-d-requires : goal.take_out-d-requires
 take_out-d-requires t c =
-    out_call _ _ _ (c.requires.good, (c.requires.lower, (c.requires.p_bound, c.requires.at_in_bounds))) c.if-path-at.false refl c.is_whole.ensures c.if-is_whole.false c.if-p-eq0.false _ c.member_form-m.ensures c.get.result c.in-There.is c.get.ensures c.decreases
+    out_call _ _ _ (c.requires.good, (c.requires.lower, (c.requires.p_bound, c.requires.at_in_bounds))) c.if-path-at.false refl c.is_whole.ensures c.if-is_whole.false c.if-p-eq0.false _ c.member_form-m.ensures c.get.result c.in-Some.is c.get.ensures c.decreases
 
 pub change_entry-requires : goal.change_entry-requires
 change_entry-requires t c =
-    let q9 = entry-asks _ _ _ (c.requires.good, (c.requires.lower, (c.requires.p_bound, c.requires.at_in_bounds))) c.if-path-at.false refl c.is_whole.ensures c.if-is_whole.false c.if-p-eq0.false _ c.member_form-m.ensures c.get.result c.in-There.is c.get.ensures c.take_out-d.ensures in
+    let q9 = entry-asks _ _ _ (c.requires.good, (c.requires.lower, (c.requires.p_bound, c.requires.at_in_bounds))) c.if-path-at.false refl c.is_whole.ensures c.if-is_whole.false c.if-p-eq0.false _ c.member_form-m.ensures c.get.result c.in-Some.is c.get.ensures c.take_out-d.ensures in
     record { good = q9.0; p_bound = q9.1.0; room = q9.1.1 }
 
 pub returns : goal.returns
 returns t c =
-    out_left _ _ _ (c.requires.good, (c.requires.lower, (c.requires.p_bound, c.requires.at_in_bounds))) c.if-path-at.false refl c.is_whole.ensures c.if-is_whole.false c.if-p-eq0.false _ c.member_form-m.ensures c.get.result c.in-There.is c.get.ensures c.take_out-d.ensures c.change_entry.ensures
+    out_left _ _ _ (c.requires.good, (c.requires.lower, (c.requires.p_bound, c.requires.at_in_bounds))) c.if-path-at.false refl c.is_whole.ensures c.if-is_whole.false c.if-p-eq0.false _ c.member_form-m.ensures c.get.result c.in-Some.is c.get.ensures c.take_out-d.ensures c.change_entry.ensures

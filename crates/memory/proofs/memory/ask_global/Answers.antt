@@ -24,39 +24,39 @@ get-f-requires c =
     let q9 = global_get c.requires c.piece-p.ensures in
     record { good = q9.0; a_bound = q9.1 }
 
-pub overflow_add-g-in-Gone : goal.overflow_add-g-in-Gone
-overflow_add-g-in-Gone c = omega (arith, c.requires.joining.index)
+pub overflow_add-g-in-None : goal.overflow_add-g-in-None
+overflow_add-g-in-None c = omega (arith, c.requires.joining.index)
 
 pub insert-d-requires : goal.insert-d-requires
 insert-d-requires c =
-    let q9 = first_insert c.requires c.piece-p.ensures c.get-f.ensures c.in-Gone.is in
+    let q9 = first_insert c.requires c.piece-p.ensures c.get-f.ensures c.in-None.is in
     record { good = q9.0; m_bound = q9.1.0; room = q9.1.1 }
 
-pub overflow_add-g-in-Gone-2 : goal.overflow_add-g-in-Gone-2
-overflow_add-g-in-Gone-2 c = omega (arith, c.requires.joining.index)
+pub overflow_add-g-in-None-2 : goal.overflow_add-g-in-None-2
+overflow_add-g-in-None-2 c = omega (arith, c.requires.joining.index)
 
 pub insert-t-requires : goal.insert-t-requires
 insert-t-requires c =
-    let q9 = first_total c.requires c.piece-p.ensures c.get-f.ensures c.in-Gone.is c.insert-d.ensures in
+    let q9 = first_total c.requires c.piece-p.ensures c.get-f.ensures c.in-None.is c.insert-d.ensures in
     record { good = q9.0; m_bound = q9.1.0; room = q9.1.1 }
 
 pub put-m-requires : goal.put-m-requires
 put-m-requires c =
-    first_put c.requires c.piece-p.ensures c.get-f.ensures c.in-Gone.is c.insert-d.ensures c.insert-t.ensures
+    first_put c.requires c.piece-p.ensures c.get-f.ensures c.in-None.is c.insert-d.ensures c.insert-t.ensures
 
 pub join_entry-t-requires : goal.join_entry-t-requires
 join_entry-t-requires c =
-    let q9 = later_join c.requires c.piece-p.ensures c.get-f.ensures c.in-There.is in
+    let q9 = later_join c.requires c.piece-p.ensures c.get-f.ensures c.in-Some.is in
     record { good = q9.0; n_bound = q9.1.0; room = q9.1.1 }
 
-pub put-m-requires-in-There : goal.put-m-requires-in-There
-put-m-requires-in-There c =
-    later_put c.requires c.piece-p.ensures c.get-f.ensures c.in-There.is c.join_entry-t.ensures
+pub put-m-requires-in-Some : goal.put-m-requires-in-Some
+put-m-requires-in-Some c =
+    later_put c.requires c.piece-p.ensures c.get-f.ensures c.in-Some.is c.join_entry-t.ensures
 
-pub returns-in-Gone : goal.returns-in-Gone
-returns-in-Gone c =
-    first_totalled c.requires c.piece-p.ensures c.get-f.ensures c.in-Gone.is c.insert-d.ensures c.insert-t.ensures c.put-m.ensures
+pub returns-in-None : goal.returns-in-None
+returns-in-None c =
+    first_totalled c.requires c.piece-p.ensures c.get-f.ensures c.in-None.is c.insert-d.ensures c.insert-t.ensures c.put-m.ensures
 
-pub returns-in-There : goal.returns-in-There
-returns-in-There c =
-    later_totalled c.requires c.piece-p.ensures c.get-f.ensures c.in-There.is c.join_entry-t.ensures c.put-m-in-There.ensures
+pub returns-in-Some : goal.returns-in-Some
+returns-in-Some c =
+    later_totalled c.requires c.piece-p.ensures c.get-f.ensures c.in-Some.is c.join_entry-t.ensures c.put-m-in-Some.ensures

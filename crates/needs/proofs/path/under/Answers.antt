@@ -1,4 +1,4 @@
--- `needs::path::under` meets its contract. The path from k on is around a (`Around`); the measure is k.
+-- `needs::path::under` meets its contract. The path from k on is around a (`Around`).
 use mathlib.Core.Path.{refl}
 use Rattle.needs.proofs.Steps.{around_start, around_more, around_end}
 use native.Mathlib.Omega.{arith}

@@ -15,26 +15,26 @@ mark_roots-requires c =
 
 pub mark_down-requires : goal.mark_down-requires
 mark_down-requires c =
-    down_asked c.args.roots.now (formed c.requires.good) c.requires.below c.clear.ensures c.mark_roots.ensures
+    down_asked c.args.roots.now (formed c.requires.good) c.requires.below c.clear.ensures c.mark_roots.ensures.rooted
 
 pub slide-used-requires : goal.slide-used-requires
 slide-used-requires c =
-    let q9 = slide_asks c.args.roots.now (formed c.requires.good) c.requires.below c.clear.ensures c.mark_roots.ensures c.mark_down.ensures in
+    let q9 = slide_asks c.args.roots.now (formed c.requires.good) c.requires.below c.clear.ensures c.mark_roots.ensures.rooted c.mark_down.ensures.marking in
     record { formed = q9.0; closed = q9.1 }
 
 pub turn-requires : goal.turn-requires
 turn-requires c =
-    turn_asked c.args.roots.now (formed c.requires.good) c.requires.below c.clear.ensures c.mark_roots.ensures c.mark_down.ensures c.slide-used.ensures
+    turn_asked c.args.roots.now (formed c.requires.good) c.requires.below c.clear.ensures c.mark_roots.ensures.rooted c.mark_down.ensures.marking c.slide-used.ensures
 
 pub rebuild-requires : goal.rebuild-requires
 rebuild-requires c =
-    let q9 = rebuild_asked c.args.roots.now (formed c.requires.good) c.requires.below c.clear.ensures c.mark_roots.ensures c.mark_down.ensures c.slide-used.ensures c.turn.ensures (distinct_in c.requires.good.unique) in
+    let q9 = rebuild_asked c.args.roots.now (formed c.requires.good) c.requires.below c.clear.ensures c.mark_roots.ensures.rooted c.mark_down.ensures.marking c.slide-used.ensures c.turn.ensures (distinct_in c.requires.good.unique) in
     record { formed = q9.0; distinct = q9.1 }
 
 pub shape_of-cells : goal.shape_of-cells
 shape_of-cells c =
-    c.rebuild.ensures.long ∙ collect_long c.args.roots.now (formed c.requires.good) c.requires.below c.clear.ensures c.mark_roots.ensures c.mark_down.ensures c.slide-used.ensures
+    c.rebuild.ensures.long ∙ collect_long c.args.roots.now (formed c.requires.good) c.requires.below c.clear.ensures c.mark_roots.ensures.rooted c.mark_down.ensures.marking c.slide-used.ensures
 
 pub returns : goal.returns
 returns c =
-    collected c.args.roots.now (formed c.requires.good) c.requires.below c.clear.ensures c.mark_roots.ensures c.mark_down.ensures c.slide-used.ensures c.turn.ensures c.rebuild.ensures
+    collected c.args.roots.now (formed c.requires.good) c.requires.below c.clear.ensures c.mark_roots.ensures.rooted c.mark_down.ensures.marking c.slide-used.ensures c.turn.ensures c.rebuild.ensures

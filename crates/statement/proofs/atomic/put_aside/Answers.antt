@@ -2,5 +2,5 @@
 use Rattle.statement.proofs.Loading.{aside_there}
 use Rattle.statement.proofs.atomic.put_aside.Goals as goal
 
-pub returns-in-There : goal.returns-in-There
-returns-in-There c = aside_there _ _ _ c.in-There.is
+pub returns-in-Some : goal.returns-in-Some
+returns-in-Some c = aside_there _ _ _ c.in-Some.is

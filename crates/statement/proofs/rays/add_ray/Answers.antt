@@ -18,10 +18,10 @@ pub returns-in-Refuse : goal.returns-in-Refuse
 returns-in-Refuse c =
     ray_refuses c.requires.arm c.requires.ray_kind _ c.ray_fields-x.ensures c.target_of-aimed.ensures c.in-Refuse.is
 
-pub returns-in-Gone : goal.returns-in-Gone
-returns-in-Gone c =
-    ray_unneeded c.requires.arm c.requires.ray_kind _ c.ray_fields-x.ensures c.target_of-aimed.ensures c.in-At.is c.in-Gone.is
+pub returns-in-None : goal.returns-in-None
+returns-in-None c =
+    ray_unneeded c.requires.arm c.requires.ray_kind _ c.ray_fields-x.ensures c.target_of-aimed.ensures c.in-At.is c.in-None.is
 
-pub returns-in-There : goal.returns-in-There
-returns-in-There c =
-    ray_asks c.requires.arm c.requires.ray_kind _ c.ray_fields-x.ensures c.target_of-aimed.ensures c.in-At.is c.in-There.is c.then_maybe-a.ensures c.then_maybe-b.ensures c.answer.ensures
+pub returns-in-Some : goal.returns-in-Some
+returns-in-Some c =
+    ray_asks c.requires.arm c.requires.ray_kind _ c.ray_fields-x.ensures c.target_of-aimed.ensures c.in-At.is c.in-Some.is c.then_maybe-a.ensures c.then_maybe-b.ensures c.answer.ensures

@@ -1,7 +1,7 @@
 -- `raise` meets its contract.
-use Rattle.part.proofs.Exactly.{raise_stays, raise_sets}
+use Rattle.part.proofs.Marks.{raise_stays, raise_sets}
 use native.Mathlib.Omega.{arith}
-use Rattle.part.proofs.exact.raise.Goals as goal
+use Rattle.part.proofs.marking.raise.Goals as goal
 
 pub word-requires : goal.word-requires
 word-requires c = (omega (arith, c.requires.formed.room), omega arith)
