@@ -1,24 +1,22 @@
 -- Contexts as four pieces: what each method finds and makes, map by map, and what a taking out leaves.
 use Prim.Native.Nat.{ℕ, ◌+◌, ◌*◌, ◌<◌, ◌≤◌}
 use native.Mathlib.Omega.{arith}
-use mathlib.Core.Path.{◌≡◌, ap, ◌∙◌}
+use mathlib.Core.Path.{◌≡◌, refl, ap, ◌∙◌}
 use mathlib.Core.List.{List}
 use mathlib.Core.Option.{some}
-use Rattle.part.specs.PartReq.{PartReq, add, entries}
+use Rattle.part.specs.PartReq.{PartReq, get_subpart, add, entries}
 use Rattle.part.specs.Store.{top, part, Good, Kept, Room, Made}
 use Rattle.part.proofs.Making.{kept_trans}
 use Rattle.module.specs.Module.{TypeHandle, TypeInner}
 use Rattle.context.specs.Types.{AllSized, split_most}
 use Rattle.context.specs.Remove.{Removed, left, panic, remove}
 use Rattle.context.specs.Reduced.{Took, remove_room}
-use Rattle.context.specs.RequiredContext.{RequiredContext, merge_context, pieces, variable, VarRef, Global, Local, alter, RemovedContext, left_context, with_globals, with_locals, remove_typed}
-use Rattle.context.specs.Contexts.{context_of, HasContext, MadeContext, variable_of, TookContext, take_room}
+use Rattle.context.specs.RequiredContext.{RequiredContext, merge_context, pieces, variable, VarRef, Global, Local, handle, required, alter, RemovedContext, left_context, with_globals, with_locals, remove_typed}
+use Rattle.context.specs.Contexts.{context_of, HasContext, MadeContext, variable_of, map_of, TookContext, take_room}
 use Rattle.context.specs.declared.required_context.RequiredContext.{RequiredContext as Pieces}
 use Rattle.context.specs.declared.required_context.VarRef.{VarRef as Variable}
 use Rattle.context.specs.declared.required_context.VarRef.TheVariants as variables
-use Rattle.context.specs.declared.required_context.Removed.TheVariants as answers
-use Rattle.context.specs.declared.remove.Reduced.{Reduced}
-use Rattle.context.specs.declared.remove.Reduced.TheVariants.{Left, Panic}
+use Rattle.std.specs.Prelude.{Option as Maybe, Some, None}
 use Rattle.context.proofs.Types.{sized_splits}
 use Rattle.context.proofs.Cycle.{took_left, took_panic, entries-kept, RemoveAsked}
 use Rattle.context.proofs.Removal.{left-of, entries-removed}
@@ -107,28 +105,37 @@ module _ {s : List ℕ} {c d : Pieces} (G : Good s) (H : HasContext s c × HasCo
 abbrev taken : List ℕ → List TypeInner → TypeHandle → (q : ℕ) → Pieces → Variable → RemovedContext
 taken s types ty q c v = remove_typed types (context_of s c) (variable_of v) ty (part s q)
 
-abbrev Taking : List ℕ → List ℕ → List TypeInner → TypeHandle → (q i m : ℕ) → Reduced → Type 0
-Taking s t types ty q i m r = Took s t (alter (variable i) (λ p. remove types p (part s q) (some ty)) (part s m)) (remove_room (part s m) (part s q)) r
+abbrev Taking : List ℕ → List ℕ → List TypeInner → TypeHandle → ℕ → Pieces → Variable → Maybe ℕ → Type 0
+Taking s t types ty q c v r = Took s t (alter (variable (handle (variable_of v))) (λ p. remove types p (part s q) (some ty)) (part s (map_of c v))) (remove_room (part s (map_of c v)) (part s q)) r
 
-module _ {s : List ℕ} {types : List TypeInner} {q : ℕ} {c : Pieces} (G : Good s) (S : AllSized types) (H : HasContext s c) (l : q < top s)
-    (R : Room s (take_room (context_of s c) (part s q))) where
-  pub take_globals : RemoveAsked s types c.globals q
-  unfolding pieces
-  take_globals = (G, (S, ((H.globals, l), omega arith)))
+-- the map of a variable is there, and has what is needed of it
+pub map_there : {s : List ℕ} {c : Pieces} → HasContext s c → (v : Variable) → map_of c v < top s
+map_there H (variables.Global g) = H.globals
+map_there H (variables.Local l) = H.locals
 
-  pub take_locals : RemoveAsked s types c.locals q
-  unfolding pieces
-  take_locals = (G, (S, ((H.locals, l), omega arith)))
+pub map_has : (s : List ℕ) (c : Pieces) (v : Variable) → get_subpart (part s (map_of c v)) (variable (handle (variable_of v))) ≡ required (context_of s c) (variable_of v)
+map_has s c (variables.Global g) = refl
+map_has s c (variables.Local l) = refl
 
-module _ {s t : List ℕ} (types : List TypeInner) (ty : TypeHandle) (q : ℕ) {c : Pieces} (H : HasContext s c) {v : Variable} {r : Reduced} where
-  module _ {g : _} (e : v ≡ variables.Global g) (w : Taking s t types ty q g.0 c.globals r) where
-    pub globals_panic : r ≡ Panic → TookContext s t (taken s types ty q c v) (take_room (context_of s c) (part s q)) answers.Panic
+map_few : (s : List ℕ) (c : Pieces) (v : Variable) → entries (part s (map_of c v)) ≤ pieces (context_of s c)
+unfolding pieces
+map_few s c (variables.Global g) = omega arith
+map_few s c (variables.Local l) = omega arith
+
+pub map_asks : {s : List ℕ} {types : List TypeInner} {q : ℕ} {c : Pieces} (v : Variable) → Good s → AllSized types → HasContext s c → q < top s
+    → Room s (take_room (context_of s c) (part s q)) → RemoveAsked s types (map_of c v) q
+map_asks {s} {c = c} v G S H l R = (G, (S, ((map_there H v, l), omega (arith, map_few s c v))))
+
+module _ {s t : List ℕ} (types : List TypeInner) (ty : TypeHandle) (q : ℕ) {c : Pieces} (H : HasContext s c) {r : Maybe ℕ} where
+  pub map_panics : (v : Variable) → Taking s t types ty q c v r → r ≡ None → TookContext s t (taken s types ty q c v) (take_room (context_of s c) (part s q)) None
+  unfolding pieces with_globals with_locals
+  map_panics (variables.Global g) w f = record { kept = w.kept; has = tt; is = rw (← took_panic w f); cost = omega (arith, w.cost) }
+  map_panics (variables.Local l) w f = record { kept = w.kept; has = tt; is = rw (← took_panic w f); cost = omega (arith, w.cost) }
+
+  module _ {v : Variable} (w : Taking s t types ty q c v r) {n : ℕ} (f : r ≡ Some n) where
+    pub globals_left : {g : _} → v ≡ variables.Global g → TookContext s t (taken s types ty q c v) (take_room (context_of s c) (part s q)) (Some (record { globals = n; locals = c.locals; args = c.args; retval = c.retval }))
     unfolding pieces with_globals
-    globals_panic f = record { kept = w.kept; has = tt; is = rw (e, ← took_panic w f); cost = omega (arith, w.cost) }
-
-    pub globals_left : {n : ℕ} → r ≡ Left n → TookContext s t (taken s types ty q c v) (take_room (context_of s c) (part s q)) (answers.Left (record { globals = n; locals = c.locals; args = c.args; retval = c.retval }))
-    unfolding pieces with_globals
-    globals_left f = record {
+    globals_left e = record {
       kept = w.kept;
       has = record {
         globals = (took_left w f).0;
@@ -136,18 +143,13 @@ module _ {s t : List ℕ} (types : List TypeInner) (ty : TypeHandle) (q : ℕ) {
         args = omega (arith, H.args, w.kept.tops);
         retval = omega (arith, H.retval, w.kept.tops);
       };
-      is = rw (e, ← (took_left w f).1, w.kept.same c.locals H.locals, w.kept.same c.args H.args, w.kept.same c.retval H.retval);
-      cost = omega (arith, w.cost);
+      is = let l = rw e at (took_left w f).1 in rw (e, ← l, w.kept.same c.locals H.locals, w.kept.same c.args H.args, w.kept.same c.retval H.retval);
+      cost = omega (arith, w.cost, map_few s c v);
     }
 
-  module _ {g : _} (e : v ≡ variables.Local g) (w : Taking s t types ty q g.0 c.locals r) where
-    pub locals_panic : r ≡ Panic → TookContext s t (taken s types ty q c v) (take_room (context_of s c) (part s q)) answers.Panic
+    pub locals_left : {g : _} → v ≡ variables.Local g → TookContext s t (taken s types ty q c v) (take_room (context_of s c) (part s q)) (Some (record { globals = c.globals; locals = n; args = c.args; retval = c.retval }))
     unfolding pieces with_locals
-    locals_panic f = record { kept = w.kept; has = tt; is = rw (e, ← took_panic w f); cost = omega (arith, w.cost) }
-
-    pub locals-left : {n : ℕ} → r ≡ Left n → TookContext s t (taken s types ty q c v) (take_room (context_of s c) (part s q)) (answers.Left (record { globals = c.globals; locals = n; args = c.args; retval = c.retval }))
-    unfolding pieces with_locals
-    locals-left f = record {
+    locals_left e = record {
       kept = w.kept;
       has = record {
         globals = omega (arith, H.globals, w.kept.tops);
@@ -155,8 +157,8 @@ module _ {s t : List ℕ} (types : List TypeInner) (ty : TypeHandle) (q : ℕ) {
         args = omega (arith, H.args, w.kept.tops);
         retval = omega (arith, H.retval, w.kept.tops);
       };
-      is = rw (e, ← (took_left w f).1, w.kept.same c.globals H.globals, w.kept.same c.args H.args, w.kept.same c.retval H.retval);
-      cost = omega (arith, w.cost);
+      is = let l = rw e at (took_left w f).1 in rw (e, ← l, w.kept.same c.globals H.globals, w.kept.same c.args H.args, w.kept.same c.retval H.retval);
+      cost = omega (arith, w.cost, map_few s c v);
     }
 
 -- What is left of a context: what 16 counts grows by the parts of one type at most, for each part that is taken out.

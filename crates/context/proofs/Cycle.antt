@@ -13,14 +13,11 @@ use Rattle.part.proofs.Equations.{never}
 use Rattle.part.proofs.Making.{kept_trans, RemakeAsked}
 use Rattle.part.proofs.Write.{kept_self, holds_on}
 use Rattle.module.specs.Module.{TypeHandle, TypeInner, Member}
+use Rattle.module.specs.declared.handles.TypeHandle.{TypeHandle as Handle}
 use Rattle.context.specs.Remove.{Removed, left, panic, ◌>>=◌, member_at, at_member, at_subtype, split, subtypes_of, take_out, take_entry, take_entries, remove}
 use Rattle.context.specs.Types.{AllSized, split_most}
 use Rattle.context.specs.Reduced.{typed, member_type, subtype_at, subtyped, reduced, Stored, Took, entries_room, remove_room}
-use Rattle.context.specs.declared.remove.Typed.{Typed}
-use Rattle.context.specs.declared.remove.Subtype.{Subtype}
-use Rattle.context.specs.declared.remove.Subtype.TheVariants.{Gone, There}
-use Rattle.context.specs.declared.remove.Reduced.{Reduced}
-use Rattle.context.specs.declared.remove.Reduced.TheVariants.{Left, Panic}
+use Rattle.std.specs.Prelude.{Option as Maybe, Some, None}
 use Rattle.context.proofs.Removal.{entry_lt, entry_gt, entry_eq, Splits}
 use Rattle.context.proofs.Types.{sized_splits}
 use Rattle.context.proofs.Taking.{made_as}
@@ -62,23 +59,23 @@ no_subtype nothing i f e = let z : ◌≡◌ {A = ℕ} 0 1 = cc in absurd (omega
 no_subtype (some members) i f e = no_member (member_at members i) f (sym e)
 
 -- an answer, by its case
-pub took_left : {s t : List ℕ} {d : Removed} {k n : ℕ} {r : Reduced} → Took s t d k r → r ≡ Left n → (n < top t) × (left (part t n) ≡ d)
+pub took_left : {s t : List ℕ} {d : Removed} {k n : ℕ} {r : Maybe ℕ} → Took s t d k r → r ≡ Some n → (n < top t) × (left (part t n) ≡ d)
 took_left {s} {t} {d} m e = (subst (Stored t) e m.piece, subst (λ z. reduced t z ≡ d) e m.is)
 
-pub took_panic : {s t : List ℕ} {d : Removed} {k : ℕ} {r : Reduced} → Took s t d k r → r ≡ Panic → panic ≡ d
+pub took_panic : {s t : List ℕ} {d : Removed} {k : ℕ} {r : Maybe ℕ} → Took s t d k r → r ≡ None → panic ≡ d
 took_panic {s} {t} {d} m e = subst (λ z. reduced t z ≡ d) e m.is
 
 -- the piece was there
-pub took_stays : {s : List ℕ} {d : Removed} {k n : ℕ} → Good s → n < top s → left (part s n) ≡ d → Took s s d k (Left n)
+pub took_stays : {s : List ℕ} {d : Removed} {k n : ℕ} → Good s → n < top s → left (part s n) ≡ d → Took s s d k (Some n)
 took_stays g h e = record { kept = kept_self g; piece = h; is = e; cost = omega arith }
 
 -- `whole` goes on from d: a panic stays, and of what was left its own is made
-pub panics_on : {s t : List ℕ} {d whole : Removed} (f : PartReq → Removed) {k l : ℕ} {r : Reduced} → Took s t d k r → r ≡ Panic → whole ≡ (d >>= f) → k ≤ l
-    → Took s t whole l Panic
+pub panics_on : {s t : List ℕ} {d whole : Removed} (f : PartReq → Removed) {k l : ℕ} {r : Maybe ℕ} → Took s t d k r → r ≡ None → whole ≡ (d >>= f) → k ≤ l
+    → Took s t whole l None
 panics_on f m e w h = record { kept = m.kept; piece = tt; is = sym (w ∙ rw (← took_panic m e)); cost = omega (arith, m.cost) }
 
-pub goes_on : {s t u : List ℕ} {d whole : Removed} (f : PartReq → PartReq) {k l j n x : ℕ} {r : Reduced} → Took s t d k r → r ≡ Left n
-    → whole ≡ (d >>= λ z. left (f z)) → Made t u (f (part t n)) j x → k + j ≤ l → Took s u whole l (Left x)
+pub goes_on : {s t u : List ℕ} {d whole : Removed} (f : PartReq → PartReq) {k l j n x : ℕ} {r : Maybe ℕ} → Took s t d k r → r ≡ Some n
+    → whole ≡ (d >>= λ z. left (f z)) → Made t u (f (part t n)) j x → k + j ≤ l → Took s u whole l (Some x)
 goes_on f m e w o h = record {
   kept = kept_trans m.kept o.kept;
   piece = o.piece;
@@ -103,7 +100,7 @@ remove_measure q = 2 * store_words * q + store_words
 pub entries-kept : {s t : List ℕ} → Kept s t → (n : ℕ) → n < top s → entries (part t n) ≡ entries (part s n)
 entries-kept k n h = ap entries (k.same n h)
 
-module _ {s : List ℕ} (types : List TypeInner) (owner : Typed) {p q i j c d a b : ℕ} (P : Asked s types p q) (x : Seen s p i c a) (y : Seen s q j d b) where
+module _ {s : List ℕ} (types : List TypeInner) (owner : Maybe Handle) {p q i j c d a b : ℕ} (P : Asked s types p q) (x : Seen s p i c a) (y : Seen s q j d b) where
   abbrev members : Option (List Member)
   members = subtypes_of types (typed owner)
 
@@ -117,7 +114,7 @@ module _ {s : List ℕ} (types : List TypeInner) (owner : Typed) {p q i j c d a 
   pub call_gt : {z : ℕ} → entries_measure p q ≡ z → (entries_measure p b < z) × Asked s types p b
   call_gt e = (omega arith, (P.0, (P.1.0, ((omega arith, omega arith), omega arith))))
 
-  pub done_gt : {t : List ℕ} {r : Reduced} → j < i → Took s t (take_entries types (part s b) members (part s p)) (entries_room (part s p) (part s b)) r → Took s t whole room r
+  pub done_gt : {t : List ℕ} {r : Maybe ℕ} → j < i → Took s t (take_entries types (part s b) members (part s p)) (entries_room (part s p) (part s b)) r → Took s t whole room r
   done_gt h m = record {
     kept = m.kept;
     piece = m.piece;
@@ -129,17 +126,17 @@ module _ {s : List ℕ} (types : List TypeInner) (owner : Typed) {p q i j c d a 
   pub call_lt : {z : ℕ} → entries_measure p q ≡ z → (entries_measure a q < z) × Asked s types a q
   call_lt e = (omega arith, (P.0, (P.1.0, ((omega arith, omega arith), omega arith))))
 
-  module _ {t : List ℕ} {r : Reduced} (h : i < j) (m : Took s t (take_entries types (part s q) members (part s a)) (entries_room (part s a) (part s q)) r) where
+  module _ {t : List ℕ} {r : Maybe ℕ} (h : i < j) (m : Took s t (take_entries types (part s q) members (part s a)) (entries_room (part s a) (part s q)) r) where
     whole-lt : whole ≡ (take_entries types (part s q) members (part s a) >>= λ z. left (more i (part s c) z))
     whole-lt = rw (x.is, y.is) (take_lt types members i j _ _ _ _ h)
 
-    pub panic_lt : r ≡ Panic → Took s t whole room Panic
+    pub panic_lt : r ≡ None → Took s t whole room None
     panic_lt e = panics_on (λ z. left (more i (part s c) z)) m e whole-lt (omega arith)
 
-    pub make_lt : {n : ℕ} → r ≡ Left n → RemakeAsked t p i c a c n
+    pub make_lt : {n : ℕ} → r ≡ Some n → RemakeAsked t p i c a c n
     make_lt e = (m.kept.good, (omega (arith, m.cost, m.kept.long), ((omega arith, (took_left m e).0), holds_on x P.1.1.0.0 m.kept)))
 
-    pub done_lt : {u : List ℕ} {n l : ℕ} → r ≡ Left n → Made t u (more i (part t c) (part t n)) 1 l → Took s u whole room (Left l)
+    pub done_lt : {u : List ℕ} {n l : ℕ} → r ≡ Some n → Made t u (more i (part t c) (part t n)) 1 l → Took s u whole room (Some l)
     done_lt e o = goes_on (λ z. more i (part s c) z) m e whole-lt (made_as {l = 1} o (rw (m.kept.same c (omega arith))) (omega arith)) (omega arith)
 
   -- both have the entry
@@ -147,7 +144,7 @@ module _ {s : List ℕ} (types : List TypeInner) (owner : Typed) {p q i j c d a 
     whole-eq : whole ≡ (at_subtype members i (λ z. remove types (part s c) (part s d) z) >>= λ v. take_entries types (part s b) members (part s a) >>= λ w. left (more i v w))
     whole-eq = rw (x.is, y.is) (take_eq types members i j _ _ _ _ h)
 
-    pub gone_eq : {f : Subtype} → f ≡ Gone → subtyped f ≡ subtype_at members i → Took s s whole room Panic
+    pub gone_eq : {f : Maybe (Maybe Handle)} → f ≡ None → subtyped f ≡ subtype_at members i → Took s s whole room None
     gone_eq {f} e g = record {
       kept = kept_self P.0;
       piece = tt;
@@ -158,12 +155,12 @@ module _ {s : List ℕ} (types : List TypeInner) (owner : Typed) {p q i j c d a 
     pub call_eq : {z : ℕ} → entries_measure p q ≡ z → (remove_measure d < z) × RemoveAsked s types c d
     call_eq e = (omega arith, (P.0, (P.1.0, ((omega arith, omega arith), omega arith))))
 
-    module _ {f : Subtype} {u : Typed} (e : f ≡ There u) (g : subtyped f ≡ subtype_at members i) {t : List ℕ} {r : Reduced}
+    module _ {f : Maybe (Maybe Handle)} {u : Maybe Handle} (e : f ≡ Some u) (g : subtyped f ≡ subtype_at members i) {t : List ℕ} {r : Maybe ℕ}
         (m : Took s t (remove types (part s c) (part s d) (typed u)) (remove_room (part s c) (part s d)) r) where
       whole-child : whole ≡ (remove types (part s c) (part s d) (typed u) >>= λ v. take_entries types (part s b) members (part s a) >>= λ w. left (more i v w))
       whole-child = whole-eq ∙ rw (at-subtype members i (typed u) (λ z. remove types (part s c) (part s d) z) (rw e at g))
 
-      pub panic_child : r ≡ Panic → Took s t whole room Panic
+      pub panic_child : r ≡ None → Took s t whole room None
       panic_child o = panics_on (λ v. take_entries types (part s b) members (part s a) >>= λ w. left (more i v w)) m o whole-child (omega arith)
 
       pub call_rest : {z : ℕ} → entries_measure p q ≡ z → (entries_measure a b < z) × Asked t types a b
@@ -172,7 +169,7 @@ module _ {s : List ℕ} (types : List TypeInner) (owner : Typed) {p q i j c d a 
           let l = entries-kept m.kept b (omega arith) in
           (omega arith, (m.kept.good, (P.1.0, ((omega arith, omega arith), omega (arith, m.cost, m.kept.long)))))
 
-      module _ {n : ℕ} (w : r ≡ Left n) {v : List ℕ} {o : Reduced}
+      module _ {n : ℕ} (w : r ≡ Some n) {v : List ℕ} {o : Maybe ℕ}
           (l : Took t v (take_entries types (part t b) members (part t a)) (entries_room (part t a) (part t b)) o) where
         whole-rest : whole ≡ (take_entries types (part t b) members (part t a) >>= λ z. left (more i (part t n) z))
         whole-rest = whole-child ∙ rw (← (took_left m w).1, m.kept.same a (omega arith), m.kept.same b (omega arith))
@@ -183,10 +180,10 @@ module _ {s : List ℕ} (types : List TypeInner) (owner : Typed) {p q i j c d a 
             let f = entries-kept m.kept b (omega arith) in
             omega (arith, m.cost, l.cost)
 
-        pub panic_rest : o ≡ Panic → Took s v whole room Panic
+        pub panic_rest : o ≡ None → Took s v whole room None
         panic_rest z = record { kept = kept_trans m.kept l.kept; piece = tt; is = sym (whole-rest ∙ rw (← took_panic l z)); cost = omega (arith, spent) }
 
-        pub make_rest : {k : ℕ} → o ≡ Left k → RemakeAsked v p i c a n k
+        pub make_rest : {k : ℕ} → o ≡ Some k → RemakeAsked v p i c a n k
         make_rest f =
             let kept = kept_trans m.kept l.kept in (
               l.kept.good,
@@ -196,7 +193,7 @@ module _ {s : List ℕ} (types : List TypeInner) (owner : Typed) {p q i j c d a 
               ),
             )
 
-        pub done_rest : {k g : ℕ} {z : List ℕ} → o ≡ Left k → Made v z (more i (part v n) (part v k)) 1 g → Took s z whole room (Left g)
+        pub done_rest : {k g : ℕ} {z : List ℕ} → o ≡ Some k → Made v z (more i (part v n) (part v k)) 1 g → Took s z whole room (Some g)
         done_rest {k} {g} {z} f made =
             let now : part z g ≡ more i (part t n) (part v k) = made.is ∙ rw (l.kept.same n (took_left m w).0) in
             record {
@@ -230,11 +227,11 @@ low_width s (suc zero) h = rw part-1 refl
 low_width s (suc (suc zero)) h = rw part-2 refl
 low_width s (suc (suc (suc p))) h = absurd (omega arith)
 
-module _ {s : List ℕ} (types : List TypeInner) (owner : Typed) {p q : ℕ} (P : Asked s types p q) where
-  pub done_by_low : q < 3 → Took s s (take_entries types (part s q) (subtypes_of types (typed owner)) (part s p)) (entries_room (part s p) (part s q)) (Left p)
+module _ {s : List ℕ} (types : List TypeInner) (owner : Maybe Handle) {p q : ℕ} (P : Asked s types p q) where
+  pub done_by_low : q < 3 → Took s s (take_entries types (part s q) (subtypes_of types (typed owner)) (part s p)) (entries_room (part s p) (part s q)) (Some p)
   done_by_low h = took_stays P.0 P.1.1.0.0 (by_low types _ s q (part s p) h)
 
-  pub done_of_low : p < 3 → Took s s (take_entries types (part s q) (subtypes_of types (typed owner)) (part s p)) (entries_room (part s p) (part s q)) (Left p)
+  pub done_of_low : p < 3 → Took s s (take_entries types (part s q) (subtypes_of types (typed owner)) (part s p)) (entries_room (part s p) (part s q)) (Some p)
   done_of_low h = took_stays P.0 P.1.1.0.0 (of_plain types _ (part s q) (part s p) (low_width s p h))
 
 -- `remove` itself
@@ -254,11 +251,11 @@ split-grows types k f (some t) exist = omega arith
 split-grows types k f (some t) none = omega arith
 split-grows types k f (some t) (more i p r) = omega arith
 
-module _ {s : List ℕ} (types : List TypeInner) (u : Typed) {p q : ℕ} (P : RemoveAsked s types p q) where
-  pub done_all : q ≡ 0 → Took s s (remove types (part s p) (part s q) (typed u)) (remove_room (part s p) (part s q)) (Left 1)
+module _ {s : List ℕ} (types : List TypeInner) (u : Maybe Handle) {p q : ℕ} (P : RemoveAsked s types p q) where
+  pub done_all : q ≡ 0 → Took s s (remove types (part s p) (part s q) (typed u)) (remove_room (part s p) (part s q)) (Some 1)
   done_all e = took_stays P.0 (omega (arith, P.0.base)) (rw (e, part-0, part-1) (unfold remove take_out in refl))
 
-  pub done_exist : q ≡ 1 → Took s s (remove types (part s p) (part s q) (typed u)) (remove_room (part s p) (part s q)) (Left p)
+  pub done_exist : q ≡ 1 → Took s s (remove types (part s p) (part s q) (typed u)) (remove_room (part s p) (part s q)) (Some p)
   done_exist e = took_stays P.0 P.1.1.0.0 (rw (e, part-1) (unfold remove take_out in refl))
 
   pub split_asks : Good s × (AllSized types × (Room s split_most × (p < top s)))
@@ -276,7 +273,7 @@ module _ {s : List ℕ} (types : List TypeInner) (u : Typed) {p q : ℕ} (P : Re
           (g, (P.1.0, ((m.piece, omega arith), omega (arith, grown, m.cost, m.kept.long)))),
         )
 
-    pub done_part : (q ≡ 0 → ⊥) → (q ≡ 1 → ⊥) → {v : List ℕ} {r : Reduced}
+    pub done_part : (q ≡ 0 → ⊥) → (q ≡ 1 → ⊥) → {v : List ℕ} {r : Maybe ℕ}
         → Took t v (take_entries types (part t q) (subtypes_of types (typed u)) (part t n)) (entries_room (part t n) (part t q)) r
         → Took s v (remove types (part s p) (part s q) (typed u)) (remove_room (part s p) (part s q)) r
     done_part a e {v} {r} l = record {

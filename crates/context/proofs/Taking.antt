@@ -13,12 +13,11 @@ use Rattle.part.proofs.Equations.{never}
 use Rattle.part.proofs.Making.{kept_trans}
 use Rattle.part.proofs.Write.{kept_self}
 use Rattle.module.specs.Module.{TypeInner, Opaque}
-use Rattle.module.specs.declared.handles.TypeHandle.{TypeHandle}
+use Rattle.module.specs.declared.handles.TypeHandle.{TypeHandle as Handle}
 use Rattle.context.specs.Remove.{each, type_to_parts, split, subtypes_of}
 use Rattle.context.specs.Types.{type_word, type_kind, types_of, AllSized, split_most}
 use Rattle.context.specs.Reduced.{typed, subtype_at}
-use Rattle.context.specs.declared.remove.Typed.{Typed}
-use Rattle.context.specs.declared.remove.Typed.TheVariants.{Unknown, Is}
+use Rattle.std.specs.Prelude.{Option as Maybe, Some, None}
 use Rattle.context.proofs.Types.{vector_parts, matrix_parts, struct_parts, other_parts, vector_size, matrix_size, struct_size, no_members, member_gone, member_there}
 
 -- nothing was made: the piece was there
@@ -94,23 +93,23 @@ not_all_split types (some t) none h = refl
 not_all_split types (some t) (more i p r) h = refl
 
 -- all split, where it is all and its type is known
-module _ (types : List TypeInner) {s : List ℕ} (x : Typed) where
-  pub split-unknown : {p : ℕ} → x ≡ Unknown → Good s → p < top s → Made s s (split types (typed x) (part s p)) split_most p
+module _ (types : List TypeInner) {s : List ℕ} (x : Maybe Handle) where
+  pub split-unknown : {p : ℕ} → x ≡ None → Good s → p < top s → Made s s (split types (typed x) (part s p)) split_most p
   split-unknown e g h = stays g h (rw e (unfold split in refl))
 
   pub split-known : (p : ℕ) → 0 < p → Good s → p < top s → Made s s (split types (typed x) (part s p)) split_most p
   split-known p o g h = stays g h (not_all_split types (typed x) (part s p) (not_all s p (omega arith)))
 
-  pub split-all : {t : List ℕ} {p r : ℕ} {h : TypeHandle} → x ≡ Is h → p ≡ 0 → Made s t (type_to_parts (get_or types h.0 Opaque)) split_most r
+  pub split-all : {t : List ℕ} {p r : ℕ} {h : Handle} → x ≡ Some h → p ≡ 0 → Made s t (type_to_parts (get_or types h.0 Opaque)) split_most r
       → Made s t (split types (typed x) (part s p)) split_most r
   split-all e z m = rw (e, z, part-0) (unfold split in m)
 
 -- the type of a subpart, by what is known of the whole
-module _ (table : List ℕ) (i : ℕ) {x : Typed} where
-  pub no_subtype : x ≡ Unknown → some nothing ≡ subtype_at (subtypes_of (types_of table) (typed x)) i
+module _ (table : List ℕ) (i : ℕ) {x : Maybe Handle} where
+  pub no_subtype : x ≡ None → some nothing ≡ subtype_at (subtypes_of (types_of table) (typed x)) i
   no_subtype e = rw e (unfold subtypes_of in refl)
 
-  module _ {h : TypeHandle} {k : ℕ} (e : x ≡ Is h) (f : k ≡ type_kind table h.0) where
+  module _ {h : Handle} {k : ℕ} (e : x ≡ Some h) (f : k ≡ type_kind table h.0) where
     pub not_struct_subtype : (k ≡ 6 → ⊥) → some nothing ≡ subtype_at (subtypes_of (types_of table) (typed x)) i
     not_struct_subtype n = rw e (no_members table h.0 i f n)
 

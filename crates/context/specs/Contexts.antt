@@ -1,5 +1,5 @@
 -- Contexts in a store: four pieces each, by value, and what the methods on them give.
-use Rattle.std.specs.Prelude.{ℕ, ◌+◌, ◌*◌, ◌<◌, ◌≤◌, ◌≡◌, List}
+use Rattle.std.specs.Prelude.{ℕ, ◌+◌, ◌*◌, ◌<◌, ◌≤◌, ◌≡◌, List, Option, Some, None}
 use Rattle.part.specs.PartReq.{PartReq, entries}
 use Rattle.part.specs.Store.{top, part, Kept}
 use Rattle.context.specs.Types.{split_most}
@@ -7,8 +7,6 @@ use Rattle.context.specs.RequiredContext.{RequiredContext, pieces, VarRef, Globa
 use Rattle.context.specs.declared.required_context.RequiredContext.{RequiredContext as Pieces}
 use Rattle.context.specs.declared.required_context.VarRef.{VarRef as Variable}
 use Rattle.context.specs.declared.required_context.VarRef.TheVariants as variables
-use Rattle.context.specs.declared.required_context.Removed.{Removed}
-use Rattle.context.specs.declared.required_context.Removed.TheVariants.{Left, Panic}
 
 -- the context that these pieces of the store s are
 abbrev pub context_of : List ℕ → Pieces → RequiredContext
@@ -38,17 +36,22 @@ abbrev pub variable_of : Variable → VarRef
 variable_of (variables.Global g) = Global g.0
 variable_of (variables.Local l) = Local l.0
 
--- what is left, in the store s; or 13 (`refusal_context`)
-abbrev pub removed : List ℕ → Removed → RemovedContext
-removed s (Left c) = left_context (context_of s c)
-removed s Panic = panic_context
+-- the piece of the map that it belongs to
+abbrev pub map_of : Pieces → Variable → ℕ
+map_of c (variables.Global g) = c.globals
+map_of c (variables.Local l) = c.locals
 
-abbrev pub HasRemoved : List ℕ → Removed → Type 0
-HasRemoved s (Left c) = HasContext s c
-HasRemoved s Panic = Unit {0}
+-- what is left, in the store s; or 13 (`refusal_context`)
+abbrev pub removed : List ℕ → Option Pieces → RemovedContext
+removed s (Some c) = left_context (context_of s c)
+removed s None = panic_context
+
+abbrev pub HasRemoved : List ℕ → Option Pieces → Type 0
+HasRemoved s (Some c) = HasContext s c
+HasRemoved s None = Unit {0}
 
 -- from s, t was left: the answer is what the taking out d gives, and at most k cells more are used
-pub record TookContext (s t : List ℕ) (d : RemovedContext) (k : ℕ) (r : Removed) : Type 0 where
+pub record TookContext (s t : List ℕ) (d : RemovedContext) (k : ℕ) (r : Option Pieces) : Type 0 where
   pub kept : Kept s t
   pub has : HasRemoved t r
   pub is : removed t r ≡ d

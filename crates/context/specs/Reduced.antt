@@ -1,22 +1,17 @@
 -- What the answers of the functions on types and pieces stand for.
-use Rattle.std.specs.Prelude.{ℕ, ◌+◌, ◌*◌, ◌<◌, ◌≤◌, ◌≡◌, List}
+use Rattle.std.specs.Prelude.{ℕ, ◌+◌, ◌*◌, ◌<◌, ◌≤◌, ◌≡◌, List, Option as Maybe, Some, None}
 use Rattle.std.proofs.Math.Option.{Option, some, none as nothing}
 use Rattle.part.specs.PartReq.{PartReq, entries}
 use Rattle.part.specs.Store.{top, part, Kept}
 use Rattle.module.specs.Module.{TypeHandle, Member}
+use Rattle.module.specs.declared.handles.TypeHandle.{TypeHandle as Handle}
 use Rattle.context.specs.Remove.{Removed, left, panic, member_at}
 use Rattle.context.specs.Types.{split_most}
-use Rattle.context.specs.declared.remove.Typed.{Typed}
-use Rattle.context.specs.declared.remove.Typed.TheVariants.{Unknown, Is}
-use Rattle.context.specs.declared.remove.Subtype.{Subtype}
-use Rattle.context.specs.declared.remove.Subtype.TheVariants.{Gone, There}
-use Rattle.context.specs.declared.remove.Reduced.{Reduced}
-use Rattle.context.specs.declared.remove.Reduced.TheVariants.{Left, Panic}
 
 -- the type, where it is known
-abbrev pub typed : Typed → Option TypeHandle
-typed Unknown = nothing
-typed (Is t) = some t.0
+abbrev pub typed : Maybe Handle → Option TypeHandle
+typed None = nothing
+typed (Some t) = some t.0
 
 -- the type of the subpart i, where there may be one: nothing is the panic at a member that is not there
 abbrev pub member_type : Option TypeHandle → Option (Option TypeHandle)
@@ -27,21 +22,21 @@ abbrev pub subtype_at : Option (List Member) → ℕ → Option (Option TypeHand
 subtype_at nothing i = some nothing
 subtype_at (some members) i = member_type (member_at members i)
 
-abbrev pub subtyped : Subtype → Option (Option TypeHandle)
-subtyped Gone = nothing
-subtyped (There t) = some (typed t)
+abbrev pub subtyped : Maybe (Maybe Handle) → Option (Option TypeHandle)
+subtyped None = nothing
+subtyped (Some t) = some (typed t)
 
 -- what is left, in the store s; or 13 (`refusal`)
-abbrev pub reduced : List ℕ → Reduced → Removed
-reduced s (Left n) = left (part s n)
-reduced s Panic = panic
+abbrev pub reduced : List ℕ → Maybe ℕ → Removed
+reduced s (Some n) = left (part s n)
+reduced s None = panic
 
-abbrev pub Stored : List ℕ → Reduced → Type 0
-Stored s (Left n) = n < top s
-Stored s Panic = Unit {0}
+abbrev pub Stored : List ℕ → Maybe ℕ → Type 0
+Stored s (Some n) = n < top s
+Stored s None = Unit {0}
 
 -- from s, t was left: the answer is what the taking out d gives, and at most k cells more are used
-pub record Took (s t : List ℕ) (d : Removed) (k : ℕ) (r : Reduced) : Type 0 where
+pub record Took (s t : List ℕ) (d : Removed) (k : ℕ) (r : Maybe ℕ) : Type 0 where
   pub kept : Kept s t
   pub piece : Stored t r
   pub is : reduced t r ≡ d

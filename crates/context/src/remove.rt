@@ -13,26 +13,14 @@ use part::store::{look, make, remake};
 // The words of a type's row.
 pub const TYPE_WORDS: usize = 2 + 2 * MAX_MEMBERS;
 
-// The type of a requirement, where it is known.
-#[derive(Clone, Copy)]
-pub enum Typed {
-    Unknown,
-    Is(TypeHandle),
-}
+// The kinds of types whose rows say what a part is split into, and that of a type that is not there.
+const VECTOR: u32 = 1;
 
-// The type of a subpart, or that the struct has no such member.
-#[derive(Clone, Copy)]
-pub enum Subtype {
-    Gone,
-    There(Typed),
-}
+const MATRIX: u32 = 2;
 
-// What is left, or the panic at a struct member that is not there.
-#[derive(Clone, Copy)]
-pub enum Reduced {
-    Left(u32),
-    Panic,
-}
+const STRUCT: u32 = 6;
+
+const OPAQUE: u32 = 8;
 
 // The word k of the row t.
 fn type_word(types: &[u32], t: TypeHandle, k: usize) -> u32
@@ -48,7 +36,7 @@ fn type_kind(types: &[u32], t: TypeHandle) -> u32
     ensures { result ≡ type_kind types.now t.0 }
 {
     if types.len() / TYPE_WORDS <= t.0 as usize {
-        return 8;
+        return OPAQUE;
     }
     type_word(types, t, 0)
 }
@@ -59,10 +47,8 @@ fn each(cells: &mut [u32], n: u32, child: u32) -> u32
     requires room { Room cells.old n × (child < top cells.old) }
     ensures { Made cells.old cells.new (each 0 n (part cells.old child)) n result }
 {
-    let mut k = n;
     let mut r = 2;
-    while 0 < k {
-        k -= 1;
+    for k in (0..n).rev() {
         r = make(cells, k, child, r);
     }
     r
@@ -75,32 +61,33 @@ fn type_to_parts(cells: &mut [u32], types: &[u32], t: TypeHandle) -> u32
     requires room { Room cells.old split_most }
     ensures { Made cells.old cells.new (type_to_parts (get_or (types_of types.now) t.0 Opaque)) split_most result }
 {
-    let kind = type_kind(types, t);
-    if kind == 1 {
-        let size = type_word(types, t, 1);
-        return each(cells, size, 0);
+    match type_kind(types, t) {
+        VECTOR => {
+            let size = type_word(types, t, 1);
+            each(cells, size, 0)
+        }
+        MATRIX => {
+            let columns = type_word(types, t, 1);
+            let rows = type_word(types, t, 2);
+            let column = each(cells, rows, 0);
+            each(cells, columns, column)
+        }
+        STRUCT => {
+            let members = type_word(types, t, 1);
+            each(cells, members, 0)
+        }
+        _ => 0,
     }
-    if kind == 2 {
-        let columns = type_word(types, t, 1);
-        let rows = type_word(types, t, 2);
-        let column = each(cells, rows, 0);
-        return each(cells, columns, column);
-    }
-    if kind == 6 {
-        let members = type_word(types, t, 1);
-        return each(cells, members, 0);
-    }
-    0
 }
 
 // all is split by its type, where that is known.
-fn split(cells: &mut [u32], types: &[u32], t: Typed, p: u32) -> u32
+fn split(cells: &mut [u32], types: &[u32], t: Option<TypeHandle>, p: u32) -> u32
     requires good { Good cells.old }
     requires all_sized { AllSized (types_of types.now) }
     requires room { Room cells.old split_most × (p < top cells.old) }
     ensures { Made cells.old cells.new (split (types_of types.now) (typed t) (part cells.old p)) split_most result }
 {
-    let Typed::Is(h) = t else {
+    let Some(h) = t else {
         return p;
     };
     if 0 < p {
@@ -109,38 +96,41 @@ fn split(cells: &mut [u32], types: &[u32], t: Typed, p: u32) -> u32
     type_to_parts(cells, types, h)
 }
 
-// The type of the subpart i of what has the type t.
-fn subtype_at(types: &[u32], t: Typed, i: u32) -> Subtype
+// The type of the subpart i of what has the type t, where that is known; or that the struct has no such member.
+fn subtype_at(types: &[u32], t: Option<TypeHandle>, i: u32) -> Option<Option<TypeHandle>>
     requires { AllSized (types_of types.now) }
     ensures { subtyped result ≡ subtype_at (subtypes_of (types_of types.now) (typed t)) i }
 {
-    let Typed::Is(h) = t else {
-        return Subtype::There(Typed::Unknown);
+    let Some(h) = t else {
+        return Some(None);
     };
-    if type_kind(types, h) != 6 {
-        return Subtype::There(Typed::Unknown);
+    if type_kind(types, h) != STRUCT {
+        return Some(None);
     }
     if type_word(types, h, 1) <= i {
-        return Subtype::Gone;
+        return None;
     }
     let member = type_word(types, h, 2 + 2 * (i as usize));
-    Subtype::There(Typed::Is(TypeHandle(member)))
+    Some(Some(TypeHandle(member)))
 }
 
-// The entries of q taken out of those of p, which is of the type t and not to be split.
+// The entries of q taken out of those of p, which is of the type t and not to be split; or the panic at a struct member that is not there.
 #[cycle(remove_take_entries)]
-fn take_entries(cells: &mut [u32], types: &[u32], p: u32, q: u32, t: Typed) -> Reduced
+fn take_entries(
+    cells: &mut [u32],
+    types: &[u32],
+    p: u32,
+    q: u32,
+    t: Option<TypeHandle>,
+) -> Option<u32>
     requires good { Good cells.old }
     requires all_sized { AllSized (types_of types.now) }
     requires p_bound { (p < top cells.old) × (q < top cells.old) }
     requires room { Room cells.old (entries_room (part cells.old p) (part cells.old q)) }
     ensures { Took cells.old cells.new (take_entries (types_of types.now) (part cells.old q) (subtypes_of (types_of types.now) (typed t)) (part cells.old p)) (entries_room (part cells.old p) (part cells.old q)) result }
 {
-    if q < 3 {
-        return Reduced::Left(p);
-    }
-    if p < 3 {
-        return Reduced::Left(p);
+    if q < 3 || p < 3 {
+        return Some(p);
     }
     let x = look(cells, p);
     let y = look(cells, q);
@@ -148,28 +138,24 @@ fn take_entries(cells: &mut [u32], types: &[u32], p: u32, q: u32, t: Typed) -> R
         return take_entries(cells, types, p, y.rest, t);
     }
     if x.index < y.index {
-        let Reduced::Left(r) = take_entries(cells, types, x.rest, q, t) else {
-            return Reduced::Panic;
-        };
-        let n = remake(cells, p, x, x.child, r);
-        return Reduced::Left(n);
+        let r = take_entries(cells, types, x.rest, q, t)?;
+        return Some(remake(cells, p, x, x.child, r));
     }
-    let Subtype::There(u) = subtype_at(types, t, x.index) else {
-        return Reduced::Panic;
-    };
-    let Reduced::Left(c) = remove(cells, types, x.child, y.child, u) else {
-        return Reduced::Panic;
-    };
-    let Reduced::Left(r) = take_entries(cells, types, x.rest, y.rest, t) else {
-        return Reduced::Panic;
-    };
-    let n = remake(cells, p, x, c, r);
-    Reduced::Left(n)
+    let u = subtype_at(types, t, x.index)?;
+    let c = remove(cells, types, x.child, y.child, u)?;
+    let r = take_entries(cells, types, x.rest, y.rest, t)?;
+    Some(remake(cells, p, x, c, r))
 }
 
-// `remove`: p without q, where p is of the type t.
+// `remove`: p without q, where p is of the type t; or that panic.
 #[cycle(remove_take_entries)]
-pub fn remove(cells: &mut [u32], types: &[u32], p: u32, q: u32, t: Typed) -> Reduced
+pub fn remove(
+    cells: &mut [u32],
+    types: &[u32],
+    p: u32,
+    q: u32,
+    t: Option<TypeHandle>,
+) -> Option<u32>
     requires good { Good cells.old }
     requires all_sized { AllSized (types_of types.now) }
     requires p_bound { (p < top cells.old) × (q < top cells.old) }
@@ -177,10 +163,10 @@ pub fn remove(cells: &mut [u32], types: &[u32], p: u32, q: u32, t: Typed) -> Red
     ensures { Took cells.old cells.new (remove (types_of types.now) (part cells.old p) (part cells.old q) (typed t)) (remove_room (part cells.old p) (part cells.old q)) result }
 {
     if q == 0 {
-        return Reduced::Left(1);
+        return Some(1);
     }
     if q == 1 {
-        return Reduced::Left(p);
+        return Some(p);
     }
     let s = split(cells, types, t, p);
     take_entries(cells, types, s, q, t)

@@ -13,8 +13,7 @@ use Rattle.context.specs.Types.{types_of, split_most}
 use Rattle.context.specs.RequiredContext.{RequiredContext, RemovedContext, left_context, panic_context, pieces, over_context, remove_var, variable_type}
 use Rattle.context.specs.Contexts.{context_of, HasContext, variable_of, removed, HasRemoved, TookContext, take_room}
 use Rattle.context.specs.declared.required_context.RequiredContext.{RequiredContext as Pieces}
-use Rattle.context.specs.declared.required_context.Removed.{Removed}
-use Rattle.context.specs.declared.required_context.Removed.TheVariants.{Left, Panic}
+use Rattle.std.specs.Prelude.{Option, Some, None}
 use Rattle.context.proofs.Contexts.{pieces-removed}
 use Rattle.type_table.proofs.AllSized.{all_sized}
 use Rattle.sound.proofs.Walks.{module_valid}
@@ -72,16 +71,16 @@ module _ {bytes t types s rs : List ℕ} {fr : declared.Frame} {x : Target} {n :
     take_asks =
         (q.ready.was_read.module_is, (q.ready.function, (q.typed, (q.ready.memory.good, ((rw loaded (pieces_has q.ready.memory fr.at take_slots), q.has), rw context_is (omega (arith, q.roomy, q.few, q.short)))))))
 
-    module _ {u : List ℕ} {r : Removed} (d : TookContext s u (remove_var (module_of bytes t) (function_at (module_of bytes t) fr.function.0) (context_of s c) (variable_of x.var) (part s x.part)) (take_room (context_of s c) (part s x.part)) r) where
+    module _ {u : List ℕ} {r : Option Pieces} (d : TookContext s u (remove_var (module_of bytes t) (function_at (module_of bytes t) fr.function.0) (context_of s c) (variable_of x.var) (part s x.part)) (take_room (context_of s c) (part s x.part)) r) where
       is : removed u r ≡ taking
       is = rw context_is at d.is
 
-      pub take_panics : {us : List ℕ} → r ≡ Panic → Takes bytes t s rs fr x n (Refuse 13) u us
+      pub take_panics : {us : List ℕ} → r ≡ None → Takes bytes t s rs fr x n (Refuse 13) u us
       take_panics h =
           let e : panic_context ≡ taking = rw h at is in
           record { by = λ st. taken_13 (frame_of s rs fr) st ∙ ap (λ (y : RemovedContext). taken_out (frame_of s rs fr) y st) e }
 
-      module _ {y : Pieces} (h : r ≡ Left y) where
+      module _ {y : Pieces} (h : r ≡ Some y) where
         pub take_has : HasContext u y
         take_has = subst (HasRemoved u) h d.has
 

@@ -6,7 +6,6 @@ ghost use Rattle.statement.specs.Aim.{Aiming};
 ghost use Rattle.statement.specs.Stores.{Taking, Takes, Stores};
 
 use crate::aim::{Aim, load_context, target_of};
-use context::required_context::Removed;
 use memory::layout::ASK;
 use memory::stretches::save_context;
 use module::handles::ExpressionHandle;
@@ -40,7 +39,7 @@ fn take(
     let c = load_context(slots, fr.at);
     let taken = take_out(bytes, t, cells, types, f, c, target);
     match taken {
-        Removed::Left(d) => {
+        Some(d) => {
             if d.over(cells) {
                 return Need::Refuse(15);
             }
@@ -48,7 +47,7 @@ fn take(
             slots[ASK] = p;
             Need::Part
         }
-        Removed::Panic => Need::Refuse(13),
+        None => Need::Refuse(13),
     }
 }
 

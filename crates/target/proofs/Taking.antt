@@ -19,7 +19,7 @@ use Rattle.context.specs.Contexts.{context_of, HasContext, variable_of, TookCont
 use Rattle.context.specs.declared.required_context.RequiredContext.{RequiredContext as Pieces}
 use Rattle.context.specs.declared.required_context.VarRef.{VarRef as Variable}
 use Rattle.context.specs.declared.required_context.VarRef.TheVariants as variables
-use Rattle.context.specs.declared.required_context.Removed.{Removed}
+use Rattle.std.specs.Prelude.{Option}
 use Rattle.type_table.proofs.AllSized.{all_sized}
 use Rattle.walk.specs.Resolve.{function_at}
 use Rattle.target.specs.Target.{Sees, HasTarget}
@@ -46,7 +46,7 @@ module _ (bytes t types : List ℕ) (table : types_of types ≡ (module_of bytes
       (g, (rw table (all_sized (module_of bytes t) (valid bytes (module_of bytes t) read)), ((h, (a.low, a.piece)), room)))
 
 module _ (bytes t types : List ℕ) (table : types_of types ≡ (module_of bytes t).types) (f : FunctionHandle) (d : RequiredContext) (var : VarRef) (q : PartReq) where
-  pub taken : {s u : List ℕ} {k ty : ℕ} {r : Removed} → ty ≡ variable_type (module_of bytes t) (function_at (module_of bytes t) f) var → TookContext s u (remove_typed (types_of types) d var ty q) k r → TookContext s u (remove_var (module_of bytes t) (function_at (module_of bytes t) f) d var q) k r
+  pub taken : {s u : List ℕ} {k ty : ℕ} {r : Option Pieces} → ty ≡ variable_type (module_of bytes t) (function_at (module_of bytes t) f) var → TookContext s u (remove_typed (types_of types) d var ty q) k r → TookContext s u (remove_var (module_of bytes t) (function_at (module_of bytes t) f) d var q) k r
   unfolding remove_var
   taken {s} {u} {k} {ty} {r} e h =
       subst (λ (y : ℕ). TookContext s u (remove_typed (module_of bytes t).types d var y q) k r) e

@@ -14,7 +14,7 @@ ghost use Rattle.target.specs.Target.{Sees, HasTarget, subpart_of, HasFound};
 use crate::resolve::Target;
 use access::function::local;
 use access::whole::global;
-use context::required_context::{Removed, RequiredContext, VarRef};
+use context::required_context::{RequiredContext, VarRef};
 use module::handles::{FunctionHandle, TypeHandle};
 use part::req::get;
 use part::store::look;
@@ -69,7 +69,7 @@ fn variable_type(bytes: &[u8], t: &[u32], f: FunctionHandle, var: VarRef) -> Typ
     }
 }
 
-// `remove`: the context without the target.
+// `remove`: the context without the target; or the panic at a struct member that is not there.
 pub fn take_out(
     bytes: &[u8],
     t: &[u32],
@@ -78,7 +78,7 @@ pub fn take_out(
     f: FunctionHandle,
     c: RequiredContext,
     target: Target,
-) -> Removed
+) -> Option<RequiredContext>
     requires bytes_value { read_module bytes.now ≡ accepted (module_of bytes.now t.now) }
     requires f_in_bounds { f.0 < length (module_of bytes.now t.now).functions }
     requires types_value { types_of types.now ≡ (module_of bytes.now t.now).types }

@@ -2,6 +2,8 @@
 use Rattle.context.proofs.Cycle.{done_all, done_exist, split_asks, entries_asks, done_part}
 use Rattle.context.proofs.Cycle.{done_by_low, done_of_low, call_gt, done_gt, call_lt, panic_lt, make_lt, done_lt}
 use Rattle.context.proofs.Cycle.{gone_eq, call_eq, panic_child, call_rest, panic_rest, make_rest, done_rest}
+use mathlib.Core.Logic.{inl, inr}
+use mathlib.Core.Path.{refl}
 use native.Mathlib.Omega.{arith}
 use Rattle.context.proofs.remove.+remove_take_entries.Goals as goal
 
@@ -28,11 +30,10 @@ remove-returns t c =
 
 pub take_entries-returns-then-q-lt3 : goal.take_entries-returns-then-q-lt3
 take_entries-returns-then-q-lt3 t c =
-    done_by_low _ c.args.t (c.requires.good, (c.requires.all_sized, (c.requires.p_bound, c.requires.room))) c.if-q-lt3.true
-
-pub take_entries-returns-then-p-lt3 : goal.take_entries-returns-then-p-lt3
-take_entries-returns-then-p-lt3 t c =
-    done_of_low _ c.args.t (c.requires.good, (c.requires.all_sized, (c.requires.p_bound, c.requires.room))) c.if-p-lt3.true
+    elim c.then-q-lt3.either [
+      | inl h ↦ done_by_low _ c.args.t (c.requires.good, (c.requires.all_sized, (c.requires.p_bound, c.requires.room))) h
+      | inr h ↦ done_of_low _ c.args.t (c.requires.good, (c.requires.all_sized, (c.requires.p_bound, c.requires.room))) h.1
+    ]
 
 pub take_entries-look-x-requires : goal.take_entries-look-x-requires
 take_entries-look-x-requires t c = record { good = c.requires.good; lt_n = (c.if-p-lt3.false, c.requires.p_bound.0) }
@@ -52,44 +53,44 @@ pub take_entries-take_entries-requires-then-x-y : goal.take_entries-take_entries
 take_entries-take_entries-requires-then-x-y t c =
     call_lt _ c.args.t (c.requires.good, (c.requires.all_sized, (c.requires.p_bound, c.requires.room))) c.look-x.ensures c.look-y.ensures c.decreases
 
-pub take_entries-returns-in_default : goal.take_entries-returns-in_default
-take_entries-returns-in_default t c =
-    panic_lt _ c.args.t (c.requires.good, (c.requires.all_sized, (c.requires.p_bound, c.requires.room))) c.look-x.ensures c.look-y.ensures c.if-x-y.true c.take_entries-then-x-y.ensures c.in_default.is
+pub take_entries-returns-in_err-r : goal.take_entries-returns-in_err-r
+take_entries-returns-in_err-r t c =
+    rw c.from_residual.ensures (panic_lt _ c.args.t (c.requires.good, (c.requires.all_sized, (c.requires.p_bound, c.requires.room))) c.look-x.ensures c.look-y.ensures c.if-x-y.true c.in_err-r.ensures refl)
 
-pub take_entries-remake-n-requires : goal.take_entries-remake-n-requires
-take_entries-remake-n-requires t c =
-    let q9 = make_lt _ c.args.t (c.requires.good, (c.requires.all_sized, (c.requires.p_bound, c.requires.room))) c.look-x.ensures c.look-y.ensures c.if-x-y.true c.take_entries-then-x-y.ensures c.in-Left.is in
+pub take_entries-remake-requires : goal.take_entries-remake-requires
+take_entries-remake-requires t c =
+    let q9 = make_lt _ c.args.t (c.requires.good, (c.requires.all_sized, (c.requires.p_bound, c.requires.room))) c.look-x.ensures c.look-y.ensures c.if-x-y.true c.in_ok-r.ensures refl in
     record { good = q9.0; room = q9.1.0; child_bound = q9.1.1.0; holds = q9.1.1.1 }
 
 pub take_entries-returns-then-x-y : goal.take_entries-returns-then-x-y
 take_entries-returns-then-x-y t c =
-    done_lt _ c.args.t (c.requires.good, (c.requires.all_sized, (c.requires.p_bound, c.requires.room))) c.look-x.ensures c.look-y.ensures c.if-x-y.true c.take_entries-then-x-y.ensures c.in-Left.is c.remake-n.ensures
+    done_lt _ c.args.t (c.requires.good, (c.requires.all_sized, (c.requires.p_bound, c.requires.room))) c.look-x.ensures c.look-y.ensures c.if-x-y.true c.in_ok-r.ensures refl c.remake.ensures
 
-pub take_entries-returns-in_default-subtype_at : goal.take_entries-returns-in_default-subtype_at
-take_entries-returns-in_default-subtype_at t c =
-    gone_eq _ c.args.t (c.requires.good, (c.requires.all_sized, (c.requires.p_bound, c.requires.room))) c.look-x.ensures c.look-y.ensures (omega (arith, c.if-y-x.false, c.if-x-y.false)) c.in_default-subtype_at.is c.subtype_at.ensures
+pub take_entries-returns-in_err-u : goal.take_entries-returns-in_err-u
+take_entries-returns-in_err-u t c =
+    rw c.from_residual-in_err-u.ensures (gone_eq _ c.args.t (c.requires.good, (c.requires.all_sized, (c.requires.p_bound, c.requires.room))) c.look-x.ensures c.look-y.ensures (omega (arith, c.if-y-x.false, c.if-x-y.false)) refl c.in_err-u.ensures)
 
 pub take_entries-remove-requires : goal.take_entries-remove-requires
 take_entries-remove-requires t c =
     call_eq _ c.args.t (c.requires.good, (c.requires.all_sized, (c.requires.p_bound, c.requires.room))) c.look-x.ensures c.look-y.ensures (omega (arith, c.if-y-x.false, c.if-x-y.false)) c.decreases
 
-pub take_entries-returns-in_default-remove : goal.take_entries-returns-in_default-remove
-take_entries-returns-in_default-remove t c =
-    panic_child _ c.args.t (c.requires.good, (c.requires.all_sized, (c.requires.p_bound, c.requires.room))) c.look-x.ensures c.look-y.ensures (omega (arith, c.if-y-x.false, c.if-x-y.false)) c.in-There.is c.subtype_at.ensures c.remove.ensures c.in_default-remove.is
+pub take_entries-returns-in_err-c : goal.take_entries-returns-in_err-c
+take_entries-returns-in_err-c t c =
+    rw c.from_residual-in_err-c.ensures (panic_child _ c.args.t (c.requires.good, (c.requires.all_sized, (c.requires.p_bound, c.requires.room))) c.look-x.ensures c.look-y.ensures (omega (arith, c.if-y-x.false, c.if-x-y.false)) refl c.in_ok-u.ensures c.in_err-c.ensures refl)
 
 pub take_entries-take_entries-requires-2 : goal.take_entries-take_entries-requires-2
 take_entries-take_entries-requires-2 t c =
-    call_rest _ c.args.t (c.requires.good, (c.requires.all_sized, (c.requires.p_bound, c.requires.room))) c.look-x.ensures c.look-y.ensures (omega (arith, c.if-y-x.false, c.if-x-y.false)) c.in-There.is c.subtype_at.ensures c.remove.ensures c.decreases
+    call_rest _ c.args.t (c.requires.good, (c.requires.all_sized, (c.requires.p_bound, c.requires.room))) c.look-x.ensures c.look-y.ensures (omega (arith, c.if-y-x.false, c.if-x-y.false)) refl c.in_ok-u.ensures c.in_ok-c.ensures c.decreases
 
-pub take_entries-returns-in_default-take_entries : goal.take_entries-returns-in_default-take_entries
-take_entries-returns-in_default-take_entries t c =
-    panic_rest _ c.args.t (c.requires.good, (c.requires.all_sized, (c.requires.p_bound, c.requires.room))) c.look-x.ensures c.look-y.ensures (omega (arith, c.if-y-x.false, c.if-x-y.false)) c.in-There.is c.subtype_at.ensures c.remove.ensures c.in-Left-remove.is c.take_entries-2.ensures c.in_default-take_entries.is
+pub take_entries-returns-in_err-r-2 : goal.take_entries-returns-in_err-r-2
+take_entries-returns-in_err-r-2 t c =
+    rw c.from_residual-in_err-r-2.ensures (panic_rest _ c.args.t (c.requires.good, (c.requires.all_sized, (c.requires.p_bound, c.requires.room))) c.look-x.ensures c.look-y.ensures (omega (arith, c.if-y-x.false, c.if-x-y.false)) refl c.in_ok-u.ensures c.in_ok-c.ensures refl c.in_err-r-2.ensures refl)
 
-pub take_entries-remake-n-requires-2 : goal.take_entries-remake-n-requires-2
-take_entries-remake-n-requires-2 t c =
-    let q9 = make_rest _ c.args.t (c.requires.good, (c.requires.all_sized, (c.requires.p_bound, c.requires.room))) c.look-x.ensures c.look-y.ensures (omega (arith, c.if-y-x.false, c.if-x-y.false)) c.in-There.is c.subtype_at.ensures c.remove.ensures c.in-Left-remove.is c.take_entries-2.ensures c.in-Left-take_entries.is in
+pub take_entries-remake-requires-2 : goal.take_entries-remake-requires-2
+take_entries-remake-requires-2 t c =
+    let q9 = make_rest _ c.args.t (c.requires.good, (c.requires.all_sized, (c.requires.p_bound, c.requires.room))) c.look-x.ensures c.look-y.ensures (omega (arith, c.if-y-x.false, c.if-x-y.false)) refl c.in_ok-u.ensures c.in_ok-c.ensures refl c.in_ok-r-2.ensures refl in
     record { good = q9.0; room = q9.1.0; child_bound = q9.1.1.0; holds = q9.1.1.1 }
 
 pub take_entries-returns : goal.take_entries-returns
 take_entries-returns t c =
-    done_rest _ c.args.t (c.requires.good, (c.requires.all_sized, (c.requires.p_bound, c.requires.room))) c.look-x.ensures c.look-y.ensures (omega (arith, c.if-y-x.false, c.if-x-y.false)) c.in-There.is c.subtype_at.ensures c.remove.ensures c.in-Left-remove.is c.take_entries-2.ensures c.in-Left-take_entries.is c.remake-n-2.ensures
+    done_rest _ c.args.t (c.requires.good, (c.requires.all_sized, (c.requires.p_bound, c.requires.room))) c.look-x.ensures c.look-y.ensures (omega (arith, c.if-y-x.false, c.if-x-y.false)) refl c.in_ok-u.ensures c.in_ok-c.ensures refl c.in_ok-r-2.ensures refl c.remake-2.ensures

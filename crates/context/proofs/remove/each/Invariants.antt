@@ -6,6 +6,3 @@ use Rattle.context.proofs.remove.each.Given as goal
 
 abbrev pub invariant-loop-k : goal.invariant-loop-k
 invariant-loop-k l = Listed l.initial.cells l.cells l.n l.child l.k l.r × (l.child < top l.initial.cells)
-
-abbrev pub decreases-loop-k : goal.decreases-loop-k
-decreases-loop-k l = l.k

@@ -10,4 +10,4 @@ pub returns-then-p-gt0 : goal.returns-then-p-gt0
 returns-then-p-gt0 c = split-known _ c.args.t _ c.if-p-gt0.true c.requires.good c.requires.room.1
 
 pub returns : goal.returns
-returns c = split-all _ _ c.in-Is.is (search rules) c.type_to_parts.ensures
+returns c = split-all _ _ c.in-Some.is (search rules) c.type_to_parts.ensures

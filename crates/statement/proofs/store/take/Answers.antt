@@ -12,20 +12,20 @@ take_out-taken-requires c =
 
 pub over-requires : goal.over-requires
 over-requires c =
-    let q9 = take_over c.requires c.load_context-c.ensures c.take_out-taken.ensures c.in-Left.is in
+    let q9 = take_over c.requires c.load_context-c.ensures c.take_out-taken.ensures c.in-Some.is in
     record { good = q9.0; has_context = q9.1 }
 
 pub returns-then-over : goal.returns-then-over
 returns-then-over c =
-    take_long c.requires c.load_context-c.ensures c.take_out-taken.ensures c.in-Left.is c.over.ensures c.if-over.true
+    take_long c.requires c.load_context-c.ensures c.take_out-taken.ensures c.in-Some.is c.over.ensures c.if-over.true
 
 pub bounds-slots-2 : goal.bounds-slots-2
 bounds-slots-2 c =
-    take_inside c.requires c.load_context-c.ensures c.take_out-taken.ensures c.in-Left.is c.save_context.ensures
+    take_inside c.requires c.load_context-c.ensures c.take_out-taken.ensures c.in-Some.is c.save_context.ensures
 
 pub returns-else-over : goal.returns-else-over
 returns-else-over c =
-    take_done c.requires c.load_context-c.ensures c.take_out-taken.ensures c.in-Left.is c.save_context.ensures c.over.ensures c.if-over.false
+    take_done c.requires c.load_context-c.ensures c.take_out-taken.ensures c.in-Some.is c.save_context.ensures c.over.ensures c.if-over.false
 
-pub returns-in-Panic : goal.returns-in-Panic
-returns-in-Panic c = take_panics c.requires c.load_context-c.ensures c.take_out-taken.ensures c.in-Panic.is
+pub returns-in-None : goal.returns-in-None
+returns-in-None c = take_panics c.requires c.load_context-c.ensures c.take_out-taken.ensures c.in-None.is

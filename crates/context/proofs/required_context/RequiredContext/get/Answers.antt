@@ -1,15 +1,9 @@
--- `context::required_context::RequiredContext::get` meets its contract: by the kind of the variable.
-use native.Mathlib.Omega.{arith}
+-- `context::required_context::RequiredContext::get` meets its contract: the entry of the variable in its map.
+use Rattle.context.proofs.Contexts.{map_there, map_has}
 use Rattle.context.proofs.required_context.RequiredContext.get.Goals as goal
 
-pub overflow_add-g : goal.overflow_add-g
-overflow_add-g c = omega (arith, rw c.in-Global.is at c.requires.has_context.1)
+pub get-requires : goal.get-requires
+get-requires c = record { good = c.requires.good; a_bound = rw c.entry_of-m.ensures.0 (map_there c.requires.has_context.0 c.args.var) }
 
-pub overflow_add-l : goal.overflow_add-l
-overflow_add-l c = omega (arith, rw c.in-Local.is at c.requires.has_context.1)
-
-pub returns-in-Global : goal.returns-in-Global
-returns-in-Global c = rw c.in-Global.is c.get.ensures
-
-pub returns-in-Local : goal.returns-in-Local
-returns-in-Local c = rw c.in-Local.is c.get-in-Local.ensures
+pub returns : goal.returns
+returns c = rw (c.entry_of-m.ensures.0, c.entry_of-m.ensures.1, map_has _ _ c.args.var) at c.get.ensures
