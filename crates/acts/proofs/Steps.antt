@@ -9,7 +9,6 @@ use lib.Dec.{ltb}
 use lib.ListN.{length, get_or, set, length-set}
 use Rattle.part.specs.PartReq.{PartReq}
 use Rattle.part.specs.Store.{top, part, Good, Room, Made}
-use Rattle.part.specs.Count.{same}
 use Rattle.part.proofs.Distinct.{untrue}
 use Rattle.clearance.specs.Shape.{some}
 use Rattle.clearance.specs.Scope.{Scope, Place, frame}

@@ -135,17 +135,6 @@ fn pass_emit(
     blame(l, p)
 }
 
-// How many expressions an emit has.
-fn count(first: ExpressionHandle, last: ExpressionHandle) -> u32
-    requires { last.0 < 65536 }
-    ensures { result ≡ (last.0 + 1) - first.0 }
-{
-    if last.0 < first.0 {
-        return 0;
-    }
-    last.0 - first.0 + 1
-}
-
 // The statement l, an emit of the expressions from the first to the last, whose marks begin at `begin`, in a pass.
 pub fn pass_emits(
     bytes: &[u8],
@@ -171,9 +160,8 @@ pub fn pass_emits(
     ensures { EmitsPassed (scope_at bytes.now t.now f.0) marks.now l first.0 last.0 cells.old roots.old n p cells.new roots.new path.old path.new result }
 {
     let mut q = p;
-    let mut i = count(first, last);
-    while 0 < i {
-        let k = i - 1;
+    let count = (last.0 + 1).saturating_sub(first.0);
+    for k in (0..count).rev() {
         let at = note(cells, roots, n, q);
         let marked = mark_at(marks, (begin as usize) + (k as usize));
         let e = ExpressionHandle(first.0 + k);
@@ -183,7 +171,6 @@ pub fn pass_emits(
         if q.full {
             return q;
         }
-        i = k;
     }
     q
 }

@@ -30,7 +30,7 @@ const IF: u16 = 2;
 const SWITCH: u16 = 3;
 
 // The cases of a switch: their union stands in the last slot, none at first. The needs after the switch stand where a break leads.
-#[cycle(pass_around_pass_bare_pass_block_pass_cases_pass_holder_pass_if_pass_loop_pass_statement_pass_switch)]
+#[cycle(blocks)]
 fn pass_cases(
     bytes: &[u8],
     t: &[u32],
@@ -59,8 +59,7 @@ fn pass_cases(
 {
     let count = operand(bytes, row, 1) as u32;
     let mut q = p;
-    let mut i: u32 = 0;
-    while i < count {
+    for i in 0..count {
         copy(roots, x.broke, n);
         let case = block_operand(bytes, row, 3 + 2 * i);
         q = pass_around(
@@ -86,12 +85,11 @@ fn pass_cases(
         if !merge(cells, roots, n, n, n - 1) {
             return filled();
         }
-        i += 1;
     }
     q
 }
 
-#[cycle(pass_around_pass_bare_pass_block_pass_cases_pass_holder_pass_if_pass_loop_pass_statement_pass_switch)]
+#[cycle(blocks)]
 fn pass_switch(
     bytes: &[u8],
     t: &[u32],
@@ -148,7 +146,7 @@ fn pass_switch(
     filled()
 }
 
-#[cycle(pass_around_pass_bare_pass_block_pass_cases_pass_holder_pass_if_pass_loop_pass_statement_pass_switch)]
+#[cycle(blocks)]
 fn pass_if(
     bytes: &[u8],
     t: &[u32],
@@ -226,7 +224,7 @@ fn pass_if(
     filled()
 }
 
-#[cycle(pass_around_pass_bare_pass_block_pass_cases_pass_holder_pass_if_pass_loop_pass_statement_pass_switch)]
+#[cycle(blocks)]
 fn pass_loop(
     bytes: &[u8],
     t: &[u32],
@@ -307,7 +305,7 @@ fn pass_loop(
 }
 
 // What has the mark of the statement s of the block b: an if, a switch or a loop.
-#[cycle(pass_around_pass_bare_pass_block_pass_cases_pass_holder_pass_if_pass_loop_pass_statement_pass_switch)]
+#[cycle(blocks)]
 fn pass_bare(
     bytes: &[u8],
     t: &[u32],
@@ -350,7 +348,7 @@ fn pass_bare(
 }
 
 // One that breaks its rule is walked as if marked, and what is needed after it is needed before it too.
-#[cycle(pass_around_pass_bare_pass_block_pass_cases_pass_holder_pass_if_pass_loop_pass_statement_pass_switch)]
+#[cycle(blocks)]
 fn pass_holder(
     bytes: &[u8],
     t: &[u32],
@@ -418,7 +416,7 @@ fn pass_holder(
 }
 
 // The statement s of the block b.
-#[cycle(pass_around_pass_bare_pass_block_pass_cases_pass_holder_pass_if_pass_loop_pass_statement_pass_switch)]
+#[cycle(blocks)]
 fn pass_statement(
     bytes: &[u8],
     t: &[u32],
@@ -460,7 +458,7 @@ fn pass_statement(
     )
 }
 
-#[cycle(pass_around_pass_bare_pass_block_pass_cases_pass_holder_pass_if_pass_loop_pass_statement_pass_switch)]
+#[cycle(blocks)]
 fn pass_block(
     bytes: &[u8],
     t: &[u32],
@@ -486,9 +484,7 @@ fn pass_block(
     let range = block(t, f, b);
     let first = range.first;
     let mut q = p;
-    let mut k = range.count;
-    while 0 < k {
-        k -= 1;
+    for k in (0..range.count).rev() {
         let at = note(cells, roots, n, q);
         q = pass_statement(
             bytes,
@@ -516,7 +512,7 @@ fn pass_block(
 }
 
 // A block with the points after and before it.
-#[cycle(pass_around_pass_bare_pass_block_pass_cases_pass_holder_pass_if_pass_loop_pass_statement_pass_switch)]
+#[cycle(blocks)]
 pub fn pass_around(
     bytes: &[u8],
     t: &[u32],

@@ -79,13 +79,10 @@ pub fn ask_letters(
     requires row_bound { operand_at bytes.now row 1 ≤ 4 }
     ensures { AsksAll (scope_at bytes.now t.now f.0) (ask_picked (operand_at bytes.now row 0) (letters (operand_at bytes.now row)) 0 (wanted_in cells.old roots.old n)) cells.old roots.old n cells.new roots.new result }
 {
-    let mut k = operand(bytes, row, 1);
-    while 0 < k {
-        let i = k - 1;
-        if !ask_letter(bytes, t, f, cells, roots, n, row, i) {
+    for k in (0..operand(bytes, row, 1)).rev() {
+        if !ask_letter(bytes, t, f, cells, roots, n, row, k) {
             return false;
         }
-        k = i;
     }
     true
 }
@@ -103,13 +100,10 @@ pub fn ask_components(
     requires { ListGiven (scope_at bytes.now t.now f.0) (ask_components (components (operand_at bytes.now row)) 0 (wanted_in cells.old roots.old n)) cells.old roots.old n }
     ensures { AsksAll (scope_at bytes.now t.now f.0) (ask_components (components (operand_at bytes.now row)) 0 (wanted_in cells.old roots.old n)) cells.old roots.old n cells.new roots.new result }
 {
-    let mut k = operand(bytes, row, 0);
-    while 0 < k {
-        let i = k - 1;
-        if !ask_component(bytes, t, f, cells, roots, n, row, i) {
+    for k in (0..operand(bytes, row, 0)).rev() {
+        if !ask_component(bytes, t, f, cells, roots, n, row, k) {
             return false;
         }
-        k = i;
     }
     true
 }
@@ -127,13 +121,10 @@ pub fn ask_joined(
     requires { ListGiven (scope_at bytes.now t.now f.0) (map ask_whole (components (operand_at bytes.now row))) cells.old roots.old n }
     ensures { AsksAll (scope_at bytes.now t.now f.0) (map ask_whole (components (operand_at bytes.now row))) cells.old roots.old n cells.new roots.new result }
 {
-    let mut k = operand(bytes, row, 0);
-    while 0 < k {
-        let i = k - 1;
-        if !ask_whole(bytes, t, f, cells, roots, n, row, 1 + i) {
+    for k in (0..operand(bytes, row, 0)).rev() {
+        if !ask_whole(bytes, t, f, cells, roots, n, row, 1 + k) {
             return false;
         }
-        k = i;
     }
     true
 }

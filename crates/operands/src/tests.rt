@@ -46,14 +46,11 @@ fn any_vector(bytes: &[u8], t: &[u32], f: FunctionHandle, types: &[u32], row: Ki
     requires { (module_of bytes.now t.now).types ≡ types_of types.now }
     ensures { result ≡ any_vector (scope_at bytes.now t.now f.0) (components (operand_at bytes.now row)) }
 {
-    let count = operand(bytes, row, 0);
-    let mut i: u16 = 0;
-    while i < count {
+    for i in 0..operand(bytes, row, 0) {
         let a = type_of(bytes, t, f, expression_operand(bytes, row, 1 + i));
         if kind_at(types, a) == VECTOR {
             return true;
         }
-        i += 1;
     }
     false
 }

@@ -1,6 +1,5 @@
 -- `operands::made::ask_components` meets its contract. The invariant: the asks from the number k on are done.
 use Prim.Native.Nat.{◌-◌}
-use mathlib.Core.Bool.{true}
 use Rattle.access.specs.Access.{operand_at}
 use Rattle.operands.proofs.Loops.{loop_start, loop_done, loop_given, loop_full, loop_more}
 use Rattle.operands.proofs.Parts.{components-each}
@@ -9,20 +8,20 @@ use Rattle.operands.proofs.made.ask_components.Goals as goal
 
 pub loop-k-init : goal.loop-k-init
 loop-k-init c =
-    (loop_start (components-each (operand_at c.args.bytes.now c.args.row) _) c.requires c.operand-k.ensures, omega (arith, c.operand-k.ensures), omega (arith, c.operand-k.type_inv))
+    loop_start (components-each (operand_at c.args.bytes.now c.args.row) _) c.requires c.operand-k.ensures
 
 pub ask_component-requires : goal.ask_component-requires
 ask_component-requires c =
-    record { list_given = loop_given (components-each (operand_at c.args.bytes.now c.args.row) _) c.requires (c.loop-k.k - 1) (omega (arith, c.loop-k-test.true)) c.loop-k.invariant.1 c.loop-k.invariant.0; k_bound = omega (arith, c.loop-k.invariant.2) }
+    record { list_given = loop_given (components-each (operand_at c.args.bytes.now c.args.row) _) c.requires (c.loop-k.k - 1) (omega arith) (omega arith) c.loop-k.invariant; k_bound = omega arith }
 
 pub returns-then-not-ask_component : goal.returns-then-not-ask_component
 returns-then-not-ask_component c =
-    loop_full (components-each (operand_at c.args.bytes.now c.args.row) _) c.requires (c.loop-k.k - 1) (omega (arith, c.loop-k-test.true)) c.loop-k.invariant.1 c.loop-k.invariant.0 c.ask_component.ensures c.if-not-ask_component.true
+    loop_full (components-each (operand_at c.args.bytes.now c.args.row) _) c.requires (c.loop-k.k - 1) (omega arith) (omega arith) c.loop-k.invariant c.ask_component.ensures c.if-not-ask_component.true
 
 pub loop-k-preserved : goal.loop-k-preserved
 loop-k-preserved c =
-    (loop_more (components-each (operand_at c.args.bytes.now c.args.row) _) c.requires (c.loop-k.k - 1) (omega (arith, c.loop-k-test.true)) c.loop-k.invariant.1 c.loop-k.invariant.0 c.ask_component.ensures c.if-not-ask_component.false, omega (arith, c.loop-k.invariant.1), omega (arith, c.loop-k.invariant.2))
+    loop_more (components-each (operand_at c.args.bytes.now c.args.row) _) c.requires (c.loop-k.k - 1) (omega arith) (omega arith) c.loop-k.invariant c.ask_component.ensures c.if-not-ask_component.false
 
 pub returns : goal.returns
 returns c =
-    loop_done (components-each (operand_at c.args.bytes.now c.args.row) _) c.requires c.loop-k-test.false c.loop-k.invariant.0
+    loop_done (components-each (operand_at c.args.bytes.now c.args.row) _) c.requires (omega arith) c.loop-k.invariant

@@ -1,5 +1,4 @@
 -- `operands::made::ask_joined` meets its contract. The invariant: the asks from the number k on are done.
-use Prim.Native.Nat.{◌-◌, ◌<◌, ◌≤◌}
 use mathlib.Core.Bool.{true}
 use lib.ListN.{drop}
 use Rattle.access.specs.Access.{operand_at}
@@ -11,7 +10,4 @@ use Rattle.operands.specs.AsksAll.{AsksAll}
 use Rattle.operands.proofs.made.ask_joined.Given as goal
 
 abbrev pub invariant-loop-k : goal.invariant-loop-k
-invariant-loop-k l = AsksAll (scope_at l.bytes l.t l.f.0) (drop l.k (map ask_whole (components (operand_at l.bytes l.row)))) l.initial.cells l.initial.roots l.n l.cells l.roots true × (l.k ≤ operand_at l.bytes l.row 0) × (l.k < 65536)
-
-abbrev pub decreases-loop-k : goal.decreases-loop-k
-decreases-loop-k l = l.k
+invariant-loop-k l = AsksAll (scope_at l.bytes l.t l.f.0) (drop l.k (map ask_whole (components (operand_at l.bytes l.row)))) l.initial.cells l.initial.roots l.n l.cells l.roots true

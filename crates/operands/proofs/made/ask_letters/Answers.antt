@@ -1,6 +1,5 @@
 -- `operands::made::ask_letters` meets its contract. The invariant: the asks from the number k on are done.
 use Prim.Native.Nat.{◌-◌}
-use mathlib.Core.Bool.{true}
 use Rattle.access.specs.Access.{operand_at}
 use Rattle.operands.proofs.Loops.{loop_start, loop_done, loop_given, loop_full, loop_more}
 use Rattle.operands.proofs.Parts.{letters-each}
@@ -9,20 +8,20 @@ use Rattle.operands.proofs.made.ask_letters.Goals as goal
 
 pub loop-k-init : goal.loop-k-init
 loop-k-init c =
-    (loop_start (letters-each (operand_at c.args.bytes.now c.args.row) _) c.requires.list_given c.operand-k.ensures, omega (arith, c.operand-k.ensures))
+    loop_start (letters-each (operand_at c.args.bytes.now c.args.row) _) c.requires.list_given c.operand-k.ensures
 
 pub ask_letter-requires : goal.ask_letter-requires
 ask_letter-requires c =
-    record { list_given = loop_given (letters-each (operand_at c.args.bytes.now c.args.row) _) c.requires.list_given (c.loop-k.k - 1) (omega (arith, c.loop-k-test.true)) c.loop-k.invariant.1 c.loop-k.invariant.0; k_bound = omega (arith, c.loop-k-test.true, c.loop-k.invariant.1, c.requires.row_bound) }
+    record { list_given = loop_given (letters-each (operand_at c.args.bytes.now c.args.row) _) c.requires.list_given (c.loop-k.k - 1) (omega arith) (omega arith) c.loop-k.invariant; k_bound = omega arith }
 
 pub returns-then-not-ask_letter : goal.returns-then-not-ask_letter
 returns-then-not-ask_letter c =
-    loop_full (letters-each (operand_at c.args.bytes.now c.args.row) _) c.requires.list_given (c.loop-k.k - 1) (omega (arith, c.loop-k-test.true)) c.loop-k.invariant.1 c.loop-k.invariant.0 c.ask_letter.ensures c.if-not-ask_letter.true
+    loop_full (letters-each (operand_at c.args.bytes.now c.args.row) _) c.requires.list_given (c.loop-k.k - 1) (omega arith) (omega arith) c.loop-k.invariant c.ask_letter.ensures c.if-not-ask_letter.true
 
 pub loop-k-preserved : goal.loop-k-preserved
 loop-k-preserved c =
-    (loop_more (letters-each (operand_at c.args.bytes.now c.args.row) _) c.requires.list_given (c.loop-k.k - 1) (omega (arith, c.loop-k-test.true)) c.loop-k.invariant.1 c.loop-k.invariant.0 c.ask_letter.ensures c.if-not-ask_letter.false, omega (arith, c.loop-k.invariant.1))
+    loop_more (letters-each (operand_at c.args.bytes.now c.args.row) _) c.requires.list_given (c.loop-k.k - 1) (omega arith) (omega arith) c.loop-k.invariant c.ask_letter.ensures c.if-not-ask_letter.false
 
 pub returns : goal.returns
 returns c =
-    loop_done (letters-each (operand_at c.args.bytes.now c.args.row) _) c.requires.list_given c.loop-k-test.false c.loop-k.invariant.0
+    loop_done (letters-each (operand_at c.args.bytes.now c.args.row) _) c.requires.list_given (omega arith) c.loop-k.invariant

@@ -1,24 +1,18 @@
 -- The proof of the cycle of calls over blocks, statements and what they hold: the block's number falls. Each member's steps stand in a file of laws: Statements, Holders, Ifs, Switches, Loops.
-use Prim.Native.Nat.{◌+◌, ◌*◌, ◌-◌, ◌≤◌}
+use Prim.Native.Nat.{◌+◌, ◌*◌}
 use Rattle.module.specs.Tables.{function_of}
 use Rattle.access.specs.Access.{operand_at}
 use Rattle.judge.specs.Given.{scope_at}
 use Rattle.backward.specs.Course.{case_block}
 use Rattle.backward.proofs.Statements.{Later}
 use Rattle.backward.proofs.Switches.{Union}
-use Rattle.backward.proofs.blocks.+pass_around_pass_bare_pass_block_pass_cases_pass_holder_pass_if_pass_loop_pass_statement_pass_switch.Given as goal
+use Rattle.backward.proofs.blocks.+blocks.Given as goal
 
 abbrev pub invariant-pass_block-loop-k : goal.invariant-pass_block-loop-k
 invariant-pass_block-loop-k l = Later l.bytes l.t l.f.0 l.b.0 l.marks l.initial.cells l.initial.roots l.initial.path l.n l.x l.initial.q l.first l.initial.k l.k l.cells l.roots l.path l.q
 
-abbrev pub decreases-pass_block-loop-k : goal.decreases-pass_block-loop-k
-decreases-pass_block-loop-k l = l.k
-
 abbrev pub invariant-pass_cases-loop-i : goal.invariant-pass_cases-loop-i
-invariant-pass_cases-loop-i l = Union (scope_at l.bytes l.t l.f.0) l.i (case_block (function_of l.bytes l.t l.f.0) l.marks (operand_at l.bytes l.row)) l.initial.cells l.initial.roots l.n l.x l.initial.q l.cells l.roots l.initial.path l.path l.q × (l.i ≤ operand_at l.bytes l.row 1)
-
-abbrev pub decreases-pass_cases-loop-i : goal.decreases-pass_cases-loop-i
-decreases-pass_cases-loop-i l = l.count - l.i
+invariant-pass_cases-loop-i l = Union (scope_at l.bytes l.t l.f.0) l.i (case_block (function_of l.bytes l.t l.f.0) l.marks (operand_at l.bytes l.row)) l.initial.cells l.initial.roots l.n l.x l.initial.q l.cells l.roots l.initial.path l.path l.q
 
 abbrev pub decreases-pass_around : goal.decreases-pass_around
 decreases-pass_around l = 8 * l.b.0 + 8

@@ -9,7 +9,7 @@ use Rattle.backward.proofs.Ifs.{if_copy, reject_asks, if_rejected, if_exchange, 
 use Rattle.backward.proofs.Switches.{no_case, case_copy, case_asks, case_passes, merge_asks, case_more, case_lengths, case_ends_full, all_cases, switch_write, cases_ask, switch_passes, switch_end_asks, switch-ends, switch_lengths, switch_ends_full}
 use Rattle.backward.proofs.Loops.{begin_asks, loop_begun_full, continuing_asks, loop_continuing, body_copy, body_asks, loop_body, end_asks, loop_ends}
 use native.Mathlib.Omega.{arith}
-use Rattle.backward.proofs.blocks.+pass_around_pass_bare_pass_block_pass_cases_pass_holder_pass_if_pass_loop_pass_statement_pass_switch.Goals as goal
+use Rattle.backward.proofs.blocks.+blocks.Goals as goal
 
 pub pass_around-note-at-requires : goal.pass_around-note-at-requires
 pass_around-note-at-requires t c =
@@ -125,131 +125,122 @@ pass_block-note-at-requires t c =
 
 pub pass_block-overflow_add-first : goal.pass_block-overflow_add-first
 pass_block-overflow_add-first t c =
-    omega (arith, statement_small (statement_in c.requires.block_of _ (c.loop-k.k - 1) c.block-range.ensures (omega (arith, c.loop-k.invariant.within, c.loop-k-test.true))))
+    omega (arith, statement_small (statement_in c.requires.block_of _ (c.loop-k.k - 1) c.block-range.ensures (omega (arith, c.loop-k.invariant.within))))
 
 pub pass_block-pass_statement-q-requires : goal.pass_block-pass_statement-q-requires
 pass_block-pass_statement-q-requires t c =
-    let z = statement_asks c.requires.course c.loop-k.invariant c.note-at.ensures c.requires.b_in_bounds in (omega (arith, c.decreases), (z.0, (z.1, statement_in c.requires.block_of _ _ c.block-range.ensures (omega (arith, c.loop-k.invariant.within, c.loop-k-test.true)))))
+    let z = statement_asks c.requires.course c.loop-k.invariant c.note-at.ensures c.requires.b_in_bounds in (omega (arith, c.decreases), (z.0, (z.1, statement_in c.requires.block_of _ _ c.block-range.ensures (omega (arith, c.loop-k.invariant.within)))))
 
 pub pass_block-shape_of-cells-then-q : goal.pass_block-shape_of-cells-then-q
 pass_block-shape_of-cells-then-q t c =
-    (later_full c.requires.course c.loop-k.invariant c.note-at.ensures (c.loop-k.k - 1) (omega (arith, c.loop-k-test.true)) c.pass_statement-q.ensures c.if-q.true c.requires.block_of c.block-range.ensures refl refl).walked.cells
+    (later_full c.requires.course c.loop-k.invariant c.note-at.ensures (c.loop-k.k - 1) (omega arith) c.pass_statement-q.ensures c.if-q.true c.requires.block_of c.block-range.ensures refl refl).walked.cells
 
 pub pass_block-shape_of-roots-then-q : goal.pass_block-shape_of-roots-then-q
 pass_block-shape_of-roots-then-q t c =
-    (later_full c.requires.course c.loop-k.invariant c.note-at.ensures (c.loop-k.k - 1) (omega (arith, c.loop-k-test.true)) c.pass_statement-q.ensures c.if-q.true c.requires.block_of c.block-range.ensures refl refl).walked.slots
+    (later_full c.requires.course c.loop-k.invariant c.note-at.ensures (c.loop-k.k - 1) (omega arith) c.pass_statement-q.ensures c.if-q.true c.requires.block_of c.block-range.ensures refl refl).walked.slots
 
 pub pass_block-shape_of-path-then-q : goal.pass_block-shape_of-path-then-q
 pass_block-shape_of-path-then-q t c =
-    (later_full c.requires.course c.loop-k.invariant c.note-at.ensures (c.loop-k.k - 1) (omega (arith, c.loop-k-test.true)) c.pass_statement-q.ensures c.if-q.true c.requires.block_of c.block-range.ensures refl refl).long
+    (later_full c.requires.course c.loop-k.invariant c.note-at.ensures (c.loop-k.k - 1) (omega arith) c.pass_statement-q.ensures c.if-q.true c.requires.block_of c.block-range.ensures refl refl).long
 
 pub pass_block-returns-then-q : goal.pass_block-returns-then-q
 pass_block-returns-then-q t c =
-    later_full c.requires.course c.loop-k.invariant c.note-at.ensures (c.loop-k.k - 1) (omega (arith, c.loop-k-test.true)) c.pass_statement-q.ensures c.if-q.true c.requires.block_of c.block-range.ensures refl refl
-
-pub pass_block-loop-k-smaller : goal.pass_block-loop-k-smaller
-pass_block-loop-k-smaller t c = omega (arith, c.loop-k-test.true)
+    later_full c.requires.course c.loop-k.invariant c.note-at.ensures (c.loop-k.k - 1) (omega arith) c.pass_statement-q.ensures c.if-q.true c.requires.block_of c.block-range.ensures refl refl
 
 pub pass_block-loop-k-preserved : goal.pass_block-loop-k-preserved
 pass_block-loop-k-preserved t c =
-    later_more c.requires.course c.loop-k.invariant c.note-at.ensures (c.loop-k.k - 1) (omega (arith, c.loop-k-test.true)) c.pass_statement-q.ensures c.if-q.false
+    later_more c.requires.course c.loop-k.invariant c.note-at.ensures (c.loop-k.k - 1) (omega arith) c.pass_statement-q.ensures c.if-q.false
 
 pub pass_block-shape_of-cells : goal.pass_block-shape_of-cells
 pass_block-shape_of-cells t c =
-    (all_walked c.requires.course c.loop-k.invariant c.requires.block_of c.block-range.ensures refl refl (omega (arith, c.loop-k-test.false))).walked.cells
+    (all_walked c.requires.course c.loop-k.invariant c.requires.block_of c.block-range.ensures refl refl (omega arith)).walked.cells
 
 pub pass_block-shape_of-roots : goal.pass_block-shape_of-roots
 pass_block-shape_of-roots t c =
-    (all_walked c.requires.course c.loop-k.invariant c.requires.block_of c.block-range.ensures refl refl (omega (arith, c.loop-k-test.false))).walked.slots
+    (all_walked c.requires.course c.loop-k.invariant c.requires.block_of c.block-range.ensures refl refl (omega arith)).walked.slots
 
 pub pass_block-shape_of-path : goal.pass_block-shape_of-path
 pass_block-shape_of-path t c =
-    (all_walked c.requires.course c.loop-k.invariant c.requires.block_of c.block-range.ensures refl refl (omega (arith, c.loop-k-test.false))).long
+    (all_walked c.requires.course c.loop-k.invariant c.requires.block_of c.block-range.ensures refl refl (omega arith)).long
 
 pub pass_block-returns : goal.pass_block-returns
 pass_block-returns t c =
-    all_walked c.requires.course c.loop-k.invariant c.requires.block_of c.block-range.ensures refl refl (omega (arith, c.loop-k-test.false))
+    all_walked c.requires.course c.loop-k.invariant c.requires.block_of c.block-range.ensures refl refl (omega arith)
 
 pub pass_cases-loop-i-init : goal.pass_cases-loop-i-init
 pass_cases-loop-i-init t c =
-    (no_case c.requires.course c.requires.row_in c.requires.kind_value c.args.marks.now c.requires.n_value, omega arith)
+    no_case c.requires.course c.requires.row_in c.requires.kind_value c.args.marks.now c.requires.n_value
 
 pub pass_cases-copy-requires : goal.pass_cases-copy-requires
 pass_cases-copy-requires t c =
-    case_copy c.requires.course c.requires.row_in c.requires.kind_value c.args.marks.now c.requires.b_in_bounds _ c.loop-i.invariant.0
+    case_copy c.requires.course c.requires.row_in c.requires.kind_value c.args.marks.now c.requires.b_in_bounds _ c.loop-i.invariant
 
 pub pass_cases-overflow_add-n : goal.pass_cases-overflow_add-n
 pass_cases-overflow_add-n t c = omega (arith, c.requires.b_in_bounds, c.well_formed, c.ranges)
 
 pub pass_cases-pass_around-q-requires : goal.pass_cases-pass_around-q-requires
 pass_cases-pass_around-q-requires t c =
-    let z = case_asks c.requires.course c.requires.row_in c.requires.kind_value c.args.marks.now c.requires.b_in_bounds _ c.loop-i.invariant.0 (omega (arith, c.loop-i-test.true, c.operand-count.ensures)) c.copy.ensures c.block_operand-case.ensures in (omega (arith, z.0, c.decreases), z.1)
+    let z = case_asks c.requires.course c.requires.row_in c.requires.kind_value c.args.marks.now c.requires.b_in_bounds _ c.loop-i.invariant (omega (arith, c.loop-i-test.true, c.operand-count.ensures)) c.copy.ensures c.block_operand-case.ensures in (omega (arith, z.0, c.decreases), z.1)
 
 pub pass_cases-shape_of-cells-then-q : goal.pass_cases-shape_of-cells-then-q
 pass_cases-shape_of-cells-then-q t c =
-    (case_passes c.requires.course c.requires.row_in c.requires.kind_value c.args.marks.now c.requires.b_in_bounds _ c.loop-i.invariant.0 (omega (arith, c.loop-i-test.true, c.operand-count.ensures)) c.copy.ensures c.block_operand-case.ensures c.pass_around-q.ensures c.if-q.true).walked.cells
+    (case_passes c.requires.course c.requires.row_in c.requires.kind_value c.args.marks.now c.requires.b_in_bounds _ c.loop-i.invariant (omega (arith, c.loop-i-test.true, c.operand-count.ensures)) c.copy.ensures c.block_operand-case.ensures c.pass_around-q.ensures c.if-q.true).walked.cells
 
 pub pass_cases-shape_of-roots-then-q : goal.pass_cases-shape_of-roots-then-q
 pass_cases-shape_of-roots-then-q t c =
-    (case_passes c.requires.course c.requires.row_in c.requires.kind_value c.args.marks.now c.requires.b_in_bounds _ c.loop-i.invariant.0 (omega (arith, c.loop-i-test.true, c.operand-count.ensures)) c.copy.ensures c.block_operand-case.ensures c.pass_around-q.ensures c.if-q.true).walked.slots
+    (case_passes c.requires.course c.requires.row_in c.requires.kind_value c.args.marks.now c.requires.b_in_bounds _ c.loop-i.invariant (omega (arith, c.loop-i-test.true, c.operand-count.ensures)) c.copy.ensures c.block_operand-case.ensures c.pass_around-q.ensures c.if-q.true).walked.slots
 
 pub pass_cases-shape_of-path-then-q : goal.pass_cases-shape_of-path-then-q
 pass_cases-shape_of-path-then-q t c =
-    (case_passes c.requires.course c.requires.row_in c.requires.kind_value c.args.marks.now c.requires.b_in_bounds _ c.loop-i.invariant.0 (omega (arith, c.loop-i-test.true, c.operand-count.ensures)) c.copy.ensures c.block_operand-case.ensures c.pass_around-q.ensures c.if-q.true).long
+    (case_passes c.requires.course c.requires.row_in c.requires.kind_value c.args.marks.now c.requires.b_in_bounds _ c.loop-i.invariant (omega (arith, c.loop-i-test.true, c.operand-count.ensures)) c.copy.ensures c.block_operand-case.ensures c.pass_around-q.ensures c.if-q.true).long
 
 pub pass_cases-returns-then-q : goal.pass_cases-returns-then-q
 pass_cases-returns-then-q t c =
-    case_passes c.requires.course c.requires.row_in c.requires.kind_value c.args.marks.now c.requires.b_in_bounds _ c.loop-i.invariant.0 (omega (arith, c.loop-i-test.true, c.operand-count.ensures)) c.copy.ensures c.block_operand-case.ensures c.pass_around-q.ensures c.if-q.true
+    case_passes c.requires.course c.requires.row_in c.requires.kind_value c.args.marks.now c.requires.b_in_bounds _ c.loop-i.invariant (omega (arith, c.loop-i-test.true, c.operand-count.ensures)) c.copy.ensures c.block_operand-case.ensures c.pass_around-q.ensures c.if-q.true
 
 pub pass_cases-overflow_sub-n : goal.pass_cases-overflow_sub-n
 pass_cases-overflow_sub-n t c = omega (arith, c.requires.course.ready.high)
 
 pub pass_cases-merge-requires : goal.pass_cases-merge-requires
 pass_cases-merge-requires t c =
-    let q9 = merge_asks c.requires.course c.requires.row_in c.requires.kind_value c.args.marks.now c.requires.b_in_bounds _ c.loop-i.invariant.0 (omega (arith, c.loop-i-test.true, c.operand-count.ensures)) c.copy.ensures c.block_operand-case.ensures c.pass_around-q.ensures c.if-q.false in
+    let q9 = merge_asks c.requires.course c.requires.row_in c.requires.kind_value c.args.marks.now c.requires.b_in_bounds _ c.loop-i.invariant (omega (arith, c.loop-i-test.true, c.operand-count.ensures)) c.copy.ensures c.block_operand-case.ensures c.pass_around-q.ensures c.if-q.false in
     record { live = q9.0; n_nonzero = q9.1.0; i_bound = q9.1.1 }
 
 pub pass_cases-shape_of-cells-then-not-merge : goal.pass_cases-shape_of-cells-then-not-merge
 pass_cases-shape_of-cells-then-not-merge t c =
-    (case_lengths c.requires.course c.requires.row_in c.requires.kind_value c.args.marks.now c.requires.b_in_bounds _ c.loop-i.invariant.0 (omega (arith, c.loop-i-test.true, c.operand-count.ensures)) c.copy.ensures c.block_operand-case.ensures c.pass_around-q.ensures c.if-q.false c.merge.ensures).0
+    (case_lengths c.requires.course c.requires.row_in c.requires.kind_value c.args.marks.now c.requires.b_in_bounds _ c.loop-i.invariant (omega (arith, c.loop-i-test.true, c.operand-count.ensures)) c.copy.ensures c.block_operand-case.ensures c.pass_around-q.ensures c.if-q.false c.merge.ensures).0
 
 pub pass_cases-shape_of-roots-then-not-merge : goal.pass_cases-shape_of-roots-then-not-merge
 pass_cases-shape_of-roots-then-not-merge t c =
-    (case_lengths c.requires.course c.requires.row_in c.requires.kind_value c.args.marks.now c.requires.b_in_bounds _ c.loop-i.invariant.0 (omega (arith, c.loop-i-test.true, c.operand-count.ensures)) c.copy.ensures c.block_operand-case.ensures c.pass_around-q.ensures c.if-q.false c.merge.ensures).1.0
+    (case_lengths c.requires.course c.requires.row_in c.requires.kind_value c.args.marks.now c.requires.b_in_bounds _ c.loop-i.invariant (omega (arith, c.loop-i-test.true, c.operand-count.ensures)) c.copy.ensures c.block_operand-case.ensures c.pass_around-q.ensures c.if-q.false c.merge.ensures).1.0
 
 pub pass_cases-shape_of-path-then-not-merge : goal.pass_cases-shape_of-path-then-not-merge
 pass_cases-shape_of-path-then-not-merge t c =
-    (case_lengths c.requires.course c.requires.row_in c.requires.kind_value c.args.marks.now c.requires.b_in_bounds _ c.loop-i.invariant.0 (omega (arith, c.loop-i-test.true, c.operand-count.ensures)) c.copy.ensures c.block_operand-case.ensures c.pass_around-q.ensures c.if-q.false c.merge.ensures).1.1
+    (case_lengths c.requires.course c.requires.row_in c.requires.kind_value c.args.marks.now c.requires.b_in_bounds _ c.loop-i.invariant (omega (arith, c.loop-i-test.true, c.operand-count.ensures)) c.copy.ensures c.block_operand-case.ensures c.pass_around-q.ensures c.if-q.false c.merge.ensures).1.1
 
 pub pass_cases-returns-then-not-merge : goal.pass_cases-returns-then-not-merge
 pass_cases-returns-then-not-merge t c =
-    case_ends_full c.requires.course c.requires.row_in c.requires.kind_value c.args.marks.now c.requires.b_in_bounds _ c.loop-i.invariant.0 (omega (arith, c.loop-i-test.true, c.operand-count.ensures)) c.copy.ensures c.block_operand-case.ensures c.pass_around-q.ensures c.if-q.false c.merge.ensures c.if-not-merge.true c.filled.ensures
-
-pub pass_cases-overflow_add-i-in-loop-i : goal.pass_cases-overflow_add-i-in-loop-i
-pass_cases-overflow_add-i-in-loop-i t c = omega (arith, c.loop-i-test.true, c.operand-count.type_inv)
-
-pub pass_cases-loop-i-smaller : goal.pass_cases-loop-i-smaller
-pass_cases-loop-i-smaller t c = omega (arith, c.loop-i-test.true)
+    case_ends_full c.requires.course c.requires.row_in c.requires.kind_value c.args.marks.now c.requires.b_in_bounds _ c.loop-i.invariant (omega (arith, c.loop-i-test.true, c.operand-count.ensures)) c.copy.ensures c.block_operand-case.ensures c.pass_around-q.ensures c.if-q.false c.merge.ensures c.if-not-merge.true c.filled.ensures
 
 pub pass_cases-loop-i-preserved : goal.pass_cases-loop-i-preserved
 pass_cases-loop-i-preserved t c =
-    (case_more c.requires.course c.requires.row_in c.requires.kind_value c.args.marks.now c.requires.b_in_bounds _ c.loop-i.invariant.0 (omega (arith, c.loop-i-test.true, c.operand-count.ensures)) c.copy.ensures c.block_operand-case.ensures c.pass_around-q.ensures c.if-q.false c.merge.ensures c.if-not-merge.false, omega (arith, c.loop-i-test.true, c.operand-count.ensures))
+    case_more c.requires.course c.requires.row_in c.requires.kind_value c.args.marks.now c.requires.b_in_bounds _ c.loop-i.invariant (omega (arith, c.loop-i-test.true, c.operand-count.ensures)) c.copy.ensures c.block_operand-case.ensures c.pass_around-q.ensures c.if-q.false c.merge.ensures c.if-not-merge.false
 
 pub pass_cases-shape_of-cells : goal.pass_cases-shape_of-cells
 pass_cases-shape_of-cells t c =
-    (all_cases c.requires.course c.requires.row_in c.requires.kind_value c.args.marks.now c.operand-count.ensures (omega (arith, c.loop-i-test.false, c.loop-i.invariant.1, c.operand-count.ensures)) c.loop-i.invariant.0).walked.cells
+    (all_cases c.requires.course c.requires.row_in c.requires.kind_value c.args.marks.now c.operand-count.ensures (omega (arith, c.operand-count.ensures)) c.loop-i.invariant).walked.cells
 
 pub pass_cases-shape_of-roots : goal.pass_cases-shape_of-roots
 pass_cases-shape_of-roots t c =
-    (all_cases c.requires.course c.requires.row_in c.requires.kind_value c.args.marks.now c.operand-count.ensures (omega (arith, c.loop-i-test.false, c.loop-i.invariant.1, c.operand-count.ensures)) c.loop-i.invariant.0).walked.slots
+    (all_cases c.requires.course c.requires.row_in c.requires.kind_value c.args.marks.now c.operand-count.ensures (omega (arith, c.operand-count.ensures)) c.loop-i.invariant).walked.slots
 
 pub pass_cases-shape_of-path : goal.pass_cases-shape_of-path
 pass_cases-shape_of-path t c =
-    (all_cases c.requires.course c.requires.row_in c.requires.kind_value c.args.marks.now c.operand-count.ensures (omega (arith, c.loop-i-test.false, c.loop-i.invariant.1, c.operand-count.ensures)) c.loop-i.invariant.0).long
+    (all_cases c.requires.course c.requires.row_in c.requires.kind_value c.args.marks.now c.operand-count.ensures (omega (arith, c.operand-count.ensures)) c.loop-i.invariant).long
 
 pub pass_cases-returns : goal.pass_cases-returns
 pass_cases-returns t c =
-    all_cases c.requires.course c.requires.row_in c.requires.kind_value c.args.marks.now c.operand-count.ensures (omega (arith, c.loop-i-test.false, c.loop-i.invariant.1, c.operand-count.ensures)) c.loop-i.invariant.0
+    all_cases c.requires.course c.requires.row_in c.requires.kind_value c.args.marks.now c.operand-count.ensures (omega (arith, c.operand-count.ensures)) c.loop-i.invariant
 
 pub pass_holder-overflow_sub-last : goal.pass_holder-overflow_sub-last
 pass_holder-overflow_sub-last t c = omega (arith, c.requires.course.ready.high)
