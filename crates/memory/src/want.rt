@@ -237,6 +237,7 @@ fn letter_at(pattern: [u32; 4], i: u32) -> usize
 }
 
 // The slot of the flat part with these digits.
+#[tactic(auto, using(crate::proofs::FlatParts::digit_small))]
 fn flat_slot(digits: [usize; 4]) -> usize
     requires { FourDigits digits }
     ensures { result ≡ flat_slot + (get_or digits 0 0 + 3 * (get_or digits 1 0 + 3 * (get_or digits 2 0 + 3 * get_or digits 3 0))) }

@@ -8,9 +8,6 @@ use Rattle.memory.proofs.memory.weigh.Goals as goal
 pub loop-k-init : goal.loop-k-init
 loop-k-init c = sym (sum_none _ _)
 
-pub overflow_add-a : goal.overflow_add-a
-overflow_add-a c = omega arith
-
 pub entries-requires : goal.entries-requires
 entries-requires c =
     record { good = c.requires.memory.good; n_bound = c.requires.memory.below _ (omega arith) }

@@ -9,21 +9,9 @@ use Rattle.memory.proofs.stretches.extend.Goals.{then-r-ne2, else-r-ne2}
 pub loop-k-init : goal.loop-k-init
 loop-k-init c = copied_none _ _ _
 
-pub overflow_add-r : goal.overflow_add-r
-overflow_add-r c = omega arith
-
-pub offset_bounds-slots-from : goal.offset_bounds-slots-from
-offset_bounds-slots-from c = omega arith
-
 pub bounds-slots-from : goal.bounds-slots-from
 bounds-slots-from c =
     (extend_inside _ _ _ _ _ _ c.loop-k.invariant c.requires.0 c.requires.1 c.loop-k-test.true).0
-
-pub overflow_add-slots : goal.overflow_add-slots
-overflow_add-slots c = omega arith
-
-pub offset_bounds-slots-to : goal.offset_bounds-slots-to
-offset_bounds-slots-to c = omega arith
 
 pub bounds-slots-to : goal.bounds-slots-to
 bounds-slots-to c =
