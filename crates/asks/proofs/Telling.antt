@@ -4,6 +4,8 @@ use mathlib.Core.Path.{◌≡◌, refl, sym, ◌∙◌}
 use mathlib.Core.Bool.{Bool, true, false, cond, true≢false, false≢true}
 use mathlib.Core.List.{List, [], ◌∷◌}
 use mathlib.Core.Option.{Option, some, none as nothing}
+use Rattle.std.specs.Prelude as std
+use Rattle.std.specs.Prelude.{Some, None, IsSomeAnd}
 use Prim.Native.Nat.{ℕ, zero, suc, ◌<◌, ◌≤◌}
 use native.Mathlib.Omega.{arith}
 use native.Mathlib.Nat.{le_of_suc-le-suc}
@@ -20,8 +22,6 @@ use Rattle.context.specs.Swizzle.{Swizzled, asks, panics, swizzled}
 use Rattle.walk.specs.Expression.{Ask, of_operand, refuse, formed, constant_asks, swizzle_asks, all_of_each, component_ask, entry_asks, compose_asks}
 use Rattle.valid.specs.Valid.{EachBelow}
 use Rattle.memory.specs.declared.want.Want.{Want}
-use Rattle.memory.specs.declared.want.Item.{Item}
-use Rattle.memory.specs.declared.want.Picked.{Picked}
 use Rattle.memory.specs.Layout.{all_slot}
 use Rattle.memory.specs.Memory.{Memory}
 use Rattle.memory.specs.Want.{kid, after, tail, asked, Wants, want_of, wrapped, first, Child}
@@ -151,21 +151,22 @@ letters-low {pattern} {letters} b l = record { low = λ i h. rw (l.same i h) (lo
               rw (get_or-eq_default xs 0 l) (omega arith)
         ]
 
-module _ {s rs pattern letters : List ℕ} {w : Want} {a : Picked} (q : Wants s rs w) (j : ℕ) (l : Lettered pattern letters) (x : Picks s rs (swizzled letters (asked s rs w)) a) where
-  picked : {b : Bool} → a.panics ≡ b → Picking s rs (swizzled pattern (asked s rs w)) b a.slot
-  picked {b} e = rw (← swizzled-same letters pattern l.same (asked s rs w), ← e) x.by
+module _ {s rs pattern letters : List ℕ} {w : Want} (q : Wants s rs w) (j : ℕ) (l : Lettered pattern letters) where
+  picked : {a : std.Option ℕ} → Picks s rs (swizzled letters (asked s rs w)) a → Picking s rs (swizzled pattern (asked s rs w)) a
+  picked x = rw (← swizzled-same letters pattern l.same (asked s rs w)) x.by
 
-  pub swizzle_refused : (v : ExpressionHandle) → j ≤ 0 → a.panics ≡ true → Told s rs (swizzle_asks v (swizzled pattern (asked s rs w))) j (record { what = Refuse 13; want = w })
+  pub swizzle_refused : (v : ExpressionHandle) → j ≤ 0 → Picks s rs (swizzled letters (asked s rs w)) None → Told s rs (swizzle_asks v (swizzled pattern (asked s rs w))) j (record { what = Refuse 13; want = w })
   unfolding swizzle_asks
-  swizzle_refused v h e = let z : j ≡ 0 = omega arith in told_refuse q (rw (picked e, z))
+  swizzle_refused v h x = let z : j ≡ 0 = omega arith in told_refuse q (rw (picked x, z))
 
-  pub swizzle_asked : {h : handles.ExpressionHandle} {v : ExpressionHandle} {u : Want} → j ≤ 0 → a.panics ≡ false → h.0 ≡ v → u ≡ want_of a.slot → Told s rs (swizzle_asks v (swizzled pattern (asked s rs w))) j (record { what = Operand h; want = u })
+  pub swizzle_asked : {h : handles.ExpressionHandle} {v : ExpressionHandle} {u : Want} {n : ℕ} → j ≤ 0 → Picks s rs (swizzled letters (asked s rs w)) (Some n) → h.0 ≡ v → u ≡ want_of n
+      → Told s rs (swizzle_asks v (swizzled pattern (asked s rs w))) j (record { what = Operand h; want = u })
   unfolding swizzle_asks formed
-  swizzle_asked {h} z e c g =
-      let n : j ≡ 0 = omega arith in
-      let k = picked e in
+  swizzle_asked {h} {n = n} z x c g =
+      let i : j ≡ 0 = omega arith in
+      let k = picked x in
       rw g
-      (told_operand h (record { wants = want_slot s rs a.slot k.0 k.1.0; is = asked-slot s rs a.slot }) (rw (k.1.1, k.1.0, n, c)))
+      (told_operand h (record { wants = want_slot s rs n k.0 k.1.0; is = asked-slot s rs n }) (rw (k.1.1, k.1.0, i, c)))
 
 -- a construction: its components, where all is asked
 abbrev whole_of : Option ExpressionHandle → Option Ask
@@ -194,32 +195,35 @@ unfolding tail after
 tail-of_rest i p r zero = refl
 tail-of_rest i p r (suc j) = rw (tail-of_rest i p r j)
 
-after-ended : (p : PartReq) → (first p).there ≡ false → (first (after p)).there ≡ false
+after-ended : (p : PartReq) → None ≡ first p → None ≡ first (after p)
 unfolding after
 after-ended all h = refl
 after-ended exist h = refl
 after-ended none h = refl
-after-ended (more i p r) h = absurd (true≢false h)
+after-ended (more i p r) h = cc
 
-ended : (p : PartReq) (j : ℕ) → (first p).there ≡ false → (first (tail p j)).there ≡ false
+ended : (p : PartReq) (j : ℕ) → None ≡ first p → None ≡ first (tail p j)
 unfolding tail
 ended p zero h = h
 ended p (suc j) h = after-ended (tail p j) (ended p j h)
 
-entries_at : (cs : List ExpressionHandle) (p : PartReq) (j : ℕ) → (first (tail p j)).there ≡ true → get_elem? (entry_asks cs p) j ≡ some (component_ask (get_elem? cs (first (tail p j)).index) (kid (tail p j)))
+entries_at : (cs : List ExpressionHandle) (p : PartReq) (j i : ℕ) → Some i ≡ first (tail p j) → get_elem? (entry_asks cs p) j ≡ some (component_ask (get_elem? cs i) (kid (tail p j)))
 unfolding entry_asks
-entries_at cs all j h = absurd (true≢false (sym h ∙ ended all j refl))
-entries_at cs exist j h = absurd (true≢false (sym h ∙ ended exist j refl))
-entries_at cs none j h = absurd (true≢false (sym h ∙ ended none j refl))
-entries_at cs (more i p r) zero h = unfold tail kid in refl
-entries_at cs (more i p r) (suc j) h = rw tail-of_rest (entries_at cs r j (rw tail-of_rest at h))
+entries_at cs all j i h = let e = ended all j refl in cc
+entries_at cs exist j i h = let e = ended exist j refl in cc
+entries_at cs none j i h = let e = ended none j refl in cc
+entries_at cs (more k p r) zero i h =
+    let e : Some i ≡ Some k = unfold tail in h in
+    let z : i ≡ k = cc in
+    rw z (unfold tail kid in refl)
+entries_at cs (more k p r) (suc j) i h = rw tail-of_rest (entries_at cs r j i (rw tail-of_rest at h))
 
-entries_past : (cs : List ExpressionHandle) (p : PartReq) (j : ℕ) → (first (tail p j)).there ≡ false → get_elem? (entry_asks cs p) j ≡ nothing
+entries_past : (cs : List ExpressionHandle) (p : PartReq) (j : ℕ) → None ≡ first (tail p j) → get_elem? (entry_asks cs p) j ≡ nothing
 unfolding entry_asks
 entries_past cs all j h = refl
 entries_past cs exist j h = refl
 entries_past cs none j h = refl
-entries_past cs (more i p r) zero h = absurd (true≢false (unfold tail in h))
+entries_past cs (more i p r) zero h = let e : None ≡ Some i = unfold tail in h in cc
 entries_past cs (more i p r) (suc j) h = entries_past cs r j (rw tail-of_rest at h)
 
 by_entries : (cs : List ExpressionHandle) (p : PartReq) → false ≡ is_all p → compose_asks cs p ≡ entry_asks cs p
@@ -229,12 +233,12 @@ by_entries cs exist h = refl
 by_entries cs none h = refl
 by_entries cs (more i p r) h = refl
 
-entry_is : (cs : List ExpressionHandle) (p : PartReq) (j : ℕ) → false ≡ is_all p → {a : Item} → a ≡ first (tail p j) → a.there ≡ true → get_elem? (compose_asks cs p) j ≡ some (component_ask (get_elem? cs a.index) (kid (tail p j)))
-entry_is cs p j h e b = rw (by_entries cs p h, e) (entries_at cs p j (rw (← e) b))
+entry_is : (cs : List ExpressionHandle) (p : PartReq) (j : ℕ) → false ≡ is_all p → {i : ℕ} → Some i ≡ first (tail p j) → get_elem? (compose_asks cs p) j ≡ some (component_ask (get_elem? cs i) (kid (tail p j)))
+entry_is cs p j h e = rw (by_entries cs p h) (entries_at cs p j _ e)
 
 -- what `child` asks of the entry
-pub item_low : {a b : Item} → a ≡ b → a.there ≡ true → a.index < spine → (b.there ≡ true) × (b.index < spine)
-item_low e h l = (rw (← e) h, rw (← e) l)
+pub entry_low : {i : ℕ} {a : std.Option ℕ} → Some i ≡ a → i < spine → IsSomeAnd a (λ k. k < spine)
+entry_low e l = rw (← e) l
 
 by_components : (cs : List ExpressionHandle) (p : PartReq) → true ≡ is_all p → compose_asks cs p ≡ all_of_each cs
 unfolding compose_asks
@@ -253,17 +257,17 @@ module _ {s rs : List ℕ} {w : Want} (q : Wants s rs w) (j : ℕ) (n : ℕ) (f 
     pub compose_all_past : n ≤ j → Told s rs (compose_asks (tab n f) (asked s rs w)) j (record { what = End; want = w })
     compose_all_past l = told_end q (rw (by_components (tab n f) (asked s rs w) h, each_is (tab n f) j, component_past (tab n f) j (rw length-tab l)))
 
-  module _ (h : false ≡ is_all (asked s rs w)) {a : Item} (e : a ≡ first (tail (asked s rs w) j)) where
-    pub compose_past : a.there ≡ false → Told s rs (compose_asks (tab n f) (asked s rs w)) j (record { what = End; want = w })
-    compose_past b = told_end q (rw (by_entries (tab n f) (asked s rs w) h) (entries_past (tab n f) (asked s rs w) j (rw (← e) b)))
+  module _ (h : false ≡ is_all (asked s rs w)) where
+    pub compose_past : None ≡ first (tail (asked s rs w) j) → Told s rs (compose_asks (tab n f) (asked s rs w)) j (record { what = End; want = w })
+    compose_past e = told_end q (rw (by_entries (tab n f) (asked s rs w) h) (entries_past (tab n f) (asked s rs w) j e))
 
-    pub compose_entry : (x : handles.ExpressionHandle) {u : Want} → a.there ≡ true → a.index < n → x.0 ≡ f a.index → Child s rs w j u → Told s rs (compose_asks (tab n f) (asked s rs w)) j (record { what = Operand x; want = u })
-    unfolding component_ask
-    compose_entry x b l d c =
-        told_operand x (record { wants = c.wants; is = c.is })
-        (entry_is (tab n f) (asked s rs w) j h e b ∙ rw (component_at (tab n f) a.index (rw length-tab l), get_d_tab n f a.index 0 l, d))
+    module _ {i : ℕ} (e : Some i ≡ first (tail (asked s rs w) j)) where
+      pub compose_entry : (x : handles.ExpressionHandle) {u : Want} → i < n → x.0 ≡ f i → Child s rs w j u → Told s rs (compose_asks (tab n f) (asked s rs w)) j (record { what = Operand x; want = u })
+      unfolding component_ask
+      compose_entry x l d c =
+          told_operand x (record { wants = c.wants; is = c.is })
+          (entry_is (tab n f) (asked s rs w) j h e ∙ rw (component_at (tab n f) i (rw length-tab l), get_d_tab n f i 0 l, d))
 
-    pub compose_refused : a.there ≡ true → n ≤ a.index → Told s rs (compose_asks (tab n f) (asked s rs w)) j (record { what = Refuse 13; want = w })
-    unfolding component_ask
-    compose_refused b l =
-        told_refuse q (entry_is (tab n f) (asked s rs w) j h e b ∙ rw (component_past (tab n f) a.index (rw length-tab l)))
+      pub compose_refused : n ≤ i → Told s rs (compose_asks (tab n f) (asked s rs w)) j (record { what = Refuse 13; want = w })
+      unfolding component_ask
+      compose_refused l = told_refuse q (entry_is (tab n f) (asked s rs w) j h e ∙ rw (component_past (tab n f) i (rw length-tab l)))

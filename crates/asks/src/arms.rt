@@ -99,15 +99,14 @@ pub fn swizzle_ask(bytes: &[u8], cells: &[u32], slots: &[u32], row: Kinded, w: W
         };
     }
     let pattern = letters(bytes, row);
-    let a = swizzle(cells, slots, w, pattern);
-    if a.panics {
+    let Some(slot) = swizzle(cells, slots, w, pattern) else {
         return Ask {
             what: What::Refuse(13),
             want: w,
         };
-    }
+    };
     let vector = expression_operand(bytes, row, 0);
-    let want = want_of(a.slot);
+    let want = want_of(slot);
     Ask {
         what: What::Operand(vector),
         want: want,
@@ -145,20 +144,19 @@ pub fn compose(bytes: &[u8], cells: &[u32], slots: &[u32], row: Kinded, w: Want,
             want: all,
         };
     }
-    let a = entry(cells, slots, w, j);
-    if a.there {
-        if n <= a.index {
-            return Ask {
-                what: What::Refuse(13),
-                want: w,
-            };
-        }
-        let x = component(bytes, row, a.index);
-        let u = child(cells, slots, w, j);
+    let Some(i) = entry(cells, slots, w, j) else {
+        return end;
+    };
+    if n <= i {
         return Ask {
-            what: What::Operand(x),
-            want: u,
+            what: What::Refuse(13),
+            want: w,
         };
     }
-    end
+    let x = component(bytes, row, i);
+    let u = child(cells, slots, w, j);
+    Ask {
+        what: What::Operand(x),
+        want: u,
+    }
 }

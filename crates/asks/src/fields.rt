@@ -13,6 +13,7 @@ use memory::want::{Want, want_of};
 use module::handles::{ExpressionHandle, NO_HANDLE};
 
 // A way: the part that is asked of the expression, all, exist, or all where the operand is there. 0 is not asked.
+// Stays: the tables are read-only memory, and as numbers of three bits the ways of a kind are one word; an enum takes a byte for each field.
 const P: u32 = 1;
 
 const A: u32 = 2;
@@ -110,15 +111,13 @@ pub fn field_ask(bytes: &[u8], cells: &[u32], slots: &[u32], row: Kinded, w: Wan
 {
     let mut skip = j;
     let mut rest = ways(bytes, row);
-    let mut k: u16 = 0;
-    while k < FIELDS {
+    for k in 0..FIELDS {
         if rest == 0 {
             return Ask {
                 what: What::End,
                 want: w,
             };
         }
-        let i = k + 1;
         let way = rest % 8;
         let x = expression_operand(bytes, row, k);
         if asks_by(way, x) {
@@ -132,7 +131,6 @@ pub fn field_ask(bytes: &[u8], cells: &[u32], slots: &[u32], row: Kinded, w: Wan
             skip -= 1;
         }
         rest = rest / 8;
-        k = i;
     }
     Ask {
         what: What::End,

@@ -13,8 +13,7 @@ use Rattle.walk.specs.State.{limited_context}
 use Rattle.walk.specs.Marks.{body_of, first_ray}
 use Rattle.marks.specs.Report.{has_total}
 use Rattle.marks.specs.Ray.{ray_in}
-use Rattle.marks.specs.declared.ray.Ray.{Ray}
-use Rattle.marks.specs.declared.ray.Ray.TheVariants as rays
+use Rattle.std.specs.Prelude.{Option, Some, None}
 use Rattle.state.specs.State.{place_of}
 use Rattle.state.specs.declared.answer.Place.{Place}
 use Rattle.state.specs.declared.answer.Place.TheVariants as position
@@ -46,19 +45,19 @@ module _ {bytes t places s rs open_marks totals : List ℕ} {f : FunctionHandle}
         };
   }
 
-  module _ (ne : get_or totals f 0 ≡ 0 → ⊥) (r : Ray) (ray : ray_in r ≡ first_ray (module_of bytes t) f (body_of (module_of bytes t) f)) where
-    pub total_ray : {g : Handle} {k : ℕ} → g.0 ≡ f → r ≡ rays.At k → TotalEnds bytes t places s rs open_marks totals f at sum visits here (Halt 13 (position.Statement g k)) s rs totals
+  module _ (ne : get_or totals f 0 ≡ 0 → ⊥) (r : Option ℕ) (ray : ray_in r ≡ first_ray (module_of bytes t) f (body_of (module_of bytes t) f)) where
+    pub total_ray : {g : Handle} {k : ℕ} → g.0 ≡ f → r ≡ Some k → TotalEnds bytes t places s rs open_marks totals f at sum visits here (Halt 13 (position.Statement g k)) s rs totals
     total_ray {g} {k} z e = record {
       by = λ types held S.
-          let is : some k ≡ first_ray (module_of bytes t) f (body_of (module_of bytes t) f) = subst (λ (x : Ray). ray_in x ≡ first_ray (module_of bytes t) f (body_of (module_of bytes t) f)) e ray in
+          let is : some k ≡ first_ray (module_of bytes t) f (body_of (module_of bytes t) f) = subst (λ (x : Option ℕ). ray_in x ≡ first_ray (module_of bytes t) f (body_of (module_of bytes t) f)) e ray in
           rw z (ray_meets S (flag totals f ne) visits (place_of here) is);
     }
 
-    module _ {u us after : List ℕ} (j : Joint) (L : IsLater t places s rs open_marks totals f at sum j u us after) (e : r ≡ rays.Nothing) where
+    module _ {u us after : List ℕ} (j : Joint) (L : IsLater t places s rs open_marks totals f at sum j u us after) (e : r ≡ None) where
       pub total_over : j ≡ Over → TotalEnds bytes t places s rs open_marks totals f at sum visits here (Halt 15 here) u us after
       total_over z = record {
         by = λ types held S.
-            let no-ray : nothing ≡ first_ray (module_of bytes t) f (body_of (module_of bytes t) f) = subst (λ (x : Ray). ray_in x ≡ first_ray (module_of bytes t) f (body_of (module_of bytes t) f)) e ray in
+            let no-ray : nothing ≡ first_ray (module_of bytes t) f (body_of (module_of bytes t) f) = subst (λ (x : Option ℕ). ray_in x ≡ first_ray (module_of bytes t) f (body_of (module_of bytes t) f)) e ray in
             over_meets S (flag totals f ne) visits (place_of here) no-ray
             (λ st. subst (λ (x : Joint). joint_out x (place_of here) st ≡ limited_context (place_of here) (joint s rs f at) st) z (L.is (place_of here) st));
       }
@@ -66,7 +65,7 @@ module _ {bytes t places s rs open_marks totals : List ℕ} {f : FunctionHandle}
       pub total_later : {k : ℕ} → j ≡ Sum k → TotalEnds bytes t places s rs open_marks totals f at sum visits here (Went (record { visits = visits; sum = k })) u us after
       total_later z = record {
         by = λ types held S.
-            let no-ray : nothing ≡ first_ray (module_of bytes t) f (body_of (module_of bytes t) f) = subst (λ (x : Ray). ray_in x ≡ first_ray (module_of bytes t) f (body_of (module_of bytes t) f)) e ray in
+            let no-ray : nothing ≡ first_ray (module_of bytes t) f (body_of (module_of bytes t) f) = subst (λ (x : Option ℕ). ray_in x ≡ first_ray (module_of bytes t) f (body_of (module_of bytes t) f)) e ray in
             let T = subst (λ (x : Joint). Later t places s rs open_marks totals f at sum x u us after) z L.by in
             record {
               is = later_added S (flag totals f ne) visits (place_of here) no-ray T;

@@ -2,7 +2,7 @@
 ghost use Rattle.block.specs.AddTotal.{TotalAsked, TotalEnds};
 
 use crate::added::{Joint, first_total, later_total};
-use marks::ray::{Ray, first_ray};
+use marks::ray::first_ray;
 use module::handles::FunctionHandle;
 use state::answer::{Place, Tally, Walked};
 
@@ -33,7 +33,7 @@ pub fn add_total(
         });
     }
     let ray = first_ray(bytes, t, f);
-    if let Ray::At(s) = ray {
+    if let Some(s) = ray {
         return Walked::Halt(13, Place::Statement(f, s));
     }
     let joint = later_total(t, places, cells, slots, open, totals, f, at, sum);

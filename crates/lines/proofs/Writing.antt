@@ -61,17 +61,17 @@ pub wrote_as : {xs ys t u : List ℕ} {from n : ℕ} → t ≡ u → Wrote xs ys
 wrote_as {xs} {ys} {t} {u} {from} {n} e w = rw e at w
 
 -- a loop over the bytes of a word
-pub word_none : (xs : List ℕ) (at : ℕ) → Wrote xs xs at [] (at + 0)
-word_none xs at = record { is = refl; behind = refl }
+pub word_none : (xs : List ℕ) (at : ℕ) → Wrote xs xs at [] at
+word_none xs at = record { is = refl; behind = omega arith }
 
-pub word_more : (word : List ℕ) {xs ys zs : List ℕ} {at k n : ℕ} → k < length word → Wrote xs ys at (take k word) (at + k) → Wrote ys zs (at + k) (get_or word k 0 ∷ []) n → Wrote xs zs at (take (k + 1) word) (at + (k + 1))
-word_more word {xs} {ys} {zs} {at} {k} {n} h a b =
-    let t = wrote_then a b in
-    let l : length (take (k + 1) word) ≡ k + 1 = length-take-le (k + 1) word (omega arith) in
-    record { is = t.is ∙ rw (add-one k, take-suc word k 0 h); behind = omega (arith, l) }
+pub word_fits : (word : List ℕ) {xs ys : List ℕ} {at k n b : ℕ} → k < length word → Fits at word → Wrote xs ys at (take k word) n → Fits n (b ∷ [])
+word_fits word {xs} {ys} {at} {k} h f a = record { room = omega (arith, f.room, a.behind, length-take-le k word (omega arith)) }
 
-pub word-done : (word : List ℕ) {xs ys : List ℕ} {at k : ℕ} → length word ≤ k → Wrote xs ys at (take k word) (at + k) → Wrote xs ys at word (at + k)
-word-done word {xs} {ys} {at} {k} h a = rw (take_all k word h) at a
+pub word_more : (word : List ℕ) {xs ys zs : List ℕ} {at k n m : ℕ} → k < length word → Wrote xs ys at (take k word) n → Wrote ys zs n (get_or word k 0 ∷ []) m → Wrote xs zs at (take (k + 1) word) m
+word_more word {k = k} h a b = rw (add-one k, take-suc word k 0 h) (wrote_then a b)
+
+pub word-done : (word : List ℕ) {xs ys : List ℕ} {at k n : ℕ} → length word ≤ k → Wrote xs ys at (take k word) n → Wrote xs ys at word n
+word-done word {k = k} h a = rw (take_all k word h) at a
 
 -- a text from byte 0 on, in a buffer that is long enough
 from_zero : (n : ℕ) → 0 + n ≡ n

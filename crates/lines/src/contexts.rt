@@ -29,10 +29,7 @@ pub fn write_line(out: &mut [u8], at: usize, cells: &[u32], word: &[u8], n: u32,
 fn variable_of(index: u32) -> u32
     ensures { result ≡ index - spine }
 {
-    if index < SPINE {
-        return 0;
-    }
-    index - SPINE
+    index.saturating_sub(SPINE)
 }
 
 // A line for each variable of a context's map.

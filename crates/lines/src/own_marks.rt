@@ -21,10 +21,8 @@ pub fn write_own_marks(out: &mut [u8], at: usize, marks: &[u8], from: usize, n: 
     ensures { Wrote out.old out.new at (marks_text (take n (drop from marks.now))) result }
 {
     let mut next = at;
-    let mut k = 0;
-    while k < n {
+    for k in 0..n {
         next = write_mark(out, next, marks[from + k]);
-        k += 1;
     }
     next
 }

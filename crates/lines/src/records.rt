@@ -36,8 +36,7 @@ pub fn write_records(
     ensures { Wrote out.old out.new at (records_text 0 (records_of (read cells.now slots.now) base n)) result }
 {
     let mut next = at;
-    let mut k = 0;
-    while k < n {
+    for k in 0..n {
         next = write_record(
             out,
             next,
@@ -45,7 +44,6 @@ pub fn write_records(
             ExpressionHandle(k as u32),
             slots[base + k],
         );
-        k += 1;
     }
     next
 }

@@ -53,11 +53,9 @@ pub fn write_statements(
 {
     let n = statements(t, f);
     let mut next = at;
-    let mut s: u32 = 0;
-    while s < n {
+    for s in 0..n {
         let from = place(t, places, f, s);
         next = write_statement(out, next, bytes, t, marks, f, s, from);
-        s += 1;
     }
     next
 }

@@ -1,4 +1,6 @@
 // Bytes, words and numbers. A writer takes the position to write at, and answers the one behind what it wrote.
+// Stays: a word and a number are written byte by byte, since a buffer that is too short takes what fits, and the position goes on: `copy_from_slice` would
+// need both cut first, and a `Display` refuses such a buffer.
 ghost use Rattle.std.specs.Prelude.{◌≡◌, [], ◌∷◌, ◌+◌, ◌<◌};
 ghost use Rattle.lines.specs.Text.{number};
 ghost use Rattle.lines.specs.Wrote.{Fits, Wrote};
@@ -18,12 +20,11 @@ pub fn write_word(out: &mut [u8], at: usize, word: &[u8]) -> usize
     requires { Fits at word.now }
     ensures { Wrote out.old out.new at word.now result }
 {
-    let mut k = 0;
-    while k < word.len() {
-        write_byte(out, at + k, word[k]);
-        k += 1;
+    let mut next = at;
+    for b in word {
+        next = write_byte(out, next, *b);
     }
-    at + k
+    next
 }
 
 fn digit(n: u32) -> u8

@@ -1,6 +1,7 @@
 -- The first RayQuery: a statement's blocks are looked through from the last number to the first, a block's statements in order, and each block that a
 -- statement holds is lower than its holder.
 use mathlib.Core.Path.{◌≡◌, refl, sym, ap, ◌∙◌, subst}
+use mathlib.Core.Logic.{◌⊎◌, inl, inr}
 use mathlib.Core.List.{List, [], ◌∷◌, ◌++◌, map}
 use mathlib.Core.Option.{Option, some, none as nothing}
 use Prim.Native.Nat.{ℕ, zero, suc, pred, ◌+◌, ◌-◌, ◌*◌, ◌<◌, ◌≤◌}
@@ -25,8 +26,8 @@ use Rattle.walk.specs.Resolve.{function_at}
 use Rattle.walk.specs.Marks.{statement_at, block_at, body_of, or_else, ray_of_cases, ray_of, ray_from, first_ray}
 use Rattle.state.specs.Ready.{WasRead}
 use Rattle.marks.specs.Ray.{held_count, held_number, ray_in, BlockOf, StatementIn}
-use Rattle.marks.specs.declared.ray.Ray.{Ray}
-use Rattle.marks.specs.declared.ray.Ray.TheVariants.{At, Nothing}
+use Rattle.std.specs.Prelude as std
+use Rattle.std.specs.Prelude.{Some, None}
 use Rattle.marks.proofs.Counts.{by-kind}
 use Rattle.marks.proofs.Placed.{at_function}
 
@@ -108,6 +109,11 @@ count_none k o =
     (λ a b c d. refl, (λ a b c d. absurd (a refl), (λ a b c d. absurd (b refl), (λ a b c d. absurd (c refl), (λ a b c d. absurd (d refl), λ k a b c d. refl)))))
     k
 
+pub count_two : (k : ℕ) (o : ℕ → ℕ) → (k ≡ 2) ⊎ (k ≡ 4) → 2 ≡ held_count k o
+unfolding held_count
+count_two k o (inl e) = rw e
+count_two k o (inr e) = rw e
+
 pub count_last : (k : ℕ) (o : ℕ → ℕ) (j : ℕ) → (k ≡ 1 → ⊥) → (k ≡ 2 → ⊥) → (k ≡ 3 → ⊥) → j < held_count k o → (k ≡ 4) × (j < 2)
 count_last k o j a b c h =
     elim (ℕ_discrete k 4) [
@@ -116,10 +122,10 @@ count_last k o j a b c h =
     ]
 
 -- what a call has found
-pub found_is : {r : Ray} {i : ℕ} {x : Option ℕ} → r ≡ At i → ray_in r ≡ x → some i ≡ x
+pub found_is : {r : std.Option ℕ} {i : ℕ} {x : Option ℕ} → r ≡ Some i → ray_in r ≡ x → some i ≡ x
 found_is e h = rw e at h
 
-pub nothing_is : {r : Ray} {x : Option ℕ} → r ≡ Nothing → ray_in r ≡ x → nothing ≡ x
+pub nothing_is : {r : std.Option ℕ} {x : Option ℕ} → r ≡ None → ray_in r ≡ x → nothing ≡ x
 nothing_is e h = rw e at h
 
 -- a turn over the blocks of a statement

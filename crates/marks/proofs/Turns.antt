@@ -5,6 +5,7 @@ use mathlib.Core.List.{List, [], ◌∷◌, ◌++◌}
 use Prim.Native.Nat.{ℕ, zero, suc, ◌+◌, ◌<◌, ◌≤◌}
 use native.Mathlib.Numerals.{add-one}
 use native.Mathlib.Omega.{arith}
+use mir.Val.{bool_byte}
 use lib.Dec.{eqb}
 use lib.ListN.{length, get_or, take, set, replicate, length-replicate}
 use lib.Seq.{take-suc, take-length, length-take-le}
@@ -61,6 +62,12 @@ module _ (xs marks part : List ℕ) (at k : ℕ) (fits : at + length xs ≤ leng
       all_written xs (add_marks (take k xs) (slice marks at k)) part h (added_long (omega arith) ∙ e)
       ∙ ap (λ (ys : List ℕ). add_marks ys (slice marks at k)) all
       ∙ ap (λ (n : ℕ). add_marks xs (slice marks at n)) e
+
+-- a mark as a byte
+pub mark-byte : (b : Bool) → bool_byte b ≡ mark b
+unfolding mark
+mark-byte true = refl
+mark-byte false = refl
 
 -- the marks of an emit
 marks_append : (bs : List Bool) (b : Bool) → marks_of (bs ++ (b ∷ [])) ≡ marks_of bs ++ (mark b ∷ [])

@@ -1,12 +1,12 @@
 -- The blocks that a statement holds, by its kind and operands, in the order in which the first RayQuery is looked for: the last number first.
 use Rattle.std.specs.Prelude.{List, [], ◌∷◌, ℕ, ◌+◌, ◌-◌, ◌*◌, ◌<◌, ◌≤◌, length, get_or}
+use Rattle.std.specs.Prelude as std
+use Rattle.std.specs.Prelude.{Some, None}
 use Rattle.std.proofs.Math.Option.{Option, some, none as nothing}
 use Rattle.module.specs.Module.{FunctionHandle, BlockHandle}
 use Rattle.module.specs.Tables.{function_of, module_of}
 use Rattle.walk.specs.Marks.{block_at}
 use Rattle.state.specs.Ready.{WasRead}
-use Rattle.marks.specs.declared.ray.Ray.{Ray}
-use Rattle.marks.specs.declared.ray.Ray.TheVariants.{At, Nothing}
 
 -- how many there are
 unfoldable pub held_count : (kind : ℕ) → (ℕ → ℕ) → ℕ
@@ -17,9 +17,9 @@ unfoldable pub held_number : (kind : ℕ) → (ℕ → ℕ) → (j : ℕ) → Bl
 held_number kind o j = get_or (0 ∷ o 0 ∷ o (2 - j) ∷ o (3 + 2 * j) ∷ o (1 - j) ∷ []) kind 0
 
 -- what is found
-abbrev pub ray_in : Ray → Option ℕ
-ray_in (At s) = some s
-ray_in Nothing = nothing
+abbrev pub ray_in : std.Option ℕ → Option ℕ
+ray_in (Some s) = some s
+ray_in None = nothing
 
 -- b is a block of the function f
 pub record BlockOf (bytes t : List ℕ) (f : FunctionHandle) (b : BlockHandle) : Type 0 where

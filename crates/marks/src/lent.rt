@@ -6,11 +6,7 @@ ghost use Rattle.marks.specs.Places.{slice};
 pub fn clear(part: &mut [u8])
     ensures { part.new ≡ replicate (length part.old) 0 }
 {
-    let mut k = 0;
-    while k < part.len() {
-        part[k] = 0;
-        k += 1;
-    }
+    part.fill(0);
 }
 
 // The bytes of `marks` from `at` on.
@@ -18,11 +14,7 @@ pub fn copy(part: &mut [u8], marks: &[u8], at: usize)
     requires { at + length part.old ≤ length marks.now }
     ensures { part.new ≡ slice marks.now at (length part.old) }
 {
-    let mut k = 0;
-    while k < part.len() {
-        part[k] = marks[at + k];
-        k += 1;
-    }
+    part.copy_from_slice(&marks[at..at + part.len()]);
 }
 
 fn add_mark(a: u8, b: u8) -> u8
@@ -39,9 +31,7 @@ pub fn add(part: &mut [u8], marks: &[u8], at: usize)
     requires { at + length part.old ≤ length marks.now }
     ensures { part.new ≡ add_marks part.old (slice marks.now at (length part.old)) }
 {
-    let mut k = 0;
-    while k < part.len() {
+    for k in 0..part.len() {
         part[k] = add_mark(part[k], marks[at + k]);
-        k += 1;
     }
 }

@@ -43,13 +43,7 @@ fn statement_number(t: &[u32], f: FunctionHandle, s: u32) -> usize
 pub fn place(t: &[u32], places: &[u32], f: FunctionHandle, s: u32) -> usize
     ensures { result ≡ get_or places.now (statement_number t.now f.0 s) 0 }
 {
-    wide(word(places, statement_number(t, f, s)))
-}
-
-fn wide(x: u32) -> usize
-    ensures { result ≡ x }
-{
-    x as usize
+    word(places, statement_number(t, f, s)) as usize
 }
 
 // How many marks a statement of a kind other than an emit has.
@@ -57,22 +51,12 @@ fn count_by_kind(kind: u16) -> u32
     requires { kind ≡ 0 → ⊥ }
     ensures { (o : ℕ → ℕ) → result ≡ mark_count (statement_of kind o) }
 {
-    if kind == 14 {
-        return 2;
+    match kind {
+        14 => 2,
+        1 => 0,
+        8..=10 => 0,
+        _ => 1,
     }
-    if kind == 1 {
-        return 0;
-    }
-    if kind == 8 {
-        return 0;
-    }
-    if kind == 9 {
-        return 0;
-    }
-    if kind == 10 {
-        return 0;
-    }
-    1
 }
 
 // How many numbers there are from first to last.
@@ -80,11 +64,7 @@ fn range_count(first: u16, last: u16) -> u32
     ensures { result ≡ suc last - first }
 {
     let end = (last as u32) + 1;
-    let from = first as u32;
-    if end < from {
-        return 0;
-    }
-    end - from
+    end.saturating_sub(first as u32)
 }
 
 // An emit has a mark for each expression from its first to its last.
@@ -112,11 +92,9 @@ fn place_statements(
 {
     let n = statements(t, f);
     let mut at = first;
-    let mut s: u32 = 0;
-    while s < n {
+    for s in 0..n {
         put(places, statement_number(t, f, s), at);
         at += mark_count(bytes, t, f, s);
-        s += 1;
     }
     at
 }
@@ -127,11 +105,9 @@ pub fn place_marks(bytes: &[u8], t: &[u32], places: &mut [u32])
 {
     let n = functions(t);
     let mut at: u32 = 0;
-    let mut f: u32 = 0;
-    while f < n {
+    for f in 0..n {
         put(places, STARTS + (f as usize), at);
         at = place_statements(bytes, t, places, FunctionHandle(f), at);
-        f += 1;
     }
     put(places, STARTS + (n as usize), at);
 }

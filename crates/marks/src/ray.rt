@@ -13,62 +13,43 @@ use access::function::{block, body_block};
 use access::kinded::{Kinded, block_operand, operand, statement};
 use module::handles::{BlockHandle, FunctionHandle};
 
-#[derive(Clone, Copy)]
-pub enum Ray {
-    At(u32),
-    Nothing,
-}
-
 fn held_count(bytes: &[u8], row: Kinded) -> u32
     ensures { (result ≡ held_count row.kind (operand_at bytes.now row)) × (result < 65536) }
 {
-    let kind = row.kind;
-    if kind == 1 {
-        return 1;
+    match row.kind {
+        1 => 1,
+        2 | 4 => 2,
+        3 => operand(bytes, row, 1) as u32,
+        _ => 0,
     }
-    if kind == 2 {
-        return 2;
-    }
-    if kind == 3 {
-        return operand(bytes, row, 1) as u32;
-    }
-    if kind == 4 {
-        return 2;
-    }
-    0
 }
 
 fn held_number(bytes: &[u8], row: Kinded, j: u32) -> BlockHandle
     requires { (j < held_count row.kind (operand_at bytes.now row)) × (j < 65536) }
     ensures { result.0 ≡ held_number row.kind (operand_at bytes.now row) j }
 {
-    let kind = row.kind;
-    if kind == 1 {
-        return block_operand(bytes, row, 0);
+    match row.kind {
+        1 => block_operand(bytes, row, 0),
+        2 => block_operand(bytes, row, 2 - j),
+        3 => block_operand(bytes, row, 3 + 2 * j),
+        _ => block_operand(bytes, row, 1 - j),
     }
-    if kind == 2 {
-        return block_operand(bytes, row, 2 - j);
-    }
-    if kind == 3 {
-        return block_operand(bytes, row, 3 + 2 * j);
-    }
-    block_operand(bytes, row, 1 - j)
 }
 
 // Of the kinds from 16 on, those up to 20 are joined as a RayQuery.
-fn ray_of(kind: u16, s: u32) -> Ray
+fn ray_of(kind: u16, s: u32) -> Option<u32>
     requires { 16 ≤ kind }
     ensures { (w : ℕ → Option ℕ) (o : ℕ → ℕ) → ray_in result ≡ ray_of w s (statement_of kind o) }
 {
     if kind <= 20 {
-        return Ray::At(s);
+        return Some(s);
     }
-    Ray::Nothing
+    None
 }
 
 // The first in a statement of the block b.
 #[cycle(ray_block_ray_statement)]
-fn ray_statement(bytes: &[u8], t: &[u32], f: FunctionHandle, b: BlockHandle, s: u32) -> Ray
+fn ray_statement(bytes: &[u8], t: &[u32], f: FunctionHandle, b: BlockHandle, s: u32) -> Option<u32>
     requires { StatementIn bytes.now t.now f.0 b.0 s }
     ensures { ray_in result ≡ ray_of (below (first_ray (module_of bytes.now t.now) f.0) none b.0) s (statement_at (module_of bytes.now t.now) f.0 s) }
 {
@@ -77,48 +58,33 @@ fn ray_statement(bytes: &[u8], t: &[u32], f: FunctionHandle, b: BlockHandle, s: 
     if kind >= 16 {
         return ray_of(kind, s);
     }
-    let mut n = held_count(bytes, row);
-    while n > 0 {
-        let j = n - 1;
-        let r = ray_block(bytes, t, f, held_number(bytes, row, j));
-        match r {
-            Ray::At(i) => {
-                return Ray::At(i);
-            }
-            Ray::Nothing => {
-                n = j;
-            }
+    let n = held_count(bytes, row);
+    for j in (0..n).rev() {
+        if let Some(i) = ray_block(bytes, t, f, held_number(bytes, row, j)) {
+            return Some(i);
         }
     }
-    Ray::Nothing
+    None
 }
 
 // The first in the block b.
 #[cycle(ray_block_ray_statement)]
-fn ray_block(bytes: &[u8], t: &[u32], f: FunctionHandle, b: BlockHandle) -> Ray
+fn ray_block(bytes: &[u8], t: &[u32], f: FunctionHandle, b: BlockHandle) -> Option<u32>
     requires { BlockOf bytes.now t.now f.0 b.0 }
     ensures { ray_in result ≡ first_ray (module_of bytes.now t.now) f.0 b.0 }
 {
     let range = block(t, f, b);
     let count = range.count;
     let first = range.first;
-    let mut k: u32 = 0;
-    while k < count {
-        let next = k + 1;
-        let r = ray_statement(bytes, t, f, b, first + k);
-        match r {
-            Ray::At(i) => {
-                return Ray::At(i);
-            }
-            Ray::Nothing => {
-                k = next;
-            }
+    for k in 0..count {
+        if let Some(i) = ray_statement(bytes, t, f, b, first + k) {
+            return Some(i);
         }
     }
-    Ray::Nothing
+    None
 }
 
-pub fn first_ray(bytes: &[u8], t: &[u32], f: FunctionHandle) -> Ray
+pub fn first_ray(bytes: &[u8], t: &[u32], f: FunctionHandle) -> Option<u32>
     requires { WasRead bytes.now t.now × (f.0 < length (module_of bytes.now t.now).functions) }
     ensures { ray_in result ≡ first_ray (module_of bytes.now t.now) f.0 (body_of (module_of bytes.now t.now) f.0) }
 {

@@ -51,12 +51,10 @@ pub fn write_report(
     requires { AllInside places.now n min_report × Sized marks.now totals.now × (n ≤ totals_at) × (min_report ≤ length report.old) }
     ensures { report.new ≡ write_marks report.old 0 (report_in places.now marks.now totals.now asked.0 n) }
 {
-    let mut f = 0;
-    while f < n {
+    for f in 0..n {
         let from = start(places, f);
         let to = start(places, f + 1);
         let i = FunctionHandle(f as u32);
         write_part(&mut report[from..to], places, marks, totals, asked, i);
-        f += 1;
     }
 }

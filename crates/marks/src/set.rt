@@ -15,11 +15,7 @@ pub fn set_mark(marks: &mut [u8], at: usize, b: bool)
     requires { at < length marks.old }
     ensures { marks.new ≡ write_marks marks.old at (mark b ∷ []) }
 {
-    if b {
-        marks[at] = 1;
-    } else {
-        marks[at] = 0;
-    }
+    marks[at] = u8::from(b);
 }
 
 // The two of a call.
@@ -34,10 +30,7 @@ pub fn set_call(marks: &mut [u8], at: usize, call_required: bool, result_require
 pub fn or(a: bool, b: bool) -> bool
     ensures { result ≡ (a || b) }
 {
-    if a {
-        return true;
-    }
-    b
+    a || b
 }
 
 // Those of an emit: which of the n expressions have a record, whose slots begin at `from`. The answer says whether any has.
@@ -46,12 +39,10 @@ pub fn set_emit(marks: &mut [u8], at: usize, slots: &[u32], from: usize, n: usiz
     ensures { (marks.new ≡ write_marks marks.old at (marks_of (recorded_in slots.now from n))) × (result ≡ any (recorded_in slots.now from n)) }
 {
     let mut found = false;
-    let mut k = 0;
-    while k < n {
+    for k in 0..n {
         let recorded = slots[from + k] != 2;
         set_mark(marks, at + k, recorded);
         found = or(found, recorded);
-        k += 1;
     }
     found
 }

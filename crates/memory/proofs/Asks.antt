@@ -18,6 +18,7 @@ use Rattle.part.proofs.Write.{stay}
 use Rattle.part.proofs.Making.{kept_trans}
 use Rattle.memory.specs.Want.{kid, after, tail, downs, wraps, core, asks, wrapped, inside, popped, once, Asking, asked, Wants, first, Child}
 use Rattle.memory.specs.declared.want.Want.{Want}
+use Rattle.std.specs.Prelude.{Option, Some, None, IsSome, IsSomeAnd}
 
 -- the numbers that are no cells
 pub kid-low : (s : List ℕ) (n : ℕ) → n ≤ 2 → part s 2 ≡ kid (part s n)
@@ -34,7 +35,7 @@ after-low s (suc zero) h = rw (part-1, part-2)
 after-low s (suc (suc zero)) h = rw part-2
 after-low s (suc (suc (suc n))) h = absurd (omega arith)
 
-pub first-low : (s : List ℕ) (n : ℕ) → n < 3 → record { there = false; index = 0 } ≡ first (part s n)
+pub first-low : (s : List ℕ) (n : ℕ) → n < 3 → None ≡ first (part s n)
 first-low s zero h = rw part-0
 first-low s (suc zero) h = rw part-1
 first-low s (suc (suc zero)) h = rw part-2
@@ -171,17 +172,21 @@ tail-fine p (suc k) h = after-fine (tail p k) (tail-fine p k h)
     after-fine (more i c r) h = unfold after in rest_fine i c r h
 
 -- an entry that is there: past the last one nothing is said, since `none` is deeper than `all`
-after_there : (p : PartReq) → (first (after p)).there ≡ true → ((first p).there ≡ true) × (depth (after p) ≤ depth p)
+after_there : (p : PartReq) → IsSome (first (after p)) → IsSome (first p) × (depth (after p) ≤ depth p)
 unfolding after depth
 after_there all h = let z : ◌≡◌ {A = ℕ} 0 1 = cc in absurd (omega arith)
 after_there exist h = let z : ◌≡◌ {A = ℕ} 0 1 = cc in absurd (omega arith)
 after_there none h = let z : ◌≡◌ {A = ℕ} 0 1 = cc in absurd (omega arith)
 after_there (more i q r) h = (refl, omega arith)
 
-depth-tail : (p : PartReq) (k : ℕ) → (first (tail p k)).there ≡ true → depth (tail p k) ≤ depth p
+depth-tail : (p : PartReq) (k : ℕ) → IsSome (first (tail p k)) → depth (tail p k) ≤ depth p
 unfolding tail
 depth-tail p zero h = omega arith
 depth-tail p (suc k) h = let a = after_there (tail p k) h in omega (arith, a.1, depth-tail p k a.0)
+
+some_there : (o : Option ℕ) → IsSomeAnd o (λ i. i < spine) → IsSome o
+some_there None l = absurd l
+some_there (Some i) l = refl
 
 -- the requirement of an entry that is there, in a requirement that passes no limit
 pub record Entry (p : PartReq) : Type 0 where
@@ -189,12 +194,12 @@ pub record Entry (p : PartReq) : Type 0 where
   pub deep : depth p ≤ max_depth
   pub fine : over (kid p) ≡ false
 
-entry_at : (p : PartReq) → (first p).there ≡ true → (first p).index < spine → over p ≡ false → Entry p
+entry_at : (p : PartReq) → IsSomeAnd (first p) (λ i. i < spine) → over p ≡ false → Entry p
 unfolding kid depth
-entry_at all h l o = let z : ◌≡◌ {A = ℕ} 0 1 = cc in absurd (omega arith)
-entry_at exist h l o = let z : ◌≡◌ {A = ℕ} 0 1 = cc in absurd (omega arith)
-entry_at none h l o = let z : ◌≡◌ {A = ℕ} 0 1 = cc in absurd (omega arith)
-entry_at (more i q r) h l o = record { low = omega arith; deep = deep_fine i q r o l; fine = kid_fine i q r o }
+entry_at all l o = absurd l
+entry_at exist l o = absurd l
+entry_at none l o = absurd l
+entry_at (more i q r) l o = record { low = omega arith; deep = deep_fine i q r o l; fine = kid_fine i q r o }
 
 -- what a part by value asks
 module _ (w : Want) (p : PartReq) where
@@ -265,35 +270,33 @@ tail-single i q zero = refl
 tail-single i q (suc k) = rw (tail-single i q k)
 
 module _ (w : Want) (p : PartReq) (q : Asking w p) (k : ℕ) where
-  pub entry_wrapped : 0 < w.up → k ≡ 0 → record { there = true; index = get_or w.path (max_depth + (w.up - 1)) 0 } ≡ first (tail (asks w p) k)
+  pub entry_wrapped : 0 < w.up → k ≡ 0 → Some (get_or w.path (max_depth + (w.up - 1)) 0) ≡ first (tail (asks w p) k)
   unfolding tail
   entry_wrapped h e = rw (asks_popped w p q h, e)
 
-  pub entry_after : 0 < w.up → (k ≡ 0 → ⊥) → record { there = false; index = 0 } ≡ first (tail (asks w p) k)
+  pub entry_after : 0 < w.up → (k ≡ 0 → ⊥) → None ≡ first (tail (asks w p) k)
   entry_after h ne = let z : k ≡ suc (k - 1) = omega arith in rw (asks_popped w p q h, z, tail-single)
 
   module _ (s : List ℕ) (m : ℕ) (up : w.up ≤ 0) (e : part s m ≡ core w p) (t : ℕ) (d : part s t ≡ tail (part s m) k) where
     entry_is : tail (asks w p) k ≡ part s t
     entry_is = rw (asks_core w p up, ← e) (sym d)
 
-    pub entry_none : t < 3 → record { there = false; index = 0 } ≡ first (tail (asks w p) k)
+    pub entry_none : t < 3 → None ≡ first (tail (asks w p) k)
     entry_none h = rw entry_is (first-low s t h)
 
-    pub entry_there : {i c r : ℕ} → Seen s t i c r → record { there = true; index = i } ≡ first (tail (asks w p) k)
+    pub entry_there : {i c r : ℕ} → Seen s t i c r → Some i ≡ first (tail (asks w p) k)
     entry_there x = rw (entry_is, x.is)
 
 -- `child`
-module _ (s rs : List ℕ) (w : Want) (q : Wants s rs w) (k : ℕ) (h : (first (tail (asked s rs w) k)).there ≡ true) (l : (first (tail (asked s rs w) k)).index < spine) where
+module _ (s rs : List ℕ) (w : Want) (q : Wants s rs w) (k : ℕ) (h : IsSomeAnd (first (tail (asked s rs w) k)) (λ i. i < spine)) where
   pub child_popped : {u : Want} → 0 < w.up → u ≡ popped w → Child s rs w k u
   child_popped up e = rw e (record { wants = asking_popped w (part s (get_or rs w.slot 0)) q up; is = go k h })
     where
-      go : (k : ℕ) → (first (tail (asked s rs w) k)).there ≡ true → asks (popped w) (part s (get_or rs w.slot 0)) ≡ kid (tail (asked s rs w) k)
+      go : (k : ℕ) → IsSomeAnd (first (tail (asked s rs w) k)) (λ i. i < spine) → asks (popped w) (part s (get_or rs w.slot 0)) ≡ kid (tail (asked s rs w) k)
       go zero h = rw (asks_popped w (part s (get_or rs w.slot 0)) q up) (unfold tail kid in refl)
       go (suc k) h =
           let z : tail (asked s rs w) (suc k) ≡ none = rw (asks_popped w (part s (get_or rs w.slot 0)) q up) (tail-single _ _ k) in
-          let y : false ≡ true = rw z at h in
-          let x : ◌≡◌ {A = ℕ} 0 1 = cc in
-          absurd (omega arith)
+          absurd (rw z at h)
 
   module _ (up : w.up ≤ 0) where
     core_is : asked s rs w ≡ core w (part s (get_or rs w.slot 0))
@@ -301,7 +304,7 @@ module _ (s rs : List ℕ) (w : Want) (q : Wants s rs w) (k : ℕ) (h : (first (
 
     there_entry : Entry (tail (core w (part s (get_or rs w.slot 0))) k)
     there_entry =
-        entry_at (tail (core w (part s (get_or rs w.slot 0))) k) (rw core_is at h) (rw core_is at l)
+        entry_at (tail (core w (part s (get_or rs w.slot 0))) k) (rw core_is at h)
         (tail-fine (core w (part s (get_or rs w.slot 0))) k (rw core_is at q.fine))
 
     deep : (w.down + 1) + depth (kid (tail (core w (part s (get_or rs w.slot 0))) k)) ≤ max_depth
@@ -309,7 +312,7 @@ module _ (s rs : List ℕ) (w : Want) (q : Wants s rs w) (k : ℕ) (h : (first (
       where
         go : (n : ℕ) → n + once n (depth (core w (part s (get_or rs w.slot 0)))) ≤ max_depth → (n + 1) + depth (kid (tail (core w (part s (get_or rs w.slot 0))) k)) ≤ max_depth
         go zero b = omega (arith, there_entry.low, there_entry.deep)
-        go (suc n) b = omega (arith, there_entry.low, depth-tail (core w (part s (get_or rs w.slot 0))) k (rw core_is at h))
+        go (suc n) b = omega (arith, there_entry.low, depth-tail (core w (part s (get_or rs w.slot 0))) k (some_there _ (rw core_is at h)))
 
     pub child_low : w.down < max_depth
     child_low = omega (arith, deep)

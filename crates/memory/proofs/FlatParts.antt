@@ -26,7 +26,7 @@ use Rattle.memory.specs.Want.{kid, after, tail, asked, first, Child}
 use Rattle.memory.specs.Memory.{Memory, Flats}
 use Rattle.memory.specs.Picks.{digit_of, Letters, FourDigits, Picks, Picking-on}
 use Rattle.memory.specs.declared.want.Want.{Want}
-use Rattle.memory.specs.declared.want.Item.{Item}
+use Rattle.std.specs.Prelude.{Some, None, IsSomeAnd}
 use Rattle.memory.proofs.Asks.{tail_more}
 
 -- `flat`
@@ -245,12 +245,12 @@ digit_part none h = refl
 digit_part (more i p r) h = refl
 
 -- `swizzle`: the entries that are left
-pub cell_is : (q : PartReq) (a : Item) → a ≡ first q → a.there ≡ true → q ≡ more a.index (kid q) (after q)
+pub cell_is : (q : PartReq) (i : ℕ) → Some i ≡ first q → q ≡ more i (kid q) (after q)
 unfolding kid after
-cell_is all a e h = let z : false ≡ true = sym (ap (λ (i : Item). i.there) e) ∙ h in let x : ◌≡◌ {A = ℕ} 0 1 = cc in absurd (omega arith)
-cell_is exist a e h = let z : false ≡ true = sym (ap (λ (i : Item). i.there) e) ∙ h in let x : ◌≡◌ {A = ℕ} 0 1 = cc in absurd (omega arith)
-cell_is none a e h = let z : false ≡ true = sym (ap (λ (i : Item). i.there) e) ∙ h in let x : ◌≡◌ {A = ℕ} 0 1 = cc in absurd (omega arith)
-cell_is (more i p r) a e h = rw (ap (λ (i : Item). i.index) e)
+cell_is all i e = cc
+cell_is exist i e = cc
+cell_is none i e = cc
+cell_is (more j p r) i e = cc
 
 entries-cell : (i : ℕ) (p r : PartReq) → suc (entries r) ≤ entries (more i p r)
 unfolding entries
@@ -269,12 +269,12 @@ collected-on : (pattern : List ℕ) (i : ℕ) (q r picked : PartReq) → i < 4 �
 unfolding collected
 collected-on pattern i q r picked h f = rw (lt-ltb i 4 h, f)
 
-collected-end : (pattern : List ℕ) (q : PartReq) (a : Item) (picked : PartReq) → a ≡ first q → a.there ≡ false → collected pattern q picked ≡ asks picked
+collected-end : (pattern : List ℕ) (q picked : PartReq) → None ≡ first q → collected pattern q picked ≡ asks picked
 unfolding collected
-collected-end pattern all a picked e h = refl
-collected-end pattern exist a picked e h = refl
-collected-end pattern none a picked e h = refl
-collected-end pattern (more i p r) a picked e h = let z : true ≡ false = sym (ap (λ (i : Item). i.there) e) ∙ h in let x : ◌≡◌ {A = ℕ} 0 1 = cc in absurd (omega arith)
+collected-end pattern all picked e = refl
+collected-end pattern exist picked e = refl
+collected-end pattern none picked e = refl
+collected-end pattern (more i p r) picked e = cc
 
 swizzled_more : (pattern : List ℕ) (p : PartReq) → false ≡ is_all p → false ≡ is_exist p → collected pattern p none ≡ swizzled pattern p
 swizzled_more pattern all h g = let z : ◌≡◌ {A = ℕ} 0 1 = cc in absurd (omega arith)
@@ -286,11 +286,9 @@ no_digits : none ≡ digits_from 0 (replicate 4 0)
 unfolding digits_from entry_of
 no_digits = refl
 
-pub pick_first : (pattern : List ℕ) (p : PartReq) (a : Item) → a ≡ first (tail p 0) → false ≡ is_all p → false ≡ is_exist p
-    → Picking-on pattern p (swizzled pattern p) 0 a (replicate 4 0)
+pub pick_first : (pattern : List ℕ) (p : PartReq) → false ≡ is_all p → false ≡ is_exist p → Picking-on pattern p (swizzled pattern p) 0 (replicate 4 0)
 unfolding tail
-pick_first pattern p a e h g = record {
-  next = e;
+pick_first pattern p h g = record {
   rest = rw (← no_digits) (swizzled_more pattern p h g);
   few = omega arith;
   four = record { long = refl; small = λ i l. rw (get_or-replicate {A = ℕ} 4 i 0 0 l) (omega arith) };
@@ -308,50 +306,45 @@ four (a ∷ (b ∷ (c ∷ (d ∷ [])))) l s =
     (z, digit (s 0 (omega arith)) (digit (s 1 (omega arith)) (digit (s 2 (omega arith)) (digit (s 3 (omega arith)) last))))
 four (a ∷ (b ∷ (c ∷ (d ∷ (e ∷ es))))) l s = absurd (omega arith)
 
-module _ {pattern : List ℕ} {p : PartReq} {total : Swizzled} {k : ℕ} {a : Item} {ds : List ℕ} (h : Picking-on pattern p total k a ds) where
-  module _ (on : a.there ≡ true) where
-    cell : tail p k ≡ more a.index (kid (tail p k)) (after (tail p k))
-    cell = cell_is (tail p k) a h.next on
+module _ {pattern : List ℕ} {p : PartReq} {total : Swizzled} {k : ℕ} {ds : List ℕ} (h : Picking-on pattern p total k ds) where
+  module _ {i : ℕ} (on : Some i ≡ first (tail p k)) where
+    cell : tail p k ≡ more i (kid (tail p k)) (after (tail p k))
+    cell = cell_is (tail p k) i on
 
-    pub pick_there : (first (tail p k)).there ≡ true
-    pick_there = rw (← h.next) on
-
-    pub pick_index : a.index ≡ (first (tail p k)).index
-    pick_index = ap (λ (i : Item). i.index) h.next
+    pub pick_there : i < 4 → IsSomeAnd (first (tail p k)) (λ j. j < spine)
+    pick_there l = let b : i < spine = omega arith in rw (← on) b
 
     pub pick_less : entries (tail p (k + 1)) < entries (tail p k)
     pick_less =
-        rw (tail_more p k) (omega (arith, entries-cell a.index (kid (tail p k)) (after (tail p k)), ap entries cell))
+        rw (tail_more p k) (omega (arith, entries-cell i (kid (tail p k)) (after (tail p k)), ap entries cell))
 
-    pub pick_out : 4 ≤ a.index → total ≡ panics
-    pick_out l = sym h.rest ∙ rw cell (collected-out pattern a.index (kid (tail p k)) (after (tail p k)) (digits_from 0 ds) l)
+    pub pick_out : 4 ≤ i → total ≡ panics
+    pick_out l = sym h.rest ∙ rw cell (collected-out pattern i (kid (tail p k)) (after (tail p k)) (digits_from 0 ds) l)
 
-    module _ (l : a.index < 4) where
+    module _ (l : i < 4) where
       pick_part : digit_of (kid (tail p k)) ≡ 0 → total ≡ panics
       pick_part z =
           sym h.rest
-          ∙ rw cell (collected-part pattern a.index (kid (tail p k)) (after (tail p k)) (digits_from 0 ds) l (digit_part (kid (tail p k)) z))
+          ∙ rw cell (collected-part pattern i (kid (tail p k)) (after (tail p k)) (digits_from 0 ds) l (digit_part (kid (tail p k)) z))
 
-      put_digit : Letters pattern → (digit_of (kid (tail p k)) ≡ 0 → ⊥) → {b : Item} → b ≡ first (tail p (k + 1))
-          → Picking-on pattern p total (k + 1) b (set ds (get_or pattern a.index 0) (digit_of (kid (tail p k))))
-      put_digit ls ne e =
+      put_digit : Letters pattern → (digit_of (kid (tail p k)) ≡ 0 → ⊥) → Picking-on pattern p total (k + 1) (set ds (get_or pattern i 0) (digit_of (kid (tail p k))))
+      put_digit ls ne =
           let f = digit_flat (kid (tail p k)) ne in
-          let low = ls.low a.index l in
-          let j : get_or pattern a.index 0 < length ds = omega (arith, h.four.long) in
-          let z : 0 + get_or pattern a.index 0 ≡ get_or pattern a.index 0 = omega arith in
-          let i : insert (digits_from 0 ds) (get_or pattern a.index 0) (kid (tail p k)) ≡ digits_from 0 (set ds (get_or pattern a.index 0) (digit_of (kid (tail p k))))
-          = rw z at (insert-digit 0 (get_or pattern a.index 0) ds (kid (tail p k)) f.0 j) in
+          let low = ls.low i l in
+          let j : get_or pattern i 0 < length ds = omega (arith, h.four.long) in
+          let z : 0 + get_or pattern i 0 ≡ get_or pattern i 0 = omega arith in
+          let put : insert (digits_from 0 ds) (get_or pattern i 0) (kid (tail p k)) ≡ digits_from 0 (set ds (get_or pattern i 0) (digit_of (kid (tail p k))))
+          = rw z at (insert-digit 0 (get_or pattern i 0) ds (kid (tail p k)) f.0 j) in
           record {
-            next = e;
-            rest = rw (tail_more p k, ← i)
-                (sym (collected-on pattern a.index (kid (tail p k)) (after (tail p k)) (digits_from 0 ds) l f.0) ∙ rw (← cell) h.rest);
+            rest = rw (tail_more p k, ← put)
+                (sym (collected-on pattern i (kid (tail p k)) (after (tail p k)) (digits_from 0 ds) l f.0) ∙ rw (← cell) h.rest);
             few = omega (arith, h.few, pick_less);
             four = record {
-              long = length-set ds (get_or pattern a.index 0) (digit_of (kid (tail p k))) ∙ h.four.long;
+              long = length-set ds (get_or pattern i 0) (digit_of (kid (tail p k))) ∙ h.four.long;
               small = λ m b.
-                  elim (ℕ_discrete m (get_or pattern a.index 0)) [
-                    | yes e ↦ rw (e, get_or-set_same ds (get_or pattern a.index 0) (digit_of (kid (tail p k))) 0 j) f.1
-                    | no x ↦ rw (get_or-set_other ds (get_or pattern a.index 0) m (digit_of (kid (tail p k))) 0 x) (h.four.small m b)
+                  elim (ℕ_discrete m (get_or pattern i 0)) [
+                    | yes e ↦ rw (e, get_or-set_same ds (get_or pattern i 0) (digit_of (kid (tail p k))) 0 j) f.1
+                    | no x ↦ rw (get_or-set_other ds (get_or pattern i 0) m (digit_of (kid (tail p k))) 0 x) (h.four.small m b)
                   ];
             };
           }
@@ -364,12 +357,11 @@ module _ {pattern : List ℕ} {p : PartReq} {total : Swizzled} {k : ℕ} {a : It
         pub pick_panics : d ≡ 0 → total ≡ panics
         pick_panics z = pick_part (sym d-is ∙ z)
 
-        pub pick_on : {b : Item} (letter : ℕ) → Letters pattern → letter ≡ get_or pattern a.index 0 → (d ≡ 0 → ⊥) → b ≡ first (tail p (k + 1))
-            → Picking-on pattern p total (k + 1) b (set ds letter d)
-        pick_on letter ls el ne e = rw (el, d-is) (put_digit ls (λ z. ne (d-is ∙ z)) e)
+        pub pick_on : (letter : ℕ) → Letters pattern → letter ≡ get_or pattern i 0 → (d ≡ 0 → ⊥) → Picking-on pattern p total (k + 1) (set ds letter d)
+        pick_on letter ls el ne = rw (el, d-is) (put_digit ls (λ z. ne (d-is ∙ z)))
 
-  pub pick_done : {s rs : List ℕ} (n : ℕ) → Memory s rs → a.there ≡ false
-      → n ≡ flat_slot + (get_or ds 0 0 + 3 * (get_or ds 1 0 + 3 * (get_or ds 2 0 + 3 * get_or ds 3 0))) → Picks s rs total (record { panics = false; slot = n })
+  pub pick_done : {s rs : List ℕ} (n : ℕ) → Memory s rs → None ≡ first (tail p k)
+      → n ≡ flat_slot + (get_or ds 0 0 + 3 * (get_or ds 1 0 + 3 * (get_or ds 2 0 + 3 * get_or ds 3 0))) → Picks s rs total (Some n)
   pick_done n m off is =
       let q = h.four in
       let f = four ds q.long q.small in
@@ -381,22 +373,22 @@ module _ {pattern : List ℕ} {p : PartReq} {total : Swizzled} {k : ℕ} {a : It
           omega arith,
           (
             flat_fine m n (omega arith) (omega arith),
-            sym h.rest ∙ collected-end pattern (tail p k) a (digits_from 0 ds) h.next off ∙ ap asks (sym (rw is (m.flats _ low) ∙ e)),
+            sym h.rest ∙ collected-end pattern (tail p k) (digits_from 0 ds) off ∙ ap asks (sym (rw is (m.flats _ low) ∙ e)),
           ),
         );
       }
 
-pub picks_panic : {s rs : List ℕ} {total : Swizzled} → total ≡ panics → Picks s rs total (record { panics = true; slot = 0 })
+pub picks_panic : {s rs : List ℕ} {total : Swizzled} → total ≡ panics → Picks s rs total None
 picks_panic e = record { by = e }
 
-pub picks_all : {s rs : List ℕ} (pattern : List ℕ) (p : PartReq) → Memory s rs → true ≡ is_all p → Picks s rs (swizzled pattern p) (record { panics = false; slot = all_slot })
+pub picks_all : {s rs : List ℕ} (pattern : List ℕ) (p : PartReq) → Memory s rs → true ≡ is_all p → Picks s rs (swizzled pattern p) (Some all_slot)
 unfolding swizzled
 picks_all pattern all m h = record { by = (omega arith, (rw m.first (unfold over in refl), ap asks (sym m.first))) }
 picks_all pattern exist m h = let z : ◌≡◌ {A = ℕ} 0 1 = cc in absurd (omega arith)
 picks_all pattern none m h = let z : ◌≡◌ {A = ℕ} 0 1 = cc in absurd (omega arith)
 picks_all pattern (more i q r) m h = let z : ◌≡◌ {A = ℕ} 0 1 = cc in absurd (omega arith)
 
-pub picks_exist : {s rs : List ℕ} (pattern : List ℕ) (p : PartReq) → Memory s rs → true ≡ is_exist p → Picks s rs (swizzled pattern p) (record { panics = false; slot = exist_slot })
+pub picks_exist : {s rs : List ℕ} (pattern : List ℕ) (p : PartReq) → Memory s rs → true ≡ is_exist p → Picks s rs (swizzled pattern p) (Some exist_slot)
 unfolding swizzled
 picks_exist pattern all m h = let z : ◌≡◌ {A = ℕ} 0 1 = cc in absurd (omega arith)
 picks_exist pattern exist m h = record { by = (omega arith, (rw m.second (unfold over in refl), ap asks (sym m.second))) }

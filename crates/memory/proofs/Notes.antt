@@ -2,12 +2,12 @@
 use Prim.Native.Nat.{ℕ, zero, suc, ◌+◌, ◌-◌, ◌*◌, ◌<◌, ◌≤◌, min}
 use native.Mathlib.Omega.{arith}
 use native.Mathlib.Numerals.{add-one}
-use native.Mathlib.Decide.{ℕ_discrete, dec_lt}
+use native.Mathlib.Decide.{dec_lt}
 use mathlib.Core.Path.{◌≡◌, refl, sym, ap, ◌∙◌}
 use mathlib.Core.Bool.{Bool, true, false, ◌&&◌}
 use mathlib.Core.List.{List, [], ◌∷◌}
 use lib.Dec.{eqb}
-use lib.ListN.{length, get_or, set, length-set}
+use lib.ListN.{length, get_or, set, length-set, replicate, get_or-replicate}
 use lib.Seq.{get_or-set_same, get_or-set_other}
 use Rattle.field.specs.Limits.{max_depth}
 use Rattle.part.specs.PartReq.{PartReq, none, more, entries, over}
@@ -24,18 +24,9 @@ use Rattle.memory.specs.Memory.{read, sum_from, Recorded, missing, present, Memo
 use Rattle.memory.specs.declared.want.Want.{Want}
 use Rattle.memory.proofs.Slots.{read_at, read-long, kept_read, sum_suc, sum_split, want_low, asked-small, kept_memory, set-memory, set-read, above}
 
--- `fill`
-pub filled_none : (us : List ℕ) → Filled us 0
-filled_none us = record { with_none = λ k h. absurd (omega arith) }
-
-pub filled_more : (us : List ℕ) (n : ℕ) → Filled us n → n < length us → Filled (set us n 2) (n + 1)
-filled_more us n f l = record {
-  with_none = λ k h.
-      elim (ℕ_discrete k n) [
-        | yes e ↦ rw e (get_or-set_same us n 2 0 l)
-        | no ne ↦ get_or-set_other us n k 2 0 ne ∙ f.with_none k (omega arith)
-      ];
-}
+-- every slot has the empty part
+pub all_filled : {us : List ℕ} {n : ℕ} → us ≡ replicate n 2 → Filled us n
+all_filled {us} {n} e = record { with_none = λ k h. rw e (get_or-replicate {A = ℕ} n k 2 0 h) }
 
 -- `init_memory`
 module _ {s rs t us : List ℕ} {n : ℕ} (g : Good s) (none-used : top s ≡ 3) (big : store_size ≤ length s) (f : Filled rs n) (all-filled : length rs ≡ n) (long : stack_slot ≤ n)

@@ -9,8 +9,11 @@ use mathlib.Core.Bool.{true, false, cond}
 use mathlib.Core.List.{List, [], ◌∷◌}
 use mathlib.Core.Option.{Option, none as nothing}
 use lib.Dec.{eqb}
-use lib.ListN.{length, get_or, set, length-set, get_or-eq_default}
-use lib.Seq.{get_or-set_same, get_or-set_other, ext_get_or}
+use lib.ListN.{length, get_or, set, length-set, get_or-eq_default, replicate, length-replicate}
+use lib.Seq.{get_or-set_same, get_or-set_other, ext_get_or, paste}
+use Rattle.std.proofs.lemmas.List.Edits.{fill_from_more, paste_none}
+use Rattle.std.proofs.lemmas.Slice.{put_mid-paste}
+use borrow.Rule.Slice.PartMut.{put_mid}
 use borrow.Author.Tests.{eq-eqb, ne_eqb}
 use Rattle.part.specs.PartReq.{PartReq, none, more, entries, is_all, is_exist}
 use Rattle.part.specs.Store.{top, part, Good}
@@ -301,13 +304,20 @@ module _ {s rs : List ℕ} (m : Memory s rs) (from to n : ℕ) (a : exprs_slot �
       ]
 
 -- records forgotten
-pub forgotten-none : (rs : List ℕ) (from : ℕ) → rs ≡ forgotten rs from 0
-unfolding forgotten
-forgotten-none rs from = refl
-
-pub forgotten-more : (rs : List ℕ) (from n : ℕ) → set (forgotten rs from n) (from + n) 2 ≡ forgotten rs from (n + 1)
+forgotten-more : (rs : List ℕ) (from n : ℕ) → set (forgotten rs from n) (from + n) 2 ≡ forgotten rs from (n + 1)
 unfolding forgotten
 forgotten-more rs from n = rw add-one
+
+-- `forget` fills them at once
+forgotten-filled : (rs : List ℕ) (from n : ℕ) → from + n ≤ length rs → paste rs from (replicate n 2) n ≡ forgotten rs from n
+unfolding forgotten
+forgotten-filled rs from zero h = sym (paste_none rs from (replicate 0 2))
+forgotten-filled rs from (suc n) h =
+    sym (rw add-one at (fill_from_more rs from n 2 (omega arith))) ∙ ap (λ (xs : List ℕ). set xs (from + n) 2) (forgotten-filled rs from n (omega arith))
+
+pub forgotten-part : (rs ys : List ℕ) (from n : ℕ) {k m : ℕ} → ys ≡ replicate m 2 → m ≡ n → k ≡ n → from + n ≤ length rs → put_mid from k rs ys ≡ forgotten rs from n
+forgotten-part rs ys from n {k} e f g h =
+    put_mid-paste from k rs ys (replicate n 2) n (rw f at e) (sym g) (sym (length-replicate n 2)) ∙ forgotten-filled rs from n h
 
 module _ (rs : List ℕ) (from : ℕ) where
   pub forgotten-long : (n : ℕ) → length (forgotten rs from n) ≡ length rs
@@ -344,7 +354,3 @@ module _ (rs us : List ℕ) (from to n k : ℕ) (is : us ≡ copied rs from to k
 
   pub extend_more : (get_or us (from + k) 0 ≡ 2 → ⊥) → set us (to + k) (get_or us (from + k) 0) ≡ copied rs from to (k + 1)
   extend_more z = ap (λ (xs : List ℕ). set xs (to + k) (get_or us (from + k) 0)) is ∙ copied_more rs from to k (get_or us (from + k) 0) as_it_was z
-
--- a turn of `forget`
-pub forget_inside : (rs us : List ℕ) (from n k : ℕ) → us ≡ forgotten rs from k → from + n ≤ length rs → k < n → from + k < length us
-forget_inside rs us from n k is l h = let e = ap length is ∙ forgotten-long rs from k in omega arith

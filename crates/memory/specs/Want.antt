@@ -1,11 +1,10 @@
 -- A part by value: the part in a slot, the positions of the entries on the way down into it, and the indexes wrapped around what is found there.
-use Rattle.std.specs.Prelude.{ℕ, zero, suc, ◌+◌, ◌-◌, ◌*◌, ◌<◌, ◌≤◌, ◌≡◌, true, false, List, length, get_or, set, replicate}
+use Rattle.std.specs.Prelude.{ℕ, zero, suc, ◌+◌, ◌-◌, ◌*◌, ◌<◌, ◌≤◌, ◌≡◌, false, List, length, get_or, set, replicate, Option, Some, None}
 use Rattle.field.specs.Limits.{max_depth}
 use Rattle.part.specs.PartReq.{PartReq, all, exist, none, more, depth, over}
 use Rattle.part.specs.Store.{part}
 use Rattle.memory.specs.Layout.{globals_slot}
 use Rattle.memory.specs.declared.want.Want.{Want}
-use Rattle.memory.specs.declared.want.Item.{Item}
 
 -- the requirement of the first entry, and the entries after it
 unfoldable pub kid : PartReq → PartReq
@@ -75,12 +74,12 @@ asked s rs w = asks w (part s (get_or rs w.slot 0))
 abbrev pub Wants : List ℕ → List ℕ → Want → Type 0
 Wants s rs w = Asking w (part s (get_or rs w.slot 0))
 
--- the first entry of a requirement, if it has one
-abbrev pub first : PartReq → Item
-first all = record { there = false; index = 0 }
-first exist = record { there = false; index = 0 }
-first none = record { there = false; index = 0 }
-first (more i p r) = record { there = true; index = i }
+-- the index of the first entry of a requirement, if it has one
+abbrev pub first : PartReq → Option ℕ
+first all = None
+first exist = None
+first none = None
+first (more i p r) = Some i
 
 -- u asks what the entry k of what w asks has
 pub record Child (s rs : List ℕ) (w : Want) (k : ℕ) (u : Want) : Type 0 where

@@ -9,7 +9,7 @@ ghost use Rattle.part.specs.StoreLimits.{store_words, entries_cap};
 ghost use Rattle.memory.specs.Layout.{flat_count, stack_slot, store_size, most};
 ghost use Rattle.memory.specs.Flat.{flat_from};
 ghost use Rattle.memory.specs.Want.{asked};
-ghost use Rattle.memory.specs.Memory.{read, sum_from, counted, Recorded, Memory, Tidied, Filled, Flats, Empty, Putting, Noting, Noted, join_room, Joining, Totalling, Totalled};
+ghost use Rattle.memory.specs.Memory.{read, sum_from, counted, Recorded, Memory, Tidied, Flats, Empty, Putting, Noting, Noted, join_room, Joining, Totalling, Totalled};
 
 use crate::layout::{FLAT, FLATS, GLOBALS, LIVE};
 use crate::want::{Want, piece};
@@ -43,22 +43,9 @@ fn flats(cells: &mut [u32], slots: &mut [u32])
     requires stack_slot_in_bounds { stack_slot ≤ length slots.old }
     ensures { Flats cells.old slots.old cells.new slots.new flat_count }
 {
-    let mut c = 0;
-    while c < FLATS {
+    for c in 0..FLATS {
         let r = flat(cells, 0, 4, c as u32);
         slots[FLAT + c] = r;
-        c += 1;
-    }
-}
-
-// Every slot has the empty part.
-fn fill(slots: &mut [u32])
-    ensures { Filled slots.new (length slots.old) }
-{
-    let mut k = 0;
-    while k < slots.len() {
-        slots[k] = 2;
-        k += 1;
     }
 }
 
@@ -69,7 +56,7 @@ pub fn init_memory(cells: &mut [u32], slots: &mut [u32])
     ensures { Empty cells.new slots.new }
 {
     init(cells);
-    fill(slots);
+    slots.fill(2);
     slots[0] = 0;
     slots[1] = 1;
     flats(cells, slots);
@@ -95,10 +82,8 @@ pub fn weigh(cells: &[u32], slots: &[u32], a: usize, n: usize) -> usize
     ensures { result ≡ sum_from (read cells.now slots.now) a n }
 {
     let mut sum = 0;
-    let mut k = 0;
-    while k < n {
+    for k in 0..n {
         sum += entries(cells, slots[a + k]) as usize;
-        k += 1;
     }
     sum
 }

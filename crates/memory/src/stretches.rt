@@ -38,14 +38,11 @@ pub fn extend(slots: &mut [u32], from: usize, to: usize, n: usize)
     requires { (from + n ≤ to) × (to + n ≤ length slots.old) }
     ensures { slots.new ≡ copied slots.old from to n }
 {
-    let mut k = 0;
-    while k < n {
-        let i = k + 1;
+    for k in 0..n {
         let r = slots[from + k];
         if r != 2 {
             slots[to + k] = r;
         }
-        k = i;
     }
 }
 
@@ -54,9 +51,5 @@ pub fn forget(slots: &mut [u32], from: usize, n: usize)
     requires { from + n ≤ length slots.old }
     ensures { slots.new ≡ forgotten slots.old from n }
 {
-    let mut k = 0;
-    while k < n {
-        slots[from + k] = 2;
-        k += 1;
-    }
+    slots[from..from + n].fill(2);
 }

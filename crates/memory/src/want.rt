@@ -1,5 +1,5 @@
 // A part by value, on its way down to the operands: no cell is made until a piece is needed.
-ghost use Rattle.std.specs.Prelude.{◌≡◌, true, false, ◌+◌, ◌*◌, ◌≤◌, ◌<◌, get_or};
+ghost use Rattle.std.specs.Prelude.{◌≡◌, ◌+◌, ◌*◌, ◌≤◌, ◌<◌, get_or, IsSomeAnd};
 ghost use Rattle.field.specs.Limits.{max_depth};
 ghost use Rattle.part.specs.PartReq.{none, more, over, spine, is_all, is_exist};
 ghost use Rattle.part.specs.Store.{top, part, Good, Room, Made};
@@ -20,13 +20,6 @@ pub struct Want {
     pub path: [u32; PATH],
     pub down: usize,
     pub up: usize,
-}
-
-// An entry of a part, if there is one.
-#[derive(Clone, Copy)]
-pub struct Item {
-    pub there: bool,
-    pub index: u32,
 }
 
 // The part of the slot k.
@@ -51,10 +44,9 @@ impl Want {
         let up = self.up;
         path[MAX_DEPTH + up] = i;
         Want {
-            slot: self.slot,
-            path: path,
-            down: self.down,
+            path,
             up: up + 1,
+            ..self
         }
     }
 
@@ -67,10 +59,9 @@ impl Want {
         let down = self.down;
         path[down] = k;
         Want {
-            slot: self.slot,
-            path: path,
+            path,
             down: down + 1,
-            up: self.up,
+            ..self
         }
     }
 
@@ -79,12 +70,9 @@ impl Want {
         requires { 0 < self.up }
         ensures { result ≡ popped self }
     {
-        let path = self.path;
         Want {
-            slot: self.slot,
-            path: path,
-            down: self.down,
             up: self.up - 1,
+            ..self
         }
     }
 }
@@ -109,16 +97,13 @@ pub fn tail(cells: &[u32], n: u32, k: u32) -> u32
     ensures { (result < top cells.now) × (part cells.now result ≡ tail (part cells.now n) k) }
 {
     let mut m = n;
-    let mut j = 0;
-    while j < k {
-        let i = j + 1;
+    for j in 0..k {
         if 2 < m {
             let x = look(cells, m);
             m = x.rest;
         } else {
             m = 2;
         }
-        j = i;
     }
     m
 }
@@ -132,11 +117,9 @@ pub fn reach(cells: &[u32], w: Want, n: u32) -> u32
     let path = w.path;
     let down = w.down;
     let mut m = n;
-    let mut k = 0;
-    while k < down {
+    for k in 0..down {
         let t = tail(cells, m, path[k]);
         m = kid(cells, t);
-        k += 1;
     }
     m
 }
@@ -151,10 +134,8 @@ pub fn piece(cells: &mut [u32], w: Want, n: u32) -> u32
     let path = w.path;
     let up = w.up;
     let mut m = reach(cells, w, n);
-    let mut k = 0;
-    while k < up {
+    for k in 0..up {
         m = make(cells, path[MAX_DEPTH + k], m, 2);
-        k += 1;
     }
     m
 }
@@ -168,10 +149,7 @@ pub fn wrap_over(cells: &[u32], slots: &[u32], w: Want, i: u32) -> bool
     let slot = w.slot;
     let n = reach(cells, w, slots[slot]);
     let d = depth(cells, n) as usize;
-    if MAX_DEPTH <= d + w.up {
-        return true;
-    }
-    MAX_ENTRIES < 1
+    MAX_DEPTH <= d + w.up || MAX_ENTRIES < 1
 }
 
 // Whether w asks all.
@@ -200,8 +178,8 @@ pub fn is_exist(cells: &[u32], slots: &[u32], w: Want) -> bool
     n == 1
 }
 
-// The entry k of what w asks.
-pub fn entry(cells: &[u32], slots: &[u32], w: Want, k: u32) -> Item
+// The index of the entry k of what w asks, if there is one.
+pub fn entry(cells: &[u32], slots: &[u32], w: Want, k: u32) -> Option<u32>
     requires { Memory cells.now slots.now × Wants cells.now slots.now w }
     ensures { result ≡ first (tail (asked cells.now slots.now w) k) }
 {
@@ -209,36 +187,24 @@ pub fn entry(cells: &[u32], slots: &[u32], w: Want, k: u32) -> Item
     if 0 < up {
         if k == 0 {
             let path = w.path;
-            return Item {
-                there: true,
-                index: path[MAX_DEPTH + (up - 1)],
-            };
+            return Some(path[MAX_DEPTH + (up - 1)]);
         }
-        return Item {
-            there: false,
-            index: 0,
-        };
+        return None;
     }
     let slot = w.slot;
     let m = reach(cells, w, slots[slot]);
     let t = tail(cells, m, k);
     if t < 3 {
-        return Item {
-            there: false,
-            index: 0,
-        };
+        return None;
     }
     let x = look(cells, t);
-    Item {
-        there: true,
-        index: x.index,
-    }
+    Some(x.index)
 }
 
 // What that entry has, where there is one with a file's index.
 pub fn child(cells: &[u32], slots: &[u32], w: Want, k: u32) -> Want
     requires memory { Memory cells.now slots.now × Wants cells.now slots.now w }
-    requires k_value { ((first (tail (asked cells.now slots.now w) k)).there ≡ true) × ((first (tail (asked cells.now slots.now w) k)).index < spine) }
+    requires k_value { IsSomeAnd (first (tail (asked cells.now slots.now w) k)) (λ i. i < spine) }
     ensures { Child cells.now slots.now w k result }
 {
     if 0 < w.up {
@@ -271,6 +237,7 @@ fn letter_at(pattern: [u32; 4], i: u32) -> usize
 }
 
 // The slot of the flat part with these digits.
+#[tactic(auto, using(crate::proofs::FlatParts::digit_small))]
 fn flat_slot(digits: [usize; 4]) -> usize
     requires { FourDigits digits }
     ensures { result ≡ flat_slot + (get_or digits 0 0 + 3 * (get_or digits 1 0 + 3 * (get_or digits 2 0 + 3 * get_or digits 3 0))) }
@@ -280,56 +247,32 @@ fn flat_slot(digits: [usize; 4]) -> usize
     FLAT + (low + 9 * high)
 }
 
-// The slot of what a swizzle asks of its vector, or a panic.
-#[derive(Clone, Copy)]
-pub struct Picked {
-    pub panics: bool,
-    pub slot: usize,
-}
-
-// What a swizzle with these letters asks of its vector, where w is asked of it.
-pub fn swizzle(cells: &[u32], slots: &[u32], w: Want, pattern: [u32; 4]) -> Picked
+// The slot of what a swizzle with these letters asks of its vector, where w is asked of it; none where that panics.
+pub fn swizzle(cells: &[u32], slots: &[u32], w: Want, pattern: [u32; 4]) -> Option<usize>
     requires memory { Memory cells.now slots.now × Wants cells.now slots.now w }
     requires letters { Letters pattern }
     ensures { Picks cells.now slots.now (swizzled pattern (asked cells.now slots.now w)) result }
 {
     if is_all(cells, slots, w) {
-        return Picked {
-            panics: false,
-            slot: ALL,
-        };
+        return Some(ALL);
     }
     if is_exist(cells, slots, w) {
-        return Picked {
-            panics: false,
-            slot: EXIST,
-        };
+        return Some(EXIST);
     }
     let mut digits: [usize; 4] = [0; 4];
     let mut k = 0;
-    let mut a = entry(cells, slots, w, 0);
-    while a.there {
-        if 4 <= a.index {
-            return Picked {
-                panics: true,
-                slot: 0,
-            };
+    while let Some(i) = entry(cells, slots, w, k) {
+        if 4 <= i {
+            return None;
         }
         let u = child(cells, slots, w, k);
         let d = digit(cells, slots, u);
         if d == 0 {
-            return Picked {
-                panics: true,
-                slot: 0,
-            };
+            return None;
         }
-        let letter = letter_at(pattern, a.index);
+        let letter = letter_at(pattern, i);
         digits[letter] = d;
         k += 1;
-        a = entry(cells, slots, w, k);
     }
-    Picked {
-        panics: false,
-        slot: flat_slot(digits),
-    }
+    Some(flat_slot(digits))
 }

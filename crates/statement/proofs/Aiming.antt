@@ -28,8 +28,7 @@ use Rattle.state.specs.Frame.{frame_of}
 use Rattle.state.specs.declared.frame.Frame.{Frame}
 use Rattle.target.specs.Target.{HasTarget, HasResolved, var_ref_part, Resolves}
 use Rattle.target.specs.declared.resolve.Target.{Target}
-use Rattle.target.specs.declared.resolve.VarRefPart as declared
-use Rattle.target.specs.declared.resolve.VarRefPart.TheVariants.{Resolved, Unresolved}
+use Rattle.std.specs.Prelude.{Option, Some, None}
 use Rattle.statement.specs.Aim.{pieces_at, Aiming, Aims}
 use Rattle.statement.specs.declared.aim.Aim.TheVariants.{Refuse, At}
 use Rattle.statement.proofs.Paths.{path_few}
@@ -99,18 +98,18 @@ module _ {bytes t s rs : List ℕ} {fr : Frame} {e : ℕ} (q : Aiming bytes t s 
   pub aim_resolve : (read_module bytes ≡ accepted (module_of bytes t)) × ((e < length (function_at (module_of bytes t) fr.function.0).expressions) × (Good s × Room s max_expressions))
   aim_resolve = (q.begun.ready.was_read.module_is, (q.there, (q.begun.ready.memory.good, omega (arith, q.begun.roomy))))
 
-  module _ {u : List ℕ} {r : declared.VarRefPart} (x : Resolves (module_of bytes t) fr.function.0 e s u r) where
-    pub aim_unresolved : r ≡ Unresolved → Aims bytes t s rs fr e (Refuse 13) u
+  module _ {u : List ℕ} {r : Option Target} (x : Resolves (module_of bytes t) fr.function.0 e s u r) where
+    pub aim_unresolved : r ≡ None → Aims bytes t s rs fr e (Refuse 13) u
     aim_unresolved h =
-        let is : var_ref_part u Unresolved ≡ resolve_var (module_of bytes t) fr.function.0 e [] = rw h at x.is in
+        let is : var_ref_part u None ≡ resolve_var (module_of bytes t) fr.function.0 e [] = rw h at x.is in
         record { kept = x.kept; cost = x.cost; by = λ st g. target-13 (module_of bytes t) (frame_of s rs fr) e (sym is) st }
 
-    module _ {a : Target} (h : r ≡ Resolved a) where
+    module _ {a : Target} (h : r ≡ Some a) where
       has : HasTarget (module_of bytes t) fr.function.0 u a
       has = subst (HasResolved (module_of bytes t) fr.function.0 u) h x.has
 
       is : resolve_var (module_of bytes t) fr.function.0 e [] ≡ resolved (variable_of a.var) (part u a.part)
-      is = sym (subst (λ (y : declared.VarRefPart). var_ref_part u y ≡ resolve_var (module_of bytes t) fr.function.0 e []) h x.is)
+      is = sym (subst (λ (y : Option Target). var_ref_part u y ≡ resolve_var (module_of bytes t) fr.function.0 e []) h x.is)
 
       pub aim_over : Good u × (a.part < top u)
       aim_over = (x.kept.good, has.piece)

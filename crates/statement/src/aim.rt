@@ -6,7 +6,7 @@ use context::required_context::RequiredContext;
 use module::handles::ExpressionHandle;
 use part::store::over;
 use state::frame::Frame;
-use target::resolve::{Target, VarRefPart, resolve_var};
+use target::resolve::{Target, resolve_var};
 use target::store::store_required;
 
 // 13 at a pointer that names no variable, 15 at a path that is too long.
@@ -45,13 +45,13 @@ pub fn target_of(
     let c = load_context(slots, fr.at);
     let found = resolve_var(bytes, t, cells, f, e);
     match found {
-        VarRefPart::Resolved(target) => {
+        Some(target) => {
             if over(cells, target.part) {
                 return Aim::Refuse(15);
             }
             let needed = store_required(cells, c, target);
             Aim::At(target, needed)
         }
-        VarRefPart::Unresolved => Aim::Refuse(13),
+        None => Aim::Refuse(13),
     }
 }

@@ -40,13 +40,9 @@ use Rattle.walk.specs.Resolve.{function_at, expression_at, VarRefPart, resolved,
 use Rattle.sound.proofs.There.{has_expressions, function_valid, operands_below, names_below}
 use Rattle.sound.proofs.Resolve.{resolve_is}
 use Rattle.target.specs.Target.{follows, base_part, Sees, Resolves}
-use Rattle.target.specs.declared.resolve.VarRefPart.TheVariants.{Resolved, Unresolved}
+use Rattle.std.specs.Prelude.{Some, None}
 
 -- the kinds
-pub follows-index : {kind : ℕ} → kind ≡ 3 → true ≡ follows kind
-unfolding follows
-follows-index e = rw e
-
 pub follows-else : {kind : ℕ} → (kind ≡ 3 → ⊥) → eqb kind 4 ≡ follows kind
 unfolding follows
 follows-else {kind} h = rw (ne_eqb kind 3 h)
@@ -182,24 +178,24 @@ module _ (bytes words : List ℕ) (read : read_module bytes ≡ accepted (module
   ]
 
   -- the way ends
-  found : (v : Variable) → Sees (module_of bytes words) f (variable_of v) → handle (variable_of v) < spine → resolved (variable_of v) (from_indexes a.indexes) ≡ resolve_var (module_of bytes words) f whole [] → Resolves (module_of bytes words) f whole s t (Resolved (record { var = v; part = n }))
+  found : (v : Variable) → Sees (module_of bytes words) f (variable_of v) → handle (variable_of v) < spine → resolved (variable_of v) (from_indexes a.indexes) ≡ resolve_var (module_of bytes words) f whole [] → Resolves (module_of bytes words) f whole s t (Some (record { var = v; part = n }))
   found v sees low is =
       record { kept = a.kept; has = record { piece = a.piece; sees = sees; low = low; short = short }; is = rw a.is is; cost = within }
 
-  pub found_global : (g : GlobalHandle) → r.kind ≡ 10 → g.0 ≡ operand_at bytes r 0 → Resolves (module_of bytes words) f whole s t (Resolved (record { var = Global g; part = n }))
+  pub found_global : (g : GlobalHandle) → r.kind ≡ 10 → g.0 ≡ operand_at bytes r 0 → Resolves (module_of bytes words) f whole s t (Some (record { var = Global g; part = n }))
   unfolding expression_of resolve_arm
   found_global g k q =
       let there : g.0 < length (module_of bytes words).globals = rw q (names k) in
       found (Global g) there (omega (arith, is_valid.few_globals)) (rw q (step k))
 
-  pub found_local : (l : LocalHandle) → r.kind ≡ 11 → l.0 ≡ operand_at bytes r 0 → Resolves (module_of bytes words) f whole s t (Resolved (record { var = Local l; part = n }))
+  pub found_local : (l : LocalHandle) → r.kind ≡ 11 → l.0 ≡ operand_at bytes r 0 → Resolves (module_of bytes words) f whole s t (Some (record { var = Local l; part = n }))
   unfolding expression_of resolve_arm
   found_local l k q =
       let there : l.0 < length (function_at (module_of bytes words) f).locals = rw q (names k) in
       let few = (function_valid (module_of bytes words) is_valid f (has_expressions (module_of bytes words) f e a.there)).parts.few_locals in
       found (Local l) there (omega arith) (rw q (step k))
 
-  pub found_none : (r.kind ≡ 10 → ⊥) → (r.kind ≡ 11 → ⊥) → follows r.kind ≡ false → Resolves (module_of bytes words) f whole s t Unresolved
+  pub found_none : (r.kind ≡ 10 → ⊥) → (r.kind ≡ 11 → ⊥) → follows r.kind ≡ false → Resolves (module_of bytes words) f whole s t None
   found_none g l h =
       record {
         kept = a.kept;

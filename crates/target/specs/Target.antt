@@ -8,8 +8,6 @@ use Rattle.context.specs.RequiredContext.{VarRef, Global, Local, handle}
 use Rattle.context.specs.Contexts.{variable_of}
 use Rattle.walk.specs.Resolve.{function_at, VarRefPart, resolved, unresolved, resolve_var}
 use Rattle.target.specs.declared.resolve.Target.{Target}
-use Rattle.target.specs.declared.resolve.VarRefPart as declared
-use Rattle.target.specs.declared.resolve.VarRefPart.TheVariants.{Resolved, Unresolved}
 
 -- whether an expression of this kind is an access
 unfoldable pub follows : ℕ → Bool
@@ -32,17 +30,17 @@ pub record HasTarget (m : Module) (f : FunctionHandle) (s : List ℕ) (x : Targe
   pub low : handle (variable_of x.var) < spine
   pub short : over (part s x.part) ≡ false → entries (part s x.part) ≤ max_depth
 
-abbrev pub HasResolved : Module → FunctionHandle → List ℕ → declared.VarRefPart → Type 0
-HasResolved m f s (Resolved x) = HasTarget m f s x
-HasResolved m f s Unresolved = Unit {0}
+abbrev pub HasResolved : Module → FunctionHandle → List ℕ → Option Target → Type 0
+HasResolved m f s (Some x) = HasTarget m f s x
+HasResolved m f s None = Unit {0}
 
 -- what a pointer names, in the store s; or 13 (`refusal` of crate `walk`)
-abbrev pub var_ref_part : List ℕ → declared.VarRefPart → VarRefPart
-var_ref_part s (Resolved x) = resolved (variable_of x.var) (part s x.part)
-var_ref_part s Unresolved = unresolved
+abbrev pub var_ref_part : List ℕ → Option Target → VarRefPart
+var_ref_part s (Some x) = resolved (variable_of x.var) (part s x.part)
+var_ref_part s None = unresolved
 
 -- from s, t was left: the answer is what the pointer e of the function f names, and at most `max_expressions` cells more are used
-pub record Resolves (m : Module) (f : FunctionHandle) (e : ExpressionHandle) (s t : List ℕ) (r : declared.VarRefPart) : Type 0 where
+pub record Resolves (m : Module) (f : FunctionHandle) (e : ExpressionHandle) (s t : List ℕ) (r : Option Target) : Type 0 where
   pub kept : Kept s t
   pub has : HasResolved m f t r
   pub is : var_ref_part t r ≡ resolve_var m f e []

@@ -15,18 +15,11 @@ use context::required_context::VarRef;
 use module::handles::{ExpressionHandle, FunctionHandle};
 use part::store::make;
 
-// A variable, and the piece of its part.
+// `VarRefPart`: a variable, and the piece of its part.
 #[derive(Clone, Copy)]
 pub struct Target {
     pub var: VarRef,
     pub part: u32,
-}
-
-// `VarRefPart`; or that the pointer names no variable.
-#[derive(Clone, Copy)]
-pub enum VarRefPart {
-    Resolved(Target),
-    Unresolved,
 }
 
 const ACCESS_INDEX: u16 = 3;
@@ -41,10 +34,7 @@ const LOCAL_VARIABLE: u16 = 11;
 fn follows(kind: u16) -> bool
     ensures { result ≡ follows kind }
 {
-    if kind == ACCESS_INDEX {
-        return true;
-    }
-    kind == ACCESS
+    kind == ACCESS_INDEX || kind == ACCESS
 }
 
 // The part of the base, where p is the access's own: an index wraps it, and an access by a value takes all.
@@ -60,14 +50,14 @@ fn base_part(bytes: &[u8], cells: &mut [u32], row: Kinded, p: u32) -> u32
     make(cells, index, p, 2)
 }
 
-// `resolve_var`
+// `resolve_var`: none where the pointer names no variable.
 pub fn resolve_var(
     bytes: &[u8],
     t: &[u32],
     cells: &mut [u32],
     f: FunctionHandle,
     e: ExpressionHandle,
-) -> VarRefPart
+) -> Option<Target>
     requires bytes_value { read_module bytes.now ≡ accepted (module_of bytes.now t.now) }
     requires e_in_bounds { e.0 < length (function_at (module_of bytes.now t.now) f.0).expressions }
     requires good { Good cells.old }
@@ -79,19 +69,19 @@ pub fn resolve_var(
     loop {
         let row = expression(bytes, t, f, x);
         if row.kind == GLOBAL_VARIABLE {
-            return VarRefPart::Resolved(Target {
+            return Some(Target {
                 var: VarRef::Global(global_operand(bytes, row, 0)),
                 part: p,
             });
         }
         if row.kind == LOCAL_VARIABLE {
-            return VarRefPart::Resolved(Target {
+            return Some(Target {
                 var: VarRef::Local(local_operand(bytes, row, 0)),
                 part: p,
             });
         }
         if !follows(row.kind) {
-            return VarRefPart::Unresolved;
+            return None;
         }
         x = expression_operand(bytes, row, 0);
         p = base_part(bytes, cells, row, p);

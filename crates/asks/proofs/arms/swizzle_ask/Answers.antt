@@ -5,14 +5,14 @@ use Rattle.asks.proofs.arms.swizzle_ask.Goals as goal
 pub returns-then-j-gt0 : goal.returns-then-j-gt0
 returns-then-j-gt0 c = swizzle_after c.requires.memory.1 _ _ _ c.if-j-gt0.true
 
-pub swizzle-a-requires : goal.swizzle-a-requires
-swizzle-a-requires c =
+pub swizzle-requires : goal.swizzle-requires
+swizzle-requires c =
     record { memory = c.requires.memory; letters = letters-low c.requires.each_below c.letters-pattern.ensures }
 
-pub returns-then-a : goal.returns-then-a
-returns-then-a c =
-    swizzle_refused c.requires.memory.1 _ c.letters-pattern.ensures c.swizzle-a.ensures _ c.if-j-gt0.false c.if-a.true
+pub returns-in_default : goal.returns-in_default
+returns-in_default c =
+    swizzle_refused c.requires.memory.1 _ c.letters-pattern.ensures _ c.if-j-gt0.false c.in_default.ensures
 
 pub returns : goal.returns
 returns c =
-    swizzle_asked c.requires.memory.1 _ c.letters-pattern.ensures c.swizzle-a.ensures c.if-j-gt0.false c.if-a.false c.expression_operand-vector.ensures c.want_of-want.ensures
+    swizzle_asked c.requires.memory.1 _ c.letters-pattern.ensures c.if-j-gt0.false c.in-Some.ensures c.expression_operand-vector.ensures c.want_of-want.ensures

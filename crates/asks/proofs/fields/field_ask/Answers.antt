@@ -1,5 +1,4 @@
 -- `asks::fields::field_ask` meets its contract. The invariant: what is left of the fields gives the whole. Assumes nothing.
-use Prim.Native.Nat.{◌-◌}
 use mathlib.Core.Path.{refl}
 use Rattle.asks.proofs.FieldAsks.{fields-first, fields_none, fields-end, fields_found, fields_later, fields_skip}
 use Rattle.asks.proofs.Telling.{told_end, told_operand}

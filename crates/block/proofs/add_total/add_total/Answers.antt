@@ -6,9 +6,9 @@ use Rattle.block.proofs.add_total.add_total.Goals as goal
 pub returns-then-totals-i-eq0 : goal.returns-then-totals-i-eq0
 returns-then-totals-i-eq0 c = total_first _ _ c.if-totals-i-eq0.true c.first_total-first.ensures
 
-pub returns-in-At : goal.returns-in-At
-returns-in-At c =
-    total_ray _ _ c.if-totals-i-eq0.false c.first_ray-ray.result c.first_ray-ray.ensures refl c.in-At.is
+pub returns-in-Some : goal.returns-in-Some
+returns-in-Some c =
+    total_ray _ _ c.if-totals-i-eq0.false c.first_ray-ray.result c.first_ray-ray.ensures refl c.in-Some.is
 
 pub returns-in-Over : goal.returns-in-Over
 returns-in-Over c =

@@ -1,12 +1,11 @@
 -- `lines::own_marks::write_own_marks` meets its contract. The marks from the k-th on are left.
-use Prim.Native.Nat.{◌-◌}
 use Rattle.lines.proofs.Along.{along_none, along_fits, along_more, along_done, along_long}
 use Rattle.lines.proofs.Own.{marks_next, marks_none, marks_all}
 use native.Mathlib.Omega.{arith}
 use Rattle.lines.proofs.own_marks.write_own_marks.Goals as goal
 
 pub loop-k-init : goal.loop-k-init
-loop-k-init c = (omega arith, along_none _ _ (marks_all c.args.marks.now c.args.from c.args.n))
+loop-k-init c = along_none _ _ (marks_all c.args.marks.now c.args.from c.args.n)
 
 pub overflow_add-from : goal.overflow_add-from
 overflow_add-from c = omega (arith, c.requires.0)
@@ -16,21 +15,15 @@ bounds-marks-from c = omega (arith, c.requires.0)
 
 pub write_mark-next-requires : goal.write_mark-next-requires
 write_mark-next-requires c =
-    along_fits c.requires.1 c.loop-k.invariant.1 (marks_next c.args.marks.now c.args.from c.args.n c.loop-k.k c.requires.0 (omega arith))
-
-pub overflow_add-k : goal.overflow_add-k
-overflow_add-k c = omega arith
-
-pub loop-k-smaller : goal.loop-k-smaller
-loop-k-smaller c = omega arith
+    along_fits c.requires.1 c.loop-k.invariant (marks_next c.args.marks.now c.args.from c.args.n c.loop-k.k c.requires.0 (omega arith))
 
 pub loop-k-preserved : goal.loop-k-preserved
 loop-k-preserved c =
-    (omega arith, along_more c.loop-k.invariant.1 (marks_next c.args.marks.now c.args.from c.args.n c.loop-k.k c.requires.0 (omega arith)) c.write_mark-next.ensures)
+    along_more c.loop-k.invariant (marks_next c.args.marks.now c.args.from c.args.n c.loop-k.k c.requires.0 (omega arith)) c.write_mark-next.ensures
 
 pub shape_of-out : goal.shape_of-out
-shape_of-out c = along_long c.loop-k.invariant.1
+shape_of-out c = along_long c.loop-k.invariant
 
 pub returns : goal.returns
 returns c =
-    along_done c.loop-k.invariant.1 (marks_none c.args.marks.now c.args.from c.args.n c.loop-k.k (omega arith))
+    along_done c.loop-k.invariant (marks_none c.args.marks.now c.args.from c.args.n c.loop-k.k (omega arith))

@@ -1,5 +1,4 @@
 -- `lines::own_marks::write_own_marks` meets its contract. The marks from the k-th on are left.
-use Prim.Native.Nat.{◌-◌, ◌≤◌}
 use lib.ListN.{take, drop}
 use Rattle.lines.specs.Text.{marks_text}
 use Rattle.lines.proofs.Along.{Along}
@@ -7,7 +6,4 @@ use Rattle.lines.proofs.Own.{marks_left}
 use Rattle.lines.proofs.own_marks.write_own_marks.Given as goal
 
 abbrev pub invariant-loop-k : goal.invariant-loop-k
-invariant-loop-k l = (l.k ≤ l.n) × Along l.initial.out l.out l.at l.next (marks_text (take l.n (drop l.from l.marks))) (marks_left l.marks l.from l.n l.k)
-
-abbrev pub decreases-loop-k : goal.decreases-loop-k
-decreases-loop-k l = l.n - l.k
+invariant-loop-k l = Along l.initial.out l.out l.at l.next (marks_text (take l.n (drop l.from l.marks))) (marks_left l.marks l.from l.n l.k)

@@ -1,5 +1,5 @@
 -- `lines::records::write_records` meets its contract. The records from the k-th on are left.
-use Prim.Native.Nat.{◌+◌, ◌-◌}
+use Prim.Native.Nat.{◌+◌}
 use Rattle.lines.proofs.Along.{along_none, along_fits, along_more, along_done, along_long}
 use Rattle.lines.proofs.Rows.{records_next, records_none, records_all}
 use native.Mathlib.Omega.{arith}
@@ -7,7 +7,7 @@ use Rattle.lines.proofs.records.write_records.Goals as goal
 
 pub loop-k-init : goal.loop-k-init
 loop-k-init c =
-    (omega arith, along_none _ _ (records_all c.args.cells.now c.args.slots.now c.args.base c.args.n))
+    along_none _ _ (records_all c.args.cells.now c.args.slots.now c.args.base c.args.n)
 
 pub overflow_cast-k : goal.overflow_cast-k
 overflow_cast-k c = omega (arith, c.requires.n_in_bounds.1)
@@ -15,29 +15,20 @@ overflow_cast-k c = omega (arith, c.requires.n_in_bounds.1)
 pub overflow_add-base : goal.overflow_add-base
 overflow_add-base c = omega (arith, c.requires.n_in_bounds.0)
 
-pub offset_bounds-slots-base : goal.offset_bounds-slots-base
-offset_bounds-slots-base c = omega arith
-
 pub bounds-slots-base : goal.bounds-slots-base
 bounds-slots-base c = omega (arith, c.requires.n_in_bounds.0)
 
 pub write_record-next-requires : goal.write_record-next-requires
 write_record-next-requires c =
-    record { good = c.requires.good.0; p_bound = (c.requires.good.1 (c.args.base + c.loop-k.k) (omega (arith, c.requires.n_in_bounds.0)), along_fits c.requires.n_in_bounds.2 c.loop-k.invariant.1 (records_next c.args.cells.now c.args.slots.now c.args.base c.args.n c.loop-k.k c.requires.n_in_bounds.0 (omega arith))) }
-
-pub overflow_add-k : goal.overflow_add-k
-overflow_add-k c = omega arith
-
-pub loop-k-smaller : goal.loop-k-smaller
-loop-k-smaller c = omega arith
+    record { good = c.requires.good.0; p_bound = (c.requires.good.1 (c.args.base + c.loop-k.k) (omega (arith, c.requires.n_in_bounds.0)), along_fits c.requires.n_in_bounds.2 c.loop-k.invariant (records_next c.args.cells.now c.args.slots.now c.args.base c.args.n c.loop-k.k c.requires.n_in_bounds.0 (omega arith))) }
 
 pub loop-k-preserved : goal.loop-k-preserved
 loop-k-preserved c =
-    (omega arith, along_more c.loop-k.invariant.1 (records_next c.args.cells.now c.args.slots.now c.args.base c.args.n c.loop-k.k c.requires.n_in_bounds.0 (omega arith)) c.write_record-next.ensures)
+    along_more c.loop-k.invariant (records_next c.args.cells.now c.args.slots.now c.args.base c.args.n c.loop-k.k c.requires.n_in_bounds.0 (omega arith)) c.write_record-next.ensures
 
 pub shape_of-out : goal.shape_of-out
-shape_of-out c = along_long c.loop-k.invariant.1
+shape_of-out c = along_long c.loop-k.invariant
 
 pub returns : goal.returns
 returns c =
-    along_done c.loop-k.invariant.1 (records_none c.args.cells.now c.args.slots.now c.args.base c.args.n c.loop-k.k (omega arith))
+    along_done c.loop-k.invariant (records_none c.args.cells.now c.args.slots.now c.args.base c.args.n c.loop-k.k (omega arith))

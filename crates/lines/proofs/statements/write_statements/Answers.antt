@@ -1,37 +1,24 @@
 -- `lines::statements::write_statements` meets its contract. The lines from the statement s on are left.
-use Prim.Native.Nat.{◌-◌}
 use Rattle.lines.proofs.Along.{along_none, along_fits, along_more, along_done, along_long}
 use Rattle.lines.proofs.StatementLines.{lines_all, lines_none, lines_next, marks_there}
 use native.Mathlib.Omega.{arith}
 use Rattle.lines.proofs.statements.write_statements.Goals as goal
 
-pub statements-n-requires : goal.statements-n-requires
-statements-n-requires c = tt
-
 pub loop-s-init : goal.loop-s-init
 loop-s-init c =
-    (omega arith, along_none _ _ (lines_all c.args.bytes.now c.args.t.now c.args.marks.now c.args.f.0))
-
-pub place-from-requires : goal.place-from-requires
-place-from-requires c = tt
+    along_none _ _ (lines_all c.args.bytes.now c.args.t.now c.args.marks.now c.args.f.0)
 
 pub write_statement-next-requires : goal.write_statement-next-requires
 write_statement-next-requires c =
-    (marks_there c.requires.0 c.loop-s.s (omega (arith, c.statements-n.ensures c.args.bytes.now)) c.place-from.ensures, along_fits c.requires.1 c.loop-s.invariant.1 (lines_next c.requires.0 c.loop-s.s (omega (arith, c.statements-n.ensures c.args.bytes.now)) c.place-from.ensures))
-
-pub overflow_add-s : goal.overflow_add-s
-overflow_add-s c = omega arith
-
-pub loop-s-smaller : goal.loop-s-smaller
-loop-s-smaller c = omega arith
+    (marks_there c.requires.0 c.loop-s.s (omega (arith, c.statements-n.ensures c.args.bytes.now)) c.place-from.ensures, along_fits c.requires.1 c.loop-s.invariant (lines_next c.requires.0 c.loop-s.s (omega (arith, c.statements-n.ensures c.args.bytes.now)) c.place-from.ensures))
 
 pub loop-s-preserved : goal.loop-s-preserved
 loop-s-preserved c =
-    (omega arith, along_more c.loop-s.invariant.1 (lines_next c.requires.0 c.loop-s.s (omega (arith, c.statements-n.ensures c.args.bytes.now)) c.place-from.ensures) c.write_statement-next.ensures)
+    along_more c.loop-s.invariant (lines_next c.requires.0 c.loop-s.s (omega (arith, c.statements-n.ensures c.args.bytes.now)) c.place-from.ensures) c.write_statement-next.ensures
 
 pub shape_of-out : goal.shape_of-out
-shape_of-out c = along_long c.loop-s.invariant.1
+shape_of-out c = along_long c.loop-s.invariant
 
 pub returns : goal.returns
 returns c =
-    along_done c.loop-s.invariant.1 (lines_none c.requires.0 c.loop-s.s (omega (arith, c.statements-n.ensures c.args.bytes.now)))
+    along_done c.loop-s.invariant (lines_none c.requires.0 c.loop-s.s (omega (arith, c.statements-n.ensures c.args.bytes.now)))

@@ -1,12 +1,8 @@
 -- `lines::statements::write_statements` meets its contract. The lines from the statement s on are left.
-use Prim.Native.Nat.{◌-◌, ◌≤◌}
 use Rattle.lines.specs.Reported.{statements_in}
 use Rattle.lines.proofs.Along.{Along}
 use Rattle.lines.proofs.StatementLines.{lines_left}
 use Rattle.lines.proofs.statements.write_statements.Given as goal
 
 abbrev pub invariant-loop-s : goal.invariant-loop-s
-invariant-loop-s l = (l.s ≤ l.n) × Along l.initial.out l.out l.at l.next (statements_in l.bytes l.t l.marks l.f.0) (lines_left l.bytes l.t l.marks l.f.0 l.s)
-
-abbrev pub decreases-loop-s : goal.decreases-loop-s
-decreases-loop-s l = l.n - l.s
+invariant-loop-s l = Along l.initial.out l.out l.at l.next (statements_in l.bytes l.t l.marks l.f.0) (lines_left l.bytes l.t l.marks l.f.0 l.s)

@@ -2,4 +2,4 @@
 use Rattle.marks.proofs.places.place.Goals as goal
 
 pub returns : goal.returns
-returns c = rw (c.wide.ensures, c.word.ensures, c.statement_number.ensures)
+returns c = rw (c.word.ensures, c.statement_number.ensures)

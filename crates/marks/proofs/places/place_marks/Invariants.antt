@@ -1,13 +1,9 @@
 -- `marks::places::place_marks` meets its contract. Assumes nothing.
 use mathlib.Core.Path.{◌≡◌}
-use Prim.Native.Nat.{◌≤◌, ◌-◌}
 use Rattle.module.specs.Tables.{module_of}
 use Rattle.marks.specs.Places.{start_of}
 use Rattle.marks.proofs.Placed.{placed_to}
 use Rattle.marks.proofs.places.place_marks.Given as goal
 
 abbrev pub invariant-loop-f : goal.invariant-loop-f
-invariant-loop-f l = (l.f ≤ l.n) × (l.places ≡ placed_to l.bytes l.t l.initial.places l.f) × (l.at ≡ start_of (module_of l.bytes l.t) l.f)
-
-abbrev pub decreases-loop-f : goal.decreases-loop-f
-decreases-loop-f l = l.n - l.f
+invariant-loop-f l = (l.places ≡ placed_to l.bytes l.t l.initial.places l.f) × (l.at ≡ start_of (module_of l.bytes l.t) l.f)

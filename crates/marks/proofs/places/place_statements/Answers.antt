@@ -1,45 +1,26 @@
 -- `marks::places::place_statements` meets its contract. Assumes nothing.
 use mathlib.Core.Path.{ap, ◌∙◌}
-use Prim.Native.Nat.{◌-◌}
 use native.Mathlib.Omega.{arith}
 use lib.ListN.{length}
 use Rattle.marks.proofs.Placed.{statement_count, at_first, at_more, placed_long, placed_none, placed_more, placed_all}
 use Rattle.marks.proofs.places.place_statements.Goals as goal
 
-pub statements-n-requires : goal.statements-n-requires
-statements-n-requires c = tt
-
 pub loop-s-init : goal.loop-s-init
 loop-s-init c =
-    (omega arith, placed_none _ _ c.requires.0 _ _, at_first _ _ c.requires.0 _ _ c.requires.2)
-
-pub statement_number-requires : goal.statement_number-requires
-statement_number-requires c = tt
-
-pub put-requires : goal.put-requires
-put-requires c = tt
-
-pub mark_count-at-requires : goal.mark_count-at-requires
-mark_count-at-requires c = tt
+    (placed_none _ _ c.requires.0 _ _, at_first _ _ c.requires.0 _ _ c.requires.2)
 
 pub overflow_add-at : goal.overflow_add-at
 overflow_add-at c =
-    let l = statement_count _ _ c.requires.0 c.args.f.0 in let h = (at_more _ _ c.requires.0 _ c.loop-s.s _ _ c.requires.1 (omega (arith, c.statements-n.ensures c.args.bytes.now)) c.loop-s.invariant.2 c.mark_count-at.ensures).1 in omega arith
-
-pub overflow_add-s : goal.overflow_add-s
-overflow_add-s c = omega arith
-
-pub loop-s-smaller : goal.loop-s-smaller
-loop-s-smaller c = omega arith
+    let l = statement_count _ _ c.requires.0 c.args.f.0 in let h = (at_more _ _ c.requires.0 _ c.loop-s.s _ _ c.requires.1 (omega (arith, c.statements-n.ensures c.args.bytes.now)) c.loop-s.invariant.1 c.mark_count-at.ensures).1 in omega arith
 
 pub loop-s-preserved : goal.loop-s-preserved
 loop-s-preserved c =
     let l = statement_count _ _ c.requires.0 c.args.f.0 in
-    (omega arith, placed_more _ _ c.requires.0 _ _ _ _ _ _ _ c.loop-s.invariant.1 c.loop-s.invariant.2 c.statement_number.ensures c.put.ensures, (at_more _ _ c.requires.0 _ c.loop-s.s _ _ c.requires.1 (omega (arith, c.statements-n.ensures c.args.bytes.now)) c.loop-s.invariant.2 c.mark_count-at.ensures).0)
+    (placed_more _ _ c.requires.0 _ _ _ _ _ _ _ c.loop-s.invariant.0 c.loop-s.invariant.1 c.statement_number.ensures c.put.ensures, (at_more _ _ c.requires.0 _ c.loop-s.s _ _ c.requires.1 (omega (arith, c.statements-n.ensures c.args.bytes.now)) c.loop-s.invariant.1 c.mark_count-at.ensures).0)
 
 pub shape_of-places : goal.shape_of-places
-shape_of-places c = ap length c.loop-s.invariant.1 ∙ placed_long _ _ c.requires.0 c.args.f.0 _ _
+shape_of-places c = ap length c.loop-s.invariant.0 ∙ placed_long _ _ c.requires.0 c.args.f.0 _ _
 
 pub returns : goal.returns
 returns c =
-    let l = statement_count _ _ c.requires.0 c.args.f.0 in placed_all _ _ c.requires.0 _ _ _ c.loop-s.s _ c.requires.1 (omega (arith, c.statements-n.ensures c.args.bytes.now)) c.loop-s.invariant.1 c.loop-s.invariant.2
+    let l = statement_count _ _ c.requires.0 c.args.f.0 in placed_all _ _ c.requires.0 _ _ _ c.loop-s.s _ c.requires.1 (omega (arith, c.statements-n.ensures c.args.bytes.now)) c.loop-s.invariant.0 c.loop-s.invariant.1

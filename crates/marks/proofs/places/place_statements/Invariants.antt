@@ -1,12 +1,8 @@
 -- `marks::places::place_statements` meets its contract. Assumes nothing.
 use mathlib.Core.Path.{◌≡◌}
-use Prim.Native.Nat.{◌≤◌, ◌-◌}
 use Rattle.module.specs.Tables.{module_of}
 use Rattle.marks.specs.Places.{placed_in, mark_place}
 use Rattle.marks.proofs.places.place_statements.Given as goal
 
 abbrev pub invariant-loop-s : goal.invariant-loop-s
-invariant-loop-s l = (l.s ≤ l.n) × (l.places ≡ placed_in l.bytes l.t l.f.0 l.initial.places l.s) × (l.at ≡ mark_place (module_of l.bytes l.t) l.f.0 l.s)
-
-abbrev pub decreases-loop-s : goal.decreases-loop-s
-decreases-loop-s l = l.n - l.s
+invariant-loop-s l = (l.places ≡ placed_in l.bytes l.t l.f.0 l.initial.places l.s) × (l.at ≡ mark_place (module_of l.bytes l.t) l.f.0 l.s)

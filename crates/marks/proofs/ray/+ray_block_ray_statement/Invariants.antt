@@ -7,20 +7,14 @@ use Rattle.access.specs.Access.{operand_at}
 use Rattle.walk.specs.Marks.{ray_from, first_ray}
 use Rattle.marks.specs.Ray.{held_count, held_number}
 use Rattle.marks.proofs.Rays.{ray_down}
-use Prim.Native.Nat.{◌+◌, ◌-◌, ◌*◌, ◌<◌, ◌≤◌}
+use Prim.Native.Nat.{◌+◌, ◌-◌, ◌*◌}
 use Rattle.marks.proofs.ray.+ray_block_ray_statement.Given as goal
 
 abbrev pub invariant-ray_block-loop-k : goal.invariant-ray_block-loop-k
-invariant-ray_block-loop-k l = (l.k ≤ l.count) × (ray_from (module_of l.bytes l.t) l.f.0 (below (first_ray (module_of l.bytes l.t) l.f.0) nothing l.b.0) (l.first + l.k) (l.count - l.k) ≡ first_ray (module_of l.bytes l.t) l.f.0 l.b.0)
+invariant-ray_block-loop-k l = ray_from (module_of l.bytes l.t) l.f.0 (below (first_ray (module_of l.bytes l.t) l.f.0) nothing l.b.0) (l.first + l.k) (l.count - l.k) ≡ first_ray (module_of l.bytes l.t) l.f.0 l.b.0
 
-abbrev pub decreases-ray_block-loop-k : goal.decreases-ray_block-loop-k
-decreases-ray_block-loop-k l = l.count - l.k
-
-abbrev pub invariant-ray_statement-loop-n : goal.invariant-ray_statement-loop-n
-invariant-ray_statement-loop-n l = (l.n ≤ (held_count l.kind (operand_at l.bytes l.row))) × (l.n < 65536) × (ray_down (first_ray (module_of l.bytes l.t) l.f.0) (held_number l.kind (operand_at l.bytes l.row)) l.n ≡ ray_down (first_ray (module_of l.bytes l.t) l.f.0) (held_number l.kind (operand_at l.bytes l.row)) (held_count l.kind (operand_at l.bytes l.row)))
-
-abbrev pub decreases-ray_statement-loop-n : goal.decreases-ray_statement-loop-n
-decreases-ray_statement-loop-n l = l.n
+abbrev pub invariant-ray_statement-loop-j : goal.invariant-ray_statement-loop-j
+invariant-ray_statement-loop-j l = ray_down (first_ray (module_of l.bytes l.t) l.f.0) (held_number l.kind (operand_at l.bytes l.row)) l.j ≡ ray_down (first_ray (module_of l.bytes l.t) l.f.0) (held_number l.kind (operand_at l.bytes l.row)) (held_count l.kind (operand_at l.bytes l.row))
 
 abbrev pub decreases-ray_block : goal.decreases-ray_block
 decreases-ray_block l = 2 * l.b.0 + 1

@@ -1,25 +1,19 @@
 -- `marks::ray::held_count` meets its contract. Assumes nothing.
 use native.Mathlib.Omega.{arith}
 use Rattle.marks.specs.Ray.{held_count}
-use Rattle.marks.proofs.Rays.{count_none}
+use Rattle.marks.proofs.Rays.{count_none, count_two}
 use Rattle.marks.proofs.ray.held_count.Goals as goal
 
-pub returns-then-kind-eq1 : goal.returns-then-kind-eq1
+pub returns-in-1 : goal.returns-in-1
 unfolding held_count
-returns-then-kind-eq1 c = (rw c.if-kind-eq1.true, omega arith)
+returns-in-1 c = (rw c.in-1.is, omega arith)
 
-pub returns-then-kind-eq2 : goal.returns-then-kind-eq2
+pub returns-in-2 : goal.returns-in-2
+returns-in-2 c = (count_two _ _ c.in-2.is, omega arith)
+
+pub returns-in-3 : goal.returns-in-3
 unfolding held_count
-returns-then-kind-eq2 c = (rw c.if-kind-eq2.true, omega arith)
+returns-in-3 c = (rw c.in-3.is c.operand.ensures, omega arith)
 
-pub returns-then-kind-eq3 : goal.returns-then-kind-eq3
-unfolding held_count
-returns-then-kind-eq3 c = (rw c.if-kind-eq3.true c.operand.ensures, omega arith)
-
-pub returns-then-kind-eq4 : goal.returns-then-kind-eq4
-unfolding held_count
-returns-then-kind-eq4 c = (rw c.if-kind-eq4.true, omega arith)
-
-pub returns : goal.returns
-returns c =
-    (count_none _ _ c.if-kind-eq1.false c.if-kind-eq2.false c.if-kind-eq3.false c.if-kind-eq4.false, omega arith)
+pub returns-in_default : goal.returns-in_default
+returns-in_default c = (count_none _ _ (omega arith) (grind arith) (omega arith) (grind arith), omega arith)

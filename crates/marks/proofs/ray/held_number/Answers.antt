@@ -4,27 +4,27 @@ use Rattle.marks.specs.Ray.{held_number, held_count}
 use Rattle.marks.proofs.Rays.{count_last}
 use Rattle.marks.proofs.ray.held_number.Goals as goal
 
-pub returns-then-kind-eq1 : goal.returns-then-kind-eq1
+pub returns-in-1 : goal.returns-in-1
 unfolding held_number
-returns-then-kind-eq1 c = rw c.if-kind-eq1.true c.block_operand.ensures
+returns-in-1 c = rw c.in-1.is c.block_operand.ensures
 
 pub overflow_sub-j : goal.overflow_sub-j
 unfolding held_count
-overflow_sub-j c = let h = rw c.if-kind-eq2.true at c.requires.0 in omega arith
+overflow_sub-j c = let h = rw c.in-2.is at c.requires.0 in omega arith
 
-pub returns-then-kind-eq2 : goal.returns-then-kind-eq2
+pub returns-in-2 : goal.returns-in-2
 unfolding held_number
-returns-then-kind-eq2 c = rw c.if-kind-eq2.true c.block_operand-then-kind-eq2.ensures
+returns-in-2 c = rw c.in-2.is c.block_operand-in-2.ensures
 
-pub returns-then-kind-eq3 : goal.returns-then-kind-eq3
+pub returns-in-3 : goal.returns-in-3
 unfolding held_number
-returns-then-kind-eq3 c = rw c.if-kind-eq3.true c.block_operand-then-kind-eq3.ensures
+returns-in-3 c = rw c.in-3.is c.block_operand-in-3.ensures
 
-pub overflow_sub-j-2 : goal.overflow_sub-j-2
-overflow_sub-j-2 c =
-    let h = (count_last _ _ _ c.if-kind-eq1.false c.if-kind-eq2.false c.if-kind-eq3.false c.requires.0).1 in omega arith
+pub overflow_sub-j-in_default : goal.overflow_sub-j-in_default
+overflow_sub-j-in_default c =
+    let h = (count_last _ _ _ (omega arith) (omega arith) (omega arith) c.requires.0).1 in omega arith
 
-pub returns : goal.returns
+pub returns-in_default : goal.returns-in_default
 unfolding held_number
-returns c =
-    rw (count_last _ _ _ c.if-kind-eq1.false c.if-kind-eq2.false c.if-kind-eq3.false c.requires.0).0 c.block_operand-2.ensures
+returns-in_default c =
+    rw (count_last _ _ _ (omega arith) (omega arith) (omega arith) c.requires.0).0 c.block_operand-in_default.ensures

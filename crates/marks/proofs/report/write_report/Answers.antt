@@ -1,6 +1,5 @@
 -- `marks::report::write_report` meets its contract. Assumes nothing.
 use mathlib.Core.Path.{◌≡◌}
-use Prim.Native.Nat.{◌-◌}
 use Rattle.marks.specs.Report.{report_in}
 use Rattle.marks.proofs.Turns.{still_long}
 use Rattle.marks.proofs.Write.{write_none}
@@ -10,13 +9,10 @@ use Rattle.marks.proofs.report.write_report.Goals as goal
 
 pub loop-f-init : goal.loop-f-init
 unfolding report_in
-loop-f-init c = (omega arith, write_none _ 0)
+loop-f-init c = (write_none _ 0)
 
 pub start-from-requires : goal.start-from-requires
 start-from-requires c = let i = (c.requires.0.each c.loop-f.f c.loop-f-test.true).entry in omega arith
-
-pub overflow_add-f : goal.overflow_add-f
-overflow_add-f c = omega arith
 
 pub start-to-requires : goal.start-to-requires
 start-to-requires c = (c.requires.0.each c.loop-f.f c.loop-f-test.true).entry
@@ -31,24 +27,18 @@ slice_bounds-write_part-start c =
 
 pub slice_bounds-write_part-end : goal.slice_bounds-write_part-end
 slice_bounds-write_part-end c =
-    let i = c.requires.0.each c.loop-f.f c.loop-f-test.true in let u = i.within in let l = still_long _ _ _ 0 c.loop-f.invariant.1 in omega (arith, c.requires.3)
+    let i = c.requires.0.each c.loop-f.f c.loop-f-test.true in let u = i.within in let l = still_long _ _ _ 0 c.loop-f.invariant in omega (arith, c.requires.3)
 
 pub write_part-requires : goal.write_part-requires
 write_part-requires c =
-    let i = c.requires.0.each c.loop-f.f c.loop-f-test.true in let l = still_long _ _ _ 0 c.loop-f.invariant.1 in (i, c.requires.1, lent_long c.loop-f.report _ _ _ 0 c.start-from.result c.start-to.result i (omega (arith, c.requires.3)) (omega arith) (omega arith), omega (arith, c.requires.2))
-
-pub overflow_add-f-in-loop-f : goal.overflow_add-f-in-loop-f
-overflow_add-f-in-loop-f c = omega arith
-
-pub loop-f-smaller : goal.loop-f-smaller
-loop-f-smaller c = omega arith
+    let i = c.requires.0.each c.loop-f.f c.loop-f-test.true in let l = still_long _ _ _ 0 c.loop-f.invariant in (i, c.requires.1, lent_long c.loop-f.report _ _ _ 0 c.start-from.result c.start-to.result i (omega (arith, c.requires.3)) (omega arith) (omega arith), omega (arith, c.requires.2))
 
 pub loop-f-preserved : goal.loop-f-preserved
 loop-f-preserved c =
-    (omega arith, report-turn _ _ _ _ _ c.requires.0 c.requires.1 _ _ _ _ _ _ c.loop-f-test.true c.requires.3 c.loop-f.invariant.1 c.start-from.ensures c.start-to.ensures c.write_part.ensures)
+    (report-turn _ _ _ _ _ c.requires.0 c.requires.1 _ _ _ _ _ _ c.loop-f-test.true c.requires.3 c.loop-f.invariant c.start-from.ensures c.start-to.ensures c.write_part.ensures)
 
 pub shape_of-report : goal.shape_of-report
-shape_of-report c = still_long _ _ _ 0 c.loop-f.invariant.1
+shape_of-report c = still_long _ _ _ 0 c.loop-f.invariant
 
 pub returns : goal.returns
-returns c = let e : c.loop-f.f ≡ c.args.n = omega arith in rw e at c.loop-f.invariant.1
+returns c = let e : c.loop-f.f ≡ c.args.n = omega arith in rw e at c.loop-f.invariant

@@ -1,12 +1,8 @@
 -- `marks::report::write_report` meets its contract. Assumes nothing.
 use mathlib.Core.Path.{◌≡◌}
-use Prim.Native.Nat.{◌≤◌, ◌-◌}
 use Rattle.walk.specs.Marks.{write_marks}
 use Rattle.marks.specs.Report.{report_in}
 use Rattle.marks.proofs.report.write_report.Given as goal
 
 abbrev pub invariant-loop-f : goal.invariant-loop-f
-invariant-loop-f l = (l.f ≤ l.n) × (l.report ≡ write_marks l.initial.report 0 (report_in l.places l.marks l.totals l.asked.0 l.f))
-
-abbrev pub decreases-loop-f : goal.decreases-loop-f
-decreases-loop-f l = l.n - l.f
+invariant-loop-f l = l.report ≡ write_marks l.initial.report 0 (report_in l.places l.marks l.totals l.asked.0 l.f)

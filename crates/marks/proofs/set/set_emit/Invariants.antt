@@ -1,13 +1,9 @@
 -- `marks::set::set_emit` meets its contract. Assumes nothing.
 use mathlib.Core.Path.{◌≡◌}
-use Prim.Native.Nat.{◌≤◌, ◌-◌}
 use Rattle.walk.specs.StatementReq.{any, marks_of}
 use Rattle.walk.specs.Marks.{write_marks}
 use Rattle.marks.specs.Places.{recorded_in}
 use Rattle.marks.proofs.set.set_emit.Given as goal
 
 abbrev pub invariant-loop-k : goal.invariant-loop-k
-invariant-loop-k l = (l.k ≤ l.n) × (l.marks ≡ write_marks l.initial.marks l.at (marks_of (recorded_in l.slots l.from l.k))) × (l.found ≡ any (recorded_in l.slots l.from l.k))
-
-abbrev pub decreases-loop-k : goal.decreases-loop-k
-decreases-loop-k l = l.n - l.k
+invariant-loop-k l = (l.marks ≡ write_marks l.initial.marks l.at (marks_of (recorded_in l.slots l.from l.k))) × (l.found ≡ any (recorded_in l.slots l.from l.k))

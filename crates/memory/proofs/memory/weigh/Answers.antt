@@ -1,16 +1,12 @@
 -- `memory::memory::weigh` meets its contract. Assumes nothing.
 use mathlib.Core.Path.{◌≡◌, sym}
-use Prim.Native.Nat.{◌-◌}
 use Rattle.memory.proofs.Notes.{sum_grows, weigh_more}
 use Rattle.memory.proofs.Slots.{sum_none}
 use native.Mathlib.Omega.{arith}
 use Rattle.memory.proofs.memory.weigh.Goals as goal
 
 pub loop-k-init : goal.loop-k-init
-loop-k-init c = (omega arith, sym (sum_none _ _))
-
-pub overflow_add-a : goal.overflow_add-a
-overflow_add-a c = omega arith
+loop-k-init c = sym (sum_none _ _)
 
 pub entries-requires : goal.entries-requires
 entries-requires c =
@@ -18,14 +14,11 @@ entries-requires c =
 
 pub overflow_add-sum : goal.overflow_add-sum
 overflow_add-sum c =
-    omega (arith, sum_grows c.requires.memory _ _ c.requires.n_in_bounds.0 _ c.loop-k.invariant.0, c.entries.ensures)
-
-pub loop-k-smaller : goal.loop-k-smaller
-loop-k-smaller c = omega arith
+    omega (arith, sum_grows c.requires.memory _ _ c.requires.n_in_bounds.0 c.loop-k.k (omega arith), c.entries.ensures)
 
 pub loop-k-preserved : goal.loop-k-preserved
 loop-k-preserved c =
-    (omega arith, weigh_more c.requires.memory _ _ c.requires.n_in_bounds.0 _ _ _ c.requires.n_in_bounds.1 c.loop-k-test.true c.loop-k.invariant.1 c.entries.ensures)
+    weigh_more c.requires.memory _ _ c.requires.n_in_bounds.0 _ _ _ c.requires.n_in_bounds.1 c.loop-k-test.true c.loop-k.invariant c.entries.ensures
 
 pub returns : goal.returns
-returns c = let e : c.loop-k.k ≡ c.args.n = omega arith in rw e at c.loop-k.invariant.1
+returns c = let e : c.loop-k.k ≡ c.args.n = omega arith in rw e at c.loop-k.invariant

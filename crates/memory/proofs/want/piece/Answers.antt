@@ -1,24 +1,20 @@
 -- `memory::want::piece` meets its contract. Assumes nothing.
 use mathlib.Core.Path.{refl}
-use Prim.Native.Nat.{◌-◌}
 use Rattle.memory.proofs.Asks.{wrap_start, wrap_more, pieced}
 use native.Mathlib.Omega.{arith}
 use Rattle.memory.proofs.want.piece.Goals as goal
 
 pub loop-k-init : goal.loop-k-init
-loop-k-init c = (omega arith, wrap_start _ _ _ _ c.requires.good c.reach-m.ensures.0 refl)
+loop-k-init c = wrap_start _ _ _ _ c.requires.good c.reach-m.ensures.0 refl
 
 pub make-m-requires : goal.make-m-requires
 make-m-requires c =
-    let h = c.loop-k.invariant.1 in
+    let h = c.loop-k.invariant in
     record { good = h.kept.good; room = omega (arith, h.cost, h.kept.long); child_bound = (h.piece, omega (arith, h.kept.good.base)) }
 
-pub loop-k-smaller : goal.loop-k-smaller
-loop-k-smaller c = omega arith
-
 pub loop-k-preserved : goal.loop-k-preserved
-loop-k-preserved c = (omega arith, wrap_more _ _ _ refl c.loop-k.invariant.1 c.make-m.ensures)
+loop-k-preserved c = wrap_more _ _ _ refl c.loop-k.invariant c.make-m.ensures
 
 pub returns : goal.returns
 returns c =
-    pieced c.args.w _ _ _ c.loop-k.invariant.1 (omega arith) c.requires.n_bound.1.1 c.reach-m.ensures.1
+    pieced c.args.w _ _ _ c.loop-k.invariant (omega arith) c.requires.n_bound.1.1 c.reach-m.ensures.1

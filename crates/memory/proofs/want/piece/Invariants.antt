@@ -1,11 +1,7 @@
 -- `memory::want::piece` meets its contract. Assumes nothing.
-use Prim.Native.Nat.{◌≤◌, ◌-◌}
 use Rattle.part.specs.Store.{part, Made}
 use Rattle.memory.specs.Want.{wraps}
 use Rattle.memory.proofs.want.piece.Given as goal
 
 abbrev pub invariant-loop-k : goal.invariant-loop-k
-invariant-loop-k l = (l.k ≤ l.up) × Made l.initial.cells l.cells (wraps l.path l.k (part l.initial.cells l.initial.m)) l.k l.m
-
-abbrev pub decreases-loop-k : goal.decreases-loop-k
-decreases-loop-k l = l.up - l.k
+invariant-loop-k l = Made l.initial.cells l.cells (wraps l.path l.k (part l.initial.cells l.initial.m)) l.k l.m

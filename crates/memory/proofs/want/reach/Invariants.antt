@@ -1,12 +1,9 @@
 -- `memory::want::reach` meets its contract. Assumes nothing.
 use mathlib.Core.Path.{◌≡◌}
-use Prim.Native.Nat.{◌<◌, ◌≤◌, ◌-◌}
+use Prim.Native.Nat.{◌<◌}
 use Rattle.part.specs.Store.{top, part}
 use Rattle.memory.specs.Want.{downs}
 use Rattle.memory.proofs.want.reach.Given as goal
 
 abbrev pub invariant-loop-k : goal.invariant-loop-k
-invariant-loop-k l = (l.k ≤ l.down) × ((l.m < top l.cells) × (part l.cells l.m ≡ downs l.path l.k (part l.cells l.n)))
-
-abbrev pub decreases-loop-k : goal.decreases-loop-k
-decreases-loop-k l = l.down - l.k
+invariant-loop-k l = (l.m < top l.cells) × (part l.cells l.m ≡ downs l.path l.k (part l.cells l.n))

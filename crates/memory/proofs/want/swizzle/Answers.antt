@@ -1,6 +1,6 @@
 -- `memory::want::swizzle` meets its contract. Assumes nothing.
 use mathlib.Core.Path.{refl, sym, ◌∙◌}
-use Rattle.memory.proofs.FlatParts.{picks_all, picks_exist, picks_panic, pick_first, pick_there, pick_index, pick_less, pick_out, pick_panics, pick_on, pick_done}
+use Rattle.memory.proofs.FlatParts.{picks_all, picks_exist, picks_panic, pick_first, pick_there, pick_less, pick_out, pick_panics, pick_on, pick_done}
 use Rattle.memory.proofs.Slots.{asked-small}
 use native.Mathlib.Omega.{arith}
 use Rattle.memory.proofs.want.swizzle.Goals as goal
@@ -17,54 +17,44 @@ is_exist-requires c = c.requires.memory
 pub returns-then-is_exist : goal.returns-then-is_exist
 returns-then-is_exist c = picks_exist _ _ c.requires.memory.0 (sym c.if-is_exist.true ∙ c.is_exist.ensures)
 
-pub entry-a-requires : goal.entry-a-requires
-entry-a-requires c = c.requires.memory
+pub loop-i-init : goal.loop-i-init
+loop-i-init c = pick_first _ _ (sym c.if-is_all.false ∙ c.is_all.ensures) (sym c.if-is_exist.false ∙ c.is_exist.ensures)
 
-pub loop-a-init : goal.loop-a-init
-loop-a-init c =
-    pick_first _ _ _ c.entry-a.ensures (sym c.if-is_all.false ∙ c.is_all.ensures) (sym c.if-is_exist.false ∙ c.is_exist.ensures)
-
-pub returns-then-a-ge4 : goal.returns-then-a-ge4
-returns-then-a-ge4 c = picks_panic (pick_out c.loop-a.invariant c.loop-a-test.true c.if-a-ge4.true)
+pub returns-then-i-ge4 : goal.returns-then-i-ge4
+returns-then-i-ge4 c = picks_panic (pick_out c.loop-i.invariant c.in-Some.ensures c.if-i-ge4.true)
 
 pub child-u-requires : goal.child-u-requires
 child-u-requires c =
-    record { memory = c.requires.memory; k_value = (pick_there c.loop-a.invariant c.loop-a-test.true, omega (arith, pick_index c.loop-a.invariant c.loop-a-test.true)) }
+    record { memory = c.requires.memory; k_value = pick_there c.loop-i.invariant c.in-Some.ensures c.if-i-ge4.false }
 
 pub digit-d-requires : goal.digit-d-requires
 digit-d-requires c = (c.requires.memory.0, c.child-u.ensures.wants)
 
 pub returns-then-d-eq0 : goal.returns-then-d-eq0
 returns-then-d-eq0 c =
-    picks_panic (pick_panics c.loop-a.invariant c.loop-a-test.true c.if-a-ge4.false c.child-u.ensures refl c.digit-d.ensures c.if-d-eq0.true)
-
-pub letter_at-letter-requires : goal.letter_at-letter-requires
-letter_at-letter-requires c = c.if-a-ge4.false
+    picks_panic (pick_panics c.loop-i.invariant c.in-Some.ensures c.if-i-ge4.false c.child-u.ensures refl c.digit-d.ensures c.if-d-eq0.true)
 
 pub offset_bounds-digits-letter : goal.offset_bounds-digits-letter
 offset_bounds-digits-letter c =
-    omega (arith, c.requires.letters.low c.loop-a.a.index c.if-a-ge4.false, c.letter_at-letter.ensures)
+    omega (arith, c.requires.letters.low c.in-Some.i c.if-i-ge4.false, c.letter_at-letter.ensures)
 
 pub bounds-digits-letter : goal.bounds-digits-letter
 bounds-digits-letter c =
-    omega (arith, c.requires.letters.low c.loop-a.a.index c.if-a-ge4.false, c.letter_at-letter.ensures)
+    omega (arith, c.requires.letters.low c.in-Some.i c.if-i-ge4.false, c.letter_at-letter.ensures)
 
 pub overflow_add-k : goal.overflow_add-k
 overflow_add-k c =
-    omega (arith, c.loop-a.invariant.few, pick_less c.loop-a.invariant c.loop-a-test.true, asked-small c.requires.memory.0 _ c.requires.memory.1)
+    omega (arith, c.loop-i.invariant.few, pick_less c.loop-i.invariant c.in-Some.ensures, asked-small c.requires.memory.0 _ c.requires.memory.1)
 
-pub entry-a-requires-in-loop-a : goal.entry-a-requires-in-loop-a
-entry-a-requires-in-loop-a c = c.requires.memory
+pub loop-i-smaller : goal.loop-i-smaller
+loop-i-smaller c = pick_less c.loop-i.invariant c.in-Some.ensures
 
-pub loop-a-smaller : goal.loop-a-smaller
-loop-a-smaller c = pick_less c.loop-a.invariant c.loop-a-test.true
-
-pub loop-a-preserved : goal.loop-a-preserved
-loop-a-preserved c =
-    pick_on c.loop-a.invariant c.loop-a-test.true c.if-a-ge4.false c.child-u.ensures refl c.digit-d.ensures _ c.requires.letters c.letter_at-letter.ensures c.if-d-eq0.false c.entry-a-in-loop-a.ensures
+pub loop-i-preserved : goal.loop-i-preserved
+loop-i-preserved c =
+    pick_on c.loop-i.invariant c.in-Some.ensures c.if-i-ge4.false c.child-u.ensures refl c.digit-d.ensures _ c.requires.letters c.letter_at-letter.ensures c.if-d-eq0.false
 
 pub flat_slot-requires : goal.flat_slot-requires
-flat_slot-requires c = c.loop-a.invariant.four
+flat_slot-requires c = c.loop-i.invariant.four
 
 pub returns : goal.returns
-returns c = pick_done c.loop-a.invariant _ c.requires.memory.0 c.loop-a-test.false c.flat_slot.ensures
+returns c = pick_done c.loop-i.invariant _ c.requires.memory.0 (sym c.in_default.is ∙ c.entry.ensures) c.flat_slot.ensures

@@ -5,8 +5,8 @@ use Rattle.memory.specs.Want.{tail, asked}
 use Rattle.memory.specs.Picks.{Picking-on}
 use Rattle.memory.proofs.want.swizzle.Given as goal
 
-abbrev pub invariant-loop-a : goal.invariant-loop-a
-invariant-loop-a l = Picking-on l.pattern (asked l.cells l.slots l.w) (swizzled l.pattern (asked l.cells l.slots l.w)) l.k l.a l.digits
+abbrev pub invariant-loop-i : goal.invariant-loop-i
+invariant-loop-i l = Picking-on l.pattern (asked l.cells l.slots l.w) (swizzled l.pattern (asked l.cells l.slots l.w)) l.k l.digits
 
-abbrev pub decreases-loop-a : goal.decreases-loop-a
-decreases-loop-a l = entries (tail (asked l.cells l.slots l.w) l.k)
+abbrev pub decreases-loop-i : goal.decreases-loop-i
+decreases-loop-i l = entries (tail (asked l.cells l.slots l.w) l.k)

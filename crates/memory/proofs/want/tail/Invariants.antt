@@ -1,12 +1,9 @@
 -- `memory::want::tail` meets its contract. Assumes nothing.
 use mathlib.Core.Path.{◌≡◌}
-use Prim.Native.Nat.{◌<◌, ◌≤◌, ◌-◌}
+use Prim.Native.Nat.{◌<◌}
 use Rattle.part.specs.Store.{top, part}
 use Rattle.memory.specs.Want.{tail}
 use Rattle.memory.proofs.want.tail.Given as goal
 
 abbrev pub invariant-loop-j : goal.invariant-loop-j
-invariant-loop-j l = (l.j ≤ l.k) × ((l.m < top l.cells) × (part l.cells l.m ≡ tail (part l.cells l.n) l.j))
-
-abbrev pub decreases-loop-j : goal.decreases-loop-j
-decreases-loop-j l = l.k - l.j
+invariant-loop-j l = (l.m < top l.cells) × (part l.cells l.m ≡ tail (part l.cells l.n) l.j)

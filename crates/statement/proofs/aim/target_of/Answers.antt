@@ -12,21 +12,21 @@ resolve_var-found-requires c =
 
 pub over-requires : goal.over-requires
 over-requires c =
-    let q9 = aim_over c.requires c.resolve_var-found.ensures c.in-Resolved.is in
+    let q9 = aim_over c.requires c.resolve_var-found.ensures c.in-Some.is in
     record { good = q9.0; n_bound = q9.1 }
 
 pub returns-then-over : goal.returns-then-over
 returns-then-over c =
-    aim_long c.requires c.resolve_var-found.ensures c.in-Resolved.is c.over.ensures c.if-over.true
+    aim_long c.requires c.resolve_var-found.ensures c.in-Some.is c.over.ensures c.if-over.true
 
 pub store_required-needed-requires : goal.store_required-needed-requires
 store_required-needed-requires c =
-    let q9 = aim_needs c.requires c.resolve_var-found.ensures c.in-Resolved.is c.load_context-c.ensures in
+    let q9 = aim_needs c.requires c.resolve_var-found.ensures c.in-Some.is c.load_context-c.ensures in
     record { good = q9.0; has_context = q9.1.0; part_bound = q9.1.1 }
 
 pub returns-else-over : goal.returns-else-over
 returns-else-over c =
-    aim_at c.requires c.resolve_var-found.ensures c.in-Resolved.is c.load_context-c.ensures c.over.ensures c.if-over.false c.store_required-needed.ensures
+    aim_at c.requires c.resolve_var-found.ensures c.in-Some.is c.load_context-c.ensures c.over.ensures c.if-over.false c.store_required-needed.ensures
 
-pub returns-in-Unresolved : goal.returns-in-Unresolved
-returns-in-Unresolved c = aim_unresolved c.requires c.resolve_var-found.ensures c.in-Unresolved.is
+pub returns-in-None : goal.returns-in-None
+returns-in-None c = aim_unresolved c.requires c.resolve_var-found.ensures c.in-None.is
