@@ -6,11 +6,8 @@ ghost use Rattle.judge.specs.Given.{scope_at};
 ghost use Rattle.place.specs.Target.{Pointer, IndexesPassed, TargetFound};
 
 use access::kinded::{expression, expression_operand, operand};
+use judge::kinds::{ACCESS, LOCAL_VARIABLE};
 use module::handles::{ExpressionHandle, FunctionHandle};
-
-const ACCESS: u16 = 4;
-
-const LOCAL_VARIABLE: u16 = 11;
 
 // The first index of a variable's own entry.
 const SPINE: u32 = 65536;

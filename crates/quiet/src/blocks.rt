@@ -12,16 +12,9 @@ ghost use Rattle.quiet.specs.Places.{quiet_block, quiet_statement, quiet_cases, 
 use crate::plain::quiet_plain;
 use access::function::block;
 use access::kinded::{Kinded, block_operand, operand, statement};
+use judge::kinds::{BLOCK, IF, LOOP, SWITCH};
 use module::handles::{BlockHandle, FunctionHandle};
 use strays::exits::{Exits, in_body, in_case, none};
-
-const BLOCK: u16 = 1;
-
-const IF: u16 = 2;
-
-const SWITCH: u16 = 3;
-
-const LOOP: u16 = 4;
 
 #[cycle(quiet_block_quiet_cases_quiet_statement)]
 fn quiet_cases(

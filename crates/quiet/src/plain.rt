@@ -16,18 +16,9 @@ ghost use Rattle.quiet.specs.Places.{quiet_statement, Says};
 
 use crate::acts::{emit_idle, store_idle};
 use access::kinded::{Kinded, expression_operand};
+use judge::kinds::{CONTINUE, EMIT, LAST, RETURN, STORE};
 use module::handles::{ExpressionHandle, FunctionHandle};
 use strays::exits::Exits;
-
-const EMIT: u16 = 0;
-
-const CONTINUE: u16 = 6;
-
-const RETURN: u16 = 7;
-
-const STORE: u16 = 12;
-
-const LAST: u16 = 20;
 
 // Whether none of the emitted expressions, from the first to the last, gives anything that is needed.
 fn quiet_emits(

@@ -17,23 +17,8 @@ use crate::lower::lower_unless;
 use access::function::{block, body_block};
 use access::kinded::{Kinded, block_operand, operand, statement};
 use judge::expressions::Blamed;
+use judge::kinds::{BLOCK, CONTINUE, EMIT, IF, LAST, LOOP, RETURN, SWITCH};
 use module::handles::{BlockHandle, FunctionHandle};
-
-const EMIT: u16 = 0;
-
-const BLOCK: u16 = 1;
-
-const IF: u16 = 2;
-
-const SWITCH: u16 = 3;
-
-const LOOP: u16 = 4;
-
-const CONTINUE: u16 = 6;
-
-const RETURN: u16 = 7;
-
-const LAST: u16 = 20;
 
 // A statement that holds no blocks, of a kind past a loop's. A kind past the last is a break's.
 fn stray_leaving(kind: u16, s: u32, e: Exits, low: Blamed) -> Blamed
