@@ -36,9 +36,8 @@ fn quiet_cases(
     requires cases_in { CasesIn bytes.now t.now f.0 b.0 row }
     ensures { Says (quiet_cases (scope_at bytes.now t.now f.0) (part cells.now m) (operand_at bytes.now row) (operand_at bytes.now row 1) (exits_of e)) path.old path.new result }
 {
-    let mut i = operand(bytes, row, 1) as u32;
-    while 0 < i {
-        i -= 1;
+    let n = operand(bytes, row, 1) as u32;
+    for i in (0..n).rev() {
         let case = block_operand(bytes, row, 3 + 2 * i);
         if !quiet_block(bytes, t, f, types, alike, paths, cells, path, m, case, e) {
             return false;
@@ -121,9 +120,7 @@ pub fn quiet_block(
 {
     let range = block(t, f, b);
     let first = range.first;
-    let count = range.count;
-    let mut k = 0;
-    while k < count {
+    for k in 0..range.count {
         if !quiet_statement(
             bytes,
             t,
@@ -140,7 +137,6 @@ pub fn quiet_block(
         ) {
             return false;
         }
-        k += 1;
     }
     true
 }

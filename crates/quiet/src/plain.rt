@@ -39,8 +39,7 @@ fn quiet_emits(
     requires in_bounds { 2 ≤ length path.old }
     ensures { IdleFrom (scope_at bytes.now t.now f.0) (part cells.now m) first.0 ((last.0 + 1) - first.0) path.old path.new result }
 {
-    let mut e = first.0;
-    while e <= last.0 {
+    for e in first.0..=last.0 {
         if !emit_idle(
             bytes,
             t,
@@ -55,7 +54,6 @@ fn quiet_emits(
         ) {
             return false;
         }
-        e += 1;
     }
     true
 }
