@@ -1,5 +1,4 @@
 -- `forms::take::take_all` meets its contract. The measure is what is left of the path.
-use Prim.Native.Nat.{◌-◌}
 use mathlib.Core.Path.{refl}
 use Rattle.forms.proofs.Taking.{parted_one, parted_into, all_end, all_one, all_call, around_asks, all_left}
 use Rattle.forms.proofs.take.+take_all.Goals as goal
