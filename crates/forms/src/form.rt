@@ -21,13 +21,6 @@ pub enum Form {
     Of(TypeHandle),
 }
 
-// How all of a value is split: not at all, or into so many parts.
-#[derive(Clone, Copy)]
-pub enum Split {
-    Whole,
-    Into(u32),
-}
-
 // How many parts the type t has, one level down: of an array without a count as many as a file has indexes.
 fn type_extent(types: &[u32], t: TypeHandle) -> u32
     ensures { result ≡ extent (shape_in (types_of types.now) t.0) }
@@ -121,31 +114,31 @@ pub fn is_whole(types: &[u32], form: Form) -> bool
     }
 }
 
-// How all of the type t is split.
-fn type_split(types: &[u32], t: TypeHandle) -> Split
+// Into how many parts all of the type t is split, if it is.
+fn type_split(types: &[u32], t: TypeHandle) -> Option<u32>
     ensures { Parted (shape_in (types_of types.now) t.0) result }
 {
     let k = kind_at(types, t);
     if k == 1 {
-        return Split::Into(first_word(types, t));
+        return Some(first_word(types, t));
     }
     if k == 2 {
-        return Split::Into(first_word(types, t));
+        return Some(first_word(types, t));
     }
     if k == 6 {
-        return Split::Into(first_word(types, t));
+        return Some(first_word(types, t));
     }
-    Split::Whole
+    None
 }
 
-// How all of it is split.
-pub fn split_of(types: &[u32], form: Form) -> Split
+// Into how many parts all of it is split, if it is.
+pub fn split_of(types: &[u32], form: Form) -> Option<u32>
     ensures { Parted (shape_by types.now form) result }
 {
     match form {
-        Form::Void => Split::Whole,
-        Form::Number => Split::Whole,
-        Form::Vector(n) => Split::Into(n),
+        Form::Void => None,
+        Form::Number => None,
+        Form::Vector(n) => Some(n),
         Form::Of(t) => type_split(types, t),
     }
 }

@@ -9,6 +9,7 @@ ghost use Rattle.clearance.specs.Scope.{inner, inner_of, is_scalar, is_vector};
 ghost use Rattle.clearance.specs.Judged.{every, part_type, same_part, component_count, count_components};
 ghost use Rattle.judge.specs.Given.{scope_at, Row, Fits};
 
+use crate::kinds::{SPLAT, SWIZZLE};
 use crate::rows::kind_at;
 use crate::shapes::{is_vector_of, part_count, same_part};
 use crate::values::{all_values, both, is_value, type_of};
@@ -16,23 +17,17 @@ use access::kinded::{Kinded, expression_operand, operand};
 use bindings::types::first_word;
 use module::handles::{ExpressionHandle, FunctionHandle, TypeHandle};
 
-const SPLAT: u16 = 6;
-
-const SWIZZLE: u16 = 7;
-
 // Whether each letter of a pattern is below n.
 fn letters_below(bytes: &[u8], row: Kinded, n: u32) -> bool
     requires { operand_at bytes.now row 1 ≤ 4 }
     ensures { result ≡ every (λ i. ltb i n) (tab (operand_at bytes.now row 1) (λ i. operand_at bytes.now row (2 + i))) }
 {
     let count = operand(bytes, row, 1);
-    let mut i: u16 = 0;
-    while i < count {
+    for i in 0..count {
         let letter = operand(bytes, row, 2 + i) as u32;
         if n <= letter {
             return false;
         }
-        i += 1;
     }
     true
 }
@@ -90,14 +85,12 @@ fn joins(bytes: &[u8], t: &[u32], f: FunctionHandle, types: &[u32], row: Kinded,
 {
     let count = operand(bytes, row, 0);
     let mut total: usize = 0;
-    let mut i: u16 = 0;
-    while i < count {
+    for i in 0..count {
         let a = type_of(bytes, t, f, expression_operand(bytes, row, 1 + i));
         if 1 < kind_at(types, a) {
             return false;
         }
         total += component_count(types, a) as usize;
-        i += 1;
     }
     total == (n as usize)
 }
@@ -120,13 +113,11 @@ fn parts_fit(
     ensures { result ≡ every (λ i. same_part (scope_at bytes.now t.now f.0) (part_type (scope_at bytes.now t.now f.0) (inner (scope_at bytes.now t.now f.0) a.0) i) (inner_of (scope_at bytes.now t.now f.0) (operand_at bytes.now row (1 + i)))) (tab (operand_at bytes.now row 0) (λ i. i)) }
 {
     let count = operand(bytes, row, 0);
-    let mut i: u16 = 0;
-    while i < count {
+    for i in 0..count {
         let b = type_of(bytes, t, f, expression_operand(bytes, row, 1 + i));
         if !same_part(types, alike, a, i as u32, b) {
             return false;
         }
-        i += 1;
     }
     true
 }

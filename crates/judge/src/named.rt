@@ -7,6 +7,7 @@ ghost use Rattle.clearance.specs.Judged.{pointee, pointee_type, same};
 ghost use Rattle.judge.specs.Shapes.{InTypes, Shapes};
 ghost use Rattle.judge.specs.Given.{scope_at, Given, Row, Fits};
 
+use crate::kinds::{FUNCTION_ARGUMENT, GLOBAL_VARIABLE, LOCAL_VARIABLE};
 use crate::rows::kind_at;
 use crate::shapes::{is_alike, pointee};
 use crate::values::{both, is_path, is_value, type_of};
@@ -14,12 +15,6 @@ use access::function::{argument, local};
 use access::kinded::{Kinded, expression_operand, global_operand, local_operand, operand};
 use access::whole::global;
 use module::handles::{ExpressionHandle, FunctionHandle, TypeHandle};
-
-const FUNCTION_ARGUMENT: u16 = 9;
-
-const GLOBAL_VARIABLE: u16 = 10;
-
-const LOCAL_VARIABLE: u16 = 11;
 
 // Whether a variable of the type a, which is no pointer, is of the shape that the type b leads to.
 fn fits_variable(types: &[u32], alike: &[u32], a: TypeHandle, b: TypeHandle) -> bool

@@ -29,13 +29,11 @@ fn some_base(types: &[u32], table: &[u32], t: TypeHandle) -> bool
     ensures { result ≡ not (every (λ b. not (marked table.now b)) (bases (get_or (types_of types.now) t.0 Opaque))) }
 {
     let n = base_count(types, t);
-    let mut i: u32 = 0;
-    while i < n {
+    for i in 0..n {
         let b = base_at(types, t, i);
         if word(table, b.0 as usize) == 1 {
             return true;
         }
-        i += 1;
     }
     false
 }
@@ -63,12 +61,9 @@ pub fn fill_unsized(types: &[u32], table: &mut [u32])
     requires table_len_bound { length table.old ≤ max_types }
     ensures { UnsizedTable (types_of types.now) table.new }
 {
-    let mut k: u32 = 0;
-    while (k as usize) < table.len() {
-        let r = unsized_entry(types, table, TypeHandle(k));
-        let at = k as usize;
-        table[at] = r;
-        k += 1;
+    for k in 0..table.len() {
+        let r = unsized_entry(types, table, TypeHandle(k as u32));
+        table[k] = r;
     }
 }
 

@@ -97,13 +97,11 @@ pub fn all_values(
     ensures { result ≡ every (is_value (scope_at bytes.now t.now f.0)) (tab (operand_at bytes.now row 0) (λ i. operand_at bytes.now row (1 + i))) }
 {
     let n = operand(bytes, row, 0);
-    let mut i: u16 = 0;
-    while i < n {
+    for i in 0..n {
         let c = expression_operand(bytes, row, 1 + i);
         if !is_value(bytes, t, f, types, paths, c) {
             return false;
         }
-        i += 1;
     }
     true
 }
