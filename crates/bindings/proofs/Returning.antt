@@ -12,7 +12,7 @@ use borrow.Author.Tests.{eq-eqb, ne_eqb, lt-ltb, le-ltb}
 use Rattle.field.specs.Limits.{absent, max_pieces}
 use Rattle.part.specs.PartReq.{PartReq, none, more, add, entries, over}
 use Rattle.part.specs.StoreLimits.{entries_cap}
-use Rattle.part.specs.Store.{top, part, flag, Good, Room, Made, Measures}
+use Rattle.part.specs.Store.{top, part, Good, Room, Made, Measures}
 use Rattle.part.proofs.Pieces.{part-2}
 use Rattle.part.proofs.Making.{kept_trans}
 use Rattle.part.proofs.Write.{stay}
@@ -171,14 +171,6 @@ own_single b h = rw (present b (omega arith))
 pub binding_bound : (b : ℕ) → b < bindings → Bound (option_of b)
 binding_bound b h = let n : b ≡ absent → ⊥ = omega arith in rw (present b n) h
 
-no_flag : {o : ℕ} (x : Bool) → o ≡ flag x → o ≤ 0 → x ≡ false
-no_flag true e h = absurd (omega arith)
-no_flag false e h = refl
-
-some_flag : {o : ℕ} (x : Bool) → o ≡ flag x → 0 < o → x ≡ true
-some_flag true e h = refl
-some_flag false e h = absurd (omega arith)
-
 module _ (types : List TypeInner) {b : ℕ} {required : Bindings} (w : required ≡ own_binding (option_of b)) (low : b < bindings) {s t : List ℕ} {k n : ℕ} (ty binding globals retval : ℕ) (m : Made s t (return_entry (result_from types required (result_by ty binding))) k n) (held : (globals < top s) × (retval < top s)) where
   abbrev adds : Function → Answer RequiredContext
   adds f = as_request (output_from_bindings types (single b) f) (add_binding types b f (request_context (part s globals) (part s retval)))
@@ -204,18 +196,18 @@ module _ (types : List TypeInner) {b : ℕ} {required : Bindings} (w : required 
   add_past h =
       record { kept = m.kept; held = tt; is = λ f e. rw (new_is f e, added_is f e) (past_new _ added h) }
 
-  module _ (h : over (part t n) ≡ false) {e d v o : ℕ} (z : Measures (add (part t retval) (part t n)) e d v o) where
-    pub add_past_sum : 0 < o → Asked s t ty binding (part s globals) adds PastLimits
+  module _ (h : over (part t n) ≡ false) {e d v : ℕ} {o : Bool} (z : Measures (add (part t retval) (part t n)) e d v o) where
+    pub add_past_sum : o ≡ true → Asked s t ty binding (part s globals) adds PastLimits
     add_past_sum l =
         record {
           kept = m.kept;
           held = tt;
-          is = λ f q. rw (new_is f q, added_is f q) (past_sum _ added (some_flag _ z.over_is l));
+          is = λ f q. rw (new_is f q, added_is f q) (past_sum _ added (sym z.over_is ∙ l));
         }
 
-    module _ (l : o ≤ 0) {g : ℕ} (x : g ≡ min entries_cap (entries (part t globals))) where
+    module _ (l : o ≡ false) {g : ℕ} (x : g ≡ min entries_cap (entries (part t globals))) where
       fine : over (add (part t retval) (part t n)) ≡ false
-      fine = no_flag _ z.over_is l
+      fine = sym z.over_is ∙ l
 
       counted : entries (part t globals) ≡ entries (part s globals)
       counted = ap entries (m.kept.same globals held.0)

@@ -2,6 +2,7 @@
 use Prim.Native.Nat.{ℕ, ◌+◌, ◌<◌, ◌≤◌}
 use native.Mathlib.Omega.{arith}
 use mathlib.Core.Path.{◌≡◌, refl}
+use mathlib.Core.Bool.{Bool}
 use mathlib.Core.List.{List}
 use Rattle.part.specs.PartReq.{add}
 use Rattle.part.specs.StoreLimits.{store_words, entries_cap}
@@ -15,7 +16,7 @@ use Rattle.part.proofs.Making.{sum_lt, sum_gt, sum_eq}
 abbrev Asked : List ℕ → ℕ → ℕ → Type 0
 Asked s a b = Good s × ((a < top s) × (b < top s))
 
-abbrev Sizes : List ℕ → (a b e d w o : ℕ) → Type 0
+abbrev Sizes : List ℕ → (a b e d w : ℕ) → Bool → Type 0
 Sizes s a b e d w o = Measures (add (part s a) (part s b)) e d w o
 
 -- what `sizes_of` asks of those of a child and of a rest
@@ -23,7 +24,7 @@ abbrev Fit : (pe re pd rv : ℕ) → Type 0
 Fit pe re pd rv = ((pe ≤ entries_cap) × (re ≤ entries_cap)) × ((pd ≤ store_words) × (rv ≤ store_words))
 
 -- the sizes of a sum are as small as those of its pieces let them be
-sum_fits : {s : List ℕ} {a b e d w o : ℕ} → Asked s a b → Sizes s a b e d w o → Small e d w
+sum_fits : {s : List ℕ} {a b e d w : ℕ} {o : Bool} → Asked s a b → Sizes s a b e d w o → Small e d w
 sum_fits {s} {a} {b} P m =
     let l = part-low_sizes s a in
     let k = part-low_sizes s b in
@@ -38,19 +39,19 @@ sum_fits {s} {a} {b} P m =
     }
 
 module _ {s : List ℕ} {a b : ℕ} (P : Asked s a b) where
-  pub sizes_same : {e d w o : ℕ} → a ≡ b → Measures (part s a) e d w o → Sizes s a b e d w o
+  pub sizes_same : {e d w : ℕ} {o : Bool} → a ≡ b → Measures (part s a) e d w o → Sizes s a b e d w o
   sizes_same q m = rw (← q, add-idempotent (part s a)) m
 
   pub plain_asks : {n : ℕ} → Plain a b n → Good s × (n < top s)
   plain_asks x = (P.0, x.piece (top s) P.0.base P.1.1)
 
-  pub sizes_plain : {n e d w o : ℕ} → Plain a b n → Measures (part s n) e d w o → Sizes s a b e d w o
+  pub sizes_plain : {n e d w : ℕ} {o : Bool} → Plain a b n → Measures (part s n) e d w o → Sizes s a b e d w o
   sizes_plain x m = rw (← x.left s) m
 
   pub plain_right_asks : {n : ℕ} → Plain b a n → Good s × (n < top s)
   plain_right_asks x = (P.0, x.piece (top s) P.0.base P.1.0)
 
-  pub sizes_plain_right : {n e d w o : ℕ} → Plain b a n → Measures (part s n) e d w o → Sizes s a b e d w o
+  pub sizes_plain_right : {n e d w : ℕ} {o : Bool} → Plain b a n → Measures (part s n) e d w o → Sizes s a b e d w o
   sizes_plain_right x m = rw (← x.right s) m
 
   module _ {i j c d q r : ℕ} (x : Seen s a i c q) (y : Seen s b j d r) where
@@ -72,7 +73,7 @@ module _ {s : List ℕ} {a b : ℕ} (P : Asked s a b) where
     pub asks_eq : {t : ℕ} → a + b ≡ t → (q + r < t) × Asked s q r
     asks_eq e = (omega arith, (P.0, (omega arith, omega arith)))
 
-    module _ {pe pd pw po re rd rv ro : ℕ} where
+    module _ {pe pd pw re rd rv : ℕ} {po ro : Bool} where
       pub fit_lt : Measures (part s c) pe pd pw po → Sizes s q b re rd rv ro → Fit pe re pd rv
       fit_lt m n =
           let k = small P.0 asks_child.1 m in
@@ -91,7 +92,7 @@ module _ {s : List ℕ} {a b : ℕ} (P : Asked s a b) where
           let l = sum_fits (asks_eq refl).1 n in
           ((k.entries_small, l.entries_small), (k.depth_small, l.width_small))
 
-      module _ {e f w o : ℕ} where
+      module _ {e f w : ℕ} {o : Bool} where
         pub sizes_lt : i < j → Measures (part s c) pe pd pw po → Sizes s q b re rd rv ro → SizesOf i pe pd pw po re rd rv ro e f w o → Sizes s a b e f w o
         sizes_lt h m n z = rw (sum_lt x y h) (z.is _ _ m n)
 

@@ -167,7 +167,7 @@ pub fn add_binding(
         return Asking::PastLimits;
     }
     let m = sum_sizes(cells, retval, new);
-    if 0 < m.over {
+    if m.over {
         return Asking::PastLimits;
     }
     if MAX_PIECES < (entries(cells, globals) + m.entries) as usize {

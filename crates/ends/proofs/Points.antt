@@ -12,7 +12,7 @@ use borrow.Author.Tests.{lt-ltb, le-ltb, ne_eqb}
 use Rattle.field.specs.Limits.{absent, max_pieces}
 use Rattle.part.specs.PartReq.{PartReq, entries, width, over}
 use Rattle.part.specs.StoreLimits.{entries_cap}
-use Rattle.part.specs.Store.{flag, Measures}
+use Rattle.part.specs.Store.{Measures}
 use Rattle.part.proofs.Pieces.{part-low_sizes}
 use Rattle.part.proofs.Counting.{entries-each}
 use Rattle.module.specs.Decode.{option_of}
@@ -21,18 +21,11 @@ use Rattle.clearance.specs.Judged.{lower}
 use Rattle.pass.specs.Pass.{work_bound, too_many}
 use Rattle.hold.specs.Hold.{in_slot, Live}
 
-flag_is : (b : Bool) → ltb 0 (flag b) ≡ b
-flag_is true = refl
-flag_is false = refl
-
-pub point_deep : {p : PartReq} {e d w o : ℕ} → Measures p e d w o → ltb 0 o ≡ over p
-point_deep {p} h = ap (ltb 0) h.over_is ∙ flag_is (over p)
-
 -- a need in a slot has fewer maps than the cap
 pub narrow : {s rs : List ℕ} {n : ℕ} → Live s rs n → (j : ℕ) → j < n → width (in_slot s rs j) ≤ 4 + work_bound
 narrow {s} {rs} d j h = let a = (part-low_sizes s (get_or rs j 0)).1 in let b = d.loose.pieces j h in omega (arith, d.slim)
 
-pub width-less : {p : PartReq} {e d w o : ℕ} → Measures p e d w o → width p ≤ 4 + work_bound → w ≤ e
+pub width-less : {p : PartReq} {e d w : ℕ} {o : Bool} → Measures p e d w o → width p ≤ 4 + work_bound → w ≤ e
 width-less {p} {e} {d} {w} h l =
     let a = entries-each p in
     elim (dec_le entries_cap (entries p)) [
@@ -40,7 +33,7 @@ width-less {p} {e} {d} {w} h l =
       | no z ↦ let m : min entries_cap (entries p) ≡ entries p = omega arith in omega (arith, h.entries_is, h.width_is)
     ]
 
-pub point_wide : {p : PartReq} {e d w o : ℕ} → Measures p e d w o → width p ≤ 4 + work_bound → ltb max_pieces (e - w) ≡ too_many p
+pub point_wide : {p : PartReq} {e d w : ℕ} {o : Bool} → Measures p e d w o → width p ≤ 4 + work_bound → ltb max_pieces (e - w) ≡ too_many p
 unfolding too_many pieces
 point_wide {p} {e} {d} {w} h l =
     elim (dec_le entries_cap (entries p)) [

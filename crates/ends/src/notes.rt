@@ -16,13 +16,12 @@ pub fn note(cells: &[u32], roots: &[u32], n: usize, p: Passing) -> Passing
 {
     let last = n - 1;
     let sizes = measure(cells, roots[last]);
-    let over = 0 < sizes.over;
     let many = (MAX_PIECES as u32) < sizes.entries - sizes.width;
     Passing {
         full: p.full,
         fault: p.fault,
         held: p.held,
-        deep: either(over, p.deep),
+        deep: either(sizes.over, p.deep),
         wide: either(many, p.wide),
     }
 }

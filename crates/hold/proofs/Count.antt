@@ -7,6 +7,7 @@ use mathlib.Core.Path.{◌≡◌, refl}
 use mathlib.Core.Bool.{Bool, true, false, cond}
 use mathlib.Core.List.{List, [], ◌∷◌, ◌++◌, flat_map}
 use lib.ListN.{length, get_or}
+use Rattle.std.specs.Prelude.{Option}
 use Rattle.part.specs.PartReq.{PartReq, all, exist, none, more}
 use Rattle.part.specs.Store.{top, part, Good, distinct_in}
 use Rattle.part.specs.Count.{same, among, each_once, different}
@@ -140,8 +141,8 @@ counts_all t m a (suc k) z h =
     ]
 
 -- from t, in which just the cells that l reaches are in use, a sum found no room: all cells of u are reached
-pub short_many : {t u : List ℕ} {p : PartReq} {n : ℕ} → Good t → (l : List PartReq) → ((j : ℕ) → j < length l → Stands t (get_or l j none))
-    → top t ≡ 3 + cells_of l → Summed t u p n → top u ≤ 3 + cells_of (p ∷ l)
+pub short_many : {t u : List ℕ} {p : PartReq} {o : Option ℕ} → Good t → (l : List PartReq) → ((j : ℕ) → j < length l → Stands t (get_or l j none))
+    → top t ≡ 3 + cells_of l → Summed t u p o → top u ≤ 3 + cells_of (p ∷ l)
 unfolding flat_map
 short_many {t} {u} {p} g l h used m =
     let a = once_lot g (λ p. 1) (reached l) (reached-stored g l h) in

@@ -9,8 +9,8 @@ use lib.Dec.{ltb, leb}
 use lib.ListN.{length, get_or, take, drop, set, length-set, get_or-append}
 use lib.Seq.{length-take-le, length_front, get_or-take}
 use borrow.Author.Tests.{leb-true, le-leb, lt-leb, lt-ltb, le-ltb}
+use Rattle.std.specs.Prelude.{Option, Some, None}
 use Rattle.part.specs.PartReq.{PartReq, add}
-use Rattle.part.specs.StoreLimits.{full}
 use Rattle.part.specs.Store.{top, part, Good, Kept, Below}
 use Rattle.part.specs.Collect.{cells_of, Collected}
 use Rattle.part.specs.Summed.{Summed}
@@ -115,15 +115,15 @@ module _ {s rs : List ℕ} {n i j : ℕ} (l : Live s rs n) (h : n < length rs) (
   abbrev both : PartReq
   both = add (in_slot s rs i) (in_slot s rs j)
 
-  module _ {t : List ℕ} {k : ℕ} (m : Summed s t both k) where
+  module _ {t : List ℕ} {a : Option ℕ} (m : Summed s t both a) where
     first_still : Still s rs n t rs
     first_still = made_still l.loose m.kept
 
-    pub first_asks : (k ≡ full → ⊥) → Loose t rs n × ((n < length rs) × (k < top t))
-    first_asks ne = (loose_kept l.loose m.kept, (h, (m.done ne).0))
+    pub first_asks : {k : ℕ} → a ≡ Some k → Loose t rs n × ((n < length rs) × (k < top t))
+    first_asks e = (loose_kept l.loose m.kept, (h, (m.done _ e).0))
 
-    pub first_pushed : {u vs : List ℕ} {r : Bool} → (k ≡ full → ⊥) → Pushed t rs n (part t k) u vs r → Pushed s rs n both u vs r
-    first_pushed ne d = pushed_made l.loose m.kept (m.done ne).1 d
+    pub first_pushed : {u vs : List ℕ} {k : ℕ} {r : Bool} → a ≡ Some k → Pushed t rs n (part t k) u vs r → Pushed s rs n both u vs r
+    first_pushed e d = pushed_made l.loose m.kept (m.done _ e).1 d
 
     -- after a collection
     pub clean_again : Loose t rs n
@@ -136,30 +136,30 @@ module _ {s rs : List ℕ} {n i j : ℕ} (l : Live s rs n) (h : n < length rs) (
       same_sum : add (in_slot u vs i) (in_slot u vs j) ≡ both
       same_sum = rw (c.same i hi.0 ∙ first_still.same i hi.0, c.same j hi.1 ∙ first_still.same j hi.1)
 
-      module _ {w : List ℕ} {o : ℕ} (a : Summed u w (add (in_slot u vs i) (in_slot u vs j)) o) where
+      module _ {w : List ℕ} {o : Option ℕ} (b : Summed u w (add (in_slot u vs i) (in_slot u vs j)) o) where
         second_still : Still s rs n w vs
         second_still = record {
-          cells = a.kept.long ∙ c.cells ∙ m.kept.long;
+          cells = b.kept.long ∙ c.cells ∙ m.kept.long;
           slots = c.slots;
-          same = λ x y. slot_kept c.loose a.kept x y ∙ c.same x y ∙ first_still.same x y;
+          same = λ x y. slot_kept c.loose b.kept x y ∙ c.same x y ∙ first_still.same x y;
         }
 
-        pub second_asks : (o ≡ full → ⊥) → Loose w vs n × ((n < length vs) × (o < top w))
-        second_asks ne = (loose_kept c.loose a.kept, (omega (arith, c.slots), (a.done ne).0))
+        pub second_asks : {k : ℕ} → o ≡ Some k → Loose w vs n × ((n < length vs) × (k < top w))
+        second_asks e = (loose_kept c.loose b.kept, (omega (arith, c.slots), (b.done _ e).0))
 
-        pub second_pushed : {x ys : List ℕ} {r : Bool} → (o ≡ full → ⊥) → Pushed w vs n (part w o) x ys r → Pushed s rs n both x ys r
-        second_pushed ne d = still_pushed l.loose.few second_still ((a.done ne).1 ∙ same_sum) d
+        pub second_pushed : {x ys : List ℕ} {k : ℕ} {r : Bool} → o ≡ Some k → Pushed w vs n (part w k) x ys r → Pushed s rs n both x ys r
+        second_pushed e d = still_pushed l.loose.few second_still ((b.done _ e).1 ∙ same_sum) d
 
         -- no room for it: with what is kept it reaches all cells of the full store
-        pub second_none : o ≡ full → Pushed s rs n both w vs false
+        pub second_none : o ≡ None → Pushed s rs n both w vs false
         second_none e =
             let used : top u ≡ 3 + cells_of (held_by u vs n) =
             c.used ∙ ap (λ z. 3 + cells_of z) (sym (held_same t rs u vs n l.loose.few c.loose.few c.same)) in
             let held : held_by u vs n ≡ held_by s rs n =
             held_same s rs u vs n l.loose.few c.loose.few (λ x y. c.same x y ∙ first_still.same x y) in
-            let many = rw (same_sum, held) at (short_many c.loose.good (held_by u vs n) (loose_stands c.loose) used a) in
+            let many = rw (same_sum, held) at (short_many c.loose.good (held_by u vs n) (loose_stands c.loose) used b) in
             let long = second_still.cells in
-            let z = a.short e in
+            let z = b.short e in
             record {
               cells = long;
               slots = c.slots;

@@ -6,7 +6,6 @@ ghost use Rattle.part.specs.Store.{top, part};
 ghost use Rattle.hold.specs.Hold.{in_slot, Loose, Live, Cleaned, Pushed};
 
 use part::collect::collect;
-use part::limits::FULL;
 use part::sums::sum;
 
 // The most cells that the needs kept at once may reach.
@@ -42,13 +41,11 @@ pub fn push_sum(cells: &mut [u32], roots: &mut [u32], n: usize, i: usize, j: usi
     requires i_lt_n { (i < n) × (j < n) }
     ensures { Pushed cells.old roots.old n (add (in_slot cells.old roots.old i) (in_slot cells.old roots.old j)) cells.new roots.new result }
 {
-    let first = sum(cells, roots[i], roots[j]);
-    if first != FULL {
+    if let Some(first) = sum(cells, roots[i], roots[j]) {
         return push(cells, roots, n, first);
     }
     clean(cells, roots, n);
-    let second = sum(cells, roots[i], roots[j]);
-    if second != FULL {
+    if let Some(second) = sum(cells, roots[i], roots[j]) {
         return push(cells, roots, n, second);
     }
     false

@@ -8,7 +8,7 @@ use mathlib.Core.List.{List}
 use lib.Dec.{eqb}
 use borrow.Author.Tests.{eq-eqb, ne_eqb}
 use Rattle.part.specs.PartReq.{PartReq, add, contains}
-use Rattle.part.specs.StoreLimits.{full}
+use Rattle.std.specs.Prelude.{Option, Some}
 use Rattle.part.specs.Store.{top, part, Good, Known, Seen, distinct_in}
 use Rattle.part.specs.Summed.{Recalled, Remembered, Covered}
 use Rattle.part.proofs.Once.{formed, same_number}
@@ -50,9 +50,9 @@ module _ {s : List ℕ} {a b : ℕ} (P : Good s × ((a < top s) × (b < top s)))
   pub covered_plain : {r : Bool} → r ≡ contains (part s a) (part s b) → Covered s s a b r
   covered_plain e = record { remembered = remembered_self P.0; is = e }
 
-  pub covered_known : {n : ℕ} → Recalled s a b n → (n ≡ full → ⊥) → Covered s s a b (eqb n a)
-  covered_known {n} x ne =
-      let d = sum_is P.0 (x.is ne) in
+  pub covered_known : {o : Option ℕ} {n : ℕ} → Recalled s a b o → o ≡ Some n → Covered s s a b (eqb n a)
+  covered_known {n = n} x e =
+      let d = sum_is P.0 (x.is n e) in
       covered_plain
       (by_bool (λ c. contains (part s a) (part s b) ≡ c → eqb n a ≡ c) (contains (part s a) (part s b))
       (λ e q. eq-eqb n a (d.0 e))

@@ -1,7 +1,7 @@
 -- A store of pieces: a list of words, seven to a cell. A number MEANS a requirement: 0 is all, 1 exist, 2 none, and n from 3 on
 -- the cell at 7n: its index, the number of its child, that of its rest, then its sizes in three words, and a mark that only `collect` reads.
 -- The first word of the list is the next free number. A cell names only lower numbers.
-use Rattle.std.specs.Prelude.{ℕ, zero, suc, ◌+◌, ◌-◌, ◌*◌, ◌/◌, ◌%◌, ◌<◌, ◌≤◌, min, ◌≡◌, Bool, true, false, cond, ◌||◌, ◌&&◌, List, ltb, eqb, length, get_or}
+use Rattle.std.specs.Prelude.{ℕ, zero, suc, ◌+◌, ◌-◌, ◌*◌, ◌/◌, ◌%◌, ◌<◌, ◌≤◌, min, ◌≡◌, Bool, true, false, cond, ◌||◌, ◌&&◌, List, ltb, eqb, length, get_or, Option, Some, None}
 use Rattle.part.specs.PartReq.{PartReq, all, exist, none, more, add, entries, depth, width, over, spine}
 use Rattle.field.specs.Limits.{max_depth, max_entries}
 use Rattle.part.specs.StoreLimits.{cell_words, store_words, entries_cap, buckets, memo_slots, table_words}
@@ -43,25 +43,25 @@ flag true = 1
 flag false = 0
 
 -- e, d, w and o are the sizes of p: its entries at every depth, as far as they are counted, its depth, its width, and whether it passes a limit
-pub record Measures (p : PartReq) (e d w o : ℕ) : Type 0 where
+pub record Measures (p : PartReq) (e d w : ℕ) (o : Bool) : Type 0 where
   pub entries_is : e ≡ min entries_cap (entries p)
   pub depth_is : d ≡ depth p
   pub width_is : w ≡ width p
-  pub over_is : o ≡ flag (over p)
+  pub over_is : o ≡ over p
 
 -- o says whether a requirement with such a first entry passes a limit, where c and r say it of its child and of its rest
-pub record Passes (i d w c r o : ℕ) : Type 0 where
-  pub is : (p q : Bool) → c ≡ flag p → r ≡ flag q → o ≡ flag (p || (q || (ltb i spine && (ltb max_depth d || ltb max_entries w))))
+pub record Passes (i d w : ℕ) (c r o : Bool) : Type 0 where
+  pub is : o ≡ (c || (r || (ltb i spine && (ltb max_depth d || ltb max_entries w))))
 
 -- the last sizes are those of the requirement whose first entry is i, the first for its child, the second for its rest
-pub record SizesOf (i pe pd pw po re rd rv ro e d w o : ℕ) : Type 0 where
+pub record SizesOf (i pe pd pw : ℕ) (po : Bool) (re rd rv : ℕ) (ro : Bool) (e d w : ℕ) (o : Bool) : Type 0 where
   pub is : (p r : PartReq) → Measures p pe pd pw po → Measures r re rd rv ro → Measures (more i p r) e d w o
 
 -- the cell n names lower numbers, and has the sizes of what it means: of its word 5 half is the width, and the rest says whether it passes a limit
 pub record Sound (s : List ℕ) (n : ℕ) : Type 0 where
   pub child_low : child s n < n
   pub rest_low : rest s n < n
-  pub sizes : Measures (part s n) (word s n 3) (word s n 4) (word s n 5 / 2) (word s n 5 % 2)
+  pub sizes : Measures (part s n) (word s n 3) (word s n 4) (word s n 5 / 2) (eqb (word s n 5 % 2) 1)
 
 -- the cells are well formed
 pub record Formed (s : List ℕ) : Type 0 where
@@ -146,10 +146,10 @@ pub record Good (s : List ℕ) : Type 0 where
   pub unique : Unique s
   pub right : Right s
 
--- n is the cell i, c, r; or it is below 3, and there is none
-pub record Finds (s : List ℕ) (i c r n : ℕ) : Type 0 where
-  pub found : 2 < n → (n < top s) × CellIs s n i c r
-  pub missing : n ≤ 2 → (m : ℕ) → 2 < m → m < top s → CellIs s m i c r → ⊥
+-- the answer is the cell i, c, r; or there is none
+abbrev pub Finds : List ℕ → (i c r : ℕ) → Option ℕ → Type 0
+Finds s i c r (Some n) = (2 < n) × ((n < top s) × CellIs s n i c r)
+Finds s i c r None = (m : ℕ) → 2 < m → m < top s → CellIs s m i c r → ⊥
 
 -- t is s with the cell n put before the others of its chain
 pub record Chained (s t : List ℕ) (n : ℕ) : Type 0 where
@@ -205,11 +205,6 @@ pub record Holds (s : List ℕ) (n i c r : ℕ) : Type 0 where
 -- each number of the list is that of a piece below n
 abbrev pub Below : List ℕ → ℕ → Type 0
 Below rs n = (j : ℕ) → j < length rs → get_or rs j 0 < n
-
--- b says whether the cell x, y, z is i, c, r
-pub record Compared (x y z i c r : ℕ) (b : Bool) : Type 0 where
-  pub yes : b ≡ true → (x ≡ i) × (y ≡ c) × (z ≡ r)
-  pub no : b ≡ false → x ≡ i → y ≡ c → z ≡ r → ⊥
 
 -- t is s with its chains made anew
 pub record Rebuilt (s t : List ℕ) : Type 0 where

@@ -1,4 +1,4 @@
--- The sizes of a store of pieces. No proof computes with one of the last two values.
+-- The sizes of a store of pieces. No proof computes with the last value.
 use Rattle.std.specs.Prelude.{ℕ}
 
 -- the words of a cell
@@ -24,7 +24,3 @@ memo_slots = 4096
 -- the words of chains and remembered sums
 abbrev pub table_words : ℕ
 table_words = 28672
-
--- no piece: there was no room, or no sum is remembered
-abbrev pub full : ℕ
-full = 4294967295

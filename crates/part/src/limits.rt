@@ -20,6 +20,3 @@ pub const MEMO_SLOTS: usize = 4096;
 
 // The words of chains and remembered sums.
 pub const TABLE_WORDS: usize = 28672;
-
-// No piece: there was no room, or no sum is remembered.
-pub const FULL: u32 = 4294967295;

@@ -1,16 +1,16 @@
 // A store of pieces: immutable cells in a lent slice, seven words to a cell: its index, the number of its child, that of its rest,
 // its entries, its depth, twice its width (and 1 more where it passes a limit), and a mark that only `collect` uses.
 // The number 0 is all, 1 is exist, 2 is the empty part, and n from 3 on is the cell at 7n. The slice's first word is the next free number.
-ghost use Rattle.std.specs.Prelude.{◌≡◌, ◌+◌, ◌*◌, ◌≤◌, ◌<◌, min, max, length, set};
+ghost use Rattle.std.specs.Prelude.{◌≡◌, ◌+◌, ◌*◌, ◌≤◌, ◌<◌, min, length, set};
 ghost use Rattle.part.specs.PartReq.{more, entries, depth, width, over};
 ghost use Rattle.part.specs.StoreLimits.{cell_words, store_words, entries_cap, buckets, table_words};
-ghost use Rattle.part.specs.Store.{word, top, part, Measures, Passes, SizesOf, Formed, Good, Room, Made, Seen, Holds, Put, hash, Linked, Distinct, Compared, Finds, Chained, Emptied, Rebuilt, Blank, Fresh};
+ghost use Rattle.part.specs.Store.{word, top, part, Measures, Passes, SizesOf, Formed, Good, Room, Made, Seen, Holds, Put, hash, Linked, Distinct, Finds, Chained, Emptied, Rebuilt, Blank, Fresh};
 
 use crate::limits::{CELL_WORDS, ENTRIES_CAP, SPINE, TABLE_WORDS};
 use field::limits::{MAX_DEPTH, MAX_ENTRIES};
 
 // An entry and those after it.
-#[derive(Clone, Copy)]
+#[derive(Clone, Copy, PartialEq, Eq)]
 pub struct Cell {
     pub index: u32,
     pub child: u32,
@@ -24,7 +24,7 @@ pub struct Sizes {
     pub entries: u32,
     pub depth: u32,
     pub width: u32,
-    pub over: u32,
+    pub over: bool,
 }
 
 // The word k of the piece n.
@@ -138,7 +138,7 @@ pub fn measure(cells: &[u32], n: u32) -> Sizes
             entries: 0,
             depth: 0,
             width: 0,
-            over: 0,
+            over: false,
         };
     }
     if n == 2 {
@@ -146,7 +146,7 @@ pub fn measure(cells: &[u32], n: u32) -> Sizes
             entries: 0,
             depth: 1,
             width: 0,
-            over: 0,
+            over: false,
         };
     }
     let packed = word(cells, n, 5);
@@ -154,7 +154,7 @@ pub fn measure(cells: &[u32], n: u32) -> Sizes
         entries: word(cells, n, 3),
         depth: word(cells, n, 4),
         width: packed / 2,
-        over: packed % 2,
+        over: packed % 2 == 1,
     }
 }
 
@@ -193,41 +193,14 @@ pub fn over(cells: &[u32], n: u32) -> bool
     ensures { result ≡ over (part cells.now n) }
 {
     let m = measure(cells, n);
-    0 < m.over
-}
-
-fn least(a: u32, b: u32) -> u32
-    ensures { result ≡ min a b }
-{
-    if a < b { a } else { b }
-}
-
-fn greatest(a: u32, b: u32) -> u32
-    ensures { result ≡ max a b }
-{
-    if a < b { b } else { a }
+    m.over
 }
 
 // Whether a limit is passed: by the child, by the rest, or by the part itself, where it is one, since it is too deep or too wide.
-fn passes(index: u32, depth: u32, width: u32, child: u32, rest: u32) -> u32
+fn passes(index: u32, depth: u32, width: u32, child: bool, rest: bool) -> bool
     ensures { Passes index depth width child rest result }
 {
-    if 0 < child {
-        return 1;
-    }
-    if 0 < rest {
-        return 1;
-    }
-    if SPINE <= index {
-        return 0;
-    }
-    if MAX_DEPTH < depth as usize {
-        return 1;
-    }
-    if MAX_ENTRIES < width as usize {
-        return 1;
-    }
-    0
+    child || rest || index < SPINE && (MAX_DEPTH < depth as usize || MAX_ENTRIES < width as usize)
 }
 
 // The sizes of the requirement whose first entry is index: p and whose others are r.
@@ -236,15 +209,15 @@ pub fn sizes_of(index: u32, p: Sizes, r: Sizes) -> Sizes
     requires depth_le_store_words { (p.depth ≤ store_words) × (r.width ≤ store_words) }
     ensures { SizesOf index p.entries p.depth p.width p.over r.entries r.depth r.width r.over result.entries result.depth result.width result.over }
 {
-    let entries = least(ENTRIES_CAP, 1 + (p.entries + r.entries));
-    let depth = greatest(1 + p.depth, r.depth);
+    let entries = ENTRIES_CAP.min(1 + (p.entries + r.entries));
+    let depth = (1 + p.depth).max(r.depth);
     let width = 1 + r.width;
     let over = passes(index, depth, width, p.over, r.over);
     Sizes {
-        entries: entries,
-        depth: depth,
-        width: width,
-        over: over,
+        entries,
+        depth,
+        width,
+        over,
     }
 }
 
@@ -261,21 +234,8 @@ pub(crate) fn put(cells: &mut [u32], n: u32, x: Cell, entries: u32, depth: u32, 
     set_word(cells, n, 5, packed);
 }
 
-// Whether x is the cell index, child, rest.
-fn is(x: Cell, index: u32, child: u32, rest: u32) -> bool
-    ensures { Compared x.index x.child x.rest index child rest result }
-{
-    if x.index != index {
-        return false;
-    }
-    if x.child != child {
-        return false;
-    }
-    x.rest == rest
-}
-
-// The piece that is the cell index, child, rest, or 0 where there is none.
-pub(crate) fn find(cells: &[u32], index: u32, child: u32, rest: u32) -> u32
+// The piece that is the cell index, child, rest, where there is one.
+pub(crate) fn find(cells: &[u32], index: u32, child: u32, rest: u32) -> Option<u32>
     requires { Good cells.now }
     ensures { Finds cells.now index child rest result }
 {
@@ -284,12 +244,12 @@ pub(crate) fn find(cells: &[u32], index: u32, child: u32, rest: u32) -> u32
     let mut n = cells[at];
     while 2 < n {
         let x = look(cells, n);
-        if is(x, index, child, rest) {
-            return n;
+        if x == (Cell { index, child, rest }) {
+            return Some(n);
         }
         n = word(cells, n, 6);
     }
-    0
+    None
 }
 
 // The requirement whose first entry is index: child and whose others are those of rest: the piece that is it already, or a new one.
@@ -299,20 +259,22 @@ pub(crate) fn fresh(cells: &mut [u32], index: u32, child: u32, rest: u32) -> u32
     requires child_bound { (child < top cells.old) × (rest < top cells.old) }
     ensures { Fresh cells.old cells.new (more index (part cells.old child) (part cells.old rest)) result }
 {
-    let old = find(cells, index, child, rest);
-    if 2 < old {
+    if let Some(old) = find(cells, index, child, rest) {
         return old;
     }
     let p = measure(cells, child);
     let r = measure(cells, rest);
     let m = sizes_of(index, p, r);
     let n = cells[0];
-    let x = Cell {
-        index: index,
-        child: child,
-        rest: rest,
-    };
-    put(cells, n, x, m.entries, m.depth, 2 * m.width + m.over);
+    let x = Cell { index, child, rest };
+    put(
+        cells,
+        n,
+        x,
+        m.entries,
+        m.depth,
+        2 * m.width + u32::from(m.over),
+    );
     link(cells, n);
     cells[0] = n + 1;
     n

@@ -16,9 +16,9 @@ pub returns-then-over : goal.returns-then-over
 returns-then-over c =
     add_past _ c.own_binding.ensures c.requires.b_lt_bindings.0 _ _ _ _ c.returned_from-new.ensures c.requires.b_lt_bindings.1 (sym c.over.ensures ∙ c.if-over.true)
 
-pub returns-then-m-gt0 : goal.returns-then-m-gt0
-returns-then-m-gt0 c =
-    add_past_sum _ c.own_binding.ensures c.requires.b_lt_bindings.0 _ _ _ _ c.returned_from-new.ensures c.requires.b_lt_bindings.1 (sym c.over.ensures ∙ c.if-over.false) c.sum_sizes-m.ensures c.if-m-gt0.true
+pub returns-then-m : goal.returns-then-m
+returns-then-m c =
+    add_past_sum _ c.own_binding.ensures c.requires.b_lt_bindings.0 _ _ _ _ c.returned_from-new.ensures c.requires.b_lt_bindings.1 (sym c.over.ensures ∙ c.if-over.false) c.sum_sizes-m.ensures (cc)
 
 pub entries-requires : goal.entries-requires
 entries-requires c =
@@ -27,11 +27,11 @@ entries-requires c =
 
 pub returns-then-entries-m-gt-MAX_PIECES : goal.returns-then-entries-m-gt-MAX_PIECES
 returns-then-entries-m-gt-MAX_PIECES c =
-    add_pieces _ c.own_binding.ensures c.requires.b_lt_bindings.0 _ _ _ _ c.returned_from-new.ensures c.requires.b_lt_bindings.1 (sym c.over.ensures ∙ c.if-over.false) c.sum_sizes-m.ensures c.if-m-gt0.false c.entries.ensures c.if-entries-m-gt-MAX_PIECES.true
+    add_pieces _ c.own_binding.ensures c.requires.b_lt_bindings.0 _ _ _ _ c.returned_from-new.ensures c.requires.b_lt_bindings.1 (sym c.over.ensures ∙ c.if-over.false) c.sum_sizes-m.ensures (cc) c.entries.ensures c.if-entries-m-gt-MAX_PIECES.true
 
 pub join-requires : goal.join-requires
 join-requires c =
-    let q9 = add-room _ c.own_binding.ensures c.requires.b_lt_bindings.0 _ _ _ _ c.returned_from-new.ensures c.requires.b_lt_bindings.1 (sym c.over.ensures ∙ c.if-over.false) c.sum_sizes-m.ensures c.if-m-gt0.false c.entries.ensures c.if-entries-m-gt-MAX_PIECES.false c.requires.bound_result.1 in
+    let q9 = add-room _ c.own_binding.ensures c.requires.b_lt_bindings.0 _ _ _ _ c.returned_from-new.ensures c.requires.b_lt_bindings.1 (sym c.over.ensures ∙ c.if-over.false) c.sum_sizes-m.ensures (cc) c.entries.ensures c.if-entries-m-gt-MAX_PIECES.false c.requires.bound_result.1 in
     record { good = q9.0; a_bound = q9.1.0; room = q9.1.1 }
 
 pub returns : goal.returns

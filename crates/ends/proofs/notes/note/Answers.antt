@@ -2,7 +2,7 @@
 use mathlib.Core.Path.{refl, ap, ◌∙◌}
 use mathlib.Core.Bool.{◌||◌}
 use Prim.Native.Nat.{◌-◌}
-use Rattle.ends.proofs.Points.{point_deep, point_wide, narrow, width-less}
+use Rattle.ends.proofs.Points.{point_wide, narrow, width-less}
 use native.Mathlib.Omega.{arith}
 use Rattle.ends.proofs.notes.note.Goals as goal
 
@@ -20,6 +20,6 @@ returns c =
       full = refl;
       fault = refl;
       held = refl;
-      deep = c.either.ensures ∙ ap (λ b. b || c.args.p.deep) (point_deep c.measure-sizes.ensures);
+      deep = c.either.ensures ∙ ap (λ b. b || c.args.p.deep) c.measure-sizes.ensures.over_is;
       wide = c.either-2.ensures ∙ ap (λ b. b || c.args.p.wide) (point_wide c.measure-sizes.ensures (narrow c.requires.live (c.args.n - 1) (omega (arith, c.requires.n_nonzero))));
     }

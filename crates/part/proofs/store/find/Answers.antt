@@ -1,7 +1,7 @@
 -- `find` meets its contract: what is asked for is at n or below. The measure is the number of the piece.
 use Rattle.part.specs.Store.{linked_in}
-use mathlib.Core.Path.{refl}
-use Rattle.part.proofs.Chains.{searching_start, searching_more, searching_found, searching_end}
+use mathlib.Core.Path.{refl, sym, ◌∙◌}
+use Rattle.part.proofs.Chains.{searching_start, searching_more, searching_found, searching_end, is_asked, not_asked}
 use Rattle.part.proofs.store.find.Goals as goal
 
 pub loop-n-init : goal.loop-n-init
@@ -10,9 +10,11 @@ loop-n-init c = searching_start c.requires c.hash-h.ensures refl
 pub look-x-requires : goal.look-x-requires
 look-x-requires c = record { good = c.requires; lt_n = (c.loop-n-test.true, c.loop-n.invariant.inside) }
 
-pub returns-then-is : goal.returns-then-is
-returns-then-is c =
-    searching_found c.requires c.loop-n.invariant c.loop-n-test.true c.look-x.ensures.index_is c.look-x.ensures.child_is c.look-x.ensures.rest_is c.is.ensures c.if-is.true
+pub returns-then-eq : goal.returns-then-eq
+returns-then-eq c =
+    let x = is_asked _ _ _ _ _ _ (sym c.eq.ensures ∙ c.if-eq.true) in
+    searching_found c.requires c.loop-n.invariant c.loop-n-test.true
+    (record { index_is = sym c.look-x.ensures.index_is ∙ x.0; child_is = sym c.look-x.ensures.child_is ∙ x.1.0; rest_is = sym c.look-x.ensures.rest_is ∙ x.1.1 })
 
 pub loop-n-smaller : goal.loop-n-smaller
 loop-n-smaller c =
@@ -20,7 +22,9 @@ loop-n-smaller c =
 
 pub loop-n-preserved : goal.loop-n-preserved
 loop-n-preserved c =
-    searching_more c.requires c.loop-n.invariant c.loop-n-test.true c.look-x.ensures.index_is c.look-x.ensures.child_is c.look-x.ensures.rest_is c.is.ensures c.if-is.false c.word-n.ensures
+    searching_more c.requires c.loop-n.invariant c.loop-n-test.true
+    (λ x. not_asked _ _ _ _ _ _ (sym c.eq.ensures ∙ c.if-eq.false) (c.look-x.ensures.index_is ∙ x.index_is) (c.look-x.ensures.child_is ∙ x.child_is) (c.look-x.ensures.rest_is ∙ x.rest_is))
+    c.word-n.ensures
 
 pub returns : goal.returns
 returns c = searching_end c.requires c.loop-n.invariant c.loop-n-test.false

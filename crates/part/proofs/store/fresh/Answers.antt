@@ -1,11 +1,11 @@
 -- `fresh` meets its contract.
 use Rattle.part.proofs.Write.{made_fresh, made_long, found_fresh}
-use Rattle.part.proofs.Measures.{small, packed_small}
+use Rattle.part.proofs.Measures.{small, packed_small, byte_is}
 use native.Mathlib.Omega.{arith}
 use Rattle.part.proofs.store.fresh.Goals as goal
 
-pub returns-then-old-gt2 : goal.returns-then-old-gt2
-returns-then-old-gt2 c = found_fresh c.requires.good c.find-old.ensures c.if-old-gt2.true
+pub returns-in-Some : goal.returns-in-Some
+returns-in-Some c = found_fresh c.requires.good c.in-Some.ensures
 
 pub sizes_of-m-requires : goal.sizes_of-m-requires
 sizes_of-m-requires c =
@@ -36,4 +36,4 @@ shape_of-cells c = made_long c.put.ensures c.link.ensures
 
 pub returns : goal.returns
 returns c =
-    made_fresh c.requires.good c.requires.room c.requires.child_bound.0 c.requires.child_bound.1 c.find-old.ensures c.if-old-gt2.false c.measure-p.ensures c.measure-r.ensures c.sizes_of-m.ensures c.put.ensures c.link.ensures
+    made_fresh c.requires.good c.requires.room c.requires.child_bound.0 c.requires.child_bound.1 c.in_default.ensures c.measure-p.ensures c.measure-r.ensures c.sizes_of-m.ensures (rw (c.from.ensures, byte_is) at c.put.ensures) c.link.ensures

@@ -4,4 +4,4 @@ use mathlib.Core.Path.{refl}
 use Rattle.part.proofs.store.sizes_of.Goals as goal
 
 pub returns : goal.returns
-returns c = sizes-of c.least-entries.ensures c.greatest-depth.ensures refl c.passes-over.ensures
+returns c = sizes-of c.min-entries.ensures c.max-depth.ensures refl c.passes-over.ensures

@@ -18,11 +18,11 @@ contains-requires-then-b-lt3 t c = record { good = c.requires.good; a_bound = c.
 pub returns-then-b-lt3 : goal.returns-then-b-lt3
 returns-then-b-lt3 t c = covered_plain (c.requires.good, c.requires.a_bound) c.contains-then-b-lt3.ensures
 
-pub recall-known-requires : goal.recall-known-requires
-recall-known-requires t c = record { good = c.requires.good; lt_a = c.if-a-lt3.false }
+pub recall-requires : goal.recall-requires
+recall-requires t c = record { good = c.requires.good; lt_a = c.if-a-lt3.false }
 
-pub returns-then-known : goal.returns-then-known
-returns-then-known t c = covered_known (c.requires.good, c.requires.a_bound) c.recall-known.ensures c.if-known.true
+pub returns-in-Some : goal.returns-in-Some
+returns-in-Some t c = covered_known (c.requires.good, c.requires.a_bound) c.recall.ensures c.in-Some.is
 
 pub loop-n-init : goal.loop-n-init
 loop-n-init t c = covering_start (c.requires.good, c.requires.a_bound)
