@@ -4,6 +4,7 @@ use Rattle.std.proofs.Math.Option.{Option, some, none as nothing}
 use Rattle.field.specs.Refusal.{number}
 use Rattle.field.specs.declared.refusal.Refusal.{Refusal}
 use Rattle.part.specs.PartReq.{PartReq}
+use Rattle.context.specs.RequiredContext.{RequiredContext}
 use Rattle.request.specs.Fields.{Read, malformed, got, Answer, refused, accepted}
 use Rattle.request.specs.Request.{all_below}
 use Rattle.request.specs.Part.{read_part, read_entries}
@@ -19,6 +20,11 @@ status_of (accepted x) = 0
 abbrev pub status : {A : Type 0} → Result A Refusal → ℕ
 status (Ok x) = 0
 status (Err e) = number e
+
+-- what refuses a context of a function that is not there: 12, or else 11
+unfoldable pub without_function : Option RequiredContext → ℕ
+without_function nothing = 12
+without_function (some c) = 11
 
 -- the fields after what was read
 unfoldable pub past : {A : Type 0} → Read A → Option (List ℕ)

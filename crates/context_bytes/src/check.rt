@@ -1,10 +1,11 @@
 // A context checked in its bytes: 12 of the whole record, then 11. The recursion goes as deep as a part does; lists go by a loop.
 ghost use Rattle.std.specs.Prelude.{◌≡◌, ◌≤◌, length};
+ghost use Rattle.field.specs.Refusal.{number};
 ghost use Rattle.context.specs.RequiredContext.{variable};
 ghost use Rattle.request.specs.Answers.{from};
 ghost use Rattle.request.specs.Part.{read_part, read_return, read_variables};
 ghost use Rattle.request.specs.Context.{is_context, judge_context, context_of};
-ghost use Rattle.context_bytes.specs.Checked.{Skips, Checks, EntriesChecked, ListsChecked, checked, status, status_of};
+ghost use Rattle.context_bytes.specs.Checked.{Skips, Checks, EntriesChecked, ListsChecked, checked, status, status_of, without_function};
 
 use field::field::read_word;
 use field::limits::MAX_DEPTH;
@@ -117,4 +118,14 @@ pub fn check_context(bytes: &[u8], globals: u32, args: u32, locals: u32) -> Resu
         return Err(Refusal::Malformed);
     };
     check_lists(bytes, next, globals, args, locals)
+}
+
+// What refuses a context of a function that is not there: 12, or else 11.
+pub fn without_function(context: &[u8]) -> Refusal
+    ensures { number result ≡ without_function (context_of context.now) }
+{
+    match check_context(context, 0, 0, 0) {
+        Ok(_) => Refusal::NoSuch,
+        Err(e) => e,
+    }
 }
