@@ -22,10 +22,11 @@ use Rattle.context.specs.RequiredContext.{RequiredContext, variable, return_entr
 use Rattle.request.specs.Fields as reading
 use Rattle.request.specs.Request.{Request, request_of, all_below, known, judge}
 use Rattle.request.specs.Answers.{optional, Held, request_answer, RequestHeld, RequestWasRead}
-use Rattle.request.specs.declared.lists.Optional.{Optional}
+use Rattle.std.specs.Prelude.{Option as Maybe, Result, Ok, Err}
+use Rattle.field.specs.Refusal.{number}
+use Rattle.field.specs.declared.refusal.Refusal.{Refusal}
+use Rattle.field.specs.declared.refusal.Refusal.TheVariants.{ModuleTooLong, RecordCut, MarkMisplaced, ModuleLimit, ValueNotAllowed, NoSuch, Malformed, Panic, Unsettled, PartLimit, PiecesLimit, VisitsLimit, ReportTooShort, PrunerUnfit, AnswerTooShort, MarksUnfit, CheckBound}
 use Rattle.request.specs.declared.requests.Request as declared
-use Rattle.request.specs.declared.requests.RequestAnswer.{RequestAnswer}
-use Rattle.request.specs.declared.requests.RequestAnswer.TheVariants.{Malformed, NoSuch, ShortReport, Accepted}
 use Rattle.bindings.specs.Bindings.{single}
 use Rattle.bindings.specs.Rows.{AllBound}
 use Rattle.bindings.specs.ContextBindings.{Answer, output_from_bindings, add_binding, as_request, add_request}
@@ -52,7 +53,7 @@ module _ {bytes t types : List ℕ} (T : Tables bytes t types) {f b : ℕ} (low 
   add-request c =
       rw (lt-ltb b bindings few, of_function-at (module_of bytes t).functions f (function_of bytes t f) (λ y. as_request (output_from_bindings (module_of bytes t).types (single b) y) (add_binding (module_of bytes t).types b y c)) low, function_is bytes t f (function_of bytes t f) low, T.rows)
 
-  module _ {s u : List ℕ} (o : Optional) {entry globals : ℕ} (m : Made s u (return_entry (optional s o)) 1 entry) (held : globals < top s) where
+  module _ {s u : List ℕ} (o : Maybe ℕ) {entry globals : ℕ} (m : Made s u (return_entry (optional s o)) 1 entry) (held : globals < top s) where
     pub add-asks : (parts : List ℕ) → length parts ≡ type_count types → Room s (1 + (output_cells parts + max_pieces))
         → Good u × (AllBound (types_of types) × (AllSized (types_of types) × (((length parts ≡ type_count types) × (length parts ≤ 4294967295)) × ((BoundResult (result_by x.ty.0 x.binding) × Room u (output_cells parts + max_pieces)) × ((b < bindings) × ((globals < top u) × (entry < top u)))))))
     add-asks parts l room =
@@ -75,6 +76,27 @@ module _ {bytes t types : List ℕ} (T : Tables bytes t types) {f b : ℕ} (low 
 
       pub add_gave : {o₀ o₁ : List ℕ} {r : Bytes} → Gave o₀ o₁ (written f (asking_of v (part v globals) a)) r → Gave o₀ o₁ (written f (add_request (module_of bytes t) f b (request_context (part s globals) (return_entry (optional s o))))) r
       add_gave g = rw answer_is at g
+
+-- the number of what refuses the request
+pub own_other : (e : Refusal) → (e ≡ ReportTooShort → ⊥) → number e ≡ own_number (number e)
+unfolding own_number
+own_other ModuleTooLong h = refl
+own_other RecordCut h = refl
+own_other MarkMisplaced h = refl
+own_other ModuleLimit h = refl
+own_other ValueNotAllowed h = refl
+own_other NoSuch h = refl
+own_other Malformed h = refl
+own_other Panic h = refl
+own_other Unsettled h = refl
+own_other PartLimit h = refl
+own_other PiecesLimit h = refl
+own_other VisitsLimit h = refl
+own_other ReportTooShort h = absurd (h refl)
+own_other PrunerUnfit h = refl
+own_other AnswerTooShort h = refl
+own_other MarksUnfit h = refl
+own_other CheckBound h = refl
 
 -- what was accepted is known, and the slice is long enough
 chosen : (x y : Bool) {q p : Request} → reading.accepted q ≡ cond x (cond y (reading.refused 18) (reading.accepted p)) (reading.refused 11) → (x ≡ true) × (y ≡ false) × (q ≡ p)
@@ -102,7 +124,7 @@ pub add-above : (m : Module) (room b : ℕ) (request : List ℕ) {o : List ℕ} 
 unfolding add_bytes
 add-above m room b request h = gave_refused (rw (le-ltb b bindings h))
 
-module _ (bytes t request : List ℕ) (room : ℕ) {s u : List ℕ} {b functions globals n : ℕ} (few : b < bindings) (F : functions ≡ length (module_of bytes t).functions) (G : globals ≡ length (module_of bytes t).globals) {a : RequestAnswer} (A : RequestWasRead s u n (judge functions globals room (request_of request)) a) where
+module _ (bytes t request : List ℕ) (room : ℕ) {s u : List ℕ} {b functions globals n : ℕ} (few : b < bindings) (F : functions ≡ length (module_of bytes t).functions) (G : globals ≡ length (module_of bytes t).globals) {a : Result declared.Request Refusal} (A : RequestWasRead s u n (judge functions globals room (request_of request)) a) where
   abbrev next : Request → Answer (List ℕ)
   next q = written q.function (add_request (module_of bytes t) q.function b (request_context q.globals (return_entry q.retval)))
 
@@ -110,19 +132,11 @@ module _ (bytes t request : List ℕ) (room : ℕ) {s u : List ℕ} {b functions
   unfolding add_bytes
   on_answer = rw (lt-ltb b bindings few, ← F, ← G, A.is)
 
-  pub add_malformed : {o : List ℕ} → a ≡ Malformed → Gave o o (add_bytes (module_of bytes t) room b request) (Refused 12)
-  unfolding on_read own_number
-  add_malformed e = gave_refused (on_answer ∙ rw e)
+  pub add_refused : {o : List ℕ} {n : ℕ} (e : Refusal) → a ≡ Err e → n ≡ own_number (number e) → Gave o o (add_bytes (module_of bytes t) room b request) (Refused n)
+  unfolding on_read
+  add_refused e h is = gave_refused (on_answer ∙ rw (h, is))
 
-  pub add_no_such : {o : List ℕ} → a ≡ NoSuch → Gave o o (add_bytes (module_of bytes t) room b request) (Refused 11)
-  unfolding on_read own_number
-  add_no_such e = gave_refused (on_answer ∙ rw e)
-
-  pub add_short : {o : List ℕ} → a ≡ ShortReport → Gave o o (add_bytes (module_of bytes t) room b request) (Refused 20)
-  unfolding on_read own_number
-  add_short e = gave_refused (on_answer ∙ rw e)
-
-  module _ {q : declared.Request} (e : a ≡ Accepted q) where
+  module _ {q : declared.Request} (e : a ≡ Ok q) where
     was_held : Held u q.retval × (q.globals < top u) × (4 * top u ≤ 4 * top s + n)
     was_held = subst (RequestHeld s u n) e A.held
 

@@ -17,7 +17,7 @@ use Rattle.context.specs.Types.{types_of}
 use Rattle.context.specs.RequiredContext.{RequiredContext}
 use Rattle.request.specs.Fields as reading
 use Rattle.request.specs.Context.{context_of, known_context, judge_context, read_context}
-use Rattle.context_bytes.specs.Checked.{status_of}
+use Rattle.context_bytes.specs.Checked.{status_of, without_function}
 use Rattle.context_bytes.specs.Counted.{PiecesCounted}
 use Rattle.context_bytes.specs.Found.{list_at, ListAt, ArgsAt}
 use Rattle.context_bytes.proofs.Found.{list_there}
@@ -28,7 +28,7 @@ use Rattle.bindings.specs.ContextBindings.{args_bindings, input_to_bindings, Ans
 use Rattle.bindings_request.specs.declared.needed.Needed.{Needed}
 use Rattle.bindings_request.specs.declared.needed.Needed.TheVariants.{Bindings as Got, Asserts}
 use Rattle.bindings_request.specs.Boundary.{Tables, told, left, Gave}
-use Rattle.bindings_request.specs.Inputs.{within_pieces, inputs_of, without_function, input_for, input_bytes, Accepts, ListGiven}
+use Rattle.bindings_request.specs.Inputs.{within_pieces, inputs_of, input_for, input_bytes, Accepts, ListGiven}
 use Rattle.bindings_request.specs.Walks.{needed_of}
 use Rattle.bindings_request.specs.declared.answer.Bytes.{Bytes}
 use Rattle.bindings_request.specs.declared.answer.Bytes.TheVariants.{Refused, RefusedAt, Written}
@@ -68,22 +68,6 @@ module _ (b : List ℕ) (s : ℕ) {k : ℕ} (C : PiecesCounted b k) where
       }
 
 -- a context of no function
-known_not : (v : Bool) (c : RequiredContext) → 12 ≡ status_of (cond v (reading.accepted c) (reading.refused 11)) → ◌≡◌ {A = ℕ} 12 11
-unfolding status_of
-known_not true c e = absurd (omega arith)
-known_not false c e = e
-
-without_status : (o : Option RequiredContext) {n : ℕ} → n ≡ status_of (judge_context 0 0 0 o) → (n ≡ 12 → 12 ≡ without_function o) × ((n ≡ 12 → ⊥) → 11 ≡ without_function o)
-unfolding status_of judge_context without_function
-without_status nothing e = ((λ h. refl), λ h. absurd (h e))
-without_status (some c) {n} e = ((λ h. known_not (known_context 0 0 0 c) c (sym h ∙ e)), λ h. refl)
-
-pub without_malformed : (b : List ℕ) {n : ℕ} → n ≡ status_of (judge_context 0 0 0 (context_of b)) → n ≡ 12 → 12 ≡ without_function (context_of b)
-without_malformed b e = (without_status (context_of b) e).0
-
-pub without_other : (b : List ℕ) {n : ℕ} → n ≡ status_of (judge_context 0 0 0 (context_of b)) → (n ≡ 12 → ⊥) → 11 ≡ without_function (context_of b)
-without_other b e = (without_status (context_of b) e).1
-
 past_is : (m : Module) (room f : ℕ) (o : Option RequiredContext) → length m.functions ≤ f → input_for m room f o ≡ refused (without_function o)
 unfolding input_for without_function
 past_is m room f nothing h = refl
@@ -128,8 +112,8 @@ module _ {bytes t types : List ℕ} (T : Tables bytes t types) (room : ℕ) {f :
       unfolding input_bytes on_context
       needing_refused h = gave_refused (there_is (context_of b) ∙ rw (status_refused (read_context (module_of bytes t) fn b) h status_is))
 
-      pub needing_accepts : status ≤ 0 → Accepts (module_of bytes t) fn b
-      needing_accepts h = let z : 0 ≡ status = omega arith in record { is = z ∙ status_is }
+      pub needing_accepts : 0 ≡ status → Accepts (module_of bytes t) fn b
+      needing_accepts h = record { is = h ∙ status_is }
 
     -- what is found in a context that is accepted
     module _ (A : Accepts (module_of bytes t) fn b) where

@@ -22,11 +22,6 @@ within_pieces c (accepted s) = cond (ltb max_pieces (pieces c)) (refused 16) (ac
 unfoldable pub inputs_of : Module → (room : ℕ) → FunctionHandle → RequiredContext → Answer (List ℕ)
 inputs_of m room f c = cond (ltb room bindings) (refused 20) (within_pieces c (input_list m f c))
 
--- what refuses a context of no function: 12, or else 11
-unfoldable pub without_function : Option RequiredContext → ℕ
-without_function nothing = 12
-without_function (some c) = 11
-
 unfoldable pub input_for : Module → (room : ℕ) → FunctionHandle → Option RequiredContext → Answer (List ℕ)
 input_for m room f nothing = refused 12
 input_for m room f (some c) =

@@ -1,6 +1,7 @@
 // `add_binding` on a request's bytes: 12, 11, 20, 15, 16.
 ghost use Rattle.std.specs.Prelude.{◌≡◌, ◌+◌, ◌≤◌, ◌<◌, length};
 ghost use Rattle.field.specs.Limits.{min_report, max_pieces};
+ghost use Rattle.field.specs.Refusal.{number};
 ghost use Rattle.part.specs.Store.{top, part, Good, Room};
 ghost use Rattle.module.specs.Operands.{bindings};
 ghost use Rattle.module.specs.Tables.{module_of};
@@ -9,17 +10,18 @@ ghost use Rattle.context.specs.RequiredContext.{return_entry};
 ghost use Rattle.request.specs.Answers.{optional, Held};
 ghost use Rattle.bindings.specs.ContextBindings.{add_request};
 ghost use Rattle.bindings.specs.Outputs.{output_cells, request_context};
-ghost use Rattle.bindings_request.specs.Boundary.{Tables, Lent, written, add_bytes, Gave};
+ghost use Rattle.bindings_request.specs.Boundary.{Tables, Lent, own_number, written, add_bytes, Gave};
 
 use crate::answer::{Bytes, write_asking};
 use access::function::result;
 use access::whole::{functions, globals};
 use bindings::outputs::add_binding;
 use bindings::set::BINDINGS;
+use field::refusal::Refusal;
 use module::handles::FunctionHandle;
 use part::store::init;
-use request::lists::{Optional, returned};
-use request::requests::{RequestAnswer, read_request};
+use request::lists::returned;
+use request::requests::read_request;
 
 // One binding more, in a request of the function f for these pieces.
 fn add_to(
@@ -29,7 +31,7 @@ fn add_to(
     cells: &mut [u32],
     parts: &mut [u32],
     f: FunctionHandle,
-    retval: Optional,
+    retval: Option<u32>,
     globals: u32,
     b: u32,
     out: &mut [u8],
@@ -56,6 +58,16 @@ fn add_to(
     write_asking(cells, f, globals, a, out)
 }
 
+// What refuses the request: its report buffer is the answer's slice.
+fn own_refusal(e: Refusal) -> Refusal
+    ensures { number result ≡ own_number (number e) }
+{
+    match e {
+        Refusal::ReportTooShort => Refusal::AnswerTooShort,
+        _ => e,
+    }
+}
+
 // The request's bytes with one binding more, written from the slice's first byte on.
 pub fn add_binding_bytes(
     bytes: &[u8],
@@ -77,10 +89,8 @@ pub fn add_binding_bytes(
     init(cells);
     let a = read_request(cells, request, functions(t), globals(t), out.len());
     match a {
-        RequestAnswer::Malformed => Bytes::Refused(12),
-        RequestAnswer::NoSuch => Bytes::Refused(11),
-        RequestAnswer::ShortReport => Bytes::Refused(20),
-        RequestAnswer::Accepted(q) => {
+        Err(e) => Bytes::Refused(u32::from(own_refusal(e))),
+        Ok(q) => {
             let f = q.function;
             let o = q.retval;
             add_to(bytes, t, types, cells, parts, f, o, q.globals, b, out)

@@ -4,17 +4,16 @@ ghost use Rattle.field.specs.Limits.{max_arguments};
 ghost use Rattle.module.specs.Operands.{bindings};
 ghost use Rattle.module.specs.Tables.{function_of, module_of};
 ghost use Rattle.context.specs.Types.{type_count};
-ghost use Rattle.request.specs.Context.{context_of};
 ghost use Rattle.bindings.specs.Rows.{args_of};
 ghost use Rattle.bindings_request.specs.Boundary.{Tables, Gave};
-ghost use Rattle.bindings_request.specs.Inputs.{Accepts, ListGiven, without_function, input_bytes};
+ghost use Rattle.bindings_request.specs.Inputs.{Accepts, ListGiven, input_bytes};
 
 use crate::answer::Bytes;
 use crate::needed::{Needed, all_table, input_to_bindings};
 use access::function::{argument, arguments, locals};
 use access::whole::{functions, globals};
 use bindings::set::{BINDINGS, list};
-use context_bytes::check::check_context;
+use context_bytes::check::{check_context, without_function};
 use context_bytes::count::count_context;
 use context_bytes::find::args_at;
 use field::limits::MAX_PIECES;
@@ -76,16 +75,6 @@ fn list_needed(
     }
 }
 
-// The number that refuses a context of no function: 12, or else 11.
-fn without_function(context: &[u8]) -> u32
-    ensures { result ≡ without_function (context_of context.now) }
-{
-    if check_context(context, 0, 0, 0) == 12 {
-        return 12;
-    }
-    11
-}
-
 // The bindings list of a context's bytes, written from the slice's first byte on.
 pub fn input_to_bindings_bytes(
     bytes: &[u8],
@@ -102,13 +91,12 @@ pub fn input_to_bindings_bytes(
     ensures { Gave out.old out.new (input_bytes (module_of bytes.now t.now) (length out.old) f context.now) result }
 {
     if functions(t) <= f {
-        return Bytes::Refused(without_function(context));
+        return Bytes::Refused(u32::from(without_function(context)));
     }
     let n = arguments(t, FunctionHandle(f));
     let l = locals(t, FunctionHandle(f));
-    let status = check_context(context, globals(t), n, l);
-    if 0 < status {
-        return Bytes::Refused(status);
+    if let Err(e) = check_context(context, globals(t), n, l) {
+        return Bytes::Refused(u32::from(e));
     }
     let e = 2 * (n as usize);
     list_needed(

@@ -14,7 +14,7 @@ ghost use Rattle.bindings_request.specs.Walks.{lower, needed_of};
 
 use bindings::set::own_binding;
 use bindings::types::{first_word, is_base, member_at, member_count, type_kind};
-use context_bytes::find::{Found, find_part, find_variable, is_all, is_exist};
+use context_bytes::find::{find_part, find_variable, is_all, is_exist};
 use field::limits::ABSENT;
 use module::handles::TypeHandle;
 
@@ -76,7 +76,7 @@ fn member_bindings(
     requires i_bound { i < member_count types.now t.0 }
     ensures { result ≡ member_bindings (lower (types_of types.now) sets.now t.0) (row_member types.now t.0 i) (get_subpart (part_at context.now at depth) i) }
 {
-    let Found::There(a, d) = find_part(context, at, depth, i) else {
+    let Some((a, d)) = find_part(context, at, depth, i) else {
         return 0;
     };
     if is_exist(context, a, d) {
@@ -191,7 +191,7 @@ fn arg_bindings(
     requires bound { Bound (option_of binding) }
     ensures { needed_of result ≡ arg_bindings (types_of types.now) i (arg_of ty.0 binding) (get_subpart (list_at context.now args) (variable i)) }
 {
-    let Found::There(at, depth) = find_variable(context, args, i) else {
+    let Some((at, depth)) = find_variable(context, args, i) else {
         return Needed::Bindings(0);
     };
     if is_exist(context, at, depth) {

@@ -2,7 +2,7 @@
 -- so far, with the entries that are left, gives the whole.
 use Prim.Native.Nat.{ℕ, ◌+◌, ◌-◌, ◌*◌, ◌≤◌, ◌<◌}
 use native.Mathlib.Omega.{arith}
-use mathlib.Core.Path.{◌≡◌, refl, ap, sym, subst, ◌∙◌}
+use mathlib.Core.Path.{◌≡◌, refl, ap, sym, ◌∙◌}
 use mathlib.Core.Bool.{Bool, false}
 use mathlib.Core.List.{List, []}
 use mathlib.Core.Option.{Option, some}
@@ -15,32 +15,17 @@ use Rattle.context.specs.RequiredContext.{RequiredContext, pieces, return_entry}
 use Rattle.request.specs.Fields.{Read, malformed, got, ◌>>=◌}
 use Rattle.request.specs.Part.{read_part, read_entries, read_return, read_variables}
 use Rattle.request.specs.Context.{is_context}
-use Rattle.request.specs.Answers.{from}
+use Rattle.request.specs.Answers.{from, Field}
 use Rattle.request.proofs.Bytes.{from_cons, from_end}
-use Rattle.request.proofs.Entries.{Field, Index, index_no_part, entries_none}
+use Rattle.request.proofs.Entries.{Index, index_no_part, entries_none}
 use Rattle.request.proofs.Variables.{return_end}
-use Rattle.context_bytes.specs.declared.codes.Code.{Code}
-use Rattle.context_bytes.specs.declared.codes.Code.TheVariants as codes
-use Rattle.context_bytes.specs.declared.count.Counted.{Counted}
-use Rattle.context_bytes.specs.declared.count.Counted.TheVariants.{Malformed, Next}
-use Rattle.context_bytes.specs.Codes.{CodeWasRead, by_answer}
-use Rattle.context_bytes.specs.Counted.{counted, counted_return, count_answer, CountPlaced, Counts, EntriesCounted, PiecesCounted}
+use Rattle.std.specs.Prelude.{Option as Maybe, Some, None}
+use Rattle.request.specs.declared.codes.Code.TheVariants.{All, Exist, Entries}
+use Rattle.request.specs.Codes.{CodeWasRead}
+use Rattle.context_bytes.specs.Counted.{counted, counted_return, CountPlaced, Counts, EntriesCounted, PiecesCounted}
 use Rattle.context_bytes.proofs.Accepted.{Accepted, accepted}
-use Rattle.context_bytes.proofs.Steps.{index_then}
-use Rattle.context_bytes.proofs.Checked.{all_inside, exist_inside}
+use Rattle.request.proofs.Steps.{index_then}
 use Rattle.context_bytes.proofs.Lists.{return_is, variables_are}
-
--- what a call answered
-module _ {b : List ℕ} {at : ℕ} {r : Read ℕ} {a : Counted} (was : Counts b at r a) where
-  pub count_refused : a ≡ Malformed → r ≡ malformed
-  count_refused e = sym was.is ∙ ap (count_answer b) e
-
-  module _ {n next : ℕ} (e : a ≡ Next n next) where
-    pub count_is : r ≡ got n (from b next)
-    count_is = sym was.is ∙ ap (count_answer b) e
-
-    pub count_placed : (4 * n + at ≤ next) × (next ≤ length b)
-    count_placed = subst (CountPlaced b at) e was.placed
 
 -- a requirement was read, and has n entries
 record Tallied (r : Read PartReq) (n : ℕ) (fs : List ℕ) : Type 0 where
@@ -58,31 +43,28 @@ unfolding counted
 untold malformed e = refl
 untold (got p gs) e = let z : ◌≡◌ {A = ℕ} 0 1 = cc in absurd (omega arith)
 
+sooner : (b : List ℕ) (at : ℕ) (a : Maybe (ℕ × ℕ)) → CountPlaced b (at + 2) a → CountPlaced b at a
+sooner b at None h = tt
+sooner b at (Some p) h = (omega (arith, h.0), h.1)
+
 -- a part, by its code
-module _ {b : List ℕ} {at d : ℕ} {c : Code} (was : CodeWasRead b at d c) where
-  coded : {x : Code} → c ≡ x → read_part d (from b at) ≡ by_answer b at d x
-  coded e = was.is ∙ ap (by_answer b at d) e
-
-  pub count_malformed : c ≡ codes.Malformed → Counts b (at + 2) (counted (read_part d (from b at))) Malformed
+module _ {b : List ℕ} {at d : ℕ} where
+  pub count_malformed : CodeWasRead b at d None → Counts b (at + 2) (counted (read_part d (from b at))) None
   unfolding counted
-  count_malformed e = record { is = sym (ap counted (coded e)); placed = tt }
+  count_malformed was = record { is = sym (ap counted was.is); placed = tt }
 
-  pub count_all : c ≡ codes.All → Counts b (at + 2) (counted (read_part d (from b at))) (Next 0 (at + 2))
+  pub count_all : CodeWasRead b at d (Some All) → Counts b (at + 2) (counted (read_part d (from b at))) (Some (0, at + 2))
   unfolding counted entries
-  count_all e = record { is = sym (ap counted (coded e)); placed = (omega arith, all_inside was e) }
+  count_all was = record { is = sym (ap counted was.is); placed = (omega arith, was.placed) }
 
-  pub count_exist : c ≡ codes.Exist → Counts b (at + 2) (counted (read_part d (from b at))) (Next 0 (at + 2))
+  pub count_exist : CodeWasRead b at d (Some Exist) → Counts b (at + 2) (counted (read_part d (from b at))) (Some (0, at + 2))
   unfolding counted entries
-  count_exist e = record { is = sym (ap counted (coded e)); placed = (omega arith, exist_inside was e) }
+  count_exist was = record { is = sym (ap counted was.is); placed = (omega arith, was.placed) }
 
-  sooner : (a : Counted) → CountPlaced b (at + 2 + 2) a → CountPlaced b (at + 2) a
-  sooner Malformed h = tt
-  sooner (Next n next) h = (omega (arith, h.0), h.1)
-
-  pub count_level : {n : ℕ} {a : Counted} → c ≡ codes.Entries n → EntriesCounted b (at + 2 + 2) (d - 1) n a → Counts b (at + 2) (counted (read_part d (from b at))) a
-  count_level {n} {a} e h =
+  pub count_level : {n : ℕ} {a : Maybe (ℕ × ℕ)} → CodeWasRead b at d (Some (Entries n)) → EntriesCounted b (at + 2 + 2) (d - 1) n a → Counts b (at + 2) (counted (read_part d (from b at))) a
+  count_level {n} {a} was h =
       let k = h.counts 0 in
-      record { is = k.is ∙ sym (ap counted (coded e)); placed = sooner a k.placed }
+      record { is = k.is ∙ sym (ap counted was.is); placed = sooner b (at + 2) a k.placed }
 
 -- entries
 unfoldable pub plus : ℕ → Read ℕ → Read ℕ
@@ -113,11 +95,11 @@ pub counting_first : {b : List ℕ} {at : ℕ} (d n : ℕ) → at ≤ length b �
 counting_first d n h = record { further = omega arith; inside = h; rest = λ base. plus_none _ }
 
 module _ {b : List ℕ} {at d n next low left sum : ℕ} (so : Counting b at d n next low left sum) where
-  pub counting_stop : ((base : ℕ) → read_entries (read_part d) base low left (from b next) ≡ malformed) → EntriesCounted b at d n Malformed
+  pub counting_stop : ((base : ℕ) → read_entries (read_part d) base low left (from b next) ≡ malformed) → EntriesCounted b at d n None
   unfolding counted plus
   counting_stop h = record { counts = λ base. record { is = sym (ap (λ x. plus sum (counted x)) (h base)) ∙ so.rest base; placed = tt } }
 
-  pub counting_done : left ≡ 0 → EntriesCounted b at d n (Next sum next)
+  pub counting_done : left ≡ 0 → EntriesCounted b at d n (Some (sum, next))
   unfolding counted plus entries
   counting_done e =
       let z : sum ≡ sum + 0 = omega arith in
@@ -132,19 +114,19 @@ module _ {b : List ℕ} {at d n next low left sum : ℕ} (so : Counting b at d n
             };
       }
 
-  module _ {i k : ℕ} (x : Index b next low left i k) {a : Counted} (was : Counts b (next + 2 + 2) (counted (read_part d (from b (next + 2)))) a) where
-    pub counting_no_part : a ≡ Malformed → EntriesCounted b at d n Malformed
-    counting_no_part e = counting_stop (λ base. index_no_part x base d (untold (read_part d (from b (next + 2))) (count_refused was e)))
+  module _ {i k : ℕ} (x : Index b next low left i k) where
+    pub counting_no_part : Counts b (next + 2 + 2) (counted (read_part d (from b (next + 2)))) None → EntriesCounted b at d n None
+    counting_no_part was = counting_stop (λ base. index_no_part x base d (untold (read_part d (from b (next + 2))) (sym was.is)))
 
-    module _ {m end : ℕ} (e : a ≡ Next m end) where
+    module _ {m end : ℕ} (was : Counts b (next + 2 + 2) (counted (read_part d (from b (next + 2)))) (Some (m, end))) where
       -- what is counted stays below the number of bytes
       pub counting_fits : 4 * (sum + 1 + m) + at ≤ length b
-      counting_fits = let w = count_placed was e in omega (arith, w.0, w.1, so.further)
+      counting_fits = let w = was.placed in omega (arith, w.0, w.1, so.further)
 
       pub counting_again : Counting b at d n end (i + 1) k (sum + 1 + m)
       counting_again =
-          let w = count_placed was e in
-          let p = tallied (read_part d (from b (next + 2))) (count_is was e) in
+          let w = was.placed in
+          let p = tallied (read_part d (from b (next + 2))) (sym was.is) in
           let many : entries p.value ≡ m = p.many in
           let z : sum + 1 + m ≡ sum + (1 + entries p.value) = rw many (omega arith) in
           record {
@@ -161,7 +143,7 @@ module _ {b : List ℕ} {at d n next low left sum : ℕ} (so : Counting b at d n
           }
 
 -- the returned value
-pub return_ends : (b : List ℕ) (at : ℕ) → length b < at + 2 → Counts b (at - 2) (counted_return (read_return (from b at))) Malformed
+pub return_ends : (b : List ℕ) (at : ℕ) → length b < at + 2 → Counts b (at - 2) (counted_return (read_return (from b at))) None
 unfolding counted_return
 return_ends b at h = record { is = sym (ap counted_return (return_end b at h)); placed = tt }
 
@@ -180,7 +162,7 @@ no_part malformed e = refl
 no_part (got p gs) e = let z : ◌≡◌ {A = ℕ} 0 1 = cc in absurd (omega arith)
 
 module _ {b : List ℕ} {at i : ℕ} (f : Field b at i) where
-  pub return-nothing : i ≡ 3 → Counts b (at - 2) (counted_return (read_return (from b at))) (Next 0 (at + 2))
+  pub return-nothing : i ≡ 3 → Counts b (at - 2) (counted_return (read_return (from b at))) (Some (0, at + 2))
   unfolding read_return counted_return return_entry entries
   return-nothing e =
       record {
@@ -188,36 +170,32 @@ module _ {b : List ℕ} {at i : ℕ} (f : Field b at i) where
         placed = (omega arith, f.inside);
       }
 
-  module _ (h : i ≡ 3 → ⊥) {a : Counted} (was : Counts b (at + 2) (counted (read_part max_depth (from b at))) a) where
-    pub return_malformed : a ≡ Malformed → Counts b (at - 2) (counted_return (read_return (from b at))) Malformed
-    return_malformed e =
-        record { is = no_part (read_part max_depth (from b at)) (count_refused was e) ∙ sym (ap counted_return (return_is f h)); placed = tt }
+  module _ (h : i ≡ 3 → ⊥) where
+    pub return_malformed : Counts b (at + 2) (counted (read_part max_depth (from b at))) None → Counts b (at - 2) (counted_return (read_return (from b at))) None
+    return_malformed was =
+        record { is = no_part (read_part max_depth (from b at)) (sym was.is) ∙ sym (ap counted_return (return_is f h)); placed = tt }
 
-    module _ {n next : ℕ} (e : a ≡ Next n next) where
+    module _ {n next : ℕ} (was : Counts b (at + 2) (counted (read_part max_depth (from b at))) (Some (n, next))) where
       pub return_fits : 4 * n + at + 2 ≤ length b
-      return_fits = let w = count_placed was e in omega (arith, w.0, w.1)
+      return_fits = let w = was.placed in omega (arith, w.0, w.1)
 
-      pub return_counted : 2 ≤ at → Counts b (at - 2) (counted_return (read_return (from b at))) (Next (n + 1) next)
+      pub return_counted : 2 ≤ at → Counts b (at - 2) (counted_return (read_return (from b at))) (Some (n + 1, next))
       return_counted l =
-          let w = count_placed was e in
+          let w = was.placed in
           record {
-            is = some-part (read_part max_depth (from b at)) (count_is was e) ∙ sym (ap counted_return (return_is f h));
+            is = some-part (read_part max_depth (from b at)) (sym was.is) ∙ sym (ap counted_return (return_is f h));
             placed = (omega (arith, w.0), w.1);
           }
 
 -- a list of variables
-pub list_ends : (b : List ℕ) (at : ℕ) → length b < at + 2 → Counts b at (counted (read_variables (from b at))) Malformed
+pub list_ends : (b : List ℕ) (at : ℕ) → length b < at + 2 → Counts b at (counted (read_variables (from b at))) None
 unfolding read_variables counted
 list_ends b at h = record { is = rw (from_end b at h); placed = tt }
 
-earlier : (b : List ℕ) (at : ℕ) (a : Counted) → CountPlaced b (at + 2) a → CountPlaced b at a
-earlier b at Malformed h = tt
-earlier b at (Next n next) h = (omega (arith, h.0), h.1)
-
-pub list_counted : {b : List ℕ} {at n : ℕ} {a : Counted} → Field b at n → EntriesCounted b (at + 2) max_depth n a → Counts b at (counted (read_variables (from b at))) a
+pub list_counted : {b : List ℕ} {at n : ℕ} {a : Maybe (ℕ × ℕ)} → Field b at n → EntriesCounted b (at + 2) max_depth n a → Counts b at (counted (read_variables (from b at))) a
 list_counted {b} {at} {n} {a} f was =
     let k = was.counts spine in
-    record { is = k.is ∙ sym (ap counted (variables_are f)); placed = earlier b at a k.placed }
+    record { is = k.is ∙ sym (ap counted (variables_are f)); placed = sooner b at a k.placed }
 
 -- the whole
 module _ (b : List ℕ) where
@@ -234,95 +212,91 @@ module _ (b : List ℕ) where
   list_tallied malformed e f = let z : ◌≡◌ {A = ℕ} 0 1 = cc in absurd (omega arith)
   list_tallied (got p hs) e f = (cc, cc)
 
-  module _ {a : Counted} (first : Counts b 4 (counted_return (read_return (from b 6))) a) where
-    pub no_return : a ≡ Malformed → PiecesCounted b 0
-    unfolding counted_return
-    no_return e =
+  pub no_return : Counts b 4 (counted_return (read_return (from b 6))) None → PiecesCounted b 0
+  unfolding counted_return
+  no_return first =
+      record {
+        is =
+            λ c k.
+            let f = ap counted_return (accepted k).return_is in
+            let g = first.is in
+            let z : ◌≡◌ {A = ℕ} 0 1 = cc in
+            absurd (omega arith);
+      }
+
+  module _ {r x : ℕ} (first : Counts b 4 (counted_return (read_return (from b 6))) (Some (r, x))) where
+    lists_at : {c : RequiredContext} (k : Accepted b c) → (r ≡ entries c.retval) × (k.lists ≡ from b x)
+    lists_at k = let t = return_tallied (read_return (from b 6)) k.return_is (sym first.is) in (rw k.returned t.0, t.1)
+
+    globals_are : {c : RequiredContext} (k : Accepted b c) → read_variables (from b x) ≡ got c.globals k.args
+    globals_are k = sym (ap read_variables (lists_at k).1) ∙ k.globals_is
+
+    pub no_globals : Counts b x (counted (read_variables (from b x))) None → PiecesCounted b 0
+    unfolding counted
+    no_globals second =
         record {
           is =
               λ c k.
-              let f = ap counted_return (accepted k).return_is in
-              let g = count_refused first e in
+              let h = ap counted (globals_are (accepted k)) in
+              let j = second.is in
               let z : ◌≡◌ {A = ℕ} 0 1 = cc in
               absurd (omega arith);
         }
 
-    module _ {r x : ℕ} (e : a ≡ Next r x) where
-      lists_at : {c : RequiredContext} (k : Accepted b c) → (r ≡ entries c.retval) × (k.lists ≡ from b x)
-      lists_at k = let t = return_tallied (read_return (from b 6)) k.return_is (count_is first e) in (rw k.returned t.0, t.1)
+    module _ {m y : ℕ} (second : Counts b x (counted (read_variables (from b x))) (Some (m, y))) where
+      args_at : {c : RequiredContext} (k : Accepted b c) → (m ≡ entries c.globals) × (k.args ≡ from b y)
+      args_at k = list_tallied (read_variables (from b x)) (globals_are k) (sym second.is)
 
-      module _ {g : Counted} (second : Counts b x (counted (read_variables (from b x))) g) where
-        globals_are : {c : RequiredContext} (k : Accepted b c) → read_variables (from b x) ≡ got c.globals k.args
-        globals_are k = sym (ap read_variables (lists_at k).1) ∙ k.globals_is
+      args_are : {c : RequiredContext} (k : Accepted b c) → read_variables (from b y) ≡ got c.args k.locals
+      args_are k = sym (ap read_variables (args_at k).1) ∙ k.args_is
 
-        pub no_globals : g ≡ Malformed → PiecesCounted b 0
+      pub no_args : Counts b y (counted (read_variables (from b y))) None → PiecesCounted b 0
+      unfolding counted
+      no_args third =
+          record {
+            is =
+                λ c k.
+                let o = ap counted (args_are (accepted k)) in
+                let q = third.is in
+                let z : ◌≡◌ {A = ℕ} 0 1 = cc in
+                absurd (omega arith);
+          }
+
+      module _ {n z : ℕ} (third : Counts b y (counted (read_variables (from b y))) (Some (n, z))) where
+        locals-at : {c : RequiredContext} (k : Accepted b c) → (n ≡ entries c.args) × (k.locals ≡ from b z)
+        locals-at k = list_tallied (read_variables (from b y)) (args_are k) (sym third.is)
+
+        locals_are : {c : RequiredContext} (k : Accepted b c) → read_variables (from b z) ≡ got c.locals []
+        locals_are k = sym (ap read_variables (locals-at k).1) ∙ k.locals_is
+
+        pub no_locals : Counts b z (counted (read_variables (from b z))) None → PiecesCounted b 0
         unfolding counted
-        no_globals f =
+        no_locals fourth =
             record {
               is =
                   λ c k.
-                  let h = ap counted (globals_are (accepted k)) in
-                  let j = count_refused second f in
-                  let z : ◌≡◌ {A = ℕ} 0 1 = cc in
+                  let q = ap counted (locals_are (accepted k)) in
+                  let s = fourth.is in
+                  let w : ◌≡◌ {A = ℕ} 0 1 = cc in
                   absurd (omega arith);
             }
 
-        module _ {m y : ℕ} (f : g ≡ Next m y) where
-          args_at : {c : RequiredContext} (k : Accepted b c) → (m ≡ entries c.globals) × (k.args ≡ from b y)
-          args_at k = list_tallied (read_variables (from b x)) (globals_are k) (count_is second f)
+        module _ {o w : ℕ} (fourth : Counts b z (counted (read_variables (from b z))) (Some (o, w))) where
+          pub pieces_fit : 4 * (m + o + n + r) + 4 ≤ length b
+          pieces_fit =
+              let u = first.placed in
+              let v = second.placed in
+              let s = third.placed in
+              let t = fourth.placed in
+              omega (arith, u.0, v.0, s.0, t.0, t.1)
 
-          module _ {h : Counted} (third : Counts b y (counted (read_variables (from b y))) h) where
-            args_are : {c : RequiredContext} (k : Accepted b c) → read_variables (from b y) ≡ got c.args k.locals
-            args_are k = sym (ap read_variables (args_at k).1) ∙ k.args_is
-
-            pub no_args : h ≡ Malformed → PiecesCounted b 0
-            unfolding counted
-            no_args j =
-                record {
-                  is =
-                      λ c k.
-                      let o = ap counted (args_are (accepted k)) in
-                      let q = count_refused third j in
-                      let z : ◌≡◌ {A = ℕ} 0 1 = cc in
-                      absurd (omega arith);
-                }
-
-            module _ {n z : ℕ} (j : h ≡ Next n z) where
-              locals-at : {c : RequiredContext} (k : Accepted b c) → (n ≡ entries c.args) × (k.locals ≡ from b z)
-              locals-at k = list_tallied (read_variables (from b y)) (args_are k) (count_is third j)
-
-              module _ {l : Counted} (fourth : Counts b z (counted (read_variables (from b z))) l) where
-                locals_are : {c : RequiredContext} (k : Accepted b c) → read_variables (from b z) ≡ got c.locals []
-                locals_are k = sym (ap read_variables (locals-at k).1) ∙ k.locals_is
-
-                pub no_locals : l ≡ Malformed → PiecesCounted b 0
-                unfolding counted
-                no_locals o =
-                    record {
-                      is =
-                          λ c k.
-                          let q = ap counted (locals_are (accepted k)) in
-                          let s = count_refused fourth o in
-                          let w : ◌≡◌ {A = ℕ} 0 1 = cc in
-                          absurd (omega arith);
-                    }
-
-                module _ {o w : ℕ} (q : l ≡ Next o w) where
-                  pub pieces_fit : 4 * (m + o + n + r) + 4 ≤ length b
-                  pieces_fit =
-                      let u = count_placed first e in
-                      let v = count_placed second f in
-                      let s = count_placed third j in
-                      let t = count_placed fourth q in
-                      omega (arith, u.0, v.0, s.0, t.0, t.1)
-
-                  pub pieces_are : PiecesCounted b (m + o + n + r)
-                  unfolding pieces
-                  pieces_are =
-                      record {
-                        is =
-                            λ c k.
-                            let s = accepted k in
-                            let t = list_tallied (read_variables (from b z)) (locals_are s) (count_is fourth q) in
-                            rw ((lists_at s).0, (args_at s).0, (locals-at s).0, t.0);
-                      }
+          pub pieces_are : PiecesCounted b (m + o + n + r)
+          unfolding pieces
+          pieces_are =
+              record {
+                is =
+                    λ c k.
+                    let s = accepted k in
+                    let t = list_tallied (read_variables (from b z)) (locals_are s) (sym fourth.is) in
+                    rw ((lists_at s).0, (args_at s).0, (locals-at s).0, t.0);
+              }

@@ -3,13 +3,13 @@
 use Prim.Native.Nat.{ℕ, ◌+◌, ◌-◌, ◌≤◌, ◌<◌}
 use native.Mathlib.Omega.{arith}
 use native.Mathlib.Decide.{dec_lt}
-use mathlib.Core.Path.{◌≡◌, refl, ap, sym, subst, ◌∙◌}
-use mathlib.Core.Bool.{Bool, true, false, cond}
+use mathlib.Core.Path.{◌≡◌, refl, ap, sym, ◌∙◌}
+use mathlib.Core.Bool.{cond}
 use mathlib.Core.List.{List}
 use mathlib.Core.Option.{Option, some, none as nothing}
 use lib.Dec.{ltb, eqb}
 use lib.ListN.{length}
-use borrow.Author.Tests.{le-ltb, ne_eqb}
+use borrow.Author.Tests.{lt-ltb, le-ltb, eq-eqb, ne_eqb}
 use Rattle.field.specs.Limits.{max_depth}
 use Rattle.part.specs.PartReq.{PartReq, none, contains, is_exist, spine}
 use Rattle.part.specs.Store.{top, part, Good, Seen}
@@ -17,25 +17,19 @@ use Rattle.part.proofs.Pieces.{part-0, part-1, part-2, part-cell, not_exist}
 use Rattle.part.proofs.Equations.{contains-exist, contains-all, contains-none, all_contains, exist-contains, none-contains}
 use Rattle.request.specs.Fields.{malformed, got}
 use Rattle.request.specs.Part.{read_part, read_entries, read_variables}
-use Rattle.request.specs.Answers.{from}
+use Rattle.request.specs.Answers.{from, Field}
 use Rattle.request.proofs.Bytes.{from_end}
-use Rattle.request.proofs.Entries.{Field, Index, index_next, entries_none}
-use Rattle.context_bytes.specs.declared.codes.Code.{Code}
-use Rattle.context_bytes.specs.declared.codes.Code.TheVariants as codes
-use Rattle.context_bytes.specs.declared.cover.Asks.{Asks}
-use Rattle.context_bytes.specs.declared.cover.Asks.TheVariants.{Other, Of}
-use Rattle.context_bytes.specs.declared.cover.Covered.{Covered}
-use Rattle.context_bytes.specs.declared.cover.Covered.TheVariants.{No, Next}
-use Rattle.context_bytes.specs.Codes.{CodeWasRead, by_answer}
-use Rattle.context_bytes.specs.Checked.{Within}
-use Rattle.context_bytes.specs.Covered.{covers, other, each, asks, asks_answer, AsksPlaced, AsksPieces, cover_answer, CoverPlaced, Covers}
-use Rattle.context_bytes.proofs.Checked.{all_inside, exist_inside}
+use Rattle.request.proofs.Entries.{Index, index_next, entries_none}
+use Rattle.std.specs.Prelude.{Option as Maybe, Some, None}
+use Rattle.request.specs.declared.codes.Code.TheVariants.{All, Exist, Entries}
+use Rattle.request.specs.Codes.{CodeWasRead}
+use Rattle.context_bytes.specs.Covered.{covers, each, asks, AsksPieces, CoverPlaced, Covers}
 use Rattle.context_bytes.proofs.Lists.{variables_are}
 use Rattle.context_bytes.proofs.Asking.{asks-before, asks_after, asks_at, covers-other, covers-not, covers-rest}
 
 -- what a need asks of a first entry
 module _ {s : List ℕ} {n : ℕ} (i : ℕ) (g : Good s) (inside : n < top s) where
-  pub ask-all : n ≡ 0 → AsksPieces s n i Other
+  pub ask-all : n ≡ 0 → AsksPieces s n i None
   unfolding asks
   ask-all e = record { is = rw (e, part-0 s); placed = tt }
 
@@ -47,54 +41,26 @@ module _ {s : List ℕ} {n : ℕ} (i : ℕ) (g : Good s) (inside : n < top s) wh
         | no l ↦ let e : n ≡ 2 = omega arith in rw (e, part-1 s, part-2 s)
       ]
 
-  pub ask_plain : n < 3 → (n ≡ 0 → ⊥) → AsksPieces s n i (Of 1 n)
+  pub ask_plain : n < 3 → (n ≡ 0 → ⊥) → AsksPieces s n i (Some (1, n))
   ask_plain h z = record { is = plain h z; placed = (omega (arith, g.base), inside) }
 
   module _ {j c r : ℕ} (seen : Seen s n j c r) where
-    pub ask_later : i < j → AsksPieces s n i (Of 1 n)
+    pub ask_later : i < j → AsksPieces s n i (Some (1, n))
     ask_later h =
         record {
           is = rw (part-1 s, seen.is) (sym (asks-before i j (part s c) (part s r) h));
           placed = (omega (arith, g.base), inside);
         }
 
-    pub ask_passed : j < i → AsksPieces s n i Other
+    pub ask_passed : j < i → AsksPieces s n i None
     ask_passed h = record { is = rw seen.is (sym (asks_after i j (part s c) (part s r) h)); placed = tt }
 
-    pub ask_here : j ≤ i → i ≤ j → AsksPieces s n i (Of c r)
+    pub ask_here : j ≤ i → i ≤ j → AsksPieces s n i (Some (c, r))
     ask_here h l =
         record {
           is = rw seen.is (sym (asks_at i j (part s c) (part s r) (omega arith)));
           placed = (omega (arith, seen.child_low), omega (arith, seen.rest_low));
         }
-
--- what a call answered
-module _ {s : List ℕ} {n i : ℕ} {a : Asks} (was : AsksPieces s n i a) where
-  pub asks-other : a ≡ Other → asks (part s n) i ≡ other
-  asks-other e = sym was.is ∙ ap (asks_answer s) e
-
-  module _ {c r : ℕ} (e : a ≡ Of c r) where
-    pub asks-each : asks (part s n) i ≡ each (part s c) (part s r)
-    asks-each = sym was.is ∙ ap (asks_answer s) e
-
-    pub asks_placed : (c < top s) × (r < top s)
-    asks_placed = subst (AsksPlaced s) e was.placed
-
-module _ {b : List ℕ} {at : ℕ} {r : Option (List ℕ)} {a : Covered} (was : Covers b at r a) where
-  pub not_covered : a ≡ No → r ≡ nothing
-  not_covered e = sym was.is ∙ ap (cover_answer b) e
-
-  module _ {next : ℕ} (e : a ≡ Next next) where
-    pub is_covered : r ≡ some (from b next)
-    is_covered = sym was.is ∙ ap (cover_answer b) e
-
-    pub cover_placed : Within b at next
-    cover_placed = subst (CoverPlaced b at) e was.placed
-
--- the answer of `next_if`
-chosen : {b : List ℕ} {at next : ℕ} (v : Bool) (a : Covered) → Within b at next → a ≡ cond v (Next next) No → Covers b at (cond v (some (from b next)) nothing) a
-chosen {b} {at} true a h e = record { is = ap (cover_answer b) e; placed = subst (CoverPlaced b at) (sym e) h }
-chosen {b} {at} false a h e = record { is = ap (cover_answer b) e; placed = subst (CoverPlaced b at) (sym e) tt }
 
 is-exist : (s : List ℕ) (n : ℕ) → is_exist (part s n) ≡ eqb n 1
 is-exist s n =
@@ -107,34 +73,36 @@ is-exist s n =
           ]
     ]
 
+sooner : (b : List ℕ) (at at' : ℕ) (a : Maybe ℕ) → at ≤ at' → CoverPlaced b at' a → CoverPlaced b at a
+sooner b at at' None h p = tt
+sooner b at at' (Some next) h p = (omega (arith, p.0), p.1)
+
 -- a part, by its code
-module _ (s : List ℕ) (n : ℕ) {b : List ℕ} {at d : ℕ} {c : Code} (was : CodeWasRead b at d c) where
-  coded : {x : Code} → c ≡ x → read_part d (from b at) ≡ by_answer b at d x
-  coded e = was.is ∙ ap (by_answer b at d) e
-
-  pub part_no : c ≡ codes.Malformed → Covers b at (covers (part s n) (read_part d (from b at))) No
+module _ (s : List ℕ) (n : ℕ) {b : List ℕ} {at d : ℕ} where
+  pub part_no : CodeWasRead b at d None → Covers b at (covers (part s n) (read_part d (from b at))) None
   unfolding covers
-  part_no e = record { is = sym (ap (covers (part s n)) (coded e)); placed = tt }
+  part_no was = record { is = sym (ap (covers (part s n)) was.is); placed = tt }
 
-  pub part_all : c ≡ codes.All → Covers b at (covers (part s n) (read_part d (from b at))) (Next (at + 2))
+  pub part_all : CodeWasRead b at d (Some All) → Covers b at (covers (part s n) (read_part d (from b at))) (Some (at + 2))
   unfolding covers
-  part_all e = record { is = sym (ap (covers (part s n)) (coded e) ∙ rw (all_contains (part s n))); placed = (omega arith, all_inside was e) }
+  part_all was = record { is = sym (ap (covers (part s n)) was.is ∙ rw (all_contains (part s n))); placed = (omega arith, was.placed) }
 
-  pub part_exist : {a : Covered} → c ≡ codes.Exist → a ≡ cond (eqb n 1) (Next (at + 2)) No → Covers b at (covers (part s n) (read_part d (from b at))) a
-  unfolding covers
-  part_exist {a} e h =
-      let k : Covers b at (cond (eqb n 1) (some (from b (at + 2))) nothing) a = chosen (eqb n 1) a (omega arith, exist_inside was e) h in
-      record { is = k.is ∙ sym (ap (covers (part s n)) (coded e) ∙ rw (exist-contains (part s n), is-exist s n)); placed = k.placed }
+  module _ (was : CodeWasRead b at d (Some Exist)) where
+    exist_covers : covers (part s n) (read_part d (from b at)) ≡ cond (eqb n 1) (some (from b (at + 2))) nothing
+    unfolding covers
+    exist_covers = ap (covers (part s n)) was.is ∙ rw (exist-contains (part s n), is-exist s n)
 
-  sooner : (at' : ℕ) (a : Covered) → at ≤ at' → CoverPlaced b at' a → CoverPlaced b at a
-  sooner at' No h p = tt
-  sooner at' (Next next) h p = (omega (arith, p.0), p.1)
+    pub part_exist : n ≡ 1 → Covers b at (covers (part s n) (read_part d (from b at))) (Some (at + 2))
+    part_exist e = record { is = sym (exist_covers ∙ rw (eq-eqb n 1 e)); placed = (omega arith, was.placed) }
 
-  pub part-entries : {k : ℕ} {a : Covered} → c ≡ codes.Entries k
+    pub part_more : (n ≡ 1 → ⊥) → Covers b at (covers (part s n) (read_part d (from b at))) None
+    part_more h = record { is = sym (exist_covers ∙ rw (ne_eqb n 1 h)); placed = tt }
+
+  pub part-entries : {k : ℕ} {a : Maybe ℕ} → CodeWasRead b at d (Some (Entries k))
       → Covers b (at + 2 + 2) (covers (part s n) (read_entries (read_part (d - 1)) 0 0 k (from b (at + 2 + 2)))) a
       → Covers b at (covers (part s n) (read_part d (from b at))) a
-  part-entries {k} {a} e h =
-      record { is = h.is ∙ sym (ap (covers (part s n)) (coded e)); placed = sooner (at + 2 + 2) a (omega arith) h.placed }
+  part-entries {k} {a} was h =
+      record { is = h.is ∙ sym (ap (covers (part s n)) was.is); placed = sooner b at (at + 2 + 2) a (omega arith) h.placed }
 
 -- entries
 pub record Covering (s b : List ℕ) (n at d base k next low left m : ℕ) : Type 0 where
@@ -150,40 +118,39 @@ module _ {s b : List ℕ} {n at d base k next low left m : ℕ} (so : Covering s
   abbrev total : Option (List ℕ)
   total = covers (part s n) (read_entries (read_part d) base 0 k (from b at))
 
-  none_left : covers (part s m) (read_entries (read_part d) base low left (from b next)) ≡ nothing → Covers b at total No
+  none_left : covers (part s m) (read_entries (read_part d) base low left (from b next)) ≡ nothing → Covers b at total None
   none_left e = record { is = sym e ∙ so.rest; placed = tt }
 
-  pub cover_stop : read_entries (read_part d) base low left (from b next) ≡ malformed → Covers b at total No
+  pub cover_stop : read_entries (read_part d) base low left (from b next) ≡ malformed → Covers b at total None
   unfolding covers
   cover_stop e = none_left (rw e)
 
-  module _ {i j : ℕ} (x : Index b next low left i j) {a : Asks} (was : AsksPieces s m (base + i) a) where
-    pub cover_other : a ≡ Other → Covers b at total No
-    cover_other e =
+  module _ {i j : ℕ} (x : Index b next low left i j) where
+    pub cover_other : AsksPieces s m (base + i) None → Covers b at total None
+    cover_other was =
         none_left
         (ap (covers (part s m)) (index_next x base d)
-        ∙ covers-other (part s m) (base + i) (read_part d (from b (next + 2))) (read_part d) base (i + 1) j (asks-other was e))
+        ∙ covers-other (part s m) (base + i) (read_part d (from b (next + 2))) (read_part d) base (i + 1) j (sym was.is))
 
-    module _ {c r : ℕ} (e : a ≡ Of c r) {o : Covered} (part-was : Covers b (next + 2) (covers (part s c) (read_part d (from b (next + 2)))) o) where
-      pub cover_not : o ≡ No → Covers b at total No
-      cover_not h =
+    module _ {c r : ℕ} (was : AsksPieces s m (base + i) (Some (c, r))) where
+      pub cover_not : Covers b (next + 2) (covers (part s c) (read_part d (from b (next + 2)))) None → Covers b at total None
+      cover_not part-was =
           none_left
           (ap (covers (part s m)) (index_next x base d)
-          ∙ covers-not (part s m) (base + i) (read_part d (from b (next + 2))) (read_part d) base (i + 1) j (asks-each was e)
-          (not_covered part-was h))
+          ∙ covers-not (part s m) (base + i) (read_part d (from b (next + 2))) (read_part d) base (i + 1) j (sym was.is) (sym part-was.is))
 
-      pub cover_again : {end : ℕ} → o ≡ Next end → Covering s b n at d base k end (i + 1) j r
-      cover_again h =
-          let w = cover_placed part-was h in
+      pub cover_again : {end : ℕ} → Covers b (next + 2) (covers (part s c) (read_part d (from b (next + 2)))) (Some end)
+          → Covering s b n at d base k end (i + 1) j r
+      cover_again part-was =
+          let w = part-was.placed in
           record {
-            piece = (asks_placed was e).1;
+            piece = was.placed.1;
             further = omega (arith, w.0, so.further);
             inside = w.1;
             rest =
                 sym
                 (ap (covers (part s m)) (index_next x base d)
-                ∙ covers-rest (part s m) (base + i) (read_part d (from b (next + 2))) (read_part d) base (i + 1) j (asks-each was e)
-                (is_covered part-was h))
+                ∙ covers-rest (part s m) (base + i) (read_part d (from b (next + 2))) (read_part d) base (i + 1) j (sym was.is) (sym part-was.is))
                 ∙ so.rest;
           }
 
@@ -191,7 +158,7 @@ module _ {s b : List ℕ} {n at d base k next low left m : ℕ} (so : Covering s
     at_end : covers (part s m) (got none (from b next)) ≡ total
     at_end = sym (ap (covers (part s m)) (entries_none (read_part d) base low left (from b next) done)) ∙ so.rest
 
-    pub cover_all : m ≡ 0 → Covers b at total No
+    pub cover_all : m ≡ 0 → Covers b at total None
     unfolding covers
     cover_all e = record { is = sym (rw (e, part-0 s, contains-all none)) ∙ at_end; placed = tt }
 
@@ -209,22 +176,20 @@ module _ {s b : List ℕ} {n at d base k next low left m : ℕ} (so : Covering s
               rw (part-cell s m h sound.child_low sound.rest_low, le-ltb m 3 (omega arith)) (none-contains _ _ _)
         ]
 
-    pub cover_done : {a : Covered} → Good s → (m ≡ 0 → ⊥) → a ≡ cond (ltb m 3) (Next next) No → Covers b at total a
+    pub cover_more : Good s → (m ≡ 0 → ⊥) → 3 ≤ m → Covers b at total None
     unfolding covers
-    cover_done {a} g z e =
-        let w = chosen (ltb m 3) a (so.further, so.inside) e in
-        record { is = w.is ∙ rw (← none_has g z) at_end; placed = w.placed }
+    cover_more g z h = record { is = sym (rw (none_has g z, le-ltb m 3 h)) ∙ at_end; placed = tt }
+
+    pub cover_done : Good s → (m ≡ 0 → ⊥) → m < 3 → Covers b at total (Some next)
+    unfolding covers
+    cover_done g z h = record { is = sym (rw (none_has g z, lt-ltb m 3 h)) ∙ at_end; placed = (so.further, so.inside) }
 
 -- a list of variables
-pub list_short : (q : PartReq) (b : List ℕ) (at : ℕ) → length b < at + 2 → Covers b at (covers q (read_variables (from b at))) No
+pub list_short : (q : PartReq) (b : List ℕ) (at : ℕ) → length b < at + 2 → Covers b at (covers q (read_variables (from b at))) None
 unfolding read_variables covers
 list_short q b at h = record { is = rw (from_end b at h); placed = tt }
 
-earlier : (b : List ℕ) (at : ℕ) (a : Covered) → CoverPlaced b (at + 2) a → CoverPlaced b at a
-earlier b at No h = tt
-earlier b at (Next next) h = (omega (arith, h.0), h.1)
-
-pub list_covered : (q : PartReq) {b : List ℕ} {at n : ℕ} {a : Covered} → Field b at n
+pub list_covered : (q : PartReq) {b : List ℕ} {at n : ℕ} {a : Maybe ℕ} → Field b at n
     → Covers b (at + 2) (covers q (read_entries (read_part max_depth) spine 0 n (from b (at + 2)))) a → Covers b at (covers q (read_variables (from b at))) a
 list_covered q {b} {at} {n} {a} f was =
-    record { is = was.is ∙ sym (ap (covers q) (variables_are f)); placed = earlier b at a was.placed }
+    record { is = was.is ∙ sym (ap (covers q) (variables_are f)); placed = sooner b at (at + 2) a (omega arith) was.placed }

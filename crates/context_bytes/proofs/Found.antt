@@ -7,28 +7,23 @@ use mathlib.Core.List.{List}
 use lib.ListN.{length}
 use borrow.Author.Tests.{lt-ltb, le-ltb}
 use Rattle.field.specs.Limits.{max_depth}
-use Rattle.part.specs.PartReq.{PartReq, all, exist, none, more, is_all, is_exist, Subpart, gone, there, get_subpart, spine}
+use Rattle.part.specs.PartReq.{PartReq, all, exist, none, more, is_all, is_exist, gone, there, get_subpart, spine}
 use Rattle.context.specs.RequiredContext.{RequiredContext, variable}
 use Rattle.request.specs.Fields.{Read, malformed, got}
 use Rattle.request.specs.Part.{read_part, read_entries, read_return, read_variables}
 use Rattle.request.specs.Context.{is_context}
-use Rattle.request.specs.Answers.{from}
+use Rattle.request.specs.Answers.{from, Field}
 use Rattle.request.proofs.Bytes.{from_end}
-use Rattle.request.proofs.Entries.{Field, Index, index_next, entries_none}
-use Rattle.context_bytes.specs.declared.codes.Code.{Code}
-use Rattle.context_bytes.specs.declared.codes.Code.TheVariants as codes
-use Rattle.context_bytes.specs.declared.check.Skipped.{Skipped}
-use Rattle.context_bytes.specs.declared.check.Skipped.TheVariants as skips
-use Rattle.context_bytes.specs.declared.check.Checked.{Checked}
-use Rattle.context_bytes.specs.declared.check.Checked.TheVariants as checks
-use Rattle.context_bytes.specs.declared.find.Found.{Found}
-use Rattle.context_bytes.specs.declared.find.Found.TheVariants.{Gone, There}
-use Rattle.context_bytes.specs.Codes.{CodeWasRead, by_answer}
+use Rattle.request.proofs.Entries.{Index, index_next, entries_none}
+use Rattle.std.specs.Prelude.{Option as Maybe, Some, None}
+use Rattle.request.specs.declared.codes.Code.{Code}
+use Rattle.request.specs.declared.codes.Code.TheVariants.{All, Exist, Entries}
+use Rattle.request.specs.Codes.{CodeWasRead, by_answer}
 use Rattle.context_bytes.specs.Checked.{checked, Skips, Checks}
 use Rattle.context_bytes.specs.Found.{value_of, part_at, Readable, SubpartAt, EntryFound, VariableFound, list_at, ListAt, ArgsAt}
 use Rattle.context_bytes.proofs.Accepted.{Accepted, accepted, bound}
 use Rattle.context_bytes.proofs.Asking.{read_list}
-use Rattle.context_bytes.proofs.Checked.{skip_refused, skip_passed, skip_placed, check_refused, check_read, check_placed}
+use Rattle.context_bytes.proofs.Checked.{skip_refused, skip_passed}
 use Rattle.context_bytes.proofs.Lists.{listed, unlisted, variables_are}
 
 -- what was read
@@ -102,10 +97,10 @@ first {b} {d} {base} {next} {j = j} {k} {list} {fs} x e =
     }
 
 module _ {b : List ℕ} {at d n i next low left : ℕ} (so : Finding b at d n i next low left) where
-  nowhere : ((base : ℕ) (p : PartReq) (fs : List ℕ) → read_entries (read_part d) base 0 n (from b at) ≡ got p fs → get_subpart p (base + i) ≡ gone) → EntryFound b at d n i Gone
+  nowhere : ((base : ℕ) (p : PartReq) (fs : List ℕ) → read_entries (read_part d) base 0 n (from b at) ≡ got p fs → get_subpart p (base + i) ≡ gone) → EntryFound b at d n i None
   nowhere h = record { is = h }
 
-  pub finding_stop : ((base : ℕ) → read_entries (read_part d) base low left (from b next) ≡ malformed) → EntryFound b at d n i Gone
+  pub finding_stop : ((base : ℕ) → read_entries (read_part d) base low left (from b next) ≡ malformed) → EntryFound b at d n i None
   finding_stop h =
       nowhere
       (λ base p fs e.
@@ -114,7 +109,7 @@ module _ {b : List ℕ} {at d n i next low left : ℕ} (so : Finding b at d n i 
       let z : ◌≡◌ {A = ℕ} 0 1 = cc in
       absurd (omega arith))
 
-  pub finding_done : left ≡ 0 → EntryFound b at d n i Gone
+  pub finding_done : left ≡ 0 → EntryFound b at d n i None
   unfolding get_subpart
   finding_done z =
       nowhere
@@ -125,7 +120,7 @@ module _ {b : List ℕ} {at d n i next low left : ℕ} (so : Finding b at d n i 
       l.same ∙ rw is)
 
   module _ {j k : ℕ} (x : Index b next low left j k) where
-    pub finding_before : i < j → EntryFound b at d n i Gone
+    pub finding_before : i < j → EntryFound b at d n i None
     finding_before h =
         nowhere
         (λ base p fs e.
@@ -133,7 +128,7 @@ module _ {b : List ℕ} {at d n i next low left : ℕ} (so : Finding b at d n i 
         let f = first x l.is in
         l.same ∙ rw f.list_is (sub_before (base + i) (base + j) f.value f.others (omega arith)))
 
-    pub finding_here : i ≡ j → EntryFound b at d n i (There (next + 2) d)
+    pub finding_here : i ≡ j → EntryFound b at d n i (Some (next + 2, d))
     finding_here h =
         record {
           is =
@@ -144,71 +139,81 @@ module _ {b : List ℕ} {at d n i next low left : ℕ} (so : Finding b at d n i 
               (r.0, l.same ∙ rw (f.list_is, r.1) (sub_at (base + i) (base + j) f.value f.others (omega arith)));
         }
 
-    module _ {s : Skipped} (was : Skips b (next + 2) (read_part d (from b (next + 2))) s) where
-      pub finding_no_part : s ≡ skips.Malformed → EntryFound b at d n i Gone
-      finding_no_part e =
-          nowhere
-          (λ base p fs g.
-          let f = (first x (so.later base p fs g).is).part_is in
-          let m = skip_refused was e in
-          let z : ◌≡◌ {A = ℕ} 0 1 = cc in
-          absurd (omega arith))
+    pub finding_no_part : Skips b (next + 2) (read_part d (from b (next + 2))) None → EntryFound b at d n i None
+    finding_no_part was =
+        nowhere
+        (λ base p fs g.
+        let f = (first x (so.later base p fs g).is).part_is in
+        let m = skip_refused was in
+        let z : ◌≡◌ {A = ℕ} 0 1 = cc in
+        absurd (omega arith))
 
-      pub finding_again : {end : ℕ} → s ≡ skips.Next end → j ≤ i → (i ≡ j → ⊥) → Finding b at d n i end (j + 1) k
-      finding_again {end} e h ne =
-          record {
-            inside = (skip_placed was e).1;
-            later =
-                λ base p fs g.
-                let l = so.later base p fs g in
-                let f = first x l.is in
-                let q = (skip_passed was e).is in
-                let m = f.part_is in
-                let there' : f.after ≡ from b end = cc in
-                let above : base + j < base + i = omega (arith, ne) in
-                record {
-                  list = f.others;
-                  is = sym (ap (read_entries (read_part d) base (j + 1) k) there') ∙ f.others_are;
-                  same = l.same ∙ ap (λ x. get_subpart x (base + i)) f.list_is ∙ sub_after (base + i) (base + j) f.value f.others above;
-                };
-          }
+    pub finding_again : {end : ℕ} → Skips b (next + 2) (read_part d (from b (next + 2))) (Some end) → j ≤ i → (i ≡ j → ⊥) → Finding b at d n i end (j + 1) k
+    finding_again {end} was h ne =
+        record {
+          inside = was.placed.1;
+          later =
+              λ base p fs g.
+              let l = so.later base p fs g in
+              let f = first x l.is in
+              let q = (skip_passed was).is in
+              let m = f.part_is in
+              let there' : f.after ≡ from b end = cc in
+              let above : base + j < base + i = omega (arith, ne) in
+              record {
+                list = f.others;
+                is = sym (ap (read_entries (read_part d) base (j + 1) k) there') ∙ f.others_are;
+                same = l.same ∙ ap (λ x. get_subpart x (base + i)) f.list_is ∙ sub_after (base + i) (base + j) f.value f.others above;
+              };
+        }
 
 -- a part, by its code
-module _ {b : List ℕ} {at d : ℕ} (R : Readable b at d) {c : Code} (was : CodeWasRead b at d c) where
-  coded : {x : Code} → c ≡ x → by_answer b at d x ≡ got (part_at b at d) R.rest
-  coded e = sym (was.is ∙ ap (by_answer b at d) e) ∙ R.is
+module _ {b : List ℕ} {at d : ℕ} (R : Readable b at d) where
+  coded : {c : Maybe Code} → CodeWasRead b at d c → by_answer b at d c ≡ got (part_at b at d) R.rest
+  coded was = sym was.is ∙ R.is
 
-  pub never : {A : Type 0} → c ≡ codes.Malformed → A
-  never e = let h = coded e in let z : ◌≡◌ {A = ℕ} 0 1 = cc in absurd (omega arith)
+  pub never : {A : Type 0} → CodeWasRead b at d None → A
+  never was = let h = coded was in let z : ◌≡◌ {A = ℕ} 0 1 = cc in absurd (omega arith)
 
-  pub it_is_all : c ≡ codes.All → all ≡ part_at b at d
-  it_is_all e = let h = coded e in cc
+  it_is_all : CodeWasRead b at d (Some All) → all ≡ part_at b at d
+  it_is_all was = let h = coded was in cc
 
-  pub it_is_exist : c ≡ codes.Exist → exist ≡ part_at b at d
-  it_is_exist e = let h = coded e in cc
+  it_is_exist : CodeWasRead b at d (Some Exist) → exist ≡ part_at b at d
+  it_is_exist was = let h = coded was in cc
 
-  pub found_all : c ≡ codes.All → (i : ℕ) → SubpartAt b (get_subpart (part_at b at d) i) (There at d)
+  pub found_all : CodeWasRead b at d (Some All) → (i : ℕ) → SubpartAt b (get_subpart (part_at b at d) i) (Some (at, d))
   unfolding get_subpart
-  found_all e i = (R, rw (← it_is_all e))
+  found_all was i = (R, rw (← it_is_all was))
 
-  pub found_exist : c ≡ codes.Exist → (i : ℕ) → get_subpart (part_at b at d) i ≡ gone
+  pub found_exist : CodeWasRead b at d (Some Exist) → (i : ℕ) → get_subpart (part_at b at d) i ≡ gone
   unfolding get_subpart
-  found_exist e i = rw (← it_is_exist e)
+  found_exist was i = rw (← it_is_exist was)
 
-  module _ {n : ℕ} (e : c ≡ codes.Entries n) where
-    pub found_entry : (i : ℕ) {a : Found} → EntryFound b (at + 2 + 2) (d - 1) n i a → SubpartAt b (get_subpart (part_at b at d) i) a
+  module _ {n : ℕ} (was : CodeWasRead b at d (Some (Entries n))) where
+    pub found_entry : (i : ℕ) {a : Maybe (ℕ × ℕ)} → EntryFound b (at + 2 + 2) (d - 1) n i a → SubpartAt b (get_subpart (part_at b at d) i) a
     found_entry i {a} was' =
         let z : 0 + i ≡ i = omega arith in
-        subst (λ x. SubpartAt b (get_subpart (part_at b at d) x) a) z (was'.is 0 (part_at b at d) R.rest (coded e))
+        subst (λ x. SubpartAt b (get_subpart (part_at b at d) x) a) z (was'.is 0 (part_at b at d) R.rest (coded was))
 
-    pub listed_not_all : false ≡ is_all (part_at b at d)
-    listed_not_all = sym (read_list (read_part (d - 1)) 0 0 n (from b (at + 2 + 2)) (coded e)).0
+    listed_not_all : is_all (part_at b at d) ≡ false
+    listed_not_all = (read_list (read_part (d - 1)) 0 0 n (from b (at + 2 + 2)) (coded was)).0
 
-    pub listed_not_exist : false ≡ is_exist (part_at b at d)
-    listed_not_exist = sym (read_list (read_part (d - 1)) 0 0 n (from b (at + 2 + 2)) (coded e)).1
+    listed_not_exist : is_exist (part_at b at d) ≡ false
+    listed_not_exist = (read_list (read_part (d - 1)) 0 0 n (from b (at + 2 + 2)) (coded was)).1
+
+  -- another code
+  pub not_all : (c : Code) → CodeWasRead b at d (Some c) → (c ≡ All → ⊥) → false ≡ is_all (part_at b at d)
+  not_all All was h = absurd (h refl)
+  not_all Exist was h = ap is_all (it_is_exist was)
+  not_all (Entries n) was h = sym (listed_not_all was)
+
+  pub not_exist : (c : Code) → CodeWasRead b at d (Some c) → (c ≡ Exist → ⊥) → false ≡ is_exist (part_at b at d)
+  not_exist All was h = ap is_exist (it_is_all was)
+  not_exist Exist was h = absurd (h refl)
+  not_exist (Entries n) was h = sym (listed_not_exist was)
 
 -- a list of variables
-pub variable_short : (b : List ℕ) (at i : ℕ) → length b < at + 2 → VariableFound b at i Gone
+pub variable_short : (b : List ℕ) (at i : ℕ) → length b < at + 2 → VariableFound b at i None
 unfolding read_variables
 variable_short b at i h =
     record {
@@ -219,16 +224,8 @@ variable_short b at i h =
           absurd (omega arith);
     }
 
-pub variable_found : {b : List ℕ} {at n i : ℕ} {a : Found} → Field b at n → EntryFound b (at + 2) max_depth n i a → VariableFound b at i a
+pub variable_found : {b : List ℕ} {at n i : ℕ} {a : Maybe (ℕ × ℕ)} → Field b at n → EntryFound b (at + 2) max_depth n i a → VariableFound b at i a
 variable_found f was = record { is = λ p fs e. was.is spine p fs (sym (variables_are f) ∙ e) }
-
--- what a call answered
-module _ (b : List ℕ) (sub : Subpart) (a : Found) (was : SubpartAt b sub a) where
-  pub sub-gone : a ≡ Gone → sub ≡ gone
-  sub-gone e = subst (SubpartAt b sub) e was
-
-  pub sub-there : {at d : ℕ} → a ≡ There at d → Readable b at d × (sub ≡ there (part_at b at d))
-  sub-there e = subst (SubpartAt b sub) e was
 
 -- where the arguments stand
 module _ {b : List ℕ} where
@@ -238,34 +235,33 @@ module _ {b : List ℕ} where
   pub args_unframed : {r : Bool} → r ≡ is_context b → r ≡ false → ArgsAt b 0
   args_unframed is h = nothing_there (λ c k. let f = k.framed in let z : ◌≡◌ {A = ℕ} 0 1 = cc in omega arith)
 
-  module _ {s : Skipped} (was : Skips b 6 (read_return (from b 6)) s) where
-    pub args_no_return : s ≡ skips.Malformed → ArgsAt b 0
-    args_no_return e =
-        let m = skip_refused was e in
-        nothing_there (λ c k. let f = k.return_is in let z : ◌≡◌ {A = ℕ} 0 1 = cc in omega arith)
+  pub args_no_return : Skips b 6 (read_return (from b 6)) None → ArgsAt b 0
+  args_no_return was =
+      let m = skip_refused was in
+      nothing_there (λ c k. let f = k.return_is in let z : ◌≡◌ {A = ℕ} 0 1 = cc in omega arith)
 
-    module _ {at : ℕ} (e : s ≡ skips.Next at) {a : Checked} (list : Checks b at (checked (variable 0) (read_variables (from b at))) a) where
-      globals-at : {c : RequiredContext} (k : Accepted b c) → read_variables (from b at) ≡ got c.globals k.args
-      globals-at k =
-          let m = (skip_passed was e).is in
-          let f = k.return_is in
-          let same : k.lists ≡ from b at = cc in
-          sym (ap read_variables same) ∙ k.globals_is
+  module _ {at : ℕ} (was : Skips b 6 (read_return (from b 6)) (Some at)) where
+    globals-at : {c : RequiredContext} (k : Accepted b c) → read_variables (from b at) ≡ got c.globals k.args
+    globals-at k =
+        let m = (skip_passed was).is in
+        let f = k.return_is in
+        let same : k.lists ≡ from b at = cc in
+        sym (ap read_variables same) ∙ k.globals_is
 
-      pub args_no_globals : a ≡ checks.Malformed → ArgsAt b 0
-      args_no_globals h =
-          let m = unlisted 0 (read_variables (from b at)) (check_refused list h) in
-          nothing_there (λ c k. let f = globals-at k in let z : ◌≡◌ {A = ℕ} 0 1 = cc in omega arith)
+    pub args_no_globals : Checks b at (checked (variable 0) (read_variables (from b at))) None → ArgsAt b 0
+    args_no_globals list =
+        let m = unlisted 0 (read_variables (from b at)) (sym list.is) in
+        nothing_there (λ c k. let f = globals-at k in let z : ◌≡◌ {A = ℕ} 0 1 = cc in omega arith)
 
-      pub args_here : {known : Bool} {next : ℕ} → a ≡ checks.Next known next → ArgsAt b next
-      args_here {next = next} h =
-          let g = listed 0 (read_variables (from b at)) (check_read list h) in
-          record {
-            is =
-                λ c k.
-                let so = accepted k in
-                let f = globals-at so in
-                let m = g.is in
-                let same : so.args ≡ from b next = cc in
-                record { inside = (check_placed list h).1; rest = so.locals; is = sym (ap read_variables same) ∙ so.args_is };
-          }
+    pub args_here : {known : Bool} {next : ℕ} → Checks b at (checked (variable 0) (read_variables (from b at))) (Some (known, next)) → ArgsAt b next
+    args_here {next = next} list =
+        let g = listed 0 (read_variables (from b at)) (sym list.is) in
+        record {
+          is =
+              λ c k.
+              let so = accepted k in
+              let f = globals-at so in
+              let m = g.is in
+              let same : so.args ≡ from b next = cc in
+              record { inside = list.placed.1; rest = so.locals; is = sym (ap read_variables same) ∙ so.args_is };
+        }

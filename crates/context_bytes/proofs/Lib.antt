@@ -1,4 +1,3 @@
-pub mod Steps
 pub mod Checked
 pub mod Lists
 pub mod Asking

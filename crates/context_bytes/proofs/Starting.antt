@@ -19,15 +19,11 @@ use Rattle.needs.specs.Path.{Piece}
 use Rattle.request.specs.Part.{read_return, read_variables}
 use Rattle.request.specs.Context.{is_context}
 use Rattle.request.specs.Answers.{from}
-use Rattle.context_bytes.specs.declared.check.Skipped.{Skipped}
-use Rattle.context_bytes.specs.declared.check.Skipped.TheVariants as skips
-use Rattle.context_bytes.specs.declared.cover.Covered.{Covered}
-use Rattle.context_bytes.specs.declared.cover.Covered.TheVariants.{No, Next}
+use Rattle.std.specs.Prelude.{Option as Maybe, Some, None, is_some as has_some}
 use Rattle.context_bytes.specs.Checked.{Skips}
 use Rattle.context_bytes.specs.Covered.{covers, Covers, after, is_some, lists_cover, CoversContext}
 use Rattle.context_bytes.proofs.Accepted.{Accepted, accepted}
 use Rattle.context_bytes.proofs.Checked.{skip_refused, skip_passed}
-use Rattle.context_bytes.proofs.Covered.{not_covered, is_covered}
 
 -- whether an expression is needed: what is left of the need says it
 pub record Expressed (s : List ℕ) (n m : ℕ) : Type 0 where
@@ -67,19 +63,16 @@ module _ {s : List ℕ} {n m : ℕ} (so : Expressed s n m) where
   expressed_end h = plain_expressed h ∙ so.rest
 
 -- the two lists
-module _ (g a : PartReq) {b : List ℕ} {at : ℕ} {x : Covered} (first : Covers b at (covers g (read_variables (from b at))) x) where
-  pub lists_first : x ≡ No → false ≡ lists_cover g a (from b at)
+module _ (g a : PartReq) {b : List ℕ} {at : ℕ} where
+  pub lists_first : Covers b at (covers g (read_variables (from b at))) None → false ≡ lists_cover g a (from b at)
   unfolding lists_cover
-  lists_first e = rw (not_covered first e)
+  lists_first first = rw (← first.is)
 
-  module _ {next : ℕ} (e : x ≡ Next next) {y : Covered} (second : Covers b next (covers a (read_variables (from b next))) y) where
-    pub lists_second : y ≡ No → false ≡ lists_cover g a (from b at)
+  module _ {next : ℕ} (first : Covers b at (covers g (read_variables (from b at))) (Some next)) where
+    pub lists_both : (y : Maybe ℕ) → Covers b next (covers a (read_variables (from b next))) y → has_some y ≡ lists_cover g a (from b at)
     unfolding lists_cover
-    lists_second f = rw (is_covered first e, not_covered second f)
-
-    pub lists_both : {end : ℕ} → y ≡ Next end → true ≡ lists_cover g a (from b at)
-    unfolding lists_cover
-    lists_both f = rw (is_covered first e, is_covered second f)
+    lists_both None second = rw (← first.is, ← second.is)
+    lists_both (Some end) second = rw (← first.is, ← second.is)
 
 both_some : (x : Bool) (gs : List ℕ) (f : List ℕ → Option (List ℕ)) → is_some (after (cond x (some gs) nothing) f) ≡ x && is_some (f gs)
 both_some true gs f = refl
@@ -104,23 +97,22 @@ module _ (s : List ℕ) (n : ℕ) (b : List ℕ) where
   start_unframed is h =
       record { is = λ c marks k. let f = (accepted k).framed in let z : ◌≡◌ {A = ℕ} 0 1 = cc in absurd (omega arith) }
 
-  module _ {a : Skipped} (was : Skips b 6 (read_return (from b 6)) a) where
-    pub start_no_return : a ≡ skips.Malformed → CoversContext s n b false
-    start_no_return h =
-        let e = skip_refused was h in
-        record { is = λ c marks k. let f = (accepted k).return_is in let z : ◌≡◌ {A = ℕ} 0 1 = cc in absurd (omega arith) }
+  pub start_no_return : Skips b 6 (read_return (from b 6)) None → CoversContext s n b false
+  start_no_return was =
+      let e = skip_refused was in
+      record { is = λ c marks k. let f = (accepted k).return_is in let z : ◌≡◌ {A = ℕ} 0 1 = cc in absurd (omega arith) }
 
-    pub start_lists : {e r : Bool} {at g x : ℕ} → e ≡ needs_expression (part s n) → e ≡ false → a ≡ skips.Next at
-        → Piece s (below (part s n) (variable 0 ∷ [])) g → Piece s (below (part s n) (variable 2 ∷ [])) x
-        → r ≡ lists_cover (part s g) (part s x) (from b at) → CoversContext s n b r
-    unfolding starts
-    start_lists {e} {r} {at} {g} {x} is h next globals args covered =
-        let p = (skip_passed was next).is in
-        record {
-          is =
-              λ c marks k.
-              let so = accepted k in
-              let f = so.return_is in
-              let same : from b at ≡ so.lists = cc in
-              covered ∙ rw same (lists_are so (part s g) (part s x) ∙ rw (← is, h, globals.is, args.is));
-        }
+  pub start_lists : {e r : Bool} {at g x : ℕ} → Skips b 6 (read_return (from b 6)) (Some at) → e ≡ needs_expression (part s n) → e ≡ false
+      → Piece s (below (part s n) (variable 0 ∷ [])) g → Piece s (below (part s n) (variable 2 ∷ [])) x
+      → r ≡ lists_cover (part s g) (part s x) (from b at) → CoversContext s n b r
+  unfolding starts
+  start_lists {e} {r} {at} {g} {x} was is h globals args covered =
+      let p = (skip_passed was).is in
+      record {
+        is =
+            λ c marks k.
+            let so = accepted k in
+            let f = so.return_is in
+            let same : from b at ≡ so.lists = cc in
+            covered ∙ rw same (lists_are so (part s g) (part s x) ∙ rw (← is, h, globals.is, args.is));
+      }

@@ -1,5 +1,5 @@
 -- What comparing a need with a record answers. A need goes along a list of entries: `asks` says what it asks of the first one and of the others.
-use Rattle.std.specs.Prelude.{ℕ, ◌<◌, ◌≡◌, Bool, true, false, cond, List, ltb}
+use Rattle.std.specs.Prelude.{ℕ, ◌<◌, ◌≡◌, Bool, true, false, cond, List, ltb, Option as Maybe, Some, None}
 use Rattle.std.proofs.Math.Option.{Option, some, none as nothing}
 use Rattle.part.specs.PartReq.{PartReq, all, exist, none, more, contains}
 use Rattle.part.specs.Store.{top, part}
@@ -9,10 +9,6 @@ use Rattle.request.specs.Fields.{Read, malformed, got}
 use Rattle.request.specs.Part.{read_variables}
 use Rattle.request.specs.Context.{context_of}
 use Rattle.request.specs.Answers.{from}
-use Rattle.context_bytes.specs.declared.cover.Asks.{Asks}
-use Rattle.context_bytes.specs.declared.cover.Asks.TheVariants.{Other, Of}
-use Rattle.context_bytes.specs.declared.cover.Covered.{Covered}
-use Rattle.context_bytes.specs.declared.cover.Covered.TheVariants.{No, Next}
 use Rattle.context_bytes.specs.Checked.{Within}
 
 -- the fields after what was read, where it contains the need q
@@ -32,27 +28,27 @@ asks exist i = each exist exist
 asks none i = each exist none
 asks (more j q s) i = cond (ltb i j) (each exist (more j q s)) (cond (ltb j i) other (each q s))
 
-abbrev pub asks_answer : List ℕ → Asks → Asked
-asks_answer s Other = other
-asks_answer s (Of c r) = each (part s c) (part s r)
+abbrev pub asks_answer : List ℕ → Maybe (ℕ × ℕ) → Asked
+asks_answer s None = other
+asks_answer s (Some p) = each (part s p.0) (part s p.1)
 
-abbrev pub AsksPlaced : List ℕ → Asks → Type 0
-AsksPlaced s Other = Unit {0}
-AsksPlaced s (Of c r) = (c < top s) × (r < top s)
+abbrev pub AsksPlaced : List ℕ → Maybe (ℕ × ℕ) → Type 0
+AsksPlaced s None = Unit {0}
+AsksPlaced s (Some p) = (p.0 < top s) × (p.1 < top s)
 
-pub record AsksPieces (s : List ℕ) (n i : ℕ) (a : Asks) : Type 0 where
+pub record AsksPieces (s : List ℕ) (n i : ℕ) (a : Maybe (ℕ × ℕ)) : Type 0 where
   pub is : asks_answer s a ≡ asks (part s n) i
   pub placed : AsksPlaced s a
 
-abbrev pub cover_answer : List ℕ → Covered → Option (List ℕ)
-cover_answer b No = nothing
-cover_answer b (Next next) = some (from b next)
+abbrev pub cover_answer : List ℕ → Maybe ℕ → Option (List ℕ)
+cover_answer b None = nothing
+cover_answer b (Some next) = some (from b next)
 
-abbrev pub CoverPlaced : List ℕ → ℕ → Covered → Type 0
-CoverPlaced b at No = Unit {0}
-CoverPlaced b at (Next next) = Within b at next
+abbrev pub CoverPlaced : List ℕ → ℕ → Maybe ℕ → Type 0
+CoverPlaced b at None = Unit {0}
+CoverPlaced b at (Some next) = Within b at next
 
-pub record Covers (b : List ℕ) (at : ℕ) (r : Option (List ℕ)) (a : Covered) : Type 0 where
+pub record Covers (b : List ℕ) (at : ℕ) (r : Option (List ℕ)) (a : Maybe ℕ) : Type 0 where
   pub is : cover_answer b a ≡ r
   pub placed : CoverPlaced b at a
 

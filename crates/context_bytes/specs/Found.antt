@@ -1,5 +1,5 @@
 -- What finding an entry answers. A part stands for what is read at its first byte.
-use Rattle.std.specs.Prelude.{ℕ, ◌+◌, ◌≤◌, ◌≡◌, List, length}
+use Rattle.std.specs.Prelude.{ℕ, ◌+◌, ◌≤◌, ◌≡◌, List, length, Option as Maybe, Some, None}
 use Rattle.std.proofs.Math.Option.{some}
 use Rattle.part.specs.PartReq.{PartReq, none, Subpart, gone, there, get_subpart}
 use Rattle.context.specs.RequiredContext.{RequiredContext, variable}
@@ -7,8 +7,6 @@ use Rattle.request.specs.Fields.{Read, malformed, got}
 use Rattle.request.specs.Part.{read_part, read_entries, read_variables}
 use Rattle.request.specs.Context.{context_of}
 use Rattle.request.specs.Answers.{from}
-use Rattle.context_bytes.specs.declared.find.Found.{Found}
-use Rattle.context_bytes.specs.declared.find.Found.TheVariants.{Gone, There}
 
 -- what was read; nothing where that was no part
 unfoldable pub value_of : Read PartReq → PartReq
@@ -25,16 +23,16 @@ pub record Readable (b : List ℕ) (at d : ℕ) : Type 0 where
   pub rest : List ℕ
   pub is : read_part d (from b at) ≡ got (part_at b at d) rest
 
-abbrev pub SubpartAt : List ℕ → Subpart → Found → Type 0
-SubpartAt b sub Gone = sub ≡ gone
-SubpartAt b sub (There at d) = Readable b at d × (sub ≡ there (part_at b at d))
+abbrev pub SubpartAt : List ℕ → Subpart → Maybe (ℕ × ℕ) → Type 0
+SubpartAt b sub None = sub ≡ gone
+SubpartAt b sub (Some p) = Readable b p.0 p.1 × (sub ≡ there (part_at b p.0 p.1))
 
 -- of n entries that are read, for whatever stands before their indexes in the requirement, a is that of the index i
-pub record EntryFound (b : List ℕ) (at d n i : ℕ) (a : Found) : Type 0 where
+pub record EntryFound (b : List ℕ) (at d n i : ℕ) (a : Maybe (ℕ × ℕ)) : Type 0 where
   pub is : (base : ℕ) (p : PartReq) (fs : List ℕ) → read_entries (read_part d) base 0 n (from b at) ≡ got p fs → SubpartAt b (get_subpart p (base + i)) a
 
 -- the same of a list of variables
-pub record VariableFound (b : List ℕ) (at i : ℕ) (a : Found) : Type 0 where
+pub record VariableFound (b : List ℕ) (at i : ℕ) (a : Maybe (ℕ × ℕ)) : Type 0 where
   pub is : (p : PartReq) (fs : List ℕ) → read_variables (from b at) ≡ got p fs → SubpartAt b (get_subpart p (variable i)) a
 
 -- the list of variables at the byte `at`

@@ -1,4 +1,3 @@
-pub mod Codes
 pub mod Checked
 pub mod Covered
 pub mod Counted

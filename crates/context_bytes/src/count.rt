@@ -5,83 +5,60 @@ ghost use Rattle.request.specs.Part.{read_part, read_return, read_variables};
 ghost use Rattle.context_bytes.specs.Counted.{counted, counted_return, Counts, EntriesCounted, PiecesCounted};
 
 use crate::check::is_context;
-use crate::codes::{Code, Index, entry_index, part_code};
-use field::field::read;
 use field::limits::MAX_DEPTH;
-use request::record::ends;
+use request::codes::{Code, entry_index, part_code};
+use request::record::field;
 
-// How many there are, and where the next field stands.
-#[derive(Clone, Copy)]
-pub enum Counted {
-    Malformed,
-    Next(usize, usize),
-}
-
-// The entries of a part at most `depth` deep.
+// The entries of a part at most `depth` deep: how many there are, and where the next field stands.
 #[cycle(count_entries_count_part)]
-fn count_part(bytes: &[u8], at: usize, depth: usize) -> Counted
+fn count_part(bytes: &[u8], at: usize, depth: usize) -> Option<(usize, usize)>
     requires { at ≤ length bytes.now }
     ensures { Counts bytes.now (at + 2) (counted (read_part depth (from bytes.now at))) result }
 {
-    match part_code(bytes, at, depth) {
-        Code::Malformed => Counted::Malformed,
-        Code::All => Counted::Next(0, at + 2),
-        Code::Exist => Counted::Next(0, at + 2),
+    match part_code(bytes, at, depth)? {
+        Code::All => Some((0, at + 2)),
+        Code::Exist => Some((0, at + 2)),
         Code::Entries(n) => count_entries(bytes, at + 2 + 2, depth - 1, n),
     }
 }
 
 // n entries, whose parts are at most `depth` deep, and theirs.
 #[cycle(count_entries_count_part)]
-fn count_entries(bytes: &[u8], at: usize, depth: usize, n: usize) -> Counted
+fn count_entries(bytes: &[u8], at: usize, depth: usize, n: usize) -> Option<(usize, usize)>
     requires { at ≤ length bytes.now }
     ensures { EntriesCounted bytes.now at depth n result }
 {
     let mut next = at;
     let mut least: u32 = 0;
-    let mut left = n;
     let mut sum: usize = 0;
-    while 0 < left {
-        let Index::Is(i) = entry_index(bytes, next, least) else {
-            return Counted::Malformed;
-        };
-        let Counted::Next(k, end) = count_part(bytes, next + 2, depth) else {
-            return Counted::Malformed;
-        };
+    for _ in 0..n {
+        let i = entry_index(bytes, next, least)?;
+        let (k, end) = count_part(bytes, next + 2, depth)?;
         sum = sum + 1 + k;
         next = end;
         least = i + 1;
-        left -= 1;
     }
-    Counted::Next(sum, next)
+    Some((sum, next))
 }
 
 // The returned value, where there is one, and its entries.
-fn count_return(bytes: &[u8], at: usize) -> Counted
+fn count_return(bytes: &[u8], at: usize) -> Option<(usize, usize)>
     requires { (2 ≤ at) × (at ≤ length bytes.now) }
     ensures { Counts bytes.now (at - 2) (counted_return (read_return (from bytes.now at))) result }
 {
-    if ends(bytes, at) {
-        return Counted::Malformed;
+    if field(bytes, at)? == 3 {
+        return Some((0, at + 2));
     }
-    if read(bytes, at) == 3 {
-        return Counted::Next(0, at + 2);
-    }
-    let Counted::Next(k, next) = count_part(bytes, at, MAX_DEPTH) else {
-        return Counted::Malformed;
-    };
-    Counted::Next(k + 1, next)
+    let (k, next) = count_part(bytes, at, MAX_DEPTH)?;
+    Some((k + 1, next))
 }
 
 // A list of variables, and their entries.
-fn count_variables(bytes: &[u8], at: usize) -> Counted
+fn count_variables(bytes: &[u8], at: usize) -> Option<(usize, usize)>
     requires { at ≤ length bytes.now }
     ensures { Counts bytes.now at (counted (read_variables (from bytes.now at))) result }
 {
-    if ends(bytes, at) {
-        return Counted::Malformed;
-    }
-    let count = read(bytes, at) as usize;
+    let count = field(bytes, at)? as usize;
     count_entries(bytes, at + 2, MAX_DEPTH, count)
 }
 
@@ -92,16 +69,16 @@ pub fn count_context(bytes: &[u8]) -> usize
     if !is_context(bytes) {
         return 0;
     }
-    let Counted::Next(r, a) = count_return(bytes, 6) else {
+    let Some((r, a)) = count_return(bytes, 6) else {
         return 0;
     };
-    let Counted::Next(g, b) = count_variables(bytes, a) else {
+    let Some((g, b)) = count_variables(bytes, a) else {
         return 0;
     };
-    let Counted::Next(x, c) = count_variables(bytes, b) else {
+    let Some((x, c)) = count_variables(bytes, b) else {
         return 0;
     };
-    let Counted::Next(l, d) = count_variables(bytes, c) else {
+    let Some((l, d)) = count_variables(bytes, c) else {
         return 0;
     };
     g + l + x + r

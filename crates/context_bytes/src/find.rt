@@ -3,69 +3,51 @@ ghost use Rattle.std.specs.Prelude.{◌≡◌, ◌≤◌, length};
 ghost use Rattle.part.specs.PartReq.{get_subpart, is_all, is_exist};
 ghost use Rattle.context_bytes.specs.Found.{part_at, Readable, SubpartAt, EntryFound, VariableFound, ArgsAt};
 
-use crate::check::{Checked, Skipped, check_variables, is_context, skip_part, skip_return};
-use crate::codes::{Code, Index, entry_index, part_code};
-use field::field::read;
+use crate::check::{check_variables, is_context, skip_part, skip_return};
 use field::limits::MAX_DEPTH;
-use request::record::ends;
+use request::codes::{Code, entry_index, part_code};
+use request::record::field;
 
-// Where the part stands, and how deep it may be.
-#[derive(Clone, Copy)]
-pub enum Found {
-    Gone,
-    There(usize, usize),
-}
-
-// Among n entries, whose parts are at most `depth` deep, that of the index i.
-fn find_entry(bytes: &[u8], at: usize, depth: usize, n: usize, i: u32) -> Found
+// Among n entries, whose parts are at most `depth` deep, where the part of the index i stands, and how deep it may be.
+fn find_entry(bytes: &[u8], at: usize, depth: usize, n: usize, i: u32) -> Option<(usize, usize)>
     requires { at ≤ length bytes.now }
     ensures { EntryFound bytes.now at depth n i result }
 {
     let mut next = at;
     let mut least: u32 = 0;
-    let mut left = n;
-    while 0 < left {
-        let Index::Is(j) = entry_index(bytes, next, least) else {
-            return Found::Gone;
-        };
+    for _ in 0..n {
+        let j = entry_index(bytes, next, least)?;
         if i < j {
-            return Found::Gone;
+            return None;
         }
         if i == j {
-            return Found::There(next + 2, depth);
+            return Some((next + 2, depth));
         }
-        let Skipped::Next(end) = skip_part(bytes, next + 2, depth) else {
-            return Found::Gone;
-        };
+        let end = skip_part(bytes, next + 2, depth)?;
         next = end;
         least = j + 1;
-        left -= 1;
     }
-    Found::Gone
+    None
 }
 
 // `get_subpart` of a part in its bytes.
-pub fn find_part(bytes: &[u8], at: usize, depth: usize, i: u32) -> Found
+pub fn find_part(bytes: &[u8], at: usize, depth: usize, i: u32) -> Option<(usize, usize)>
     requires { Readable bytes.now at depth }
     ensures { SubpartAt bytes.now (get_subpart (part_at bytes.now at depth) i) result }
 {
-    match part_code(bytes, at, depth) {
-        Code::Malformed => Found::Gone,
-        Code::All => Found::There(at, depth),
-        Code::Exist => Found::Gone,
+    match part_code(bytes, at, depth)? {
+        Code::All => Some((at, depth)),
+        Code::Exist => None,
         Code::Entries(n) => find_entry(bytes, at + 2 + 2, depth - 1, n, i),
     }
 }
 
 // In a list of variables, the part of the variable i.
-pub fn find_variable(bytes: &[u8], at: usize, i: u32) -> Found
+pub fn find_variable(bytes: &[u8], at: usize, i: u32) -> Option<(usize, usize)>
     requires { at ≤ length bytes.now }
     ensures { VariableFound bytes.now at i result }
 {
-    if ends(bytes, at) {
-        return Found::Gone;
-    }
-    let count = read(bytes, at) as usize;
+    let count = field(bytes, at)? as usize;
     find_entry(bytes, at + 2, MAX_DEPTH, count, i)
 }
 
@@ -74,12 +56,10 @@ pub fn is_all(bytes: &[u8], at: usize, depth: usize) -> bool
     requires { Readable bytes.now at depth }
     ensures { result ≡ is_all (part_at bytes.now at depth) }
 {
-    match part_code(bytes, at, depth) {
-        Code::Malformed => false,
-        Code::All => true,
-        Code::Exist => false,
-        Code::Entries(_) => false,
-    }
+    let Some(code) = part_code(bytes, at, depth) else {
+        return false;
+    };
+    matches!(code, Code::All)
 }
 
 // Whether no value is needed.
@@ -87,12 +67,10 @@ pub fn is_exist(bytes: &[u8], at: usize, depth: usize) -> bool
     requires { Readable bytes.now at depth }
     ensures { result ≡ is_exist (part_at bytes.now at depth) }
 {
-    match part_code(bytes, at, depth) {
-        Code::Malformed => false,
-        Code::All => false,
-        Code::Exist => true,
-        Code::Entries(_) => false,
-    }
+    let Some(code) = part_code(bytes, at, depth) else {
+        return false;
+    };
+    matches!(code, Code::Exist)
 }
 
 // Where the list of arguments stands in the context that bytes mean.
@@ -102,10 +80,10 @@ pub fn args_at(bytes: &[u8]) -> usize
     if !is_context(bytes) {
         return 0;
     }
-    let Skipped::Next(at) = skip_return(bytes, 6) else {
+    let Some(at) = skip_return(bytes, 6) else {
         return 0;
     };
-    let Checked::Next(known, next) = check_variables(bytes, at, 0) else {
+    let Some((known, next)) = check_variables(bytes, at, 0) else {
         return 0;
     };
     next

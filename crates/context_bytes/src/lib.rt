@@ -2,7 +2,6 @@
 #![tactic(auto)]
 
 pub mod check;
-pub mod codes;
 pub mod count;
 pub mod cover;
 pub mod find;

@@ -7,8 +7,8 @@ ghost use Rattle.clearance.specs.Verdict.{needs_expression};
 ghost use Rattle.request.specs.Answers.{from};
 ghost use Rattle.context_bytes.specs.Covered.{lists_cover, CoversContext};
 
-use crate::check::{Skipped, is_context, skip_return};
-use crate::cover::{Covered, covers_variables};
+use crate::check::{is_context, skip_return};
+use crate::cover::covers_variables;
 use needs::path::below;
 use part::limits::SPINE;
 use part::store::look;
@@ -46,13 +46,10 @@ fn lists_cover(cells: &[u32], g: u32, a: u32, bytes: &[u8], at: usize) -> bool
     requires g_bound { (g < top cells.now) × (a < top cells.now) × (at ≤ length bytes.now) }
     ensures { result ≡ lists_cover (part cells.now g) (part cells.now a) (from bytes.now at) }
 {
-    let Covered::Next(next) = covers_variables(cells, g, bytes, at) else {
+    let Some(next) = covers_variables(cells, g, bytes, at) else {
         return false;
     };
-    let Covered::Next(end) = covers_variables(cells, a, bytes, next) else {
-        return false;
-    };
-    true
+    covers_variables(cells, a, bytes, next).is_some()
 }
 
 // Whether the context has what the need n asks of globals and arguments, and n asks for no evaluated expression.
@@ -67,7 +64,7 @@ pub fn context_covers(cells: &[u32], n: u32, context: &[u8]) -> bool
     if !is_context(context) {
         return false;
     }
-    let Skipped::Next(at) = skip_return(context, 6) else {
+    let Some(at) = skip_return(context, 6) else {
         return false;
     };
     let g = slot(cells, n, SPINE);

@@ -3,7 +3,7 @@ use Prim.Native.Nat.{ℕ, zero, suc, ◌+◌, ◌-◌, ◌≤◌, ◌<◌}
 use native.Mathlib.Omega.{arith}
 use native.Mathlib.Numerals.{add-one}
 use native.Mathlib.Nat.{zero-add}
-use mathlib.Core.Path.{◌≡◌, refl, ap, sym, subst, ◌∙◌}
+use mathlib.Core.Path.{◌≡◌, refl, ap, sym, ◌∙◌}
 use mathlib.Core.Bool.{Bool, true, false, ◌&&◌}
 use mathlib.Core.List.{List, ◌∷◌}
 use lib.Dec.{leb, ltb}
@@ -12,13 +12,11 @@ use borrow.Author.Tests.{lt-ltb, le-ltb, le-leb, lt-leb, ne_eqb, ltb-true, ltb-f
 use Rattle.field.specs.Field.{field_at}
 use Rattle.field.specs.Limits.{absent, max_entries}
 use Rattle.part.specs.PartReq.{PartReq, all, exist, none, more}
-use Rattle.part.specs.Store.{top, part, Good, Kept, Made, Room}
-use Rattle.request.specs.declared.parts.ReadPart.{ReadPart}
-use Rattle.request.specs.declared.parts.ReadPart.TheVariants.{Malformed, Got}
+use Rattle.part.specs.Store.{part, Good, Kept, Made, Room}
+use Rattle.std.specs.Prelude.{Option as Maybe, Some, None}
 use Rattle.request.specs.Fields.{Read, malformed, got, ◌>>=◌}
 use Rattle.request.specs.Part.{read_entries, read_level, by_code, read_part}
-use Rattle.request.specs.Answers.{from, RoomFor, Spent, part_read, PartPlaced, PartWasRead}
-use Rattle.part.proofs.Pieces.{part-0, part-1, part-2}
+use Rattle.request.specs.Answers.{from, Field, RoomFor, Spent, PartPlaced, PartWasRead}
 use Rattle.request.proofs.Bytes.{from_cons, from_end}
 
 and-false : (a : Bool) → a && false ≡ false
@@ -114,35 +112,18 @@ kept_on k l =
 pub room_one : {s t b : List ℕ} (at : ℕ) {next : ℕ} → Kept s t → Spent s t b (at + 4) next → RoomFor s b at → Room t 1
 room_one at k p r = omega arith
 
--- what the code answers at once
-module _ {s b : List ℕ} {at : ℕ} {r : Read PartReq} (g : Good s) where
-  pub refuse : r ≡ malformed → PartWasRead s s b at r Malformed
-  refuse e = record { kept = kept_same g; is = sym e; placed = tt }
+-- what the code answers
+pub refuse : {s t b : List ℕ} {at : ℕ} {r : Read PartReq} → Kept s t → r ≡ malformed → PartWasRead s t b at r None
+refuse k e = record { kept = k; is = sym e; placed = tt }
 
-  pub answer : (n : ℕ) → n < 3 → at ≤ length b → r ≡ got (part s n) (from b at) → PartWasRead s s b at r (Got n at)
-  answer n low inside e =
-      record {
-        kept = kept_same g;
-        is = sym e;
-        placed = (omega (arith, g.base), record { further = omega arith; inside = inside; cost = omega arith });
-      }
-
--- what a call answered
-module _ {s t b : List ℕ} {at : ℕ} {r : Read PartReq} {a : ReadPart} (was : PartWasRead s t b at r a) where
-  pub none_read : a ≡ Malformed → r ≡ malformed
-  none_read e = sym was.is ∙ ap (part_read t b) e
-
-  module _ {n next : ℕ} (e : a ≡ Got n next) where
-    pub part-read : r ≡ got (part t n) (from b next)
-    part-read = sym was.is ∙ ap (part_read t b) e
-
-    pub part_placed : (n < top t) × Spent s t b at next
-    part_placed = subst (PartPlaced s t b at) e was.placed
-
--- the field i was read at the byte `at`
-pub record Field (b : List ℕ) (at i : ℕ) : Type 0 where
-  pub inside : at + 2 ≤ length b
-  pub is : i ≡ field_at b at
+pub answer : {s b : List ℕ} {at : ℕ} {r : Read PartReq} → Good s → (n : ℕ) → n < 3 → at ≤ length b → r ≡ got (part s n) (from b at)
+    → PartWasRead s s b at r (Some (n, at))
+answer g n low inside e =
+    record {
+      kept = kept_same g;
+      is = sym e;
+      placed = (omega (arith, g.base), record { further = omega arith; inside = inside; cost = omega arith });
+    }
 
 -- an entry's index i, where n entries are to be read, k after this one
 pub record Index (b : List ℕ) (at low n i k : ℕ) : Type 0 where
@@ -171,22 +152,22 @@ module _ {b : List ℕ} {at low n i k : ℕ} (x : Index b at low n i k) (base d 
     index_rest h = rw (index_next, e, h)
 
 -- an entry was read, with those after it, and its cell is made
-module _ (d : ℕ) {s t u b : List ℕ} {at low n i k next end p r : ℕ} {a c : ReadPart} (x : Index b at low n i k)
-    (first : PartWasRead s t b (at + 2 + 2) (read_part d (from b (at + 2))) a) (e : a ≡ Got p next)
-    (later : PartWasRead t u b next (read_entries (read_part d) 0 (i + 1) k (from b next)) c) (f : c ≡ Got r end) where
+module _ (d : ℕ) {s t u b : List ℕ} {at low n i k : ℕ} {y z : ℕ × ℕ} (x : Index b at low n i k)
+    (first : PartWasRead s t b (at + 2 + 2) (read_part d (from b (at + 2))) (Some y))
+    (later : PartWasRead t u b y.1 (read_entries (read_part d) 0 (i + 1) k (from b y.1)) (Some z)) where
   pub room_entry : RoomFor s b at → Room u 1
-  room_entry h = omega (arith, (part_placed first e).1, (part_placed later f).1)
+  room_entry h = omega (arith, first.placed.1, later.placed.1)
 
-  pub entry_made : {v : List ℕ} {m : ℕ} → Made u v (more i (part u p) (part u r)) 1 m
-      → PartWasRead s v b at (read_entries (read_part d) 0 low n (from b at)) (Got m end)
+  pub entry_made : {v : List ℕ} {m : ℕ} → Made u v (more i (part u y.0) (part u z.0)) 1 m
+      → PartWasRead s v b at (read_entries (read_part d) 0 low n (from b at)) (Some (m, z.1))
   entry_made made =
-      let held = part_placed first e in
-      let also = part_placed later f in
-      let same : part u p ≡ part t p = later.kept.same p held.0 in
-      let child : read_part d (from b (at + 2)) ≡ got (part u p) (from b next) = part-read first e ∙ rw same in
+      let held = first.placed in
+      let also = later.placed in
+      let same : part u y.0 ≡ part t y.0 = later.kept.same y.0 held.0 in
+      let child : read_part d (from b (at + 2)) ≡ got (part u y.0) (from b y.1) = sym first.is ∙ rw same in
       record {
         kept = kept_on first.kept (kept_on later.kept made.kept);
-        is = rw made.is (sym (index_rest x 0 d child (part-read later f) ∙ rw (zero-add i)));
+        is = rw made.is (sym (index_rest x 0 d child (sym later.is) ∙ rw (zero-add i)));
         placed = (made.piece, record { further = omega (arith, held.1, also.1); inside = also.1.inside; cost = omega (arith, held.1, also.1, made.cost) });
       }
 
@@ -198,76 +179,13 @@ module _ (b : List ℕ) (at : ℕ) {r : Bool} (e : r ≡ ltb (length b) (at + 2)
   pub goes_on : r ≡ false → at + 2 ≤ length b
   goes_on h = ltb-false (length b) (at + 2) (sym e ∙ h)
 
-  pub field_read : {i : ℕ} → r ≡ false → i ≡ field_at b at → Field b at i
-  field_read h is = record { inside = goes_on h; is = is }
-
 pub pred_of : (n : ℕ) → (n ≡ 0 → ⊥) → n ≡ suc (n - 1)
 pred_of n h = omega arith
 
-pub index_left : {b : List ℕ} {at low n i : ℕ} → 0 < n → Field b at i → low ≤ i → i < absent → Index b at low n i (n - 1)
-index_left some field high known = record { field = field; more_left = omega arith; high = high; known = known }
-
-pub index_of : {b : List ℕ} {at low n i : ℕ} → (n ≡ 0 → ⊥) → Field b at i → low ≤ i → i < absent → Index b at low n i (n - 1)
-index_of some field high known = record { field = field; more_left = pred_of _ some; high = high; known = known }
-
--- what each function answers, from what it saw
-pub refuse_after : {s t b : List ℕ} {at : ℕ} {r : Read PartReq} → Kept s t → r ≡ malformed → PartWasRead s t b at r Malformed
-refuse_after k e = record { kept = k; is = sym e; placed = tt }
-
-module _ {s : List ℕ} (g : Good s) (b : List ℕ) (at : ℕ) (inside : at ≤ length b) (part' : List ℕ → Read PartReq) (base low n : ℕ) where
-  pub entries_empty : n ≡ 0 → PartWasRead s s b at (read_entries part' base low n (from b at)) (Got 2 at)
-  entries_empty e = answer g 2 (omega arith) inside (entries_none part' base low n (from b at) e ∙ rw (part-2 s))
-
-  pub entries_short : (n ≡ 0 → ⊥) → length b < at + 2 → PartWasRead s s b at (read_entries part' base low n (from b at)) Malformed
-  entries_short some h = refuse g (entries_end part' base low n (n - 1) (pred_of n some) b at h)
-
-  pub entries_falls : {i : ℕ} → (n ≡ 0 → ⊥) → Field b at i → i < low → PartWasRead s s b at (read_entries part' base low n (from b at)) Malformed
-  entries_falls some f h = refuse g (entries_low part' base low n (n - 1) (pred_of n some) b at f.inside (rw f.is at h))
-
-  pub entries_none_such : {i : ℕ} → (n ≡ 0 → ⊥) → Field b at i → absent ≤ i → PartWasRead s s b at (read_entries part' base low n (from b at)) Malformed
-  entries_none_such some f h = refuse g (entries_absent part' base low n (n - 1) (pred_of n some) b at f.inside (rw f.is at h))
-
 -- the same part, from two bytes before
-back : (s t b : List ℕ) (at : ℕ) (c : ReadPart) → PartPlaced s t b (at + 2) c → PartPlaced s t b at c
-back s t b at Malformed h = tt
-back s t b at (Got n next) h =
-    (h.0, record { further = omega (arith, h.1); inside = h.1.inside; cost = omega (arith, h.1) })
-
-module _ {b : List ℕ} {at i : ℕ} (f : Field b at i) where
-  pub level_many : {s : List ℕ} (part' : List ℕ → Read PartReq) → Good s → max_entries < i
-      → PartWasRead s s b (at + 2) (read_level part' (from b at)) Malformed
-  level_many part' g h = refuse g (level_wide b at f.inside part' (rw f.is at h))
-
-  pub level_read : {s t : List ℕ} {a : ReadPart} (part' : List ℕ → Read PartReq) → i ≤ max_entries
-      → PartWasRead s t b (at + 2) (read_entries part' 0 0 i (from b (at + 2))) a → PartWasRead s t b (at + 2) (read_level part' (from b at)) a
-  level_read part' few was =
-      let is = f.is in
-      record {
-        kept = was.kept;
-        is = was.is ∙ rw is (sym (level_entries b at f.inside part' (rw is at few)));
-        placed = was.placed;
-      }
-
-  module _ (d : ℕ) where
-    pub code_all : {s : List ℕ} → Good s → i ≡ 0 → PartWasRead s s b (at + 2) (read_part d (from b at)) (Got 0 (at + 2))
-    code_all {s} g e = answer g 0 (omega arith) f.inside (part_all b at f.inside d (sym f.is ∙ e) ∙ rw (part-0 s))
-
-    pub code_exist : {s : List ℕ} → Good s → i ≡ 1 → PartWasRead s s b (at + 2) (read_part d (from b at)) (Got 1 (at + 2))
-    code_exist {s} g e = answer g 1 (omega arith) f.inside (part_exist b at f.inside d (sym f.is ∙ e) ∙ rw (part-1 s))
-
-    pub code_unknown : {s : List ℕ} → Good s → (i ≡ 0 → ⊥) → (i ≡ 1 → ⊥) → (i ≡ 2 → ⊥)
-        → PartWasRead s s b (at + 2) (read_part d (from b at)) Malformed
-    code_unknown g x y z =
-        refuse g (part_unknown b at f.inside d (λ e. x (f.is ∙ e)) (λ e. y (f.is ∙ e)) (λ e. z (f.is ∙ e)))
-
-    pub code_deep : {s : List ℕ} → Good s → d ≡ 0 → i ≡ 2 → PartWasRead s s b (at + 2) (read_part d (from b at)) Malformed
-    code_deep g z e = refuse g (part_deep b at f.inside d z (sym f.is ∙ e))
-
-    pub code_level : {s t : List ℕ} {a : ReadPart} → (d ≡ 0 → ⊥) → i ≡ 2
-        → PartWasRead s t b (at + 2 + 2) (read_level (read_part (d - 1)) (from b (at + 2))) a → PartWasRead s t b (at + 2) (read_part d (from b at)) a
-    code_level {s} {t} {a} some e was =
-        record {
-          kept = was.kept;
-          is = was.is ∙ sym (part_level b at f.inside d (d - 1) (pred_of d some) (sym f.is ∙ e));
-          placed = back s t b (at + 2) a was.placed;
-        }
+pub part_back : {s t b : List ℕ} {at : ℕ} {q r : Read PartReq} {a : Maybe (ℕ × ℕ)} → r ≡ q → PartWasRead s t b (at + 2) q a → PartWasRead s t b at r a
+part_back {s} {t} {b} {at} {a = a} e was = record { kept = was.kept; is = was.is ∙ sym e; placed = back a was.placed }
+  where
+    back : (c : Maybe (ℕ × ℕ)) → PartPlaced s t b (at + 2) c → PartPlaced s t b at c
+    back None h = tt
+    back (Some y) h = (h.0, record { further = omega (arith, h.1); inside = h.1.inside; cost = omega (arith, h.1) })

@@ -14,20 +14,18 @@ use Rattle.part.specs.PartReq.{PartReq}
 use Rattle.part.specs.Store.{top, part, Kept}
 use Rattle.context.specs.RequiredContext.{variable}
 use Rattle.module.specs.declared.handles.FunctionHandle.{FunctionHandle as Handle}
-use Rattle.request.specs.declared.lists.Optional.{Optional}
-use Rattle.request.specs.declared.lists.Optional.TheVariants.{Nothing, Piece}
-use Rattle.request.specs.declared.lists.ReadOption.{ReadOption}
-use Rattle.request.specs.declared.lists.ReadOption.TheVariants as lists
-use Rattle.request.specs.declared.requests.RequestAnswer.{RequestAnswer}
-use Rattle.request.specs.declared.requests.RequestAnswer.TheVariants as requests
+use Rattle.std.specs.Prelude.{Option as Maybe, Some, None, Result, Ok, Err}
+use Rattle.field.specs.Refusal.{number}
+use Rattle.field.specs.declared.refusal.Refusal.{Refusal}
+use Rattle.field.specs.declared.refusal.Refusal.TheVariants.{Malformed, NoSuch, ReportTooShort}
+use Rattle.request.specs.declared.requests.Request.{Request as Asked}
 use Rattle.request.specs.Fields.{Read, malformed, got, ◌>>=◌, whole, Answer, refused}
 use Rattle.request.specs.Part.{read_return, read_variables}
 use Rattle.request.specs.Request.{Request as Asking, asking, read_body, is_request, request_of, all_below, known, judge, finish}
-use Rattle.request.specs.Answers.{from, Spent, optional, Held, sorted, OptionWasRead, request_answer, RequestHeld, RequestWasRead}
+use Rattle.request.specs.Answers.{from, Field, Spent, optional, Held, sorted, OptionWasRead, RequestHeld, RequestWasRead}
 use Rattle.request.proofs.Bytes.{from_cons, from_end}
-use Rattle.request.proofs.Entries.{Field, kept_on}
+use Rattle.request.proofs.Entries.{kept_on}
 use Rattle.request.proofs.Frame.{frame_inside}
-use Rattle.request.proofs.Variables.{no_list, list_read, list_placed}
 
 -- the list v was read: q, of which o was made
 pub record Listed (limit : ℕ) (v : Read PartReq) (o : Option PartReq) (gs : List ℕ) : Type 0 where
@@ -59,81 +57,80 @@ and-false true = refl
 and-false false = refl
 
 -- a piece that may be nothing means the same later
-pub optional-kept : {s t : List ℕ} → Kept s t → (o : Optional) → Held s o → optional t o ≡ optional s o
-optional-kept k Nothing h = refl
-optional-kept k (Piece n) h = ap some (k.same n h)
+pub optional-kept : {s t : List ℕ} → Kept s t → (o : Maybe ℕ) → Held s o → optional t o ≡ optional s o
+optional-kept k None h = refl
+optional-kept k (Some n) h = ap some (k.same n h)
 
-pub held_kept : {s t : List ℕ} → Kept s t → (o : Optional) → Held s o → Held t o
-held_kept k Nothing h = tt
-held_kept k (Piece n) h = omega (arith, k.tops, h)
+pub held_kept : {s t : List ℕ} → Kept s t → (o : Maybe ℕ) → Held s o → Held t o
+held_kept k None h = tt
+held_kept k (Some n) h = omega (arith, k.tops, h)
 
 -- the globals of a request
-module _ (functions globals report f : ℕ) {s t b : List ℕ} {at : ℕ} (o : Optional) {a : ReadOption}
-    (was : OptionWasRead s t b at (sorted globals (read_variables (from b at))) a) where
+module _ (functions globals report f : ℕ) (s b : List ℕ) (at : ℕ) (o : Maybe ℕ) where
   abbrev wanted : Answer Asking
   wanted = finish functions globals report f (optional s o) (from b at)
 
-  refuse_request : (r : RequestAnswer) → request_answer t r ≡ wanted → RequestHeld s t (length b - at) r → RequestWasRead s t (length b - at) wanted r
-  refuse_request r e h = record { kept = was.kept; is = e; held = h }
-
-  pub globals_malformed : a ≡ lists.Malformed → RequestWasRead s t (length b - at) wanted requests.Malformed
+  pub globals_malformed : {t : List ℕ} → OptionWasRead s t b at (sorted globals (read_variables (from b at))) None → RequestWasRead s t (length b - at) wanted (Err Malformed)
   unfolding finish judge whole
-  globals_malformed e = refuse_request requests.Malformed (rw (unlisted globals (read_variables (from b at)) (no_list was e))) tt
+  globals_malformed was = record { kept = was.kept; is = rw (unlisted globals (read_variables (from b at)) (sym was.is)); held = tt }
 
-  module _ {g : Optional} {end : ℕ} (e : a ≡ lists.Got g end) where
-    pub read_list : Listed globals (read_variables (from b at)) (optional t g) (from b end)
-    read_list = listed globals (read_variables (from b at)) (list_read was e)
+  module _ {t : List ℕ} {z : Maybe ℕ × ℕ} (was : OptionWasRead s t b at (sorted globals (read_variables (from b at))) (Some z)) where
+    pub read_list : Listed globals (read_variables (from b at)) (optional t z.0) (from b z.1)
+    read_list = listed globals (read_variables (from b at)) (sym was.is)
 
-    pub globals_left : end + 2 ≤ length b → RequestWasRead s t (length b - at) wanted requests.Malformed
+    refuse_request : (e : Refusal) → refused (number e) ≡ wanted → RequestWasRead s t (length b - at) wanted (Err e)
+    refuse_request e h = record { kept = was.kept; is = h; held = tt }
+
+    pub globals_left : z.1 + 2 ≤ length b → RequestWasRead s t (length b - at) wanted (Err Malformed)
     unfolding finish judge whole
-    globals_left h = refuse_request requests.Malformed (rw (read_list.is, from_cons b end h)) tt
+    globals_left h = refuse_request Malformed (rw (read_list.is, from_cons b z.1 h))
 
-    module _ (done : length b < end + 2) where
+    module _ (done : length b < z.1 + 2) where
       ends_with : wanted ≡ judge functions globals report (some (asking f (optional s o) read_list.list))
       unfolding finish whole
-      ends_with = rw (read_list.is, from_end b end done)
+      ends_with = rw (read_list.is, from_end b z.1 done)
 
-      pub globals_unknown : g ≡ Nothing → RequestWasRead s t (length b - at) wanted requests.NoSuch
+      pub globals_unknown : z.0 ≡ None → RequestWasRead s t (length b - at) wanted (Err NoSuch)
       unfolding judge known
-      globals_unknown z =
-          let below : all_below (variable globals) read_list.list ≡ false = not_some _ _ (read_list.chosen ∙ ap (optional t) z) in
-          refuse_request requests.NoSuch (sym (ends_with ∙ rw (below, and-false (ltb f functions)))) tt
+      globals_unknown e =
+          let below : all_below (variable globals) read_list.list ≡ false = not_some _ _ (read_list.chosen ∙ ap (optional t) e) in
+          refuse_request NoSuch (sym (ends_with ∙ rw (below, and-false (ltb f functions))))
 
-      module _ {n : ℕ} (z : g ≡ Piece n) where
+      module _ {n : ℕ} (e : z.0 ≡ Some n) where
         all_known : (all_below (variable globals) read_list.list ≡ true) × (read_list.list ≡ part t n)
-        all_known = is_some _ _ _ (read_list.chosen ∙ ap (optional t) z)
+        all_known = is_some _ _ _ (read_list.chosen ∙ ap (optional t) e)
 
-        pub globals_function : functions ≤ f → RequestWasRead s t (length b - at) wanted requests.NoSuch
+        pub globals_function : functions ≤ f → RequestWasRead s t (length b - at) wanted (Err NoSuch)
         unfolding judge known
-        globals_function h = refuse_request requests.NoSuch (sym (ends_with ∙ rw (le-ltb f functions h))) tt
+        globals_function h = refuse_request NoSuch (sym (ends_with ∙ rw (le-ltb f functions h)))
 
-        pub globals_report : f < functions → report < min_report → RequestWasRead s t (length b - at) wanted requests.ShortReport
+        pub globals_report : f < functions → report < min_report → RequestWasRead s t (length b - at) wanted (Err ReportTooShort)
         unfolding judge known
         globals_report h k =
-            refuse_request requests.ShortReport
-            (sym (ends_with ∙ rw (lt-ltb f functions h, all_known.0, lt-ltb report min_report k))) tt
+            refuse_request ReportTooShort
+            (sym (ends_with ∙ rw (lt-ltb f functions h, all_known.0, lt-ltb report min_report k)))
 
         pub globals-accepted : f < functions → min_report ≤ report → Held s o → {g : Handle} → f ≡ g.0
-            → RequestWasRead s t (length b - at) wanted (requests.Accepted (record { function = g; retval = o; globals = n }))
+            → RequestWasRead s t (length b - at) wanted (Ok (record { function = g; retval = o; globals = n }))
         unfolding judge known
         globals-accepted h k held {g} is =
             let same : optional t o ≡ optional s o = optional-kept was.kept o held in
-            refuse_request (requests.Accepted (record { function = g; retval = o; globals = n }))
-            (sym (ends_with ∙ rw (lt-ltb f functions h, all_known.0, le-ltb report min_report k, all_known.1, same, ← is)))
-            (held_kept was.kept o held, subst (Held t) z (list_placed was e).0, omega (arith, (list_placed was e).1))
+            record {
+              kept = was.kept;
+              is = sym (ends_with ∙ rw (lt-ltb f functions h, all_known.0, le-ltb report min_report k, all_known.1, same, ← is));
+              held = (held_kept was.kept o held, subst (Held t) e was.placed.0, omega (arith, was.placed.1));
+            }
 
 -- a refusal, and an answer that a call gave
-held_on : (s t u : List ℕ) (m n : ℕ) (r : RequestAnswer) → 4 * top t + m ≤ 4 * top s + n → RequestHeld t u m r → RequestHeld s u n r
-held_on s t u m n requests.Malformed c h = tt
-held_on s t u m n requests.NoSuch c h = tt
-held_on s t u m n requests.ShortReport c h = tt
-held_on s t u m n (requests.Accepted q) c h = (h.0, h.1, omega (arith, h.2))
+held_on : (s t u : List ℕ) (m n : ℕ) (r : Result Asked Refusal) → 4 * top t + m ≤ 4 * top s + n → RequestHeld t u m r → RequestHeld s u n r
+held_on s t u m n (Err e) c h = tt
+held_on s t u m n (Ok q) c h = (h.0, h.1, omega (arith, h.2))
 
 module _ {s t : List ℕ} {w : Answer Asking} (k : Kept s t) where
-  pub request_malformed : {n : ℕ} → w ≡ refused 12 → RequestWasRead s t n w requests.Malformed
+  pub request_malformed : {n : ℕ} → w ≡ refused 12 → RequestWasRead s t n w (Err Malformed)
   request_malformed e = record { kept = k; is = sym e; held = tt }
 
-  pub request_on : {u b : List ℕ} {at : ℕ} {v : Answer Asking} {r : RequestAnswer} → w ≡ v → Spent s t b 6 at → RequestWasRead t u (length b - at) v r → RequestWasRead s u (length b) w r
+  pub request_on : {u b : List ℕ} {at : ℕ} {v : Answer Asking} {r : Result Asked Refusal} → w ≡ v → Spent s t b 6 at → RequestWasRead t u (length b - at) v r → RequestWasRead s u (length b) w r
   request_on {u} {b} {at} {r = r} e spent was =
       record {
         kept = kept_on k was.kept;

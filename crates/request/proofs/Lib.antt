@@ -1,6 +1,7 @@
 pub mod Bytes
 pub mod Back
 pub mod Entries
+pub mod Steps
 pub mod Frame
 pub mod Variables
 pub mod Judged

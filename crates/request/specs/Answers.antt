@@ -1,25 +1,31 @@
 -- What the answers of the reading code mean: 01's number, or what was read, by what its pieces mean in the store.
-use Rattle.std.specs.Prelude.{ℕ, ◌+◌, ◌*◌, ◌≤◌, ◌<◌, ◌≡◌, cond, List, length, drop}
+use Rattle.std.specs.Prelude.{ℕ, ◌+◌, ◌*◌, ◌≤◌, ◌<◌, ◌≡◌, cond, List, length, drop, Option as Maybe, Some, None, Result, Ok, Err}
 use Rattle.std.proofs.Math.Option.{Option, some, none as nothing}
+use Rattle.field.specs.Field.{field_at}
 use Rattle.field.specs.Limits.{absent}
+use Rattle.field.specs.Refusal.{number}
+use Rattle.field.specs.declared.refusal.Refusal.{Refusal}
 use Rattle.part.specs.PartReq.{PartReq}
 use Rattle.part.specs.StoreLimits.{cell_words, table_words}
 use Rattle.part.specs.Store.{top, part, Kept}
 use Rattle.context.specs.RequiredContext.{variable}
 use Rattle.request.specs.Fields.{fields, Read, malformed, got, Answer, refused, accepted}
 use Rattle.request.specs.Request.{Request as Asking, asking, all_below}
-use Rattle.request.specs.declared.parts.ReadPart.{ReadPart}
-use Rattle.request.specs.declared.parts.ReadPart.TheVariants.{Malformed, Got}
-use Rattle.request.specs.declared.lists.Optional.{Optional}
-use Rattle.request.specs.declared.lists.Optional.TheVariants.{Nothing, Piece}
-use Rattle.request.specs.declared.lists.ReadOption.{ReadOption}
-use Rattle.request.specs.declared.lists.ReadOption.TheVariants as options
-use Rattle.request.specs.declared.requests.RequestAnswer.{RequestAnswer}
-use Rattle.request.specs.declared.requests.RequestAnswer.TheVariants as requests
+use Rattle.request.specs.declared.requests.Request.{Request as Asked}
 
 -- the fields of b from the byte `at` on
 abbrev pub from : List ℕ → ℕ → List ℕ
 from b at = fields (drop at b)
+
+-- the field i stands at the byte `at`
+pub record Field (b : List ℕ) (at i : ℕ) : Type 0 where
+  pub inside : at + 2 ≤ length b
+  pub is : i ≡ field_at b at
+
+-- the answer of `field`
+abbrev pub FieldRead : (b : List ℕ) → ℕ → Maybe ℕ → Type 0
+FieldRead b at None = length b < at + 2
+FieldRead b at (Some i) = Field b at i
 
 -- Room in the store s for what the bytes of b from `at` on can say: an entry has at least four bytes, and takes a cell, of fewer than eight words.
 abbrev pub RoomFor : (s b : List ℕ) → ℕ → Type 0
@@ -32,39 +38,39 @@ pub record Spent (s t b : List ℕ) (at next : ℕ) : Type 0 where
   pub cost : 4 * top t + at ≤ 4 * top s + next
 
 -- the answer of `read_part`
-abbrev pub part_read : (t b : List ℕ) → ReadPart → Read PartReq
-part_read t b Malformed = malformed
-part_read t b (Got n next) = got (part t n) (from b next)
+abbrev pub part_read : (t b : List ℕ) → Maybe (ℕ × ℕ) → Read PartReq
+part_read t b None = malformed
+part_read t b (Some p) = got (part t p.0) (from b p.1)
 
-abbrev pub PartPlaced : (s t b : List ℕ) → ℕ → ReadPart → Type 0
-PartPlaced s t b at Malformed = Unit {0}
-PartPlaced s t b at (Got n next) = (n < top t) × Spent s t b at next
+abbrev pub PartPlaced : (s t b : List ℕ) → ℕ → Maybe (ℕ × ℕ) → Type 0
+PartPlaced s t b at None = Unit {0}
+PartPlaced s t b at (Some p) = (p.0 < top t) × Spent s t b at p.1
 
 -- from the store s, t was left, and the answer says r
-pub record PartWasRead (s t b : List ℕ) (at : ℕ) (r : Read PartReq) (a : ReadPart) : Type 0 where
+pub record PartWasRead (s t b : List ℕ) (at : ℕ) (r : Read PartReq) (a : Maybe (ℕ × ℕ)) : Type 0 where
   pub kept : Kept s t
   pub is : part_read t b a ≡ r
   pub placed : PartPlaced s t b at a
 
 -- a piece that may be nothing
-abbrev pub optional : List ℕ → Optional → Option PartReq
-optional t Nothing = nothing
-optional t (Piece n) = some (part t n)
+abbrev pub optional : List ℕ → Maybe ℕ → Option PartReq
+optional t None = nothing
+optional t (Some n) = some (part t n)
 
-abbrev pub Held : List ℕ → Optional → Type 0
-Held t Nothing = Unit {0}
-Held t (Piece n) = n < top t
+abbrev pub Held : List ℕ → Maybe ℕ → Type 0
+Held t None = Unit {0}
+Held t (Some n) = n < top t
 
 -- the answer of `read_return` and of `read_variables`
-abbrev pub option_read : (t b : List ℕ) → ReadOption → Read (Option PartReq)
-option_read t b options.Malformed = malformed
-option_read t b (options.Got o next) = got (optional t o) (from b next)
+abbrev pub option_read : (t b : List ℕ) → Maybe (Maybe ℕ × ℕ) → Read (Option PartReq)
+option_read t b None = malformed
+option_read t b (Some p) = got (optional t p.0) (from b p.1)
 
-abbrev pub OptionPlaced : (s t b : List ℕ) → ℕ → ReadOption → Type 0
-OptionPlaced s t b at options.Malformed = Unit {0}
-OptionPlaced s t b at (options.Got o next) = Held t o × Spent s t b at next
+abbrev pub OptionPlaced : (s t b : List ℕ) → ℕ → Maybe (Maybe ℕ × ℕ) → Type 0
+OptionPlaced s t b at None = Unit {0}
+OptionPlaced s t b at (Some p) = Held t p.0 × Spent s t b at p.1
 
-pub record OptionWasRead (s t b : List ℕ) (at : ℕ) (r : Read (Option PartReq)) (a : ReadOption) : Type 0 where
+pub record OptionWasRead (s t b : List ℕ) (at : ℕ) (r : Read (Option PartReq)) (a : Maybe (Maybe ℕ × ℕ)) : Type 0 where
   pub kept : Kept s t
   pub is : option_read t b a ≡ r
   pub placed : OptionPlaced s t b at a
@@ -80,20 +86,16 @@ skimmed malformed = malformed
 skimmed (got q fs) = got nothing fs
 
 -- the answer of `read_request`
-abbrev pub request_answer : List ℕ → RequestAnswer → Answer Asking
-request_answer t requests.Malformed = refused 12
-request_answer t requests.NoSuch = refused 11
-request_answer t requests.ShortReport = refused 18
-request_answer t (requests.Accepted q) = accepted (asking q.function.0 (optional t q.retval) (part t q.globals))
+abbrev pub request_answer : List ℕ → Result Asked Refusal → Answer Asking
+request_answer t (Err e) = refused (number e)
+request_answer t (Ok q) = accepted (asking q.function.0 (optional t q.retval) (part t q.globals))
 
 -- its pieces are there, and of n bytes were made a cell for every four at most
-abbrev pub RequestHeld : (s t : List ℕ) → ℕ → RequestAnswer → Type 0
-RequestHeld s t n requests.Malformed = Unit {0}
-RequestHeld s t n requests.NoSuch = Unit {0}
-RequestHeld s t n requests.ShortReport = Unit {0}
-RequestHeld s t n (requests.Accepted q) = Held t q.retval × (q.globals < top t) × (4 * top t ≤ 4 * top s + n)
+abbrev pub RequestHeld : (s t : List ℕ) → ℕ → Result Asked Refusal → Type 0
+RequestHeld s t n (Err e) = Unit {0}
+RequestHeld s t n (Ok q) = Held t q.retval × (q.globals < top t) × (4 * top t ≤ 4 * top s + n)
 
-pub record RequestWasRead (s t : List ℕ) (n : ℕ) (r : Answer Asking) (a : RequestAnswer) : Type 0 where
+pub record RequestWasRead (s t : List ℕ) (n : ℕ) (r : Answer Asking) (a : Result Asked Refusal) : Type 0 where
   pub kept : Kept s t
   pub is : request_answer t a ≡ r
   pub held : RequestHeld s t n a

@@ -4,4 +4,5 @@ pub mod Request
 pub mod Context
 pub mod Filed
 pub mod Answers
+pub mod Codes
 pub mod Written

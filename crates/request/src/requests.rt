@@ -5,27 +5,19 @@ ghost use Rattle.part.specs.Store.{Good};
 ghost use Rattle.request.specs.Request.{is_request, judge, request_of, finish};
 ghost use Rattle.request.specs.Answers.{from, optional, Held, RoomFor, RequestWasRead};
 
-use crate::lists::{Optional, ReadOption, read_return, read_variables};
-use crate::record::{ends, is_record};
+use crate::lists::{read_return, read_variables};
+use crate::record::{ends, field, is_record};
 use field::field::read;
 use field::limits::{ABSENT, MIN_REPORT};
+use field::refusal::Refusal;
 use module::handles::FunctionHandle;
 
 // What is asked: pieces of the store.
 #[derive(Clone, Copy)]
 pub struct Request {
     pub function: FunctionHandle,
-    pub retval: Optional,
+    pub retval: Option<u32>,
     pub globals: u32,
-}
-
-// Refused by 12, 11 and 18; or the request.
-#[derive(Clone, Copy)]
-pub enum RequestAnswer {
-    Malformed,
-    NoSuch,
-    ShortReport,
-    Accepted(Request),
 }
 
 fn is_request(bytes: &[u8]) -> bool
@@ -43,34 +35,34 @@ fn read_globals(
     bytes: &[u8],
     at: usize,
     function: u32,
-    retval: Optional,
+    retval: Option<u32>,
     functions: u32,
     globals: u32,
     report: usize,
-) -> RequestAnswer
+) -> Result<Request, Refusal>
     requires good { Good cells.old }
     requires at_in_bounds { (at ≤ length bytes.now) × RoomFor cells.old bytes.now at }
     requires globals_le_absent { (globals ≤ absent) × Held cells.old retval }
     ensures { RequestWasRead cells.old cells.new (length bytes.now - at) (finish functions globals report function (optional cells.old retval) (from bytes.now at)) result }
 {
-    let ReadOption::Got(o, end) = read_variables(cells, bytes, at, globals) else {
-        return RequestAnswer::Malformed;
+    let Some((o, end)) = read_variables(cells, bytes, at, globals) else {
+        return Err(Refusal::Malformed);
     };
     if !ends(bytes, end) {
-        return RequestAnswer::Malformed;
+        return Err(Refusal::Malformed);
     }
-    let Optional::Piece(g) = o else {
-        return RequestAnswer::NoSuch;
+    let Some(g) = o else {
+        return Err(Refusal::NoSuch);
     };
     if functions <= function {
-        return RequestAnswer::NoSuch;
+        return Err(Refusal::NoSuch);
     }
     if report < MIN_REPORT {
-        return RequestAnswer::ShortReport;
+        return Err(Refusal::ReportTooShort);
     }
-    RequestAnswer::Accepted(Request {
+    Ok(Request {
         function: FunctionHandle(function),
-        retval: retval,
+        retval,
         globals: g,
     })
 }
@@ -82,23 +74,22 @@ pub fn read_request(
     functions: u32,
     globals: u32,
     report: usize,
-) -> RequestAnswer
+) -> Result<Request, Refusal>
     requires good { Good cells.old }
     requires globals_le_absent { (globals ≤ absent) × RoomFor cells.old bytes.now 0 }
     ensures { RequestWasRead cells.old cells.new (length bytes.now) (judge functions globals report (request_of bytes.now)) result }
 {
     if !is_request(bytes) {
-        return RequestAnswer::Malformed;
+        return Err(Refusal::Malformed);
     }
-    if ends(bytes, 4) {
-        return RequestAnswer::Malformed;
-    }
-    let f = read(bytes, 4) as u32;
-    if f >= ABSENT as u32 {
-        return RequestAnswer::Malformed;
-    }
-    let ReadOption::Got(p, next) = read_return(cells, bytes, 6) else {
-        return RequestAnswer::Malformed;
+    let Some(f) = field(bytes, 4) else {
+        return Err(Refusal::Malformed);
     };
-    read_globals(cells, bytes, next, f, p, functions, globals, report)
+    if f >= ABSENT {
+        return Err(Refusal::Malformed);
+    }
+    let Some((p, next)) = read_return(cells, bytes, 6) else {
+        return Err(Refusal::Malformed);
+    };
+    read_globals(cells, bytes, next, f as u32, p, functions, globals, report)
 }

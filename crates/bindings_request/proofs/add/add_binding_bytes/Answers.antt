@@ -1,7 +1,7 @@
 -- `bindings_request::add::add_binding_bytes` meets its contract: 12 of the binding, then what reading the request answers.
 use native.Mathlib.Omega.{arith}
-use mathlib.Core.Path.{refl}
-use Rattle.bindings_request.proofs.Adding.{add-above, read_asks, add_malformed, add_no_such, add_short, add_to_asks, add_went}
+use mathlib.Core.Path.{refl, ◌∙◌}
+use Rattle.bindings_request.proofs.Adding.{add-above, read_asks, add_refused, add_to_asks, add_went}
 use Rattle.bindings_request.proofs.add.add_binding_bytes.Goals as goal
 
 pub returns-then-b-ge-BINDINGS : goal.returns-then-b-ge-BINDINGS
@@ -17,21 +17,13 @@ read_request-a-requires c =
 
 pub add_to-requires : goal.add_to-requires
 add_to-requires c =
-    let q9 = add_to_asks c.args.bytes.now c.args.t.now _ _ c.if-b-ge-BINDINGS.false (c.functions.ensures c.args.bytes.now) (c.globals.ensures c.args.bytes.now) c.read_request-a.ensures c.in-Accepted.is c.requires.tables c.requires.parts_len.0 c.requires.parts_len.1 refl refl c.init.ensures.1 c.init.ensures.2 in
+    let q9 = add_to_asks c.args.bytes.now c.args.t.now _ _ c.if-b-ge-BINDINGS.false (c.functions.ensures c.args.bytes.now) (c.globals.ensures c.args.bytes.now) c.read_request-a.ensures c.in-Ok.is c.requires.tables c.requires.parts_len.0 c.requires.parts_len.1 refl refl c.init.ensures.1 c.init.ensures.2 in
     record { tables = q9.0; good = q9.1.0; parts_len = q9.1.1.0; f_in_bounds = q9.1.1.1.0; b_lt_bindings = q9.1.1.1.1 }
 
-pub returns-in-Malformed : goal.returns-in-Malformed
-returns-in-Malformed c =
-    add_malformed c.args.bytes.now c.args.t.now _ _ c.if-b-ge-BINDINGS.false (c.functions.ensures c.args.bytes.now) (c.globals.ensures c.args.bytes.now) c.read_request-a.ensures c.in-Malformed.is
+pub returns-in-Err : goal.returns-in-Err
+returns-in-Err c =
+    add_refused c.args.bytes.now c.args.t.now _ _ c.if-b-ge-BINDINGS.false (c.functions.ensures c.args.bytes.now) (c.globals.ensures c.args.bytes.now) c.read_request-a.ensures c.in-Err.e c.in-Err.is (c.from.ensures ∙ c.own_refusal.ensures)
 
-pub returns-in-NoSuch : goal.returns-in-NoSuch
-returns-in-NoSuch c =
-    add_no_such c.args.bytes.now c.args.t.now _ _ c.if-b-ge-BINDINGS.false (c.functions.ensures c.args.bytes.now) (c.globals.ensures c.args.bytes.now) c.read_request-a.ensures c.in-NoSuch.is
-
-pub returns-in-ShortReport : goal.returns-in-ShortReport
-returns-in-ShortReport c =
-    add_short c.args.bytes.now c.args.t.now _ _ c.if-b-ge-BINDINGS.false (c.functions.ensures c.args.bytes.now) (c.globals.ensures c.args.bytes.now) c.read_request-a.ensures c.in-ShortReport.is
-
-pub returns-in-Accepted : goal.returns-in-Accepted
-returns-in-Accepted c =
-    add_went c.args.bytes.now c.args.t.now _ _ c.if-b-ge-BINDINGS.false (c.functions.ensures c.args.bytes.now) (c.globals.ensures c.args.bytes.now) c.read_request-a.ensures c.in-Accepted.is c.add_to.ensures
+pub returns-in-Ok : goal.returns-in-Ok
+returns-in-Ok c =
+    add_went c.args.bytes.now c.args.t.now _ _ c.if-b-ge-BINDINGS.false (c.functions.ensures c.args.bytes.now) (c.globals.ensures c.args.bytes.now) c.read_request-a.ensures c.in-Ok.is c.add_to.ensures

@@ -1,5 +1,4 @@
 -- `bindings_request::input::fill` meets its contract: one pair more a turn.
-use Prim.Native.Nat.{◌-◌}
 use native.Mathlib.Omega.{arith}
 use lib.ListN.{length, length-set}
 use Rattle.module.specs.Tables.{function_of}

@@ -1,7 +1,6 @@
 -- `walk`, `member_bindings` and `type_step` meet their contracts: a type names lower ones, and the measure falls with them.
 use native.Mathlib.Omega.{arith}
 use mathlib.Core.Path.{sym, ◌∙◌}
-use Rattle.context_bytes.proofs.Found.{sub-gone, sub-there}
 use Rattle.bindings_request.proofs.Walking.{lower-past, lower_all, lower-step, member_gone, member_exist, member_needed, left_none, left_more, left_all, base-found}
 use Rattle.bindings_request.proofs.needed.+member_bindings_type_step_walk.Goals as goal
 
@@ -9,14 +8,14 @@ pub member_bindings-find_part-requires : goal.member_bindings-find_part-requires
 member_bindings-find_part-requires t c = c.requires.readable
 
 pub member_bindings-returns-in_default : goal.member_bindings-returns-in_default
-member_bindings-returns-in_default t c = member_gone _ _ (sub-gone _ _ _ c.find_part.ensures c.in_default.is)
+member_bindings-returns-in_default t c = member_gone _ _ c.in_default.ensures
 
 pub member_bindings-is_exist-requires : goal.member_bindings-is_exist-requires
-member_bindings-is_exist-requires t c = (sub-there _ _ _ c.find_part.ensures c.in-There.is).0
+member_bindings-is_exist-requires t c = c.in-Some.ensures.0
 
 pub member_bindings-returns-then-is_exist : goal.member_bindings-returns-then-is_exist
 member_bindings-returns-then-is_exist t c =
-    member_exist _ _ (sub-there _ _ _ c.find_part.ensures c.in-There.is).1 (sym c.is_exist.ensures ∙ c.if-is_exist.true)
+    member_exist _ _ c.in-Some.ensures.1 (sym c.is_exist.ensures ∙ c.if-is_exist.true)
 
 pub member_bindings-member_at-m-requires : goal.member_bindings-member_at-m-requires
 member_bindings-member_at-m-requires t c = record { all_bound = c.requires.all_bound; i_bound = c.requires.i_bound }
@@ -26,11 +25,11 @@ member_bindings-own_binding-own-requires t c = c.member_at-m.ensures.bound
 
 pub member_bindings-walk-below-requires : goal.member_bindings-walk-below-requires
 member_bindings-walk-below-requires t c =
-    (omega (arith, c.decreases), ((sub-there _ _ _ c.find_part.ensures c.in-There.is).0, c.requires.all_bound))
+    (omega (arith, c.decreases), (c.in-Some.ensures.0, c.requires.all_bound))
 
 pub member_bindings-returns : goal.member_bindings-returns
 member_bindings-returns t c =
-    member_needed _ (sub-there _ _ _ c.find_part.ensures c.in-There.is).1 (sym c.is_exist.ensures ∙ c.if-is_exist.false) c.member_at-m.ensures c.own_binding-own.ensures c.walk-below.ensures
+    member_needed _ c.in-Some.ensures.1 (sym c.is_exist.ensures ∙ c.if-is_exist.false) c.member_at-m.ensures c.own_binding-own.ensures c.walk-below.ensures
 
 pub type_step-walk-requires : goal.type_step-walk-requires
 type_step-walk-requires t c = (omega (arith, c.decreases), (c.requires.readable, c.requires.all_bound))

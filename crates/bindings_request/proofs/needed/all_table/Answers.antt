@@ -1,5 +1,4 @@
 -- `bindings_request::needed::all_table` meets its contract: the table grows by one type a turn.
-use Prim.Native.Nat.{◌-◌}
 use native.Mathlib.Omega.{arith}
 use mathlib.Core.Path.{refl}
 use lib.ListN.{length-set}

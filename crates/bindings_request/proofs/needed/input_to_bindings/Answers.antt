@@ -1,6 +1,5 @@
 -- `bindings_request::needed::input_to_bindings` meets its contract: from the last argument to the first.
 use native.Mathlib.Omega.{arith}
-use Rattle.context_bytes.specs.Found.{list_at}
 use Rattle.bindings_request.proofs.Arguments.{args_none, args_more, args-all}
 use Rattle.bindings_request.proofs.needed.input_to_bindings.Goals as goal
 

@@ -1,71 +1,61 @@
 -- The proof of the cycle of calls {check_entries, skip_part}: a part's entries have parts that go less deep. Each return is one law about what was seen.
-use Rattle.context_bytes.proofs.Steps.{index_read, index_refused}
-use Rattle.context_bytes.proofs.Checked.{check_first, check_stop, check_no_part, check_again, check_done, part_refused, all_inside, exist_inside, entries_inside, all_skipped, exist_skipped, entries_skipped}
+use Prim.Native.Nat.{◌-◌}
+use mathlib.Core.Bool.{◌&&◌}
+use mathlib.Core.Path.{◌≡◌, ◌∙◌}
+use lib.Dec.{ltb}
 use native.Mathlib.Omega.{arith}
+use Rattle.request.proofs.Entries.{pred_of}
+use Rattle.request.proofs.Steps.{index_read, index_refused}
+use Rattle.context_bytes.proofs.Checked.{check_first, check_stop, check_no_part, check_again, check_done, part_refused, all_skipped, exist_skipped, entries_refused, entries_skipped}
 use Rattle.context_bytes.proofs.check.+check_entries_skip_part.Goals as goal
+use Rattle.context_bytes.proofs.check.+check_entries_skip_part.Goals.{check_entries-then-known, check_entries-else-known}
 
-pub check_entries-loop-left-init : goal.check_entries-loop-left-init
-check_entries-loop-left-init t c = check_first _ _ _ c.requires
+pub check_entries-loop-init : goal.check_entries-loop-init
+check_entries-loop-init t c = let e : c.args.n - 0 ≡ c.args.n = omega arith in rw e (check_first _ _ _ c.requires)
 
 pub check_entries-entry_index-requires : goal.check_entries-entry_index-requires
-check_entries-entry_index-requires t c = c.loop-left.invariant.inside
+check_entries-entry_index-requires t c = c.loop.invariant.inside
 
-pub check_entries-returns-in_default : goal.check_entries-returns-in_default
-check_entries-returns-in_default t c =
-    check_stop c.loop-left.invariant (index_refused c.entry_index.ensures c.loop-left-test.true c.in_default.is _)
-
-pub check_entries-overflow_add-next : goal.check_entries-overflow_add-next
-check_entries-overflow_add-next t c = omega (arith, (index_read c.entry_index.ensures c.loop-left-test.true c.in-Is.is).field)
+pub check_entries-returns-in_err-i : goal.check_entries-returns-in_err-i
+check_entries-returns-in_err-i t c =
+    rw c.from_residual.ensures (check_stop c.loop.invariant (index_refused (omega arith) c.in_err-i.ensures _))
 
 pub check_entries-skip_part-requires : goal.check_entries-skip_part-requires
 check_entries-skip_part-requires t c =
-    let x = index_read c.entry_index.ensures c.loop-left-test.true c.in-Is.is in (omega (arith, c.decreases), x.field.inside)
+    let x = index_read {n = c.args.n - c.loop.counter} (pred_of _ (omega arith)) c.in_ok-i.ensures in (omega (arith, c.decreases), x.field.inside)
 
-pub check_entries-returns-in_default-skip_part : goal.check_entries-returns-in_default-skip_part
-check_entries-returns-in_default-skip_part t c =
-    check_no_part c.loop-left.invariant (index_read c.entry_index.ensures c.loop-left-test.true c.in-Is.is) c.skip_part.ensures c.in_default-skip_part.is
+pub check_entries-returns-in_err-end : goal.check_entries-returns-in_err-end
+check_entries-returns-in_err-end t c =
+    rw c.from_residual-in_err-end.ensures (check_no_part c.loop.invariant (index_read (pred_of _ (omega arith)) c.in_ok-i.ensures) c.in_err-end.ensures)
 
 pub check_entries-overflow_add-least : goal.check_entries-overflow_add-least
-check_entries-overflow_add-least t c = omega (arith, index_read c.entry_index.ensures c.loop-left-test.true c.in-Is.is)
+check_entries-overflow_add-least t c = omega (arith, index_read {n = c.args.n - c.loop.counter} (pred_of _ (omega arith)) c.in_ok-i.ensures)
 
-pub check_entries-loop-left-preserved : goal.check_entries-loop-left-preserved
-check_entries-loop-left-preserved t c =
-    check_again c.loop-left.invariant (index_read c.entry_index.ensures c.loop-left-test.true c.in-Is.is) c.skip_part.ensures c.in-Next.is c.both-known.ensures
+pub check_entries-loop-preserved : goal.check_entries-loop-preserved
+check_entries-loop-preserved t c =
+    let known : c.if-known.known ≡ c.loop.known && ltb c.in_ok-i.i c.args.limit =
+    elim c.if-known.branch [
+      | check_entries-then-known w ↦ rw w.if-known.true w.known-is
+      | check_entries-else-known w ↦ rw w.if-known.false (w.known-is ∙ w.if-known.false)
+    ] in
+    check_again c.loop.invariant (index_read (omega arith) c.in_ok-i.ensures) c.in_ok-end.ensures known
 
 pub check_entries-returns : goal.check_entries-returns
-check_entries-returns t c = check_done c.loop-left.invariant (omega (arith, c.loop-left-test.false))
+check_entries-returns t c = check_done c.loop.invariant (omega arith)
 
-pub skip_part-part_code-requires : goal.skip_part-part_code-requires
-skip_part-part_code-requires t c = c.requires
-
-pub skip_part-overflow_add-result : goal.skip_part-overflow_add-result
-skip_part-overflow_add-result t c = omega (arith, all_inside c.part_code.ensures c.in-All.is)
-
-pub skip_part-overflow_add-result-in-Exist : goal.skip_part-overflow_add-result-in-Exist
-skip_part-overflow_add-result-in-Exist t c = omega (arith, exist_inside c.part_code.ensures c.in-Exist.is)
-
-pub skip_part-overflow_add-at : goal.skip_part-overflow_add-at
-skip_part-overflow_add-at t c = omega (arith, (entries_inside c.part_code.ensures c.in-Entries.is).0)
-
-pub skip_part-overflow_add-at-in-Entries : goal.skip_part-overflow_add-at-in-Entries
-skip_part-overflow_add-at-in-Entries t c = omega (arith, (entries_inside c.part_code.ensures c.in-Entries.is).0)
-
-pub skip_part-overflow_sub-depth : goal.skip_part-overflow_sub-depth
-skip_part-overflow_sub-depth t c = omega (arith, (entries_inside c.part_code.ensures c.in-Entries.is).1)
-
-pub skip_part-check_entries-requires : goal.skip_part-check_entries-requires
-skip_part-check_entries-requires t c =
-    let h = entries_inside c.part_code.ensures c.in-Entries.is in (omega (arith, h.1, c.decreases), h.0)
-
-pub skip_part-returns-in-Malformed : goal.skip_part-returns-in-Malformed
-skip_part-returns-in-Malformed t c = part_refused c.part_code.ensures c.in-Malformed.is
+pub skip_part-returns-in_err-part_code : goal.skip_part-returns-in_err-part_code
+skip_part-returns-in_err-part_code t c = rw c.from_residual.ensures (part_refused c.in_err-part_code.ensures)
 
 pub skip_part-returns-in-All : goal.skip_part-returns-in-All
-skip_part-returns-in-All t c = all_skipped c.part_code.ensures c.in-All.is
+skip_part-returns-in-All t c = all_skipped (rw c.in-All.is at c.in_ok-part_code.ensures)
 
 pub skip_part-returns-in-Exist : goal.skip_part-returns-in-Exist
-skip_part-returns-in-Exist t c = exist_skipped c.part_code.ensures c.in-Exist.is
+skip_part-returns-in-Exist t c = exist_skipped (rw c.in-Exist.is at c.in_ok-part_code.ensures)
 
-pub skip_part-returns-in-Entries : goal.skip_part-returns-in-Entries
-skip_part-returns-in-Entries t c =
-    entries_skipped c.part_code.ensures c.in-Entries.is c.check_entries.ensures c.drop_known.ensures
+pub skip_part-returns-in_err-known-in-Entries : goal.skip_part-returns-in_err-known-in-Entries
+skip_part-returns-in_err-known-in-Entries t c =
+    rw c.from_residual-in_err-known-in-Entries.ensures
+    (entries_refused (rw c.in-Entries.is at c.in_ok-part_code.ensures) c.in_err-known-in-Entries.ensures)
+
+pub skip_part-returns-in_ok-known-in-Entries : goal.skip_part-returns-in_ok-known-in-Entries
+skip_part-returns-in_ok-known-in-Entries t c = entries_skipped (rw c.in-Entries.is at c.in_ok-part_code.ensures) c.in_ok-known-in-Entries.ensures

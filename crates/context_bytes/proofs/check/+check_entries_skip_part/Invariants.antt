@@ -1,13 +1,10 @@
 -- The proof of the cycle of calls {check_entries, skip_part}: a part's entries have parts that go less deep. Each return is one law about what was seen.
-use Prim.Native.Nat.{◌*◌, ◌+◌}
+use Prim.Native.Nat.{◌*◌, ◌+◌, ◌-◌}
 use Rattle.context_bytes.proofs.Checked.{Checking}
 use Rattle.context_bytes.proofs.check.+check_entries_skip_part.Given as goal
 
-abbrev pub invariant-check_entries-loop-left : goal.invariant-check_entries-loop-left
-invariant-check_entries-loop-left l = Checking l.bytes l.at l.depth l.limit l.n l.next l.least l.left l.known
-
-abbrev pub decreases-check_entries-loop-left : goal.decreases-check_entries-loop-left
-decreases-check_entries-loop-left l = l.left
+abbrev pub invariant-check_entries-loop : goal.invariant-check_entries-loop
+invariant-check_entries-loop l = Checking l.bytes l.at l.depth l.limit l.n l.next l.least (l.n - l.counter) l.known
 
 abbrev pub decreases-check_entries : goal.decreases-check_entries
 decreases-check_entries l = 2 * l.depth + 1

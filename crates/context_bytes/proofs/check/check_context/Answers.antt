@@ -1,6 +1,5 @@
 -- `context_bytes::check::check_context` meets its contract: one law for each way.
 use Rattle.request.proofs.ContextLists.{context_inside}
-use Rattle.context_bytes.proofs.Checked.{skip_placed}
 use Rattle.context_bytes.proofs.Lists.{no_record, no_return, status_read}
 use Rattle.context_bytes.proofs.check.check_context.Goals as goal
 
@@ -11,12 +10,10 @@ pub skip_return-requires : goal.skip_return-requires
 skip_return-requires c = context_inside 0 0 0 c.args.bytes.now c.is_context.ensures c.if-not-is_context.false
 
 pub returns-in_default : goal.returns-in_default
-returns-in_default c =
-    no_return _ _ _ _ c.is_context.ensures c.if-not-is_context.false c.skip_return.ensures c.in_default.is
+returns-in_default c = no_return _ _ _ _ c.is_context.ensures c.if-not-is_context.false c.in_default.ensures
 
 pub check_lists-requires : goal.check_lists-requires
-check_lists-requires c = (skip_placed c.skip_return.ensures c.in-Next.is).1
+check_lists-requires c = c.in-Some.ensures.placed.1
 
 pub returns : goal.returns
-returns c =
-    status_read _ _ _ _ c.is_context.ensures c.if-not-is_context.false c.skip_return.ensures c.in-Next.is c.check_lists.ensures
+returns c = status_read _ _ _ _ c.is_context.ensures c.if-not-is_context.false c.in-Some.ensures c.check_lists.ensures

@@ -1,13 +1,10 @@
 -- The proof of the cycle of calls {count_entries, count_part}: a part's entries have parts that go less deep. Each return is one law about what was seen.
-use Prim.Native.Nat.{◌*◌, ◌+◌}
+use Prim.Native.Nat.{◌*◌, ◌+◌, ◌-◌}
 use Rattle.context_bytes.proofs.Counted.{Counting}
 use Rattle.context_bytes.proofs.count.+count_entries_count_part.Given as goal
 
-abbrev pub invariant-count_entries-loop-left : goal.invariant-count_entries-loop-left
-invariant-count_entries-loop-left l = Counting l.bytes l.at l.depth l.n l.next l.least l.left l.sum
-
-abbrev pub decreases-count_entries-loop-left : goal.decreases-count_entries-loop-left
-decreases-count_entries-loop-left l = l.left
+abbrev pub invariant-count_entries-loop : goal.invariant-count_entries-loop
+invariant-count_entries-loop l = Counting l.bytes l.at l.depth l.n l.next l.least (l.n - l.counter) l.sum
 
 abbrev pub decreases-count_entries : goal.decreases-count_entries
 decreases-count_entries l = 2 * l.depth + 1

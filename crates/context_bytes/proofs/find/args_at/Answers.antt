@@ -1,6 +1,5 @@
 -- `context_bytes::find::args_at` meets its contract: one law for each way.
 use Rattle.request.proofs.ContextLists.{context_inside}
-use Rattle.context_bytes.proofs.Checked.{skip_placed}
 use Rattle.context_bytes.proofs.Found.{args_unframed, args_no_return, args_no_globals, args_here}
 use Rattle.context_bytes.proofs.find.args_at.Goals as goal
 
@@ -11,15 +10,13 @@ pub skip_return-requires : goal.skip_return-requires
 skip_return-requires c = context_inside 0 0 0 c.args.bytes.now c.is_context.ensures c.if-not-is_context.false
 
 pub returns-in_default : goal.returns-in_default
-returns-in_default c = args_no_return c.skip_return.ensures c.in_default.is
+returns-in_default c = args_no_return c.in_default.ensures
 
 pub check_variables-requires : goal.check_variables-requires
-check_variables-requires c = (skip_placed c.skip_return.ensures c.in-Next.is).1
+check_variables-requires c = c.in-Some.ensures.placed.1
 
 pub returns-in_default-check_variables : goal.returns-in_default-check_variables
-returns-in_default-check_variables c =
-    args_no_globals c.skip_return.ensures c.in-Next.is c.check_variables.ensures c.in_default-check_variables.is
+returns-in_default-check_variables c = args_no_globals c.in-Some.ensures c.in_default-check_variables.ensures
 
 pub returns : goal.returns
-returns c =
-    args_here c.skip_return.ensures c.in-Next.is c.check_variables.ensures c.in-Next-check_variables.is
+returns c = args_here c.in-Some.ensures c.in-Some-check_variables.ensures

@@ -1,6 +1,5 @@
 -- `context_bytes::starts::context_covers` meets its contract: one law for each way.
 use Rattle.request.proofs.ContextLists.{context_inside}
-use Rattle.context_bytes.proofs.Checked.{skip_placed}
 use Rattle.context_bytes.proofs.Starting.{start_expression, start_unframed, start_no_return, start_lists}
 use Rattle.context_bytes.proofs.starts.context_covers.Goals as goal
 
@@ -14,12 +13,12 @@ pub skip_return-requires : goal.skip_return-requires
 skip_return-requires c = context_inside 0 0 0 c.args.context.now c.is_context.ensures c.if-not-is_context.false
 
 pub returns-in_default : goal.returns-in_default
-returns-in_default c = start_no_return _ _ _ c.skip_return.ensures c.in_default.is
+returns-in_default c = start_no_return _ _ _ c.in_default.ensures
 
 pub lists_cover-requires : goal.lists_cover-requires
 lists_cover-requires c =
-    record { good = c.requires.good; g_bound = (c.slot-g.ensures.piece, c.slot-a.ensures.piece, (skip_placed c.skip_return.ensures c.in-Next.is).1) }
+    record { good = c.requires.good; g_bound = (c.slot-g.ensures.piece, c.slot-a.ensures.piece, c.in-Some.ensures.placed.1) }
 
 pub returns : goal.returns
 returns c =
-    start_lists _ _ _ c.skip_return.ensures c.needs_expression.ensures c.if-needs_expression.false c.in-Next.is c.slot-g.ensures c.slot-a.ensures c.lists_cover.ensures
+    start_lists _ _ _ c.in-Some.ensures c.needs_expression.ensures c.if-needs_expression.false c.slot-g.ensures c.slot-a.ensures c.lists_cover.ensures

@@ -5,10 +5,10 @@ use Rattle.request.proofs.lists.returned.Goals as goal
 
 pub make-requires : goal.make-requires
 make-requires c =
-    record { good = c.requires.good; room = c.requires.room.0; child_bound = (held_piece c.args.cells.now c.in-Piece.is c.requires.room.1, omega (arith, c.requires.good.base)) }
+    record { good = c.requires.good; room = c.requires.room.0; child_bound = (held_piece c.args.cells.now c.in-Some.is c.requires.room.1, omega (arith, c.requires.good.base)) }
 
-pub returns-in-Nothing : goal.returns-in-Nothing
-returns-in-Nothing c = returned_none c.requires.good c.in-Nothing.is
+pub returns-in-None : goal.returns-in-None
+returns-in-None c = returned_none c.requires.good c.in-None.is
 
-pub returns-in-Piece : goal.returns-in-Piece
-returns-in-Piece c = returned_part c.in-Piece.is c.make.ensures
+pub returns-in-Some : goal.returns-in-Some
+returns-in-Some c = returned_part c.in-Some.is c.make.ensures

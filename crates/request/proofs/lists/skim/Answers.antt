@@ -1,62 +1,39 @@
 -- `request::lists::skim` meets its contract: the loop's invariant says that what is left gives the whole.
-use mathlib.Core.Path.{◌∙◌}
-use Rattle.request.specs.Part.{read_part}
-use Rattle.request.proofs.Entries.{field_read, index_left, ended, goes_on}
-use Rattle.request.proofs.Variables.{skim_first, skim_short, skim_falls, skim_absent, skim_no_part, skim_room, skim_done, skim_again}
+use Prim.Native.Nat.{◌-◌}
+use mathlib.Core.Path.{◌≡◌}
 use native.Mathlib.Omega.{arith}
+use Rattle.request.proofs.Entries.{pred_of}
+use Rattle.request.proofs.Steps.{index_read, index_refused}
+use Rattle.request.proofs.Variables.{skim_first, skim_none, skim_no_part, skim_room, skim_done, skim_again}
 use Rattle.request.proofs.lists.skim.Goals as goal
 
-pub loop-left-init : goal.loop-left-init
-loop-left-init c = skim_first _ _ c.requires.good c.requires.at_in_bounds.0
+pub loop-init : goal.loop-init
+loop-init c =
+    let e : c.args.n - 0 ≡ c.args.n = omega arith in rw e (skim_first _ _ c.requires.good c.requires.at_in_bounds.0)
 
-pub ends-requires : goal.ends-requires
-ends-requires c = c.loop-left.invariant.spent.inside
+pub entry_index-requires : goal.entry_index-requires
+entry_index-requires c = c.loop.invariant.spent.inside
 
-pub shape_of-cells-then-ends : goal.shape_of-cells-then-ends
-shape_of-cells-then-ends c = c.loop-left.invariant.kept.long
+pub returns-in_err-i : goal.returns-in_err-i
+returns-in_err-i c =
+    rw c.from_residual.ensures (skim_none c.loop.invariant (index_refused (omega arith) c.in_err-i.ensures _ _))
 
-pub returns-then-ends : goal.returns-then-ends
-returns-then-ends c =
-    skim_short c.loop-left.invariant c.loop-left-test.true (ended c.args.bytes.now c.loop-left.next c.ends.ensures c.if-ends.true)
+pub read_part-requires-clause-at_in_bounds : goal.read_part-requires-clause-at_in_bounds
+read_part-requires-clause-at_in_bounds c =
+    let x = index_read {n = c.args.n - c.loop.counter} (pred_of _ (omega arith)) c.in_ok-i.ensures in
+    (x.field.inside, skim_room c.loop.invariant c.requires.at_in_bounds.1 x.field.inside)
 
-pub read-i-requires : goal.read-i-requires
-read-i-requires c = goes_on c.args.bytes.now c.loop-left.next c.ends.ensures c.if-ends.false
+pub returns-in_err-p : goal.returns-in_err-p
+returns-in_err-p c =
+    rw c.from_residual-in_err-p.ensures
+    (skim_no_part c.loop.invariant (index_read (pred_of _ (omega arith)) c.in_ok-i.ensures) c.in_err-p.ensures)
 
-pub shape_of-cells-then-i-least : goal.shape_of-cells-then-i-least
-shape_of-cells-then-i-least c = c.loop-left.invariant.kept.long
+pub overflow_add-least : goal.overflow_add-least
+overflow_add-least c = omega (arith, index_read {n = c.args.n - c.loop.counter} (pred_of _ (omega arith)) c.in_ok-i.ensures)
 
-pub returns-then-i-least : goal.returns-then-i-least
-returns-then-i-least c =
-    skim_falls c.loop-left.invariant c.loop-left-test.true (field_read _ _ c.ends.ensures c.if-ends.false c.read-i.ensures) c.if-i-least.true
-
-pub shape_of-cells-then-i : goal.shape_of-cells-then-i
-shape_of-cells-then-i c = c.loop-left.invariant.kept.long
-
-pub returns-then-i : goal.returns-then-i
-returns-then-i c =
-    skim_absent c.loop-left.invariant c.loop-left-test.true (field_read _ _ c.ends.ensures c.if-ends.false c.read-i.ensures) c.if-i.true
-
-pub overflow_add-next : goal.overflow_add-next
-overflow_add-next c = omega (arith, goes_on c.args.bytes.now c.loop-left.next c.ends.ensures c.if-ends.false)
-
-pub read_part-requires : goal.read_part-requires
-read_part-requires c =
-    let h = goes_on c.args.bytes.now c.loop-left.next c.ends.ensures c.if-ends.false in
-    record { good = c.loop-left.invariant.kept.good; at_in_bounds = (h, skim_room c.loop-left.invariant c.requires.at_in_bounds.1 h) }
-
-pub shape_of-cells-in_default : goal.shape_of-cells-in_default
-shape_of-cells-in_default c = c.read_part.ensures.kept.long ∙ c.loop-left.invariant.kept.long
-
-pub returns-in_default : goal.returns-in_default
-returns-in_default c =
-    skim_no_part c.loop-left.invariant (index_left c.loop-left-test.true (field_read _ _ c.ends.ensures c.if-ends.false c.read-i.ensures) c.if-i-least.false c.if-i.false) c.read_part.ensures c.in_default.is
-
-pub loop-left-preserved : goal.loop-left-preserved
-loop-left-preserved c =
-    skim_again c.loop-left.invariant (index_left c.loop-left-test.true (field_read _ _ c.ends.ensures c.if-ends.false c.read-i.ensures) c.if-i-least.false c.if-i.false) c.read_part.ensures c.in-Got.is
-
-pub shape_of-cells : goal.shape_of-cells
-shape_of-cells c = c.loop-left.invariant.kept.long
+pub loop-preserved : goal.loop-preserved
+loop-preserved c =
+    skim_again c.loop.invariant (index_read (omega arith) c.in_ok-i.ensures) c.in_ok-p.ensures
 
 pub returns : goal.returns
-returns c = skim_done c.loop-left.invariant (omega (arith, c.loop-left-test.false))
+returns c = skim_done c.loop.invariant (omega arith)

@@ -1,4 +1,5 @@
 -- `request::lists::skim` meets its contract: the loop's invariant says that what is left gives the whole.
+use Prim.Native.Nat.{◌-◌}
 use Rattle.field.specs.Limits.{max_depth}
 use Rattle.part.specs.PartReq.{spine}
 use Rattle.request.specs.Part.{read_part, read_entries}
@@ -6,8 +7,6 @@ use Rattle.request.specs.Answers.{from, skimmed}
 use Rattle.request.proofs.Variables.{Skimming}
 use Rattle.request.proofs.lists.skim.Given as goal
 
-abbrev pub invariant-loop-left : goal.invariant-loop-left
-invariant-loop-left l = Skimming l.initial.cells l.cells l.bytes l.at (skimmed (read_entries (read_part max_depth) spine l.low l.n (from l.bytes l.at))) l.next l.least l.left
-
-abbrev pub decreases-loop-left : goal.decreases-loop-left
-decreases-loop-left l = l.left
+abbrev pub invariant-loop : goal.invariant-loop
+invariant-loop l =
+    Skimming l.initial.cells l.cells l.bytes l.at (skimmed (read_entries (read_part max_depth) spine l.low l.n (from l.bytes l.at))) l.next l.least (l.n - l.counter)

@@ -1,5 +1,5 @@
 -- Reading a part's code and an entry's index: one law for each way through the code, and what an answer leaves known.
-use Prim.Native.Nat.{ℕ, ◌+◌, ◌-◌, ◌≤◌, ◌<◌}
+use Prim.Native.Nat.{ℕ, suc, ◌+◌, ◌-◌, ◌≤◌, ◌<◌}
 use native.Mathlib.Omega.{arith}
 use native.Mathlib.Decide.{dec_lt}
 use mathlib.Core.Path.{◌≡◌, refl, sym, ◌∙◌}
@@ -11,49 +11,48 @@ use Rattle.field.specs.Limits.{absent, max_entries}
 use Rattle.part.specs.PartReq.{PartReq, more}
 use Rattle.request.specs.Fields.{Read, malformed, got, ◌>>=◌}
 use Rattle.request.specs.Part.{read_part, read_level, read_entries}
-use Rattle.request.specs.Answers.{from}
+use Rattle.request.specs.Answers.{from, Field}
 use Rattle.request.proofs.Bytes.{from_cons, from_end}
-use Rattle.request.proofs.Entries.{Field, Index, pred_of, part_end, part_all, part_exist, part_unknown, part_deep, part_level, level_end, level_wide, level_entries, entries_end, entries_low, entries_absent, index_next}
-use Rattle.context_bytes.specs.declared.codes.Code.TheVariants as codes
-use Rattle.context_bytes.specs.declared.codes.Index.{Index as Answer}
-use Rattle.context_bytes.specs.declared.codes.Index.TheVariants as indexes
-use Rattle.context_bytes.specs.Codes.{CodeWasRead, IndexWasRead, index_of}
+use Rattle.request.proofs.Entries.{Index, pred_of, part_end, part_all, part_exist, part_unknown, part_deep, part_level, level_end, level_wide, level_entries, entries_end, entries_low, entries_absent, index_next}
+use Rattle.std.specs.Prelude.{Some, None}
+use Rattle.request.specs.declared.codes.Code.TheVariants as codes
+use Rattle.request.specs.Codes.{CodeWasRead, IndexWasRead, index_of}
 
 -- a part's code
 module _ (b : List ℕ) (at d : ℕ) where
-  malformed-code : read_part d (from b at) ≡ malformed → CodeWasRead b at d codes.Malformed
+  malformed-code : read_part d (from b at) ≡ malformed → CodeWasRead b at d None
   malformed-code e = record { is = e; placed = tt }
 
-  pub code_short : length b < at + 2 → CodeWasRead b at d codes.Malformed
+  pub code_short : length b < at + 2 → CodeWasRead b at d None
   code_short h = malformed-code (part_end b at d h)
 
   module _ {i : ℕ} (f : Field b at i) where
-    pub code_all : i ≡ 0 → CodeWasRead b at d codes.All
+    pub code_all : i ≡ 0 → CodeWasRead b at d (Some codes.All)
     code_all e = record { is = part_all b at f.inside d (sym f.is ∙ e); placed = f.inside }
 
-    pub code_exist : i ≡ 1 → CodeWasRead b at d codes.Exist
+    pub code_exist : i ≡ 1 → CodeWasRead b at d (Some codes.Exist)
     code_exist e = record { is = part_exist b at f.inside d (sym f.is ∙ e); placed = f.inside }
 
-    pub code_unknown : (i ≡ 0 → ⊥) → (i ≡ 1 → ⊥) → (i ≡ 2 → ⊥) → CodeWasRead b at d codes.Malformed
+    pub code_unknown : (i ≡ 0 → ⊥) → (i ≡ 1 → ⊥) → (i ≡ 2 → ⊥) → CodeWasRead b at d None
     code_unknown x y z =
         malformed-code (part_unknown b at f.inside d (λ e. x (f.is ∙ e)) (λ e. y (f.is ∙ e)) (λ e. z (f.is ∙ e)))
 
     module _ (two : i ≡ 2) where
-      pub code_deep : d ≡ 0 → CodeWasRead b at d codes.Malformed
+      pub code_deep : d ≡ 0 → CodeWasRead b at d None
       code_deep z = malformed-code (part_deep b at f.inside d z (sym f.is ∙ two))
 
       module _ (some' : d ≡ 0 → ⊥) where
         level : read_part d (from b at) ≡ read_level (read_part (d - 1)) (from b (at + 2))
         level = part_level b at f.inside d (d - 1) (pred_of d some') (sym f.is ∙ two)
 
-        pub code_ends : length b < at + 2 + 2 → CodeWasRead b at d codes.Malformed
+        pub code_ends : length b < at + 2 + 2 → CodeWasRead b at d None
         code_ends h = malformed-code (level ∙ level_end b (at + 2) (read_part (d - 1)) h)
 
         module _ {n : ℕ} (g : Field b (at + 2) n) where
-          pub code_wide : max_entries < n → CodeWasRead b at d codes.Malformed
+          pub code_wide : max_entries < n → CodeWasRead b at d None
           code_wide h = malformed-code (level ∙ level_wide b (at + 2) g.inside (read_part (d - 1)) (rw g.is at h))
 
-          pub code_entries : n ≤ max_entries → CodeWasRead b at d (codes.Entries n)
+          pub code_entries : n ≤ max_entries → CodeWasRead b at d (Some (codes.Entries n))
           code_entries h =
               let is = g.is in
               record {
@@ -63,7 +62,7 @@ module _ (b : List ℕ) (at d : ℕ) where
 
 -- an entry's index
 module _ (b : List ℕ) (at low : ℕ) where
-  pub index_short : length b < at + 2 → IndexWasRead b at low indexes.Malformed
+  pub index_short : length b < at + 2 → IndexWasRead b at low None
   unfolding index_of
   index_short h = record { is = rw (from_end b at h) }
 
@@ -71,15 +70,15 @@ module _ (b : List ℕ) (at low : ℕ) where
     at_field : from b at ≡ field_at b at ∷ from b (at + 2)
     at_field = from_cons b at f.inside
 
-    pub index_falls : i < low → IndexWasRead b at low indexes.Malformed
+    pub index_falls : i < low → IndexWasRead b at low None
     unfolding index_of
     index_falls h = record { is = rw (at_field, ← f.is, lt-leb low i h) }
 
-    pub index_absent : low ≤ i → absent ≤ i → IndexWasRead b at low indexes.Malformed
+    pub index_absent : low ≤ i → absent ≤ i → IndexWasRead b at low None
     unfolding index_of
     index_absent l h = record { is = rw (at_field, ← f.is, le-leb low i l, le-ltb i absent h) }
 
-    pub index_is : low ≤ i → i < absent → IndexWasRead b at low (indexes.Is i)
+    pub index_is : low ≤ i → i < absent → IndexWasRead b at low (Some i)
     unfolding index_of
     index_is l h = record { is = rw (at_field, ← f.is, le-leb low i l, lt-ltb i absent h) }
 
@@ -87,17 +86,14 @@ field_there : (b : List ℕ) (at : ℕ) → at + 2 ≤ length b → Field b at (
 field_there b at h = record { inside = h; is = refl }
 
 -- what an answer says of an entry that is to be read, n being left
-module _ {b : List ℕ} {at low n : ℕ} {a : Answer} (was : IndexWasRead b at low a) (some' : 0 < n) where
-  no_field : (i : ℕ) → length b < at + 2 → a ≡ indexes.Is i → ⊥
-  no_field i h e =
-      let x = index_short b at low h in
-      let z : ◌≡◌ {A = ℕ} 0 1 = cc in
-      omega arith
-
-  pub index_read : {i : ℕ} → a ≡ indexes.Is i → Index b at low n i (n - 1)
-  index_read {i} e =
+module _ {b : List ℕ} {at low n : ℕ} where
+  pub index_read : {i k : ℕ} → n ≡ suc k → IndexWasRead b at low (Some i) → Index b at low n i k
+  index_read {i} some' was =
       elim (dec_lt (length b) (at + 2)) [
-        | yes h ↦ absurd (no_field i h e)
+        | yes h ↦
+            let x = index_short b at low h in
+            let z : ◌≡◌ {A = ℕ} 0 1 = cc in
+            absurd (omega arith)
         | no h ↦
             let f = field_there b at (omega arith) in
             elim (dec_lt (field_at b at) low) [
@@ -110,7 +106,7 @@ module _ {b : List ℕ} {at low n : ℕ} {a : Answer} (was : IndexWasRead b at l
                     | yes k ↦
                         let x = index_is b at low f (omega arith) k in
                         let same : i ≡ field_at b at = cc in
-                        record { field = record { inside = f.inside; is = same }; more_left = omega arith; high = omega arith; known = omega arith }
+                        record { field = record { inside = f.inside; is = same }; more_left = some'; high = omega arith; known = omega arith }
                     | no k ↦
                         let x = index_absent b at low f (omega arith) (omega arith) in
                         let z : ◌≡◌ {A = ℕ} 0 1 = cc in
@@ -119,8 +115,8 @@ module _ {b : List ℕ} {at low n : ℕ} {a : Answer} (was : IndexWasRead b at l
             ]
       ]
 
-  pub index_refused : a ≡ indexes.Malformed → (part' : List ℕ → Read PartReq) (base : ℕ) → read_entries part' base low n (from b at) ≡ malformed
-  index_refused e part' base =
+  pub index_refused : 0 < n → IndexWasRead b at low None → (part' : List ℕ → Read PartReq) (base : ℕ) → read_entries part' base low n (from b at) ≡ malformed
+  index_refused some' was part' base =
       elim (dec_lt (length b) (at + 2)) [
         | yes h ↦ entries_end part' base low n (n - 1) (omega arith) b at h
         | no h ↦
