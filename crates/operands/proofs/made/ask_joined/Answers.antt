@@ -1,6 +1,8 @@
 -- `operands::made::ask_joined` meets its contract. The invariant: the asks from the number k on are done.
 use Prim.Native.Nat.{◌-◌}
+use mathlib.Core.Bool.{true}
 use Rattle.access.specs.Access.{operand_at}
+use Rattle.clearance.specs.Needs.{ask_whole}
 use Rattle.operands.proofs.Loops.{loop_start, loop_done, loop_given, loop_full, loop_more}
 use Rattle.operands.proofs.Parts.{joined_each}
 use native.Mathlib.Omega.{arith}

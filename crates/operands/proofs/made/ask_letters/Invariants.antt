@@ -1,5 +1,5 @@
 -- `operands::made::ask_letters` meets its contract. The invariant: the asks from the number k on are done.
-use Prim.Native.Nat.{◌≤◌}
+use Prim.Native.Nat.{◌-◌, ◌≤◌}
 use mathlib.Core.Bool.{true}
 use lib.ListN.{drop}
 use Rattle.access.specs.Access.{operand_at}
