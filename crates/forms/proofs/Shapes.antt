@@ -23,8 +23,7 @@ use Rattle.judge.proofs.TypeRows.{number as kind_of, row_is}
 use Rattle.forms.specs.ShapeBy.{shape_in, shape_by, Parted}
 use Rattle.forms.specs.declared.form.Form.{Form}
 use Rattle.forms.specs.declared.form.Form.TheVariants.{Void, Number, Vector as VectorForm, Of}
-use Rattle.forms.specs.declared.form.Split.{Split}
-use Rattle.forms.specs.declared.form.Split.TheVariants.{Whole, Into}
+use Rattle.std.specs.Prelude.{Option, Some, None}
 
 -- in every scope with these types it is the clearance's shape
 pub shape_is : (types : List ℕ) (S : Scope) → S.program.types ≡ types_of types → (t : TypeHandle) → shape_of S t ≡ shape_in (types_of types) t
@@ -244,22 +243,22 @@ module _ (types : List ℕ) (t : ℕ) where
     pub whole_other : (k ≡ 5 → ⊥) → eqb k 7 ≡ is_whole (shape_in (types_of types) t)
     whole_other h = rw (step_is, e) (whole_kind lower type (λ q. h (e ∙ q)))
 
-    pub parted_vector : {n : ℕ} → k ≡ 1 → n ≡ type_word types t 1 → Parted (shape_in (types_of types) t) (Into n)
+    pub parted_vector : {n : ℕ} → k ≡ 1 → n ≡ type_word types t 1 → Parted (shape_in (types_of types) t) (Some n)
     parted_vector {n} h w =
         record { part = λ j. number; is = step_is ∙ rw (row_is types t 1 (omega arith) e h) (unfold type_inner_of unfold_type vector_shape in rw w) }
 
-    pub parted_matrix : {n : ℕ} → k ≡ 2 → n ≡ type_word types t 1 → Parted (shape_in (types_of types) t) (Into n)
+    pub parted_matrix : {n : ℕ} → k ≡ 2 → n ≡ type_word types t 1 → Parted (shape_in (types_of types) t) (Some n)
     parted_matrix {n} h w =
         record { part = λ j. vector_shape (type_word types t 2); is = step_is ∙ rw (row_is types t 2 (omega arith) e h) (unfold type_inner_of unfold_type in rw w) }
 
-    pub parted_struct : {n : ℕ} → k ≡ 6 → n ≡ type_word types t 1 → Parted (shape_in (types_of types) t) (Into n)
+    pub parted_struct : {n : ℕ} → k ≡ 6 → n ≡ type_word types t 1 → Parted (shape_in (types_of types) t) (Some n)
     parted_struct {n} h w =
         record {
           part = λ j. lower (member_types (tab (type_word types t 1) (member_of (λ j. type_word types t (1 + j)))) j);
           is = step_is ∙ rw (row_is types t 6 (omega arith) e h) (unfold type_inner_of unfold_type in rw (length-tab (type_word types t 1) (member_of (λ j. type_word types t (1 + j))), w));
         }
 
-    pub parted_none : (k ≡ 1 → ⊥) → (k ≡ 2 → ⊥) → (k ≡ 6 → ⊥) → Parted (shape_in (types_of types) t) Whole
+    pub parted_none : (k ≡ 1 → ⊥) → (k ≡ 2 → ⊥) → (k ≡ 6 → ⊥) → Parted (shape_in (types_of types) t) None
     parted_none a b c = rw step_is (split-none lower type (λ q. a (e ∙ q)) (λ q. b (e ∙ q)) (λ q. c (e ∙ q)))
 
     -- the part i
@@ -305,7 +304,7 @@ module _ (types : List ℕ) (f : Form) where
     pub void_whole : false ≡ is_whole (shape_by types f)
     void_whole = rw e refl
 
-    pub void_split : Parted (shape_by types f) Whole
+    pub void_split : Parted (shape_by types f) None
     void_split = rw e (unfold split in refl)
 
   module _ (e : f ≡ Number) where
@@ -318,7 +317,7 @@ module _ (types : List ℕ) (f : Form) where
     pub number_whole : false ≡ is_whole (shape_by types f)
     number_whole = rw e refl
 
-    pub number_split : Parted (shape_by types f) Whole
+    pub number_split : Parted (shape_by types f) None
     number_split = rw e (unfold split in refl)
 
   module _ {n : ℕ} (e : f ≡ VectorForm n) where
@@ -331,7 +330,7 @@ module _ (types : List ℕ) (f : Form) where
     pub vector_whole : false ≡ is_whole (shape_by types f)
     vector_whole = rw e (unfold vector_shape in refl)
 
-    pub vector_split : Parted (shape_by types f) (Into n)
+    pub vector_split : Parted (shape_by types f) (Some n)
     vector_split = rw e (record { part = λ j. number; is = unfold vector_shape in refl })
 
   module _ {t : Handle} (e : f ≡ Of t) where
@@ -344,5 +343,5 @@ module _ (types : List ℕ) (f : Form) where
     pub type_whole : {b : Bool} → b ≡ is_whole (shape_in (types_of types) t.0) → b ≡ is_whole (shape_by types f)
     type_whole h = rw e h
 
-    pub type-split : (r : Split) → Parted (shape_in (types_of types) t.0) r → Parted (shape_by types f) r
+    pub type-split : (r : Option ℕ) → Parted (shape_in (types_of types) t.0) r → Parted (shape_by types f) r
     type-split r h = rw e h

@@ -23,8 +23,7 @@ use Rattle.clearance.specs.IsNeed.{IsNeed}
 use Rattle.judge.specs.Alike.{Lower}
 use Rattle.needs.specs.Lean.{change, leaves}
 use Rattle.forms.specs.ShapeBy.{Members, Parted}
-use Rattle.forms.specs.declared.form.Split.{Split}
-use Rattle.forms.specs.declared.form.Split.TheVariants.{Whole, Into}
+use Rattle.std.specs.Prelude.{Option, Some, None}
 use Rattle.forms.specs.Narrow.{level_cells, Narrow, or_all}
 use Rattle.forms.proofs.Leaves.{change_before, change-at, change-after, members-put, leaves_none, leaves-whole, leaves-one, leaves-gone, leaves-there, leaves-members}
 use Rattle.forms.proofs.Leaves.{narrow_member, narrow_members, need_width, need_entry}
@@ -191,10 +190,10 @@ OutAsked types s v p path k =
     Good s × ((Lower (types_of types) × Narrow v) × (((p < top s) × IsNeed v (part s p)) × ((k ≤ length path) × Room s (level_cells * length (drop k path)))))
 
 -- what `split_of` and `get` found
-pub parted_one : (v : Shape) (r : Split) → r ≡ Whole → Parted v r → split v all ≡ all
+pub parted_one : (v : Shape) (r : Option ℕ) → r ≡ None → Parted v r → split v all ≡ all
 parted_one v r e h = rw e at h
 
-pub parted_into : (v : Shape) (r : Split) {n : ℕ} → r ≡ Into n → Parted v r → Members v n
+pub parted_into : (v : Shape) (r : Option ℕ) {n : ℕ} → r ≡ Some n → Parted v r → Members v n
 parted_into v r e h = rw e at h
 
 pub got_gone : (s : List ℕ) (p : PartReq) (i : ℕ) (f : Found) → f ≡ Gone → Got s (get_subpart p i) f → get_subpart p i ≡ gone

@@ -1,5 +1,5 @@
 -- The shape that a form stands for, by the table of types: in every scope with these types it is the clearance's (proofs/Shapes).
-use Rattle.std.specs.Prelude.{ℕ, ◌≡◌, List, get_or}
+use Rattle.std.specs.Prelude.{ℕ, ◌≡◌, List, get_or, Option, Some, None}
 use Rattle.part.specs.PartReq.{all}
 use Rattle.module.specs.Module.{TypeHandle, TypeInner, Opaque}
 use Rattle.module.specs.Knot.{knot}
@@ -8,8 +8,6 @@ use Rattle.clearance.specs.Shape.{Shape, number, void, struct, split}
 use Rattle.clearance.specs.Scope.{vector_shape, unfold_type}
 use Rattle.forms.specs.declared.form.Form.{Form}
 use Rattle.forms.specs.declared.form.Form.TheVariants.{Void, Number, Vector, Of}
-use Rattle.forms.specs.declared.form.Split.{Split}
-use Rattle.forms.specs.declared.form.Split.TheVariants.{Whole, Into}
 
 -- `shape_of`, which looks at a scope's types alone
 unfoldable pub shape_in : List TypeInner → TypeHandle → Shape
@@ -26,7 +24,7 @@ pub record Members (t : Shape) (n : ℕ) : Type 0 where
   pub part : ℕ → Shape
   pub is : t ≡ struct 0 n part
 
--- how all of the shape is split
-abbrev pub Parted : Shape → Split → Type 0
-Parted t Whole = split t all ≡ all
-Parted t (Into n) = Members t n
+-- how all of the shape is split: not at all, or into so many parts
+abbrev pub Parted : Shape → Option ℕ → Type 0
+Parted t None = split t all ≡ all
+Parted t (Some n) = Members t n

@@ -10,7 +10,7 @@ ghost use Rattle.needs.specs.Lean.{change, leaves};
 ghost use Rattle.forms.specs.ShapeBy.{shape_by};
 ghost use Rattle.forms.specs.Narrow.{level_cells, Narrow, or_all};
 
-use crate::form::{Form, Split, is_whole, member_form, split_of};
+use crate::form::{Form, is_whole, member_form, split_of};
 use part::req::{Found, get};
 use part::store::{look, make};
 
@@ -70,12 +70,9 @@ fn members_around(cells: &mut [u32], n: u32, i: u32, d: u32) -> u32
     requires room { Room cells.old n × (d < top cells.old) }
     ensures { Made cells.old cells.new (change i (λ c. part cells.old d) (members 0 n)) n result }
 {
-    let mut k = n;
     let mut r = 2;
-    while 0 < k {
-        let j = k - 1;
-        r = put_member(cells, j, i, d, r);
-        k = j;
+    for k in (0..n).rev() {
+        r = put_member(cells, k, i, d, r);
     }
     r
 }
@@ -90,7 +87,7 @@ fn take_all(cells: &mut [u32], types: &[u32], form: Form, path: &[u32], at: usiz
     if path.len() <= at {
         return 2;
     }
-    let Split::Into(n) = split_of(types, form) else {
+    let Some(n) = split_of(types, form) else {
         return 0;
     };
     let i = path[at];

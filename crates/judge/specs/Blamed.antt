@@ -1,9 +1,7 @@
 -- The lowest that fails, as the code answers it.
-use Rattle.std.specs.Prelude.{ℕ}
-use Rattle.std.proofs.Math.Option.{Option, some, none as nothing}
-use Rattle.judge.specs.declared.expressions.Blamed.{Blamed}
-use Rattle.judge.specs.declared.expressions.Blamed.TheVariants.{Nothing, At}
+use Rattle.std.specs.Prelude.{ℕ, Option, Some, None}
+use Rattle.std.proofs.Math.Option.{Option as Maybe, some, none as nothing}
 
-abbrev pub blamed : Blamed → Option ℕ
-blamed Nothing = nothing
-blamed (At n) = some n
+abbrev pub blamed : Option ℕ → Maybe ℕ
+blamed None = nothing
+blamed (Some n) = some n

@@ -6,7 +6,7 @@ ghost use Rattle.context.specs.Types.{type_count, types_of};
 ghost use Rattle.clearance.specs.Scope.{kind, bases, pairwise, alike_inner};
 ghost use Rattle.judge.specs.Alike.{by_table, Lower, Lowest, Upto, AlikeTable};
 
-use crate::rows::{base_at, base_count, kind_at, second_word};
+use crate::rows::{TypeKind, base_at, base_count, kind_at, second_word};
 use bindings::types::{first_word, word};
 use module::handles::TypeHandle;
 
@@ -19,19 +19,17 @@ fn same_kind(types: &[u32], a: TypeHandle, b: TypeHandle) -> bool
     if k != l {
         return false;
     }
-    if k == 1 {
-        return first_word(types, a) == first_word(types, b);
-    }
-    if k == 2 {
-        if first_word(types, a) != first_word(types, b) {
-            return false;
+    match k {
+        TypeKind::Vector => first_word(types, a) == first_word(types, b),
+        TypeKind::Matrix => {
+            if first_word(types, a) != first_word(types, b) {
+                return false;
+            }
+            second_word(types, a) == second_word(types, b)
         }
-        return second_word(types, a) == second_word(types, b);
+        TypeKind::Array => second_word(types, a) == second_word(types, b),
+        _ => true,
     }
-    if k == 5 {
-        return second_word(types, a) == second_word(types, b);
-    }
-    true
 }
 
 // Whether two types are made of as many types, which the table says are alike.
@@ -42,14 +40,12 @@ fn same_bases(types: &[u32], table: &[u32], a: TypeHandle, b: TypeHandle) -> boo
     if n != base_count(types, b) {
         return false;
     }
-    let mut i: u32 = 0;
-    while i < n {
+    for i in 0..n {
         let x = base_at(types, a, i);
         let y = base_at(types, b, i);
         if word(table, x.0 as usize) != word(table, y.0 as usize) {
             return false;
         }
-        i += 1;
     }
     true
 }
@@ -70,12 +66,10 @@ fn lowest(types: &[u32], table: &[u32], k: TypeHandle) -> TypeHandle
     requires upto { Upto (types_of types.now) table.now k.0 }
     ensures { Lowest (types_of types.now) k.0 result.0 }
 {
-    let mut j: u32 = 0;
-    while j < k.0 {
+    for j in 0..k.0 {
         if same_inner(types, table, TypeHandle(j), k) {
             return TypeHandle(j);
         }
-        j += 1;
     }
     k
 }
@@ -87,11 +81,8 @@ pub fn fill_alike(types: &[u32], table: &mut [u32])
     requires table_len_bound { length table.old ≤ max_types }
     ensures { AlikeTable (types_of types.now) table.new }
 {
-    let mut k: u32 = 0;
-    while (k as usize) < table.len() {
-        let r = lowest(types, table, TypeHandle(k));
-        let at = k as usize;
-        table[at] = r.0;
-        k += 1;
+    for k in 0..table.len() {
+        let r = lowest(types, table, TypeHandle(k as u32));
+        table[k] = r.0;
     }
 }

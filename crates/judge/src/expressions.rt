@@ -17,13 +17,6 @@ use access::function::expressions;
 use access::kinded::expression;
 use module::handles::{ExpressionHandle, FunctionHandle};
 
-// The lowest expression or statement that fails, if one does.
-#[derive(Clone, Copy)]
-pub enum Blamed {
-    Nothing,
-    At(u32),
-}
-
 // Whether the expression e fits, by the group of its kind. A kind past the last is a literal's.
 pub fn fits_expression(
     bytes: &[u8],
@@ -102,18 +95,16 @@ pub fn blamed_expression(
     alike: &[u32],
     held: &[u32],
     paths: &[u32],
-) -> Blamed
+) -> Option<u32>
     requires given { Given bytes.now t.now f.0 types.now alike.now paths.now }
     requires unsized_table { UnsizedTable (types_of types.now) held.now }
     ensures { blamed result ≡ blamed_expression (scope_at bytes.now t.now f.0) }
 {
     let n = expressions(t, f);
-    let mut e: u32 = 0;
-    while e < n {
+    for e in 0..n {
         if !judged_expression(bytes, t, f, types, alike, held, paths, ExpressionHandle(e)) {
-            return Blamed::At(e);
+            return Some(e);
         }
-        e += 1;
     }
-    Blamed::Nothing
+    None
 }

@@ -6,12 +6,11 @@ ghost use Rattle.clearance.specs.Judged.{same_part};
 ghost use Rattle.judge.specs.Shapes.{InTypes, Shapes, indexed};
 ghost use Rattle.judge.specs.Given.{scope_at, Row, Fits, fits_base};
 
+use crate::kinds::ACCESS;
 use crate::shapes::{pointee, same_element, same_part};
 use crate::values::{both, is_path, is_value, type_of};
 use access::kinded::{Kinded, expression_operand, operand};
 use module::handles::{ExpressionHandle, FunctionHandle, TypeHandle};
-
-const ACCESS: u16 = 4;
 
 // Whether an index of the type a is of b's shape: a dynamic one, or the constant i.
 fn same_index(types: &[u32], alike: &[u32], kind: u16, a: TypeHandle, i: u32, b: TypeHandle) -> bool

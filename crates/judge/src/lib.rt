@@ -4,6 +4,7 @@
 pub mod alike;
 pub mod expressions;
 pub mod indexes;
+pub mod kinds;
 pub mod made;
 pub mod named;
 pub mod operators;

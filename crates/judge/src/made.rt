@@ -9,16 +9,13 @@ ghost use Rattle.clearance.specs.Scope.{inner, inner_of, is_scalar, is_vector};
 ghost use Rattle.clearance.specs.Judged.{every, part_type, same_part, component_count, count_components};
 ghost use Rattle.judge.specs.Given.{scope_at, Row, Fits};
 
-use crate::rows::kind_at;
+use crate::kinds::{SPLAT, SWIZZLE};
+use crate::rows::{TypeKind, kind_at};
 use crate::shapes::{is_vector_of, part_count, same_part};
 use crate::values::{all_values, both, is_value, type_of};
 use access::kinded::{Kinded, expression_operand, operand};
 use bindings::types::first_word;
 use module::handles::{ExpressionHandle, FunctionHandle, TypeHandle};
-
-const SPLAT: u16 = 6;
-
-const SWIZZLE: u16 = 7;
 
 // Whether each letter of a pattern is below n.
 fn letters_below(bytes: &[u8], row: Kinded, n: u32) -> bool
@@ -26,13 +23,11 @@ fn letters_below(bytes: &[u8], row: Kinded, n: u32) -> bool
     ensures { result ≡ every (λ i. ltb i n) (tab (operand_at bytes.now row 1) (λ i. operand_at bytes.now row (2 + i))) }
 {
     let count = operand(bytes, row, 1);
-    let mut i: u16 = 0;
-    while i < count {
+    for i in 0..count {
         let letter = operand(bytes, row, 2 + i) as u32;
         if n <= letter {
             return false;
         }
-        i += 1;
     }
     true
 }
@@ -54,7 +49,7 @@ fn fits_swizzle(
 {
     let vector = expression_operand(bytes, row, 0);
     let a = type_of(bytes, t, f, vector);
-    if kind_at(types, a) != 1 {
+    if kind_at(types, a) != TypeKind::Vector {
         return false;
     }
     let within = letters_below(bytes, row, first_word(types, a));
@@ -73,14 +68,11 @@ fn fits_swizzle(
 fn component_count(types: &[u32], a: TypeHandle) -> u32
     ensures { result ≡ component_count (get_or (types_of types.now) a.0 Opaque) }
 {
-    let k = kind_at(types, a);
-    if k == 0 {
-        return 1;
+    match kind_at(types, a) {
+        TypeKind::Scalar => 1,
+        TypeKind::Vector => first_word(types, a),
+        _ => 0,
     }
-    if k == 1 {
-        return first_word(types, a);
-    }
-    0
 }
 
 // Whether the components are scalars and vectors, n components in all.
@@ -90,14 +82,13 @@ fn joins(bytes: &[u8], t: &[u32], f: FunctionHandle, types: &[u32], row: Kinded,
 {
     let count = operand(bytes, row, 0);
     let mut total: usize = 0;
-    let mut i: u16 = 0;
-    while i < count {
+    for i in 0..count {
         let a = type_of(bytes, t, f, expression_operand(bytes, row, 1 + i));
-        if 1 < kind_at(types, a) {
-            return false;
+        match kind_at(types, a) {
+            TypeKind::Scalar | TypeKind::Vector => {}
+            _ => return false,
         }
         total += component_count(types, a) as usize;
-        i += 1;
     }
     total == (n as usize)
 }
@@ -120,13 +111,11 @@ fn parts_fit(
     ensures { result ≡ every (λ i. same_part (scope_at bytes.now t.now f.0) (part_type (scope_at bytes.now t.now f.0) (inner (scope_at bytes.now t.now f.0) a.0) i) (inner_of (scope_at bytes.now t.now f.0) (operand_at bytes.now row (1 + i)))) (tab (operand_at bytes.now row 0) (λ i. i)) }
 {
     let count = operand(bytes, row, 0);
-    let mut i: u16 = 0;
-    while i < count {
+    for i in 0..count {
         let b = type_of(bytes, t, f, expression_operand(bytes, row, 1 + i));
         if !same_part(types, alike, a, i as u32, b) {
             return false;
         }
-        i += 1;
     }
     true
 }
@@ -149,7 +138,7 @@ fn fits_compose(
     let values = all_values(bytes, t, f, types, paths, row);
     let a = type_of(bytes, t, f, e);
     let k = kind_at(types, a);
-    if k == 1 {
+    if k == TypeKind::Vector {
         return both(values, joins(bytes, t, f, types, row, first_word(types, a)));
     }
     if part_count(types, a) != operand(bytes, row, 0) as u32 {
@@ -159,16 +148,10 @@ fn fits_compose(
         values,
         parts_fit(bytes, t, f, types, alike, paths, row, e, a),
     );
-    if k == 2 {
-        return fit;
+    match k {
+        TypeKind::Matrix | TypeKind::Array | TypeKind::Struct => fit,
+        _ => false,
     }
-    if k == 5 {
-        return fit;
-    }
-    if k == 6 {
-        return fit;
-    }
-    false
 }
 
 // A vector of one scalar, letters of a vector, or components.
@@ -194,7 +177,10 @@ pub fn fits_made(
         let value = expression_operand(bytes, row, 0);
         let a = type_of(bytes, t, f, value);
         let b = type_of(bytes, t, f, e);
-        let sized = both(kind_at(types, a) == 0, kind_at(types, b) == 1);
+        let sized = both(
+            kind_at(types, a) == TypeKind::Scalar,
+            kind_at(types, b) == TypeKind::Vector,
+        );
         return both(is_value(bytes, t, f, types, paths, value), sized);
     }
     fits_compose(bytes, t, f, types, alike, paths, row, e)

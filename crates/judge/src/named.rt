@@ -7,19 +7,14 @@ ghost use Rattle.clearance.specs.Judged.{pointee, pointee_type, same};
 ghost use Rattle.judge.specs.Shapes.{InTypes, Shapes};
 ghost use Rattle.judge.specs.Given.{scope_at, Given, Row, Fits};
 
-use crate::rows::kind_at;
+use crate::kinds::{FUNCTION_ARGUMENT, GLOBAL_VARIABLE, LOCAL_VARIABLE};
+use crate::rows::{TypeKind, kind_at};
 use crate::shapes::{is_alike, pointee};
 use crate::values::{both, is_path, is_value, type_of};
 use access::function::{argument, local};
 use access::kinded::{Kinded, expression_operand, global_operand, local_operand, operand};
 use access::whole::global;
 use module::handles::{ExpressionHandle, FunctionHandle, TypeHandle};
-
-const FUNCTION_ARGUMENT: u16 = 9;
-
-const GLOBAL_VARIABLE: u16 = 10;
-
-const LOCAL_VARIABLE: u16 = 11;
 
 // Whether a variable of the type a, which is no pointer, is of the shape that the type b leads to.
 fn fits_variable(types: &[u32], alike: &[u32], a: TypeHandle, b: TypeHandle) -> bool
@@ -28,7 +23,7 @@ fn fits_variable(types: &[u32], alike: &[u32], a: TypeHandle, b: TypeHandle) -> 
     requires b_in_bounds { b.0 < length (types_of types.now) }
     ensures { InTypes types.now (λ S. not (is_pointer (inner S a.0)) && same S (inner S a.0) (pointee_type S (inner S b.0))) result }
 {
-    if kind_at(types, a) == 4 {
+    if kind_at(types, a) == TypeKind::Pointer {
         return false;
     }
     is_alike(alike, a, pointee(types, b))

@@ -2,22 +2,11 @@
 ghost use Rattle.std.specs.Prelude.{◌≡◌, ◌≤◌};
 ghost use Rattle.judge.specs.Given.{Row, Fits};
 
+use crate::kinds::{AS, BINARY, MATH, RELATIONAL, SELECT, UNARY};
 use crate::shapes::is_alike;
 use crate::values::{both, is_value, maybe_value, type_of};
 use access::kinded::{Kinded, expression_operand};
 use module::handles::{ExpressionHandle, FunctionHandle};
-
-const UNARY: u16 = 16;
-
-const BINARY: u16 = 17;
-
-const SELECT: u16 = 18;
-
-const RELATIONAL: u16 = 20;
-
-const MATH: u16 = 21;
-
-const AS: u16 = 22;
 
 // A value of two, by a condition: both have the result's shape.
 fn fits_select(

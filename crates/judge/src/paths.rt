@@ -6,17 +6,10 @@ ghost use Rattle.access.specs.Access.{typed_at};
 ghost use Rattle.judge.specs.Marked.{marked};
 ghost use Rattle.judge.specs.Paths.{path_by, PathTable};
 
+use crate::kinds::{ACCESS, ACCESS_INDEX, GLOBAL_VARIABLE, LOCAL_VARIABLE};
 use access::kinded::{expression, expression_operand};
 use bindings::types::word;
 use module::handles::{ExpressionHandle, FunctionHandle};
-
-const ACCESS_INDEX: u16 = 3;
-
-const ACCESS: u16 = 4;
-
-const GLOBAL_VARIABLE: u16 = 10;
-
-const LOCAL_VARIABLE: u16 = 11;
 
 // The expression e's entry: a variable is a path, and of an index it is its base's.
 fn path_entry(bytes: &[u8], t: &[u32], f: FunctionHandle, table: &[u32], e: ExpressionHandle) -> u32
@@ -46,11 +39,8 @@ pub fn fill_paths(bytes: &[u8], t: &[u32], f: FunctionHandle, table: &mut [u32])
     requires table_len { length table.old ≡ length (function_of bytes.now t.now f.0).expressions }
     ensures { PathTable (function_of bytes.now t.now f.0).expressions table.new }
 {
-    let mut e: u32 = 0;
-    while (e as usize) < table.len() {
-        let r = path_entry(bytes, t, f, table, ExpressionHandle(e));
-        let at = e as usize;
-        table[at] = r;
-        e += 1;
+    for e in 0..table.len() {
+        let r = path_entry(bytes, t, f, table, ExpressionHandle(e as u32));
+        table[e] = r;
     }
 }

@@ -7,19 +7,13 @@ ghost use Rattle.clearance.specs.Judged.{presently, is_value, fits_return, fits_
 ghost use Rattle.judge.specs.Given.{scope_at, Given, FitsStatement};
 ghost use Rattle.judge.specs.Blamed.{blamed};
 
-use crate::expressions::Blamed;
+use crate::kinds::{LOOP, RETURN, STORE};
 use crate::named::leads_to;
 use crate::shapes::is_alike;
 use crate::values::{both, is_value, maybe_value, type_of};
 use access::function::{result, statements};
 use access::kinded::{expression_operand, statement};
 use module::handles::{ExpressionHandle, FunctionHandle, NO_HANDLE};
-
-const LOOP: u16 = 4;
-
-const RETURN: u16 = 7;
-
-const STORE: u16 = 12;
 
 // A returned value is of the result's shape; there may be none.
 fn fits_return(
@@ -99,17 +93,15 @@ pub fn unfit_statement(
     types: &[u32],
     alike: &[u32],
     paths: &[u32],
-) -> Blamed
+) -> Option<u32>
     requires { Given bytes.now t.now f.0 types.now alike.now paths.now }
     ensures { blamed result ≡ lowest (failing (λ n x. fits_statement (scope_at bytes.now t.now f.0) x) 0 (function_of bytes.now t.now f.0).statements) }
 {
     let n = statements(t, f);
-    let mut s: u32 = 0;
-    while s < n {
+    for s in 0..n {
         if !fits_statement(bytes, t, f, types, alike, paths, s) {
-            return Blamed::At(s);
+            return Some(s);
         }
-        s += 1;
     }
-    Blamed::Nothing
+    None
 }

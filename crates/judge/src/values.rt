@@ -6,7 +6,7 @@ ghost use Rattle.clearance.specs.Scope.{type_of, is_path};
 ghost use Rattle.clearance.specs.Judged.{every, presently, is_value};
 ghost use Rattle.judge.specs.Given.{scope_at, Values};
 
-use crate::rows::kind_at;
+use crate::rows::{TypeKind, kind_at};
 use access::function::{expression_type, expressions};
 use access::kinded::{Kinded, expression_operand, operand};
 use bindings::types::word;
@@ -63,7 +63,7 @@ pub fn is_value(
         return false;
     }
     let own = type_of(bytes, t, f, e);
-    kind_at(types, own) != 4
+    kind_at(types, own) != TypeKind::Pointer
 }
 
 // Whether the operand v is absent or a value.
@@ -97,13 +97,11 @@ pub fn all_values(
     ensures { result ≡ every (is_value (scope_at bytes.now t.now f.0)) (tab (operand_at bytes.now row 0) (λ i. operand_at bytes.now row (1 + i))) }
 {
     let n = operand(bytes, row, 0);
-    let mut i: u16 = 0;
-    while i < n {
+    for i in 0..n {
         let c = expression_operand(bytes, row, 1 + i);
         if !is_value(bytes, t, f, types, paths, c) {
             return false;
         }
-        i += 1;
     }
     true
 }

@@ -58,6 +58,6 @@ pub record Passed (S : Scope) (e : ℕ) (path : List ℕ) (h from to : ℕ) (dyn
 
 -- all steps of e are passed, down to a variable
 pub record IndexesPassed (S : Scope) (e : ℕ) (before after : List ℕ) (r : Reached) : Type 0 where
-  pub passed : Passed S e after r.variable.0 r.from r.to r.dynamic
+  pub passed : Passed S e after r.variable.0 r.passed.from r.passed.to r.passed.dynamic
   pub variable : (path_of S r.variable.0).steps ≡ []
   pub long : length after ≡ length before

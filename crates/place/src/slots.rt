@@ -4,9 +4,7 @@ ghost use Rattle.clearance.specs.Scope.{slot, argument, evaluated};
 ghost use Rattle.place.specs.Slots.{Written};
 
 use module::handles::ExpressionHandle;
-
-// The first index of a variable's own entry.
-const SPINE: u32 = 65536;
+use part::limits::SPINE;
 
 pub fn evaluated_path(path: &mut [u32], e: ExpressionHandle)
     requires { 2 ≤ length path.old }

@@ -7,20 +7,9 @@ ghost use Rattle.place.specs.Sources.{source_by, is_fixed, gives_kind};
 
 use access::function::expressions;
 use access::kinded::{expression, operand};
+use judge::kinds::{ACCESS, ACCESS_INDEX, CONSTANT, DERIVATIVE, FUNCTION_ARGUMENT, LOAD};
 use judge::values::is_path;
 use module::handles::{ExpressionHandle, FunctionHandle};
-
-const ACCESS_INDEX: u16 = 3;
-
-const ACCESS: u16 = 4;
-
-const CONSTANT: u16 = 5;
-
-const FUNCTION_ARGUMENT: u16 = 9;
-
-const LOAD: u16 = 12;
-
-const DERIVATIVE: u16 = 19;
 
 // A value that is fixed, an argument, what the expression's own emit leaves.
 #[derive(Clone, Copy)]

@@ -3,9 +3,8 @@ ghost use Rattle.place.specs.Target.{Pointer};
 ghost use Rattle.place.specs.Steps.{StepDown};
 
 use access::kinded::{expression, expression_operand};
+use judge::kinds::ACCESS;
 use module::handles::{ExpressionHandle, FunctionHandle};
-
-const ACCESS: u16 = 4;
 
 // What a pointer is: a variable, a constant index of a base, a dynamic index of a base.
 #[derive(Clone, Copy)]

@@ -6,14 +6,9 @@ ghost use Rattle.judge.specs.Given.{scope_at};
 ghost use Rattle.place.specs.Target.{Pointer, IndexesPassed, TargetFound};
 
 use access::kinded::{expression, expression_operand, operand};
+use judge::kinds::{ACCESS, LOCAL_VARIABLE};
 use module::handles::{ExpressionHandle, FunctionHandle};
-
-const ACCESS: u16 = 4;
-
-const LOCAL_VARIABLE: u16 = 11;
-
-// The first index of a variable's own entry.
-const SPINE: u32 = 65536;
+use part::limits::SPINE;
 
 // What counts of a lent path, path[from..to], and whether an index on the way is dynamic.
 #[derive(Clone, Copy)]
@@ -27,9 +22,7 @@ pub struct Target {
 #[derive(Clone, Copy)]
 pub struct Reached {
     pub variable: ExpressionHandle,
-    pub from: usize,
-    pub to: usize,
-    pub dynamic: bool,
+    pub passed: Target,
 }
 
 // Where the path ends: nothing counts from a dynamic index on.
@@ -87,11 +80,10 @@ fn pass_indexes(
         h = expression_operand(bytes, row, 0);
         row = expression(bytes, t, f, h);
     }
+    let passed = Target { from, to, dynamic };
     Reached {
         variable: h,
-        from: from,
-        to: to,
-        dynamic: dynamic,
+        passed,
     }
 }
 
@@ -109,13 +101,12 @@ pub fn find_target(
 {
     let reached = pass_indexes(bytes, t, f, path, e);
     let row = expression(bytes, t, f, reached.variable);
-    let from = reached.from - 2;
+    let from = reached.passed.from - 2;
     let number = from + 1;
     path[number] = SPINE + (operand(bytes, row, 0) as u32);
     path[from] = variable_kind(row.kind);
     Target {
-        from: from,
-        to: reached.to,
-        dynamic: reached.dynamic,
+        from,
+        ..reached.passed
     }
 }

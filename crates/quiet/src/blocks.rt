@@ -12,16 +12,9 @@ ghost use Rattle.quiet.specs.Places.{quiet_block, quiet_statement, quiet_cases, 
 use crate::plain::quiet_plain;
 use access::function::block;
 use access::kinded::{Kinded, block_operand, operand, statement};
+use judge::kinds::{BLOCK, IF, LOOP, SWITCH};
 use module::handles::{BlockHandle, FunctionHandle};
 use strays::exits::{Exits, in_body, in_case, none};
-
-const BLOCK: u16 = 1;
-
-const IF: u16 = 2;
-
-const SWITCH: u16 = 3;
-
-const LOOP: u16 = 4;
 
 #[cycle(quiet_block_quiet_cases_quiet_statement)]
 fn quiet_cases(
@@ -43,9 +36,8 @@ fn quiet_cases(
     requires cases_in { CasesIn bytes.now t.now f.0 b.0 row }
     ensures { Says (quiet_cases (scope_at bytes.now t.now f.0) (part cells.now m) (operand_at bytes.now row) (operand_at bytes.now row 1) (exits_of e)) path.old path.new result }
 {
-    let mut i = operand(bytes, row, 1) as u32;
-    while 0 < i {
-        i -= 1;
+    let n = operand(bytes, row, 1) as u32;
+    for i in (0..n).rev() {
         let case = block_operand(bytes, row, 3 + 2 * i);
         if !quiet_block(bytes, t, f, types, alike, paths, cells, path, m, case, e) {
             return false;
@@ -128,9 +120,7 @@ pub fn quiet_block(
 {
     let range = block(t, f, b);
     let first = range.first;
-    let count = range.count;
-    let mut k = 0;
-    while k < count {
+    for k in 0..range.count {
         if !quiet_statement(
             bytes,
             t,
@@ -147,7 +137,6 @@ pub fn quiet_block(
         ) {
             return false;
         }
-        k += 1;
     }
     true
 }

@@ -16,18 +16,9 @@ ghost use Rattle.quiet.specs.Places.{quiet_statement, Says};
 
 use crate::acts::{emit_idle, store_idle};
 use access::kinded::{Kinded, expression_operand};
+use judge::kinds::{CONTINUE, EMIT, LAST, RETURN, STORE};
 use module::handles::{ExpressionHandle, FunctionHandle};
 use strays::exits::Exits;
-
-const EMIT: u16 = 0;
-
-const CONTINUE: u16 = 6;
-
-const RETURN: u16 = 7;
-
-const STORE: u16 = 12;
-
-const LAST: u16 = 20;
 
 // Whether none of the emitted expressions, from the first to the last, gives anything that is needed.
 fn quiet_emits(
@@ -48,8 +39,7 @@ fn quiet_emits(
     requires in_bounds { 2 ≤ length path.old }
     ensures { IdleFrom (scope_at bytes.now t.now f.0) (part cells.now m) first.0 ((last.0 + 1) - first.0) path.old path.new result }
 {
-    let mut e = first.0;
-    while e <= last.0 {
+    for e in first.0..=last.0 {
         if !emit_idle(
             bytes,
             t,
@@ -64,7 +54,6 @@ fn quiet_emits(
         ) {
             return false;
         }
-        e += 1;
     }
     true
 }

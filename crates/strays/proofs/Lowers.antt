@@ -4,14 +4,13 @@ use native.Mathlib.Omega.{arith}
 use mathlib.Core.Path.{◌≡◌, refl, sym, ap, ◌∙◌}
 use mathlib.Core.Bool.{Bool, true, false, cond}
 use mathlib.Core.List.{List, [], ◌∷◌, ◌++◌}
-use mathlib.Core.Option.{Option, some, none as nothing}
+use mathlib.Core.Option.{Option as Maybe, some, none as nothing}
+use Rattle.std.specs.Prelude.{Option, Some, None, min}
 use lib.Dec.{ltb}
 use borrow.Author.Tests.{lt-ltb, le-ltb, ltb-true, ltb-false}
 use Rattle.clearance.specs.Judged.{unless, lower, lowest}
 use Rattle.clearance.proofs.Small.{cases}
 use Rattle.judge.specs.Blamed.{blamed}
-use Rattle.judge.specs.declared.expressions.Blamed.{Blamed}
-use Rattle.judge.specs.declared.expressions.Blamed.TheVariants.{Nothing, At}
 use Rattle.strays.specs.Lower.{lower_of}
 
 abbrev less : ℕ → ℕ → ℕ
@@ -27,17 +26,17 @@ less-assoc n m k =
     (λ b. rw (a, b, a))
     (λ b. let l : n ≤ k = omega (arith, ltb-false k m a, ltb-false m n b) in rw (a, b, le-ltb k n l)))
 
-lower-lower : (n m : ℕ) (z : Option ℕ) → lower n (lower m z) ≡ lower_of (lower n (some m)) z
+lower-lower : (n m : ℕ) (z : Maybe ℕ) → lower n (lower m z) ≡ lower_of (lower n (some m)) z
 unfolding lower lower_of
 lower-lower n m nothing = refl
 lower-lower n m (some k) = ap some (less-assoc n m k)
 
-lower_of-lower : (n : ℕ) (y z : Option ℕ) → lower n (lower_of y z) ≡ lower_of (lower n y) z
+lower_of-lower : (n : ℕ) (y z : Maybe ℕ) → lower n (lower_of y z) ≡ lower_of (lower n y) z
 unfolding lower_of
 lower_of-lower n nothing z = unfold lower in refl
 lower_of-lower n (some m) z = lower-lower n m z
 
-assoc : (x y z : Option ℕ) → lower_of x (lower_of y z) ≡ lower_of (lower_of x y) z
+assoc : (x y z : Maybe ℕ) → lower_of x (lower_of y z) ≡ lower_of (lower_of x y) z
 unfolding lower_of
 assoc nothing y z = refl
 assoc (some n) y z = lower_of-lower n y z
@@ -48,43 +47,43 @@ lowest_append [] b = refl
 lowest_append (n ∷ a) b = ap (lower n) (lowest_append a b) ∙ lower_of-lower n (lowest a) (lowest b)
 
 -- b, and then a
-pub then : (a b : List ℕ) (x y z : Option ℕ) → y ≡ lower_of (lowest b) x → z ≡ lower_of (lowest a) y → z ≡ lower_of (lowest (a ++ b)) x
+pub then : (a b : List ℕ) (x y z : Maybe ℕ) → y ≡ lower_of (lowest b) x → z ≡ lower_of (lowest a) y → z ≡ lower_of (lowest (a ++ b)) x
 then a b x y z p q =
-    q ∙ ap (lower_of (lowest a)) p ∙ assoc (lowest a) (lowest b) x ∙ ap (λ (l : Option ℕ). lower_of l x) (sym (lowest_append a b))
+    q ∙ ap (lower_of (lowest a)) p ∙ assoc (lowest a) (lowest b) x ∙ ap (λ (l : Maybe ℕ). lower_of l x) (sym (lowest_append a b))
 
-pub none_before : (x : Option ℕ) → lower_of x nothing ≡ x
+pub none_before : (x : Maybe ℕ) → lower_of x nothing ≡ x
 unfolding lower_of
 none_before nothing = refl
 none_before (some n) = unfold lower in refl
 
 -- what the code answers
-module _ (n : ℕ) (low : Blamed) where
-  pub lower-nothing : low ≡ Nothing → some n ≡ lower n (blamed low)
+module _ (n : ℕ) (low : Option ℕ) where
+  pub lower-nothing : low ≡ None → some n ≡ lower n (blamed low)
   unfolding lower
   lower-nothing h = rw h
 
-  pub lower-kept : (m : ℕ) → low ≡ At m → m < n → some m ≡ lower n (blamed low)
+  pub lower-least : (m : ℕ) {r : ℕ} → low ≡ Some m → r ≡ min m n → some r ≡ lower n (blamed low)
   unfolding lower
-  lower-kept m h l = rw (h, lt-ltb m n l)
+  lower-least m h e =
+      rw (h, e)
+      (cases (ltb m n)
+      (λ a. rw a (ap some (omega (arith, ltb-true m n a))))
+      (λ a. rw a (ap some (omega (arith, ltb-false m n a)))))
 
-  pub lower-new : (m : ℕ) → low ≡ At m → n ≤ m → some n ≡ lower n (blamed low)
-  unfolding lower
-  lower-new m h l = rw (h, le-ltb m n l)
-
-module _ (a : Blamed) (b : Option ℕ) where
-  pub of_nothing : a ≡ Nothing → b ≡ lower_of (blamed a) b
+module _ (a : Option ℕ) (b : Maybe ℕ) where
+  pub of_nothing : a ≡ None → b ≡ lower_of (blamed a) b
   unfolding lower_of
   of_nothing h = rw h
 
-  pub of_some : (n : ℕ) (r : Option ℕ) → a ≡ At n → r ≡ lower n b → r ≡ lower_of (blamed a) b
+  pub of_some : (n : ℕ) (r : Maybe ℕ) → a ≡ Some n → r ≡ lower n b → r ≡ lower_of (blamed a) b
   unfolding lower_of
   of_some n r h q = rw h q
 
-module _ (n : ℕ) (allowed : Bool) (low : Option ℕ) where
+module _ (n : ℕ) (allowed : Bool) (low : Maybe ℕ) where
   pub unless_allowed : allowed ≡ true → low ≡ lower_of (lowest (unless allowed n)) low
   unfolding lower_of unless lowest
   unless_allowed h = rw h
 
-  pub unless_not : (r : Option ℕ) → allowed ≡ false → r ≡ lower n low → r ≡ lower_of (lowest (unless allowed n)) low
+  pub unless_not : (r : Maybe ℕ) → allowed ≡ false → r ≡ lower n low → r ≡ lower_of (lowest (unless allowed n)) low
   unfolding lower_of unless lowest lower
   unless_not r h q = rw h q

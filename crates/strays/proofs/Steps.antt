@@ -17,7 +17,7 @@ use Rattle.access.specs.declared.kinded.Kinded.{Kinded}
 use Rattle.access.specs.Access.{operand_at, statement_row, range_at}
 use Rattle.access.proofs.Access.{range_is}
 use Rattle.clearance.specs.Tree.{Tree, nop, statement, statements_from, no_block, block_tree, body_tree}
-use Rattle.clearance.specs.Needs.{Exit, broke, continued, returned, only_next, concat}
+use Rattle.clearance.specs.Needs.{Exit, only_next, concat}
 use Rattle.clearance.specs.Judged.{at_top, in_case, in_body, unless, strays, lowest, failing, fits_statement, blamed_statement}
 use Rattle.clearance.specs.Scope.{Scope}
 use Rattle.clearance.proofs.Markless.{strays-same}

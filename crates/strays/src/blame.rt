@@ -8,7 +8,6 @@ ghost use Rattle.judge.specs.Blamed.{blamed};
 
 use crate::blocks::strays;
 use crate::lower::lower_of;
-use judge::expressions::Blamed;
 use judge::statements::unfit_statement;
 use module::handles::FunctionHandle;
 
@@ -20,7 +19,7 @@ pub fn blamed_statement(
     types: &[u32],
     alike: &[u32],
     paths: &[u32],
-) -> Blamed
+) -> Option<u32>
     requires { Given bytes.now t.now f.0 types.now alike.now paths.now }
     ensures { (marks : List ℕ) → blamed result ≡ blamed_statement (scope_at bytes.now t.now f.0) (body_tree (function_of bytes.now t.now f.0) marks) }
 {

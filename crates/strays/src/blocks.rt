@@ -16,27 +16,11 @@ use crate::exits::{Exits, at_top, in_body, in_case, none};
 use crate::lower::lower_unless;
 use access::function::{block, body_block};
 use access::kinded::{Kinded, block_operand, operand, statement};
-use judge::expressions::Blamed;
+use judge::kinds::{BLOCK, CONTINUE, EMIT, IF, LAST, LOOP, RETURN, SWITCH};
 use module::handles::{BlockHandle, FunctionHandle};
 
-const EMIT: u16 = 0;
-
-const BLOCK: u16 = 1;
-
-const IF: u16 = 2;
-
-const SWITCH: u16 = 3;
-
-const LOOP: u16 = 4;
-
-const CONTINUE: u16 = 6;
-
-const RETURN: u16 = 7;
-
-const LAST: u16 = 20;
-
 // A statement that holds no blocks, of a kind past a loop's. A kind past the last is a break's.
-fn stray_leaving(kind: u16, s: u32, e: Exits, low: Blamed) -> Blamed
+fn stray_leaving(kind: u16, s: u32, e: Exits, low: Option<u32>) -> Option<u32>
     requires { 4 < kind }
     ensures { (f : Function) (block : Handle → Tree) (o : ℕ → ℕ) → blamed result ≡ lower_of (lowest (straysOf (statement_tree f [] block s (statement_of kind o)) (exits_of e))) (blamed low) }
 {
@@ -63,17 +47,15 @@ fn stray_cases(
     b: BlockHandle,
     row: Kinded,
     e: Exits,
-    low: Blamed,
-) -> Blamed
+    low: Option<u32>,
+) -> Option<u32>
     requires { CasesIn bytes.now t.now f.0 b.0 row }
     ensures { blamed result ≡ lower_of (lowest (stray_cases (function_of bytes.now t.now f.0) (operand_at bytes.now row) (operand_at bytes.now row 1) (exits_of e))) (blamed low) }
 {
     let n = operand(bytes, row, 1) as u32;
     let mut low = low;
-    let mut i: u32 = 0;
-    while i < n {
+    for i in 0..n {
         low = stray_block(bytes, t, f, block_operand(bytes, row, 3 + 2 * i), e, low);
-        i += 1;
     }
     low
 }
@@ -87,8 +69,8 @@ fn stray_statement(
     b: BlockHandle,
     s: u32,
     e: Exits,
-    low: Blamed,
-) -> Blamed
+    low: Option<u32>,
+) -> Option<u32>
     requires { StatementIn bytes.now t.now f.0 b.0 s }
     ensures { blamed result ≡ lower_of (lowest (stray_statement (function_of bytes.now t.now f.0) b.0 s (exits_of e))) (blamed low) }
 {
@@ -128,27 +110,25 @@ fn stray_block(
     f: FunctionHandle,
     b: BlockHandle,
     e: Exits,
-    low: Blamed,
-) -> Blamed
+    low: Option<u32>,
+) -> Option<u32>
     requires { BlockOf bytes.now t.now f.0 b.0 }
     ensures { blamed result ≡ lower_of (lowest (stray_block (function_of bytes.now t.now f.0) b.0 (exits_of e))) (blamed low) }
 {
     let range = block(t, f, b);
     let first = range.first;
     let mut low = low;
-    let mut k = range.count;
-    while k > 0 {
-        k -= 1;
+    for k in (0..range.count).rev() {
         low = stray_statement(bytes, t, f, b, first + k, e, low);
     }
     low
 }
 
 // Of the body of f, whatever its marks.
-pub fn strays(bytes: &[u8], t: &[u32], f: FunctionHandle) -> Blamed
+pub fn strays(bytes: &[u8], t: &[u32], f: FunctionHandle) -> Option<u32>
     requires { There bytes.now t.now f.0 }
     ensures { (marks : List ℕ) → blamed result ≡ lowest (straysOf (body_tree (function_of bytes.now t.now f.0) marks) at_top) }
 {
     let b = body_block(t, f);
-    stray_block(bytes, t, f, b, at_top(), Blamed::Nothing)
+    stray_block(bytes, t, f, b, at_top(), None)
 }

@@ -24,11 +24,7 @@ pub fn at_top() -> Exits
 pub fn in_case(e: Exits) -> Exits
     ensures { exits_of result ≡ in_case (exits_of e) }
 {
-    Exits {
-        broke: true,
-        continued: e.continued,
-        returned: e.returned,
-    }
+    Exits { broke: true, ..e }
 }
 
 pub fn in_body(e: Exits) -> Exits
@@ -37,7 +33,7 @@ pub fn in_body(e: Exits) -> Exits
     Exits {
         broke: true,
         continued: true,
-        returned: e.returned,
+        ..e
     }
 }
 

@@ -4,6 +4,7 @@ use native.Mathlib.Omega.{arith}
 use mathlib.Core.Path.{◌≡◌, sym, ◌∙◌}
 use mathlib.Core.List.{List}
 use lib.ListN.{length}
+use Rattle.std.specs.Prelude.{Option, Some, None}
 use Rattle.field.specs.Limits.{max_types}
 use Rattle.module.specs.Tables.{function_of, module_of}
 use Rattle.valid.specs.There.{There}
@@ -18,8 +19,6 @@ use Rattle.judge.specs.Unsized.{UnsizedTable}
 use Rattle.judge.specs.Paths.{PathTable}
 use Rattle.judge.specs.Given.{scope_at}
 use Rattle.judge.specs.Blamed.{blamed}
-use Rattle.judge.specs.declared.expressions.Blamed.{Blamed}
-use Rattle.judge.specs.declared.expressions.Blamed.TheVariants.{Nothing, At}
 use Rattle.judge.proofs.Equivalence.{lower_types}
 use Rattle.checking.specs.Word.{unjudged_expression_base, unjudged_statement_base}
 use Rattle.verdict.specs.Tables.{Tables, unjudged, Judges}
@@ -49,16 +48,16 @@ module _ {bytes t : List ℕ} {f : ℕ} (T : There bytes t f) where
     }
 
 -- what is not judged
-module _ (bytes t : List ℕ) (f : ℕ) {b : Blamed} (B : blamed b ≡ blamed_expression (scope_at bytes t f)) where
-  pub at-expression : {e : ℕ} → b ≡ At e → Judges bytes t f (unjudged_expression_base + e)
+module _ (bytes t : List ℕ) (f : ℕ) {b : Option ℕ} (B : blamed b ≡ blamed_expression (scope_at bytes t f)) where
+  pub at-expression : {e : ℕ} → b ≡ Some e → Judges bytes t f (unjudged_expression_base + e)
   unfolding unjudged
   at-expression h = record { is = λ marks. rw (← B, h) }
 
-  module _ (none : b ≡ Nothing) {d : Blamed} (D : (marks : List ℕ) → blamed d ≡ blamed_statement (scope_at bytes t f) (body_tree (function_of bytes t f) marks)) where
-    pub at-statement : {n : ℕ} → d ≡ At n → Judges bytes t f (unjudged_statement_base + n)
+  module _ (none : b ≡ None) {d : Option ℕ} (D : (marks : List ℕ) → blamed d ≡ blamed_statement (scope_at bytes t f) (body_tree (function_of bytes t f) marks)) where
+    pub at-statement : {n : ℕ} → d ≡ Some n → Judges bytes t f (unjudged_statement_base + n)
     unfolding unjudged
     at-statement h = record { is = λ marks. rw (← B, none, ← D marks, h) }
 
-    pub all_judged : d ≡ Nothing → Judges bytes t f 0
+    pub all_judged : d ≡ None → Judges bytes t f 0
     unfolding unjudged
     all_judged h = record { is = λ marks. rw (← B, none, ← D marks, h) }

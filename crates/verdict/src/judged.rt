@@ -2,7 +2,7 @@
 ghost use Rattle.verdict.specs.Tables.{Tables, Judges};
 
 use checking::words::{UNJUDGED_EXPRESSION, UNJUDGED_STATEMENT};
-use judge::expressions::{Blamed, blamed_expression};
+use judge::expressions::blamed_expression;
 use module::handles::FunctionHandle;
 use strays::blame::blamed_statement;
 
@@ -19,11 +19,11 @@ pub fn unjudged(
     requires { Tables bytes.now t.now f.0 types.now alike.now held.now paths.now }
     ensures { Judges bytes.now t.now f.0 result }
 {
-    if let Blamed::At(e) = blamed_expression(bytes, t, f, types, alike, held, paths) {
+    if let Some(e) = blamed_expression(bytes, t, f, types, alike, held, paths) {
         return UNJUDGED_EXPRESSION + (e as u64);
     }
     match blamed_statement(bytes, t, f, types, alike, paths) {
-        Blamed::Nothing => 0,
-        Blamed::At(s) => UNJUDGED_STATEMENT + (s as u64),
+        None => 0,
+        Some(s) => UNJUDGED_STATEMENT + (s as u64),
     }
 }

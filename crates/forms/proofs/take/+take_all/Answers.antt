@@ -1,5 +1,4 @@
 -- `forms::take::take_all` meets its contract. The measure is what is left of the path.
-use Prim.Native.Nat.{◌-◌}
 use mathlib.Core.Path.{refl}
 use Rattle.forms.proofs.Taking.{parted_one, parted_into, all_end, all_one, all_call, around_asks, all_left}
 use Rattle.forms.proofs.take.+take_all.Goals as goal
@@ -18,9 +17,9 @@ take_all-d-requires t c =
 
 pub members_around-requires : goal.members_around-requires
 members_around-requires t c =
-    let q9 = around_asks _ _ _ (c.requires.good, (c.requires.lower, c.requires.at_in_bounds)) c.if-path-at.false refl _ c.member_form-m.ensures (parted_into _ c.split_of.result c.in-Into.is c.split_of.ensures) c.take_all-d.ensures in
+    let q9 = around_asks _ _ _ (c.requires.good, (c.requires.lower, c.requires.at_in_bounds)) c.if-path-at.false refl _ c.member_form-m.ensures (parted_into _ c.split_of.result c.in-Some.is c.split_of.ensures) c.take_all-d.ensures in
     record { good = q9.0; room = q9.1 }
 
 pub returns : goal.returns
 returns t c =
-    all_left _ _ _ (c.requires.good, (c.requires.lower, c.requires.at_in_bounds)) c.if-path-at.false refl _ c.member_form-m.ensures (parted_into _ c.split_of.result c.in-Into.is c.split_of.ensures) c.take_all-d.ensures c.members_around.ensures
+    all_left _ _ _ (c.requires.good, (c.requires.lower, c.requires.at_in_bounds)) c.if-path-at.false refl _ c.member_form-m.ensures (parted_into _ c.split_of.result c.in-Some.is c.split_of.ensures) c.take_all-d.ensures c.members_around.ensures

@@ -1,5 +1,4 @@
 -- `forms::take::take_out` meets its contract. The measure is what is left of the path.
-use Prim.Native.Nat.{◌-◌}
 use mathlib.Core.Path.{refl}
 use Rattle.forms.proofs.Taking.{out_end, all_asks, out_all, out_whole, out_gone, out_call, entry-asks, out_left}
 use Rattle.forms.proofs.take.+take_out.Goals as goal

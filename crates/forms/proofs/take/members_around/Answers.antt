@@ -1,4 +1,4 @@
--- `forms::take::members_around` meets its contract. The members from k on are there (`Placed`); the measure is k.
+-- `forms::take::members_around` meets its contract. The members from k on are there (`Placed`).
 use Rattle.forms.proofs.Taking.{placed_start, placed_asks, placed_more, placed_end}
 use native.Mathlib.Omega.{arith}
 use Rattle.forms.proofs.take.members_around.Goals as goal

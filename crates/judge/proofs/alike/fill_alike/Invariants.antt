@@ -1,13 +1,7 @@
 -- `judge::alike::fill_alike` meets its contract. The invariant: the entries of the types below k are right.
-use Prim.Native.Nat.{◌-◌, ◌≤◌}
-use mathlib.Core.Path.{◌≡◌}
-use lib.ListN.{length}
 use Rattle.context.specs.Types.{types_of}
 use Rattle.judge.specs.Alike.{Upto}
 use Rattle.judge.proofs.alike.fill_alike.Given as goal
 
 abbrev pub invariant-loop-k : goal.invariant-loop-k
-invariant-loop-k l = Upto (types_of l.types) l.table l.k × (length l.table ≡ length l.initial.table) × (l.k ≤ length l.initial.table)
-
-abbrev pub decreases-loop-k : goal.decreases-loop-k
-decreases-loop-k l = length l.initial.table - l.k
+invariant-loop-k l = Upto (types_of l.types) l.table l.k

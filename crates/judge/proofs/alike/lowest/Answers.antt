@@ -1,7 +1,5 @@
 -- `judge::alike::lowest` meets its contract. The invariant: no type below j is alike.
-use Prim.Native.Nat.{◌-◌}
 use Rattle.judge.proofs.Steps.{passed_none, passed_found, passed_next, passed_all}
-use native.Mathlib.Omega.{arith}
 use Rattle.judge.proofs.alike.lowest.Goals as goal
 
 pub loop-j-init : goal.loop-j-init
@@ -10,12 +8,6 @@ loop-j-init c = passed_none _ c.requires.lower _
 pub returns-then-same_inner : goal.returns-then-same_inner
 returns-then-same_inner c =
     passed_found _ c.requires.lower _ _ c.requires.upto c.same_inner.ensures c.loop-j.invariant c.if-same_inner.true
-
-pub overflow_add-j : goal.overflow_add-j
-overflow_add-j c = omega (arith, c.loop-j-test.true)
-
-pub loop-j-smaller : goal.loop-j-smaller
-loop-j-smaller c = omega (arith, c.loop-j-test.true)
 
 pub loop-j-preserved : goal.loop-j-preserved
 loop-j-preserved c =

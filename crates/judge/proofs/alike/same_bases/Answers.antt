@@ -1,5 +1,4 @@
 -- `judge::alike::same_bases` meets its contract. The invariant: the first i are alike by the table.
-use Prim.Native.Nat.{◌-◌}
 use Rattle.judge.proofs.Steps.{compared_none, lengths_differ, entries_differ, compared_next, compared_all}
 use native.Mathlib.Omega.{arith}
 use Rattle.judge.proofs.alike.same_bases.Goals as goal
@@ -20,12 +19,6 @@ base_at-y-requires c =
 pub returns-then-word : goal.returns-then-word
 returns-then-word c =
     entries_differ _ _ _ (omega (arith, c.loop-i-test.true, c.base_count-n.ensures)) c.base_at-x.ensures c.base_at-y.ensures c.word.ensures c.word-in-loop-i.ensures c.if-word.true
-
-pub overflow_add-i : goal.overflow_add-i
-overflow_add-i c = omega (arith, c.loop-i-test.true)
-
-pub loop-i-smaller : goal.loop-i-smaller
-loop-i-smaller c = omega (arith, c.loop-i-test.true)
 
 pub loop-i-preserved : goal.loop-i-preserved
 loop-i-preserved c =

@@ -1,9 +1,6 @@
 -- `judge::expressions::blamed_expression` meets its contract. The invariant: the expressions below e are judged.
-use Prim.Native.Nat.{◌-◌}
-use Rattle.clearance.specs.Judged.{judged_expression}
 use Rattle.judge.proofs.ValueRows.{each_none, each_next}
 use Rattle.judge.proofs.Blame.{there_below, blamed_at, blamed_none}
-use native.Mathlib.Omega.{arith}
 use Rattle.judge.proofs.expressions.blamed_expression.Goals as goal
 
 pub loop-e-init : goal.loop-e-init
@@ -16,12 +13,6 @@ judged_expression-requires c =
 pub returns-then-not-judged_expression : goal.returns-then-not-judged_expression
 returns-then-not-judged_expression c =
     blamed_at _ (c.expressions-n.ensures _) c.loop-e-test.true c.loop-e.invariant c.judged_expression.ensures c.if-not-judged_expression.true
-
-pub overflow_add-e : goal.overflow_add-e
-overflow_add-e c = omega (arith, c.loop-e-test.true)
-
-pub loop-e-smaller : goal.loop-e-smaller
-loop-e-smaller c = omega (arith, c.loop-e-test.true)
 
 pub loop-e-preserved : goal.loop-e-preserved
 loop-e-preserved c =

@@ -1,5 +1,4 @@
 -- `judge::expressions::blamed_expression` meets its contract. The invariant: the expressions below e are judged.
-use Prim.Native.Nat.{◌-◌}
 use Rattle.clearance.specs.Judged.{judged_expression}
 use Rattle.judge.specs.Given.{scope_at}
 use Rattle.judge.proofs.ValueRows.{Each}
@@ -7,6 +6,3 @@ use Rattle.judge.proofs.expressions.blamed_expression.Given as goal
 
 abbrev pub invariant-loop-e : goal.invariant-loop-e
 invariant-loop-e l = Each (judged_expression (scope_at l.bytes l.t l.f.0)) l.e
-
-abbrev pub decreases-loop-e : goal.decreases-loop-e
-decreases-loop-e l = l.n - l.e

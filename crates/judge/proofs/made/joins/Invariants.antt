@@ -1,12 +1,9 @@
 -- `judge::made::joins` meets its contract. The invariant: the first i are scalars and vectors, of `total` components.
-use Prim.Native.Nat.{◌+◌, ◌-◌, ◌≤◌}
+use Prim.Native.Nat.{◌+◌}
 use Rattle.access.specs.Access.{operand_at}
 use Rattle.judge.specs.Given.{scope_at}
 use Rattle.judge.proofs.Components.{Joined}
 use Rattle.judge.proofs.made.joins.Given as goal
 
 abbrev pub invariant-loop-i : goal.invariant-loop-i
-invariant-loop-i l = Joined (scope_at l.bytes l.t l.f.0) (λ k. operand_at l.bytes l.row (1 + k)) l.i l.total × (l.i ≤ l.count)
-
-abbrev pub decreases-loop-i : goal.decreases-loop-i
-decreases-loop-i l = l.count - l.i
+invariant-loop-i l = Joined (scope_at l.bytes l.t l.f.0) (λ k. operand_at l.bytes l.row (1 + k)) l.i l.total

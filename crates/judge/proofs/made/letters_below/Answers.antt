@@ -1,5 +1,4 @@
 -- `judge::made::letters_below` meets its contract. The invariant: the first i are below n.
-use Prim.Native.Nat.{◌-◌}
 use Rattle.judge.proofs.ValueRows.{each_none, each_all}
 use Rattle.judge.proofs.Components.{letter_next, letter_past}
 use native.Mathlib.Omega.{arith}
@@ -14,12 +13,6 @@ overflow_add-i c = omega (arith, c.loop-i-test.true, c.operand-count.ensures, c.
 pub returns-then-n-letter : goal.returns-then-n-letter
 returns-then-n-letter c =
     letter_past _ _ _ c.operand-count.ensures c.loop-i-test.true c.operand-letter.ensures c.if-n-letter.true
-
-pub overflow_add-i-in-loop-i : goal.overflow_add-i-in-loop-i
-overflow_add-i-in-loop-i c = omega (arith, c.loop-i-test.true)
-
-pub loop-i-smaller : goal.loop-i-smaller
-loop-i-smaller c = omega (arith, c.loop-i-test.true)
 
 pub loop-i-preserved : goal.loop-i-preserved
 loop-i-preserved c = letter_next _ _ c.operand-letter.ensures c.if-n-letter.false c.loop-i.invariant

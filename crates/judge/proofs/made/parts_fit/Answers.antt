@@ -1,9 +1,6 @@
 -- `judge::made::parts_fit` meets its contract. The invariant: the first i fit.
-use Prim.Native.Nat.{◌-◌}
-use Rattle.clearance.specs.Judged.{same_part}
 use Rattle.judge.proofs.ValueRows.{each_none, each_next, each_fails, each_all}
 use Rattle.judge.proofs.Components.{part_low, part_here}
-use native.Mathlib.Omega.{arith}
 use Rattle.judge.proofs.made.parts_fit.Goals as goal
 
 pub loop-i-init : goal.loop-i-init
@@ -16,12 +13,6 @@ same_part-requires c =
 pub returns-then-not-same_part : goal.returns-then-not-same_part
 returns-then-not-same_part c =
     each_fails _ _ (λ i. i) c.operand-count.ensures c.loop-i-test.true (part_here c.requires.row _ _ c.expression_operand.ensures c.type_of-b.ensures (c.same_part.ensures _ c.requires.row.given.values.same)) c.if-not-same_part.true
-
-pub overflow_add-i-in-loop-i : goal.overflow_add-i-in-loop-i
-overflow_add-i-in-loop-i c = omega (arith, c.loop-i-test.true)
-
-pub loop-i-smaller : goal.loop-i-smaller
-loop-i-smaller c = omega (arith, c.loop-i-test.true)
 
 pub loop-i-preserved : goal.loop-i-preserved
 loop-i-preserved c =

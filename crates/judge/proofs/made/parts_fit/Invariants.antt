@@ -1,5 +1,5 @@
 -- `judge::made::parts_fit` meets its contract. The invariant: the first i fit.
-use Prim.Native.Nat.{◌+◌, ◌-◌}
+use Prim.Native.Nat.{◌+◌}
 use Rattle.access.specs.Access.{operand_at}
 use Rattle.clearance.specs.Scope.{inner, inner_of}
 use Rattle.clearance.specs.Judged.{part_type, same_part}
@@ -9,6 +9,3 @@ use Rattle.judge.proofs.made.parts_fit.Given as goal
 
 abbrev pub invariant-loop-i : goal.invariant-loop-i
 invariant-loop-i l = Each (λ k. same_part (scope_at l.bytes l.t l.f.0) (part_type (scope_at l.bytes l.t l.f.0) (inner (scope_at l.bytes l.t l.f.0) l.a.0) k) (inner_of (scope_at l.bytes l.t l.f.0) (operand_at l.bytes l.row (1 + k)))) l.i
-
-abbrev pub decreases-loop-i : goal.decreases-loop-i
-decreases-loop-i l = l.count - l.i

@@ -1,14 +1,8 @@
 -- `judge::paths::fill_paths` meets its contract. The invariant: the entries of the expressions below e are right.
-use Prim.Native.Nat.{◌-◌, ◌≤◌}
-use mathlib.Core.Path.{◌≡◌}
-use lib.ListN.{length}
 use Rattle.module.specs.Tables.{function_of}
 use Rattle.judge.proofs.Marked.{Marks}
 use Rattle.judge.proofs.PathSteps.{path_among}
 use Rattle.judge.proofs.paths.fill_paths.Given as goal
 
 abbrev pub invariant-loop-e : goal.invariant-loop-e
-invariant-loop-e l = Marks (path_among (function_of l.bytes l.t l.f.0).expressions) l.table l.e × (length l.table ≡ length l.initial.table) × (l.e ≤ length l.initial.table)
-
-abbrev pub decreases-loop-e : goal.decreases-loop-e
-decreases-loop-e l = length l.initial.table - l.e
+invariant-loop-e l = Marks (path_among (function_of l.bytes l.t l.f.0).expressions) l.table l.e

@@ -1,9 +1,6 @@
 -- `judge::statements::unfit_statement` meets its contract. The invariant: the statements below s fit.
-use Prim.Native.Nat.{◌-◌}
-use Rattle.clearance.specs.Judged.{fits_statement}
 use Rattle.judge.proofs.ValueRows.{each_none, each_next}
 use Rattle.judge.proofs.Blame.{there_below, unfit-at, unfit-none}
-use native.Mathlib.Omega.{arith}
 use Rattle.judge.proofs.statements.unfit_statement.Goals as goal
 
 pub loop-s-init : goal.loop-s-init
@@ -16,12 +13,6 @@ fits_statement-requires c =
 pub returns-then-not-fits_statement : goal.returns-then-not-fits_statement
 returns-then-not-fits_statement c =
     unfit-at _ _ _ (c.statements-n.ensures _) c.loop-s-test.true c.loop-s.invariant c.fits_statement.ensures c.if-not-fits_statement.true
-
-pub overflow_add-s : goal.overflow_add-s
-overflow_add-s c = omega (arith, c.loop-s-test.true)
-
-pub loop-s-smaller : goal.loop-s-smaller
-loop-s-smaller c = omega (arith, c.loop-s-test.true)
 
 pub loop-s-preserved : goal.loop-s-preserved
 loop-s-preserved c = each_next _ c.fits_statement.ensures c.if-not-fits_statement.false c.loop-s.invariant

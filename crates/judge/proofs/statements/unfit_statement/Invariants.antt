@@ -1,5 +1,4 @@
 -- `judge::statements::unfit_statement` meets its contract. The invariant: the statements below s fit.
-use Prim.Native.Nat.{◌-◌}
 use Rattle.access.specs.Access.{statement_at}
 use Rattle.clearance.specs.Judged.{fits_statement}
 use Rattle.judge.specs.Given.{scope_at}
@@ -8,6 +7,3 @@ use Rattle.judge.proofs.statements.unfit_statement.Given as goal
 
 abbrev pub invariant-loop-s : goal.invariant-loop-s
 invariant-loop-s l = Each (λ k. fits_statement (scope_at l.bytes l.t l.f.0) (statement_at l.bytes l.t l.f.0 k)) l.s
-
-abbrev pub decreases-loop-s : goal.decreases-loop-s
-decreases-loop-s l = l.n - l.s

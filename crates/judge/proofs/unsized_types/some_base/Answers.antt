@@ -1,5 +1,4 @@
 -- `judge::unsized_types::some_base` meets its contract. The invariant: none of the first i is marked.
-use Prim.Native.Nat.{◌-◌}
 use Rattle.judge.proofs.Unsized.{unmarked_none, some-found, unmarked_next, unmarked_all}
 use native.Mathlib.Omega.{arith}
 use Rattle.judge.proofs.unsized_types.some_base.Goals as goal
@@ -13,12 +12,6 @@ base_at-b-requires c = omega (arith, c.loop-i-test.true, c.base_count-n.ensures)
 pub returns-then-word-eq1 : goal.returns-then-word-eq1
 returns-then-word-eq1 c =
     some-found _ _ (omega (arith, c.loop-i-test.true, c.base_count-n.ensures)) c.base_at-b.ensures c.word.ensures c.if-word-eq1.true
-
-pub overflow_add-i : goal.overflow_add-i
-overflow_add-i c = omega (arith, c.loop-i-test.true)
-
-pub loop-i-smaller : goal.loop-i-smaller
-loop-i-smaller c = omega (arith, c.loop-i-test.true)
 
 pub loop-i-preserved : goal.loop-i-preserved
 loop-i-preserved c =

@@ -1,5 +1,4 @@
 -- `judge::unsized_types::some_base` meets its contract. The invariant: none of the first i is marked.
-use Prim.Native.Nat.{◌-◌}
 use lib.ListN.{get_or}
 use Rattle.module.specs.Module.{Opaque}
 use Rattle.context.specs.Types.{types_of}
@@ -9,6 +8,3 @@ use Rattle.judge.proofs.unsized_types.some_base.Given as goal
 
 abbrev pub invariant-loop-i : goal.invariant-loop-i
 invariant-loop-i l = Unmarked l.table (bases (get_or (types_of l.types) l.t.0 Opaque)) l.i
-
-abbrev pub decreases-loop-i : goal.decreases-loop-i
-decreases-loop-i l = l.n - l.i

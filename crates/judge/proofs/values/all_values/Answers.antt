@@ -1,9 +1,7 @@
 -- `judge::values::all_values` meets its contract. The invariant: the first i are values.
-use Prim.Native.Nat.{◌-◌}
 use mathlib.Core.Path.{ap, ◌∙◌}
 use Rattle.clearance.specs.Judged.{is_value}
 use Rattle.judge.proofs.ValueRows.{each_none, each_next, each_fails, each_all}
-use native.Mathlib.Omega.{arith}
 use Rattle.judge.proofs.values.all_values.Goals as goal
 
 pub loop-i-init : goal.loop-i-init
@@ -15,12 +13,6 @@ is_value-requires c = c.requires
 pub returns-then-not-is_value : goal.returns-then-not-is_value
 returns-then-not-is_value c =
     each_fails _ _ _ c.operand-n.ensures c.loop-i-test.true (c.is_value.ensures ∙ ap (is_value _) c.expression_operand-c.ensures) c.if-not-is_value.true
-
-pub overflow_add-i-in-loop-i : goal.overflow_add-i-in-loop-i
-overflow_add-i-in-loop-i c = omega (arith, c.loop-i-test.true)
-
-pub loop-i-smaller : goal.loop-i-smaller
-loop-i-smaller c = omega (arith, c.loop-i-test.true)
 
 pub loop-i-preserved : goal.loop-i-preserved
 loop-i-preserved c =

@@ -1,5 +1,5 @@
 -- `judge::values::all_values` meets its contract. The invariant: the first i are values.
-use Prim.Native.Nat.{◌+◌, ◌-◌}
+use Prim.Native.Nat.{◌+◌}
 use Rattle.access.specs.Access.{operand_at}
 use Rattle.clearance.specs.Judged.{is_value}
 use Rattle.judge.specs.Given.{scope_at}
@@ -8,6 +8,3 @@ use Rattle.judge.proofs.values.all_values.Given as goal
 
 abbrev pub invariant-loop-i : goal.invariant-loop-i
 invariant-loop-i l = Each (λ k. is_value (scope_at l.bytes l.t l.f.0) (operand_at l.bytes l.row (1 + k))) l.i
-
-abbrev pub decreases-loop-i : goal.decreases-loop-i
-decreases-loop-i l = l.n - l.i

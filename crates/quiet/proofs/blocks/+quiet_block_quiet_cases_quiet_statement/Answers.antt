@@ -5,7 +5,6 @@ use mathlib.Core.Path.{refl, ◌∙◌}
 use Rattle.part.specs.Store.{part}
 use Rattle.strays.specs.Exits.{exits_of}
 use Rattle.strays.proofs.Found.{in_function, statement_in, statement_small, there, block_low, accept_low, reject_low, body_low, continuing_low, cases_in, case_there}
-use Rattle.quiet.specs.Places.{quiet_block, quiet_cases}
 use Rattle.quiet.proofs.Steps.{at_first, stops, goes_on, ends, is_last, statement_first, no_statement, all_statements, case_first, no_case, all_cases, quiet_inner, quiet_if, quiet_loop, quiet_switch, plain_kind}
 use native.Mathlib.Omega.{arith}
 use Rattle.quiet.proofs.blocks.+quiet_block_quiet_cases_quiet_statement.Goals as goal
@@ -28,12 +27,6 @@ pub quiet_block-returns-then-not-quiet_statement : goal.quiet_block-returns-then
 quiet_block-returns-then-not-quiet_statement t c =
     stops c.loop-k.invariant (statement_first _ _ _ _ _ _ c.loop-k-test.true) c.quiet_statement.ensures c.if-not-quiet_statement.true
 
-pub quiet_block-overflow_add-k : goal.quiet_block-overflow_add-k
-quiet_block-overflow_add-k t c = omega (arith, c.loop-k-test.true)
-
-pub quiet_block-loop-k-smaller : goal.quiet_block-loop-k-smaller
-quiet_block-loop-k-smaller t c = omega (arith, c.loop-k-test.true)
-
 pub quiet_block-loop-k-preserved : goal.quiet_block-loop-k-preserved
 quiet_block-loop-k-preserved t c =
     goes_on c.loop-k.invariant (statement_first _ _ _ _ _ _ c.loop-k-test.true) c.quiet_statement.ensures c.if-not-quiet_statement.false
@@ -46,35 +39,29 @@ quiet_block-returns t c = ends c.loop-k.invariant (no_statement _ _ _ _ _ _ c.lo
 
 pub quiet_cases-loop-i-init : goal.quiet_cases-loop-i-init
 quiet_cases-loop-i-init t c =
-    (omega (arith, c.operand-i.ensures), all_cases c.requires.cases_in (part c.args.cells.now c.args.m) (exits_of c.args.e) c.operand-i.ensures _)
-
-pub quiet_cases-overflow_sub-i : goal.quiet_cases-overflow_sub-i
-quiet_cases-overflow_sub-i t c = omega (arith, c.loop-i-test.true)
+    all_cases c.requires.cases_in (part c.args.cells.now c.args.m) (exits_of c.args.e) c.operand-n.ensures _
 
 pub quiet_cases-quiet_block-requires : goal.quiet_cases-quiet_block-requires
 quiet_cases-quiet_block-requires t c =
-    let h = case_there c.requires.cases_in (c.loop-i.i - 1) (omega (arith, c.loop-i.invariant.0, c.loop-i-test.true)) c.block_operand-case.ensures in (omega (arith, h.0, c.decreases), (c.requires.needing, (omega (arith, c.loop-i.invariant.1.long, c.requires.f_in_bounds), h.1)))
+    let h = case_there c.requires.cases_in (c.loop-i.i - 1) (omega (arith, c.loop-i.auto.i, c.operand-n.ensures, c.loop-i-test.true)) c.block_operand-case.ensures in (omega (arith, h.0, c.decreases), (c.requires.needing, (omega (arith, c.loop-i.invariant.long, c.requires.f_in_bounds), h.1)))
 
 pub quiet_cases-shape_of-path-then-not-quiet_block : goal.quiet_cases-shape_of-path-then-not-quiet_block
-quiet_cases-shape_of-path-then-not-quiet_block t c = c.quiet_block.ensures.long ∙ c.loop-i.invariant.1.long
+quiet_cases-shape_of-path-then-not-quiet_block t c = c.quiet_block.ensures.long ∙ c.loop-i.invariant.long
 
 pub quiet_cases-returns-then-not-quiet_block : goal.quiet_cases-returns-then-not-quiet_block
 quiet_cases-returns-then-not-quiet_block t c =
-    stops c.loop-i.invariant.1 (case_first c.requires.cases_in (part c.args.cells.now c.args.m) (exits_of c.args.e) c.loop-i-test.true c.block_operand-case.ensures) c.quiet_block.ensures c.if-not-quiet_block.true
-
-pub quiet_cases-loop-i-smaller : goal.quiet_cases-loop-i-smaller
-quiet_cases-loop-i-smaller t c = omega (arith, c.loop-i-test.true)
+    stops c.loop-i.invariant (case_first c.requires.cases_in (part c.args.cells.now c.args.m) (exits_of c.args.e) c.loop-i-test.true c.block_operand-case.ensures) c.quiet_block.ensures c.if-not-quiet_block.true
 
 pub quiet_cases-loop-i-preserved : goal.quiet_cases-loop-i-preserved
 quiet_cases-loop-i-preserved t c =
-    (omega (arith, c.loop-i.invariant.0), goes_on c.loop-i.invariant.1 (case_first c.requires.cases_in (part c.args.cells.now c.args.m) (exits_of c.args.e) c.loop-i-test.true c.block_operand-case.ensures) c.quiet_block.ensures c.if-not-quiet_block.false)
+    goes_on c.loop-i.invariant (case_first c.requires.cases_in (part c.args.cells.now c.args.m) (exits_of c.args.e) c.loop-i-test.true c.block_operand-case.ensures) c.quiet_block.ensures c.if-not-quiet_block.false
 
 pub quiet_cases-shape_of-path : goal.quiet_cases-shape_of-path
-quiet_cases-shape_of-path t c = c.loop-i.invariant.1.long
+quiet_cases-shape_of-path t c = c.loop-i.invariant.long
 
 pub quiet_cases-returns : goal.quiet_cases-returns
 quiet_cases-returns t c =
-    ends c.loop-i.invariant.1 (no_case c.requires.cases_in (part c.args.cells.now c.args.m) (exits_of c.args.e) (omega (arith, c.loop-i-test.false)))
+    ends c.loop-i.invariant (no_case c.requires.cases_in (part c.args.cells.now c.args.m) (exits_of c.args.e) (omega (arith, c.loop-i-test.false)))
 
 pub quiet_statement-quiet_block-requires : goal.quiet_statement-quiet_block-requires
 quiet_statement-quiet_block-requires t c =

@@ -1,7 +1,6 @@
 -- `quiet::plain::quiet_emits` meets its contract. The invariant: what is left says the whole.
-use Prim.Native.Nat.{◌-◌}
 use mathlib.Core.Path.{◌∙◌}
-use Rattle.judge.proofs.PathSteps.{few}
+use borrow.Author.Rules.{rules}
 use Rattle.quiet.proofs.Leaves.{emits_start, emits_stop, emits_next, emits_end}
 use native.Mathlib.Omega.{arith}
 use Rattle.quiet.proofs.plain.quiet_emits.Goals as goal
@@ -20,13 +19,6 @@ pub returns-then-not-emit_idle : goal.returns-then-not-emit_idle
 returns-then-not-emit_idle c =
     emits_stop _ _ _ _ (omega (arith, c.loop-e-test.true)) c.loop-e.invariant c.emit_idle.ensures c.if-not-emit_idle.true
 
-pub overflow_add-e : goal.overflow_add-e
-overflow_add-e c =
-    omega (arith, c.loop-e-test.true, c.requires.last_in_bounds, few _ _ _ c.requires.needing.world.given.of.read c.requires.needing.world.given.of.there)
-
-pub loop-e-smaller : goal.loop-e-smaller
-loop-e-smaller c = omega (arith, c.loop-e-test.true)
-
 pub loop-e-preserved : goal.loop-e-preserved
 loop-e-preserved c =
     emits_next _ _ _ _ (omega (arith, c.loop-e-test.true)) c.loop-e.invariant c.emit_idle.ensures c.if-not-emit_idle.false
@@ -36,3 +28,7 @@ shape_of-path c = c.loop-e.invariant.long
 
 pub returns : goal.returns
 returns c = emits_end _ _ _ _ c.loop-e-test.false c.loop-e.invariant
+
+pub returns-else-not-emit_idle : goal.returns-else-not-emit_idle
+returns-else-not-emit_idle c =
+    emits_end _ _ _ _ (search rules) (emits_next _ _ _ _ (omega (arith, c.loop-e-test.true)) c.loop-e.invariant c.emit_idle.ensures c.if-not-emit_idle.false)

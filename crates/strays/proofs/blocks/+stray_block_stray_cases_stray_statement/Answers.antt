@@ -3,39 +3,32 @@
 use Prim.Native.Nat.{◌-◌}
 use mathlib.Core.Path.{refl}
 use Rattle.strays.specs.Exits.{exits_of}
-use Rattle.strays.specs.Places.{stray_cases}
 use Rattle.strays.proofs.Found.{statement_in, statement_small, there, block_low, accept_low, reject_low, body_low, continuing_low, cases_in, case_there, loop_kind}
 use Rattle.strays.proofs.Steps.{no_case, next_case, all_cases, no_statement, next_statement, all_statements, stray-leaving, stray_emit, stray-block, stray_if, stray_loop, stray_switch}
 use native.Mathlib.Omega.{arith}
 use Rattle.strays.proofs.blocks.+stray_block_stray_cases_stray_statement.Goals as goal
 
 pub stray_block-loop-k-init : goal.stray_block-loop-k-init
-stray_block-loop-k-init t c = (omega arith, no_statement _ _ _ _ _ _ _ refl)
-
-pub stray_block-overflow_sub-k : goal.stray_block-overflow_sub-k
-stray_block-overflow_sub-k t c = omega (arith, c.loop-k-test.true)
+stray_block-loop-k-init t c = no_statement _ _ _ _ _ _ _ refl
 
 pub stray_block-overflow_add-first : goal.stray_block-overflow_add-first
 stray_block-overflow_add-first t c =
-    omega (arith, statement_small (statement_in c.requires _ (c.loop-k.k - 1) c.block-range.ensures (omega (arith, c.loop-k.invariant.0, c.loop-k-test.true))))
+    omega (arith, statement_small (statement_in c.requires _ (c.loop-k.k - 1) c.block-range.ensures (omega (arith, c.loop-k.auto.k, c.loop-k-test.true))))
 
 pub stray_block-stray_statement-low-requires : goal.stray_block-stray_statement-low-requires
 stray_block-stray_statement-low-requires t c =
-    (omega (arith, c.decreases), statement_in c.requires _ _ c.block-range.ensures (omega (arith, c.loop-k.invariant.0, c.loop-k-test.true)))
-
-pub stray_block-loop-k-smaller : goal.stray_block-loop-k-smaller
-stray_block-loop-k-smaller t c = omega (arith, c.loop-k-test.true)
+    (omega (arith, c.decreases), statement_in c.requires _ _ c.block-range.ensures (omega (arith, c.loop-k.auto.k, c.loop-k-test.true)))
 
 pub stray_block-loop-k-preserved : goal.stray_block-loop-k-preserved
 stray_block-loop-k-preserved t c =
-    (omega (arith, c.loop-k.invariant.0), next_statement _ _ _ _ _ _ c.loop-k.k _ _ _ c.loop-k.invariant.0 (omega (arith, c.loop-k-test.true)) c.loop-k.invariant.1 c.stray_statement-low.ensures)
+    next_statement _ _ _ _ _ _ c.loop-k.k _ _ _ c.loop-k.auto.k (omega (arith, c.loop-k-test.true)) c.loop-k.invariant c.stray_statement-low.ensures
 
 pub stray_block-returns : goal.stray_block-returns
 stray_block-returns t c =
-    all_statements c.requires _ _ _ _ c.loop-k.k c.block-range.ensures (omega (arith, c.loop-k-test.false)) c.loop-k.invariant.1
+    all_statements c.requires _ _ _ _ c.loop-k.k c.block-range.ensures (omega (arith, c.loop-k-test.false)) c.loop-k.invariant
 
 pub stray_cases-loop-i-init : goal.stray_cases-loop-i-init
-stray_cases-loop-i-init t c = (omega arith, no_case c.requires (exits_of c.args.e) _)
+stray_cases-loop-i-init t c = no_case c.requires (exits_of c.args.e) _
 
 pub stray_cases-stray_block-low-requires : goal.stray_cases-stray_block-low-requires
 stray_cases-stray_block-low-requires t c =
@@ -43,11 +36,11 @@ stray_cases-stray_block-low-requires t c =
 
 pub stray_cases-loop-i-preserved : goal.stray_cases-loop-i-preserved
 stray_cases-loop-i-preserved t c =
-    (omega (arith, c.loop-i-test.true), next_case c.requires (exits_of c.args.e) _ c.loop-i.i _ _ c.loop-i.invariant.1 c.block_operand.ensures c.stray_block-low.ensures)
+    next_case c.requires (exits_of c.args.e) _ c.loop-i.i _ _ c.loop-i.invariant c.block_operand.ensures c.stray_block-low.ensures
 
 pub stray_cases-returns : goal.stray_cases-returns
 stray_cases-returns t c =
-    all_cases c.requires (exits_of c.args.e) _ _ c.operand-n.ensures (omega (arith, c.loop-i.invariant.0, c.loop-i-test.false)) c.loop-i.invariant.1
+    all_cases c.requires (exits_of c.args.e) _ _ c.operand-n.ensures (omega (arith, c.loop-i.auto.i-end, c.loop-i-test.false)) c.loop-i.invariant
 
 pub stray_statement-stray_leaving-requires : goal.stray_statement-stray_leaving-requires
 stray_statement-stray_leaving-requires t c = c.if-kind-gt-LOOP.true

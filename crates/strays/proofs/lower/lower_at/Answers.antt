@@ -1,12 +1,9 @@
--- `strays::lower::lower_at` meets its contract: by cases of what was found, and of which is lower.
-use Rattle.strays.proofs.Lowers.{lower-nothing, lower-kept, lower-new}
+-- `strays::lower::lower_at` meets its contract: by cases of what was found.
+use Rattle.strays.proofs.Lowers.{lower-nothing, lower-least}
 use Rattle.strays.proofs.lower.lower_at.Goals as goal
 
-pub returns-then-m-n : goal.returns-then-m-n
-returns-then-m-n c = lower-kept _ _ _ c.in-At.is c.if-m-n.true
+pub returns-in-None : goal.returns-in-None
+returns-in-None c = lower-nothing _ _ c.in-None.is
 
-pub returns-in-Nothing : goal.returns-in-Nothing
-returns-in-Nothing c = lower-nothing _ _ c.in-Nothing.is
-
-pub returns-else-m-n : goal.returns-else-m-n
-returns-else-m-n c = lower-new _ _ _ c.in-At.is c.if-m-n.false
+pub returns-in-Some : goal.returns-in-Some
+returns-in-Some c = lower-least _ _ _ c.in-Some.is c.min.ensures

@@ -2,8 +2,8 @@
 use Rattle.strays.proofs.Lowers.{of_nothing, of_some}
 use Rattle.strays.proofs.lower.lower_of.Goals as goal
 
-pub returns-in-Nothing : goal.returns-in-Nothing
-returns-in-Nothing c = of_nothing _ _ c.in-Nothing.is
+pub returns-in-None : goal.returns-in-None
+returns-in-None c = of_nothing _ _ c.in-None.is
 
-pub returns-in-At : goal.returns-in-At
-returns-in-At c = of_some _ _ _ _ c.in-At.is c.lower_at.ensures
+pub returns-in-Some : goal.returns-in-Some
+returns-in-Some c = of_some _ _ _ _ c.in-Some.is c.lower_at.ensures

@@ -5,17 +5,17 @@ use Rattle.verdict.proofs.judged.unjudged.Goals as goal
 pub blamed_expression-requires : goal.blamed_expression-requires
 blamed_expression-requires c = record { given = c.requires.given; unsized_table = c.requires.unsized }
 
-pub returns-in-At : goal.returns-in-At
-returns-in-At c =
-    at-expression c.args.bytes.now c.args.t.now c.args.f.0 c.blamed_expression.ensures c.in-At.is
+pub returns-in-Some : goal.returns-in-Some
+returns-in-Some c =
+    at-expression c.args.bytes.now c.args.t.now c.args.f.0 c.blamed_expression.ensures c.in-Some.is
 
 pub blamed_statement-requires : goal.blamed_statement-requires
 blamed_statement-requires c = c.requires.given
 
-pub returns-in-Nothing : goal.returns-in-Nothing
-returns-in-Nothing c =
-    all_judged c.args.bytes.now c.args.t.now c.args.f.0 c.blamed_expression.ensures c.in_default.is c.blamed_statement.ensures c.in-Nothing.is
+pub returns-in-None : goal.returns-in-None
+returns-in-None c =
+    all_judged c.args.bytes.now c.args.t.now c.args.f.0 c.blamed_expression.ensures c.in_default.is c.blamed_statement.ensures c.in-None.is
 
-pub returns-in-At-blamed_statement : goal.returns-in-At-blamed_statement
-returns-in-At-blamed_statement c =
-    at-statement c.args.bytes.now c.args.t.now c.args.f.0 c.blamed_expression.ensures c.in_default.is c.blamed_statement.ensures c.in-At-blamed_statement.is
+pub returns-in-Some-blamed_statement : goal.returns-in-Some-blamed_statement
+returns-in-Some-blamed_statement c =
+    at-statement c.args.bytes.now c.args.t.now c.args.f.0 c.blamed_expression.ensures c.in_default.is c.blamed_statement.ensures c.in-Some-blamed_statement.is
