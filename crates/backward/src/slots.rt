@@ -11,11 +11,7 @@ pub fn in_switch(n: usize, x: Exits) -> Exits
     requires { 0 < n }
     ensures { result ≡ case_exits n x }
 {
-    Exits {
-        broke: n - 1,
-        continued: x.continued,
-        returned: x.returned,
-    }
+    Exits { broke: n - 1, ..x }
 }
 
 // In a loop's body a continue leads before its continuing block, whose needs the slot n has.
@@ -26,7 +22,7 @@ pub fn in_body(n: usize, x: Exits) -> Exits
     Exits {
         broke: n - 1,
         continued: n,
-        returned: x.returned,
+        ..x
     }
 }
 
@@ -35,18 +31,12 @@ pub fn exchange(roots: &mut [u32], n: usize)
     requires { (0 < n) × (n < length roots.old) }
     ensures { roots.new ≡ exchanged roots.old n }
 {
-    let below = n - 1;
-    let last = roots[n];
-    roots[n] = roots[below];
-    roots[below] = last;
+    roots.swap(n, n - 1);
 }
 
 // An if, a switch or a loop, by the kind.
 pub fn holds(kind: u16) -> bool
     ensures { result ≡ (ltb 1 kind && ltb kind 5) }
 {
-    if 1 < kind {
-        return kind < 5;
-    }
-    false
+    1 < kind && kind < 5
 }

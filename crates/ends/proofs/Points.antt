@@ -3,7 +3,7 @@ use Prim.Native.Nat.{ℕ, ◌+◌, ◌-◌, ◌<◌, ◌≤◌, min}
 use native.Mathlib.Omega.{arith}
 use native.Mathlib.Decide.{dec_lt, dec_le}
 use mathlib.Core.Path.{◌≡◌, refl, sym, ap, ◌∙◌}
-use mathlib.Core.Bool.{Bool, true, false, cond}
+use mathlib.Core.Bool.{Bool, true, false, cond, ◌||◌}
 use mathlib.Core.Option.{some, none as nothing}
 use mathlib.Core.List.{List}
 use lib.Dec.{ltb, eqb}
@@ -74,3 +74,10 @@ fault_lower l m h g = present-is l h ∙ sym (either (eqb m absent))
 
 pub fault_same : (l m : ℕ) → m ≤ l → l < absent → option_of m ≡ lower l (option_of m)
 fault_same l m h g = let e = present-is m (omega arith) in rw e (sym (lower-other l m h))
+
+-- one of two tests
+pub either_first : {a c : Bool} (b : Bool) → a ≡ c → a ≡ true → a ≡ c || b
+either_first b e h = rw (← e, h) refl
+
+pub either_second : {a c : Bool} (b : Bool) → a ≡ c → a ≡ false → b ≡ c || b
+either_second b e h = rw (← e, h) refl

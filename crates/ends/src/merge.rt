@@ -4,7 +4,6 @@ ghost use Rattle.hold.specs.Hold.{Live};
 ghost use Rattle.standing.specs.Slots.{table_size, stack_slot};
 ghost use Rattle.ends.specs.Merged.{Merged, LoopEnds};
 
-use crate::notes::both;
 use hold::hold::{copy, push_sum};
 use part::sums::covers;
 use standing::passing::{Passing, TABLE, filled};
@@ -42,9 +41,7 @@ pub fn end_loop(cells: &mut [u32], roots: &mut [u32], n: usize, l: usize, p: Pas
     let holds = covers(cells, roots[l], roots[last]);
     Passing {
         full: false,
-        fault: p.fault,
-        held: both(holds, p.held),
-        deep: p.deep,
-        wide: p.wide,
+        held: holds && p.held,
+        ..p
     }
 }

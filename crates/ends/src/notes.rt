@@ -14,26 +14,13 @@ pub fn note(cells: &[u32], roots: &[u32], n: usize, p: Passing) -> Passing
     requires n_nonzero { 0 < n }
     ensures { Noted (in_slot cells.now roots.now (n - 1)) p result }
 {
-    let last = n - 1;
-    let sizes = measure(cells, roots[last]);
+    let sizes = measure(cells, roots[n - 1]);
     let many = (MAX_PIECES as u32) < sizes.entries - sizes.width;
     Passing {
-        full: p.full,
-        fault: p.fault,
-        held: p.held,
-        deep: either(sizes.over, p.deep),
-        wide: either(many, p.wide),
+        deep: sizes.over || p.deep,
+        wide: many || p.wide,
+        ..p
     }
-}
-
-// One of two tests.
-fn either(a: bool, b: bool) -> bool
-    ensures { result ≡ (a || b) }
-{
-    if a {
-        return true;
-    }
-    b
 }
 
 // The statement l breaks its rule.
@@ -42,23 +29,7 @@ pub fn blame(l: u16, p: Passing) -> Passing
     ensures { Blames l p result }
 {
     if l < p.fault {
-        return Passing {
-            full: p.full,
-            fault: l,
-            held: p.held,
-            deep: p.deep,
-            wide: p.wide,
-        };
+        return Passing { fault: l, ..p };
     }
     p
-}
-
-// Both of two tests.
-pub fn both(a: bool, b: bool) -> bool
-    ensures { result ≡ (a && b) }
-{
-    if a {
-        return b;
-    }
-    false
 }

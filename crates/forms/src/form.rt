@@ -7,7 +7,7 @@ ghost use Rattle.judge.specs.Alike.{Lower};
 ghost use Rattle.forms.specs.ShapeBy.{shape_in, shape_by, Parted};
 
 use bindings::types::first_word;
-use judge::rows::{base_at, kind_at, second_word};
+use judge::rows::{TypeKind, base_at, kind_at, second_word};
 use judge::shapes::part_count;
 use module::handles::TypeHandle;
 use part::limits::SPINE;
@@ -25,18 +25,17 @@ pub enum Form {
 fn type_extent(types: &[u32], t: TypeHandle) -> u32
     ensures { result ≡ extent (shape_in (types_of types.now) t.0) }
 {
-    let k = kind_at(types, t);
-    if k == 7 {
-        return SPINE;
-    }
     let n = part_count(types, t);
-    if k != 5 {
-        return n;
+    match kind_at(types, t) {
+        TypeKind::BindingArray => SPINE,
+        TypeKind::Array => {
+            if n == 0 {
+                return SPINE;
+            }
+            n
+        }
+        _ => n,
     }
-    if n == 0 {
-        return SPINE;
-    }
-    n
 }
 
 // The shape of the part i of the type t.
@@ -47,17 +46,12 @@ fn type_member(types: &[u32], t: TypeHandle, i: u32) -> Form
     if type_extent(types, t) <= i {
         return Form::Void;
     }
-    let k = kind_at(types, t);
-    if k == 1 {
-        return Form::Number;
+    match kind_at(types, t) {
+        TypeKind::Vector => Form::Number,
+        TypeKind::Matrix => Form::Vector(second_word(types, t)),
+        TypeKind::Struct => Form::Of(base_at(types, t, i)),
+        _ => Form::Of(base_at(types, t, 0)),
     }
-    if k == 2 {
-        return Form::Vector(second_word(types, t));
-    }
-    if k == 6 {
-        return Form::Of(base_at(types, t, i));
-    }
-    Form::Of(base_at(types, t, 0))
 }
 
 // The shape of the part i of a vector of size n.
@@ -95,11 +89,10 @@ pub fn is_void(types: &[u32], form: Form) -> bool
 fn whole_type(types: &[u32], t: TypeHandle) -> bool
     ensures { result ≡ is_whole (shape_in (types_of types.now) t.0) }
 {
-    let k = kind_at(types, t);
-    if k == 5 {
-        return true;
+    match kind_at(types, t) {
+        TypeKind::Array | TypeKind::BindingArray => true,
+        _ => false,
     }
-    k == 7
 }
 
 // Whether it is taken out whole or not at all.
@@ -118,17 +111,10 @@ pub fn is_whole(types: &[u32], form: Form) -> bool
 fn type_split(types: &[u32], t: TypeHandle) -> Option<u32>
     ensures { Parted (shape_in (types_of types.now) t.0) result }
 {
-    let k = kind_at(types, t);
-    if k == 1 {
-        return Some(first_word(types, t));
+    match kind_at(types, t) {
+        TypeKind::Vector | TypeKind::Matrix | TypeKind::Struct => Some(first_word(types, t)),
+        _ => None,
     }
-    if k == 2 {
-        return Some(first_word(types, t));
-    }
-    if k == 6 {
-        return Some(first_word(types, t));
-    }
-    None
 }
 
 // Into how many parts all of it is split, if it is.

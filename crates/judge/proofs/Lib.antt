@@ -1,6 +1,7 @@
 pub mod Pairwise
 pub mod Equivalence
 pub mod Table
+pub mod TypeKinds
 pub mod TypeRows
 pub mod Steps
 pub mod Marked

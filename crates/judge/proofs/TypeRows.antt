@@ -1,5 +1,5 @@
 -- What a row of the table of types says of a type's kind and of the types that it is made of. A kind decides which words are which.
-use Prim.Native.Nat.{ℕ, zero, suc, ◌+◌, ◌*◌, ◌<◌, ◌≤◌}
+use Prim.Native.Nat.{ℕ, zero, suc, ◌+◌, ◌*◌, ◌<◌, ◌≤◌, min}
 use native.Mathlib.Omega.{arith}
 use native.Mathlib.Decide.{dec_lt}
 use mathlib.Core.Path.{◌≡◌, refl, sym, ap, ◌∙◌}
@@ -115,6 +115,13 @@ module _ (table : List ℕ) (t : ℕ) where
 
   pub number-other : {k : ℕ} → k ≡ type_kind table t → k ≤ 8 → k ≡ number type
   number-other {k} e h = sym (rw (type_is table t, ← e) (number-low k words h))
+
+  pub number_least : {k r : ℕ} → k ≡ type_kind table t → r ≡ min k 8 → r ≡ number type
+  number_least {k} {r} e h =
+      elim (dec_lt 8 k) [
+        | yes m ↦ h ∙ (omega arith ∙ number-opaque e m)
+        | no m ↦ h ∙ (omega arith ∙ number-other e (omega arith))
+      ]
 
   pub row_is : {k : ℕ} (n : ℕ) → n < 8 → k ≡ number type → k ≡ n → type ≡ type_inner_of n words
   row_is {k} n l e h =

@@ -6,7 +6,7 @@ ghost use Rattle.context.specs.Types.{type_count, types_of};
 ghost use Rattle.clearance.specs.Scope.{kind, bases, pairwise, alike_inner};
 ghost use Rattle.judge.specs.Alike.{by_table, Lower, Lowest, Upto, AlikeTable};
 
-use crate::rows::{base_at, base_count, kind_at, second_word};
+use crate::rows::{TypeKind, base_at, base_count, kind_at, second_word};
 use bindings::types::{first_word, word};
 use module::handles::TypeHandle;
 
@@ -19,19 +19,17 @@ fn same_kind(types: &[u32], a: TypeHandle, b: TypeHandle) -> bool
     if k != l {
         return false;
     }
-    if k == 1 {
-        return first_word(types, a) == first_word(types, b);
-    }
-    if k == 2 {
-        if first_word(types, a) != first_word(types, b) {
-            return false;
+    match k {
+        TypeKind::Vector => first_word(types, a) == first_word(types, b),
+        TypeKind::Matrix => {
+            if first_word(types, a) != first_word(types, b) {
+                return false;
+            }
+            second_word(types, a) == second_word(types, b)
         }
-        return second_word(types, a) == second_word(types, b);
+        TypeKind::Array => second_word(types, a) == second_word(types, b),
+        _ => true,
     }
-    if k == 5 {
-        return second_word(types, a) == second_word(types, b);
-    }
-    true
 }
 
 // Whether two types are made of as many types, which the table says are alike.

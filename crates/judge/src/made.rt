@@ -10,7 +10,7 @@ ghost use Rattle.clearance.specs.Judged.{every, part_type, same_part, component_
 ghost use Rattle.judge.specs.Given.{scope_at, Row, Fits};
 
 use crate::kinds::{SPLAT, SWIZZLE};
-use crate::rows::kind_at;
+use crate::rows::{TypeKind, kind_at};
 use crate::shapes::{is_vector_of, part_count, same_part};
 use crate::values::{all_values, both, is_value, type_of};
 use access::kinded::{Kinded, expression_operand, operand};
@@ -49,7 +49,7 @@ fn fits_swizzle(
 {
     let vector = expression_operand(bytes, row, 0);
     let a = type_of(bytes, t, f, vector);
-    if kind_at(types, a) != 1 {
+    if kind_at(types, a) != TypeKind::Vector {
         return false;
     }
     let within = letters_below(bytes, row, first_word(types, a));
@@ -68,14 +68,11 @@ fn fits_swizzle(
 fn component_count(types: &[u32], a: TypeHandle) -> u32
     ensures { result ≡ component_count (get_or (types_of types.now) a.0 Opaque) }
 {
-    let k = kind_at(types, a);
-    if k == 0 {
-        return 1;
+    match kind_at(types, a) {
+        TypeKind::Scalar => 1,
+        TypeKind::Vector => first_word(types, a),
+        _ => 0,
     }
-    if k == 1 {
-        return first_word(types, a);
-    }
-    0
 }
 
 // Whether the components are scalars and vectors, n components in all.
@@ -87,8 +84,9 @@ fn joins(bytes: &[u8], t: &[u32], f: FunctionHandle, types: &[u32], row: Kinded,
     let mut total: usize = 0;
     for i in 0..count {
         let a = type_of(bytes, t, f, expression_operand(bytes, row, 1 + i));
-        if 1 < kind_at(types, a) {
-            return false;
+        match kind_at(types, a) {
+            TypeKind::Scalar | TypeKind::Vector => {}
+            _ => return false,
         }
         total += component_count(types, a) as usize;
     }
@@ -140,7 +138,7 @@ fn fits_compose(
     let values = all_values(bytes, t, f, types, paths, row);
     let a = type_of(bytes, t, f, e);
     let k = kind_at(types, a);
-    if k == 1 {
+    if k == TypeKind::Vector {
         return both(values, joins(bytes, t, f, types, row, first_word(types, a)));
     }
     if part_count(types, a) != operand(bytes, row, 0) as u32 {
@@ -150,16 +148,10 @@ fn fits_compose(
         values,
         parts_fit(bytes, t, f, types, alike, paths, row, e, a),
     );
-    if k == 2 {
-        return fit;
+    match k {
+        TypeKind::Matrix | TypeKind::Array | TypeKind::Struct => fit,
+        _ => false,
     }
-    if k == 5 {
-        return fit;
-    }
-    if k == 6 {
-        return fit;
-    }
-    false
 }
 
 // A vector of one scalar, letters of a vector, or components.
@@ -185,7 +177,10 @@ pub fn fits_made(
         let value = expression_operand(bytes, row, 0);
         let a = type_of(bytes, t, f, value);
         let b = type_of(bytes, t, f, e);
-        let sized = both(kind_at(types, a) == 0, kind_at(types, b) == 1);
+        let sized = both(
+            kind_at(types, a) == TypeKind::Scalar,
+            kind_at(types, b) == TypeKind::Vector,
+        );
         return both(is_value(bytes, t, f, types, paths, value), sized);
     }
     fits_compose(bytes, t, f, types, alike, paths, row, e)

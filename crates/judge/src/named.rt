@@ -8,7 +8,7 @@ ghost use Rattle.judge.specs.Shapes.{InTypes, Shapes};
 ghost use Rattle.judge.specs.Given.{scope_at, Given, Row, Fits};
 
 use crate::kinds::{FUNCTION_ARGUMENT, GLOBAL_VARIABLE, LOCAL_VARIABLE};
-use crate::rows::kind_at;
+use crate::rows::{TypeKind, kind_at};
 use crate::shapes::{is_alike, pointee};
 use crate::values::{both, is_path, is_value, type_of};
 use access::function::{argument, local};
@@ -23,7 +23,7 @@ fn fits_variable(types: &[u32], alike: &[u32], a: TypeHandle, b: TypeHandle) -> 
     requires b_in_bounds { b.0 < length (types_of types.now) }
     ensures { InTypes types.now (λ S. not (is_pointer (inner S a.0)) && same S (inner S a.0) (pointee_type S (inner S b.0))) result }
 {
-    if kind_at(types, a) == 4 {
+    if kind_at(types, a) == TypeKind::Pointer {
         return false;
     }
     is_alike(alike, a, pointee(types, b))

@@ -7,7 +7,7 @@ ghost use Rattle.clearance.specs.Judged.{part_type, element_type, same, same_par
 ghost use Rattle.judge.specs.Alike.{by_table, Lower};
 ghost use Rattle.judge.specs.Shapes.{InTypes, Shapes, Pointee, part_count};
 
-use crate::rows::{base_at, kind_at, second_word};
+use crate::rows::{TypeKind, base_at, kind_at, second_word};
 use bindings::types::{first_word, word};
 use module::handles::TypeHandle;
 
@@ -22,10 +22,10 @@ pub fn is_alike(alike: &[u32], a: TypeHandle, b: TypeHandle) -> bool
 pub fn is_vector_of(types: &[u32], n: u32, b: TypeHandle) -> bool
     ensures { InTypes types.now (λ S. same S (Vector n) (inner S b.0)) result }
 {
-    if kind_at(types, b) != 1 {
-        return false;
+    match kind_at(types, b) {
+        TypeKind::Vector => n == first_word(types, b),
+        _ => false,
     }
-    n == first_word(types, b)
 }
 
 // Whether what a dynamic index of the type a gives is of b's shape.
@@ -35,37 +35,23 @@ pub fn same_element(types: &[u32], alike: &[u32], a: TypeHandle, b: TypeHandle) 
     requires b_in_bounds { b.0 < length (types_of types.now) }
     ensures { InTypes types.now (λ S. same_part S (element_type S (inner S a.0)) (inner S b.0)) result }
 {
-    let k = kind_at(types, a);
-    if k == 1 {
-        return kind_at(types, b) == 0;
+    match kind_at(types, a) {
+        TypeKind::Vector => kind_at(types, b) == TypeKind::Scalar,
+        TypeKind::Matrix => is_vector_of(types, second_word(types, a), b),
+        TypeKind::Array => is_alike(alike, TypeHandle(first_word(types, a)), b),
+        _ => false,
     }
-    if k == 2 {
-        return is_vector_of(types, second_word(types, a), b);
-    }
-    if k == 5 {
-        return is_alike(alike, TypeHandle(first_word(types, a)), b);
-    }
-    false
 }
 
 // How many parts the type a has.
 pub fn part_count(types: &[u32], a: TypeHandle) -> u32
     ensures { result ≡ part_count (get_or (types_of types.now) a.0 Opaque) }
 {
-    let k = kind_at(types, a);
-    if k == 5 {
-        return second_word(types, a);
+    match kind_at(types, a) {
+        TypeKind::Array => second_word(types, a),
+        TypeKind::Vector | TypeKind::Matrix | TypeKind::Struct => first_word(types, a),
+        _ => 0,
     }
-    if k == 1 {
-        return first_word(types, a);
-    }
-    if k == 2 {
-        return first_word(types, a);
-    }
-    if k == 6 {
-        return first_word(types, a);
-    }
-    0
 }
 
 // Whether the part i of the type a is there and of b's shape.
@@ -78,10 +64,10 @@ pub fn same_part(types: &[u32], alike: &[u32], a: TypeHandle, i: u32, b: TypeHan
     if part_count(types, a) <= i {
         return false;
     }
-    if kind_at(types, a) == 6 {
-        return is_alike(alike, base_at(types, a, i), b);
+    match kind_at(types, a) {
+        TypeKind::Struct => is_alike(alike, base_at(types, a, i), b),
+        _ => same_element(types, alike, a, b),
     }
-    same_element(types, alike, a, b)
 }
 
 // What a pointer of the type a leads to, or a where it is no pointer's type.
@@ -89,8 +75,8 @@ pub fn pointee(types: &[u32], a: TypeHandle) -> TypeHandle
     requires { Lower (types_of types.now) }
     ensures { Pointee types.now a.0 result.0 }
 {
-    if kind_at(types, a) == 4 {
-        return TypeHandle(first_word(types, a));
+    match kind_at(types, a) {
+        TypeKind::Pointer => TypeHandle(first_word(types, a)),
+        _ => a,
     }
-    a
 }

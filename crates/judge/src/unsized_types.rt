@@ -9,7 +9,7 @@ ghost use Rattle.judge.specs.Alike.{Lower};
 ghost use Rattle.judge.specs.Marked.{marked};
 ghost use Rattle.judge.specs.Unsized.{UnsizedTable};
 
-use crate::rows::{base_at, base_count, kind_at, second_word};
+use crate::rows::{TypeKind, base_at, base_count, kind_at, second_word};
 use bindings::types::{first_word, word};
 use module::handles::TypeHandle;
 
@@ -17,11 +17,11 @@ use module::handles::TypeHandle;
 fn is_unsized(types: &[u32], t: TypeHandle) -> bool
     ensures { result ≡ holds_in (λ b. false) (get_or (types_of types.now) t.0 Opaque) }
 {
-    let k = kind_at(types, t);
-    if k == 5 {
-        return second_word(types, t) == 0;
+    match kind_at(types, t) {
+        TypeKind::Array => second_word(types, t) == 0,
+        TypeKind::BindingArray => true,
+        _ => false,
     }
-    k == 7
 }
 
 // Whether the table marks one of the types that the type t is made of.
@@ -42,7 +42,7 @@ fn some_base(types: &[u32], table: &[u32], t: TypeHandle) -> bool
 fn unsized_entry(types: &[u32], table: &[u32], t: TypeHandle) -> u32
     ensures { eqb result 1 ≡ holds_in (marked table.now) (get_or (types_of types.now) t.0 Opaque) }
 {
-    if kind_at(types, t) == 4 {
+    if kind_at(types, t) == TypeKind::Pointer {
         return 0;
     }
     if is_unsized(types, t) {
@@ -74,7 +74,7 @@ pub fn holds_either(types: &[u32], table: &[u32], t: TypeHandle) -> bool
     if word(table, t.0 as usize) == 1 {
         return true;
     }
-    if kind_at(types, t) == 4 {
+    if kind_at(types, t) == TypeKind::Pointer {
         return word(table, first_word(types, t) as usize) == 1;
     }
     false

@@ -6,7 +6,7 @@ ghost use Rattle.clearance.specs.Scope.{type_of, is_path};
 ghost use Rattle.clearance.specs.Judged.{every, presently, is_value};
 ghost use Rattle.judge.specs.Given.{scope_at, Values};
 
-use crate::rows::kind_at;
+use crate::rows::{TypeKind, kind_at};
 use access::function::{expression_type, expressions};
 use access::kinded::{Kinded, expression_operand, operand};
 use bindings::types::word;
@@ -63,7 +63,7 @@ pub fn is_value(
         return false;
     }
     let own = type_of(bytes, t, f, e);
-    kind_at(types, own) != 4
+    kind_at(types, own) != TypeKind::Pointer
 }
 
 // Whether the operand v is absent or a value.

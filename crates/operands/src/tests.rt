@@ -8,12 +8,10 @@ ghost use Rattle.judge.specs.Given.{scope_at, Row};
 ghost use Rattle.operands.specs.Lists.{components};
 
 use access::kinded::{Kinded, expression_operand, operand};
-use judge::rows::kind_at;
+use judge::rows::{TypeKind, kind_at};
 use judge::shapes::is_alike;
 use judge::values::{both, type_of};
 use module::handles::{ExpressionHandle, FunctionHandle};
-
-const VECTOR: u32 = 1;
 
 // Whether a binary operator is by part: both operands have the result's type, a scalar or a vector.
 pub fn by_part(
@@ -31,8 +29,9 @@ pub fn by_part(
     ensures { result ≡ by_part (scope_at bytes.now t.now f.0) e.0 (operand_at bytes.now row 0) (operand_at bytes.now row 1) }
 {
     let own = type_of(bytes, t, f, e);
-    if VECTOR < kind_at(types, own) {
-        return false;
+    match kind_at(types, own) {
+        TypeKind::Scalar | TypeKind::Vector => {}
+        _ => return false,
     }
     let x = expression_operand(bytes, row, 0);
     let y = expression_operand(bytes, row, 1);
@@ -48,7 +47,7 @@ fn any_vector(bytes: &[u8], t: &[u32], f: FunctionHandle, types: &[u32], row: Ki
 {
     for i in 0..operand(bytes, row, 0) {
         let a = type_of(bytes, t, f, expression_operand(bytes, row, 1 + i));
-        if kind_at(types, a) == VECTOR {
+        if kind_at(types, a) == TypeKind::Vector {
             return true;
         }
     }
@@ -68,7 +67,7 @@ pub fn is_joined(
     ensures { result ≡ (is_vector (inner_of (scope_at bytes.now t.now f.0) e.0) && any_vector (scope_at bytes.now t.now f.0) (components (operand_at bytes.now row))) }
 {
     let own = type_of(bytes, t, f, e);
-    if kind_at(types, own) != VECTOR {
+    if kind_at(types, own) != TypeKind::Vector {
         return false;
     }
     any_vector(bytes, t, f, types, row)

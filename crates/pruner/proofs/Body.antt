@@ -33,9 +33,8 @@ use Rattle.memory.proofs.Slots.{read-long, slot_low, set-memory, set-read}
 use Rattle.state.specs.Ready.{WasRead}
 use Rattle.pruner.specs.Form.{pruner_pieces, only, read_totals, read_body, answered}
 use Rattle.pruner.specs.Stored.{pruner_in, HasTotals}
-use Rattle.pruner.specs.Reading.{RoomBeside, PieceWasRead, TooMany, NoTotals, FunctionsAre, FunctionsBy, FunctionsWereRead, BodyWasRead}
-use Rattle.pruner.specs.declared.kept.Next.{Next}
-use Rattle.pruner.specs.declared.kept.Next.TheVariants.{Refused, At}
+use Rattle.pruner.specs.Reading.{Next, RoomBeside, PieceWasRead, TooMany, NoTotals, FunctionsAre, FunctionsBy, FunctionsWereRead, BodyWasRead}
+use Rattle.std.specs.Prelude.{Some, None}
 use Rattle.pruner.proofs.Pieces.{no_piece, piece_read, piece_placed}
 
 -- what is malformed or too much is refused
@@ -137,7 +136,7 @@ module _ (bytes t : List ℕ) (w : WasRead bytes t) {n : ℕ} (is-n : n ≡ leng
             long_now : length us ≡ length rs
             long_now = second.long ∙ length-set rs globals_slot p
 
-            pub body_no_functions : c ≡ Refused → BodyWasRead bytes t s rs totals b u us after false
+            pub body_no_functions : c ≡ None → BodyWasRead bytes t s rs totals b u us after false
             body_no_functions z =
                 let many : TooMany total_pieces count (read_totals m 0 (length (module_of bytes t).functions) (from b next))
                 = subst (FunctionsBy bytes t v (set rs globals_slot p) b next count u us after) z second.by in
@@ -148,7 +147,7 @@ module _ (bytes t : List ℕ) (w : WasRead bytes t) {n : ℕ} (is-n : n ≡ leng
                   by = many_refused (read_body m (from b 6)) (rw after_globals (many_functions g count (read_totals m 0 (length (module_of bytes t).functions) (from b next)) exact many));
                 }
 
-            module _ {end total : ℕ} (z : c ≡ At end total) where
+            module _ {end total : ℕ} (z : c ≡ Some (end, total)) where
               F : FunctionsAre bytes t v (set rs globals_slot p) b next count u us after end total
               F = subst (FunctionsBy bytes t v (set rs globals_slot p) b next count u us after) z second.by
 

@@ -23,9 +23,8 @@ use Rattle.marks.proofs.Sums.{total_there, total_missing}
 use Rattle.block.specs.Standing.{total_of, total_in}
 use Rattle.block.specs.Total.{total_count}
 use Rattle.pruner.specs.Form.{read_kept, read_total}
-use Rattle.pruner.specs.Reading.{RoomBeside, TooMany, kept_pieces, KeptBy, KeptWasRead, TotalBy, TotalWasRead}
-use Rattle.pruner.specs.declared.kept.Next.{Next}
-use Rattle.pruner.specs.declared.kept.Next.TheVariants.{Refused, At}
+use Rattle.pruner.specs.Reading.{Next, RoomBeside, TooMany, kept_pieces, KeptBy, KeptWasRead, TotalBy, TotalWasRead}
+use Rattle.std.specs.Prelude.{Some, None}
 
 -- what a total counts for
 pub no_total : (m : Module) (t : List ℕ) (ps : List PartReq) (totals : List ℕ) (f : FunctionHandle) → has_total totals f ≡ false → total_in m t ps totals f ≡ nothing
@@ -49,15 +48,15 @@ module _ (bytes t s rs totals b : List ℕ) (at : ℕ) (f : FunctionHandle) (sum
   abbrev m : Module
   m = module_of bytes t
 
-  refuse : Memory s rs → read_total m f (from b at) ≡ malformed → TotalWasRead bytes t s rs totals b at f sum s rs totals Refused
+  refuse : Memory s rs → read_total m f (from b at) ≡ malformed → TotalWasRead bytes t s rs totals b at f sum s rs totals None
   refuse mem e = record { kept = kept_same mem.good; long = refl; marks_long = refl; by = rw e tt }
 
-  pub total_ends : Memory s rs → length b < at + 2 → TotalWasRead bytes t s rs totals b at f sum s rs totals Refused
+  pub total_ends : Memory s rs → length b < at + 2 → TotalWasRead bytes t s rs totals b at f sum s rs totals None
   unfolding read_total
   total_ends mem h = refuse mem (rw (from_end b at h) refl)
 
   module _ (h : at + 2 ≤ length b) {x : ℕ} (is : x ≡ field_at b at) where
-    pub total_other : Memory s rs → (x ≡ 0 → ⊥) → (x ≡ 1 → ⊥) → TotalWasRead bytes t s rs totals b at f sum s rs totals Refused
+    pub total_other : Memory s rs → (x ≡ 0 → ⊥) → (x ≡ 1 → ⊥) → TotalWasRead bytes t s rs totals b at f sum s rs totals None
     unfolding read_total
     total_other mem zero-not one-not = refuse mem (rw (from_cons b at h, ← is, ne_eqb x 0 zero-not, ne_eqb x 1 one-not) refl)
 
@@ -65,7 +64,7 @@ module _ (bytes t s rs totals b : List ℕ) (at : ℕ) (f : FunctionHandle) (sum
     unfolding read_total
     none_read e = rw (from_cons b at h, ← is, eq-eqb x 0 e) refl
 
-    pub total_none : Memory s rs → has_total totals f ≡ false → sum ≤ max_pieces → x ≡ 0 → TotalWasRead bytes t s rs totals b at f sum s rs totals (At (at + 2) sum)
+    pub total_none : Memory s rs → has_total totals f ≡ false → sum ≤ max_pieces → x ≡ 0 → TotalWasRead bytes t s rs totals b at f sum s rs totals (Some (at + 2, sum))
     total_none mem flag few e = record {
       kept = kept_same mem.good;
       long = refl;
@@ -92,8 +91,8 @@ module _ (bytes t s rs totals b : List ℕ) (at : ℕ) (f : FunctionHandle) (sum
     kept_room room = omega arith
 
     by_kept : (u us after : List ℕ) (r : Next) → x ≡ 1 → KeptBy bytes t s rs totals b (at + 2) f sum u us after r → TotalBy bytes t s rs totals b at f sum u us after r
-    by_kept u us after Refused e k = rw (one_read e) (many_some sum (read_kept m f (from b (at + 2))) k)
-    by_kept u us after (At next n) e k = record {
+    by_kept u us after None e k = rw (one_read e) (many_some sum (read_kept m f (from b (at + 2))) k)
+    by_kept u us after (Some (next, n)) e k = record {
       is = one_read e ∙ k.is;
       sums = omega (arith, k.sums, flagged_count m t (read u us) after f k.flagged);
       few = k.few;

@@ -36,9 +36,8 @@ use Rattle.leave.specs.declared.leave.Stretch.{Stretch}
 use Rattle.block.specs.Standing.{total_of, total_in}
 use Rattle.pruner.specs.Form.{only, read_marks, read_records, known_in, read_kept}
 use Rattle.pruner.specs.Stored.{HasTotals}
-use Rattle.pruner.specs.Reading.{RoomBeside, MarksAre, MarksWereRead, TooMany, RecordsBy, RecordsWereRead, ContextIs, ContextBy, ContextWasStored, kept_pieces, KeptBy, KeptWasRead}
-use Rattle.pruner.specs.declared.kept.Next.{Next}
-use Rattle.pruner.specs.declared.kept.Next.TheVariants.{Refused, At}
+use Rattle.pruner.specs.Reading.{Next, RoomBeside, MarksAre, MarksWereRead, TooMany, RecordsBy, RecordsWereRead, ContextIs, ContextBy, ContextWasStored, kept_pieces, KeptBy, KeptWasRead}
+use Rattle.std.specs.Prelude.{Some, None}
 
 drop-drop : (n m : ℕ) (xs : List ℕ) → drop m (drop n xs) ≡ drop (n + m) xs
 drop-drop zero m xs = let z : 0 + m ≡ m = omega arith in rw z refl
@@ -116,7 +115,7 @@ module _ {bytes t places s rs totals : List ℕ} (h : HasTotals bytes t places s
       after-long : length after ≡ length totals
       after-long = marks.long ∙ length-set totals f 1
 
-      pub kept_no_marks : Memory s rs → r ≡ false → KeptWasRead bytes t s rs totals b at f sum s rs after Refused
+      pub kept_no_marks : Memory s rs → r ≡ false → KeptWasRead bytes t s rs totals b at f sum s rs after None
       kept_no_marks mem e =
           let none-such : read_marks (stretch m f) (from b at) ≡ malformed = rw (← size) (subst (MarksAre b (set totals f 1) after at (totals_at + from') (to - from')) e marks.are) in
           record { kept = kept_same mem.good; long = refl; marks_long = after-long; by = rw (no_such none-such) tt }
@@ -178,7 +177,7 @@ module _ {bytes t places s rs totals : List ℕ} (h : HasTotals bytes t places s
           abbrev wanted : Read RequiredContext
           wanted = only (known_context g x l) (read_context_body (from b lists))
 
-          pub kept_no_context : q ≡ Refused → KeptWasRead bytes t s rs totals b at f sum v vs after Refused
+          pub kept_no_context : q ≡ None → KeptWasRead bytes t s rs totals b at f sum v vs after None
           kept_no_context z =
               let many : TooMany pieces sum wanted = subst (ContextBy s rs b lists (functions_slot + 4 * f) sum wanted v vs) z context.by in
               record {
@@ -188,7 +187,7 @@ module _ {bytes t places s rs totals : List ℕ} (h : HasTotals bytes t places s
                 by = rw (after-marks, ← known_same gs xs ls (from b lists)) (many_context own-marks sum (length (function_at m f).expressions) wanted many);
               }
 
-          module _ {next count : ℕ} (z : q ≡ At next count) where
+          module _ {next count : ℕ} (z : q ≡ Some (next, count)) where
             C : ContextIs s rs b lists (functions_slot + 4 * f) sum wanted v vs next count
             C = subst (ContextBy s rs b lists (functions_slot + 4 * f) sum wanted v vs) z context.by
 
@@ -213,9 +212,9 @@ module _ {bytes t places s rs totals : List ℕ} (h : HasTotals bytes t places s
 
               module _ (u us : List ℕ) where
                 kept_records : (w : Next) → RecordsBy v vs b next (totals_slot + expressions_from (row_at t f)) (row_at t f).expressions count u us w → KeptBy bytes t s rs totals b at f sum u us after w
-                kept_records Refused many =
+                kept_records None many =
                     rw after_context (many_last own-marks sum c count (read_records (row_at t f).expressions (from b next)) C.sums many)
-                kept_records (At end total) R =
+                kept_records (Some (end, total)) R =
                     let same_context : context_at (read u us) (functions_slot + 4 * f) ≡ c
                     = context_same (read v vs) (read u us) (functions_slot + 4 * f) (λ i k. R.same (functions_slot + 4 * f + i) (λ low high. omega (arith, fits f h.was_read there))) in
                     record {

@@ -14,6 +14,5 @@ pub mod Keeping
 pub mod Flagged
 pub mod Through
 pub mod Body
-pub mod Clearing
 pub mod Header
 pub mod Telling

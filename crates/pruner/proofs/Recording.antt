@@ -30,7 +30,7 @@ use Rattle.pruner.specs.Form.{read_records}
 use Rattle.pruner.specs.Reading.{single, mapped, RoomBeside, SpentBeside, PieceWasRead, lists_read, ListsPlaced, ListsWereRead, TooMany, RecordsWereRead, ContextWasStored}
 use Rattle.pruner.specs.declared.reader.ReadLists.{ReadLists}
 use Rattle.pruner.specs.declared.reader.ReadLists.TheVariants as lists
-use Rattle.pruner.specs.declared.kept.Next.TheVariants.{Refused, At}
+use Rattle.std.specs.Prelude.{Some, None}
 use Rattle.pruner.proofs.Pieces.{no_piece, piece_read, piece_placed, Mapped, mapped_from, unmapped}
 use Rattle.pruner.proofs.Marking.{after, after_none, after_more}
 
@@ -120,7 +120,7 @@ module _ {s rs b : List ℕ} {at base n sum : ℕ} {t us : List ℕ} {k next cou
     recording_room r = omega (arith, so.spent, so.kept.long)
 
     module _ {v : List ℕ} {a : ReadPart} (was : PieceWasRead t v b next 1 (mapped (single 0) (read_return (from b next))) a) where
-      pub recording_refused : a ≡ parts.Malformed → RecordsWereRead s rs b at base n sum v us Refused
+      pub recording_refused : a ≡ parts.Malformed → RecordsWereRead s rs b at base n sum v us None
       recording_refused e =
           let none-such : read_records n (from b at) ≡ malformed = so.rest ∙ rw (left, records_stop (n - (k + 1)) (from b next) (unmapped (single 0) (read_return (from b next)) (no_piece was e))) refl in
           record { kept = kept_on so.kept was.kept; long = so.long; by = rw none-such tt }
@@ -139,7 +139,7 @@ module _ {s rs b : List ℕ} {at base n sum : ℕ} {t us : List ℕ} {k next cou
         own = single-pieces o ∙ ap entries of.made
 
         module _ {m : ℕ} (w : m ≡ min entries_cap (entries (part v p))) where
-          pub recording_many : max_pieces < count + m → RecordsWereRead s rs b at base n sum v us Refused
+          pub recording_many : max_pieces < count + m → RecordsWereRead s rs b at base n sum v us None
           recording_many h =
               let more-than : max_pieces < sum + (record_pieces records + record_pieces (o ∷ [])) = omega (arith, so.sums, own) in
               record {
@@ -188,7 +188,7 @@ module _ {s rs b : List ℕ} {at base n sum : ℕ} {t us : List ℕ} {k next cou
                   rest = next_record ∙ rw records-now (after_more records o (read_records (n - (k + 1)) (from b end)));
                 }
 
-  pub recording_done : n ≤ k → RecordsWereRead s rs b at base n sum t us (At next count)
+  pub recording_done : n ≤ k → RecordsWereRead s rs b at base n sum t us (Some (next, count))
   recording_done h =
       let all : k ≡ n = omega (arith, so.few) in
       let zero_left : n - k ≡ 0 = omega arith in
@@ -213,7 +213,7 @@ module _ {s rs b : List ℕ} {at base n sum : ℕ} {t us : List ℕ} {k next cou
 
 -- the context
 module _ (wanted : Read RequiredContext) {s t b : List ℕ} (rs : List ℕ) {at : ℕ} (slot sum : ℕ) {a : ReadLists} (was : ListsWereRead s t b at wanted a) where
-  pub context_refused : a ≡ lists.Malformed → ContextWasStored s rs b at slot sum wanted t rs Refused
+  pub context_refused : a ≡ lists.Malformed → ContextWasStored s rs b at slot sum wanted t rs None
   context_refused e =
       let none-such : wanted ≡ malformed = sym was.is ∙ ap (lists_read t b) e in
       record { kept = was.kept; long = refl; by = rw none-such tt }
@@ -235,13 +235,13 @@ module _ (wanted : Read RequiredContext) {s t b : List ℕ} (rs : List ℕ) {at 
       unfolding pieces
       exact h = omega arith
 
-      pub context_many : max_pieces < sum + (g + l + x + p) → ContextWasStored s rs b at slot sum wanted t rs Refused
+      pub context_many : max_pieces < sum + (g + l + x + p) → ContextWasStored s rs b at slot sum wanted t rs None
       context_many h =
           let more-than : max_pieces < sum + pieces (context_of t c) = omega (arith, least) in
           record { kept = was.kept; long = refl; by = rw found more-than }
 
       pub context_stored : {us : List ℕ} → sum + (g + l + x + p) ≤ max_pieces → Memory s rs → functions_slot ≤ slot → slot + 4 ≤ length rs
-          → us ≡ four_set rs slot c.globals c.locals c.args c.retval → ContextWasStored s rs b at slot sum wanted t us (At next (sum + (g + l + x + p)))
+          → us ≡ four_set rs slot c.globals c.locals c.args c.retval → ContextWasStored s rs b at slot sum wanted t us (Some (next, sum + (g + l + x + p)))
       context_stored {us} h m low high is =
           let has = context_has in
           let reads : read t us ≡ with_context (read s rs) slot (context_of t c)

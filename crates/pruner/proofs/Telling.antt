@@ -2,13 +2,13 @@
 use Prim.Native.Nat.{ℕ, zero, suc, ◌+◌, ◌≤◌}
 use native.Mathlib.Omega.{arith}
 use native.Mathlib.Numerals.{add-one}
-use mathlib.Core.Path.{◌≡◌, refl, ap, sym, ◌∙◌}
-use mathlib.Core.Bool.{Bool, true, false, cond}
+use mathlib.Core.Path.{◌≡◌, refl, ap, sym, subst, ◌∙◌}
+use mathlib.Core.Bool.{Bool, true, false}
 use mathlib.Core.List.{List, []}
 use mathlib.Core.Option.{Option, none as nothing}
 use lib.ListN.{length, take, replicate, replicate-append-replicate}
 use lib.Seq.{length-take-le}
-use Rattle.field.specs.Field.{word_at}
+use Rattle.std.specs.Prelude.{Option as Maybe, Some, None}
 use Rattle.field.specs.Limits.{max_functions}
 use Rattle.module.specs.Module.{Module}
 use Rattle.module.specs.Decode.{tab}
@@ -25,7 +25,7 @@ use Rattle.state.specs.State.{totals_sum}
 use Rattle.block.specs.Standing.{total_in, functions_in}
 use Rattle.pruner.specs.Form.{is_pruner, is_fresh, stated, answered, read_body, read_pruner}
 use Rattle.pruner.specs.Stored.{pruner_in, HasTotals}
-use Rattle.pruner.specs.Reading.{RoomBeside, NoTotals, FlagsCleared, BodyBy, BodyWasRead, RecordLength, Untold, PrunerBy, PrunerWasRead}
+use Rattle.pruner.specs.Reading.{RoomBeside, NoTotals, FlagsCleared, BodyBy, BodyWasRead, Stands, RecordLength, Untold, PrunerBy, PrunerWasRead}
 use Rattle.pruner.proofs.Read.{nothing-counts}
 use Rattle.pruner.proofs.Flagged.{no_total}
 use Rattle.pruner.proofs.Through.{Through, through_first}
@@ -49,24 +49,6 @@ module _ (m : Module) (b : List ℕ) where
     means_body : is_pruner b ≡ true → read_pruner m b ≡ answered (whole (read_body m (from (stated b) 6)))
     unfolding read_pruner
     means_body e = rw (asked, e) refl
-
-  none_there : RecordLength b 0 → is_pruner b ≡ false
-  none_there h = by (is_pruner b) h.is
-    where
-      by : (x : Bool) → 0 ≡ cond x (6 + word_at b 2) 0 → x ≡ false
-      by true e = absurd (omega arith)
-      by false e = refl
-
-  record Stands (end : ℕ) : Type 0 where
-    there : is_pruner b ≡ true
-    whole_is : end ≡ 6 + word_at b 2
-
-  stands : {end : ℕ} → RecordLength b end → (end ≡ 0 → ⊥) → Stands end
-  stands {end} h ne = by (is_pruner b) refl h.is
-    where
-      by : (x : Bool) → is_pruner b ≡ x → end ≡ cond x (6 + word_at b 2) 0 → Stands end
-      by true e z = record { there = e; whole_is = z }
-      by false e z = absurd (ne z)
 
 module _ {bytes t places s rs totals : List ℕ} (h : HasTotals bytes t places s rs totals) (untold : Untold s rs) {n : ℕ} (is-n : n ≡ length (module_of bytes t).functions) where
   abbrev m : Module
@@ -99,7 +81,7 @@ module _ {bytes t places s rs totals : List ℕ} (h : HasTotals bytes t places s
     unfolding tab total_pieces
     nothing_summed = omega (arith, ap total_pieces functions_none, nothing-counts m (length (module_of bytes t).functions), first.weighed)
 
-    module _ {b : List ℕ} {asked : Bool} (is_asked : asked ≡ is_fresh b) where
+    module _ (b : List ℕ) {asked : Bool} (is_asked : asked ≡ is_fresh b) where
       pub tells_fresh : asked ≡ true → PrunerWasRead bytes t s rs totals b s rs cleared true
       tells_fresh e = record {
         kept = kept_same h.memory.good;
@@ -114,24 +96,27 @@ module _ {bytes t places s rs totals : List ℕ} (h : HasTotals bytes t places s
         };
       }
 
-      module _ (e : asked ≡ false) {end : ℕ} (there : RecordLength b end) where
-        pub tells_none : end ≡ 0 → PrunerWasRead bytes t s rs totals b s rs cleared false
+      module _ (e : asked ≡ false) {found : Maybe ℕ} (there : RecordLength b found) where
+        pub tells_none : found ≡ None → PrunerWasRead bytes t s rs totals b s rs cleared false
         tells_none z = record {
           kept = kept_same h.memory.good;
           long = refl;
           marks_long = c.long;
-          by = means_none m b (sym is_asked ∙ e) (none_there m b (rw z at there));
+          by = means_none m b (sym is_asked ∙ e) (subst (RecordLength b) z there);
         }
 
-        module _ (ne : end ≡ 0 → ⊥) where
+        module _ {end : ℕ} (z : found ≡ Some end) where
+          pub stands : Stands b end
+          stands = subst (RecordLength b) z there
+
           pub body_there : 6 ≤ length (take end b)
-          body_there = omega (arith, length-take-le end b there.inside, (stands m b there ne).whole_is)
+          body_there = omega (arith, length-take-le end b stands.inside, stands.is)
 
           pub body_fits : RoomBeside s (take end b) 6 (max_items + max_functions)
-          body_fits = omega (arith, length-take-le end b there.inside, there.small, untold.room)
+          body_fits = omega (arith, length-take-le end b stands.inside, stands.small, untold.room)
 
           means_this : read_pruner m b ≡ answered (whole (read_body m (from (take end b) 6)))
-          means_this = means_body m b (sym is_asked ∙ e) (stands m b there ne).there ∙ rw (stands m b there ne).whole_is refl
+          means_this = means_body m b (sym is_asked ∙ e) stands.there ∙ rw stands.is refl
 
           by_body : (u us after : List ℕ) (r : Bool) → BodyBy bytes t s rs (take end b) u us after r → PrunerBy bytes t s rs b u us after r
           by_body u us after true k = record {

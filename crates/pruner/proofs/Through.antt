@@ -40,9 +40,8 @@ use Rattle.block.proofs.Totalled.{other_count, total_sums}
 use Rattle.block.proofs.Keeping.{totals_recorded}
 use Rattle.pruner.specs.Form.{read_total, read_totals}
 use Rattle.pruner.specs.Stored.{HasTotals}
-use Rattle.pruner.specs.Reading.{RoomBeside, SpentBeside, TooMany, TotalIs, TotalBy, TotalWasRead, NoTotals, FunctionsWereRead}
-use Rattle.pruner.specs.declared.kept.Next.{Next}
-use Rattle.pruner.specs.declared.kept.Next.TheVariants.{Refused, At}
+use Rattle.pruner.specs.Reading.{Next, RoomBeside, SpentBeside, TooMany, TotalIs, TotalBy, TotalWasRead, NoTotals, FunctionsWereRead}
+use Rattle.std.specs.Prelude.{Some, None}
 use Rattle.pruner.proofs.Marking.{after, after_none, after_more}
 use Rattle.pruner.proofs.Flagged.{flagged_count, missing_count}
 
@@ -185,7 +184,7 @@ module _ {bytes t : List ℕ} (w : WasRead bytes t) where
         unfolding read_totals
         next-total = so.rest ∙ rw left refl
 
-        pub through_refused : a ≡ Refused → FunctionsWereRead bytes t s rs totals b at sum v vs then Refused
+        pub through_refused : a ≡ None → FunctionsWereRead bytes t s rs totals b at sum v vs then None
         through_refused e =
             let many : TooMany function_pieces count (read_total m f (from b next)) = subst (TotalBy bytes t u us now b next f count v vs then) e was.by in
             record {
@@ -195,7 +194,7 @@ module _ {bytes t : List ℕ} (w : WasRead bytes t) where
               by = rw next-total (many_total (tab f (total_in m t (read u us) now)) sum m f (n - (f + 1)) count (read_total m f (from b next)) so.sums many);
             }
 
-        module _ {end total : ℕ} (e : a ≡ At end total) where
+        module _ {end total : ℕ} (e : a ≡ Some (end, total)) where
           R : TotalIs bytes t u us now b next f count v vs then end total
           R = subst (TotalBy bytes t u us now b next f count v vs then) e was.by
 
@@ -292,7 +291,7 @@ module _ {bytes t : List ℕ} (w : WasRead bytes t) where
                     (after_more (tab f (total_in m t (read u us) now)) (total_in m t (read v vs) then f) (read_totals m (suc f) (n - suc f) (from b end)));
               }
 
-    pub through_done : n ≤ f → FunctionsWereRead bytes t s rs totals b at sum u us now (At next count)
+    pub through_done : n ≤ f → FunctionsWereRead bytes t s rs totals b at sum u us now (Some (next, count))
     through_done h =
         let all : f ≡ n = omega (arith, so.few) in
         let none_left : n - f ≡ 0 = omega arith in

@@ -1,5 +1,6 @@
 -- What the code answers that reads totals into a walk's memory: that there are none such, or where the next field stands and what memory has then.
-use Rattle.std.specs.Prelude.{ℕ, ◌+◌, ◌*◌, ◌≤◌, ◌<◌, ◌≡◌, Bool, true, false, cond, List, length, get_or}
+use Rattle.std.specs.Prelude.{ℕ, ◌+◌, ◌*◌, ◌≤◌, ◌<◌, ◌≡◌, Bool, true, false, List, length, get_or, Some, None}
+use Rattle.std.specs.Prelude.{Option as Maybe}
 use Rattle.std.proofs.Math.Option.{Option, some, none as nothing}
 use Rattle.field.specs.Field.{word_at}
 use Rattle.field.specs.Limits.{max_pieces, max_functions}
@@ -28,8 +29,6 @@ use Rattle.pruner.specs.Form.{read_marks, read_records, read_kept, read_total, r
 use Rattle.pruner.specs.Stored.{pruner_in}
 use Rattle.pruner.specs.declared.reader.ReadLists.{ReadLists}
 use Rattle.pruner.specs.declared.reader.ReadLists.TheVariants.{Malformed, Got}
-use Rattle.pruner.specs.declared.kept.Next.{Next}
-use Rattle.pruner.specs.declared.kept.Next.TheVariants.{Refused, At}
 
 -- {i: part}, or the empty part for none
 unfoldable pub single : ℕ → Option PartReq → PartReq
@@ -85,6 +84,10 @@ pub record MarksWereRead (b before : List ℕ) (at first n : ℕ) (after : List 
   pub long : length after ≡ length before
   pub are : MarksAre b before after at first n r
 
+-- nothing, or where the next field stands and how many pieces there are
+abbrev pub Next : Type 0
+Next = Maybe (ℕ × ℕ)
+
 -- There is no such thing, or with it there are more pieces than 16 allows: either way the totals are refused.
 abbrev pub TooMany : {A : Type 0} → (count : A → ℕ) → (sum : ℕ) → Read A → Type 0
 TooMany count sum malformed = Unit {0}
@@ -100,8 +103,8 @@ pub record RecordsAre (s rs b : List ℕ) (at base n sum : ℕ) (t us : List ℕ
   pub same : (k : ℕ) → (base ≤ k → k < base + n → ⊥) → get_or (read t us) k none ≡ get_or (read s rs) k none
 
 abbrev pub RecordsBy : (s rs b : List ℕ) → (at base n sum : ℕ) → (t us : List ℕ) → Next → Type 0
-RecordsBy s rs b at base n sum t us Refused = TooMany record_pieces sum (read_records n (from b at))
-RecordsBy s rs b at base n sum t us (At next m) = RecordsAre s rs b at base n sum t us next m
+RecordsBy s rs b at base n sum t us None = TooMany record_pieces sum (read_records n (from b at))
+RecordsBy s rs b at base n sum t us (Some (next, m)) = RecordsAre s rs b at base n sum t us next m
 
 pub record RecordsWereRead (s rs b : List ℕ) (at base n sum : ℕ) (t us : List ℕ) (r : Next) : Type 0 where
   pub kept : Kept s t
@@ -118,8 +121,8 @@ pub record ContextIs (s rs b : List ℕ) (at slot sum : ℕ) (wanted : Read Requ
   pub same : (k : ℕ) → (slot ≤ k → k < slot + 4 → ⊥) → get_or (read t us) k none ≡ get_or (read s rs) k none
 
 abbrev pub ContextBy : (s rs b : List ℕ) → (at slot sum : ℕ) → Read RequiredContext → (t us : List ℕ) → Next → Type 0
-ContextBy s rs b at slot sum wanted t us Refused = TooMany pieces sum wanted
-ContextBy s rs b at slot sum wanted t us (At next m) = ContextIs s rs b at slot sum wanted t us next m
+ContextBy s rs b at slot sum wanted t us None = TooMany pieces sum wanted
+ContextBy s rs b at slot sum wanted t us (Some (next, m)) = ContextIs s rs b at slot sum wanted t us next m
 
 pub record ContextWasStored (s rs b : List ℕ) (at slot sum : ℕ) (wanted : Read RequiredContext) (t us : List ℕ) (r : Next) : Type 0 where
   pub kept : Kept s t
@@ -143,8 +146,8 @@ pub record KeptIs (bytes t s rs totals b : List ℕ) (at : ℕ) (f : FunctionHan
   pub others : (g : ℕ) → g < length (module_of bytes t).functions → (g ≡ f → ⊥) → report.total_in (module_of bytes t) after g ≡ report.total_in (module_of bytes t) totals g
 
 abbrev pub KeptBy : (bytes t s rs totals b : List ℕ) → (at : ℕ) → FunctionHandle → (sum : ℕ) → (u us after : List ℕ) → Next → Type 0
-KeptBy bytes t s rs totals b at f sum u us after Refused = TooMany kept_pieces sum (read_kept (module_of bytes t) f (from b at))
-KeptBy bytes t s rs totals b at f sum u us after (At next m) = KeptIs bytes t s rs totals b at f sum u us after next m
+KeptBy bytes t s rs totals b at f sum u us after None = TooMany kept_pieces sum (read_kept (module_of bytes t) f (from b at))
+KeptBy bytes t s rs totals b at f sum u us after (Some (next, m)) = KeptIs bytes t s rs totals b at f sum u us after next m
 
 pub record KeptWasRead (bytes t s rs totals b : List ℕ) (at : ℕ) (f : FunctionHandle) (sum : ℕ) (u us after : List ℕ) (r : Next) : Type 0 where
   pub kept : Kept s u
@@ -165,8 +168,8 @@ pub record TotalIs (bytes t s rs totals b : List ℕ) (at : ℕ) (f : FunctionHa
   pub others : (g : ℕ) → g < length (module_of bytes t).functions → (g ≡ f → ⊥) → report.total_in (module_of bytes t) after g ≡ report.total_in (module_of bytes t) totals g
 
 abbrev pub TotalBy : (bytes t s rs totals b : List ℕ) → (at : ℕ) → FunctionHandle → (sum : ℕ) → (u us after : List ℕ) → Next → Type 0
-TotalBy bytes t s rs totals b at f sum u us after Refused = TooMany function_pieces sum (read_total (module_of bytes t) f (from b at))
-TotalBy bytes t s rs totals b at f sum u us after (At next m) = TotalIs bytes t s rs totals b at f sum u us after next m
+TotalBy bytes t s rs totals b at f sum u us after None = TooMany function_pieces sum (read_total (module_of bytes t) f (from b at))
+TotalBy bytes t s rs totals b at f sum u us after (Some (next, m)) = TotalIs bytes t s rs totals b at f sum u us after next m
 
 pub record TotalWasRead (bytes t s rs totals b : List ℕ) (at : ℕ) (f : FunctionHandle) (sum : ℕ) (u us after : List ℕ) (r : Next) : Type 0 where
   pub kept : Kept s u
@@ -191,8 +194,8 @@ pub record FunctionsAre (bytes t s rs b : List ℕ) (at sum : ℕ) (u us after :
   pub unwalked : (g : ℕ) → g < length (module_of bytes t).functions → has_total after g ≡ false → total_count t g (read u us) ≡ 0
 
 abbrev pub FunctionsBy : (bytes t s rs b : List ℕ) → (at sum : ℕ) → (u us after : List ℕ) → Next → Type 0
-FunctionsBy bytes t s rs b at sum u us after Refused = TooMany total_pieces sum (read_totals (module_of bytes t) 0 (length (module_of bytes t).functions) (from b at))
-FunctionsBy bytes t s rs b at sum u us after (At next m) = FunctionsAre bytes t s rs b at sum u us after next m
+FunctionsBy bytes t s rs b at sum u us after None = TooMany total_pieces sum (read_totals (module_of bytes t) 0 (length (module_of bytes t).functions) (from b at))
+FunctionsBy bytes t s rs b at sum u us after (Some (next, m)) = FunctionsAre bytes t s rs b at sum u us after next m
 
 pub record FunctionsWereRead (bytes t s rs totals b : List ℕ) (at sum : ℕ) (u us after : List ℕ) (r : Next) : Type 0 where
   pub kept : Kept s u
@@ -223,11 +226,17 @@ pub record FlagsCleared (before : List ℕ) (n : ℕ) (after : List ℕ) : Type 
   pub long : length after ≡ length before
   pub flags : (g : ℕ) → g < n → has_total after g ≡ false
 
--- how long the record PN is that stands at the front of s, or 0 where there is none such
-pub record RecordLength (s : List ℕ) (r : ℕ) : Type 0 where
-  pub is : r ≡ cond (is_pruner s) (6 + word_at s 2) 0
+-- how long the record PN is that stands at the front of s
+pub record Stands (s : List ℕ) (r : ℕ) : Type 0 where
+  pub there : is_pruner s ≡ true
+  pub is : r ≡ 6 + word_at s 2
   pub inside : r ≤ length s
   pub small : r ≤ min_pruner
+
+-- that, or nothing where there is none such
+abbrev pub RecordLength : List ℕ → Maybe ℕ → Type 0
+RecordLength s None = is_pruner s ≡ false
+RecordLength s (Some r) = Stands s r
 
 -- a memory without totals, in which the whole of a buffer's record finds room
 pub record Untold (s rs : List ℕ) : Type 0 where

@@ -5,7 +5,6 @@ ghost use Rattle.module.specs.Tables.{max_items};
 ghost use Rattle.pruner.specs.Stored.{HasTotals};
 ghost use Rattle.pruner.specs.Reading.{RoomBeside, NoTotals, FlagsCleared, FunctionsWereRead, BodyWasRead};
 
-use crate::kept::Next;
 use crate::reader::read_map;
 use crate::total::read_total;
 use access::whole::{functions, globals};
@@ -21,11 +20,7 @@ pub fn clear_flags(totals: &mut [u8], n: usize)
     requires { n ≤ length totals.old }
     ensures { FlagsCleared totals.old n totals.new }
 {
-    let mut k = 0;
-    while k < n {
-        totals[k] = 0;
-        k += 1;
-    }
+    totals[..n].fill(0);
 }
 
 pub fn read_functions(
@@ -38,17 +33,15 @@ pub fn read_functions(
     pruner: &[u8],
     at: usize,
     sum: usize,
-) -> Next
+) -> Option<(usize, usize)>
     requires has_totals { HasTotals bytes.now t.now places.now cells.old slots.old totals.old × NoTotals bytes.now t.now cells.old slots.old totals.old }
     requires at_in_bounds { (at ≤ length pruner.now) × RoomBeside cells.old pruner.now at (max_items + max_functions) × (sum ≤ max_pieces) }
     ensures { FunctionsWereRead bytes.now t.now cells.old slots.old totals.old pruner.now at sum cells.new slots.new totals.new result }
 {
-    let n = functions(t);
-    let mut f: u32 = 0;
     let mut next = at;
     let mut count = sum;
-    while f < n {
-        let Next::At(end, m) = read_total(
+    for f in 0..functions(t) {
+        let (end, m) = read_total(
             bytes,
             t,
             places,
@@ -59,14 +52,11 @@ pub fn read_functions(
             next,
             FunctionHandle(f),
             count,
-        ) else {
-            return Next::Refused;
-        };
+        )?;
         next = end;
         count = m;
-        f += 1;
     }
-    Next::At(next, count)
+    Some((next, count))
 }
 
 // The fields of a buffer's record, behind its header. Whether they are totals that 16 allows.
@@ -92,9 +82,8 @@ pub fn read_body(
         return false;
     }
     slots[GLOBALS] = g;
-    let Next::At(end, m) = read_functions(
-        bytes, t, places, cells, slots, totals, pruner, next, count,
-    ) else {
+    let Some((end, _)) = read_functions(bytes, t, places, cells, slots, totals, pruner, next, count)
+    else {
         return false;
     };
     ends(pruner, end)

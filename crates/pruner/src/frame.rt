@@ -13,32 +13,26 @@ pub const MIN_PRUNER: usize = 131072;
 pub fn is_fresh(bytes: &[u8]) -> bool
     ensures { result ≡ is_fresh bytes.now }
 {
-    if bytes.len() < 2 {
-        return false;
-    }
-    if bytes[0] != 0 {
-        return false;
-    }
-    bytes[1] == 0
+    bytes.starts_with(&[0, 0])
 }
 
-// How long the record of totals is, its header included, or 0 where no such record stands at the front.
-pub fn record_length(bytes: &[u8]) -> usize
+// How long the record of totals is, its header included, or nothing where no such record stands at the front.
+pub fn record_length(bytes: &[u8]) -> Option<usize>
     ensures { RecordLength bytes.now result }
 {
     if bytes.len() < 6 {
-        return 0;
+        return None;
     }
     let long = read_word(bytes, 2) as usize;
     if MIN_PRUNER - 6 < long {
-        return 0;
+        return None;
     }
     let end = 6 + long;
     if bytes.len() < end {
-        return 0;
+        return None;
     }
     if is_record(&bytes[..end], b'P', b'N', 6, long) {
-        return end;
+        return Some(end);
     }
-    0
+    None
 }

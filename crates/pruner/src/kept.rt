@@ -14,14 +14,7 @@ use memory::stretches::save_context;
 use part::store::entries;
 use request::parts::ReadPart;
 
-// Refused, or where the next field stands and how many pieces there are.
-#[derive(Clone, Copy)]
-pub enum Next {
-    Refused,
-    At(usize, usize),
-}
-
-// n records, into the slots from `base` on.
+// n records, into the slots from `base` on. Where the next field stands and how many pieces there are, or nothing, if they are refused.
 pub fn read_records(
     cells: &mut [u32],
     slots: &mut [u32],
@@ -30,27 +23,25 @@ pub fn read_records(
     base: usize,
     n: usize,
     sum: usize,
-) -> Next
+) -> Option<(usize, usize)>
     requires memory { Memory cells.old slots.old × (exprs_slot ≤ base) × (base + n ≤ functions_slot) }
     requires at_in_bounds { (at ≤ length pruner.now) × RoomBeside cells.old pruner.now at n × (sum ≤ max_pieces) }
     ensures { RecordsWereRead cells.old slots.old pruner.now at base n sum cells.new slots.new result }
 {
-    let mut k = 0;
     let mut next = at;
     let mut count = sum;
-    while k < n {
+    for k in 0..n {
         let ReadPart::Got(p, end) = read_single(cells, pruner, next, 0) else {
-            return Next::Refused;
+            return None;
         };
         count += entries(cells, p) as usize;
         if MAX_PIECES < count {
-            return Next::Refused;
+            return None;
         }
         slots[base + k] = p;
         next = end;
-        k += 1;
     }
-    Next::At(next, count)
+    Some((next, count))
 }
 
 // The lists of a context, into the four slots from `slot` on.
@@ -64,14 +55,14 @@ pub fn read_context(
     args: u32,
     locals: u32,
     sum: usize,
-) -> Next
+) -> Option<(usize, usize)>
     requires memory { Memory cells.old slots.old × (functions_slot ≤ slot) × (slot + 4 ≤ length slots.old) }
     requires at_in_bounds { (at ≤ length pruner.now) × RoomBeside cells.old pruner.now at 1 × (sum ≤ max_pieces) }
     requires limits { Limits globals args locals }
     ensures { ContextWasStored cells.old slots.old pruner.now at slot sum (only (known_context globals args locals) (read_context_body (from pruner.now at))) cells.new slots.new result }
 {
     let ReadLists::Got(c, next) = read_lists(cells, pruner, at, globals, args, locals) else {
-        return Next::Refused;
+        return None;
     };
     let g = entries(cells, c.globals) as usize;
     let l = entries(cells, c.locals) as usize;
@@ -79,8 +70,8 @@ pub fn read_context(
     let p = entries(cells, c.retval) as usize;
     let count = sum + (g + l + a + p);
     if MAX_PIECES < count {
-        return Next::Refused;
+        return None;
     }
     save_context(slots, slot, c.globals, c.locals, c.args, c.retval);
-    Next::At(next, count)
+    Some((next, count))
 }

@@ -24,9 +24,8 @@ pub fn read_pruner(
     if is_fresh(pruner) {
         return true;
     }
-    let end = record_length(pruner);
-    if end == 0 {
+    let Some(end) = record_length(pruner) else {
         return false;
-    }
+    };
     read_body(bytes, t, places, cells, slots, totals, &pruner[..end])
 }

@@ -98,9 +98,8 @@ pub fn read_marks(pruner: &[u8], at: usize, marks: &mut [u8], first: usize, n: u
     requires { (at ≤ length pruner.now) × (first + n ≤ length marks.old) }
     ensures { MarksWereRead pruner.now marks.old at first n marks.new result }
 {
-    let mut k = 0;
     let mut next = at;
-    while k < n {
+    for k in 0..n {
         if ends(pruner, next) {
             return false;
         }
@@ -110,7 +109,6 @@ pub fn read_marks(pruner: &[u8], at: usize, marks: &mut [u8], first: usize, n: u
         }
         marks[first + k] = mark as u8;
         next += 2;
-        k += 1;
     }
     true
 }

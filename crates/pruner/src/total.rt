@@ -6,7 +6,7 @@ ghost use Rattle.marks.specs.Report.{has_total};
 ghost use Rattle.pruner.specs.Stored.{HasTotals};
 ghost use Rattle.pruner.specs.Reading.{RoomBeside, KeptWasRead, TotalWasRead};
 
-use crate::kept::{Next, read_context, read_records};
+use crate::kept::{read_context, read_records};
 use crate::reader::read_marks;
 use access::function::{arguments, locals};
 use access::whole::globals;
@@ -30,7 +30,7 @@ pub fn read_kept(
     at: usize,
     f: FunctionHandle,
     sum: usize,
-) -> Next
+) -> Option<(usize, usize)>
     requires has_totals { HasTotals bytes.now t.now places.now cells.old slots.old totals.old × (f.0 < length (module_of bytes.now t.now).functions) }
     requires at_in_bounds { (at ≤ length pruner.now) × RoomBeside cells.old pruner.now at (1 + (row_at t.now f.0).expressions) × (sum ≤ max_pieces) }
     ensures { KeptWasRead bytes.now t.now cells.old slots.old totals.old pruner.now at f.0 sum cells.new slots.new totals.new result }
@@ -40,16 +40,14 @@ pub fn read_kept(
     let n = start(places, i + 1) - from;
     totals[i] = 1;
     if !read_marks(pruner, at, totals, TOTALS + from, n) {
-        return Next::Refused;
+        return None;
     }
     let slot = FUNCTIONS + 4 * i;
     let g = globals(t);
     let a = arguments(t, f);
     let l = locals(t, f);
     let lists = at + 2 * n;
-    let Next::At(next, count) = read_context(cells, slots, pruner, lists, slot, g, a, l, sum) else {
-        return Next::Refused;
-    };
+    let (next, count) = read_context(cells, slots, pruner, lists, slot, g, a, l, sum)?;
     let records = records_of(t, f);
     let base = RECORDS + records.from;
     read_records(cells, slots, pruner, next, base, records.n, count)
@@ -67,20 +65,20 @@ pub fn read_total(
     at: usize,
     f: FunctionHandle,
     sum: usize,
-) -> Next
+) -> Option<(usize, usize)>
     requires has_totals { HasTotals bytes.now t.now places.now cells.old slots.old totals.old × (f.0 < length (module_of bytes.now t.now).functions) × (has_total totals.old f.0 ≡ false) }
     requires at_in_bounds { (at ≤ length pruner.now) × RoomBeside cells.old pruner.now at (1 + (row_at t.now f.0).expressions) × (sum ≤ max_pieces) }
     ensures { TotalWasRead bytes.now t.now cells.old slots.old totals.old pruner.now at f.0 sum cells.new slots.new totals.new result }
 {
     if ends(pruner, at) {
-        return Next::Refused;
+        return None;
     }
     let flag = read(pruner, at);
     if flag == 0 {
-        return Next::At(at + 2, sum);
+        return Some((at + 2, sum));
     }
     if flag != 1 {
-        return Next::Refused;
+        return None;
     }
     read_kept(
         bytes,

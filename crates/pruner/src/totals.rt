@@ -70,10 +70,8 @@ fn write_functions(
     requires fits { Fits out.old at (write_totals (functions_in (module_of bytes.now t.now) t.now (read cells.now slots.now) totals.now)) }
     ensures { Written out.old out.new at (write_totals (functions_in (module_of bytes.now t.now) t.now (read cells.now slots.now) totals.now)) result }
 {
-    let n = functions(t);
-    let mut f: u32 = 0;
     let mut next = at;
-    while f < n {
+    for f in 0..functions(t) {
         next = write_function(
             bytes,
             t,
@@ -85,7 +83,6 @@ fn write_functions(
             out,
             next,
         );
-        f += 1;
     }
     next
 }

@@ -17,12 +17,10 @@ pub fn write_marks(marks: &[u8], from: usize, n: usize, out: &mut [u8], at: usiz
     requires fits { Fits out.old at (take n (drop from marks.now)) }
     ensures { Written out.old out.new at (take n (drop from marks.now)) result }
 {
-    let mut k = 0;
     let mut next = at;
-    while k < n {
+    for k in 0..n {
         write(out, next, marks[from + k] as u16);
         next += 2;
-        k += 1;
     }
     next
 }
@@ -42,11 +40,9 @@ pub fn write_records(
     requires fits { Fits out.old at (write_records (records_of (read cells.now slots.now) base n)) }
     ensures { Written out.old out.new at (write_records (records_of (read cells.now slots.now) base n)) result }
 {
-    let mut k = 0;
     let mut next = at;
-    while k < n {
+    for k in 0..n {
         next = write_return(cells, slots[base + k], out, next);
-        k += 1;
     }
     next
 }

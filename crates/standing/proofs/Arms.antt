@@ -9,8 +9,8 @@ use Rattle.part.specs.PartReq.{PartReq}
 use Rattle.module.specs.Module.{ExpressionHandle}
 use Rattle.clearance.specs.Scope.{Scope}
 use Rattle.clearance.specs.Tree.{Tree, branch}
-use Rattle.clearance.specs.Needs.{Exit, next, broke, continued, returned, upon, ask_whole, kept}
-use Rattle.pass.specs.Pass.{Carried, Passed, on, full, ◌>>=◌, pointed, joining, asking, pass_inside}
+use Rattle.clearance.specs.Needs.{Exit, next, upon, ask_whole}
+use Rattle.pass.specs.Pass.{Carried, Passed, full, ◌>>=◌, pointed, joining, asking, pass_inside}
 use Rattle.hold.specs.Hold.{in_slot, Reach}
 use Rattle.standing.specs.Slots.{table_size, stack_slot, aside_of, Ready}
 use Rattle.standing.specs.Standing.{setting_of, TableIn, Targets, Stands, Went, Walked, Closed, Keeps, inside, around}

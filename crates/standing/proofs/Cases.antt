@@ -11,7 +11,7 @@ use Rattle.module.specs.Module.{ExpressionHandle}
 use Rattle.clearance.specs.Scope.{Scope}
 use Rattle.clearance.specs.Tree.{Tree, switch}
 use Rattle.clearance.specs.Needs.{Exit, next, broke, continued, returned, upon, out_break, of_case, ask_whole}
-use Rattle.pass.specs.Pass.{Carried, Passed, on, full, ◌>>=◌, pointed, joining, asking, pass_cases, pass_inside}
+use Rattle.pass.specs.Pass.{Carried, Passed, on, ◌>>=◌, pointed, joining, asking, pass_cases, pass_inside}
 use Rattle.framed.specs.Kept.{Kept}
 use Rattle.hold.specs.Hold.{in_slot}
 use Rattle.standing.specs.Slots.{Ready}

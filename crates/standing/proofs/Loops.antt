@@ -15,9 +15,9 @@ use Rattle.part.proofs.Equations.{never}
 use Rattle.module.specs.Module.{ExpressionHandle}
 use Rattle.clearance.specs.Scope.{Scope}
 use Rattle.clearance.specs.Tree.{Tree, loop}
-use Rattle.clearance.specs.Needs.{Exit, next, broke, continued, returned, upon, out_break, out_continue, of_case, of_continuing, of_body, turning, after_continuing, Table, join_at}
+use Rattle.clearance.specs.Needs.{Exit, next, upon, out_break, out_continue, of_case, of_continuing, of_body, turning, after_continuing, Table, join_at}
 use Rattle.clearance.proofs.Entry.{join-at}
-use Rattle.pass.specs.Pass.{Carried, Passed, on, full, ◌>>=◌, enter, pointed, within, turning_on, entering, pass_inside}
+use Rattle.pass.specs.Pass.{Carried, Passed, on, ◌>>=◌, enter, pointed, within, turning_on, entering, pass_inside}
 use Rattle.pass.proofs.Pass.{says_turning}
 use Rattle.hold.specs.Hold.{in_slot, Reach}
 use Rattle.hold.proofs.Reach.{reach_trans, reach_is}

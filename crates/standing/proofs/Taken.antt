@@ -10,9 +10,9 @@ use Rattle.part.specs.PartReq.{PartReq}
 use Rattle.module.specs.Module.{ExpressionHandle}
 use Rattle.clearance.specs.Scope.{Scope}
 use Rattle.clearance.specs.Tree.{Tree, break, continue, return, unmarked}
-use Rattle.clearance.specs.Needs.{Exit, next, broke, continued, returned, upon, of_value, obeys, kept}
+use Rattle.clearance.specs.Needs.{Exit, next, upon, of_value, obeys, kept}
 use Rattle.clearance.specs.Judged.{lower}
-use Rattle.pass.specs.Pass.{Carried, on, full, ◌>>=◌, blame, within, too_large, asking, valuing, pass_inside}
+use Rattle.pass.specs.Pass.{Carried, on, ◌>>=◌, blame, within, too_large, asking, valuing, pass_inside}
 use Rattle.hold.specs.Hold.{held_by, in_slot, Live, Reach}
 use Rattle.hold.proofs.Reach.{reach_cells}
 use Rattle.hold.proofs.Slots.{live_within}

@@ -1,9 +1,11 @@
--- `backward::slots::exchange` meets its contract. A write leaves as many slots.
+-- `backward::slots::exchange` meets its contract: a swap writes both slots.
 use Prim.Native.Nat.{◌-◌}
-use lib.ListN.{get_or, length-set}
+use mathlib.Core.Path.{sym, ◌∙◌}
 use native.Mathlib.Omega.{arith}
+use Rattle.std.proofs.lemmas.List.Edits.{swap_is}
 use Rattle.backward.proofs.slots.exchange.Goals as goal
 
-pub bounds-roots-below-2 : goal.bounds-roots-below-2
-bounds-roots-below-2 c =
-    omega (arith, c.requires.0, c.requires.1, length-set c.args.roots.now c.args.n (get_or c.args.roots.now (c.args.n - 1) 0))
+pub returns : goal.returns
+returns c =
+    c.swap.ensures.after
+    ∙ sym (swap_is c.args.roots.now c.args.n (c.args.n - 1) 0 c.requires.1 (omega (arith, c.requires.0, c.requires.1)))

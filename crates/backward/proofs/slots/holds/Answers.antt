@@ -5,5 +5,5 @@ use Rattle.backward.proofs.slots.holds.Goals as goal
 pub returns-then-kind-gt1 : goal.returns-then-kind-gt1
 returns-then-kind-gt1 c = rw (lt-ltb 1 _ c.if-kind-gt1.true)
 
-pub returns : goal.returns
-returns c = rw (le-ltb 1 _ c.if-kind-gt1.false)
+pub returns-else-kind-gt1 : goal.returns-else-kind-gt1
+returns-else-kind-gt1 c = rw (le-ltb 1 _ c.if-kind-gt1.false)

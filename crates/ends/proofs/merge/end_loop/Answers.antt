@@ -17,6 +17,10 @@ covers-holds-requires c =
     let q9 = covers_asks c.requires.live c.requires.stack_slot_lt_n.0 c.requires.stack_slot_lt_n.1 c.copy.ensures c.push_sum.ensures c.if-not-push_sum.false c.copy-2.ensures in
     record { good = q9.0; a_bound = q9.1 }
 
-pub returns : goal.returns
-returns c =
-    loop_ends c.requires.live c.requires.stack_slot_lt_n.0 c.requires.stack_slot_lt_n.1 c.copy.ensures c.push_sum.ensures c.if-not-push_sum.false c.copy-2.ensures c.covers-holds.ensures refl refl c.both.ensures refl refl
+pub returns-then-holds : goal.returns-then-holds
+returns-then-holds c =
+    loop_ends c.requires.live c.requires.stack_slot_lt_n.0 c.requires.stack_slot_lt_n.1 c.copy.ensures c.push_sum.ensures c.if-not-push_sum.false c.copy-2.ensures c.covers-holds.ensures refl refl (rw c.if-holds.true refl) refl refl
+
+pub returns-else-holds : goal.returns-else-holds
+returns-else-holds c =
+    loop_ends c.requires.live c.requires.stack_slot_lt_n.0 c.requires.stack_slot_lt_n.1 c.copy.ensures c.push_sum.ensures c.if-not-push_sum.false c.copy-2.ensures c.covers-holds.ensures refl refl (rw c.if-holds.false refl) refl refl

@@ -1,10 +1,11 @@
 -- At a point the flags are those of the needs at hand (Points).
-use mathlib.Core.Path.{refl, ap, ◌∙◌}
-use mathlib.Core.Bool.{◌||◌}
+use mathlib.Core.Path.{refl, ◌∙◌}
+use borrow.Author.Tests.{lt-ltb, le-ltb}
 use Prim.Native.Nat.{◌-◌}
-use Rattle.ends.proofs.Points.{point_wide, narrow, width-less}
+use Rattle.ends.proofs.Points.{point_deep, point_wide, narrow, width-less, either_first, either_second}
 use native.Mathlib.Omega.{arith}
 use Rattle.ends.proofs.notes.note.Goals as goal
+use Rattle.ends.proofs.notes.note.Goals.{then-over, else-over}
 
 pub measure-sizes-requires : goal.measure-sizes-requires
 measure-sizes-requires c =
@@ -14,12 +15,28 @@ pub overflow_sub-many : goal.overflow_sub-many
 overflow_sub-many c =
     width-less c.measure-sizes.ensures (narrow c.requires.live (c.args.n - 1) (omega (arith, c.requires.n_nonzero)))
 
-pub returns : goal.returns
-returns c =
+pub returns-then-many : goal.returns-then-many
+returns-then-many c =
     record {
       full = refl;
       fault = refl;
       held = refl;
-      deep = c.either.ensures ∙ ap (λ b. b || c.args.p.deep) c.measure-sizes.ensures.over_is;
-      wide = c.either-2.ensures ∙ ap (λ b. b || c.args.p.wide) (point_wide c.measure-sizes.ensures (narrow c.requires.live (c.args.n - 1) (omega (arith, c.requires.n_nonzero))));
+      deep = elim c.if-over.branch [
+        | then-over w ↦ w.result-is ∙ either_first _ (point_deep c.measure-sizes.ensures) (lt-ltb _ _ w.if-over.true)
+        | else-over w ↦ w.result-is ∙ either_second _ (point_deep c.measure-sizes.ensures) (le-ltb _ _ w.if-over.false)
+      ];
+      wide = either_first _ (point_wide c.measure-sizes.ensures (narrow c.requires.live (c.args.n - 1) (omega (arith, c.requires.n_nonzero)))) (lt-ltb _ _ c.if-many.true);
+    }
+
+pub returns-else-many : goal.returns-else-many
+returns-else-many c =
+    record {
+      full = refl;
+      fault = refl;
+      held = refl;
+      deep = elim c.if-over.branch [
+        | then-over w ↦ w.result-is ∙ either_first _ (point_deep c.measure-sizes.ensures) (lt-ltb _ _ w.if-over.true)
+        | else-over w ↦ w.result-is ∙ either_second _ (point_deep c.measure-sizes.ensures) (le-ltb _ _ w.if-over.false)
+      ];
+      wide = either_second _ (point_wide c.measure-sizes.ensures (narrow c.requires.live (c.args.n - 1) (omega (arith, c.requires.n_nonzero)))) (le-ltb _ _ c.if-many.false);
     }

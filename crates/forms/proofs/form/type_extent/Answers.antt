@@ -1,19 +1,23 @@
 -- `forms::form::type_extent` meets its contract: by the kind, and of an array by its count.
+use mathlib.Core.Path.{ap}
 use borrow.Author.Rules.{rules}
+use Rattle.judge.specs.declared.rows.TypeKind.TheVariants.{BindingArray, Array}
+use Rattle.judge.specs.TypeKind.{type_number}
+use Rattle.judge.proofs.TypeKinds.{is_not}
 use Rattle.forms.proofs.Shapes.{extent-bound, extent-parts, extent_endless, extent_elements}
 use Rattle.forms.proofs.form.type_extent.Goals as goal
 
-pub returns-then-k-eq7 : goal.returns-then-k-eq7
-returns-then-k-eq7 c = extent-bound _ _ c.kind_at-k.ensures c.if-k-eq7.true
+pub returns-in-BindingArray : goal.returns-in-BindingArray
+returns-in-BindingArray c = extent-bound _ _ c.kind_at.ensures (ap type_number c.in-BindingArray.is)
 
-pub returns-then-k-ne5 : goal.returns-then-k-ne5
-returns-then-k-ne5 c =
-    extent-parts _ _ c.kind_at-k.ensures c.part_count-n.ensures c.if-k-eq7.false c.if-k-ne5.true
+pub returns-in_default : goal.returns-in_default
+returns-in_default c =
+    extent-parts _ _ c.kind_at.ensures c.part_count-n.ensures (is_not BindingArray c.in_default.not-BindingArray) (is_not Array c.in_default.not-Array)
 
 pub returns-then-n-eq0 : goal.returns-then-n-eq0
 returns-then-n-eq0 c =
-    extent_endless _ _ c.kind_at-k.ensures c.part_count-n.ensures c.if-k-ne5.false c.if-n-eq0.true
+    extent_endless _ _ c.kind_at.ensures c.part_count-n.ensures (ap type_number c.in-Array.is) c.if-n-eq0.true
 
-pub returns : goal.returns
-returns c =
-    extent_elements _ _ c.kind_at-k.ensures c.part_count-n.ensures c.if-k-ne5.false (search rules)
+pub returns-else-n-eq0 : goal.returns-else-n-eq0
+returns-else-n-eq0 c =
+    extent_elements _ _ c.kind_at.ensures c.part_count-n.ensures (ap type_number c.in-Array.is) (search rules)

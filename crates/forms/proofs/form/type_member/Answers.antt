@@ -1,30 +1,34 @@
 -- `forms::form::type_member` meets its contract: a part that is there, by the kind.
+use mathlib.Core.Path.{ap}
+use Rattle.judge.specs.declared.rows.TypeKind.TheVariants.{Vector, Matrix, Struct}
+use Rattle.judge.specs.TypeKind.{type_number}
+use Rattle.judge.proofs.TypeKinds.{is_not}
 use Rattle.forms.proofs.Shapes.{part_none, part_number, part_column, part_member, part_base, member_there, element_there}
 use Rattle.forms.proofs.form.type_member.Goals as goal
 
 pub returns-then-type_extent-i : goal.returns-then-type_extent-i
 returns-then-type_extent-i c = part_none _ _ c.type_extent.ensures c.if-type_extent-i.true
 
-pub returns-then-k-eq1 : goal.returns-then-k-eq1
-returns-then-k-eq1 c =
-    part_number _ _ c.kind_at-k.ensures c.type_extent.ensures c.if-type_extent-i.false c.if-k-eq1.true
+pub returns-in-Vector : goal.returns-in-Vector
+returns-in-Vector c =
+    part_number _ _ c.kind_at.ensures c.type_extent.ensures c.if-type_extent-i.false (ap type_number c.in-Vector.is)
 
-pub returns-then-k-eq2 : goal.returns-then-k-eq2
-returns-then-k-eq2 c =
-    part_column _ _ c.kind_at-k.ensures c.type_extent.ensures c.if-type_extent-i.false c.if-k-eq2.true c.second_word.ensures
+pub returns-in-Matrix : goal.returns-in-Matrix
+returns-in-Matrix c =
+    part_column _ _ c.kind_at.ensures c.type_extent.ensures c.if-type_extent-i.false (ap type_number c.in-Matrix.is) c.second_word.ensures
 
 pub base_at-requires : goal.base_at-requires
 base_at-requires c =
-    member_there _ _ c.kind_at-k.ensures c.type_extent.ensures c.if-type_extent-i.false c.if-k-eq6.true
+    member_there _ _ c.kind_at.ensures c.type_extent.ensures c.if-type_extent-i.false (ap type_number c.in-Struct.is)
 
-pub returns-then-k-eq6 : goal.returns-then-k-eq6
-returns-then-k-eq6 c =
-    part_member _ _ c.kind_at-k.ensures c.type_extent.ensures c.if-type_extent-i.false c.requires c.if-k-eq6.true c.base_at.ensures
+pub returns-in-Struct : goal.returns-in-Struct
+returns-in-Struct c =
+    part_member _ _ c.kind_at.ensures c.type_extent.ensures c.if-type_extent-i.false c.requires (ap type_number c.in-Struct.is) c.base_at.ensures
 
-pub base_at-requires-2 : goal.base_at-requires-2
-base_at-requires-2 c =
-    element_there _ _ c.kind_at-k.ensures c.type_extent.ensures c.if-type_extent-i.false c.if-k-eq1.false c.if-k-eq2.false c.if-k-eq6.false
+pub base_at-requires-in_default : goal.base_at-requires-in_default
+base_at-requires-in_default c =
+    element_there _ _ c.kind_at.ensures c.type_extent.ensures c.if-type_extent-i.false (is_not Vector c.in_default.not-Vector) (is_not Matrix c.in_default.not-Matrix) (is_not Struct c.in_default.not-Struct)
 
-pub returns : goal.returns
-returns c =
-    part_base _ _ c.kind_at-k.ensures c.type_extent.ensures c.if-type_extent-i.false c.requires c.if-k-eq1.false c.if-k-eq2.false c.if-k-eq6.false c.base_at-2.ensures
+pub returns-in_default : goal.returns-in_default
+returns-in_default c =
+    part_base _ _ c.kind_at.ensures c.type_extent.ensures c.if-type_extent-i.false c.requires (is_not Vector c.in_default.not-Vector) (is_not Matrix c.in_default.not-Matrix) (is_not Struct c.in_default.not-Struct) c.base_at-in_default.ensures

@@ -1,15 +1,20 @@
 -- `forms::form::type_split` meets its contract: by the kind.
+use mathlib.Core.Path.{ap}
+use mathlib.Core.Logic.{inl, inr}
+use Rattle.judge.specs.declared.rows.TypeKind.TheVariants.{Vector, Matrix, Struct}
+use Rattle.judge.specs.TypeKind.{type_number}
+use Rattle.judge.proofs.TypeKinds.{is_not}
 use Rattle.forms.proofs.Shapes.{parted_vector, parted_matrix, parted_struct, parted_none}
 use Rattle.forms.proofs.form.type_split.Goals as goal
 
-pub returns-then-k-eq1 : goal.returns-then-k-eq1
-returns-then-k-eq1 c = parted_vector _ _ c.kind_at-k.ensures c.if-k-eq1.true c.first_word.ensures
+pub returns-in-Vector : goal.returns-in-Vector
+returns-in-Vector c =
+    elim c.in-Vector.is [
+      | inl e ↦ parted_vector _ _ c.kind_at.ensures (ap type_number e) c.first_word.ensures
+      | inr (inl e) ↦ parted_matrix _ _ c.kind_at.ensures (ap type_number e) c.first_word.ensures
+      | inr (inr e) ↦ parted_struct _ _ c.kind_at.ensures (ap type_number e) c.first_word.ensures
+    ]
 
-pub returns-then-k-eq2 : goal.returns-then-k-eq2
-returns-then-k-eq2 c = parted_matrix _ _ c.kind_at-k.ensures c.if-k-eq2.true c.first_word-then-k-eq2.ensures
-
-pub returns-then-k-eq6 : goal.returns-then-k-eq6
-returns-then-k-eq6 c = parted_struct _ _ c.kind_at-k.ensures c.if-k-eq6.true c.first_word-then-k-eq6.ensures
-
-pub returns : goal.returns
-returns c = parted_none _ _ c.kind_at-k.ensures c.if-k-eq1.false c.if-k-eq2.false c.if-k-eq6.false
+pub returns-in_default : goal.returns-in_default
+returns-in_default c =
+    parted_none _ _ c.kind_at.ensures (is_not Vector c.in_default.not-Vector) (is_not Matrix c.in_default.not-Matrix) (is_not Struct c.in_default.not-Struct)

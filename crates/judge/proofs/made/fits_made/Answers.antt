@@ -1,4 +1,6 @@
 -- `judge::made::fits_made` meets its contract: by the kind.
+use Rattle.judge.specs.declared.rows.TypeKind.TheVariants.{Scalar, Vector}
+use Rattle.judge.proofs.TypeKinds.{test}
 use Rattle.judge.proofs.Components.{fits_splat, compose_left}
 use Rattle.judge.proofs.made.fits_made.Goals as goal
 
@@ -13,7 +15,7 @@ is_value-requires c = c.requires.row.given.values
 
 pub returns-then-row-eq-SPLAT : goal.returns-then-row-eq-SPLAT
 returns-then-row-eq-SPLAT c =
-    fits_splat c.requires.row c.if-row-eq-SPLAT.true c.expression_operand-value.ensures c.type_of-a.ensures c.type_of-b.ensures c.kind_at.ensures c.kind_at-then-row-eq-SPLAT.ensures c.both-sized.ensures c.is_value.ensures c.both.ensures
+    fits_splat c.requires.row c.if-row-eq-SPLAT.true c.expression_operand-value.ensures c.type_of-a.ensures c.type_of-b.ensures c.kind_at.ensures c.kind_at-then-row-eq-SPLAT.ensures (rw (test c.kind_at.result Scalar c.eq.ensures, test c.kind_at-then-row-eq-SPLAT.result Vector c.eq-then-row-eq-SPLAT.ensures) at c.both-sized.ensures) c.is_value.ensures c.both.ensures
 
 pub fits_compose-requires : goal.fits_compose-requires
 fits_compose-requires c =

@@ -1,9 +1,15 @@
 -- `judge::rows::base_at` meets its contract: a member's type, or the one base.
+use mathlib.Core.Path.{ap}
+use Rattle.judge.specs.declared.rows.TypeKind.TheVariants.{Struct}
+use Rattle.judge.specs.TypeKind.{type_number}
+use Rattle.judge.proofs.TypeKinds.{is_not}
 use Rattle.judge.proofs.TypeRows.{base_member, base_first}
 use Rattle.judge.proofs.rows.base_at.Goals as goal
 
-pub returns-then-kind_at-eq6 : goal.returns-then-kind_at-eq6
-returns-then-kind_at-eq6 c = base_member _ _ _ c.kind_at.ensures c.if-kind_at-eq6.true c.requires c.word.ensures
+pub returns-in-Struct : goal.returns-in-Struct
+returns-in-Struct c =
+    base_member _ _ _ c.kind_at.ensures (ap type_number c.in-Struct.is) c.requires c.word.ensures
 
-pub returns : goal.returns
-returns c = base_first _ _ _ c.kind_at.ensures c.if-kind_at-eq6.false c.requires c.first_word.ensures
+pub returns-in_default : goal.returns-in_default
+returns-in_default c =
+    base_first _ _ _ c.kind_at.ensures (is_not Struct c.in_default.not-Struct) c.requires c.first_word.ensures

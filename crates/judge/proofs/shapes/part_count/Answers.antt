@@ -1,19 +1,24 @@
 -- `judge::shapes::part_count` meets its contract: by the kind.
+use mathlib.Core.Path.{ap}
+use mathlib.Core.Logic.{inl, inr}
+use Rattle.judge.specs.declared.rows.TypeKind.TheVariants.{Vector, Matrix, Array, Struct}
+use Rattle.judge.specs.TypeKind.{type_number}
+use Rattle.judge.proofs.TypeKinds.{is_not}
 use Rattle.judge.proofs.ShapeRows.{count_array, count_vector, count_matrix, count_struct, count_none}
 use Rattle.judge.proofs.shapes.part_count.Goals as goal
 
-pub returns-then-k-eq5 : goal.returns-then-k-eq5
-returns-then-k-eq5 c = count_array _ _ c.kind_at-k.ensures c.if-k-eq5.true c.second_word.ensures
+pub returns-in-Array : goal.returns-in-Array
+returns-in-Array c =
+    count_array _ _ c.kind_at.ensures (ap type_number c.in-Array.is) c.second_word.ensures
 
-pub returns-then-k-eq1 : goal.returns-then-k-eq1
-returns-then-k-eq1 c = count_vector _ _ c.kind_at-k.ensures c.if-k-eq1.true c.first_word.ensures
+pub returns-in-Vector : goal.returns-in-Vector
+returns-in-Vector c =
+    elim c.in-Vector.is [
+      | inl e ↦ count_vector _ _ c.kind_at.ensures (ap type_number e) c.first_word.ensures
+      | inr (inl e) ↦ count_matrix _ _ c.kind_at.ensures (ap type_number e) c.first_word.ensures
+      | inr (inr e) ↦ count_struct _ _ c.kind_at.ensures (ap type_number e) c.first_word.ensures
+    ]
 
-pub returns-then-k-eq2 : goal.returns-then-k-eq2
-returns-then-k-eq2 c = count_matrix _ _ c.kind_at-k.ensures c.if-k-eq2.true c.first_word-then-k-eq2.ensures
-
-pub returns-then-k-eq6 : goal.returns-then-k-eq6
-returns-then-k-eq6 c = count_struct _ _ c.kind_at-k.ensures c.if-k-eq6.true c.first_word-then-k-eq6.ensures
-
-pub returns : goal.returns
-returns c =
-    count_none _ _ c.kind_at-k.ensures c.if-k-eq5.false c.if-k-eq1.false c.if-k-eq2.false c.if-k-eq6.false
+pub returns-in_default : goal.returns-in_default
+returns-in_default c =
+    count_none _ _ c.kind_at.ensures (is_not Array c.in_default.not-Array) (is_not Vector c.in_default.not-Vector) (is_not Matrix c.in_default.not-Matrix) (is_not Struct c.in_default.not-Struct)

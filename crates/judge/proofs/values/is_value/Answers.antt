@@ -1,4 +1,9 @@
 -- `judge::values::is_value` meets its contract: no path, and of no pointer's type.
+use mathlib.Core.Path.{ap, ◌∙◌}
+use mathlib.Core.Bool.{not}
+use mathlib.Core.Path.{refl}
+use Rattle.judge.specs.declared.rows.TypeKind.TheVariants.{Pointer}
+use Rattle.judge.proofs.TypeKinds.{test}
 use Rattle.judge.proofs.ValueRows.{value_path, value_kind}
 use Rattle.judge.proofs.values.is_value.Goals as goal
 
@@ -10,4 +15,4 @@ returns-then-is_path c = value_path _ _ _ c.requires _ c.is_path.ensures c.if-is
 
 pub returns : goal.returns
 returns c =
-    value_kind _ _ _ c.requires _ c.is_path.ensures c.if-is_path.false c.type_of-own.ensures c.kind_at.ensures
+    c.ne.ensures ∙ ap not (test c.kind_at.result Pointer refl) ∙ value_kind _ _ _ c.requires _ c.is_path.ensures c.if-is_path.false c.type_of-own.ensures c.kind_at.ensures

@@ -1,5 +1,7 @@
 -- `operands::tests::any_vector` meets its contract. The invariant: the first i are no vectors.
 use Rattle.access.specs.Access.{operand_at}
+use Rattle.judge.specs.declared.rows.TypeKind.TheVariants.{Vector}
+use Rattle.judge.proofs.TypeKinds.{equal, unequal}
 use Rattle.operands.proofs.Vectors.{no_vector_start, no_vector_all, vector_found, no_vector_next}
 use native.Mathlib.Omega.{arith}
 use Rattle.operands.proofs.tests.any_vector.Goals as goal
@@ -10,13 +12,13 @@ loop-i-init c = no_vector_start _ _
 pub overflow_add-i : goal.overflow_add-i
 overflow_add-i c = omega (arith, c.loop-i-test.true)
 
-pub returns-then-kind_at-eq-VECTOR : goal.returns-then-kind_at-eq-VECTOR
-returns-then-kind_at-eq-VECTOR c =
-    vector_found _ (operand_at c.args.bytes.now c.args.row) _ c.requires c.operand-i-end.ensures c.loop-i-test.true c.expression_operand.ensures c.type_of-a.ensures c.kind_at.ensures c.if-kind_at-eq-VECTOR.true
+pub returns-then-eq : goal.returns-then-eq
+returns-then-eq c =
+    vector_found _ (operand_at c.args.bytes.now c.args.row) _ c.requires c.operand-i-end.ensures c.loop-i-test.true c.expression_operand.ensures c.type_of-a.ensures c.kind_at.ensures (equal c.kind_at.result Vector c.eq.ensures c.if-eq.true)
 
 pub loop-i-preserved : goal.loop-i-preserved
 loop-i-preserved c =
-    no_vector_next _ (operand_at c.args.bytes.now c.args.row) _ c.requires c.operand-i-end.ensures c.loop-i-test.true c.expression_operand.ensures c.type_of-a.ensures c.kind_at.ensures c.if-kind_at-eq-VECTOR.false c.loop-i.invariant
+    no_vector_next _ (operand_at c.args.bytes.now c.args.row) _ c.requires c.operand-i-end.ensures c.loop-i-test.true c.expression_operand.ensures c.type_of-a.ensures c.kind_at.ensures (unequal c.kind_at.result Vector c.eq.ensures c.if-eq.false) c.loop-i.invariant
 
 pub returns : goal.returns
 returns c =

@@ -54,20 +54,20 @@ returns-in_default-read_functions c =
 
 pub ends-requires : goal.ends-requires
 ends-requires c =
-    body_inside c.args.bytes.now c.args.t.now c.requires.has_totals.0.was_read (c.globals-n.ensures c.args.bytes.now) c.args.slots.now c.args.totals.now c.read_map.ensures c.in-Got.is c.entries-count.ensures (omega (arith, c.if-count-gt-MAX_PIECES.false)) c.requires.has_totals.0.memory c.read_functions.ensures c.in-At.is
+    body_inside c.args.bytes.now c.args.t.now c.requires.has_totals.0.was_read (c.globals-n.ensures c.args.bytes.now) c.args.slots.now c.args.totals.now c.read_map.ensures c.in-Got.is c.entries-count.ensures (omega (arith, c.if-count-gt-MAX_PIECES.false)) c.requires.has_totals.0.memory c.read_functions.ensures c.in-Some.is
 
 pub shape_of-cells : goal.shape_of-cells
 shape_of-cells c =
-    (body_ends c.args.bytes.now c.args.t.now c.requires.has_totals.0.was_read (c.globals-n.ensures c.args.bytes.now) c.args.slots.now c.args.totals.now c.read_map.ensures c.in-Got.is c.entries-count.ensures (omega (arith, c.if-count-gt-MAX_PIECES.false)) c.requires.has_totals.0.memory c.read_functions.ensures c.in-At.is c.ends.ensures).kept.long
+    (body_ends c.args.bytes.now c.args.t.now c.requires.has_totals.0.was_read (c.globals-n.ensures c.args.bytes.now) c.args.slots.now c.args.totals.now c.read_map.ensures c.in-Got.is c.entries-count.ensures (omega (arith, c.if-count-gt-MAX_PIECES.false)) c.requires.has_totals.0.memory c.read_functions.ensures c.in-Some.is c.ends.ensures).kept.long
 
 pub shape_of-slots : goal.shape_of-slots
 shape_of-slots c =
-    (body_ends c.args.bytes.now c.args.t.now c.requires.has_totals.0.was_read (c.globals-n.ensures c.args.bytes.now) c.args.slots.now c.args.totals.now c.read_map.ensures c.in-Got.is c.entries-count.ensures (omega (arith, c.if-count-gt-MAX_PIECES.false)) c.requires.has_totals.0.memory c.read_functions.ensures c.in-At.is c.ends.ensures).long
+    (body_ends c.args.bytes.now c.args.t.now c.requires.has_totals.0.was_read (c.globals-n.ensures c.args.bytes.now) c.args.slots.now c.args.totals.now c.read_map.ensures c.in-Got.is c.entries-count.ensures (omega (arith, c.if-count-gt-MAX_PIECES.false)) c.requires.has_totals.0.memory c.read_functions.ensures c.in-Some.is c.ends.ensures).long
 
 pub shape_of-totals : goal.shape_of-totals
 shape_of-totals c =
-    (body_ends c.args.bytes.now c.args.t.now c.requires.has_totals.0.was_read (c.globals-n.ensures c.args.bytes.now) c.args.slots.now c.args.totals.now c.read_map.ensures c.in-Got.is c.entries-count.ensures (omega (arith, c.if-count-gt-MAX_PIECES.false)) c.requires.has_totals.0.memory c.read_functions.ensures c.in-At.is c.ends.ensures).marks_long
+    (body_ends c.args.bytes.now c.args.t.now c.requires.has_totals.0.was_read (c.globals-n.ensures c.args.bytes.now) c.args.slots.now c.args.totals.now c.read_map.ensures c.in-Got.is c.entries-count.ensures (omega (arith, c.if-count-gt-MAX_PIECES.false)) c.requires.has_totals.0.memory c.read_functions.ensures c.in-Some.is c.ends.ensures).marks_long
 
 pub returns : goal.returns
 returns c =
-    body_ends c.args.bytes.now c.args.t.now c.requires.has_totals.0.was_read (c.globals-n.ensures c.args.bytes.now) c.args.slots.now c.args.totals.now c.read_map.ensures c.in-Got.is c.entries-count.ensures (omega (arith, c.if-count-gt-MAX_PIECES.false)) c.requires.has_totals.0.memory c.read_functions.ensures c.in-At.is c.ends.ensures
+    body_ends c.args.bytes.now c.args.t.now c.requires.has_totals.0.was_read (c.globals-n.ensures c.args.bytes.now) c.args.slots.now c.args.totals.now c.read_map.ensures c.in-Got.is c.entries-count.ensures (omega (arith, c.if-count-gt-MAX_PIECES.false)) c.requires.has_totals.0.memory c.read_functions.ensures c.in-Some.is c.ends.ensures

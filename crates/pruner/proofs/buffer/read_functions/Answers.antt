@@ -1,5 +1,4 @@
 -- `pruner::buffer::read_functions` meets its contract: the loop's invariant says that the totals of the first f functions were read.
-use Prim.Native.Nat.{◌-◌}
 use Rattle.pruner.proofs.Through.{through_first, through_has, through_flag, through_room, through_refused, through_more, through_done}
 use native.Mathlib.Omega.{arith}
 use Rattle.pruner.proofs.buffer.read_functions.Goals as goal
@@ -10,46 +9,28 @@ loop-f-init c =
 
 pub read_total-requires : goal.read_total-requires
 read_total-requires c =
-    record { has_totals = (through_has c.requires.has_totals.0.was_read c.loop-f.invariant (omega (arith, c.functions-n.ensures c.args.bytes.now, c.loop-f-test.true)) c.requires.has_totals.0, (omega (arith, c.functions-n.ensures c.args.bytes.now, c.loop-f-test.true)), through_flag c.requires.has_totals.0.was_read c.loop-f.invariant (omega (arith, c.functions-n.ensures c.args.bytes.now, c.loop-f-test.true))); at_in_bounds = (c.loop-f.invariant.spent.inside, through_room c.requires.has_totals.0.was_read c.loop-f.invariant (omega (arith, c.functions-n.ensures c.args.bytes.now, c.loop-f-test.true)) c.requires.at_in_bounds.1, c.loop-f.invariant.low) }
+    record { has_totals = (through_has c.requires.has_totals.0.was_read c.loop-f.invariant (omega (arith, c.functions-f-end.ensures c.args.bytes.now, c.loop-f-test.true)) c.requires.has_totals.0, (omega (arith, c.functions-f-end.ensures c.args.bytes.now, c.loop-f-test.true)), through_flag c.requires.has_totals.0.was_read c.loop-f.invariant (omega (arith, c.functions-f-end.ensures c.args.bytes.now, c.loop-f-test.true))); at_in_bounds = (c.loop-f.invariant.spent.inside, through_room c.requires.has_totals.0.was_read c.loop-f.invariant (omega (arith, c.functions-f-end.ensures c.args.bytes.now, c.loop-f-test.true)) c.requires.at_in_bounds.1, c.loop-f.invariant.low) }
 
-pub shape_of-cells-in_default : goal.shape_of-cells-in_default
-shape_of-cells-in_default c =
-    (through_refused c.requires.has_totals.0.was_read c.loop-f.invariant (omega (arith, c.functions-n.ensures c.args.bytes.now, c.loop-f-test.true)) c.read_total.ensures c.in_default.is).kept.long
-
-pub shape_of-slots-in_default : goal.shape_of-slots-in_default
-shape_of-slots-in_default c =
-    (through_refused c.requires.has_totals.0.was_read c.loop-f.invariant (omega (arith, c.functions-n.ensures c.args.bytes.now, c.loop-f-test.true)) c.read_total.ensures c.in_default.is).long
-
-pub shape_of-totals-in_default : goal.shape_of-totals-in_default
-shape_of-totals-in_default c =
-    (through_refused c.requires.has_totals.0.was_read c.loop-f.invariant (omega (arith, c.functions-n.ensures c.args.bytes.now, c.loop-f-test.true)) c.read_total.ensures c.in_default.is).marks_long
-
-pub returns-in_default : goal.returns-in_default
-returns-in_default c =
-    through_refused c.requires.has_totals.0.was_read c.loop-f.invariant (omega (arith, c.functions-n.ensures c.args.bytes.now, c.loop-f-test.true)) c.read_total.ensures c.in_default.is
-
-pub overflow_add-f : goal.overflow_add-f
-overflow_add-f c = omega (arith, c.loop-f-test.true)
-
-pub loop-f-smaller : goal.loop-f-smaller
-loop-f-smaller c = omega (arith, c.loop-f-test.true)
+pub returns-in_err-end : goal.returns-in_err-end
+returns-in_err-end c =
+    rw c.from_residual.ensures (through_refused c.requires.has_totals.0.was_read c.loop-f.invariant (omega (arith, c.functions-f-end.ensures c.args.bytes.now, c.loop-f-test.true)) c.read_total.ensures c.in_err-end.was)
 
 pub loop-f-preserved : goal.loop-f-preserved
 loop-f-preserved c =
-    through_more c.requires.has_totals.0.was_read c.loop-f.invariant (omega (arith, c.functions-n.ensures c.args.bytes.now, c.loop-f-test.true)) c.read_total.ensures c.in-At.is
+    through_more c.requires.has_totals.0.was_read c.loop-f.invariant (omega (arith, c.functions-f-end.ensures c.args.bytes.now, c.loop-f-test.true)) c.read_total.ensures c.in_ok-end.was
 
 pub shape_of-cells : goal.shape_of-cells
 shape_of-cells c =
-    (through_done c.requires.has_totals.0.was_read c.loop-f.invariant (omega (arith, c.functions-n.ensures c.args.bytes.now, c.loop-f-test.false))).kept.long
+    (through_done c.requires.has_totals.0.was_read c.loop-f.invariant (omega (arith, c.functions-f-end.ensures c.args.bytes.now, c.loop-f-test.false))).kept.long
 
 pub shape_of-slots : goal.shape_of-slots
 shape_of-slots c =
-    (through_done c.requires.has_totals.0.was_read c.loop-f.invariant (omega (arith, c.functions-n.ensures c.args.bytes.now, c.loop-f-test.false))).long
+    (through_done c.requires.has_totals.0.was_read c.loop-f.invariant (omega (arith, c.functions-f-end.ensures c.args.bytes.now, c.loop-f-test.false))).long
 
 pub shape_of-totals : goal.shape_of-totals
 shape_of-totals c =
-    (through_done c.requires.has_totals.0.was_read c.loop-f.invariant (omega (arith, c.functions-n.ensures c.args.bytes.now, c.loop-f-test.false))).marks_long
+    (through_done c.requires.has_totals.0.was_read c.loop-f.invariant (omega (arith, c.functions-f-end.ensures c.args.bytes.now, c.loop-f-test.false))).marks_long
 
 pub returns : goal.returns
 returns c =
-    through_done c.requires.has_totals.0.was_read c.loop-f.invariant (omega (arith, c.functions-n.ensures c.args.bytes.now, c.loop-f-test.false))
+    through_done c.requires.has_totals.0.was_read c.loop-f.invariant (omega (arith, c.functions-f-end.ensures c.args.bytes.now, c.loop-f-test.false))

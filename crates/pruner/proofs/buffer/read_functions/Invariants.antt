@@ -1,10 +1,6 @@
 -- `pruner::buffer::read_functions` meets its contract: the loop's invariant says that the totals of the first f functions were read.
-use Prim.Native.Nat.{◌-◌}
 use Rattle.pruner.proofs.Through.{Through}
 use Rattle.pruner.proofs.buffer.read_functions.Given as goal
 
 abbrev pub invariant-loop-f : goal.invariant-loop-f
 invariant-loop-f l = Through l.bytes l.t l.initial.cells l.initial.slots l.initial.totals l.pruner l.at l.sum l.cells l.slots l.totals l.f l.next l.count
-
-abbrev pub decreases-loop-f : goal.decreases-loop-f
-decreases-loop-f l = l.n - l.f

@@ -1,6 +1,5 @@
 -- `pruner::kept::read_records` meets its contract: the loop's invariant says that the first k records were read.
 use mathlib.Core.Path.{◌∙◌}
-use Prim.Native.Nat.{◌-◌}
 use Rattle.pruner.proofs.Pieces.{piece_placed}
 use Rattle.pruner.proofs.Recording.{recording_first, recording_room, recording_refused, recording_many, recording_more, recording_done}
 use native.Mathlib.Omega.{arith}
@@ -49,12 +48,6 @@ offset_bounds-slots-base c = omega (arith, c.requires.memory.2, c.loop-k-test.tr
 
 pub bounds-slots-base : goal.bounds-slots-base
 bounds-slots-base c = omega (arith, c.requires.memory.2, c.loop-k-test.true, c.loop-k.invariant.memory.slots)
-
-pub overflow_add-k : goal.overflow_add-k
-overflow_add-k c = omega (arith, c.requires.memory.2, c.loop-k-test.true)
-
-pub loop-k-smaller : goal.loop-k-smaller
-loop-k-smaller c = omega (arith, c.loop-k-test.true)
 
 pub loop-k-preserved : goal.loop-k-preserved
 loop-k-preserved c =

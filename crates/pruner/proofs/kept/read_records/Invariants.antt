@@ -1,10 +1,6 @@
 -- `pruner::kept::read_records` meets its contract: the loop's invariant says that the first k records were read.
-use Prim.Native.Nat.{◌-◌}
 use Rattle.pruner.proofs.Recording.{Recording}
 use Rattle.pruner.proofs.kept.read_records.Given as goal
 
 abbrev pub invariant-loop-k : goal.invariant-loop-k
 invariant-loop-k l = Recording l.initial.cells l.initial.slots l.pruner l.at l.base l.n l.sum l.cells l.slots l.k l.next l.count
-
-abbrev pub decreases-loop-k : goal.decreases-loop-k
-decreases-loop-k l = l.n - l.k

@@ -1,5 +1,4 @@
 -- `pruner::reader::read_marks` meets its contract: the loop's invariant says that the first k marks were read.
-use Prim.Native.Nat.{◌-◌}
 use Rattle.request.proofs.Entries.{ended, goes_on}
 use Rattle.pruner.proofs.Marking.{marking_first, marking_ends, marking_other, marking_more, marking_done}
 use native.Mathlib.Omega.{arith}
@@ -40,12 +39,6 @@ bounds-marks-first c = omega (arith, c.requires.1, c.loop-k-test.true, c.loop-k.
 
 pub overflow_add-next : goal.overflow_add-next
 overflow_add-next c = omega (arith, (goes_on c.args.pruner.now c.loop-k.next c.ends.ensures c.if-ends.false))
-
-pub overflow_add-k : goal.overflow_add-k
-overflow_add-k c = omega (arith, c.loop-k-test.true)
-
-pub loop-k-smaller : goal.loop-k-smaller
-loop-k-smaller c = omega (arith, c.loop-k-test.true)
 
 pub loop-k-preserved : goal.loop-k-preserved
 loop-k-preserved c =

@@ -1,5 +1,4 @@
 -- `pruner::totals::write_functions` meets its contract: the loop's invariant says that the totals of the first f functions are written.
-use Prim.Native.Nat.{◌-◌}
 use Rattle.module.specs.Tables.{module_of}
 use Rattle.request.proofs.Writing.{written_long}
 use Rattle.memory.specs.Memory.{read}
@@ -14,13 +13,7 @@ loop-f-init c =
 
 pub write_function-next-requires : goal.write_function-next-requires
 write_function-next-requires c =
-    record { has_totals = (c.requires.has_totals, omega (arith, c.functions-n.ensures c.args.bytes.now, c.loop-f-test.true)); fits = function_room (total_in (module_of c.args.bytes.now c.args.t.now) c.args.t.now (read c.args.cells.now c.args.slots.now) c.args.totals.now) c.loop-f.invariant c.loop-f-test.true (functions_room c.args.bytes.now c.args.t.now c.args.cells.now c.args.slots.now c.args.totals.now (c.functions-n.ensures c.args.bytes.now) c.args.out.now c.args.at c.requires.fits) }
-
-pub overflow_add-f : goal.overflow_add-f
-overflow_add-f c = omega (arith, c.loop-f-test.true)
-
-pub loop-f-smaller : goal.loop-f-smaller
-loop-f-smaller c = omega (arith, c.loop-f-test.true)
+    record { has_totals = (c.requires.has_totals, omega (arith, c.functions-f-end.ensures c.args.bytes.now, c.loop-f-test.true)); fits = function_room (total_in (module_of c.args.bytes.now c.args.t.now) c.args.t.now (read c.args.cells.now c.args.slots.now) c.args.totals.now) c.loop-f.invariant c.loop-f-test.true (functions_room c.args.bytes.now c.args.t.now c.args.cells.now c.args.slots.now c.args.totals.now (c.functions-f-end.ensures c.args.bytes.now) c.args.out.now c.args.at c.requires.fits) }
 
 pub loop-f-preserved : goal.loop-f-preserved
 loop-f-preserved c =
@@ -31,4 +24,4 @@ shape_of-out c = written_long c.loop-f.invariant.written
 
 pub returns : goal.returns
 returns c =
-    functions_done c.args.bytes.now c.args.t.now c.args.cells.now c.args.slots.now c.args.totals.now (c.functions-n.ensures c.args.bytes.now) c.loop-f.invariant (omega (arith, c.loop-f-test.false))
+    functions_done c.args.bytes.now c.args.t.now c.args.cells.now c.args.slots.now c.args.totals.now (c.functions-f-end.ensures c.args.bytes.now) c.loop-f.invariant (omega (arith, c.loop-f-test.false))

@@ -1,5 +1,4 @@
 -- `pruner::totals::write_functions` meets its contract: the loop's invariant says that the totals of the first f functions are written.
-use Prim.Native.Nat.{◌-◌}
 use Rattle.module.specs.Decode.{tab}
 use Rattle.module.specs.Tables.{module_of}
 use Rattle.memory.specs.Memory.{read}
@@ -9,7 +8,4 @@ use Rattle.pruner.proofs.Writing.{Going}
 use Rattle.pruner.proofs.totals.write_functions.Given as goal
 
 abbrev pub invariant-loop-f : goal.invariant-loop-f
-invariant-loop-f l = Going l.n l.f l.initial.out l.out l.at (write_totals (tab l.f (total_in (module_of l.bytes l.t) l.t (read l.cells l.slots) l.totals))) l.next
-
-abbrev pub decreases-loop-f : goal.decreases-loop-f
-decreases-loop-f l = l.n - l.f
+invariant-loop-f l = Going l.f-end l.f l.initial.out l.out l.at (write_totals (tab l.f (total_in (module_of l.bytes l.t) l.t (read l.cells l.slots) l.totals))) l.next

@@ -1,5 +1,5 @@
 -- `pruner::write::write_marks` meets its contract: the loop's invariant says that the first k marks are written.
-use Prim.Native.Nat.{◌+◌, ◌-◌}
+use Prim.Native.Nat.{◌+◌}
 use lib.ListN.{take, drop}
 use Rattle.request.proofs.Writing.{written_long}
 use Rattle.pruner.proofs.Writing.{none_written, all_written, mark_room, mark_again}
@@ -25,12 +25,6 @@ write-requires c =
 pub overflow_add-next : goal.overflow_add-next
 overflow_add-next c =
     omega (arith, mark_room c.args.marks.now c.args.from c.args.n c.requires.n_in_bounds c.loop-k.invariant c.loop-k-test.true c.requires.fits, written_long c.loop-k.invariant.written)
-
-pub overflow_add-k : goal.overflow_add-k
-overflow_add-k c = omega (arith, c.requires.n_in_bounds)
-
-pub loop-k-smaller : goal.loop-k-smaller
-loop-k-smaller c = omega (arith, c.loop-k-test.true)
 
 pub loop-k-preserved : goal.loop-k-preserved
 loop-k-preserved c =

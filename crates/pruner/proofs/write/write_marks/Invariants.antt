@@ -1,11 +1,7 @@
 -- `pruner::write::write_marks` meets its contract: the loop's invariant says that the first k marks are written.
-use Prim.Native.Nat.{◌-◌}
 use lib.ListN.{take, drop}
 use Rattle.pruner.proofs.Writing.{Going}
 use Rattle.pruner.proofs.write.write_marks.Given as goal
 
 abbrev pub invariant-loop-k : goal.invariant-loop-k
 invariant-loop-k l = Going l.n l.k l.initial.out l.out l.at (take l.k (drop l.from l.marks)) l.next
-
-abbrev pub decreases-loop-k : goal.decreases-loop-k
-decreases-loop-k l = l.n - l.k

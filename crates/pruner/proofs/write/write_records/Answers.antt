@@ -1,5 +1,5 @@
 -- `pruner::write::write_records` meets its contract: the loop's invariant says that the first k records are written.
-use Prim.Native.Nat.{◌+◌, ◌-◌}
+use Prim.Native.Nat.{◌+◌}
 use Rattle.request.proofs.Writing.{written_long}
 use Rattle.memory.specs.Memory.{read, records_of}
 use Rattle.pruner.specs.Form.{write_records}
@@ -22,12 +22,6 @@ bounds-slots-base c = omega (arith, c.requires.n_in_bounds)
 pub write_return-next-requires : goal.write_return-next-requires
 write_return-next-requires c =
     record { good = c.requires.good; n_bound = c.requires.below (c.args.base + c.loop-k.k) (omega (arith, c.requires.n_in_bounds)); fits = record_room c.args.cells.now c.args.slots.now c.args.base c.args.n c.requires.n_in_bounds c.loop-k.invariant c.loop-k-test.true c.requires.fits }
-
-pub overflow_add-k : goal.overflow_add-k
-overflow_add-k c = omega (arith, c.requires.n_in_bounds)
-
-pub loop-k-smaller : goal.loop-k-smaller
-loop-k-smaller c = omega (arith, c.loop-k-test.true)
 
 pub loop-k-preserved : goal.loop-k-preserved
 loop-k-preserved c =

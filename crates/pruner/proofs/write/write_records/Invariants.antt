@@ -1,5 +1,4 @@
 -- `pruner::write::write_records` meets its contract: the loop's invariant says that the first k records are written.
-use Prim.Native.Nat.{◌-◌}
 use Rattle.memory.specs.Memory.{read, records_of}
 use Rattle.pruner.specs.Form.{write_records}
 use Rattle.pruner.proofs.Writing.{Going}
@@ -7,6 +6,3 @@ use Rattle.pruner.proofs.write.write_records.Given as goal
 
 abbrev pub invariant-loop-k : goal.invariant-loop-k
 invariant-loop-k l = Going l.n l.k l.initial.out l.out l.at (write_records (records_of (read l.cells l.slots) l.base l.k)) l.next
-
-abbrev pub decreases-loop-k : goal.decreases-loop-k
-decreases-loop-k l = l.n - l.k
