@@ -1,13 +1,10 @@
--- `field::field::write` meets its contract.
-use mathlib.Core.Path.{refl}
-use lib.ListN.{length-set}
+-- `field::field::write` meets its contract: the high byte of 16 bits is below 256.
 use Rattle.field.specs.Field.{set_field}
-use native.Mathlib.Omega.{arith}
+use Rattle.std.proofs.Common.{◌≡◌, ◌/◌, ◌%◌, arith}
 use Rattle.field.proofs.field.write.Goals as goal
-
-pub bounds-bytes-at-2 : goal.bounds-bytes-at-2
-bounds-bytes-at-2 c = simp length-set (omega arith)
 
 pub returns : goal.returns
 unfolding set_field
-returns c = refl
+returns c =
+    let high : c.args.value / 256 % 256 ≡ c.args.value / 256 = omega (arith, c.ranges.value.fits) in
+    rw (c.to_le_bytes.ensures, high)
