@@ -23,7 +23,7 @@ use Rattle.context.specs.Types.{types_of}
 use Rattle.bindings.specs.Bindings.{Bindings, contains}
 use Rattle.bindings.specs.TypeBindings.{unless_empty, from_binding, with_entry, members_from, step_from, from_type_bindings}
 use Rattle.bindings.specs.Rows.{row_member, member_count, members_of, MemberIs}
-use Rattle.bindings.specs.Parts.{part_of, lower_part, Held, Chosen, From, Parts}
+use Rattle.bindings.specs.Parts.{part_of, lower_part, Held, Chosen, From}
 use Rattle.bindings.proofs.Rows.{no_binding, present, members_long, members_at, from_step}
 
 -- one member
@@ -157,16 +157,6 @@ pub record Filling (s cells : List ℕ) (types : List TypeInner) (required : Bin
   pub cost : top cells ≤ top s + max_members * t
 
 module _ (types : List TypeInner) (required : Bindings) where
-  pub filling_none : {s : List ℕ} (parts : List ℕ) → Good s → Filling s s types required parts parts 0
-  filling_none parts g =
-      record {
-        long = refl;
-        kept = kept_self g;
-        held = record { low = omega arith; each = λ u h. absurd (omega arith) };
-        is = λ u h. absurd (omega arith);
-        cost = omega arith;
-      }
-
   module _ {s cells old parts : List ℕ} {t : ℕ} (F : Filling s cells types required old parts t) where
     lower_same : (u : ℕ) → lower_part cells parts t u ≡ below (from_type_bindings types required) nothing t u
     lower_same u =
@@ -204,24 +194,4 @@ module _ (types : List TypeInner) (required : Bindings) where
                 rw (get_or-set_other parts t v r 0 e) (rw (N.kept.same (get_or parts v 0) (F.held.each v low)) (F.is v low))
           ];
           cost = omega (arith, F.cost, N.cost);
-        }
-
-    pub filling_asks : t < length parts → Room s (max_members * length old) → Room cells max_members
-    filling_asks h room =
-        let long : length parts ≡ length old = F.long in
-        let cost : top cells ≤ top s + max_members * t = F.cost in
-        let same : length cells ≡ length s = F.kept.long in
-        omega arith
-
-    pub filling_all : length parts ≤ t → Parts s cells types required parts (max_members * length old)
-    filling_all h =
-        let low : t ≤ length parts = F.held.low in
-        let same : t ≡ length parts = omega arith in
-        let long : length parts ≡ length old = F.long in
-        let cost : top cells ≤ top s + max_members * t = F.cost in
-        record {
-          kept = F.kept;
-          held = rw same at F.held;
-          is = λ u l. F.is u (omega arith);
-          cost = omega arith;
         }

@@ -9,7 +9,9 @@ use mathlib.Core.List.{List}
 use mathlib.Core.Option.{Option, none as nothing}
 use lib.ListN.{length, get_or-eq_default}
 use borrow.Author.Tests.{eq-eqb, ne_eqb, lt-ltb, le-ltb}
+use Rattle.std.specs.Prelude.{Ok, Err}
 use Rattle.field.specs.Limits.{absent, max_pieces}
+use Rattle.field.specs.declared.refusal.Refusal.TheVariants.{PartLimit, PiecesLimit}
 use Rattle.part.specs.PartReq.{PartReq, none, more, add, entries, over}
 use Rattle.part.specs.StoreLimits.{entries_cap}
 use Rattle.part.specs.Store.{top, part, Good, Room, Made, Measures}
@@ -29,7 +31,6 @@ use Rattle.bindings.specs.ContextBindings.{result_from, output_from_bindings, ad
 use Rattle.bindings.specs.Rows.{Bound}
 use Rattle.bindings.specs.Parts.{part_of, lower_part, Chosen, Parts}
 use Rattle.bindings.specs.Outputs.{result_by, BoundResult, request_context, Asked}
-use Rattle.bindings.specs.declared.outputs.Asking.TheVariants.{PastLimits, PastPieces, Retval}
 use Rattle.bindings.proofs.Rows.{present}
 use Rattle.bindings.proofs.Members.{past_part, some-piece}
 
@@ -144,17 +145,17 @@ module _ (types : List TypeInner) (required : Bindings) (ty b : ℕ) {s t : List
   unfolding output_from_bindings
   out_is f e = rw (e, m.is)
 
-  pub output_past : over (part t n) ≡ true → Asked s t ty b none answer PastLimits
+  pub output_past : over (part t n) ≡ true → Asked s t ty b none answer (Err PartLimit)
   output_past h =
       record { kept = m.kept; held = tt; is = λ f e. rw (out_is f e) (past_new _ _ h) }
 
   module _ (h : over (part t n) ≡ false) {e : ℕ} (x : e ≡ min entries_cap (entries (part t n))) where
-    pub output_pieces : max_pieces < e → Asked s t ty b none answer PastPieces
+    pub output_pieces : max_pieces < e → Asked s t ty b none answer (Err PiecesLimit)
     output_pieces l =
         let z : max_pieces < pieces (request_context none (part t n)) = rw pieces_are (unfold entries in (omega arith)) in
         record { kept = m.kept; held = tt; is = λ f g. rw (out_is f g) (past_pieces _ _ h h z) }
 
-    pub output_within : e ≤ max_pieces → Asked s t ty b none answer (Retval n)
+    pub output_within : e ≤ max_pieces → Asked s t ty b none answer (Ok n)
     output_within l =
         let z : pieces (request_context none (part t n)) ≤ max_pieces = rw pieces_are (unfold entries in (omega arith)) in
         record {
@@ -189,15 +190,12 @@ module _ (types : List TypeInner) {b : ℕ} {required : Bindings} (w : required 
   add-asks : Good t × ((retval < top t) × (n < top t))
   add-asks = (m.kept.good, (omega (arith, m.kept.tops, held.1), m.piece))
 
-  pub add_globals : Good t × (globals < top t)
-  add_globals = (m.kept.good, omega (arith, m.kept.tops, held.0))
-
-  pub add_past : over (part t n) ≡ true → Asked s t ty binding (part s globals) adds PastLimits
+  pub add_past : over (part t n) ≡ true → Asked s t ty binding (part s globals) adds (Err PartLimit)
   add_past h =
       record { kept = m.kept; held = tt; is = λ f e. rw (new_is f e, added_is f e) (past_new _ added h) }
 
   module _ (h : over (part t n) ≡ false) {e d v : ℕ} {o : Bool} (z : Measures (add (part t retval) (part t n)) e d v o) where
-    pub add_past_sum : o ≡ true → Asked s t ty binding (part s globals) adds PastLimits
+    pub add_past_sum : o ≡ true → Asked s t ty binding (part s globals) adds (Err PartLimit)
     add_past_sum l =
         record {
           kept = m.kept;
@@ -212,7 +210,7 @@ module _ (types : List TypeInner) {b : ℕ} {required : Bindings} (w : required 
       counted : entries (part t globals) ≡ entries (part s globals)
       counted = ap entries (m.kept.same globals held.0)
 
-      pub add_pieces : max_pieces < g + e → Asked s t ty binding (part s globals) adds PastPieces
+      pub add_pieces : max_pieces < g + e → Asked s t ty binding (part s globals) adds (Err PiecesLimit)
       add_pieces a =
           let c = counted in
           let many : max_pieces < pieces added = rw pieces_are (omega (arith, z.entries_is)) in
@@ -222,14 +220,7 @@ module _ (types : List TypeInner) {b : ℕ} {required : Bindings} (w : required 
         few : entries (part s globals) + entries (add (part t retval) (part t n)) ≤ max_pieces
         few = let c = counted in omega (arith, z.entries_is)
 
-        pub add-room : Room s (k + max_pieces) → Good t × (((retval < top t) × (n < top t)) × Room t (entries (add (part t retval) (part t n))))
-        add-room r =
-            let f = few in
-            let cost : top t ≤ top s + k = m.cost in
-            let long : length t ≡ length s = m.kept.long in
-            (m.kept.good, (add-asks.1, omega arith))
-
-        pub add-within : {u : List ℕ} {i j : ℕ} → Made t u (add (part t retval) (part t n)) j i → Asked s u ty binding (part s globals) adds (Retval i)
+        pub add-within : {u : List ℕ} {i j : ℕ} → Made t u (add (part t retval) (part t n)) j i → Asked s u ty binding (part s globals) adds (Ok i)
         add-within y =
             let z : pieces added ≤ max_pieces = rw pieces_are few in
             record {

@@ -104,20 +104,6 @@ module _ (o : ℕ → ℕ) where
     inner-from (suc (suc (suc (suc (suc (suc (suc zero))))))) = refl
     inner-from (suc (suc (suc (suc (suc (suc (suc (suc k)))))))) = rw (past_members (suc (suc (suc (suc (suc (suc (suc (suc k)))))))) (omega arith), past_kind k)
 
--- which are of a base
-module _ (k : ℕ) where
-  pub base_pointer : k ≡ 4 → true ≡ is_base k
-  unfolding is_base
-  base_pointer e = rw (eq-eqb k 4 e)
-
-  pub base_array : (k ≡ 4 → ⊥) → k ≡ 5 → true ≡ is_base k
-  unfolding is_base
-  base_array n e = rw (ne_eqb k 4 n, eq-eqb k 5 e)
-
-  pub base_last : (k ≡ 4 → ⊥) → (k ≡ 5 → ⊥) → eqb k 7 ≡ is_base k
-  unfolding is_base
-  base_last n m = rw (ne_eqb k 4 n, ne_eqb k 5 m)
-
 -- a step over the type of the row t
 module _ (table : List ℕ) (t : ℕ) where
   fields : ℕ → ℕ

@@ -6,7 +6,7 @@ use mathlib.Core.Bool.{Bool}
 use mathlib.Core.List.{List}
 use Rattle.part.specs.PartReq.{add}
 use Rattle.part.specs.StoreLimits.{store_words, entries_cap}
-use Rattle.part.specs.Store.{top, part, Good, Measures, SizesOf, Seen, Plain}
+use Rattle.part.specs.Store.{top, part, Good, Measures, SizesOf, Seen}
 use Rattle.part.proofs.Sum.{add-idempotent}
 use Rattle.part.proofs.Sizes.{sum_small}
 use Rattle.part.proofs.Pieces.{part-low_sizes}
@@ -41,18 +41,6 @@ sum_fits {s} {a} {b} P m =
 module _ {s : List ℕ} {a b : ℕ} (P : Asked s a b) where
   pub sizes_same : {e d w : ℕ} {o : Bool} → a ≡ b → Measures (part s a) e d w o → Sizes s a b e d w o
   sizes_same q m = rw (← q, add-idempotent (part s a)) m
-
-  pub plain_asks : {n : ℕ} → Plain a b n → Good s × (n < top s)
-  plain_asks x = (P.0, x.piece (top s) P.0.base P.1.1)
-
-  pub sizes_plain : {n e d w : ℕ} {o : Bool} → Plain a b n → Measures (part s n) e d w o → Sizes s a b e d w o
-  sizes_plain x m = rw (← x.left s) m
-
-  pub plain_right_asks : {n : ℕ} → Plain b a n → Good s × (n < top s)
-  plain_right_asks x = (P.0, x.piece (top s) P.0.base P.1.0)
-
-  pub sizes_plain_right : {n e d w : ℕ} {o : Bool} → Plain b a n → Measures (part s n) e d w o → Sizes s a b e d w o
-  sizes_plain_right x m = rw (← x.right s) m
 
   module _ {i j c d q r : ℕ} (x : Seen s a i c q) (y : Seen s b j d r) where
     pub asks_child : Good s × (c < top s)

@@ -8,7 +8,7 @@ use mathlib.Core.List.{List, [], ◌∷◌, ◌++◌, append_assoc}
 use lib.ListN.{length, get_or, drop, set, length-append}
 use lib.Seq.{drop-cons, set_at}
 use Rattle.module.specs.Operands.{bindings}
-use Rattle.bindings.specs.Bindings.{Bindings, contains, list_below, list_of}
+use Rattle.bindings.specs.Bindings.{Bindings, contains, list_below}
 
 pub record Writing (s : Bindings) (old out : List ℕ) (b k : ℕ) : Type 0 where
   pub low : b ≤ bindings
@@ -43,10 +43,3 @@ module _ (s : Bindings) (old : List ℕ) where
               ∙ set_at (list_below b s) (get_or old k 0) (drop (suc k) old) b k long
               ∙ rw (same, add-one k) (sym (append_assoc (list_below b s) (b ∷ []) (drop (suc k) old)));
         }
-
-  pub writing_all : {out : List ℕ} {b k : ℕ} → Writing s old out b k → bindings ≤ b → (k ≡ length (list_of s)) × (out ≡ list_of s ++ drop (length (list_of s)) old)
-  writing_all {out} {b} {k} W h =
-      let low : b ≤ bindings = W.low in
-      let z : b ≡ bindings = omega arith in
-      let count : k ≡ length (list_of s) = W.count ∙ rw z in
-      (count, W.is ∙ rw (← count, z))

@@ -1,7 +1,9 @@
 -- What the code answers of a function's outputs: by the two numbers of its result, the returned value's entry as a piece.
-use Rattle.std.specs.Prelude.{ℕ, ◌+◌, ◌*◌, ◌<◌, ◌≤◌, ◌≡◌, cond, List, eqb, length}
+use Rattle.std.specs.Prelude.{ℕ, ◌+◌, ◌*◌, ◌<◌, ◌≤◌, ◌≡◌, cond, List, eqb, length, Result, Ok, Err}
 use Rattle.std.proofs.Math.Option.{Option, some, none as nothing}
 use Rattle.field.specs.Limits.{absent, max_members, max_pieces}
+use Rattle.field.specs.Refusal.{number}
+use Rattle.field.specs.declared.refusal.Refusal.{Refusal}
 use Rattle.part.specs.PartReq.{PartReq, none, entries}
 use Rattle.part.specs.Store.{top, part, Kept}
 use Rattle.module.specs.Module.{FunctionResult, Function}
@@ -9,8 +11,6 @@ use Rattle.module.specs.Decode.{option_of}
 use Rattle.context.specs.RequiredContext.{RequiredContext}
 use Rattle.bindings.specs.Rows.{Bound}
 use Rattle.bindings.specs.ContextBindings.{Answer, refused, accepted}
-use Rattle.bindings.specs.declared.outputs.Asking.{Asking}
-use Rattle.bindings.specs.declared.outputs.Asking.TheVariants.{PastLimits, PastPieces, Retval}
 
 -- a result by its type, which is absent where there is none, and its binding
 unfoldable pub result_by : ℕ → ℕ → Option FunctionResult
@@ -30,19 +30,17 @@ abbrev pub request_context : (globals retval : PartReq) → RequiredContext
 request_context globals retval = record { globals = globals; locals = none; args = none; retval = retval }
 
 -- what the code answers, of a request with these globals
-abbrev pub asking_of : List ℕ → PartReq → Asking → Answer RequiredContext
-asking_of t globals PastLimits = refused 15
-asking_of t globals PastPieces = refused 16
-asking_of t globals (Retval n) = accepted (request_context globals (part t n))
+abbrev pub asking_of : List ℕ → PartReq → Result ℕ Refusal → Answer RequiredContext
+asking_of t globals (Err e) = refused (number e)
+asking_of t globals (Ok n) = accepted (request_context globals (part t n))
 
 -- the piece is there, and the request has no more entries than 16 allows
-abbrev pub AskingHeld : List ℕ → PartReq → Asking → Type 0
-AskingHeld t globals PastLimits = Unit {0}
-AskingHeld t globals PastPieces = Unit {0}
-AskingHeld t globals (Retval n) = (n < top t) × (entries globals + entries (part t n) ≤ max_pieces)
+abbrev pub AskingHeld : List ℕ → PartReq → Result ℕ Refusal → Type 0
+AskingHeld t globals (Err e) = Unit {0}
+AskingHeld t globals (Ok n) = (n < top t) × (entries globals + entries (part t n) ≤ max_pieces)
 
 -- from s, t was left, and of a function with this result the code says the answer
-pub record Asked (s t : List ℕ) (ty binding : ℕ) (globals : PartReq) (answer : Function → Answer RequiredContext) (a : Asking) : Type 0 where
+pub record Asked (s t : List ℕ) (ty binding : ℕ) (globals : PartReq) (answer : Function → Answer RequiredContext) (a : Result ℕ Refusal) : Type 0 where
   pub kept : Kept s t
   pub held : AskingHeld t globals a
   pub is : (f : Function) → f.result ≡ result_by ty binding → asking_of t globals a ≡ answer f

@@ -19,18 +19,11 @@ use crate::set::{contains, own_binding};
 use crate::sum::sum_sizes;
 use crate::types::{member_at, member_count};
 use field::limits::{ABSENT, MAX_PIECES};
+use field::refusal::Refusal;
 use module::handles::{NO_HANDLE, TypeHandle};
 use part::limits::SPINE;
 use part::req::join;
 use part::store::{entries, make, over};
-
-// Refused by 15 and 16; or the piece of the returned value's entry.
-#[derive(Clone, Copy)]
-pub enum Asking {
-    PastLimits,
-    PastPieces,
-    Retval(u32),
-}
 
 // The piece of what has this binding, or else this type, which is one of the first t types.
 pub fn from_binding(parts: &[u32], required: u64, binding: u32, u: TypeHandle, t: u32) -> u32
@@ -59,10 +52,8 @@ fn from_type(cells: &mut [u32], types: &[u32], parts: &[u32], required: u64, t: 
     requires held { Held cells.old parts.now t.0 × Room cells.old max_members }
     ensures { From cells.old cells.new (step_from (types_of types.now) required (lower_part cells.old parts.now t.0) t.0) max_members result }
 {
-    let mut i = member_count(types, t);
     let mut r: u32 = 2;
-    while 0 < i {
-        i -= 1;
+    for i in (0..member_count(types, t)).rev() {
         let m = member_at(types, t, i);
         let q = from_binding(parts, required, m.binding, m.ty, t.0);
         if q != 2 {
@@ -81,12 +72,9 @@ pub fn from_table(cells: &mut [u32], types: &[u32], required: u64, parts: &mut [
     requires room { Room cells.old (max_members * length parts.old) × (length parts.old ≤ 4294967295) }
     ensures { Parts cells.old cells.new (types_of types.now) required parts.new (max_members * length parts.old) }
 {
-    let mut t: u32 = 0;
-    while (t as usize) < parts.len() {
-        let r = from_type(cells, types, parts, required, TypeHandle(t));
-        let at = t as usize;
-        parts[at] = r;
-        t += 1;
+    for t in 0..parts.len() {
+        let r = from_type(cells, types, parts, required, TypeHandle(t as u32));
+        parts[t] = r;
     }
 }
 
@@ -117,7 +105,7 @@ fn returned_from(
     make(cells, SPINE, q, 2)
 }
 
-// `output_from_bindings`
+// `output_from_bindings`: refused by 15 and 16, or the piece of the returned value's entry.
 pub fn output_from_bindings(
     cells: &mut [u32],
     types: &[u32],
@@ -125,7 +113,7 @@ pub fn output_from_bindings(
     ty: TypeHandle,
     binding: u32,
     parts: &mut [u32],
-) -> Asking
+) -> Result<u32, Refusal>
     requires good { Good cells.old }
     requires all_bound { AllBound (types_of types.now) }
     requires all_sized { AllSized (types_of types.now) }
@@ -135,12 +123,12 @@ pub fn output_from_bindings(
 {
     let new = returned_from(cells, types, required, ty, binding, parts);
     if over(cells, new) {
-        return Asking::PastLimits;
+        return Err(Refusal::PartLimit);
     }
     if MAX_PIECES < entries(cells, new) as usize {
-        return Asking::PastPieces;
+        return Err(Refusal::PiecesLimit);
     }
-    Asking::Retval(new)
+    Ok(new)
 }
 
 // `add_binding`. The sum is made where it is within the limits, and then has at most that many entries.
@@ -153,7 +141,7 @@ pub fn add_binding(
     parts: &mut [u32],
     globals: u32,
     retval: u32,
-) -> Asking
+) -> Result<u32, Refusal>
     requires good { Good cells.old }
     requires all_bound { AllBound (types_of types.now) }
     requires all_sized { AllSized (types_of types.now) }
@@ -164,14 +152,14 @@ pub fn add_binding(
 {
     let new = returned_from(cells, types, own_binding(b), ty, binding, parts);
     if over(cells, new) {
-        return Asking::PastLimits;
+        return Err(Refusal::PartLimit);
     }
     let m = sum_sizes(cells, retval, new);
     if m.over {
-        return Asking::PastLimits;
+        return Err(Refusal::PartLimit);
     }
     if MAX_PIECES < (entries(cells, globals) + m.entries) as usize {
-        return Asking::PastPieces;
+        return Err(Refusal::PiecesLimit);
     }
-    Asking::Retval(join(cells, retval, new))
+    Ok(join(cells, retval, new))
 }

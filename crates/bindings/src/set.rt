@@ -34,13 +34,10 @@ pub fn list(s: u64, out: &mut [u8]) -> usize
     requires { bindings ≤ length out.old }
     ensures { (result ≡ length (list_of s)) × (out.new ≡ list_of s ++ drop (length (list_of s)) out.old) }
 {
-    let mut b: u32 = 0;
     let mut k: usize = 0;
-    while b < BINDINGS {
-        let n = b;
-        b += 1;
-        if contains(s, n) {
-            out[k] = n as u8;
+    for b in 0..BINDINGS {
+        if contains(s, b) {
+            out[k] = b as u8;
             k += 1;
         }
     }

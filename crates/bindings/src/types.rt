@@ -17,10 +17,7 @@ pub struct Member {
 pub fn word(types: &[u32], i: usize) -> u32
     ensures { result ≡ get_or types.now i 0 }
 {
-    if i < types.len() {
-        return types[i];
-    }
-    0
+    types.get(i).copied().unwrap_or(0)
 }
 
 // The first word after the kind: what a pointer or an array is of, or how many members there are.
@@ -41,16 +38,11 @@ pub fn type_kind(types: &[u32], t: TypeHandle) -> u32
 }
 
 // Whether a kind is of a pointer, an array or a binding array.
+#[tactic(auto, unfolding(crate::specs::Rows::is_base))]
 pub fn is_base(kind: u32) -> bool
     ensures { result ≡ is_base kind }
 {
-    if kind == 4 {
-        return true;
-    }
-    if kind == 5 {
-        return true;
-    }
-    kind == 7
+    kind == 4 || kind == 5 || kind == 7
 }
 
 // How many members the type t has.

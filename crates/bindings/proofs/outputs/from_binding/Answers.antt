@@ -18,8 +18,5 @@ returns-then-binding c = chosen_none _ _ _ _ _ c.if-binding.true (sym c.contains
 pub returns-then-t-u : goal.returns-then-t-u
 returns-then-t-u c = chosen_past _ _ _ _ _ (search rules) c.if-t-u.true
 
-pub bounds-parts-at : goal.bounds-parts-at
-bounds-parts-at c = omega (arith, c.if-t-u.false, c.requires.t_in_bounds)
-
 pub returns : goal.returns
 returns c = chosen_type _ _ _ _ _ (search rules) (omega (arith, c.if-t-u.false)) refl

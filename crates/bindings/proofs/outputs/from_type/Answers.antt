@@ -7,34 +7,18 @@ use Rattle.bindings.proofs.outputs.from_type.Goals as goal
 pub loop-i-init : goal.loop-i-init
 loop-i-init c = making_none _ _ _ _ _ c.requires.good c.member_count-i.ensures
 
-pub member_at-m-requires : goal.member_at-m-requires
-member_at-m-requires c =
-    record { all_bound = c.requires.all_bound; i_bound = omega (arith, c.loop-i.invariant.low, c.loop-i-test.true) }
-
-pub from_binding-q-requires : goal.from_binding-q-requires
-from_binding-q-requires c = record { bound = c.member_at-m.ensures.bound; t_in_bounds = c.requires.held.0.low }
-
 pub make-r-requires : goal.make-r-requires
 make-r-requires c =
     let q9 = making_asks _ _ _ _ _ c.loop-i-test.true c.loop-i.invariant c.member_at-m.ensures c.from_binding-q.ensures (count_small _ _ c.requires.all_sized) c.requires.held.1 c.requires.good.base c.requires.held.0 in
     record { good = q9.0; room = q9.1.0; child_bound = q9.1.1 }
 
-pub loop-i-smaller-then-q-ne2 : goal.loop-i-smaller-then-q-ne2
-loop-i-smaller-then-q-ne2 c = omega (arith, c.loop-i-test.true)
-
 pub loop-i-preserved-then-q-ne2 : goal.loop-i-preserved-then-q-ne2
 loop-i-preserved-then-q-ne2 c =
     making_more _ _ _ _ _ c.loop-i-test.true c.loop-i.invariant c.member_at-m.ensures c.from_binding-q.ensures c.requires.good.base c.requires.held.0 c.if-q-ne2.true c.make-r.ensures
 
-pub loop-i-smaller : goal.loop-i-smaller
-loop-i-smaller c = omega (arith, c.loop-i-test.true)
-
 pub loop-i-preserved : goal.loop-i-preserved
 loop-i-preserved c =
     making_skip _ _ _ _ _ c.loop-i-test.true c.loop-i.invariant c.member_at-m.ensures c.from_binding-q.ensures (omega (arith, c.if-q-ne2.false))
-
-pub shape_of-cells : goal.shape_of-cells
-shape_of-cells c = c.loop-i.invariant.made.kept.long
 
 pub returns : goal.returns
 returns c =

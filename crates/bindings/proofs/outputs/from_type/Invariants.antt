@@ -4,6 +4,3 @@ use Rattle.bindings.proofs.outputs.from_type.Given as goal
 
 abbrev pub invariant-loop-i : goal.invariant-loop-i
 invariant-loop-i l = Making l.initial.cells l.cells l.types l.parts l.required l.t.0 l.i l.r
-
-abbrev pub decreases-loop-i : goal.decreases-loop-i
-decreases-loop-i l = l.i
