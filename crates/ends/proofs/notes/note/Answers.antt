@@ -2,10 +2,10 @@
 use mathlib.Core.Path.{refl, ◌∙◌}
 use borrow.Author.Tests.{lt-ltb, le-ltb}
 use Prim.Native.Nat.{◌-◌}
-use Rattle.ends.proofs.Points.{point_deep, point_wide, narrow, width-less, either_first, either_second}
+use Rattle.ends.proofs.Points.{point_wide, narrow, width-less, either_first, either_second}
 use native.Mathlib.Omega.{arith}
 use Rattle.ends.proofs.notes.note.Goals as goal
-use Rattle.ends.proofs.notes.note.Goals.{then-over, else-over}
+use Rattle.ends.proofs.notes.note.Goals.{then-sizes, else-sizes}
 
 pub measure-sizes-requires : goal.measure-sizes-requires
 measure-sizes-requires c =
@@ -21,9 +21,9 @@ returns-then-many c =
       full = refl;
       fault = refl;
       held = refl;
-      deep = elim c.if-over.branch [
-        | then-over w ↦ w.result-is ∙ either_first _ (point_deep c.measure-sizes.ensures) (lt-ltb _ _ w.if-over.true)
-        | else-over w ↦ w.result-is ∙ either_second _ (point_deep c.measure-sizes.ensures) (le-ltb _ _ w.if-over.false)
+      deep = elim c.if-sizes.branch [
+        | then-sizes w ↦ w.result-is ∙ either_first _ c.measure-sizes.ensures.over_is w.if-sizes.true
+        | else-sizes w ↦ w.result-is ∙ either_second _ c.measure-sizes.ensures.over_is w.if-sizes.false
       ];
       wide = either_first _ (point_wide c.measure-sizes.ensures (narrow c.requires.live (c.args.n - 1) (omega (arith, c.requires.n_nonzero)))) (lt-ltb _ _ c.if-many.true);
     }
@@ -34,9 +34,9 @@ returns-else-many c =
       full = refl;
       fault = refl;
       held = refl;
-      deep = elim c.if-over.branch [
-        | then-over w ↦ w.result-is ∙ either_first _ (point_deep c.measure-sizes.ensures) (lt-ltb _ _ w.if-over.true)
-        | else-over w ↦ w.result-is ∙ either_second _ (point_deep c.measure-sizes.ensures) (le-ltb _ _ w.if-over.false)
+      deep = elim c.if-sizes.branch [
+        | then-sizes w ↦ w.result-is ∙ either_first _ c.measure-sizes.ensures.over_is w.if-sizes.true
+        | else-sizes w ↦ w.result-is ∙ either_second _ c.measure-sizes.ensures.over_is w.if-sizes.false
       ];
       wide = either_second _ (point_wide c.measure-sizes.ensures (narrow c.requires.live (c.args.n - 1) (omega (arith, c.requires.n_nonzero)))) (le-ltb _ _ c.if-many.false);
     }
