@@ -164,8 +164,7 @@ pub fn entries(cells: &[u32], n: u32) -> u32
     requires n_bound { n < top cells.now }
     ensures { result ≡ min entries_cap (entries (part cells.now n)) }
 {
-    let m = measure(cells, n);
-    m.entries
+    measure(cells, n).entries
 }
 
 pub fn depth(cells: &[u32], n: u32) -> u32
@@ -173,8 +172,7 @@ pub fn depth(cells: &[u32], n: u32) -> u32
     requires n_bound { n < top cells.now }
     ensures { result ≡ depth (part cells.now n) }
 {
-    let m = measure(cells, n);
-    m.depth
+    measure(cells, n).depth
 }
 
 pub fn width(cells: &[u32], n: u32) -> u32
@@ -182,8 +180,7 @@ pub fn width(cells: &[u32], n: u32) -> u32
     requires n_bound { n < top cells.now }
     ensures { result ≡ width (part cells.now n) }
 {
-    let m = measure(cells, n);
-    m.width
+    measure(cells, n).width
 }
 
 // Whether a part at or below the piece n passes a limit.
@@ -192,8 +189,7 @@ pub fn over(cells: &[u32], n: u32) -> bool
     requires n_bound { n < top cells.now }
     ensures { result ≡ over (part cells.now n) }
 {
-    let m = measure(cells, n);
-    m.over
+    measure(cells, n).over
 }
 
 // Whether a limit is passed: by the child, by the rest, or by the part itself, where it is one, since it is too deep or too wide.
@@ -298,11 +294,8 @@ pub fn remake(cells: &mut [u32], old: u32, x: Cell, child: u32, rest: u32) -> u3
     requires holds { Holds cells.old old x.index x.child x.rest }
     ensures { Made cells.old cells.new (more x.index (part cells.old child) (part cells.old rest)) 1 result }
 {
-    if x.child != child {
-        return make(cells, x.index, child, rest);
+    if x.child == child && x.rest == rest {
+        return old;
     }
-    if x.rest != rest {
-        return make(cells, x.index, child, rest);
-    }
-    old
+    make(cells, x.index, child, rest)
 }

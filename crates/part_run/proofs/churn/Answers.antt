@@ -1,27 +1,26 @@
 -- `churn` meets its contract.
-use Prim.Native.Nat.{◌-◌}
 use Rattle.part_run.proofs.Laws.{went_start, went_on, went_collected}
 use native.Mathlib.Omega.{arith}
 use Rattle.part_run.proofs.churn.Goals as goal
 
 pub loop-k-init : goal.loop-k-init
-loop-k-init c = (went_start c.requires, omega arith)
+loop-k-init c = went_start c.requires
 
 pub grow-requires : goal.grow-requires
-grow-requires c = c.loop-k.invariant.0.live
+grow-requires c = c.loop-k.invariant.live
 
 pub collect-requires : goal.collect-requires
 collect-requires c = record { good = c.grow.ensures.live.good; below = c.grow.ensures.live.below }
 
 pub loop-k-preserved : goal.loop-k-preserved
 loop-k-preserved c =
-    (went_on c.loop-k.invariant.0 (went_on c.grow.ensures (went_collected c.grow.ensures.live c.collect.ensures)), omega arith)
+    went_on c.loop-k.invariant (went_on c.grow.ensures (went_collected c.grow.ensures.live c.collect.ensures))
 
 pub shape_of-cells : goal.shape_of-cells
-shape_of-cells c = c.loop-k.invariant.0.long
+shape_of-cells c = c.loop-k.invariant.long
 
 pub shape_of-roots : goal.shape_of-roots
-shape_of-roots c = omega (arith, c.loop-k.invariant.0.live.two, c.requires.two)
+shape_of-roots c = omega (arith, c.loop-k.invariant.live.two, c.requires.two)
 
 pub returns : goal.returns
-returns c = c.loop-k.invariant.0
+returns c = c.loop-k.invariant

@@ -1,10 +1,6 @@
 -- `churn` meets its contract.
-use Prim.Native.Nat.{◌≤◌, ◌-◌}
 use Rattle.part_run.specs.Live.{Went}
 use Rattle.part_run.proofs.churn.Given as goal
 
 abbrev pub invariant-loop-k : goal.invariant-loop-k
-invariant-loop-k l = Went l.initial.cells l.cells l.roots × (l.k ≤ 5000)
-
-abbrev pub decreases-loop-k : goal.decreases-loop-k
-decreases-loop-k l = 5000 - l.k
+invariant-loop-k l = Went l.initial.cells l.cells l.roots

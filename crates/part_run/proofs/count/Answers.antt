@@ -1,8 +1,8 @@
 -- `count` meets its contract.
-use Prim.Native.Nat.{◌-◌}
 use Rattle.part_run.proofs.Laws.{path_asked, went_start, went_on, went_kept}
 use native.Mathlib.Omega.{arith}
 use Rattle.part_run.proofs.count.Goals as goal
+use Rattle.part_run.proofs.count.Goals.{then-contains, else-contains}
 
 pub loop-k-init : goal.loop-k-init
 loop-k-init c = (went_start c.requires.live, omega arith)
@@ -21,13 +21,9 @@ contains-requires c =
     let q9 = path_asked c.tidy.ensures.live c.path-p.ensures in
     record { good = q9.0; a_bound = q9.1 }
 
-pub loop-k-preserved-then-contains : goal.loop-k-preserved-then-contains
-loop-k-preserved-then-contains c =
-    (went_on c.loop-k.invariant.0 (went_on c.tidy.ensures (went_kept c.tidy.ensures.live c.path-p.ensures.kept)), omega arith)
-
 pub loop-k-preserved : goal.loop-k-preserved
 loop-k-preserved c =
-    (went_on c.loop-k.invariant.0 (went_on c.tidy.ensures (went_kept c.tidy.ensures.live c.path-p.ensures.kept)), omega arith)
+    (went_on c.loop-k.invariant.0 (went_on c.tidy.ensures (went_kept c.tidy.ensures.live c.path-p.ensures.kept)), elim c.if-contains.branch [ then-contains w ↦ omega arith | else-contains w ↦ omega arith ])
 
 pub shape_of-cells : goal.shape_of-cells
 shape_of-cells c = c.loop-k.invariant.0.long

@@ -1,14 +1,13 @@
 -- `cut_all` meets its contract.
-use Prim.Native.Nat.{◌-◌}
 use Rattle.part_run.proofs.Laws.{root, went_start, went_on, went_set}
 use native.Mathlib.Omega.{arith}
 use Rattle.part_run.proofs.cut_all.Goals as goal
 
 pub loop-i-init : goal.loop-i-init
-loop-i-init c = (went_start c.requires, omega arith)
+loop-i-init c = went_start c.requires
 
 pub tidy-requires : goal.tidy-requires
-tidy-requires c = c.loop-i.invariant.0.live
+tidy-requires c = c.loop-i.invariant.live
 
 pub bounds-roots-0 : goal.bounds-roots-0
 bounds-roots-0 c = omega (arith, c.tidy.ensures.live.two)
@@ -22,13 +21,13 @@ bounds-roots-0-in-loop-i c = omega (arith, c.tidy.ensures.live.two)
 
 pub loop-i-preserved : goal.loop-i-preserved
 loop-i-preserved c =
-    (went_on c.loop-i.invariant.0 (went_on c.tidy.ensures (went_set 0 (omega arith) c.tidy.ensures.live c.cut-r.ensures)), omega arith)
+    went_on c.loop-i.invariant (went_on c.tidy.ensures (went_set 0 (omega arith) c.tidy.ensures.live c.cut-r.ensures))
 
 pub shape_of-cells : goal.shape_of-cells
-shape_of-cells c = c.loop-i.invariant.0.long
+shape_of-cells c = c.loop-i.invariant.long
 
 pub shape_of-roots : goal.shape_of-roots
-shape_of-roots c = omega (arith, c.loop-i.invariant.0.live.two, c.requires.two)
+shape_of-roots c = omega (arith, c.loop-i.invariant.live.two, c.requires.two)
 
 pub returns : goal.returns
-returns c = c.loop-i.invariant.0
+returns c = c.loop-i.invariant

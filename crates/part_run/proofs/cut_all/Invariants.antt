@@ -1,10 +1,6 @@
 -- `cut_all` meets its contract.
-use Prim.Native.Nat.{◌≤◌, ◌-◌}
 use Rattle.part_run.specs.Live.{Went}
 use Rattle.part_run.proofs.cut_all.Given as goal
 
 abbrev pub invariant-loop-i : goal.invariant-loop-i
-invariant-loop-i l = Went l.initial.cells l.cells l.roots × (l.i ≤ 200)
-
-abbrev pub decreases-loop-i : goal.decreases-loop-i
-decreases-loop-i l = 200 - l.i
+invariant-loop-i l = Went l.initial.cells l.cells l.roots

@@ -13,14 +13,14 @@ fill-requires g c = live_start c.args.roots.now c.requires.roots_len c.path-p.en
 pub show-requires : goal.show-requires
 show-requires g c = record { live = c.fill.ensures.live; k_bound = omega arith }
 
-pub count-requires : goal.count-requires
-count-requires g c = record { live = c.show.ensures.live; first_bound = omega arith }
+pub count-found-requires : goal.count-found-requires
+count-found-requires g c = record { live = c.show.ensures.live; first_bound = omega arith }
 
-pub count-requires-2 : goal.count-requires-2
-count-requires-2 g c = record { live = c.count.ensures.live; first_bound = omega arith }
+pub count-others-requires : goal.count-others-requires
+count-others-requires g c = record { live = c.count-found.ensures.live; first_bound = omega arith }
 
 pub cut_all-requires : goal.cut_all-requires
-cut_all-requires g c = c.count-2.ensures.live
+cut_all-requires g c = c.count-others.ensures.live
 
 pub show-requires-2 : goal.show-requires-2
 show-requires-2 g c = record { live = c.cut_all.ensures.live; k_bound = omega arith }

@@ -27,5 +27,5 @@ over-requires g c =
     let w = went_collected c.requires.live c.collect.ensures in
     record { good = w.live.good; n_bound = root c.args.k w.live c.requires.k_bound }
 
-pub returns-in_err-say : goal.returns-in_err-say
-returns-in_err-say g c = went_collected c.requires.live c.collect.ensures
+pub returns : goal.returns
+returns g c = went_collected c.requires.live c.collect.ensures

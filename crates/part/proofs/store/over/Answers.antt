@@ -2,4 +2,4 @@
 use Rattle.part.proofs.store.over.Goals as goal
 
 pub returns : goal.returns
-returns c = c.measure-m.ensures.over_is
+returns c = c.measure.ensures.over_is

@@ -2,5 +2,5 @@
 use Rattle.part.proofs.Write.{stay_cell}
 use Rattle.part.proofs.store.remake.Goals as goal
 
-pub returns : goal.returns
-returns c = stay_cell c.requires.good c.requires.holds c.if-x-child.false c.if-x-rest.false
+pub returns-then-x-rest : goal.returns-then-x-rest
+returns-then-x-rest c = stay_cell c.requires.good c.requires.holds c.if-x-child.true c.if-x-rest.true
