@@ -1,4 +1,5 @@
 // `type_to_parts` and `remove` of PartReq, on pieces and a table of types (specs/Types.antt).
+// Stays: pieces are numbers in lent words, for there is no heap.
 ghost use Rattle.std.specs.Prelude.{◌≡◌, ◌+◌, ◌*◌, ◌<◌, get_or};
 ghost use Rattle.part.specs.Store.{top, part, Good, Room, Made};
 ghost use Rattle.module.specs.Module.{Opaque};

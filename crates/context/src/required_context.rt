@@ -1,5 +1,6 @@
 // `RequiredContext`: what is needed at a point, by the pieces of its four maps. Its methods take the context by value and hand it back, or
 // the answer.
+// Stays: pieces are numbers in lent words, for there is no heap.
 ghost use Rattle.std.specs.Prelude.{◌≡◌, ◌+◌, ◌<◌};
 ghost use Rattle.std.proofs.Math.Option.{some};
 ghost use Rattle.part.specs.PartReq.{spine};

@@ -77,10 +77,7 @@ pub fn check_variables(bytes: &[u8], at: usize, limit: u32) -> Option<(bool, usi
 pub fn is_context(bytes: &[u8]) -> bool
     ensures { result ≡ is_context bytes.now }
 {
-    if bytes.len() < 6 {
-        return false;
-    }
-    is_record(bytes, b'C', b'X', 6, read_word(bytes, 2) as usize)
+    bytes.len() >= 6 && is_record(bytes, b'C', b'X', 6, read_word(bytes, 2) as usize)
 }
 
 // The three lists, whatever the return part was.

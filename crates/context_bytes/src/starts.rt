@@ -1,4 +1,5 @@
 // Whether what is needed at the start is in the input context.
+// Stays: pieces are numbers in lent words, for there is no heap.
 ghost use Rattle.std.specs.Prelude.{◌≡◌, [], ◌∷◌, ◌≤◌, ◌<◌, length};
 ghost use Rattle.part.specs.Store.{top, part, Good};
 ghost use Rattle.needs.specs.Path.{Piece};

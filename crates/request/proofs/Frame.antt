@@ -1,4 +1,4 @@
--- The frame of a record, test by test: each that fails refuses it, and the last decides.
+-- The frame of a record: how long it is.
 use Prim.Native.Nat.{ℕ, ◌+◌, ◌-◌, ◌%◌, ◌≤◌, ◌<◌}
 use native.Mathlib.Omega.{arith}
 use native.Mathlib.Decide.{dec_lt}
@@ -33,30 +33,10 @@ overlong m report bytes h l =
     let other = h 3 in
     rw (other_length 82 81 4 (field_at bytes 2) bytes (λ e. omega arith))
 
-module _ (a b head long : ℕ) (s : List ℕ) where
-  pub frame_short : length s < head → false ≡ framed a b head long s
-  unfolding framed
-  frame_short h = rw (lt-leb head (length s) h)
-
-  module _ (inside : head ≤ length s) where
-    pub frame_first : (get_or s 0 0 ≡ a → ⊥) → false ≡ framed a b head long s
-    unfolding framed
-    frame_first h = rw (le-leb head (length s) inside, ne_eqb (get_or s 0 0) a h)
-
-    module _ (first : get_or s 0 0 ≡ a) where
-      pub frame_second : (get_or s 1 0 ≡ b → ⊥) → false ≡ framed a b head long s
-      unfolding framed
-      frame_second h = rw (le-leb head (length s) inside, eq-eqb (get_or s 0 0) a first, ne_eqb (get_or s 1 0) b h)
-
-      module _ (second : get_or s 1 0 ≡ b) where
-        pub frame_other : (long ≡ length s - head → ⊥) → false ≡ framed a b head long s
-        frame_other h = sym (other_length a b head long s (λ e. h (omega arith)))
-
-        pub frame_even : long ≡ length s - head → eqb (long % 2) 0 ≡ framed a b head long s
-        unfolding framed
-        frame_even h =
-            let same : head + long ≡ length s = omega arith in
-            rw (le-leb head (length s) inside, eq-eqb (get_or s 0 0) a first, eq-eqb (get_or s 1 0) b second, eq-eqb (head + long) (length s) same)
+-- what is shorter than its header is no record
+pub frame_short : (a b head long : ℕ) (s : List ℕ) → length s < head → false ≡ framed a b head long s
+unfolding framed
+frame_short a b head long s h = rw (lt-leb head (length s) h)
 
 -- a record is at least as long as its header
 pub frame_inside : (a b head long : ℕ) (s : List ℕ) → framed a b head long s ≡ true → head ≤ length s

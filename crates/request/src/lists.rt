@@ -1,4 +1,5 @@
 // The return part and the lists of variables. Of a list only as many entries are kept as there are variables: its recursion goes no deeper.
+// Stays: pieces are numbers in lent words, for there is no heap.
 ghost use Rattle.std.specs.Prelude.{◌+◌, ◌-◌, ◌≤◌, ◌<◌, length};
 ghost use Rattle.field.specs.Limits.{absent, max_depth};
 ghost use Rattle.part.specs.PartReq.{spine};

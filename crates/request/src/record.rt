@@ -25,21 +25,14 @@ pub fn field(bytes: &[u8], at: usize) -> Option<u16>
 }
 
 // Whether the bytes are one record with the mark a, b, whose header has `head` bytes and says that the body has `long`.
+#[tactic(auto, unfolding(crate::specs::Fields::framed))]
 pub fn is_record(bytes: &[u8], a: u8, b: u8, head: usize, long: usize) -> bool
     requires { 2 ≤ head }
     ensures { result ≡ framed a b head long bytes.now }
 {
-    if bytes.len() < head {
-        return false;
-    }
-    if bytes[0] != a {
-        return false;
-    }
-    if bytes[1] != b {
-        return false;
-    }
-    if long != bytes.len() - head {
-        return false;
-    }
-    long % 2 == 0
+    bytes.len() >= head
+        && bytes[0] == a
+        && bytes[1] == b
+        && long == bytes.len() - head
+        && long % 2 == 0
 }

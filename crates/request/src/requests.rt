@@ -23,10 +23,7 @@ pub struct Request {
 fn is_request(bytes: &[u8]) -> bool
     ensures { result ≡ is_request bytes.now }
 {
-    if bytes.len() < 4 {
-        return false;
-    }
-    is_record(bytes, b'R', b'Q', 4, read(bytes, 2) as usize)
+    bytes.len() >= 4 && is_record(bytes, b'R', b'Q', 4, read(bytes, 2) as usize)
 }
 
 // The globals of a request for `function` and `retval`, from the byte `at` on, and what they answer.

@@ -1,4 +1,5 @@
 // Requirements, contexts and requests written from the store into a lent slice. What lies before and after stays.
+// Stays: pieces are numbers in lent words, for there is no heap.
 ghost use Rattle.std.specs.Prelude.{◌≡◌, ◌+◌, ◌≤◌, ◌<◌, ◌^◌, length};
 ghost use Rattle.std.proofs.lemmas.List.Edits.{sets};
 ghost use Rattle.part.specs.Store.{top, part, Good};

@@ -1,10 +1,13 @@
 -- `context_bytes::check::is_context` meets its contract.
 use mathlib.Core.Path.{◌∙◌}
+use lib.ListN.{length}
+use borrow.Author.Tests.{lt-leb}
 use Rattle.request.proofs.Frame.{frame_short}
 use Rattle.context_bytes.proofs.check.is_context.Goals as goal
 
-pub returns-then-bytes-lt6 : goal.returns-then-bytes-lt6
-returns-then-bytes-lt6 c = frame_short _ _ _ _ _ c.if-bytes-lt6.true
+pub returns-else-bytes-ge6 : goal.returns-else-bytes-ge6
+returns-else-bytes-ge6 c =
+    lt-leb 6 (length c.args.bytes.now) c.if-bytes-ge6.false ∙ frame_short _ _ _ _ _ c.if-bytes-ge6.false
 
-pub returns : goal.returns
-returns c = c.is_record.ensures ∙ rw c.read_word.ensures
+pub returns-then-bytes-ge6 : goal.returns-then-bytes-ge6
+returns-then-bytes-ge6 c = c.is_record.ensures ∙ rw c.read_word.ensures
