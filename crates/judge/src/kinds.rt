@@ -10,6 +10,8 @@ pub const SPLAT: u16 = 6;
 
 pub const SWIZZLE: u16 = 7;
 
+pub const COMPOSE: u16 = 8;
+
 pub const FUNCTION_ARGUMENT: u16 = 9;
 
 pub const GLOBAL_VARIABLE: u16 = 10;
@@ -42,6 +44,8 @@ pub const IF: u16 = 2;
 pub const SWITCH: u16 = 3;
 
 pub const LOOP: u16 = 4;
+
+pub const BREAK: u16 = 5;
 
 pub const CONTINUE: u16 = 6;
 
