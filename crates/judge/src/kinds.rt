@@ -45,8 +45,6 @@ pub const SWITCH: u16 = 3;
 
 pub const LOOP: u16 = 4;
 
-pub const BREAK: u16 = 5;
-
 pub const CONTINUE: u16 = 6;
 
 pub const RETURN: u16 = 7;
