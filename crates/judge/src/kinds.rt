@@ -10,6 +10,8 @@ pub const SPLAT: u16 = 6;
 
 pub const SWIZZLE: u16 = 7;
 
+pub const COMPOSE: u16 = 8;
+
 pub const FUNCTION_ARGUMENT: u16 = 9;
 
 pub const GLOBAL_VARIABLE: u16 = 10;

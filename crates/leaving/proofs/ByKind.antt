@@ -1,6 +1,7 @@
 -- What a statement's tree is by its kind, and that taking an exit's slot for the needs at hand is its pass (standing's laws).
 use Prim.Native.Nat.{ℕ, zero, suc, ◌+◌, ◌-◌, ◌<◌, ◌≤◌}
 use native.Mathlib.Omega.{arith}
+use native.Mathlib.Decide.{ℕ_discrete}
 use mathlib.Core.Path.{◌≡◌, refl, sym, ap, subst, ◌∙◌}
 use mathlib.Core.Bool.{Bool, true, false}
 use mathlib.Core.List.{List}
@@ -85,13 +86,17 @@ module _ {bytes t : List ℕ} {f : ℕ} {types alike paths s rs : List ℕ} {n :
   pub copy_asks : (y : ℕ) → y + 1 < n → (y < length rs) × (n - 1 < length rs)
   copy_asks y h = (omega (arith, g.spare), omega (arith, g.spare))
 
-  pub leaves_break : {ws : List ℕ} → row.kind ≡ 5 → ws ≡ set rs (n - 1) (get_or rs x.broke 0) → Leaves bytes t f s rs n x p l s ws p
+  leaves_break : {ws : List ℕ} → row.kind ≡ 5 → ws ≡ set rs (n - 1) (get_or rs x.broke 0) → Leaves bytes t f s rs n x p l s ws p
   leaves_break h e = rw e (by_tree (break l) (λ marks block. rw (decoded 5 h) (break_of (function_of bytes t f) marks block l o)) (walked_break g.ready g.targets l g.going))
 
-  pub leaves_past : {ws : List ℕ} → 20 < row.kind → ws ≡ set rs (n - 1) (get_or rs x.broke 0) → Leaves bytes t f s rs n x p l s ws p
+  leaves_past : {ws : List ℕ} → 20 < row.kind → ws ≡ set rs (n - 1) (get_or rs x.broke 0) → Leaves bytes t f s rs n x p l s ws p
   leaves_past h e =
       let z : row.kind ≡ past 21 (row.kind - 21) = omega arith in
       rw e (by_tree (break l) (λ marks block. rw (decoded (past 21 (row.kind - 21)) z) (past_of (function_of bytes t f) marks block l o (row.kind - 21))) (walked_break g.ready g.targets l g.going))
+
+  -- a break, or a kind past the last
+  pub leaves_broke : {ws : List ℕ} → ((row.kind ≡ 5 → ⊥) → 20 < row.kind) → ws ≡ set rs (n - 1) (get_or rs x.broke 0) → Leaves bytes t f s rs n x p l s ws p
+  leaves_broke h e = elim (ℕ_discrete row.kind 5) [ yes z ↦ leaves_break z e | no ne ↦ leaves_past (h ne) e ]
 
   pub leaves_continue : {ws : List ℕ} → row.kind ≡ 6 → ws ≡ set rs (n - 1) (get_or rs x.continued 0) → Leaves bytes t f s rs n x p l s ws p
   leaves_continue h e = rw e (by_tree (continue l) (λ marks block. rw (decoded 6 h) (continue_of (function_of bytes t f) marks block l o)) (walked_continue g.ready g.targets l g.going))

@@ -5,16 +5,9 @@ ghost use Rattle.leaving.specs.Leaves.{LeaveGiven, Leaves};
 use access::kinded::{Kinded, expression_operand};
 use asking::ask::ask_returned;
 use hold::hold::copy;
+use judge::kinds::{CONTINUE, LAST, RETURN};
 use module::handles::{FunctionHandle, NO_HANDLE};
 use standing::passing::{Exits, Passing, filled};
-
-const BREAK: u16 = 5;
-
-const CONTINUE: u16 = 6;
-
-const RETURN: u16 = 7;
-
-const LAST: u16 = 20;
 
 // A return.
 fn pass_return(
@@ -68,24 +61,19 @@ pub fn pass_leaving(
     requires lt_kind { (4 < row.kind) × (row.kind ≡ 12 → ⊥) }
     ensures { Leaves bytes.now t.now f.0 cells.old roots.old n x p l cells.new roots.new result }
 {
-    let kind = row.kind;
     let last = n - 1;
-    if kind == RETURN {
-        return pass_return(
+    match row.kind {
+        RETURN => pass_return(
             bytes, t, f, types, alike, paths, cells, roots, n, x, p, l, row,
-        );
+        ),
+        CONTINUE => {
+            copy(roots, x.continued, last);
+            p
+        }
+        8..=LAST => p,
+        _ => {
+            copy(roots, x.broke, last);
+            p
+        }
     }
-    if kind == CONTINUE {
-        copy(roots, x.continued, last);
-        return p;
-    }
-    if kind == BREAK {
-        copy(roots, x.broke, last);
-        return p;
-    }
-    if LAST < kind {
-        copy(roots, x.broke, last);
-        return p;
-    }
-    p
 }

@@ -8,27 +8,10 @@ use crate::made::{ask_components, ask_joined, ask_letters};
 use crate::operators::{ask_both_same, ask_both_whole, ask_math, ask_same, ask_select, ask_whole};
 use crate::tests::{by_part, is_joined};
 use access::kinded::{Kinded, expression, expression_operand};
+use judge::kinds::{
+    ACCESS, ACCESS_INDEX, BINARY, COMPOSE, MATH, RELATIONAL, SELECT, SPLAT, SWIZZLE, UNARY,
+};
 use module::handles::{ExpressionHandle, FunctionHandle};
-
-const ACCESS_INDEX: u16 = 3;
-
-const ACCESS: u16 = 4;
-
-const SPLAT: u16 = 6;
-
-const SWIZZLE: u16 = 7;
-
-const COMPOSE: u16 = 8;
-
-const UNARY: u16 = 16;
-
-const BINARY: u16 = 17;
-
-const SELECT: u16 = 18;
-
-const RELATIONAL: u16 = 20;
-
-const MATH: u16 = 21;
 
 // Both operands, by part or whole.
 fn ask_binary(
@@ -96,19 +79,13 @@ fn ask_operator(
     requires le_kind { 16 ≤ row.kind }
     ensures { AsksOperands bytes.now t.now f.0 e.0 cells.old roots.old n cells.new roots.new result }
 {
-    if row.kind == BINARY {
-        return ask_binary(bytes, t, f, types, alike, paths, cells, roots, n, row, e);
+    match row.kind {
+        BINARY => ask_binary(bytes, t, f, types, alike, paths, cells, roots, n, row, e),
+        SELECT => ask_select(bytes, t, f, cells, roots, n, row),
+        RELATIONAL => ask_whole(bytes, t, f, cells, roots, n, row, 0),
+        MATH => ask_math(bytes, t, f, cells, roots, n, row),
+        _ => ask_same(bytes, t, f, cells, roots, n, row, 0),
     }
-    if row.kind == SELECT {
-        return ask_select(bytes, t, f, cells, roots, n, row);
-    }
-    if row.kind == RELATIONAL {
-        return ask_whole(bytes, t, f, cells, roots, n, row, 0);
-    }
-    if row.kind == MATH {
-        return ask_math(bytes, t, f, cells, roots, n, row);
-    }
-    ask_same(bytes, t, f, cells, roots, n, row, 0)
 }
 
 // An index, what is made of parts, or a load, the kind that is left.
@@ -131,23 +108,17 @@ fn ask_made(
     requires path_room { PathRoom bytes.now t.now f.0 path.old }
     ensures { AsksOperands bytes.now t.now f.0 e.0 cells.old roots.old n cells.new roots.new result }
 {
-    if row.kind == ACCESS_INDEX {
-        return ask_index(bytes, t, f, cells, roots, n, row);
+    match row.kind {
+        ACCESS_INDEX => ask_index(bytes, t, f, cells, roots, n, row),
+        ACCESS => ask_both_whole(bytes, t, f, cells, roots, n, row),
+        SPLAT => ask_whole(bytes, t, f, cells, roots, n, row, 0),
+        SWIZZLE => ask_letters(bytes, t, f, cells, roots, n, row),
+        COMPOSE => ask_compose(bytes, t, f, types, alike, paths, cells, roots, n, row, e),
+        _ => {
+            let p = expression_operand(bytes, row, 0);
+            ask_load(bytes, t, f, cells, roots, path, n, p)
+        }
     }
-    if row.kind == ACCESS {
-        return ask_both_whole(bytes, t, f, cells, roots, n, row);
-    }
-    if row.kind == SPLAT {
-        return ask_whole(bytes, t, f, cells, roots, n, row, 0);
-    }
-    if row.kind == SWIZZLE {
-        return ask_letters(bytes, t, f, cells, roots, n, row);
-    }
-    if row.kind == COMPOSE {
-        return ask_compose(bytes, t, f, types, alike, paths, cells, roots, n, row, e);
-    }
-    let p = expression_operand(bytes, row, 0);
-    ask_load(bytes, t, f, cells, roots, path, n, p)
 }
 
 // What the need of the expression e asks of its operands. Says whether the needs are within the bound.
