@@ -41,14 +41,7 @@ pub fn join_total(
     let total = load_context(slots, to);
     let walked = load_context(slots, at);
     let joined = total.merge(cells, walked);
-    save_context(
-        slots,
-        to,
-        joined.globals,
-        joined.locals,
-        joined.args,
-        joined.retval,
-    );
+    save_context(slots, to, joined);
     let r = records_of(t, f);
     let from = r.from;
     extend(slots, EXPRS + from, TOTALS + from, r.n);

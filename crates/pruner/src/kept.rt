@@ -81,6 +81,6 @@ pub fn read_context(
     if MAX_PIECES < count {
         return Next::Refused;
     }
-    save_context(slots, slot, c.globals, c.locals, c.args, c.retval);
+    save_context(slots, slot, c);
     Next::At(next, count)
 }

@@ -17,19 +17,6 @@ pub enum Aim {
     At(Target, Found),
 }
 
-// The context in the slots from `at` on.
-pub fn load_context(slots: &[u32], at: usize) -> RequiredContext
-    requires { at + 4 ≤ length slots.now }
-    ensures { result ≡ pieces_at slots.now at }
-{
-    RequiredContext {
-        globals: slots[at],
-        locals: slots[at + 1],
-        args: slots[at + 2],
-        retval: slots[at + 3],
-    }
-}
-
 // The target that the expression e names.
 pub fn target_of(
     bytes: &[u8],
