@@ -4,9 +4,8 @@ ghost use Rattle.part.specs.Store.{Room};
 ghost use Rattle.context.specs.RequiredContext.{contains_context, pieces};
 ghost use Rattle.memory.specs.Layout.{stack_slot};
 ghost use Rattle.memory.specs.Memory.{read, context_at, Memory};
-ghost use Rattle.block.specs.Saved.{Loaded, Lowered, Dropped, Joined};
+ghost use Rattle.block.specs.Saved.{Lowered, Dropped, Joined};
 
-use context::required_context::RequiredContext;
 use memory::stretches::{clear_context, copy_context, load_context, save_context};
 
 // The context behind the one at k takes its place.

@@ -6,11 +6,10 @@ ghost use Rattle.memory.specs.Layout.{functions_slot};
 ghost use Rattle.memory.specs.Memory.{read, context_at, Memory};
 ghost use Rattle.block.specs.Total.{total_count, Totalling, TotalKept, TotalJoined, Weighing};
 
-use crate::stack::load_context;
 use leave::leave::records_of;
 use memory::layout::{EXPRS, FUNCTIONS, TOTALS};
 use memory::memory::weigh;
-use memory::stretches::{copy_context, extend, save_context};
+use memory::stretches::{copy_context, extend, load_context, save_context};
 use module::handles::FunctionHandle;
 
 // The first total of f: the context at `at`, and the records of the open function.

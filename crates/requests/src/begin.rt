@@ -9,6 +9,7 @@ ghost use Rattle.state.specs.State.{totals_sum};
 ghost use Rattle.requests.specs.Begin.{Basing, Based, Weighing, RequestLoaded, Beginning, Begins};
 
 use access::whole::{functions, globals};
+use context::required_context::RequiredContext;
 use field::field::get;
 use marks::set::clear_marks;
 use memory::layout::{GLOBALS, STACK, TOTALS};

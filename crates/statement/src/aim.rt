@@ -1,8 +1,7 @@
 // A store's target, and what is needed of it.
-ghost use Rattle.std.specs.Prelude.{◌≡◌, ◌+◌, ◌≤◌, length};
-ghost use Rattle.statement.specs.Aim.{pieces_at, Aiming, Aims};
+ghost use Rattle.statement.specs.Aim.{Aiming, Aims};
 
-use context::required_context::RequiredContext;
+use memory::stretches::load_context;
 use module::handles::ExpressionHandle;
 use part::req::Found;
 use part::store::over;
