@@ -9,22 +9,13 @@ returns-in_default c = checking_none _ _ _ c.in_default.is
 pub loop-n-init : goal.loop-n-init
 loop-n-init c = checking_start _ _ _ c.requires.q_bound.0 c.requires.q_bound.1 c.in-There.is
 
-pub look-x-requires : goal.look-x-requires
-look-x-requires c = record { good = c.requires.good; lt_n = (c.loop-n-test.true, c.loop-n.invariant.left_in) }
-
 pub returns-then-p-eq0 : goal.returns-then-p-eq0
 returns-then-p-eq0 c =
     checked_all c.in-There.is c.loop-n.invariant c.look-x.ensures c.requires.good c.if-p-eq0.true
 
-pub get-requires : goal.get-requires
-get-requires c = record { good = c.requires.good; a_bound = c.loop-n.invariant.right_in }
-
 pub returns-in_default-get : goal.returns-in_default-get
 returns-in_default-get c =
     checked_gone c.in-There.is c.loop-n.invariant c.look-x.ensures c.if-p-eq0.false c.get.ensures c.in_default-get.is
-
-pub loop-n-smaller : goal.loop-n-smaller
-loop-n-smaller c = c.look-x.ensures.child_low
 
 pub loop-n-preserved : goal.loop-n-preserved
 loop-n-preserved c =
