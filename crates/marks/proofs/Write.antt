@@ -107,9 +107,6 @@ slice_written xs from ys h =
     (write_all (slice xs from (length ys)) ys (sym (slice-long xs from (length ys) h)))
 
 -- lists that a loop goes through, with one element more
-pub zeros_more : (n : ℕ) → ◌≡◌ {A = List ℕ} (replicate (n + 1) 0) (replicate n 0 ++ (0 ∷ []))
-zeros_more n = sym (replicate-append-replicate n 1 0)
-
 pub slice-more : (xs : List ℕ) (from n : ℕ) → from + n < length xs → slice xs from (n + 1) ≡ slice xs from n ++ (get_or xs (from + n) 0 ∷ [])
 slice-more xs from n h =
     rw (add-one n, take-suc (drop from xs) n 0 (omega (arith, length-drop from xs)), get_or-drop from xs n 0)
