@@ -7,7 +7,7 @@ use native.Mathlib.Numerals.{add-one}
 use native.Mathlib.Omega.{arith}
 use mir.Val.{bool_byte}
 use lib.Dec.{eqb}
-use lib.ListN.{length, get_or, take, set, replicate, length-replicate}
+use lib.ListN.{length, get_or, take, set}
 use lib.Seq.{take-suc, take-length, length-take-le}
 use Rattle.module.specs.Decode.{tab}
 use Rattle.module.proofs.Tab.{length-tab}
