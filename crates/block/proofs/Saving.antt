@@ -15,7 +15,7 @@ use Rattle.context.specs.Contexts.{context_of, HasContext, MadeContext}
 use Rattle.context.specs.declared.required_context.RequiredContext.{RequiredContext as Pieces}
 use Rattle.memory.specs.Layout.{functions_slot, stack_slot}
 use Rattle.memory.specs.Memory.{read, context_at, with_context, Memory}
-use Rattle.memory.specs.Stretches.{four_set}
+use Rattle.memory.specs.Stretches.{four_set, pieces_at}
 use Rattle.memory.proofs.Slots.{read_at, kept_memory, kept_read}
 use Rattle.memory.proofs.Runs.{four_read, copy_read, clear_read, four_memory, four_long}
 use Rattle.block.specs.Saved.{Saved, Popped, Loaded, Lowered, Dropped, Joined}
@@ -34,6 +34,14 @@ pub context_again : (ps : List PartReq) (k : ℕ) → with_context ps k (context
 context_again ps k = rw (set-again ps k, set-again ps (k + 1), set-again ps (k + 2), set-again ps (k + 3))
 
 -- the pieces of a context that was loaded
+pub loaded : {rs : List ℕ} {k : ℕ} {c : Pieces} → c ≡ pieces_at rs k → Loaded rs k c
+loaded e = record {
+  globals = ap (λ (x : Pieces). x.globals) e;
+  locals = ap (λ (x : Pieces). x.locals) e;
+  args = ap (λ (x : Pieces). x.args) e;
+  retval = ap (λ (x : Pieces). x.retval) e;
+}
+
 module _ {s rs : List ℕ} {k : ℕ} {c : Pieces} (m : Memory s rs) (l : k + 4 ≤ length rs) (h : Loaded rs k c) where
   pub loaded_is : context_of s c ≡ context_at (read s rs) k
   loaded_is =

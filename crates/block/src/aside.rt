@@ -8,9 +8,9 @@ ghost use Rattle.memory.specs.Memory.{Memory};
 ghost use Rattle.block.specs.Saved.{Saved};
 ghost use Rattle.block.specs.Aside.{or_none, from_aside, Asiding, Aside, Entry};
 
-use crate::stack::load_context;
+use context::required_context::RequiredContext;
 use memory::layout::RESULT;
-use memory::stretches::save_context;
+use memory::stretches::{load_context, save_context};
 use part::limits::SPINE;
 use part::req::get;
 use part::store::make;
@@ -49,5 +49,11 @@ pub fn take_back(cells: &[u32], slots: &mut [u32], k: usize)
     let locals = map_of(cells, a, 1);
     let args = map_of(cells, a, 2);
     let retval = map_of(cells, a, 3);
-    save_context(slots, k, globals, locals, args, retval);
+    let c = RequiredContext {
+        globals,
+        locals,
+        args,
+        retval,
+    };
+    save_context(slots, k, c);
 }

@@ -4,6 +4,7 @@ ghost use Rattle.walk.specs.Marks.{write_marks};
 ghost use Rattle.memory.specs.Stretches.{four_set};
 ghost use Rattle.marks.specs.Places.{start_in, size_in, Inside};
 
+use context::required_context::RequiredContext;
 use marks::set::clear_marks;
 use memory::stretches::save_context;
 use module::handles::FunctionHandle;
@@ -22,7 +23,12 @@ pub fn enter(
     ensures slots_after { slots.new ≡ four_set slots.old (at + 4) (get_or slots.old at 0) 2 2 retval }
     ensures open_after { «open».new ≡ write_marks «open».old (start_in places.now g.0) (replicate (size_in places.now g.0) 0) }
 {
-    let globals = slots[at];
-    save_context(slots, at + 4, globals, 2, 2, retval);
+    let c = RequiredContext {
+        globals: slots[at],
+        locals: 2,
+        args: 2,
+        retval,
+    };
+    save_context(slots, at + 4, c);
     clear_marks(open, places, g);
 }

@@ -4,27 +4,9 @@ ghost use Rattle.part.specs.Store.{Room};
 ghost use Rattle.context.specs.RequiredContext.{contains_context, pieces};
 ghost use Rattle.memory.specs.Layout.{stack_slot};
 ghost use Rattle.memory.specs.Memory.{read, context_at, Memory};
-ghost use Rattle.block.specs.Saved.{Loaded, Lowered, Dropped, Joined};
+ghost use Rattle.block.specs.Saved.{Lowered, Dropped, Joined};
 
-use context::required_context::RequiredContext;
-use memory::stretches::{clear_context, copy_context, save_context};
-
-// The context in the four slots from k on.
-pub fn load_context(slots: &[u32], k: usize) -> RequiredContext
-    requires { k + 4 ≤ length slots.now }
-    ensures { Loaded slots.now k result }
-{
-    let globals = slots[k];
-    let locals = slots[k + 1];
-    let args = slots[k + 2];
-    let retval = slots[k + 3];
-    RequiredContext {
-        globals: globals,
-        locals: locals,
-        args: args,
-        retval: retval,
-    }
-}
+use memory::stretches::{clear_context, copy_context, load_context, save_context};
 
 // The context behind the one at k takes its place.
 pub fn lower(slots: &mut [u32], k: usize)
@@ -53,14 +35,7 @@ pub fn join(cells: &mut [u32], slots: &mut [u32], k: usize) -> bool
     let lower = load_context(slots, k);
     let upper = load_context(slots, k + 4);
     let joined = lower.merge(cells, upper);
-    save_context(
-        slots,
-        k,
-        joined.globals,
-        joined.locals,
-        joined.args,
-        joined.retval,
-    );
+    save_context(slots, k, joined);
     clear_context(slots, k + 4);
     joined.over(cells)
 }

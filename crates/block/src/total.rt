@@ -6,11 +6,10 @@ ghost use Rattle.memory.specs.Layout.{functions_slot};
 ghost use Rattle.memory.specs.Memory.{read, context_at, Memory};
 ghost use Rattle.block.specs.Total.{total_count, Totalling, TotalKept, TotalJoined, Weighing};
 
-use crate::stack::load_context;
 use leave::leave::records_of;
 use memory::layout::{EXPRS, FUNCTIONS, TOTALS};
 use memory::memory::weigh;
-use memory::stretches::{copy_context, extend, save_context};
+use memory::stretches::{copy_context, extend, load_context, save_context};
 use module::handles::FunctionHandle;
 
 // The first total of f: the context at `at`, and the records of the open function.
@@ -41,14 +40,7 @@ pub fn join_total(
     let total = load_context(slots, to);
     let walked = load_context(slots, at);
     let joined = total.merge(cells, walked);
-    save_context(
-        slots,
-        to,
-        joined.globals,
-        joined.locals,
-        joined.args,
-        joined.retval,
-    );
+    save_context(slots, to, joined);
     let r = records_of(t, f);
     let from = r.from;
     extend(slots, EXPRS + from, TOTALS + from, r.n);

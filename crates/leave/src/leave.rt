@@ -11,6 +11,7 @@ use module::handles::FunctionHandle;
 use module::tables::row_at;
 
 // Slots of records, from the first of a region on.
+// Stays: who takes it wants a begin and a count, and a `Range` would give the count by a subtraction.
 #[derive(Clone, Copy)]
 pub struct Stretch {
     pub from: usize,

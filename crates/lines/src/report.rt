@@ -13,9 +13,9 @@ use crate::records::write_records;
 use crate::required::write_required;
 use crate::statements::write_statements;
 use crate::text::{write_byte, write_number, write_word};
-use context::required_context::RequiredContext;
 use field::limits::{MAX_EXPRESSIONS, MAX_PIECES, MAX_STATEMENTS};
 use memory::layout::EXPRS;
+use memory::stretches::load_context;
 use module::handles::FunctionHandle;
 use module::tables::row_at;
 
@@ -30,16 +30,7 @@ fn write_context_at(out: &mut [u8], at: usize, cells: &[u32], slots: &[u32], k: 
     requires { Memory cells.now slots.now × (k + 4 ≤ length slots.now) × Fits at (context_text (context_at (read cells.now slots.now) k)) }
     ensures { Wrote out.old out.new at (context_text (context_at (read cells.now slots.now) k)) result }
 {
-    let globals = slots[k];
-    let locals = slots[k + 1];
-    let args = slots[k + 2];
-    let retval = slots[k + 3];
-    let c = RequiredContext {
-        globals: globals,
-        locals: locals,
-        args: args,
-        retval: retval,
-    };
+    let c = load_context(slots, k);
     write_context(out, at, cells, c)
 }
 

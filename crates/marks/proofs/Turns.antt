@@ -1,4 +1,4 @@
--- What the loops over a lent part have written after k turns, for one turn more and at the end; and the marks of an emit in the same way.
+-- What the loop over a lent part has written after k turns, for one turn more and at the end; and the marks of an emit in the same way.
 use mathlib.Core.Path.{◌≡◌, refl, sym, ap, ◌∙◌}
 use mathlib.Core.Bool.{Bool, true, false, not, ◌||◌}
 use mathlib.Core.List.{List, [], ◌∷◌, ◌++◌}
@@ -7,14 +7,14 @@ use native.Mathlib.Numerals.{add-one}
 use native.Mathlib.Omega.{arith}
 use mir.Val.{bool_byte}
 use lib.Dec.{eqb}
-use lib.ListN.{length, get_or, take, set, replicate, length-replicate}
+use lib.ListN.{length, get_or, take, set}
 use lib.Seq.{take-suc, take-length, length-take-le}
 use Rattle.module.specs.Decode.{tab}
 use Rattle.module.proofs.Tab.{length-tab}
 use Rattle.walk.specs.StatementReq.{any, mark, marks_of}
 use Rattle.walk.specs.Marks.{write_marks, add_mark, add_marks}
 use Rattle.marks.specs.Places.{slice, recorded_in}
-use Rattle.marks.proofs.Write.{write_long, write_all, write_one, write_after, write_more, slice-long, slice-more, zeros_more, add_more, add-long}
+use Rattle.marks.proofs.Write.{write_long, write_all, write_one, write_after, write_more, slice-long, slice-more, add_more, add-long}
 
 pub still_long : (xs ys part : List ℕ) (at : ℕ) → part ≡ write_marks xs at ys → length part ≡ length xs
 still_long xs ys part at h = ap length h ∙ write_long xs at ys
@@ -26,21 +26,7 @@ all_written xs ys part h l = h ∙ write_all xs ys l
 turn : (xs ys part : List ℕ) (k b : ℕ) → part ≡ write_marks xs 0 ys → length ys ≡ k → set part k b ≡ write_marks xs 0 (ys ++ (b ∷ []))
 turn xs ys part k b h l = let z : 0 + k ≡ k = omega arith in rw h (rw z at (write_more xs 0 k ys b l))
 
-pub clear_turn : (xs part : List ℕ) (k : ℕ) → part ≡ write_marks xs 0 (replicate k 0) → set part k 0 ≡ write_marks xs 0 (replicate (k + 1) 0)
-clear_turn xs part k h = rw (zeros_more k) (turn xs (replicate k 0) part k 0 h (length-replicate k 0))
-
-pub clear_done : (xs part : List ℕ) (k : ℕ) → k ≡ length xs → part ≡ write_marks xs 0 (replicate k 0) → part ≡ replicate (length xs) 0
-clear_done xs part k e h = rw (← e) (all_written xs (replicate k 0) part h (length-replicate k 0 ∙ e))
-
 module _ (xs marks part : List ℕ) (at k : ℕ) (fits : at + length xs ≤ length marks) where
-  pub copy_turn : k < length xs → part ≡ write_marks xs 0 (slice marks at k) → set part k (get_or marks (at + k) 0) ≡ write_marks xs 0 (slice marks at (k + 1))
-  copy_turn l h =
-      let i : at + k < length marks = omega arith in
-      rw (slice-more marks at k i) (turn xs (slice marks at k) part k (get_or marks (at + k) 0) h (slice-long marks at k (omega arith)))
-
-  pub copy_done : k ≡ length xs → part ≡ write_marks xs 0 (slice marks at k) → part ≡ slice marks at (length xs)
-  copy_done e h = rw (← e) (all_written xs (slice marks at k) part h (slice-long marks at k (omega arith) ∙ e))
-
   same : k ≤ length xs → length (take k xs) ≡ length (slice marks at k)
   same l = length-take-le k xs l ∙ sym (slice-long marks at k (omega arith))
 

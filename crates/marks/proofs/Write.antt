@@ -4,7 +4,7 @@ use mathlib.Core.List.{List, [], ◌∷◌, ◌++◌, append_assoc, append-nil}
 use Prim.Native.Nat.{ℕ, suc, ◌+◌, ◌<◌, ◌≤◌}
 use native.Mathlib.Numerals.{add-one}
 use native.Mathlib.Omega.{arith}
-use lib.ListN.{length, get_or, take, drop, set, replicate, length-drop, drop_of_length-le, replicate-append-replicate}
+use lib.ListN.{length, get_or, take, drop, set, length-drop, drop_of_length-le}
 use lib.Seq.{sets, length-sets, sets-eq, take-set-le, take-set-lt, drop-set-lt, drop-set-add, take-suc, get_or-drop, drop-drop, length-take-le, get_or-set_other}
 use Rattle.walk.specs.Marks.{write_marks, add_mark, add_marks}
 use Rattle.marks.specs.Places.{slice}
@@ -107,9 +107,6 @@ slice_written xs from ys h =
     (write_all (slice xs from (length ys)) ys (sym (slice-long xs from (length ys) h)))
 
 -- lists that a loop goes through, with one element more
-pub zeros_more : (n : ℕ) → ◌≡◌ {A = List ℕ} (replicate (n + 1) 0) (replicate n 0 ++ (0 ∷ []))
-zeros_more n = sym (replicate-append-replicate n 1 0)
-
 pub slice-more : (xs : List ℕ) (from n : ℕ) → from + n < length xs → slice xs from (n + 1) ≡ slice xs from n ++ (get_or xs (from + n) 0 ∷ [])
 slice-more xs from n h =
     rw (add-one n, take-suc (drop from xs) n 0 (omega (arith, length-drop from xs)), get_or-drop from xs n 0)

@@ -16,7 +16,7 @@ use Rattle.part.specs.Store.{top, part, Good, Made, Seen}
 use Rattle.part.proofs.Pieces.{part-0, part-1, part-2, not_all, not_exist}
 use Rattle.part.proofs.Write.{stay}
 use Rattle.part.proofs.Making.{kept_trans}
-use Rattle.memory.specs.Want.{kid, after, tail, downs, wraps, core, asks, wrapped, inside, popped, once, Asking, asked, Wants, first, Child}
+use Rattle.memory.specs.Want.{kid, after, tail, downs, wraps, core, asks, wrapped, inside, popped, is_plain, once, Asking, asked, Wants, first, Child}
 use Rattle.memory.specs.declared.want.Want.{Want}
 use Rattle.std.specs.Prelude.{Option, Some, None, IsSome, IsSomeAnd}
 
@@ -365,18 +365,14 @@ is-exist s (suc zero) = rw part-1
 is-exist s (suc (suc n)) = rw (not_exist s (suc (suc n)) (omega arith)) (ne_eqb (suc (suc n)) 1 (omega arith))
 
 module _ (w : Want) (p : PartReq) (q : Asking w p) where
-  pub all_wrapped : 0 < w.up → false ≡ is_all (asks w p)
-  all_wrapped h = rw (asks_popped w p q h)
+  pub plain_wrapped : (k : ℕ) → 0 < w.up → false ≡ is_plain k (asks w p)
+  plain_wrapped zero h = rw (asks_popped w p q h)
+  plain_wrapped (suc k) h = rw (asks_popped w p q h)
 
-  pub exist_wrapped : 0 < w.up → false ≡ is_exist (asks w p)
-  exist_wrapped h = rw (asks_popped w p q h)
-
-  module _ (s : List ℕ) (n : ℕ) (up : w.up ≤ 0) (e : part s n ≡ core w p) where
-    pub all_core : eqb n 0 ≡ is_all (asks w p)
-    all_core = rw (asks_core w p up, ← e) (is-all s n)
-
-    pub exist_core : eqb n 1 ≡ is_exist (asks w p)
-    exist_core = rw (asks_core w p up, ← e) (is-exist s n)
+  pub plain_core : (s : List ℕ) (n : ℕ) (k : ℕ) → w.up ≤ 0 → part s n ≡ core w p → k < 2 → eqb n k ≡ is_plain k (asks w p)
+  plain_core s n zero up e h = rw (asks_core w p up, ← e) (is-all s n)
+  plain_core s n (suc zero) up e h = rw (asks_core w p up, ← e) (is-exist s n)
+  plain_core s n (suc (suc k)) up e h = absurd (omega arith)
 
 -- a turn of `piece`
 pub made_as : {s t : List ℕ} {p q : PartReq} {k r : ℕ} → Made s t p k r → p ≡ q → Made s t q k r

@@ -1,6 +1,11 @@
 -- Stretches of slots that are written at once: the four of a context, the records of a function copied over those of its total, and records that are
 -- forgotten.
 use Rattle.std.specs.Prelude.{ℕ, zero, suc, ◌+◌, cond, List, eqb, get_or, set}
+use Rattle.context.specs.declared.required_context.RequiredContext.{RequiredContext}
+
+-- the context in the four slots from `at` on, by its pieces
+abbrev pub pieces_at : List ℕ → (at : ℕ) → RequiredContext
+pieces_at rs at = record { globals = get_or rs at 0; locals = get_or rs (at + 1) 0; args = get_or rs (at + 2) 0; retval = get_or rs (at + 3) 0 }
 
 -- the four slots from `at` on
 abbrev pub four_set : List ℕ → (at a b c d : ℕ) → List ℕ

@@ -1,7 +1,7 @@
 -- A part by value: the part in a slot, the positions of the entries on the way down into it, and the indexes wrapped around what is found there.
-use Rattle.std.specs.Prelude.{ℕ, zero, suc, ◌+◌, ◌-◌, ◌*◌, ◌<◌, ◌≤◌, ◌≡◌, false, List, length, get_or, set, replicate, Option, Some, None}
+use Rattle.std.specs.Prelude.{ℕ, zero, suc, ◌+◌, ◌-◌, ◌*◌, ◌<◌, ◌≤◌, ◌≡◌, Bool, false, List, length, get_or, set, replicate, Option, Some, None}
 use Rattle.field.specs.Limits.{max_depth}
-use Rattle.part.specs.PartReq.{PartReq, all, exist, none, more, depth, over}
+use Rattle.part.specs.PartReq.{PartReq, all, exist, none, more, depth, over, is_all, is_exist}
 use Rattle.part.specs.Store.{part}
 use Rattle.memory.specs.Layout.{globals_slot}
 use Rattle.memory.specs.declared.want.Want.{Want}
@@ -66,6 +66,11 @@ pub record Asking (w : Want) (p : PartReq) : Type 0 where
   pub deep : w.down + once w.down (depth (core w p)) ≤ max_depth
   pub high : w.up + once w.up (depth (core w p)) ≤ max_depth
   pub fine : over (asks w p) ≡ false
+
+-- whether p is all, or exist, by the number of that piece
+abbrev pub is_plain : ℕ → PartReq → Bool
+is_plain zero p = is_all p
+is_plain (suc n) p = is_exist p
 
 -- the part that w asks of the slots rs
 abbrev pub asked : List ℕ → List ℕ → Want → PartReq

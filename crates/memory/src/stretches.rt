@@ -1,16 +1,31 @@
 // Stretches of slots: the four of a context, and the records of a function.
 ghost use Rattle.std.specs.Prelude.{◌≡◌, ◌+◌, ◌≤◌, ◌<◌, length, get_or};
-ghost use Rattle.memory.specs.Stretches.{four_set, copied, forgotten};
+ghost use Rattle.memory.specs.Stretches.{four_set, pieces_at, copied, forgotten};
 
-// A context, by the pieces of its maps, into the four slots from `at` on.
-pub fn save_context(slots: &mut [u32], at: usize, globals: u32, locals: u32, args: u32, retval: u32)
-    requires { at + 4 ≤ length slots.old }
-    ensures { slots.new ≡ four_set slots.old at globals locals args retval }
+use context::required_context::RequiredContext;
+
+// The context in the four slots from `at` on.
+pub fn load_context(slots: &[u32], at: usize) -> RequiredContext
+    requires { at + 4 ≤ length slots.now }
+    ensures { result ≡ pieces_at slots.now at }
 {
-    slots[at] = globals;
-    slots[at + 1] = locals;
-    slots[at + 2] = args;
-    slots[at + 3] = retval;
+    RequiredContext {
+        globals: slots[at],
+        locals: slots[at + 1],
+        args: slots[at + 2],
+        retval: slots[at + 3],
+    }
+}
+
+// A context into the four slots from `at` on.
+pub fn save_context(slots: &mut [u32], at: usize, c: RequiredContext)
+    requires { at + 4 ≤ length slots.old }
+    ensures { slots.new ≡ four_set slots.old at c.globals c.locals c.args c.retval }
+{
+    slots[at] = c.globals;
+    slots[at + 1] = c.locals;
+    slots[at + 2] = c.args;
+    slots[at + 3] = c.retval;
 }
 
 // The context in the slots from `from` on, into those from `to` on.
@@ -18,11 +33,8 @@ pub fn copy_context(slots: &mut [u32], from: usize, to: usize)
     requires { (from + 4 ≤ length slots.old) × (to + 4 ≤ length slots.old) }
     ensures { slots.new ≡ four_set slots.old to (get_or slots.old from 0) (get_or slots.old (from + 1) 0) (get_or slots.old (from + 2) 0) (get_or slots.old (from + 3) 0) }
 {
-    let globals = slots[from];
-    let locals = slots[from + 1];
-    let args = slots[from + 2];
-    let retval = slots[from + 3];
-    save_context(slots, to, globals, locals, args, retval);
+    let c = load_context(slots, from);
+    save_context(slots, to, c);
 }
 
 // The empty context, into the four slots from `at` on.
@@ -30,7 +42,13 @@ pub fn clear_context(slots: &mut [u32], at: usize)
     requires { at + 4 ≤ length slots.old }
     ensures { slots.new ≡ four_set slots.old at 2 2 2 2 }
 {
-    save_context(slots, at, 2, 2, 2, 2);
+    let empty = RequiredContext {
+        globals: 2,
+        locals: 2,
+        args: 2,
+        retval: 2,
+    };
+    save_context(slots, at, empty);
 }
 
 // `extend`: n records from `from` on, where there are any, over those from `to` on.

@@ -3,7 +3,7 @@ ghost use Rattle.std.specs.Prelude.{◌≡◌, ◌+◌, ◌*◌, ◌≤◌, ◌<
 ghost use Rattle.field.specs.Limits.{max_depth};
 ghost use Rattle.part.specs.PartReq.{none, more, over, spine, is_all, is_exist};
 ghost use Rattle.part.specs.Store.{top, part, Good, Room, Made};
-ghost use Rattle.memory.specs.Want.{kid, tail, core, asks, want_of, wrapped, inside, popped, asked, Wants, first, Child};
+ghost use Rattle.memory.specs.Want.{kid, tail, core, asks, want_of, wrapped, inside, popped, is_plain, asked, Wants, first, Child};
 ghost use Rattle.memory.specs.Memory.{Memory};
 ghost use Rattle.memory.specs.Layout.{flat_slot};
 ghost use Rattle.memory.specs.Picks.{digit_of, Letters, FourDigits, Picks};
@@ -152,17 +152,27 @@ pub fn wrap_over(cells: &[u32], slots: &[u32], w: Want, i: u32) -> bool
     MAX_DEPTH <= d + w.up || MAX_ENTRIES < 1
 }
 
-// Whether w asks all.
-pub fn is_all(cells: &[u32], slots: &[u32], w: Want) -> bool
-    requires { Memory cells.now slots.now × Wants cells.now slots.now w }
-    ensures { result ≡ is_all (asked cells.now slots.now w) }
+// Whether w asks the piece p alone, which is no cell: all, or exist.
+#[inline]
+fn is_plain(cells: &[u32], slots: &[u32], w: Want, p: u32) -> bool
+    requires memory { Memory cells.now slots.now × Wants cells.now slots.now w }
+    requires p_lt2 { p < 2 }
+    ensures { result ≡ is_plain p (asked cells.now slots.now w) }
 {
     if 0 < w.up {
         return false;
     }
     let slot = w.slot;
     let n = reach(cells, w, slots[slot]);
-    n == 0
+    n == p
+}
+
+// Whether w asks all.
+pub fn is_all(cells: &[u32], slots: &[u32], w: Want) -> bool
+    requires { Memory cells.now slots.now × Wants cells.now slots.now w }
+    ensures { result ≡ is_all (asked cells.now slots.now w) }
+{
+    is_plain(cells, slots, w, 0)
 }
 
 // Whether w asks only that it is there.
@@ -170,12 +180,7 @@ pub fn is_exist(cells: &[u32], slots: &[u32], w: Want) -> bool
     requires { Memory cells.now slots.now × Wants cells.now slots.now w }
     ensures { result ≡ is_exist (asked cells.now slots.now w) }
 {
-    if 0 < w.up {
-        return false;
-    }
-    let slot = w.slot;
-    let n = reach(cells, w, slots[slot]);
-    n == 1
+    is_plain(cells, slots, w, 1)
 }
 
 // The index of the entry k of what w asks, if there is one.

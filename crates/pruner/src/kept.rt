@@ -72,6 +72,6 @@ pub fn read_context(
     if MAX_PIECES < count {
         return None;
     }
-    save_context(slots, slot, c.globals, c.locals, c.args, c.retval);
+    save_context(slots, slot, c);
     Some((next, count))
 }

@@ -9,6 +9,7 @@ ghost use Rattle.state.specs.State.{totals_sum};
 ghost use Rattle.requests.specs.Begin.{Basing, Based, Weighing, RequestLoaded, Beginning, Begins};
 
 use access::whole::{functions, globals};
+use context::required_context::RequiredContext;
 use field::field::get;
 use marks::set::clear_marks;
 use memory::layout::{GLOBALS, STACK, TOTALS};
@@ -40,7 +41,13 @@ fn load_base(cells: &mut [u32], slots: &mut [u32], q: Request)
 {
     let retval = q.retval;
     let entry = returned(cells, retval);
-    save_context(slots, STACK, q.globals, 2, 2, entry);
+    let base = RequiredContext {
+        globals: q.globals,
+        locals: 2,
+        args: 2,
+        retval: entry,
+    };
+    save_context(slots, STACK, base);
 }
 
 // What the bytes of a request ask of a module with so many functions and globals, in a memory that has nothing else.

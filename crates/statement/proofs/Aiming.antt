@@ -29,7 +29,8 @@ use Rattle.state.specs.declared.frame.Frame.{Frame}
 use Rattle.target.specs.Target.{HasTarget, HasResolved, var_ref_part, Resolves}
 use Rattle.target.specs.declared.resolve.Target.{Target}
 use Rattle.std.specs.Prelude.{Option, Some, None}
-use Rattle.statement.specs.Aim.{pieces_at, Aiming, Aims}
+use Rattle.memory.specs.Stretches.{pieces_at}
+use Rattle.statement.specs.Aim.{Aiming, Aims}
 use Rattle.statement.specs.declared.aim.Aim.TheVariants.{Refuse, At}
 use Rattle.statement.proofs.Paths.{path_few}
 

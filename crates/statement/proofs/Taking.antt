@@ -32,7 +32,7 @@ use Rattle.state.specs.declared.frame.Frame as declared
 use Rattle.state.proofs.Others.{others_totals, ready_fits, others_apart, apart_trans}
 use Rattle.target.specs.Target.{HasTarget}
 use Rattle.target.specs.declared.resolve.Target.{Target}
-use Rattle.statement.specs.Aim.{pieces_at}
+use Rattle.memory.specs.Stretches.{pieces_at}
 use Rattle.statement.specs.Stores.{Taking, Takes}
 use Rattle.statement.specs.declared.store.Need.TheVariants.{Refuse, Part}
 use Rattle.statement.proofs.Placed.{Placed, placed_state, placed_ready, placed_others}

@@ -1,5 +1,5 @@
 -- A store's target as the code finds it: the variable and its part, and what is needed of that; or a refusal.
-use Rattle.std.specs.Prelude.{◌≡◌, List, ℕ, ◌+◌, ◌<◌, ◌≤◌, length, get_or, Option}
+use Rattle.std.specs.Prelude.{◌≡◌, List, ℕ, ◌+◌, ◌<◌, ◌≤◌, length, Option}
 use Rattle.field.specs.Limits.{max_depth, max_expressions}
 use Rattle.part.specs.PartReq.{entries}
 use Rattle.part.specs.Store.{top, part, Kept}
@@ -8,7 +8,6 @@ use Rattle.module.specs.Module.{Module, ExpressionHandle}
 use Rattle.module.specs.Tables.{module_of}
 use Rattle.context.specs.RequiredContext.{RequiredContext}
 use Rattle.context.specs.Contexts.{variable_of}
-use Rattle.context.specs.declared.required_context.RequiredContext.{RequiredContext as Pieces}
 use Rattle.walk.specs.State.{State, went, halt}
 use Rattle.walk.specs.Resolve.{function_at, store_required}
 use Rattle.walk.specs.Statement.{here, target}
@@ -20,10 +19,6 @@ use Rattle.target.specs.Target.{HasTarget}
 use Rattle.target.specs.declared.resolve.Target.{Target}
 use Rattle.statement.specs.declared.aim.Aim.{Aim}
 use Rattle.statement.specs.declared.aim.Aim.TheVariants.{Refuse, At}
-
--- the pieces in the four slots from `at` on
-abbrev pub pieces_at : List ℕ → (at : ℕ) → Pieces
-pieces_at rs at = record { globals = get_or rs at 0; locals = get_or rs (at + 1) 0; args = get_or rs (at + 2) 0; retval = get_or rs (at + 3) 0 }
 
 -- what the search of a target finds: the visit has begun, and the expression is there
 pub record Aiming (bytes t s rs : List ℕ) (fr : Frame) (e : ExpressionHandle) : Type 0 where

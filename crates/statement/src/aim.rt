@@ -1,8 +1,7 @@
 // A store's target, and what is needed of it.
-ghost use Rattle.std.specs.Prelude.{◌≡◌, ◌+◌, ◌≤◌, length};
-ghost use Rattle.statement.specs.Aim.{pieces_at, Aiming, Aims};
+ghost use Rattle.statement.specs.Aim.{Aiming, Aims};
 
-use context::required_context::RequiredContext;
+use memory::stretches::load_context;
 use module::handles::ExpressionHandle;
 use part::store::over;
 use state::frame::Frame;
@@ -14,19 +13,6 @@ use target::store::store_required;
 pub enum Aim {
     Refuse(u32),
     At(Target, Option<u32>),
-}
-
-// The context in the slots from `at` on.
-pub fn load_context(slots: &[u32], at: usize) -> RequiredContext
-    requires { at + 4 ≤ length slots.now }
-    ensures { result ≡ pieces_at slots.now at }
-{
-    RequiredContext {
-        globals: slots[at],
-        locals: slots[at + 1],
-        args: slots[at + 2],
-        retval: slots[at + 3],
-    }
 }
 
 // The target that the expression e names.

@@ -5,9 +5,9 @@ ghost use Rattle.context.specs.Types.{types_of};
 ghost use Rattle.statement.specs.Aim.{Aiming};
 ghost use Rattle.statement.specs.Stores.{Taking, Takes, Stores};
 
-use crate::aim::{Aim, load_context, target_of};
+use crate::aim::{Aim, target_of};
 use memory::layout::ASK;
-use memory::stretches::save_context;
+use memory::stretches::{load_context, save_context};
 use module::handles::ExpressionHandle;
 use state::frame::Frame;
 use target::resolve::Target;
@@ -43,7 +43,7 @@ fn take(
             if d.over(cells) {
                 return Need::Refuse(15);
             }
-            save_context(slots, fr.at, d.globals, d.locals, d.args, d.retval);
+            save_context(slots, fr.at, d);
             slots[ASK] = p;
             Need::Part
         }

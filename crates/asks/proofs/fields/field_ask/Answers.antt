@@ -11,9 +11,6 @@ loop-k-init c = fields-first _ _ _ _ _ c.ways-rest.ensures
 pub returns-then-rest-eq0 : goal.returns-then-rest-eq0
 returns-then-rest-eq0 c = told_end c.requires.1 (fields_none c.loop-k.invariant c.if-rest-eq0.true)
 
-pub want_by-want-requires : goal.want_by-want-requires
-want_by-want-requires c = c.requires
-
 pub returns-then-skip-eq0 : goal.returns-then-skip-eq0
 returns-then-skip-eq0 c =
     told_operand _ c.want_by-want.ensures (fields_found c.loop-k.invariant c.loop-k-test.true c.expression_operand-x.ensures refl c.asks_by.ensures c.if-asks_by.true c.if-skip-eq0.true)

@@ -1,11 +1,12 @@
 -- `block::total::join_total` meets its contract: the sum of both contexts, and then a copy of the records.
+use Rattle.block.proofs.Saving.{loaded}
 use Rattle.block.proofs.Making.{joined_asks, total_joins, total_joined}
 use native.Mathlib.Omega.{arith}
 use Rattle.block.proofs.total.join_total.Goals as goal
 
 pub merge-joined-requires : goal.merge-joined-requires
 merge-joined-requires c =
-    let q9 = total_joins c.requires.totalling c.requires.memory c.load_context-total.ensures c.load_context-walked.ensures c.requires.room in
+    let q9 = total_joins c.requires.totalling c.requires.memory (loaded c.load_context-total.ensures) (loaded c.load_context-walked.ensures) c.requires.room in
     record { good = q9.0; has_context = q9.1.0; room = q9.1.1 }
 
 pub overflow_add-from : goal.overflow_add-from
@@ -20,4 +21,4 @@ extend-requires c =
 
 pub returns : goal.returns
 returns c =
-    total_joined c.requires.totalling c.requires.memory c.load_context-total.ensures c.load_context-walked.ensures c.merge-joined.result c.records_of-r.ensures c.merge-joined.ensures c.save_context.ensures c.extend.ensures c.over.ensures
+    total_joined c.requires.totalling c.requires.memory (loaded c.load_context-total.ensures) (loaded c.load_context-walked.ensures) c.merge-joined.result c.records_of-r.ensures c.merge-joined.ensures c.save_context.ensures c.extend.ensures c.over.ensures

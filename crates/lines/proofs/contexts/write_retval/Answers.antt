@@ -8,9 +8,6 @@ use Rattle.lines.proofs.contexts.write_retval.Goals as goal
 pub returns-then-map-lt3 : goal.returns-then-map-lt3
 returns-then-map-lt3 c = wrote_none (no_retval _ _ c.if-map-lt3.true)
 
-pub look-x-requires : goal.look-x-requires
-look-x-requires c = record { good = c.requires.good; lt_n = (c.if-map-lt3.false, c.requires.map_bound.0) }
-
 pub write_word-part-requires : goal.write_word-part-requires
 write_word-part-requires c = rooms_first (retval_rooms c.look-x.ensures c.requires.map_bound.1)
 

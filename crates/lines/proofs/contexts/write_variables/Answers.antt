@@ -8,15 +8,9 @@ use Rattle.lines.proofs.contexts.write_variables.Goals as goal
 pub loop-n-init : goal.loop-n-init
 loop-n-init c = (c.requires.map_bound.0, along_none _ _ refl)
 
-pub look-x-requires : goal.look-x-requires
-look-x-requires c = record { good = c.requires.good; lt_n = (omega arith, c.loop-n.invariant.0) }
-
 pub write_line-next-requires : goal.write_line-next-requires
 write_line-next-requires c =
     record { good = c.requires.good; p_bound = (omega (arith, c.look-x.ensures.child_low, c.loop-n.invariant.0), along_fits c.requires.map_bound.1 c.loop-n.invariant.1 (variable_line c.args.word.now c.look-x.ensures c.variable_of-k.ensures)) }
-
-pub loop-n-smaller : goal.loop-n-smaller
-loop-n-smaller c = omega (arith, c.look-x.ensures.rest_low)
 
 pub loop-n-preserved : goal.loop-n-preserved
 loop-n-preserved c =

@@ -7,12 +7,6 @@ use Rattle.lines.proofs.own_marks.write_own_marks.Goals as goal
 pub loop-k-init : goal.loop-k-init
 loop-k-init c = along_none _ _ (marks_all c.args.marks.now c.args.from c.args.n)
 
-pub overflow_add-from : goal.overflow_add-from
-overflow_add-from c = omega (arith, c.requires.0)
-
-pub bounds-marks-from : goal.bounds-marks-from
-bounds-marks-from c = omega (arith, c.requires.0)
-
 pub write_mark-next-requires : goal.write_mark-next-requires
 write_mark-next-requires c =
     along_fits c.requires.1 c.loop-k.invariant (marks_next c.args.marks.now c.args.from c.args.n c.loop-k.k c.requires.0 (omega arith))

@@ -13,12 +13,6 @@ shape_of-out-then-n-lt3 t c = wrote_long c.write_plain.ensures
 pub returns-then-n-lt3 : goal.returns-then-n-lt3
 returns-then-n-lt3 t c = wrote_as (sym (plain_is _ _ _ c.if-n-lt3.true)) c.write_plain.ensures
 
-pub look-x-requires : goal.look-x-requires
-look-x-requires t c = record { good = c.requires.good; lt_n = (c.if-n-lt3.false, c.requires.n_bound.0) }
-
-pub opening-open-requires : goal.opening-open-requires
-opening-open-requires t c = tt
-
 pub write_byte-index-requires : goal.write_byte-index-requires
 write_byte-index-requires t c = rooms_first (cell_rooms _ c.look-x.ensures c.opening-open.ensures c.requires.n_bound.1)
 

@@ -8,9 +8,6 @@ use Rattle.lines.proofs.records.write_record.Goals as goal
 pub returns-then-p-lt3 : goal.returns-then-p-lt3
 returns-then-p-lt3 c = wrote_none (no_record _ _ _ c.if-p-lt3.true)
 
-pub look-x-requires : goal.look-x-requires
-look-x-requires c = record { good = c.requires.good; lt_n = (c.if-p-lt3.false, c.requires.p_bound.0) }
-
 pub write_line-requires : goal.write_line-requires
 write_line-requires c =
     record { good = c.requires.good; p_bound = (omega (arith, c.look-x.ensures.child_low, c.requires.p_bound.0), fits_as (record_line c.args.e.0 c.look-x.ensures) c.requires.p_bound.1) }

@@ -9,15 +9,6 @@ pub loop-k-init : goal.loop-k-init
 loop-k-init c =
     along_none _ _ (records_all c.args.cells.now c.args.slots.now c.args.base c.args.n)
 
-pub overflow_cast-k : goal.overflow_cast-k
-overflow_cast-k c = omega (arith, c.requires.n_in_bounds.1)
-
-pub overflow_add-base : goal.overflow_add-base
-overflow_add-base c = omega (arith, c.requires.n_in_bounds.0)
-
-pub bounds-slots-base : goal.bounds-slots-base
-bounds-slots-base c = omega (arith, c.requires.n_in_bounds.0)
-
 pub write_record-next-requires : goal.write_record-next-requires
 write_record-next-requires c =
     record { good = c.requires.good.0; p_bound = (c.requires.good.1 (c.args.base + c.loop-k.k) (omega (arith, c.requires.n_in_bounds.0)), along_fits c.requires.n_in_bounds.2 c.loop-k.invariant (records_next c.args.cells.now c.args.slots.now c.args.base c.args.n c.loop-k.k c.requires.n_in_bounds.0 (omega arith))) }

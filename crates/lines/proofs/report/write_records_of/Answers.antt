@@ -4,9 +4,6 @@ use Rattle.lines.proofs.Writing.{fits_as, wrote_as}
 use Rattle.lines.proofs.ReportText.{records_there, records_within}
 use Rattle.lines.proofs.report.write_records_of.Goals as goal
 
-pub row_at-row-requires : goal.row_at-row-requires
-row_at-row-requires c = tt
-
 pub write_records-requires : goal.write_records-requires
 write_records-requires c =
     record { good = (c.requires.0.good, c.requires.0.below); n_in_bounds = ((records_within c.args.t.now c.args.f.0 c.row_at-row.ensures c.requires.1 c.args.cells.now c.args.slots.now c.requires.0).0, (records_within c.args.t.now c.args.f.0 c.row_at-row.ensures c.requires.1 c.args.cells.now c.args.slots.now c.requires.0).1, fits_as (records_there c.args.t.now c.args.f.0 c.row_at-row.ensures c.requires.1 c.args.cells.now c.args.slots.now) c.requires.2) }

@@ -1,11 +1,7 @@
 -- `lines::text::write_number` meets its contract. The measure is the number.
 use Rattle.lines.proofs.Writing.{wrote_long}
 use Rattle.lines.proofs.Numbers.{digit_fits, digit_wrote, tenth_fits, last_fits, number-wrote}
-use native.Mathlib.Omega.{arith}
 use Rattle.lines.proofs.text.+write_number.Goals as goal
-
-pub digit-requires : goal.digit-requires
-digit-requires t c = c.if-n-lt10.true
 
 pub write_byte-requires : goal.write_byte-requires
 write_byte-requires t c = digit_fits c.if-n-lt10.true c.digit.ensures c.requires
@@ -18,9 +14,6 @@ returns-then-n-lt10 t c = digit_wrote c.if-n-lt10.true c.digit.ensures c.write_b
 
 pub write_number-next-requires : goal.write_number-next-requires
 write_number-next-requires t c = tenth_fits c.decreases c.if-n-lt10.false c.requires
-
-pub digit-requires-2 : goal.digit-requires-2
-digit-requires-2 t c = omega arith
 
 pub write_byte-requires-2 : goal.write_byte-requires-2
 write_byte-requires-2 t c = last_fits c.if-n-lt10.false c.digit-2.ensures c.requires c.write_number-next.ensures

@@ -10,10 +10,6 @@ pub loop-f-init : goal.loop-f-init
 unfolding start_of
 loop-f-init c = (to_none _ _ c.requires.0 _, refl)
 
-pub place_statements-at-requires : goal.place_statements-at-requires
-place_statements-at-requires c =
-    (c.requires.0, omega (arith, c.functions-n.ensures c.args.bytes.now), c.loop-f.invariant.1)
-
 pub loop-f-preserved : goal.loop-f-preserved
 loop-f-preserved c =
     (to_more _ _ c.requires.0 _ _ _ _ _ _ _ c.loop-f.invariant.0 c.loop-f.invariant.1 refl c.put.ensures c.place_statements-at.ensures.0, c.place_statements-at.ensures.1)

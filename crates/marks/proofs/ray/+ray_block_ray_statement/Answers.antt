@@ -37,9 +37,6 @@ pub ray_statement-loop-j-init : goal.ray_statement-loop-j-init
 ray_statement-loop-j-init t c =
     ap (ray_down _ _) c.held_count-n.ensures.0
 
-pub ray_statement-held_number-requires : goal.ray_statement-held_number-requires
-ray_statement-held_number-requires t c = (omega arith, omega arith)
-
 pub ray_statement-ray_block-requires : goal.ray_statement-ray_block-requires
 ray_statement-ray_block-requires t c =
     let e = c.held_number.ensures in

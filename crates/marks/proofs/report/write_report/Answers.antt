@@ -1,5 +1,4 @@
 -- `marks::report::write_report` meets its contract. Assumes nothing.
-use mathlib.Core.Path.{◌≡◌}
 use Rattle.marks.specs.Report.{report_in}
 use Rattle.marks.proofs.Turns.{still_long}
 use Rattle.marks.proofs.Write.{write_none}
@@ -10,20 +9,6 @@ use Rattle.marks.proofs.report.write_report.Goals as goal
 pub loop-f-init : goal.loop-f-init
 unfolding report_in
 loop-f-init c = (write_none _ 0)
-
-pub start-from-requires : goal.start-from-requires
-start-from-requires c = let i = (c.requires.0.each c.loop-f.f c.loop-f-test.true).entry in omega arith
-
-pub start-to-requires : goal.start-to-requires
-start-to-requires c = (c.requires.0.each c.loop-f.f c.loop-f-test.true).entry
-
-pub slice_bounds-write_part-count : goal.slice_bounds-write_part-count
-slice_bounds-write_part-count c =
-    let i = c.requires.0.each c.loop-f.f c.loop-f-test.true in let u = i.ascends in omega arith
-
-pub slice_bounds-write_part-start : goal.slice_bounds-write_part-start
-slice_bounds-write_part-start c =
-    let i = c.requires.0.each c.loop-f.f c.loop-f-test.true in let u = i.ascends in omega arith
 
 pub slice_bounds-write_part-end : goal.slice_bounds-write_part-end
 slice_bounds-write_part-end c =
@@ -39,6 +24,3 @@ loop-f-preserved c =
 
 pub shape_of-report : goal.shape_of-report
 shape_of-report c = still_long _ _ _ 0 c.loop-f.invariant
-
-pub returns : goal.returns
-returns c = let e : c.loop-f.f ≡ c.args.n = omega arith in rw e at c.loop-f.invariant

@@ -1,13 +1,9 @@
 -- `marks::set::keep_marks` meets its contract. Assumes nothing.
 use mathlib.Core.Path.{ap, ◌∙◌}
-use native.Mathlib.Omega.{arith}
 use lib.ListN.{length, length-set}
 use Rattle.marks.proofs.Stretches.{lent_kept, sized_set}
 use Rattle.marks.proofs.Write.{write_long}
 use Rattle.marks.proofs.set.keep_marks.Goals as goal
-
-pub slice_bounds-copy-end : goal.slice_bounds-copy-end
-slice_bounds-copy-end c = omega (arith, length-set c.args.totals.now c.args.f.0 1)
 
 pub shape_of-totals : goal.shape_of-totals
 shape_of-totals c =

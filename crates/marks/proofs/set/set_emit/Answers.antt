@@ -1,5 +1,5 @@
 -- `marks::set::set_emit` meets its contract. Assumes nothing.
-use mathlib.Core.Path.{◌≡◌, refl}
+use mathlib.Core.Path.{refl}
 use native.Mathlib.Omega.{arith}
 use Rattle.marks.proofs.Turns.{still_long, emit_none, emit_turn, any-turn}
 use Rattle.marks.proofs.set.set_emit.Goals as goal
@@ -17,7 +17,3 @@ loop-k-preserved c =
 
 pub shape_of-marks : goal.shape_of-marks
 shape_of-marks c = still_long _ _ _ _ c.loop-k.invariant.0
-
-pub returns : goal.returns
-returns c =
-    let e : c.loop-k.k ≡ c.args.n = omega arith in (rw e at c.loop-k.invariant.0, rw e at c.loop-k.invariant.1)

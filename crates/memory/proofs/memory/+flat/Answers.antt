@@ -6,9 +6,6 @@ use Rattle.memory.proofs.memory.+flat.Goals as goal
 pub returns-then-n-eq0 : goal.returns-then-n-eq0
 returns-then-n-eq0 t c = flat_none _ _ _ _ c.requires.good c.if-n-eq0.true
 
-pub flat-r-requires : goal.flat-r-requires
-flat-r-requires t c = (omega arith, (c.requires.good, (omega arith, omega arith)))
-
 pub returns-then-d-eq0 : goal.returns-then-d-eq0
 returns-then-d-eq0 t c = flat_skip _ _ _ (omega arith) c.flat-r.ensures c.if-d-eq0.true
 

@@ -16,24 +16,15 @@ piece-p-requires c =
 pub bounds-slots-86 : goal.bounds-slots-86
 bounds-slots-86 c = global_inside c.requires c.piece-p.ensures
 
-pub overflow_add-g : goal.overflow_add-g
-overflow_add-g c = omega (arith, c.requires.joining.index)
-
 pub get-f-requires : goal.get-f-requires
 get-f-requires c =
     let q9 = global_get c.requires c.piece-p.ensures in
     record { good = q9.0; a_bound = q9.1 }
 
-pub overflow_add-g-in-None : goal.overflow_add-g-in-None
-overflow_add-g-in-None c = omega (arith, c.requires.joining.index)
-
 pub insert-d-requires : goal.insert-d-requires
 insert-d-requires c =
     let q9 = first_insert c.requires c.piece-p.ensures c.get-f.ensures c.in-None.is in
     record { good = q9.0; m_bound = q9.1.0; room = q9.1.1 }
-
-pub overflow_add-g-in-None-2 : goal.overflow_add-g-in-None-2
-overflow_add-g-in-None-2 c = omega (arith, c.requires.joining.index)
 
 pub insert-t-requires : goal.insert-t-requires
 insert-t-requires c =

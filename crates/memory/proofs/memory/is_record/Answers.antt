@@ -5,8 +5,5 @@ use Rattle.memory.proofs.memory.is_record.Goals as goal
 pub returns-then-n-lt3 : goal.returns-then-n-lt3
 returns-then-n-lt3 c = record_none _ _ _ c.if-n-lt3.true
 
-pub look-x-requires : goal.look-x-requires
-look-x-requires c = record { good = c.requires.good; lt_n = (c.if-n-lt3.false, c.requires.n_bound.0.0) }
-
 pub returns : goal.returns
 returns c = record_cell c.requires.good c.requires.n_bound c.look-x.ensures

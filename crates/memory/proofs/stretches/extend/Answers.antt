@@ -1,8 +1,7 @@
 -- `memory::stretches::extend` meets its contract. Assumes nothing.
-use mathlib.Core.Path.{◌≡◌, ap, ◌∙◌}
+use mathlib.Core.Path.{ap, ◌∙◌}
 use lib.ListN.{length}
 use Rattle.memory.proofs.Runs.{copied_none, copied-long, extend_inside, extend_skip, extend_more}
-use native.Mathlib.Omega.{arith}
 use Rattle.memory.proofs.stretches.extend.Goals as goal
 use Rattle.memory.proofs.stretches.extend.Goals.{then-r-ne2, else-r-ne2}
 
@@ -26,6 +25,3 @@ loop-k-preserved c =
 
 pub shape_of-slots : goal.shape_of-slots
 shape_of-slots c = ap length c.loop-k.invariant ∙ copied-long _ _ _ _
-
-pub returns : goal.returns
-returns c = let e : c.loop-k.k ≡ c.args.n = omega arith in rw e at c.loop-k.invariant

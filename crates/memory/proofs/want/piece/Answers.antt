@@ -7,11 +7,6 @@ use Rattle.memory.proofs.want.piece.Goals as goal
 pub loop-k-init : goal.loop-k-init
 loop-k-init c = wrap_start _ _ _ _ c.requires.good c.reach-m.ensures.0 refl
 
-pub make-m-requires : goal.make-m-requires
-make-m-requires c =
-    let h = c.loop-k.invariant in
-    record { good = h.kept.good; room = omega (arith, h.cost, h.kept.long); child_bound = (h.piece, omega (arith, h.kept.good.base)) }
-
 pub loop-k-preserved : goal.loop-k-preserved
 loop-k-preserved c = wrap_more _ _ _ refl c.loop-k.invariant c.make-m.ensures
 

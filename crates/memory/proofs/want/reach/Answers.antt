@@ -1,5 +1,5 @@
 -- `memory::want::reach` meets its contract. Assumes nothing.
-use mathlib.Core.Path.{◌≡◌, sym, ◌∙◌}
+use mathlib.Core.Path.{sym, ◌∙◌}
 use Rattle.memory.proofs.Asks.{downs-none, downs-more}
 use native.Mathlib.Omega.{arith}
 use Rattle.memory.proofs.want.reach.Goals as goal
@@ -10,7 +10,3 @@ loop-k-init c = (omega arith, downs-none _ _)
 pub loop-k-preserved : goal.loop-k-preserved
 loop-k-preserved c =
     (c.kid-m.ensures.0, c.kid-m.ensures.1 ∙ rw (c.tail-t.ensures.1, c.loop-k.invariant.1) (sym (downs-more _ _ _)))
-
-pub returns : goal.returns
-returns c =
-    let e : c.loop-k.k ≡ c.args.w.down = omega arith in (c.loop-k.invariant.0, rw e at c.loop-k.invariant.1)

@@ -5,14 +5,8 @@ use Rattle.memory.proofs.Slots.{asked-small}
 use native.Mathlib.Omega.{arith}
 use Rattle.memory.proofs.want.swizzle.Goals as goal
 
-pub is_all-requires : goal.is_all-requires
-is_all-requires c = c.requires.memory
-
 pub returns-then-is_all : goal.returns-then-is_all
 returns-then-is_all c = picks_all _ _ c.requires.memory.0 (sym c.if-is_all.true ∙ c.is_all.ensures)
-
-pub is_exist-requires : goal.is_exist-requires
-is_exist-requires c = c.requires.memory
 
 pub returns-then-is_exist : goal.returns-then-is_exist
 returns-then-is_exist c = picks_exist _ _ c.requires.memory.0 (sym c.if-is_exist.true ∙ c.is_exist.ensures)
@@ -27,20 +21,9 @@ pub child-u-requires : goal.child-u-requires
 child-u-requires c =
     record { memory = c.requires.memory; k_value = pick_there c.loop-i.invariant c.in-Some.ensures c.if-i-ge4.false }
 
-pub digit-d-requires : goal.digit-d-requires
-digit-d-requires c = (c.requires.memory.0, c.child-u.ensures.wants)
-
 pub returns-then-d-eq0 : goal.returns-then-d-eq0
 returns-then-d-eq0 c =
     picks_panic (pick_panics c.loop-i.invariant c.in-Some.ensures c.if-i-ge4.false c.child-u.ensures refl c.digit-d.ensures c.if-d-eq0.true)
-
-pub offset_bounds-digits-letter : goal.offset_bounds-digits-letter
-offset_bounds-digits-letter c =
-    omega (arith, c.requires.letters.low c.in-Some.i c.if-i-ge4.false, c.letter_at-letter.ensures)
-
-pub bounds-digits-letter : goal.bounds-digits-letter
-bounds-digits-letter c =
-    omega (arith, c.requires.letters.low c.in-Some.i c.if-i-ge4.false, c.letter_at-letter.ensures)
 
 pub overflow_add-k : goal.overflow_add-k
 overflow_add-k c =
@@ -52,9 +35,6 @@ loop-i-smaller c = pick_less c.loop-i.invariant c.in-Some.ensures
 pub loop-i-preserved : goal.loop-i-preserved
 loop-i-preserved c =
     pick_on c.loop-i.invariant c.in-Some.ensures c.if-i-ge4.false c.child-u.ensures refl c.digit-d.ensures _ c.requires.letters c.letter_at-letter.ensures c.if-d-eq0.false
-
-pub flat_slot-requires : goal.flat_slot-requires
-flat_slot-requires c = c.loop-i.invariant.four
 
 pub returns : goal.returns
 returns c = pick_done c.loop-i.invariant _ c.requires.memory.0 (sym c.in_default.is ∙ c.entry.ensures) c.flat_slot.ensures

@@ -1,5 +1,5 @@
 -- `memory::want::tail` meets its contract. Assumes nothing.
-use mathlib.Core.Path.{◌≡◌, sym, ◌∙◌}
+use mathlib.Core.Path.{sym, ◌∙◌}
 use Rattle.memory.proofs.Asks.{after-low, after-cell, tail_none, tail_more}
 use native.Mathlib.Omega.{arith}
 use Rattle.memory.proofs.want.tail.Goals as goal
@@ -14,7 +14,3 @@ loop-j-preserved c =
       | then-m-gt2 w ↦ (rw w.m-is (omega arith), rw w.m-is (after-cell w.look-x.ensures ∙ rw c.loop-j.invariant.1 (sym (tail_more _ _))))
       | else-m-gt2 w ↦ (rw w.m-is (omega arith), rw w.m-is (after-low _ _ w.if-m-gt2.false ∙ rw c.loop-j.invariant.1 (sym (tail_more _ _))))
     ]
-
-pub returns : goal.returns
-returns c =
-    let e : c.loop-j.j ≡ c.args.k = omega arith in (c.loop-j.invariant.0, rw e at c.loop-j.invariant.1)

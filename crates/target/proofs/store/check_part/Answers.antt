@@ -9,23 +9,14 @@ returns-in_err-whole c = rw c.from_residual.ensures (checking_none _ _ _ c.in_er
 pub loop-n-init : goal.loop-n-init
 loop-n-init c = checking_start _ _ _ c.requires.q_bound.0 c.requires.q_bound.1 c.in_ok-whole.was
 
-pub look-x-requires : goal.look-x-requires
-look-x-requires c = record { good = c.requires.good; lt_n = (c.loop-n-test.true, c.loop-n.invariant.left_in) }
-
 pub returns-then-p-eq0 : goal.returns-then-p-eq0
 returns-then-p-eq0 c =
     checked_all c.in_ok-whole.was c.loop-n.invariant c.look-x.ensures c.requires.good c.if-p-eq0.true
-
-pub get-requires : goal.get-requires
-get-requires c = record { good = c.requires.good; a_bound = c.loop-n.invariant.right_in }
 
 pub returns-in_err-p : goal.returns-in_err-p
 returns-in_err-p c =
     rw c.from_residual-in_err-p.ensures
     (checked_gone c.in_ok-whole.was c.loop-n.invariant c.look-x.ensures c.if-p-eq0.false c.get.ensures c.in_err-p.was)
-
-pub loop-n-smaller : goal.loop-n-smaller
-loop-n-smaller c = c.look-x.ensures.child_low
 
 pub loop-n-preserved : goal.loop-n-preserved
 loop-n-preserved c =
