@@ -12,7 +12,6 @@ use crate::reader::{ReadLists, read_lists, read_single};
 use field::limits::MAX_PIECES;
 use memory::stretches::save_context;
 use part::store::entries;
-use request::parts::ReadPart;
 
 // Refused, or where the next field stands and how many pieces there are.
 #[derive(Clone, Copy)]
@@ -39,7 +38,7 @@ pub fn read_records(
     let mut next = at;
     let mut count = sum;
     while k < n {
-        let ReadPart::Got(p, end) = read_single(cells, pruner, next, 0) else {
+        let Some((p, end)) = read_single(cells, pruner, next, 0) else {
             return Next::Refused;
         };
         count += entries(cells, p) as usize;
