@@ -20,8 +20,7 @@ use Rattle.request.specs.Fields.{Read, malformed, got, ◌>>=◌, whole, refused
 use Rattle.request.specs.Part.{read_variables}
 use Rattle.request.specs.Request.{all_below}
 use Rattle.request.specs.Answers.{from}
-use Rattle.request.specs.declared.parts.ReadPart.{ReadPart}
-use Rattle.request.specs.declared.parts.ReadPart.TheVariants as parts
+use Rattle.std.specs.Prelude.{Option as Maybe, Some, None}
 use Rattle.request.proofs.Bytes.{from_cons, from_end}
 use Rattle.request.proofs.Entries.{kept_on, ended, goes_on}
 use Rattle.walk.specs.State.{FunctionReq, total_pieces}
@@ -70,8 +69,8 @@ module _ (bytes t : List ℕ) (w : WasRead bytes t) {n : ℕ} (is-n : n ≡ leng
   unfolding read_body
   body_is fs = rw is-n refl
 
-  module _ (rs totals : List ℕ) {s b v : List ℕ} {a : ReadPart} (first : PieceWasRead s v b 6 0 (list (from b 6)) a) where
-    pub body_no_globals : a ≡ parts.Malformed → BodyWasRead bytes t s rs totals b v rs totals false
+  module _ (rs totals : List ℕ) {s b v : List ℕ} {a : Maybe (ℕ × ℕ)} (first : PieceWasRead s v b 6 0 (list (from b 6)) a) where
+    pub body_no_globals : a ≡ None → BodyWasRead bytes t s rs totals b v rs totals false
     body_no_globals e = record {
       kept = first.kept;
       long = refl;
@@ -79,7 +78,7 @@ module _ (bytes t : List ℕ) (w : WasRead bytes t) {n : ℕ} (is-n : n ≡ leng
       by = many_refused (read_body m (from b 6)) (rw (body_is (from b 6), no_piece first e) tt);
     }
 
-    module _ {p next : ℕ} (e : a ≡ parts.Got p next) where
+    module _ {p next : ℕ} (e : a ≡ Some (p, next)) where
       abbrev g : PartReq
       g = part v p
 

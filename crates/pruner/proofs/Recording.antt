@@ -16,8 +16,7 @@ use Rattle.context.specs.declared.required_context.RequiredContext.{RequiredCont
 use Rattle.request.specs.Fields.{Read, malformed, got, ◌>>=◌}
 use Rattle.request.specs.Part.{read_return}
 use Rattle.request.specs.Answers.{from}
-use Rattle.request.specs.declared.parts.ReadPart.{ReadPart}
-use Rattle.request.specs.declared.parts.ReadPart.TheVariants as parts
+use Rattle.std.specs.Prelude.{Option as Maybe, Some, None}
 use Rattle.request.proofs.Entries.{kept_same, kept_on}
 use Rattle.walk.specs.State.{Records, record_pieces}
 use Rattle.memory.specs.Layout.{exprs_slot, functions_slot}
@@ -119,13 +118,13 @@ module _ {s rs b : List ℕ} {at base n sum : ℕ} {t us : List ℕ} {k next cou
     pub recording_room : RoomBeside s b at n → RoomBeside t b next 1
     recording_room r = omega (arith, so.spent, so.kept.long)
 
-    module _ {v : List ℕ} {a : ReadPart} (was : PieceWasRead t v b next 1 (mapped (single 0) (read_return (from b next))) a) where
-      pub recording_refused : a ≡ parts.Malformed → RecordsWereRead s rs b at base n sum v us None
+    module _ {v : List ℕ} {a : Maybe (ℕ × ℕ)} (was : PieceWasRead t v b next 1 (mapped (single 0) (read_return (from b next))) a) where
+      pub recording_refused : a ≡ None → RecordsWereRead s rs b at base n sum v us None
       recording_refused e =
           let none-such : read_records n (from b at) ≡ malformed = so.rest ∙ rw (left, records_stop (n - (k + 1)) (from b next) (unmapped (single 0) (read_return (from b next)) (no_piece was e))) refl in
           record { kept = kept_on so.kept was.kept; long = so.long; by = rw none-such tt }
 
-      module _ {p end : ℕ} (e : a ≡ parts.Got p end) where
+      module _ {p end : ℕ} (e : a ≡ Some (p, end)) where
         of : Mapped (single 0) (read_return (from b next)) (part v p) (from b end)
         of = mapped_from (single 0) (read_return (from b next)) (part v p) (from b end) (piece_read was e)
 

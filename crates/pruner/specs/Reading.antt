@@ -1,6 +1,5 @@
 -- What the code answers that reads totals into a walk's memory: that there are none such, or where the next field stands and what memory has then.
-use Rattle.std.specs.Prelude.{ℕ, ◌+◌, ◌*◌, ◌≤◌, ◌<◌, ◌≡◌, Bool, true, false, List, length, get_or, Some, None}
-use Rattle.std.specs.Prelude.{Option as Maybe}
+use Rattle.std.specs.Prelude.{ℕ, ◌+◌, ◌*◌, ◌≤◌, ◌<◌, ◌≡◌, Bool, true, false, List, length, get_or, Option as Maybe, Some, None}
 use Rattle.std.proofs.Math.Option.{Option, some, none as nothing}
 use Rattle.field.specs.Field.{word_at}
 use Rattle.field.specs.Limits.{max_pieces, max_functions}
@@ -13,8 +12,6 @@ use Rattle.module.specs.Module.{FunctionHandle}
 use Rattle.module.specs.Tables.{row_at, expressions_from, max_items, module_of}
 use Rattle.request.specs.Fields.{Read, malformed, got, ◌>>=◌, whole, refused, accepted}
 use Rattle.request.specs.Answers.{from, part_read}
-use Rattle.request.specs.declared.parts.ReadPart.{ReadPart}
-use Rattle.request.specs.declared.parts.ReadPart.TheVariants as parts
 use Rattle.walk.specs.State.{FunctionReq, record_pieces, function_pieces, total_pieces}
 use Rattle.walk.specs.Marks.{write_marks}
 use Rattle.memory.specs.Layout.{globals_slot, totals_slot, functions_slot, stack_slot}
@@ -51,11 +48,11 @@ pub record SpentBeside (s t b : List ℕ) (at next n : ℕ) : Type 0 where
   pub cost : 4 * top t + at ≤ 4 * (top s + n) + next
 
 -- a piece, for which n cells were made beside
-abbrev pub PiecePlaced : (s t b : List ℕ) → (at n : ℕ) → ReadPart → Type 0
-PiecePlaced s t b at n parts.Malformed = Unit {0}
-PiecePlaced s t b at n (parts.Got p next) = (p < top t) × SpentBeside s t b at next n
+abbrev pub PiecePlaced : (s t b : List ℕ) → (at n : ℕ) → Maybe (ℕ × ℕ) → Type 0
+PiecePlaced s t b at n None = Unit {0}
+PiecePlaced s t b at n (Some p) = (p.0 < top t) × SpentBeside s t b at p.1 n
 
-pub record PieceWasRead (s t b : List ℕ) (at n : ℕ) (r : Read PartReq) (a : ReadPart) : Type 0 where
+pub record PieceWasRead (s t b : List ℕ) (at n : ℕ) (r : Read PartReq) (a : Maybe (ℕ × ℕ)) : Type 0 where
   pub kept : Kept s t
   pub is : part_read t b a ≡ r
   pub placed : PiecePlaced s t b at n a

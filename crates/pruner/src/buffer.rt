@@ -12,7 +12,6 @@ use field::limits::MAX_PIECES;
 use memory::layout::GLOBALS;
 use module::handles::FunctionHandle;
 use part::store::entries;
-use request::parts::ReadPart;
 use request::record::ends;
 
 // No function has a total.
@@ -74,7 +73,7 @@ pub fn read_body(
     ensures { BodyWasRead bytes.now t.now cells.old slots.old totals.old pruner.now cells.new slots.new totals.new result }
 {
     let n = globals(t);
-    let ReadPart::Got(g, next) = read_map(cells, pruner, 6, n) else {
+    let Some((g, next)) = read_map(cells, pruner, 6, n) else {
         return false;
     };
     let count = entries(cells, g) as usize;

@@ -12,7 +12,6 @@ use crate::reader::{ReadLists, read_lists, read_single};
 use field::limits::MAX_PIECES;
 use memory::stretches::save_context;
 use part::store::entries;
-use request::parts::ReadPart;
 
 // n records, into the slots from `base` on. Where the next field stands and how many pieces there are, or nothing, if they are refused.
 pub fn read_records(
@@ -31,7 +30,7 @@ pub fn read_records(
     let mut next = at;
     let mut count = sum;
     for k in 0..n {
-        let ReadPart::Got(p, end) = read_single(cells, pruner, next, 0) else {
+        let Some((p, end)) = read_single(cells, pruner, next, 0) else {
             return None;
         };
         count += entries(cells, p) as usize;

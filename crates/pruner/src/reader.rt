@@ -14,8 +14,7 @@ use context::required_context::RequiredContext;
 use field::field::read;
 use part::limits::SPINE;
 use part::store::make;
-use request::lists::{Optional, ReadOption, read_return, read_variables};
-use request::parts::ReadPart;
+use request::lists::{read_return, read_variables};
 use request::record::ends;
 
 // The pieces of a context, and where the next field stands.
@@ -26,34 +25,30 @@ pub enum ReadLists {
 }
 
 // A return part or a record as {index: part}, or the empty part for none.
-pub fn read_single(cells: &mut [u32], pruner: &[u8], at: usize, index: u32) -> ReadPart
+pub fn read_single(cells: &mut [u32], pruner: &[u8], at: usize, index: u32) -> Option<(u32, usize)>
     requires good { Good cells.old }
     requires at_in_bounds { (at ≤ length pruner.now) × RoomBeside cells.old pruner.now at 1 }
     ensures { PieceWasRead cells.old cells.new pruner.now at 1 (mapped (single index) (read_return (from pruner.now at))) result }
 {
-    let ReadOption::Got(o, next) = read_return(cells, pruner, at) else {
-        return ReadPart::Malformed;
+    let (o, next) = read_return(cells, pruner, at)?;
+    let Some(p) = o else {
+        return Some((2, next));
     };
-    let Optional::Piece(p) = o else {
-        return ReadPart::Got(2, next);
-    };
-    ReadPart::Got(make(cells, index, p, 2), next)
+    Some((make(cells, index, p, 2), next))
 }
 
 // A list of variables, each of which is below `limit`.
-pub fn read_map(cells: &mut [u32], pruner: &[u8], at: usize, limit: u32) -> ReadPart
+pub fn read_map(cells: &mut [u32], pruner: &[u8], at: usize, limit: u32) -> Option<(u32, usize)>
     requires good { Good cells.old }
     requires at_in_bounds { (at ≤ length pruner.now) × RoomFor cells.old pruner.now at }
     requires limit_le_absent { limit ≤ absent }
     ensures { PieceWasRead cells.old cells.new pruner.now at 0 (only (all_below (variable limit)) (read_variables (from pruner.now at))) result }
 {
-    let ReadOption::Got(o, next) = read_variables(cells, pruner, at, limit) else {
-        return ReadPart::Malformed;
+    let (o, next) = read_variables(cells, pruner, at, limit)?;
+    let Some(p) = o else {
+        return None;
     };
-    let Optional::Piece(p) = o else {
-        return ReadPart::Malformed;
-    };
-    ReadPart::Got(p, next)
+    Some((p, next))
 }
 
 // The lists of a context whose variables are there.
@@ -70,16 +65,16 @@ pub fn read_lists(
     requires limits { Limits globals args locals }
     ensures { ListsWereRead cells.old cells.new pruner.now at (only (known_context globals args locals) (read_context_body (from pruner.now at))) result }
 {
-    let ReadPart::Got(p, a) = read_single(cells, pruner, at, SPINE) else {
+    let Some((p, a)) = read_single(cells, pruner, at, SPINE) else {
         return ReadLists::Malformed;
     };
-    let ReadPart::Got(g, b) = read_map(cells, pruner, a, globals) else {
+    let Some((g, b)) = read_map(cells, pruner, a, globals) else {
         return ReadLists::Malformed;
     };
-    let ReadPart::Got(x, c) = read_map(cells, pruner, b, args) else {
+    let Some((x, c)) = read_map(cells, pruner, b, args) else {
         return ReadLists::Malformed;
     };
-    let ReadPart::Got(l, d) = read_map(cells, pruner, c, locals) else {
+    let Some((l, d)) = read_map(cells, pruner, c, locals) else {
         return ReadLists::Malformed;
     };
     ReadLists::Got(

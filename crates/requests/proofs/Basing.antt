@@ -19,8 +19,9 @@ use Rattle.request.specs.Fields.{framed, accepted, refused}
 use Rattle.request.specs.Request.{Request, asking, is_request, request_of, judge}
 use Rattle.request.specs.Answers.{optional, Held, RequestHeld, RequestWasRead}
 use Rattle.request.specs.declared.requests.Request as declared
-use Rattle.request.specs.declared.requests.RequestAnswer.{RequestAnswer}
-use Rattle.request.specs.declared.requests.RequestAnswer.TheVariants as answer
+use Rattle.std.specs.Prelude.{Result, Ok, Err}
+use Rattle.field.specs.Refusal.{number}
+use Rattle.field.specs.declared.refusal.Refusal.{Refusal}
 use Rattle.memory.specs.Layout.{globals_slot, stack_slot}
 use Rattle.memory.specs.Stretches.{four_set}
 use Rattle.memory.specs.Memory.{read, Empty}
@@ -79,18 +80,12 @@ module _ {s rs : List ℕ} (E : Empty s rs) (request : List ℕ) (functions glob
   pub reading_room : cell_words * top s + table_words + 2 * length request ≤ length s + 2 * 0
   reading_room = omega (arith, E.few, E.memory.fits)
 
-  module _ {t : List ℕ} {a : RequestAnswer} (W : RequestWasRead s t (length request) (judge functions globals report (request_of request)) a) where
+  module _ {t : List ℕ} {a : Result declared.Request Refusal} (W : RequestWasRead s t (length request) (judge functions globals report (request_of request)) a) where
     -- it is refused
-    pub load_malformed : a ≡ answer.Malformed → judge functions globals report (request_of request) ≡ refused 12
-    load_malformed e = sym W.is ∙ rw e
+    pub load_refused : {e : Refusal} → a ≡ Err e → judge functions globals report (request_of request) ≡ refused (number e)
+    load_refused h = sym W.is ∙ rw h
 
-    pub load_no_such : a ≡ answer.NoSuch → judge functions globals report (request_of request) ≡ refused 11
-    load_no_such e = sym W.is ∙ rw e
-
-    pub load_short : a ≡ answer.ShortReport → judge functions globals report (request_of request) ≡ refused 18
-    load_short e = sym W.is ∙ rw e
-
-    module _ {q : declared.Request} (e : a ≡ answer.Accepted q) where
+    module _ {q : declared.Request} (e : a ≡ Ok q) where
       held : Held t q.retval × (q.globals < top t) × (4 * top t ≤ 4 * top s + length request)
       held = subst (RequestHeld s t (length request)) e W.held
 

@@ -18,7 +18,7 @@ use memory::stretches::save_context;
 use module::handles::FunctionHandle;
 use pruner::lent::read_pruner;
 use request::lists::returned;
-use request::requests::{Request, RequestAnswer, read_request};
+use request::requests::{Request, read_request};
 
 // 01's number, or the asked function.
 #[derive(Clone, Copy)]
@@ -70,10 +70,8 @@ fn load_request(
     }
     let answer = read_request(cells, request, functions, globals, report);
     match answer {
-        RequestAnswer::Malformed => Asked::Refused(12),
-        RequestAnswer::NoSuch => Asked::Refused(11),
-        RequestAnswer::ShortReport => Asked::Refused(18),
-        RequestAnswer::Accepted(q) => {
+        Err(e) => Asked::Refused(u32::from(e)),
+        Ok(q) => {
             load_base(cells, slots, q);
             let f = q.function;
             Asked::Of(f)

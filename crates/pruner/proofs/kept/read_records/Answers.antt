@@ -25,7 +25,7 @@ returns-in_default c =
 
 pub entries-requires : goal.entries-requires
 entries-requires c =
-    record { good = c.read_single.ensures.kept.good; n_bound = (piece_placed c.read_single.ensures c.in-Got.is).0 }
+    record { good = c.read_single.ensures.kept.good; n_bound = (piece_placed c.read_single.ensures c.in-Some.is).0 }
 
 pub overflow_add-count : goal.overflow_add-count
 overflow_add-count c = omega (arith, c.loop-k.invariant.low, c.entries.ensures)
@@ -38,7 +38,7 @@ shape_of-slots-then-count-gt-MAX_PIECES c = c.loop-k.invariant.long
 
 pub returns-then-count-gt-MAX_PIECES : goal.returns-then-count-gt-MAX_PIECES
 returns-then-count-gt-MAX_PIECES c =
-    recording_many c.loop-k.invariant c.loop-k-test.true c.read_single.ensures c.in-Got.is c.entries.ensures c.if-count-gt-MAX_PIECES.true
+    recording_many c.loop-k.invariant c.loop-k-test.true c.read_single.ensures c.in-Some.is c.entries.ensures c.if-count-gt-MAX_PIECES.true
 
 pub overflow_add-slots : goal.overflow_add-slots
 overflow_add-slots c = omega (arith, c.requires.memory.2, c.loop-k-test.true)
@@ -51,7 +51,7 @@ bounds-slots-base c = omega (arith, c.requires.memory.2, c.loop-k-test.true, c.l
 
 pub loop-k-preserved : goal.loop-k-preserved
 loop-k-preserved c =
-    recording_more c.loop-k.invariant c.loop-k-test.true c.read_single.ensures c.in-Got.is c.entries.ensures (omega (arith, c.if-count-gt-MAX_PIECES.false)) c.requires.memory.1 c.requires.memory.2
+    recording_more c.loop-k.invariant c.loop-k-test.true c.read_single.ensures c.in-Some.is c.entries.ensures (omega (arith, c.if-count-gt-MAX_PIECES.false)) c.requires.memory.1 c.requires.memory.2
 
 pub shape_of-cells : goal.shape_of-cells
 shape_of-cells c = c.loop-k.invariant.kept.long

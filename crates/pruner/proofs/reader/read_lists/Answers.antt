@@ -15,7 +15,7 @@ returns-in_default c =
 
 pub read_map-requires : goal.read_map-requires
 read_map-requires c =
-    let h = globals_room c.args.globals c.args.args c.args.locals c.read_single.ensures c.in-Got.is c.requires.at_in_bounds.1 in
+    let h = globals_room c.args.globals c.args.args c.args.locals c.read_single.ensures c.in-Some.is c.requires.at_in_bounds.1 in
     record { good = c.read_single.ensures.kept.good; at_in_bounds = h; limit_le_absent = c.requires.limits.globals_fit }
 
 pub shape_of-cells-in_default-read_map : goal.shape_of-cells-in_default-read_map
@@ -23,11 +23,11 @@ shape_of-cells-in_default-read_map c = c.read_map.ensures.kept.long ∙ c.read_s
 
 pub returns-in_default-read_map : goal.returns-in_default-read_map
 returns-in_default-read_map c =
-    lists-no_globals c.args.globals c.args.args c.args.locals c.read_single.ensures c.in-Got.is c.read_map.ensures c.in_default-read_map.is
+    lists-no_globals c.args.globals c.args.args c.args.locals c.read_single.ensures c.in-Some.is c.read_map.ensures c.in_default-read_map.is
 
 pub read_map-requires-2 : goal.read_map-requires-2
 read_map-requires-2 c =
-    let h = args_room c.args.globals c.args.args c.args.locals c.read_single.ensures c.in-Got.is c.read_map.ensures c.in-Got-read_map.is c.requires.at_in_bounds.1 in
+    let h = args_room c.args.globals c.args.args c.args.locals c.read_single.ensures c.in-Some.is c.read_map.ensures c.in-Some-read_map.is c.requires.at_in_bounds.1 in
     record { good = c.read_map.ensures.kept.good; at_in_bounds = h; limit_le_absent = c.requires.limits.args_fit }
 
 pub shape_of-cells-in_default-read_map-2 : goal.shape_of-cells-in_default-read_map-2
@@ -36,11 +36,11 @@ shape_of-cells-in_default-read_map-2 c =
 
 pub returns-in_default-read_map-2 : goal.returns-in_default-read_map-2
 returns-in_default-read_map-2 c =
-    lists-no_args c.args.globals c.args.args c.args.locals c.read_single.ensures c.in-Got.is c.read_map.ensures c.in-Got-read_map.is c.read_map-2.ensures c.in_default-read_map-2.is
+    lists-no_args c.args.globals c.args.args c.args.locals c.read_single.ensures c.in-Some.is c.read_map.ensures c.in-Some-read_map.is c.read_map-2.ensures c.in_default-read_map-2.is
 
 pub read_map-requires-3 : goal.read_map-requires-3
 read_map-requires-3 c =
-    let h = locals_room c.args.globals c.args.args c.args.locals c.read_single.ensures c.in-Got.is c.read_map.ensures c.in-Got-read_map.is c.read_map-2.ensures c.in-Got-read_map-2.is c.requires.at_in_bounds.1 in
+    let h = locals_room c.args.globals c.args.args c.args.locals c.read_single.ensures c.in-Some.is c.read_map.ensures c.in-Some-read_map.is c.read_map-2.ensures c.in-Some-read_map-2.is c.requires.at_in_bounds.1 in
     record { good = c.read_map-2.ensures.kept.good; at_in_bounds = h; limit_le_absent = c.requires.limits.locals_fit }
 
 pub shape_of-cells-in_default-read_map-3 : goal.shape_of-cells-in_default-read_map-3
@@ -49,7 +49,7 @@ shape_of-cells-in_default-read_map-3 c =
 
 pub returns-in_default-read_map-3 : goal.returns-in_default-read_map-3
 returns-in_default-read_map-3 c =
-    lists-no_locals c.args.globals c.args.args c.args.locals c.read_single.ensures c.in-Got.is c.read_map.ensures c.in-Got-read_map.is c.read_map-2.ensures c.in-Got-read_map-2.is c.read_map-3.ensures c.in_default-read_map-3.is
+    lists-no_locals c.args.globals c.args.args c.args.locals c.read_single.ensures c.in-Some.is c.read_map.ensures c.in-Some-read_map.is c.read_map-2.ensures c.in-Some-read_map-2.is c.read_map-3.ensures c.in_default-read_map-3.is
 
 pub shape_of-cells : goal.shape_of-cells
 shape_of-cells c =
@@ -57,4 +57,4 @@ shape_of-cells c =
 
 pub returns : goal.returns
 returns c =
-    lists-got c.args.globals c.args.args c.args.locals c.read_single.ensures c.in-Got.is c.read_map.ensures c.in-Got-read_map.is c.read_map-2.ensures c.in-Got-read_map-2.is c.read_map-3.ensures c.in-Got-read_map-3.is
+    lists-got c.args.globals c.args.args c.args.locals c.read_single.ensures c.in-Some.is c.read_map.ensures c.in-Some-read_map.is c.read_map-2.ensures c.in-Some-read_map-2.is c.read_map-3.ensures c.in-Some-read_map-3.is

@@ -1,6 +1,6 @@
 -- `requests::begin::load_request` meets its contract: 12 of a request that is too long, what reading it refuses, or its base context in a fresh memory.
 use mathlib.Core.Path.{refl}
-use Rattle.requests.proofs.Basing.{long_refused, reading_room, load_malformed, load_no_such, load_short, load_bases, loaded_request}
+use Rattle.requests.proofs.Basing.{long_refused, reading_room, load_refused, load_bases, loaded_request}
 use native.Mathlib.Omega.{arith}
 use Rattle.requests.proofs.begin.load_request.Goals as goal
 
@@ -18,20 +18,12 @@ read_request-answer-requires c =
 
 pub load_base-requires : goal.load_base-requires
 load_base-requires c =
-    load_bases c.init_memory.ensures c.args.request.now c.args.functions c.args.globals c.args.report (omega (arith, c.if-get-request.false, c.get.type_inv)) c.read_request-answer.ensures c.in-Accepted.is (omega (arith, c.init_memory.auto.slots, c.requires.slot_count_in_bounds.0))
+    load_bases c.init_memory.ensures c.args.request.now c.args.functions c.args.globals c.args.report (omega (arith, c.if-get-request.false, c.get.type_inv)) c.read_request-answer.ensures c.in-Ok.is (omega (arith, c.init_memory.auto.slots, c.requires.slot_count_in_bounds.0))
 
-pub returns-in-Malformed : goal.returns-in-Malformed
-returns-in-Malformed c =
-    record { by = load_malformed c.init_memory.ensures c.args.request.now c.args.functions c.args.globals c.args.report (omega (arith, c.if-get-request.false, c.get.type_inv)) c.read_request-answer.ensures c.in-Malformed.is }
+pub returns-in-Err : goal.returns-in-Err
+returns-in-Err c =
+    record { by = rw c.from.ensures (load_refused c.init_memory.ensures c.args.request.now c.args.functions c.args.globals c.args.report (omega (arith, c.if-get-request.false, c.get.type_inv)) c.read_request-answer.ensures c.in-Err.is) }
 
-pub returns-in-NoSuch : goal.returns-in-NoSuch
-returns-in-NoSuch c =
-    record { by = load_no_such c.init_memory.ensures c.args.request.now c.args.functions c.args.globals c.args.report (omega (arith, c.if-get-request.false, c.get.type_inv)) c.read_request-answer.ensures c.in-NoSuch.is }
-
-pub returns-in-ShortReport : goal.returns-in-ShortReport
-returns-in-ShortReport c =
-    record { by = load_short c.init_memory.ensures c.args.request.now c.args.functions c.args.globals c.args.report (omega (arith, c.if-get-request.false, c.get.type_inv)) c.read_request-answer.ensures c.in-ShortReport.is }
-
-pub returns-in-Accepted : goal.returns-in-Accepted
-returns-in-Accepted c =
-    loaded_request c.init_memory.ensures c.args.request.now c.args.functions c.args.globals c.args.report (omega (arith, c.if-get-request.false, c.get.type_inv)) c.read_request-answer.ensures c.in-Accepted.is (omega (arith, c.init_memory.auto.slots, c.requires.slot_count_in_bounds.0)) c.load_base.ensures refl
+pub returns-in-Ok : goal.returns-in-Ok
+returns-in-Ok c =
+    loaded_request c.init_memory.ensures c.args.request.now c.args.functions c.args.globals c.args.report (omega (arith, c.if-get-request.false, c.get.type_inv)) c.read_request-answer.ensures c.in-Ok.is (omega (arith, c.init_memory.auto.slots, c.requires.slot_count_in_bounds.0)) c.load_base.ensures refl
