@@ -10,6 +10,8 @@ pub const SPLAT: u16 = 6;
 
 pub const SWIZZLE: u16 = 7;
 
+pub const COMPOSE: u16 = 8;
+
 pub const FUNCTION_ARGUMENT: u16 = 9;
 
 pub const GLOBAL_VARIABLE: u16 = 10;
@@ -31,6 +33,9 @@ pub const RELATIONAL: u16 = 20;
 pub const MATH: u16 = 21;
 
 pub const AS: u16 = 22;
+
+// And any that is higher.
+pub const LITERAL: u16 = 32;
 
 // A statement's from here on.
 pub const EMIT: u16 = 0;
