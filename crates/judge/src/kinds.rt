@@ -52,6 +52,8 @@ pub const CONTINUE: u16 = 6;
 
 pub const RETURN: u16 = 7;
 
+pub const KILL: u16 = 8;
+
 pub const STORE: u16 = 12;
 
 // The last but a break's, which is any that is higher.

@@ -26,4 +26,3 @@ returns-in-0 c =
 pub returns-in-0-2 : goal.returns-in-0-2
 returns-in-0-2 c =
     fits_first (record { given = c.requires.given; there = c.requires.e_in_bounds; is = c.expression-row.ensures }) c.is_value-value.ensures (search rules) (search rules)
-
