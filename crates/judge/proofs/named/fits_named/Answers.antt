@@ -33,4 +33,3 @@ leads_to-led-requires c =
 pub returns-in_default : goal.returns-in_default
 returns-in_default c =
     fits_load c.requires.row c.type_of-own.ensures c.expression_operand-pointer.ensures (load_left c.requires.le_kind c.requires.kind_bound (search rules) (search rules) (search rules)) c.is_value-value-in_default.ensures c.leads_to-led.ensures c.both-in_default.ensures
-

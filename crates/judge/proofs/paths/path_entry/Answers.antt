@@ -21,4 +21,3 @@ returns-in_default-2 c =
 pub returns-in_default-3 : goal.returns-in_default-3
 returns-in_default-3 c =
     entry_other _ _ _ _ _ c.expression-row.ensures (search rules) (search rules) (search rules) (search rules)
-

@@ -43,4 +43,3 @@ returns-in_default-2 c =
 pub returns-in_default-3 : goal.returns-in_default-3
 returns-in_default-3 c =
     fits_last c.requires.given _ c.requires.s_in_bounds c.statement-row.ensures (search rules)
-
