@@ -8,6 +8,9 @@ ghost use Rattle.judge.specs.Given.{scope_at, Given, Fits};
 ghost use Rattle.judge.specs.Blamed.{blamed};
 
 use crate::indexes::fits_index;
+use crate::kinds::{
+    ACCESS, ACCESS_INDEX, AS, COMPOSE, CONSTANT, FUNCTION_ARGUMENT, LITERAL, LOAD, SPLAT, UNARY,
+};
 use crate::made::fits_made;
 use crate::named::fits_named;
 use crate::operators::fits_operator;
@@ -33,34 +36,15 @@ pub fn fits_expression(
 {
     let row = expression(bytes, t, f, e);
     let value = is_value(bytes, t, f, types, paths, e);
-    if 31 < row.kind {
-        return value;
+    match row.kind {
+        0 | 1 | CONSTANT => value,
+        ACCESS_INDEX | ACCESS => fits_index(bytes, t, f, types, alike, paths, row, e),
+        SPLAT..=COMPOSE => fits_made(bytes, t, f, types, alike, paths, row, e),
+        FUNCTION_ARGUMENT..=LOAD => fits_named(bytes, t, f, types, alike, paths, row, e),
+        UNARY..=AS => fits_operator(bytes, t, f, types, alike, paths, row, e),
+        LITERAL.. => value,
+        _ => false,
     }
-    if 22 < row.kind {
-        return false;
-    }
-    if 15 < row.kind {
-        return fits_operator(bytes, t, f, types, alike, paths, row, e);
-    }
-    if 12 < row.kind {
-        return false;
-    }
-    if 8 < row.kind {
-        return fits_named(bytes, t, f, types, alike, paths, row, e);
-    }
-    if 5 < row.kind {
-        return fits_made(bytes, t, f, types, alike, paths, row, e);
-    }
-    if row.kind == 5 {
-        return value;
-    }
-    if 2 < row.kind {
-        return fits_index(bytes, t, f, types, alike, paths, row, e);
-    }
-    if row.kind == 2 {
-        return false;
-    }
-    value
 }
 
 // Whether the expression e fits and neither its type nor its pointee holds an unsized array.

@@ -34,6 +34,9 @@ pub const MATH: u16 = 21;
 
 pub const AS: u16 = 22;
 
+// And any that is higher.
+pub const LITERAL: u16 = 32;
+
 // A statement's from here on.
 pub const EMIT: u16 = 0;
 
@@ -48,6 +51,8 @@ pub const LOOP: u16 = 4;
 pub const CONTINUE: u16 = 6;
 
 pub const RETURN: u16 = 7;
+
+pub const KILL: u16 = 8;
 
 pub const STORE: u16 = 12;
 

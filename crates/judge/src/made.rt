@@ -170,18 +170,18 @@ pub fn fits_made(
     requires kind_bound { row.kind ≤ 8 }
     ensures { Fits bytes.now t.now f.0 e.0 result }
 {
-    if row.kind == SWIZZLE {
-        return fits_swizzle(bytes, t, f, types, alike, paths, row, e);
+    match row.kind {
+        SWIZZLE => fits_swizzle(bytes, t, f, types, alike, paths, row, e),
+        SPLAT => {
+            let value = expression_operand(bytes, row, 0);
+            let a = type_of(bytes, t, f, value);
+            let b = type_of(bytes, t, f, e);
+            let sized = both(
+                kind_at(types, a) == TypeKind::Scalar,
+                kind_at(types, b) == TypeKind::Vector,
+            );
+            both(is_value(bytes, t, f, types, paths, value), sized)
+        }
+        _ => fits_compose(bytes, t, f, types, alike, paths, row, e),
     }
-    if row.kind == SPLAT {
-        let value = expression_operand(bytes, row, 0);
-        let a = type_of(bytes, t, f, value);
-        let b = type_of(bytes, t, f, e);
-        let sized = both(
-            kind_at(types, a) == TypeKind::Scalar,
-            kind_at(types, b) == TypeKind::Vector,
-        );
-        return both(is_value(bytes, t, f, types, paths, value), sized);
-    }
-    fits_compose(bytes, t, f, types, alike, paths, row, e)
 }

@@ -69,22 +69,25 @@ pub fn fits_named(
     ensures { Fits bytes.now t.now f.0 e.0 result }
 {
     let own = type_of(bytes, t, f, e);
-    if row.kind == GLOBAL_VARIABLE {
-        let a = global(bytes, t, global_operand(bytes, row, 0));
-        return fits_variable(types, alike, a, own);
+    match row.kind {
+        GLOBAL_VARIABLE => {
+            let a = global(bytes, t, global_operand(bytes, row, 0));
+            fits_variable(types, alike, a, own)
+        }
+        LOCAL_VARIABLE => {
+            let a = local(bytes, t, f, local_operand(bytes, row, 0));
+            fits_variable(types, alike, a, own)
+        }
+        FUNCTION_ARGUMENT => {
+            let value = is_value(bytes, t, f, types, paths, e);
+            let a = argument(bytes, t, f, operand(bytes, row, 0) as u32);
+            both(value, is_alike(alike, a.ty, own))
+        }
+        _ => {
+            let value = is_value(bytes, t, f, types, paths, e);
+            let pointer = expression_operand(bytes, row, 0);
+            let led = leads_to(bytes, t, f, types, alike, paths, pointer, e);
+            both(value, led)
+        }
     }
-    if row.kind == LOCAL_VARIABLE {
-        let a = local(bytes, t, f, local_operand(bytes, row, 0));
-        return fits_variable(types, alike, a, own);
-    }
-    let value = is_value(bytes, t, f, types, paths, e);
-    if row.kind == FUNCTION_ARGUMENT {
-        let a = argument(bytes, t, f, operand(bytes, row, 0) as u32);
-        return both(value, is_alike(alike, a.ty, own));
-    }
-    let pointer = expression_operand(bytes, row, 0);
-    both(
-        value,
-        leads_to(bytes, t, f, types, alike, paths, pointer, e),
-    )
 }

@@ -94,19 +94,16 @@ pub fn fits_operator(
     let own = is_value(bytes, t, f, types, paths, e);
     let x = expression_operand(bytes, row, 0);
     let first = is_value(bytes, t, f, types, paths, x);
-    if row.kind == RELATIONAL {
-        return both(own, first);
+    match row.kind {
+        RELATIONAL => both(own, first),
+        BINARY => {
+            let y = expression_operand(bytes, row, 1);
+            both(own, both(first, is_value(bytes, t, f, types, paths, y)))
+        }
+        UNARY | AS => {
+            let same = is_alike(alike, type_of(bytes, t, f, x), type_of(bytes, t, f, e));
+            both(own, both(first, same))
+        }
+        _ => false,
     }
-    if row.kind == BINARY {
-        let y = expression_operand(bytes, row, 1);
-        return both(own, both(first, is_value(bytes, t, f, types, paths, y)));
-    }
-    let same = is_alike(alike, type_of(bytes, t, f, x), type_of(bytes, t, f, e));
-    if row.kind == UNARY {
-        return both(own, both(first, same));
-    }
-    if row.kind == AS {
-        return both(own, both(first, same));
-    }
-    false
 }

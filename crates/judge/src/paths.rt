@@ -16,20 +16,14 @@ fn path_entry(bytes: &[u8], t: &[u32], f: FunctionHandle, table: &[u32], e: Expr
     ensures { eqb result 1 ≡ path_by (marked table.now) (typed_at bytes.now t.now f.0 e.0).expression }
 {
     let row = expression(bytes, t, f, e);
-    if row.kind == GLOBAL_VARIABLE {
-        return 1;
+    match row.kind {
+        GLOBAL_VARIABLE | LOCAL_VARIABLE => 1,
+        ACCESS_INDEX | ACCESS => {
+            let base = expression_operand(bytes, row, 0);
+            word(table, base.0 as usize)
+        }
+        _ => 0,
     }
-    if row.kind == LOCAL_VARIABLE {
-        return 1;
-    }
-    let base = expression_operand(bytes, row, 0);
-    if row.kind == ACCESS_INDEX {
-        return word(table, base.0 as usize);
-    }
-    if row.kind == ACCESS {
-        return word(table, base.0 as usize);
-    }
-    0
 }
 
 // The table: lowest first, since an expression's operands are lower.

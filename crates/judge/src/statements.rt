@@ -7,7 +7,7 @@ ghost use Rattle.clearance.specs.Judged.{presently, is_value, fits_return, fits_
 ghost use Rattle.judge.specs.Given.{scope_at, Given, FitsStatement};
 ghost use Rattle.judge.specs.Blamed.{blamed};
 
-use crate::kinds::{LOOP, RETURN, STORE};
+use crate::kinds::{IF, KILL, LAST, LOOP, RETURN, STORE, SWITCH};
 use crate::named::leads_to;
 use crate::shapes::is_alike;
 use crate::values::{both, is_value, maybe_value, type_of};
@@ -55,34 +55,28 @@ pub fn fits_statement(
     ensures { FitsStatement bytes.now t.now f.0 s result }
 {
     let row = statement(bytes, t, f, s);
-    if 20 < row.kind {
-        return true;
+    match row.kind {
+        IF | SWITCH => {
+            let condition = expression_operand(bytes, row, 0);
+            is_value(bytes, t, f, types, paths, condition)
+        }
+        LOOP => {
+            let break_if = expression_operand(bytes, row, 2);
+            maybe_value(bytes, t, f, types, paths, break_if)
+        }
+        RETURN => {
+            let v = expression_operand(bytes, row, 0);
+            fits_return(bytes, t, f, types, alike, paths, v)
+        }
+        STORE => {
+            let pointer = expression_operand(bytes, row, 0);
+            let value = expression_operand(bytes, row, 1);
+            let led = leads_to(bytes, t, f, types, alike, paths, pointer, value);
+            both(is_value(bytes, t, f, types, paths, value), led)
+        }
+        KILL..=LAST => false,
+        _ => true,
     }
-    if row.kind == STORE {
-        let pointer = expression_operand(bytes, row, 0);
-        let value = expression_operand(bytes, row, 1);
-        let led = leads_to(bytes, t, f, types, alike, paths, pointer, value);
-        return both(is_value(bytes, t, f, types, paths, value), led);
-    }
-    if row.kind == RETURN {
-        let v = expression_operand(bytes, row, 0);
-        return fits_return(bytes, t, f, types, alike, paths, v);
-    }
-    if 7 < row.kind {
-        return false;
-    }
-    if row.kind == LOOP {
-        let break_if = expression_operand(bytes, row, 2);
-        return maybe_value(bytes, t, f, types, paths, break_if);
-    }
-    if 4 < row.kind {
-        return true;
-    }
-    if 1 < row.kind {
-        let condition = expression_operand(bytes, row, 0);
-        return is_value(bytes, t, f, types, paths, condition);
-    }
-    true
 }
 
 // The lowest statement that does not fit.

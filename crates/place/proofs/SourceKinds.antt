@@ -1,6 +1,7 @@
 -- The source of an expression's value, and whether an emit gives one, kind by kind.
 use Prim.Native.Nat.{ℕ, ◌+◌, ◌<◌, ◌≤◌}
 use native.Mathlib.Omega.{arith}
+use native.Mathlib.Decide.{ℕ_discrete}
 use mathlib.Core.Path.{◌≡◌, refl, sym, ap, ◌∙◌}
 use mathlib.Core.Bool.{Bool, true, false, cond, not, ◌&&◌}
 use mathlib.Core.List.{List}
@@ -114,13 +115,16 @@ module _ (bytes t : List ℕ) (f e : ℕ) {n : ℕ} (count : n ≡ length (funct
       source-evaluated h = sym (rw h at source_is)
 
     module _ {x : Bool} (path : x ≡ is_path S e) where
-      pub gives-constant : row.kind ≡ 3 → not x ≡ gives (arm S e)
+      -- an index' is 3 or 4
+      pub gives-index : 3 ≤ row.kind → row.kind ≤ 4 → not x ≡ gives (arm S e)
       unfolding arm_of expression_of gives
-      gives-constant h = rw path (sym (ap gives (arm_is 3 h) ∙ pointing-not (is_path S e) (access_index (o 0) (o 1)) refl))
-
-      pub gives-dynamic : row.kind ≡ 4 → not x ≡ gives (arm S e)
-      unfolding arm_of expression_of gives
-      gives-dynamic h = rw path (sym (ap gives (arm_is 4 h) ∙ pointing-not (is_path S e) (access (o 0) (o 1)) refl))
+      gives-index l m =
+          elim (ℕ_discrete row.kind 3) [
+            | yes h ↦ rw path (sym (ap gives (arm_is 3 h) ∙ pointing-not (is_path S e) (access_index (o 0) (o 1)) refl))
+            | no n ↦
+              let h : row.kind ≡ 4 = omega arith in
+              rw path (sym (ap gives (arm_is 4 h) ∙ pointing-not (is_path S e) (access (o 0) (o 1)) refl))
+          ]
 
     pub gives_other : {x : Bool} → x ≡ gives_kind row.kind → (row.kind ≡ 3 → ⊥) → (row.kind ≡ 4 → ⊥) → x ≡ gives (arm S e)
     gives_other q a b = q ∙ sym (ap gives (arm_is row.kind refl) ∙ gives-by S e o row.kind a b)

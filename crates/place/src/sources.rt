@@ -7,7 +7,10 @@ ghost use Rattle.place.specs.Sources.{source_by, is_fixed, gives_kind};
 
 use access::function::expressions;
 use access::kinded::{expression, operand};
-use judge::kinds::{ACCESS, ACCESS_INDEX, CONSTANT, DERIVATIVE, FUNCTION_ARGUMENT, LOAD};
+use judge::kinds::{
+    ACCESS, ACCESS_INDEX, AS, COMPOSE, CONSTANT, DERIVATIVE, FUNCTION_ARGUMENT, LITERAL, LOAD,
+    SPLAT, UNARY,
+};
 use judge::values::is_path;
 use module::handles::{ExpressionHandle, FunctionHandle};
 
@@ -23,13 +26,7 @@ pub enum Source {
 fn is_fixed(kind: u16) -> bool
     ensures { result ≡ is_fixed kind }
 {
-    if kind < 2 {
-        return true;
-    }
-    if kind == CONSTANT {
-        return true;
-    }
-    31 < kind
+    matches!(kind, 0 | 1 | CONSTANT | LITERAL..)
 }
 
 // Where the value of the expression e is; one that is not there is a literal.
@@ -53,19 +50,11 @@ pub fn source_of(bytes: &[u8], t: &[u32], f: FunctionHandle, e: ExpressionHandle
 fn gives_kind(kind: u16) -> bool
     ensures { result ≡ gives_kind kind }
 {
-    if kind < 9 {
-        return 5 < kind;
+    match kind {
+        DERIVATIVE => false,
+        SPLAT..=COMPOSE | LOAD | UNARY..=AS => true,
+        _ => false,
     }
-    if kind == LOAD {
-        return true;
-    }
-    if kind < 16 {
-        return false;
-    }
-    if kind == DERIVATIVE {
-        return false;
-    }
-    kind < 23
 }
 
 // Whether an emit gives the expression e its value.
@@ -84,11 +73,8 @@ pub fn gives_value(
         return false;
     }
     let row = expression(bytes, t, f, e);
-    if row.kind == ACCESS_INDEX {
-        return !is_path(bytes, t, f, types, paths, e);
+    match row.kind {
+        ACCESS_INDEX | ACCESS => !is_path(bytes, t, f, types, paths, e),
+        _ => gives_kind(row.kind),
     }
-    if row.kind == ACCESS {
-        return !is_path(bytes, t, f, types, paths, e);
-    }
-    gives_kind(row.kind)
 }

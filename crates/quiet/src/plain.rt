@@ -16,7 +16,7 @@ ghost use Rattle.quiet.specs.Places.{quiet_statement, Says};
 
 use crate::acts::{emit_idle, store_idle};
 use access::kinded::{Kinded, expression_operand};
-use judge::kinds::{CONTINUE, EMIT, LAST, RETURN, STORE};
+use judge::kinds::{CONTINUE, EMIT, KILL, LAST, RETURN, STORE};
 use module::handles::{ExpressionHandle, FunctionHandle};
 use strays::exits::Exits;
 
@@ -64,19 +64,12 @@ fn quiet_leaving(kind: u16, e: Exits) -> bool
     requires fact { kind ≡ 12 → ⊥ }
     ensures { (S : Scope) (n : PartReq) (f : Function) (marks : List ℕ) (block : Handle → Tree) (s : ℕ) (o : ℕ → ℕ) → result ≡ quiet S n (treeOfOne f marks block s (statement_of kind o)) (exits_of e) }
 {
-    if LAST < kind {
-        return e.broke;
+    match kind {
+        CONTINUE => e.continued,
+        RETURN => e.returned,
+        KILL..=LAST => true,
+        _ => e.broke,
     }
-    if RETURN < kind {
-        return true;
-    }
-    if kind == RETURN {
-        return e.returned;
-    }
-    if kind == CONTINUE {
-        return e.continued;
-    }
-    e.broke
 }
 
 // The statement s, by its row, whatever block it is in.

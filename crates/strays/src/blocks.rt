@@ -16,7 +16,7 @@ use crate::exits::{Exits, at_top, in_body, in_case, none};
 use crate::lower::lower_unless;
 use access::function::{block, body_block};
 use access::kinded::{Kinded, block_operand, operand, statement};
-use judge::kinds::{BLOCK, CONTINUE, EMIT, IF, LAST, LOOP, RETURN, SWITCH};
+use judge::kinds::{BLOCK, CONTINUE, EMIT, IF, KILL, LAST, LOOP, RETURN, SWITCH};
 use module::handles::{BlockHandle, FunctionHandle};
 
 // A statement that holds no blocks, of a kind past a loop's. A kind past the last is a break's.
@@ -24,19 +24,12 @@ fn stray_leaving(kind: u16, s: u32, e: Exits, low: Option<u32>) -> Option<u32>
     requires { 4 < kind }
     ensures { (f : Function) (block : Handle → Tree) (o : ℕ → ℕ) → blamed result ≡ lower_of (lowest (straysOf (statement_tree f [] block s (statement_of kind o)) (exits_of e))) (blamed low) }
 {
-    if LAST < kind {
-        return lower_unless(e.broke, s, low);
+    match kind {
+        CONTINUE => lower_unless(e.continued, s, low),
+        RETURN => lower_unless(e.returned, s, low),
+        KILL..=LAST => low,
+        _ => lower_unless(e.broke, s, low),
     }
-    if RETURN < kind {
-        return low;
-    }
-    if kind == RETURN {
-        return lower_unless(e.returned, s, low);
-    }
-    if kind == CONTINUE {
-        return lower_unless(e.continued, s, low);
-    }
-    lower_unless(e.broke, s, low)
 }
 
 #[cycle(stray_block_stray_cases_stray_statement)]
