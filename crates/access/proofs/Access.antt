@@ -11,13 +11,14 @@ use lib.ListN.{length, get_or}
 use Rattle.field.specs.Limits.{absent}
 use Rattle.module.specs.declared.tables.Row.{Row}
 use Rattle.module.specs.Module.{Statement, Typed, BlockRange, FunctionArg, FunctionResult, Function}
+use Rattle.module.specs.Access.{RangeIs}
 use Rattle.module.specs.Record.{body_at}
 use Rattle.module.specs.Decode.{option_of, expression_of, statement_of, result_of, arg_of, typed_of, st_of}
 use Rattle.module.specs.Reading.{range_of, closed}
-use Rattle.module.specs.Tables.{word, row_at, head_at, items_at, locals_from, expressions_from, open_of, function_of, module_of}
+use Rattle.module.specs.Tables.{word, row_at, head_at, items_at, starts_of, locals_from, expressions_from, open_of, function_of, module_of}
 use Rattle.module.proofs.Tab.{length-tab, get_d_tab}
 use Rattle.access.specs.declared.kinded.Kinded.{Kinded}
-use Rattle.access.specs.Access.{global_at, argument_at, local_at, typed_at, statement_at, starts_of, range_at, operand_at, expression_row, statement_row}
+use Rattle.access.specs.Access.{global_at, argument_at, local_at, typed_at, statement_at, range_at, operand_at, expression_row, statement_row}
 
 module _ (bytes t : List ℕ) where
   pub global_is : (g d : ℕ) → g < length (module_of bytes t).globals → get_or (module_of bytes t).globals g d ≡ global_at bytes t g
@@ -105,9 +106,9 @@ module _ (t : List ℕ) (f : ℕ) (r : Row) (h : r ≡ row_at t f) where
       ap (λ (x : Row). x.blocks) h
       ∙ sym (length-tab (length (starts_of t (row_at t f))) _ ∙ length-tab (row_at t f).blocks _)
 
-  pub block_read : (b first next count : ℕ) → first ≡ get_or (starts_of t r) b 0 → next ≡ get_or (starts_of t r) (b + 1) r.statements → count ≡ next - first → ◌≡◌ {A = BlockRange} (record { first = first; count = count }) (range_at t f b)
-  unfolding range_at range_of
-  block_read b first next count p q c = rw (c, q, p, h, add-one b)
+  pub block_read : (b first count : ℕ) → RangeIs (range_of (starts_of t r) r.statements b) first count → ◌≡◌ {A = BlockRange} (record { first = first; count = count }) (range_at t f b)
+  unfolding range_at
+  block_read b first count is = rw (is.is_first, is.is_count, h)
 
   pub result_read : (bytes : List ℕ) (a b : ℕ) → a ≡ get_or (body_at bytes r.offset) 1 0 → b ≡ get_or (body_at bytes r.offset) 2 0 → ◌≡◌ {A = Option FunctionResult} (cond (eqb a absent) nothing (some (record { type = a; binding = option_of b }))) (function_of bytes t f).result
   unfolding function_of closed open_of result_of

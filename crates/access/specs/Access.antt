@@ -3,15 +3,14 @@
 use Rattle.std.specs.Prelude.{ℕ, ◌+◌, cond, List, eqb, get_or}
 use Rattle.std.proofs.Math.Option.{Option, some, none as nothing}
 use Rattle.field.specs.Limits.{absent}
-use Rattle.module.specs.declared.tables.Row.{Row}
 use Rattle.module.specs.Module.{TypeHandle, GlobalHandle, LocalHandle, FunctionHandle, ExpressionHandle, BlockHandle, Statement, Typed, BlockRange, FunctionArg, FunctionResult}
 use Rattle.module.specs.Record.{body_at}
-use Rattle.module.specs.Decode.{tab, option_of, arg_of, typed_of, st_of}
+use Rattle.module.specs.Decode.{option_of, arg_of, typed_of, st_of}
 use Rattle.module.specs.Reading.{range_of}
-use Rattle.module.specs.Tables.{word, row_at, items_at, blocks_at, locals_from, expressions_from, statements_from, global_body, item_body}
+use Rattle.module.specs.Tables.{word, row_at, items_at, starts_of, locals_from, expressions_from, statements_from, global_body, item_body}
 use Rattle.access.specs.declared.kinded.Kinded.{Kinded}
 use Rattle.access.specs.declared.whole.Bound.{Bound}
-use Rattle.access.specs.declared.function.BlockRange as declared
+use Rattle.module.specs.declared.access.BlockRange as declared
 
 -- the numbers of an expression and of a statement among the items of the file
 abbrev pub expression_number : List ℕ → FunctionHandle → ExpressionHandle → ℕ
@@ -34,10 +33,6 @@ typed_at bytes t f e = typed_of (item_body bytes t (expression_number t f e))
 
 unfoldable pub statement_at : List ℕ → List ℕ → FunctionHandle → ℕ → Statement
 statement_at bytes t f s = st_of (item_body bytes t (statement_number t f s))
-
--- the first statements of a function's blocks
-abbrev pub starts_of : List ℕ → Row → List ℕ
-starts_of t r = tab r.blocks (λ b. word t (blocks_at + (r.earlier + b)))
 
 unfoldable pub range_at : List ℕ → FunctionHandle → BlockHandle → BlockRange
 range_at t f b = range_of (starts_of t (row_at t f)) (row_at t f).statements b

@@ -1,12 +1,13 @@
 // One function of the module, by its handle.
-ghost use Rattle.std.specs.Prelude.{◌≡◌, List, ℕ, pred, length, get_or};
+ghost use Rattle.std.specs.Prelude.{◌≡◌, List, ℕ, pred, length};
 ghost use Rattle.module.specs.Tables.{function_of};
-ghost use Rattle.access.specs.Access.{argument_at, local_at, typed_at, range_at, starts_of, arg_from, result_from, range_from};
+ghost use Rattle.access.specs.Access.{argument_at, local_at, typed_at, range_at, arg_from, result_from, range_from};
 
 use crate::whole::Bound;
+use module::access::{BlockRange, block_range};
 use module::handles::{BlockHandle, ExpressionHandle, FunctionHandle, LocalHandle, TypeHandle};
 use module::record::body;
-use module::tables::{BLOCKS, ITEMS, Row, row_at, word};
+use module::tables::{ITEMS, row_at, word};
 
 pub fn arguments(t: &[u32], f: FunctionHandle) -> u32
     ensures { (bytes : List ℕ) → result ≡ length (function_of bytes t.now f.0).arguments }
@@ -47,11 +48,7 @@ pub fn blocks(t: &[u32], f: FunctionHandle) -> u32
 pub fn body_block(t: &[u32], f: FunctionHandle) -> BlockHandle
     ensures { (bytes : List ℕ) → result.0 ≡ pred (length (function_of bytes t.now f.0).blocks) }
 {
-    let n = blocks(t, f);
-    if n == 0 {
-        return BlockHandle(0);
-    }
-    BlockHandle(n - 1)
+    BlockHandle(blocks(t, f).saturating_sub(1))
 }
 
 // The result, whose type is absent where the function has none.
@@ -80,8 +77,7 @@ pub fn local(bytes: &[u8], t: &[u32], f: FunctionHandle, l: LocalHandle) -> Type
     ensures { result.0 ≡ local_at bytes.now t.now f.0 l.0 }
 {
     let row = row_at(t, f.0);
-    let from = (row.items as usize) + (row.arguments as usize);
-    let offset = word(t, ITEMS + (from + (l.0 as usize)));
+    let offset = word(t, ITEMS + (row.locals_from() + (l.0 as usize)));
     TypeHandle(body(bytes, offset, 0) as u32)
 }
 
@@ -94,42 +90,13 @@ pub fn expression_type(
     ensures { result.0 ≡ (typed_at bytes.now t.now f.0 e.0).type }
 {
     let row = row_at(t, f.0);
-    let from = (row.items as usize) + (row.arguments as usize) + (row.locals as usize);
-    let offset = word(t, ITEMS + (from + (e.0 as usize)));
+    let offset = word(t, ITEMS + (row.expressions_from() + (e.0 as usize)));
     TypeHandle(body(bytes, offset, 0) as u32)
-}
-
-// The statements of a block: `count` of them, from `first` on.
-#[derive(Clone, Copy)]
-pub struct BlockRange {
-    pub first: u32,
-    pub count: u32,
-}
-
-// The first statement of the block b, and `past` where there is no such block.
-fn first_statement(t: &[u32], row: Row, b: usize, past: u32) -> u32
-    ensures { result ≡ get_or (starts_of t.now row) b past }
-{
-    if b < (row.blocks as usize) {
-        return word(t, BLOCKS + ((row.earlier as usize) + b));
-    }
-    past
 }
 
 pub fn block(t: &[u32], f: FunctionHandle, b: BlockHandle) -> BlockRange
     ensures { range_from result ≡ range_at t.now f.0 b.0 }
 {
     let row = row_at(t, f.0);
-    let first = first_statement(t, row, b.0 as usize, 0);
-    let next = first_statement(t, row, (b.0 as usize) + 1, row.statements);
-    if next < first {
-        return BlockRange {
-            first: first,
-            count: 0,
-        };
-    }
-    BlockRange {
-        first: first,
-        count: next - first,
-    }
+    block_range(t, row, b)
 }

@@ -7,7 +7,7 @@ use module::record::body;
 use module::tables::{ITEMS, row_at, word};
 
 // The kind of a record, its place, and how many fields stand before its operands.
-#[derive(Clone, Copy)]
+#[derive(Clone, Copy, Debug, PartialEq, Eq)]
 pub struct Kinded {
     pub kind: u16,
     pub offset: u32,
@@ -22,6 +22,7 @@ pub fn operand(bytes: &[u8], row: Kinded, j: u16) -> u16
 }
 
 // The same as the handle that it is. An operand that may be absent has the number 65535 then.
+// Stays: a function for each handle. One over a type parameter asks for a From of each handle, which is longer, and says no more.
 pub fn expression_operand(bytes: &[u8], row: Kinded, j: u16) -> ExpressionHandle
     ensures { result.0 ≡ operand_at bytes.now row j }
 {
@@ -59,18 +60,14 @@ pub fn expression_number(t: &[u32], f: FunctionHandle, e: ExpressionHandle) -> u
     ensures { result ≡ expression_number t.now f.0 e.0 }
 {
     let row = row_at(t, f.0);
-    (row.items as usize) + (row.arguments as usize) + (row.locals as usize) + (e.0 as usize)
+    row.expressions_from() + (e.0 as usize)
 }
 
 pub fn expression(bytes: &[u8], t: &[u32], f: FunctionHandle, e: ExpressionHandle) -> Kinded
     ensures { result ≡ expression_row bytes.now t.now f.0 e.0 }
 {
     let row = row_at(t, f.0);
-    let number = (row.items as usize)
-        + (row.arguments as usize)
-        + (row.locals as usize)
-        + (e.0 as usize);
-    let offset = word(t, ITEMS + number);
+    let offset = word(t, ITEMS + (row.expressions_from() + (e.0 as usize)));
     Kinded {
         kind: body(bytes, offset, 1),
         offset: offset,
@@ -82,11 +79,7 @@ pub fn statement(bytes: &[u8], t: &[u32], f: FunctionHandle, s: u32) -> Kinded
     ensures { result ≡ statement_row bytes.now t.now f.0 s }
 {
     let row = row_at(t, f.0);
-    let from = (row.items as usize)
-        + (row.arguments as usize)
-        + (row.locals as usize)
-        + (row.expressions as usize);
-    let offset = word(t, ITEMS + (from + (s as usize)));
+    let offset = word(t, ITEMS + (row.statements_from() + (s as usize)));
     Kinded {
         kind: body(bytes, offset, 0),
         offset: offset,

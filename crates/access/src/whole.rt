@@ -8,7 +8,7 @@ use module::handles::{GlobalHandle, TypeHandle};
 use module::tables::{HEAD, word};
 
 // A type and a binding, 65535 where it is absent.
-#[derive(Clone, Copy)]
+#[derive(Clone, Copy, Debug, PartialEq, Eq)]
 pub struct Bound {
     pub ty: TypeHandle,
     pub binding: u16,

@@ -1,5 +1,5 @@
 -- The numbers of 01's refusals.
-use Rattle.std.specs.Prelude.{ℕ}
+use Rattle.std.specs.Prelude.{ℕ, ⊤, Result, Ok, Err}
 use Rattle.field.specs.declared.refusal.Refusal.{Refusal}
 use Rattle.field.specs.declared.refusal.Refusal.TheVariants.{ModuleTooLong, RecordCut, MarkMisplaced, ModuleLimit, ValueNotAllowed, NoSuch, Malformed, Panic, Unsettled, PartLimit, PiecesLimit, VisitsLimit, ReportTooShort, PrunerUnfit, AnswerTooShort, MarksUnfit, CheckBound}
 
@@ -21,3 +21,8 @@ number PrunerUnfit = 19
 number AnswerTooShort = 20
 number MarksUnfit = 21
 number CheckBound = 26
+
+-- 0, or the number of the refusal
+abbrev pub number_of : Result ⊤ Refusal → ℕ
+number_of (Ok u) = 0
+number_of (Err r) = number r

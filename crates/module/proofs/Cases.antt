@@ -12,7 +12,7 @@ use lib.Seq.{get_or-set_same, get_or-set_other}
 use borrow.Author.Tests.{eq-eqb, ne_eqb}
 use Rattle.field.specs.Field.{field_at}
 use Rattle.field.specs.Limits.{absent}
-use Rattle.module.specs.declared.operands.Left.TheVariants.{Fields, Nothing}
+use Rattle.std.specs.Prelude.{Some, None}
 use Rattle.module.specs.Record.{fields_to}
 use Rattle.module.specs.Operands.{cases_after, elem, given}
 use Rattle.module.specs.Scan.{Took, Fresh, Stamped, values}
@@ -69,7 +69,7 @@ module _ {bytes : List ℕ} {end stamp : ℕ} {first : List ℕ} {whole : Option
       let e : suc (more - 1) ≡ more = omega arith in
       ap (λ (k : ℕ). cases_after s.earlier k (fields_to bytes end left)) e ∙ s.rest
 
-  pub cases_short : 0 < more → left < 2 → Took bytes end whole Nothing
+  pub cases_short : 0 < more → left < 2 → Took bytes end whole None
   cases_short h l = refusal (sym (one_more h) ∙ short bytes end s.earlier (more - 1) left l)
 
   module _ (value : ℕ) (small : value < values) (h : 0 < more) (l : 2 ≤ left) (at : value ≡ field_at bytes (end - 2 * left)) where
@@ -79,7 +79,7 @@ module _ {bytes : List ℕ} {end stamp : ℕ} {first : List ℕ} {whole : Option
         let e : left - 1 - 1 ≡ left - 2 = omega arith in
         rw (fields_cons bytes end left (omega arith), fields_cons bytes end (left - 1) (omega arith), e, ← at)
 
-    pub cases_twice : get_or seen value 0 ≡ stamp → Took bytes end whole Nothing
+    pub cases_twice : get_or seen value 0 ≡ stamp → Took bytes end whole None
     cases_twice e =
         let q : elem value s.earlier ≡ true = sym (s.marks value small) ∙ eq-eqb _ _ e in
         refusal (sym (one_more h) ∙ (rw q at step))
@@ -102,12 +102,12 @@ module _ {bytes : List ℕ} {end stamp : ℕ} {first : List ℕ} {whole : Option
       let e : 0 ≡ more = omega arith in
       ap (λ (k : ℕ). cases_after s.earlier k (fields_to bytes end left)) e ∙ s.rest
 
-  pub cases_done : more ≤ 0 → get_or seen absent 0 ≡ stamp → Took bytes end whole (Fields left)
+  pub cases_done : more ≤ 0 → get_or seen absent 0 ≡ stamp → Took bytes end whole (Some left)
   cases_done h e =
       let q : elem absent s.earlier ≡ true = sym (s.marks absent (omega arith)) ∙ eq-eqb _ _ e in
       record { fits = s.fits; is = sym (rw q at (end_of h)) }
 
-  pub cases_no_default : more ≤ 0 → (get_or seen absent 0 ≡ stamp → ⊥) → Took bytes end whole Nothing
+  pub cases_no_default : more ≤ 0 → (get_or seen absent 0 ≡ stamp → ⊥) → Took bytes end whole None
   cases_no_default h ne =
       let q : elem absent s.earlier ≡ false = sym (s.marks absent (omega arith)) ∙ ne_eqb _ _ ne in
       refusal (sym (rw q at (end_of h)))

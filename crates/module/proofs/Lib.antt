@@ -2,7 +2,6 @@ pub mod Cases
 pub mod Counted
 pub mod Each
 pub mod Fields
-pub mod Modules
 pub mod Records
 pub mod Scanning
 pub mod Shaped

@@ -5,8 +5,12 @@ use Prim.Native.Nat.{ℕ, zero, suc, ◌<◌, ◌≤◌}
 use native.Mathlib.Omega.{arith}
 use native.Mathlib.Nat.{le_of_suc-le-suc}
 use lib.ListN.{length, get_or, get_or-eq_default}
+use borrow.Author.Tests.{ne_eqb}
+use Rattle.std.specs.Prelude.{Some}
+use Rattle.std.proofs.lemmas.List.{get_or-map}
+use Rattle.module.specs.declared.shape.Class.{Class}
 use Rattle.module.specs.Shape.{Operand, never, type_shapes, type_shape, expression_shapes, expression_shape, statement_shapes, statement_shape}
-use Rattle.module.specs.Packed.{operand_of, class_then, unpack, classes}
+use Rattle.module.specs.Packed.{operand_of, class_then, unpack, classes, meant, class_at}
 
 row : (table : List ℕ) (k : ℕ) → k < length table → get_or (map (unpack classes) table) k (never ∷ []) ≡ unpack classes (get_or table k 0)
 row [] k h = absurd (omega arith)
@@ -57,3 +61,14 @@ statement-row k h = row_of statement_table statement_shapes statements_whole k h
 pub no_statement : (k : ℕ) → 21 ≤ k → unpack classes 21 ≡ statement_shape k
 unfolding statement_shapes unpack class_then operand_of
 no_statement k h = sym (get_or-eq_default statement_shapes (never ∷ []) h)
+
+abbrev class_table : List Class
+class_table = Class.Never ∷ Class.Expression ∷ Class.Optional ∷ Class.Index ∷ Class.List ∷ Class.Pattern ∷ Class.Level ∷ Class.Mode ∷ Class.Argument ∷ Class.Global ∷ Class.Local ∷ Class.Block ∷ Class.Cases ∷ Class.Function ∷ Class.Range ∷ Class.«Type» ∷ Class.Size ∷ Class.Members ∷ Class.Binding ∷ Class.Flag ∷ Class.Result ∷ []
+
+pub class_row : (d : Class) (k : ℕ) → (k ≡ 0 → ⊥) → k ≤ 20 → Some (meant (get_or class_table k d)) ≡ class_at k
+unfolding meant operand_of
+class_row d k ne h = rw (ne_eqb k 0 ne, get_or-map meant class_table k d never (omega arith))
+
+pub no_class : (k : ℕ) → 20 < k → Some never ≡ class_at k
+unfolding meant operand_of
+no_class k h = rw (ne_eqb k 0 (λ e. omega arith)) (ap (λ (o : Operand). Some o) (sym (get_or-eq_default (map meant class_table) never h)))

@@ -1,11 +1,10 @@
 -- Records of a file: "two-letter mark, 16-bit body length, 16-bit fields, little-endian".
-use Rattle.std.specs.Prelude.{ℕ, zero, suc, ◌+◌, ◌*◌, ◌-◌, ◌/◌, ◌%◌, Bool, cond, List, [], ◌∷◌, eqb}
+use Rattle.std.specs.Prelude as rattle
+use Rattle.std.specs.Prelude.{Some, None, ℕ, zero, suc, ◌+◌, ◌*◌, ◌-◌, ◌/◌, ◌%◌, Bool, cond, List, [], ◌∷◌, eqb}
 use Rattle.std.proofs.Math.Option.{Option, some, none as nothing}
 use Rattle.field.specs.Field.{field_at}
 use Rattle.module.specs.declared.record.Mark.{Mark}
 use Rattle.module.specs.declared.record.Mark.TheVariants.{TY, GV, FN, AR, LV, EX, BK, ST}
-use Rattle.module.specs.declared.record.Known.{Known}
-use Rattle.module.specs.declared.record.Known.TheVariants.{Unknown}
 
 -- the last n fields before the byte `end`
 unfoldable pub fields_to : List ℕ → ℕ → ℕ → List ℕ
@@ -32,9 +31,9 @@ abbrev pub even : List ℕ → ℕ → Bool
 even bytes at = eqb (length_at bytes at % 2) 0
 
 -- what `mark_of` finds
-unfoldable pub known : Known → Option Mark
-known (Known.Mark m) = some m
-known Unknown = nothing
+unfoldable pub known : rattle.Option Mark → Option Mark
+known (Some m) = some m
+known None = nothing
 
 -- the field that two letters make
 abbrev pub letters : ℕ → ℕ → ℕ

@@ -1,13 +1,13 @@
 -- How the code says what it has found of a record's fields.
-use Rattle.std.specs.Prelude.{ℕ, ◌*◌, ◌≤◌, ◌<◌, ◌≡◌, Bool, true, false, not, cond, List, eqb, length, get_or}
+use Rattle.std.specs.Prelude as rattle
+use Rattle.std.specs.Prelude.{Some, None, ℕ, ◌*◌, ◌≤◌, ◌<◌, ◌≡◌, Bool, true, false, not, List, length, get_or}
 use Rattle.std.proofs.Math.Option.{Option, some, none as nothing}
-use Rattle.module.specs.declared.operands.Left.{Left}
-use Rattle.module.specs.declared.operands.Left.TheVariants.{Fields, Nothing}
+use Rattle.module.specs.declared.shape.Class.{Class}
 use Rattle.module.specs.declared.operands.Test.{Test}
 use Rattle.module.specs.declared.operands.Test.TheVariants.{Below, BelowOrAbsent, Size, Any, Callable, Never}
 use Rattle.module.specs.Record.{fields_to}
 use Rattle.module.specs.Decode.{tab}
-use Rattle.module.specs.Packed.{operand_of}
+use Rattle.module.specs.Packed.{meant}
 use Rattle.module.specs.Operands.{Scope, below, below_or_absent, two_to_four, taken}
 use Rattle.module.specs.Tables.{row_at, entry_of}
 
@@ -21,16 +21,16 @@ pass_of bytes t (Callable n) x = not (get_or (tab n (λ f. entry_of bytes (row_a
 pass_of bytes t Never x = false
 
 -- how many fields are left, and which
-abbrev pub left_over : Left → ℕ
-left_over (Fields m) = m
-left_over Nothing = 0
+abbrev pub left_over : rattle.Option ℕ → ℕ
+left_over (Some m) = m
+left_over None = 0
 
-abbrev pub left_of : List ℕ → ℕ → Left → Option (List ℕ)
-left_of bytes end (Fields m) = some (fields_to bytes end m)
-left_of bytes end Nothing = nothing
+abbrev pub left_of : List ℕ → ℕ → rattle.Option ℕ → Option (List ℕ)
+left_of bytes end (Some m) = some (fields_to bytes end m)
+left_of bytes end None = nothing
 
 -- r is what the definition gives
-pub record Took (bytes : List ℕ) (end : ℕ) (want : Option (List ℕ)) (r : Left) : Type 0 where
+pub record Took (bytes : List ℕ) (end : ℕ) (want : Option (List ℕ)) (r : rattle.Option ℕ) : Type 0 where
   pub fits : 2 * left_over r ≤ end
   pub is : want ≡ left_of bytes end r
 
@@ -49,5 +49,6 @@ pub record Stamped (before after : List ℕ) (stamp : ℕ) : Type 0 where
   pub low : (v : ℕ) → get_or after v 0 ≤ stamp
 
 -- what is left after an operand of this class, or after none
-unfoldable pub class_taken : ℕ → Scope → List ℕ → Option (List ℕ)
-class_taken class s xs = cond (eqb class 0) (some xs) (taken (operand_of class) s xs)
+unfoldable pub class_taken : rattle.Option Class → Scope → List ℕ → Option (List ℕ)
+class_taken None s xs = some xs
+class_taken (Some class) s xs = taken (meant class) s xs

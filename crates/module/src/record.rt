@@ -2,7 +2,7 @@
 ghost use Rattle.std.specs.Prelude.{◌≡◌, get_or};
 ghost use Rattle.module.specs.Record.{mark_of, known, body_at};
 
-#[derive(Clone, Copy)]
+#[derive(Clone, Copy, Debug, PartialEq, Eq)]
 pub enum Mark {
     TY,
     GV,
@@ -14,26 +14,20 @@ pub enum Mark {
     ST,
 }
 
-#[derive(Clone, Copy)]
-pub enum Known {
-    Mark(Mark),
-    Unknown,
-}
-
 // The mark that the two letters make, read as one field.
-pub fn mark_of(letters: u16) -> Known
+pub fn mark_of(letters: u16) -> Option<Mark>
     ensures { known result ≡ mark_of letters }
 {
     match letters {
-        22868 => Known::Mark(Mark::TY),
-        22087 => Known::Mark(Mark::GV),
-        20038 => Known::Mark(Mark::FN),
-        21057 => Known::Mark(Mark::AR),
-        22092 => Known::Mark(Mark::LV),
-        22597 => Known::Mark(Mark::EX),
-        19266 => Known::Mark(Mark::BK),
-        21587 => Known::Mark(Mark::ST),
-        _ => Known::Unknown,
+        22868 => Some(Mark::TY),
+        22087 => Some(Mark::GV),
+        20038 => Some(Mark::FN),
+        21057 => Some(Mark::AR),
+        22092 => Some(Mark::LV),
+        22597 => Some(Mark::EX),
+        19266 => Some(Mark::BK),
+        21587 => Some(Mark::ST),
+        _ => None,
     }
 }
 

@@ -1,10 +1,35 @@
 // The operands of each kind. A shape is at most six operand classes, five bits each, the first lowest; 0 is no class.
-ghost use Rattle.std.specs.Prelude.{◌≡◌};
+ghost use Rattle.std.specs.Prelude.{◌≡◌, option_map};
 ghost use Rattle.module.specs.Shape.{type_shape, expression_shape, statement_shape};
-ghost use Rattle.module.specs.Packed.{unpack, classes};
+ghost use Rattle.module.specs.Packed.{unpack, classes, meant, class_at};
 
-// One class: expression, optional, index, list, pattern, level, mode, argument, global, local, block, cases, function, range,
-// type, size, members, binding, flag, result, never.
+#[derive(Clone, Copy, Debug, PartialEq, Eq)]
+pub enum Class {
+    Never,
+    Expression,
+    Optional,
+    Index,
+    List,
+    Pattern,
+    Level,
+    Mode,
+    Argument,
+    Global,
+    Local,
+    Block,
+    Cases,
+    Function,
+    Range,
+    Type,
+    Size,
+    Members,
+    Binding,
+    Flag,
+    Result,
+}
+
+// One class by its number: expression, optional, index, list, pattern, level, mode, argument, global, local, block, cases, function,
+// range, type, size, members, binding, flag, result, never.
 pub const E: u32 = 1;
 
 pub const O: u32 = 2;
@@ -92,6 +117,31 @@ const EEOE: u32 = EEO + 32768 * E;
 
 const MEE: u32 = M + 32 * EE;
 
+// The class of each number.
+const CLASSES: [Class; 21] = [
+    Class::Never,
+    Class::Expression,
+    Class::Optional,
+    Class::Index,
+    Class::List,
+    Class::Pattern,
+    Class::Level,
+    Class::Mode,
+    Class::Argument,
+    Class::Global,
+    Class::Local,
+    Class::Block,
+    Class::Cases,
+    Class::Function,
+    Class::Range,
+    Class::Type,
+    Class::Size,
+    Class::Members,
+    Class::Binding,
+    Class::Flag,
+    Class::Result,
+];
+
 const TYPES: [u32; 9] = [0, Z, ZZ, 0, T, TN, Q, T, 0];
 
 const EXPRESSIONS: [u32; 32] = [
@@ -102,6 +152,18 @@ const EXPRESSIONS: [u32; 32] = [
 const STATEMENTS: [u32; 21] = [
     R, B, EBB, EC, BBO, 0, 0, O, 0, 0, 0, 0, EE, EEO, FLO, EEOE, E, EE, EO, MEE, EE,
 ];
+
+pub fn class_of(bits: u32) -> Option<Class>
+    ensures { option_map meant result ≡ class_at bits }
+{
+    if bits == 0 {
+        return None;
+    }
+    if 20 < bits {
+        return Some(Class::Never);
+    }
+    Some(CLASSES[bits as usize])
+}
 
 pub fn type_shape(kind: u16) -> u32
     ensures { unpack classes result ≡ type_shape kind }

@@ -2,7 +2,7 @@
 // globals and items (arguments, locals, expressions and statements, in the file's order), the first statement of each block, a
 // mark for each expression of the function that is read, and the counts of the whole.
 ghost use Rattle.std.specs.Prelude.{◌≡◌, get_or, set, ◌*◌, ◌+◌};
-ghost use Rattle.module.specs.Tables.{row_at, set_row};
+ghost use Rattle.module.specs.Tables.{row_at, set_row, locals_from, expressions_from, statements_from, items_to};
 
 use field::limits::{MAX_BYTES, MAX_EXPRESSIONS, MAX_FUNCTIONS, MAX_GLOBALS, MAX_TYPES};
 
@@ -24,7 +24,7 @@ pub const HEAD: usize = MARKS + MAX_EXPRESSIONS;
 pub const WORDS: usize = HEAD + 3;
 
 // Of a function: the offset of its FN, how many items and blocks there are before it, and how many of each it has.
-#[derive(Clone, Copy)]
+#[derive(Clone, Copy, Debug, PartialEq, Eq)]
 pub struct Row {
     pub offset: u32,
     pub items: u32,
@@ -36,8 +36,35 @@ pub struct Row {
     pub blocks: u32,
 }
 
+// The items of each sort, from the function's first, and one past its last.
+impl Row {
+    pub fn locals_from(self) -> usize
+        ensures { result ≡ locals_from self }
+    {
+        (self.items as usize) + (self.arguments as usize)
+    }
+
+    pub fn expressions_from(self) -> usize
+        ensures { result ≡ expressions_from self }
+    {
+        self.locals_from() + (self.locals as usize)
+    }
+
+    pub fn statements_from(self) -> usize
+        ensures { result ≡ statements_from self }
+    {
+        self.expressions_from() + (self.expressions as usize)
+    }
+
+    pub fn items_to(self) -> usize
+        ensures { result ≡ items_to self }
+    {
+        self.statements_from() + (self.statements as usize)
+    }
+}
+
 // How far a file has come, how many of each there are, and the row of the open function.
-#[derive(Clone, Copy)]
+#[derive(Clone, Copy, Debug, PartialEq, Eq)]
 pub struct Counts {
     pub stage: u32,
     pub types: u32,

@@ -17,7 +17,8 @@ use Rattle.module.specs.declared.record.Mark.{Mark}
 use Rattle.module.specs.declared.record.Mark.TheVariants.{TY, GV, FN, AR, LV, EX, BK, ST}
 use Rattle.module.specs.File.{go, ended, ended_at}
 use Rattle.module.specs.Tables.{word, types_at, globals_at, items_at, blocks_at, row_at, set_row, items_to, open_of, function_of, reading_of}
-use Rattle.reading.specs.declared.ends.Step.TheVariants.{Go}
+use Rattle.std.specs.Prelude.{Result, Ok}
+use Rattle.field.specs.declared.refusal.Refusal.{Refusal}
 use Rattle.reading.specs.Progress.{Used, Progress, Ready}
 use Rattle.reading.specs.Ends.{next_of, one_more, is_open, rule_of, step_by, table_by, step_ended, table_ended, step_at, table_at}
 use Rattle.reading.proofs.Rows.{length-set_row, set_row_other, set_row_same, set_row_apart}
@@ -105,7 +106,7 @@ module _ (bytes t : List ℕ) (c : Counts) (at : ℕ) (p : Progress bytes t c at
         next = follows o;
       }
 
-  went_by : (o r : Bool) → is_open c ≡ o → (d : Counts) → step_by o r c ≡ Go d → Used bytes (table_by o r t c) d at × (d.stage ≡ c.stage)
+  went_by : (o r : Bool) → is_open c ≡ o → (d : Counts) → step_by o r c ≡ Ok d → Used bytes (table_by o r t c) d at × (d.stage ≡ c.stage)
   went_by false r e d q =
       let k : c ≡ d = cc in
       rw (sym k) (p.used, refl)
@@ -117,7 +118,7 @@ module _ (bytes t : List ℕ) (c : Counts) (at : ℕ) (p : Progress bytes t c at
       rw (sym k) (used_more e, refl)
 
   -- the file goes on after the function
-  pub ended_used : (d : Counts) → step_ended bytes t c ≡ Go d → Used bytes (table_ended bytes t c) d at × (d.stage ≡ c.stage)
+  pub ended_used : (d : Counts) → step_ended bytes t c ≡ Ok d → Used bytes (table_ended bytes t c) d at × (d.stage ≡ c.stage)
   unfolding table_ended step_ended
   ended_used d q = went_by (is_open c) (rule_of bytes t c) refl d q
 
@@ -133,12 +134,12 @@ module _ (bytes t : List ℕ) (c : Counts) (at : ℕ) (p : Progress bytes t c at
   at_is ST = refl
 
   -- a record of any mark but FN finds the counts as they were
-  unmoved : (d : Counts) → Go c ≡ Go d → Progress bytes t d at × (d.stage ≡ c.stage)
+  unmoved : (d : Counts) → ◌≡◌ {A = Result Counts Refusal} (Ok c) (Ok d) → Progress bytes t d at × (d.stage ≡ c.stage)
   unmoved d q =
       let k : c ≡ d = cc in
       rw (sym k) (p, refl)
 
-  pub at_ready : (mark : Mark) (d : Counts) → step_at bytes t mark c ≡ Go d → Ready mark bytes (table_at bytes t mark c) d at × (d.stage ≡ c.stage)
+  pub at_ready : (mark : Mark) (d : Counts) → step_at bytes t mark c ≡ Ok d → Ready mark bytes (table_at bytes t mark c) d at × (d.stage ≡ c.stage)
   unfolding table_at step_at
   at_ready TY d q = unmoved d q
   at_ready GV d q = unmoved d q

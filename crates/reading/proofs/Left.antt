@@ -10,8 +10,9 @@ use Rattle.module.specs.declared.tables.Counts.{Counts}
 use Rattle.module.specs.Scan.{values}
 use Rattle.module.specs.File.{Next, go, stop, ended, record_next, answer_of, onward, read_from, read_module}
 use Rattle.module.specs.Tables.{words, max_items, reading_of}
-use Rattle.reading.specs.declared.ends.Step.{Step}
-use Rattle.reading.specs.declared.ends.Step.TheVariants.{Go, Stop}
+use Rattle.std.specs.Prelude.{Result, Ok, Err}
+use Rattle.field.specs.declared.refusal.Refusal.{Refusal}
+use Rattle.field.specs.Refusal.{number}
 use Rattle.reading.specs.Progress.{Progress}
 use Rattle.reading.specs.Ends.{next_of}
 use Rattle.reading.specs.Steps.{after, Between, Stepped}
@@ -85,19 +86,19 @@ module _ (bytes t : List ℕ) (c : Counts) (at fuel : ℕ) (enough : length byte
       ∙ rest
 
 module _ {bytes t seen held : List ℕ} {c : Counts} {at : ℕ} (l : Left bytes t seen held c at) where
-  pub left_done : length bytes ≤ at → Passed bytes t (Go c)
+  pub left_done : length bytes ≤ at → Passed bytes t (Ok c)
   left_done h =
       let e : at ≡ length bytes = omega (arith, l.between.progress.used.here) in
       (rw e at l.between.progress, ended-with bytes t c at l.fuel l.enough l.rest (l.fuel - 1) (omega (arith, l.enough)) h)
 
-  module _ (there : at < length bytes) {u after-seen : List ℕ} {s : Step} (r : Stepped bytes u after-seen at (record_next bytes at (reading_of bytes t c)) s) where
-    pub left_stops : (n : ℕ) → s ≡ Stop n → Passed bytes u s
+  module _ (there : at < length bytes) {u after-seen : List ℕ} {s : Result Counts Refusal} (r : Stepped bytes u after-seen at (record_next bytes at (reading_of bytes t c)) s) where
+    pub left_stops : (n : Refusal) → s ≡ Err n → Passed bytes u (Err n)
     unfolding next_of
     left_stops n k =
-        let q : stop n ≡ record_next bytes at (reading_of bytes t c) = sym (ap (next_of bytes u) k) ∙ r.is in
-        rw k (sym (fuelled bytes t c at l.fuel l.enough l.rest (l.fuel - 1) (omega (arith, l.enough)) there (stop n) q))
+        let q : stop (number n) ≡ record_next bytes at (reading_of bytes t c) = sym (ap (next_of bytes u) k) ∙ r.is in
+        sym (fuelled bytes t c at l.fuel l.enough l.rest (l.fuel - 1) (omega (arith, l.enough)) there (stop (number n)) q)
 
-    pub left_again : (after-held : List ℕ) (d : Counts) (next : ℕ) → s ≡ Go d → max_items ≤ length after-held → next ≡ after bytes at → Left bytes u after-seen after-held d next
+    pub left_again : (after-held : List ℕ) (d : Counts) (next : ℕ) → s ≡ Ok d → max_items ≤ length after-held → next ≡ after bytes at → Left bytes u after-seen after-held d next
     unfolding next_of
     left_again after-held d next k h e =
         let q : go (reading_of bytes u d) ≡ record_next bytes at (reading_of bytes t c) = sym (ap (next_of bytes u) k) ∙ r.is in

@@ -1,13 +1,13 @@
 -- What reading a file answers: 0, and then the tables stand for its module, or the number by which it is refused. That leaves
 -- nothing open: the bytes determine the number and the module (proofs/One.antt), and a refusal has a number from 1 to 5
 -- (proofs/Numbers.antt).
-use Rattle.std.specs.Prelude.{ℕ, ◌+◌, ◌≤◌, ◌≡◌, List, length, set, replicate}
+use Rattle.std.specs.Prelude.{ℕ, ◌+◌, ◌≤◌, ◌≡◌, List, length, set, replicate, Result, Ok, Err}
+use Rattle.field.specs.declared.refusal.Refusal.{Refusal}
+use Rattle.field.specs.Refusal.{number}
 use Rattle.module.specs.declared.tables.Counts.{Counts}
 use Rattle.module.specs.File.{Answer, accepted, refused, answer_of, ended, read_module}
 use Rattle.module.specs.Tables.{head_at, module_of, reading_of}
 use Rattle.access.specs.Laid.{Laid}
-use Rattle.reading.specs.declared.ends.Step.{Step}
-use Rattle.reading.specs.declared.ends.Step.TheVariants.{Go, Stop}
 use Rattle.reading.specs.Progress.{Progress}
 
 pub record Answered (bytes t : List ℕ) (answer : Answer) (n : ℕ) : Type 0 where
@@ -43,9 +43,9 @@ no_counts size =
     }
 
 -- after the last record, or where the file is refused before it
-abbrev pub Passed : List ℕ → List ℕ → Step → Type 0
-Passed bytes t (Go c) = Progress bytes t c (length bytes) × (answer_of (ended (reading_of bytes t c)) ≡ read_module bytes)
-Passed bytes t (Stop n) = read_module bytes ≡ refused n
+abbrev pub Passed : List ℕ → List ℕ → Result Counts Refusal → Type 0
+Passed bytes t (Ok c) = Progress bytes t c (length bytes) × (answer_of (ended (reading_of bytes t c)) ≡ read_module bytes)
+Passed bytes t (Err r) = read_module bytes ≡ refused (number r)
 
 -- the tables with the counts of the whole
 unfoldable pub headed : List ℕ → Counts → List ℕ

@@ -1,13 +1,12 @@
 -- One record: what it asks of the tables, and what comes of it.
-use Rattle.std.specs.Prelude.{ℕ, ◌+◌, ◌*◌, ◌≤◌, ◌≡◌, true, List, length}
+use Rattle.std.specs.Prelude.{ℕ, ◌+◌, ◌*◌, ◌≤◌, ◌≡◌, true, List, length, Result, Ok}
+use Rattle.field.specs.declared.refusal.Refusal.{Refusal}
 use Rattle.module.specs.declared.record.Mark.{Mark}
 use Rattle.module.specs.declared.tables.Counts.{Counts}
 use Rattle.module.specs.Record.{length_at}
 use Rattle.module.specs.File.{Next, placed}
 use Rattle.module.specs.Scan.{Fresh}
 use Rattle.module.specs.Tables.{max_items}
-use Rattle.reading.specs.declared.ends.Step.{Step}
-use Rattle.reading.specs.declared.ends.Step.TheVariants.{Go}
 use Rattle.reading.specs.Progress.{Progress, Ready}
 use Rattle.reading.specs.Ends.{next_of}
 
@@ -33,7 +32,7 @@ pub record Begun (bytes t seen : List ℕ) (c : Counts) (at : ℕ) (mark : Mark)
   pub in_place : placed mark c.stage ≡ true
 
 -- the step r is `next` of the definition; where the file goes on, it does so at the next record
-pub record Stepped (bytes t seen : List ℕ) (at : ℕ) (next : Next) (r : Step) : Type 0 where
+pub record Stepped (bytes t seen : List ℕ) (at : ℕ) (next : Next) (r : Result Counts Refusal) : Type 0 where
   pub is : next_of bytes t r ≡ next
-  pub progress : (d : Counts) → r ≡ Go d → Progress bytes t d (after bytes at)
-  pub unseen : (d : Counts) → r ≡ Go d → Unseen seen (after bytes at)
+  pub progress : (d : Counts) → r ≡ Ok d → Progress bytes t d (after bytes at)
+  pub unseen : (d : Counts) → r ≡ Ok d → Unseen seen (after bytes at)

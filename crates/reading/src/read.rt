@@ -1,31 +1,23 @@
 // Reading a module: one pass over the bytes, record by record.
 ghost use Rattle.std.specs.Prelude.{◌≡◌, ◌≤◌, length};
 ghost use Rattle.field.specs.Limits.{max_bytes};
+ghost use Rattle.field.specs.Refusal.{number_of};
 ghost use Rattle.module.specs.File.{answer_of, ended};
 ghost use Rattle.module.specs.Scan.{values};
 ghost use Rattle.module.specs.Tables.{words, max_items, reading_of};
 ghost use Rattle.reading.specs.Progress.{Progress};
-ghost use Rattle.reading.specs.Reads.{Answered, Reads, Passed, zeros, no_counts};
+ghost use Rattle.reading.specs.Reads.{Answered, Reads, Passed, no_counts};
 
-use crate::ends::{Step, ended};
+use crate::ends::ended;
 use crate::record::record_next;
 use field::limits::MAX_BYTES;
+use field::refusal::Refusal;
 use module::tables::{Counts, HEAD, MAX_ITEMS, Row, put};
 
 // The room that the caller lends: a mark for each value that a field may have, and a count for each block.
 pub const SEEN: usize = 65536;
 
 pub const HELD: usize = MAX_ITEMS;
-
-fn clear_all(seen: &mut [u32])
-    ensures { seen.new ≡ zeros (length seen.old) }
-{
-    let mut i: usize = 0;
-    while i < seen.len() {
-        seen[i] = 0;
-        i += 1;
-    }
-}
 
 // Before the first record.
 fn no_counts(size: u32) -> Counts
@@ -50,62 +42,59 @@ fn no_counts(size: u32) -> Counts
 }
 
 // All records, up to the first that is refused.
-fn records(bytes: &[u8], t: &mut [u32], seen: &mut [u32], held: &mut [u32]) -> Step
+fn records(
+    bytes: &[u8],
+    t: &mut [u32],
+    seen: &mut [u32],
+    held: &mut [u32],
+) -> Result<Counts, Refusal>
     requires bytes_len_bound { length bytes.now ≤ max_bytes }
     requires words_in_bounds { words ≤ length t.old }
     requires values_in_bounds { values ≤ length seen.old }
     requires max_items_in_bounds { max_items ≤ length held.old }
     ensures { Passed bytes.now t.new result }
 {
-    clear_all(seen);
+    seen.fill(0);
     let mut c = no_counts(bytes.len() as u32);
     let mut at: u32 = 0;
     while (at as usize) < bytes.len() {
-        let step = record_next(bytes, t, seen, held, at, c);
-        let Step::Go(d) = step else {
-            return step;
-        };
-        c = d;
+        c = record_next(bytes, t, seen, held, at, c)?;
         at += 4 + (field::field::get(bytes, (at as usize) + 2) as u32);
     }
-    Step::Go(c)
+    Ok(c)
 }
 
 // The end of the file is the end of its last function. The counts of the whole go into the tables.
-fn finish(bytes: &[u8], t: &mut [u32], held: &mut [u32], c: Counts) -> u32
+fn finish(bytes: &[u8], t: &mut [u32], held: &mut [u32], c: Counts) -> Result<(), Refusal>
     requires progress { Progress bytes.now t.old c (length bytes.now) }
     requires max_items_in_bounds { max_items ≤ length held.old }
-    ensures { Answered bytes.now t.new (answer_of (ended (reading_of bytes.now t.old c))) result }
+    ensures { Answered bytes.now t.new (answer_of (ended (reading_of bytes.now t.old c))) (number_of result) }
 {
-    let Step::Go(d) = ended(bytes, t, held, c) else {
-        return 5;
-    };
+    let d = ended(bytes, t, held, c)?;
     put(t, HEAD, d.types);
     put(t, HEAD + 1, d.globals);
     put(t, HEAD + 2, d.functions);
-    0
+    Ok(())
 }
 
-// Reads any bytes into the tables: 0, or the number by which they are refused.
-pub fn read(bytes: &[u8], t: &mut [u32], seen: &mut [u32], held: &mut [u32]) -> u32
+// Reads any bytes into the tables, or says why they are refused.
+pub fn read(bytes: &[u8], t: &mut [u32], seen: &mut [u32], held: &mut [u32]) -> Result<(), Refusal>
     requires words_in_bounds { words ≤ length t.old }
     requires values_in_bounds { values ≤ length seen.old }
     requires max_items_in_bounds { max_items ≤ length held.old }
-    ensures { Reads bytes.now t.new result }
+    ensures { Reads bytes.now t.new (number_of result) }
 {
     if MAX_BYTES < bytes.len() {
-        return 1;
+        return Err(Refusal::ModuleTooLong);
     }
-    match records(bytes, t, seen, held) {
-        Step::Go(c) => finish(bytes, t, held, c),
-        Step::Stop(n) => n,
-    }
+    let c = records(bytes, t, seen, held)?;
+    finish(bytes, t, held, c)
 }
 
 // The same with room of its own, which is gone when it ends.
-pub fn read_module(bytes: &[u8], t: &mut [u32]) -> u32
+pub fn read_module(bytes: &[u8], t: &mut [u32]) -> Result<(), Refusal>
     requires { words ≤ length t.old }
-    ensures { Reads bytes.now t.new result }
+    ensures { Reads bytes.now t.new (number_of result) }
 {
     let mut seen: [u32; SEEN] = [0; SEEN];
     let mut held: [u32; HELD] = [0; HELD];

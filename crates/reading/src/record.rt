@@ -6,23 +6,31 @@ ghost use Rattle.module.specs.Tables.{reading_of};
 ghost use Rattle.reading.specs.Steps.{after, Between, Begun, Stepped};
 
 use crate::add::add;
-use crate::ends::{Step, ended_at};
+use crate::ends::ended_at;
+use field::refusal::Refusal;
 use module::checks::{fine, over, placed};
-use module::record::{Known, Mark, mark_of};
+use module::record::{Mark, mark_of};
 use module::tables::Counts;
 
 // The body of a record: 4, then 5.
-fn body_next(bytes: &[u8], t: &mut [u32], seen: &mut [u32], at: u32, mark: Mark, c: Counts) -> Step
+fn body_next(
+    bytes: &[u8],
+    t: &mut [u32],
+    seen: &mut [u32],
+    at: u32,
+    mark: Mark,
+    c: Counts,
+) -> Result<Counts, Refusal>
     requires { Begun bytes.now t.old seen.old c at mark }
     ensures { Stepped bytes.now t.new seen.new at (body_next bytes.now at mark (reading_of bytes.now t.old c)) result }
 {
     if over(bytes, at, mark, c) {
-        return Step::Stop(4);
+        return Err(Refusal::ModuleLimit);
     }
     if fine(bytes, t, seen, at, mark, c) {
-        return Step::Go(add(bytes, t, at, mark, c));
+        return Ok(add(bytes, t, at, mark, c));
     }
-    Step::Stop(5)
+    Err(Refusal::ValueNotAllowed)
 }
 
 // 3, then (where a function ends) 5, then the body.
@@ -34,19 +42,16 @@ fn mark_next(
     at: u32,
     mark: Mark,
     c: Counts,
-) -> Step
+) -> Result<Counts, Refusal>
     requires between { Between bytes.now t.old seen.old held.old c at }
     requires at_in_bounds { after bytes.now at ≤ length bytes.now }
     ensures { Stepped bytes.now t.new seen.new at (mark_next bytes.now at (some mark) (reading_of bytes.now t.old c)) result }
 {
     if placed(mark, c.stage) {
-        let step = ended_at(bytes, t, held, mark, c);
-        let Step::Go(d) = step else {
-            return step;
-        };
+        let d = ended_at(bytes, t, held, mark, c)?;
         return body_next(bytes, t, seen, at, mark, d);
     }
-    Step::Stop(3)
+    Err(Refusal::MarkMisplaced)
 }
 
 // One record: 2, then the rest.
@@ -57,20 +62,20 @@ pub fn record_next(
     held: &mut [u32],
     at: u32,
     c: Counts,
-) -> Step
+) -> Result<Counts, Refusal>
     requires between { Between bytes.now t.old seen.old held.old c at }
     requires at_in_bounds { at < length bytes.now }
     ensures { Stepped bytes.now t.new seen.new at (record_next bytes.now at (reading_of bytes.now t.old c)) result }
 {
     let left = bytes.len() - (at as usize);
     if left < 4 {
-        return Step::Stop(2);
+        return Err(Refusal::RecordCut);
     }
     if left - 4 < (field::field::get(bytes, (at as usize) + 2) as usize) {
-        return Step::Stop(2);
+        return Err(Refusal::RecordCut);
     }
-    let Known::Mark(mark) = mark_of(field::field::get(bytes, at as usize)) else {
-        return Step::Stop(3);
+    let Some(mark) = mark_of(field::field::get(bytes, at as usize)) else {
+        return Err(Refusal::MarkMisplaced);
     };
     mark_next(bytes, t, seen, held, at, mark, c)
 }

@@ -2,4 +2,4 @@
 use Rattle.access.proofs.kinded.expression_number.Goals as goal
 
 pub returns : goal.returns
-returns c = rw c.row_at-row.ensures
+returns c = rw (c.expressions_from.ensures, c.row_at-row.ensures)

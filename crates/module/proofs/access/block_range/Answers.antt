@@ -1,13 +1,15 @@
 -- `module::access::block_range` meets its contract.
+use mathlib.Core.Path.{◌≡◌}
+use Prim.Native.Nat.{suc, ◌+◌}
 use native.Mathlib.Omega.{arith}
-use Rattle.module.proofs.Tab.{length-tab}
-use Rattle.module.proofs.Modules.{range_is, range_empty}
+use Rattle.module.specs.Reading.{range_of}
 use Rattle.module.proofs.access.block_range.Goals as goal
 
-pub returns-then-end-first : goal.returns-then-end-first
-returns-then-end-first c =
-    range_empty _ _ _ _ _ (rw length-tab (omega arith)) c.block_start-first.ensures c.block_start-end.ensures c.if-end-first.true
-
 pub returns : goal.returns
+unfolding range_of
 returns c =
-    range_is _ _ _ _ _ (rw length-tab (omega arith)) c.block_start-first.ensures c.block_start-end.ensures
+    let next : c.args.b.0 + 1 ≡ suc c.args.b.0 = omega arith in
+    record {
+      is_first = c.first_statement-first.ensures;
+      is_count = rw (c.saturating_sub.ensures, ← c.first_statement-first.ensures, ← next, ← c.first_statement-next.ensures);
+    }

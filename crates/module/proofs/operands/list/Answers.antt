@@ -2,13 +2,12 @@
 use Rattle.module.specs.Operands.{many, below}
 use Rattle.module.specs.Scan.{pass_of}
 use Rattle.module.proofs.Counted.{counted_none, counted-by}
-use native.Mathlib.Omega.{arith}
 use Rattle.module.proofs.operands.list.Goals as goal
 
-pub returns-then-n-eq0 : goal.returns-then-n-eq0
-returns-then-n-eq0 c = counted_none _ _ _ _ c.if-n-eq0.true
+pub returns-in_err-count : goal.returns-in_err-count
+returns-in_err-count c = rw c.from_residual.ensures (counted_none _ _ _ _ c.in_err-count.ensures)
 
 pub returns : goal.returns
 unfolding pass_of
 returns c =
-    counted-by _ _ (many (below c.args.expressions)) _ _ _ (omega arith) c.get.ensures c.many.ensures
+    counted-by _ _ (many (below c.args.expressions)) _ _ _ c.in_ok-count.ensures.0 c.in_ok-count.ensures.1 c.many.ensures

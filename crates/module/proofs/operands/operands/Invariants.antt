@@ -6,8 +6,5 @@ use Rattle.module.specs.Tables.{scope_in}
 use Rattle.module.proofs.Shaped.{Shaped}
 use Rattle.module.proofs.operands.operands.Given as goal
 
-abbrev pub invariant-loop-more : goal.invariant-loop-more
-invariant-loop-more l = Shaped l.bytes l.end (scope_in l.bytes l.t l.c) l.initial.seen l.stamp (operands (unpack classes l.shape) (scope_in l.bytes l.t l.c) (fields_to l.bytes l.end l.n)) l.seen l.packed l.more l.left
-
-abbrev pub decreases-loop-more : goal.decreases-loop-more
-decreases-loop-more l = l.more
+abbrev pub invariant-loop-k : goal.invariant-loop-k
+invariant-loop-k l = Shaped l.bytes l.end (scope_in l.bytes l.t l.c) l.initial.seen l.stamp (operands (unpack classes l.shape) (scope_in l.bytes l.t l.c) (fields_to l.bytes l.end l.n)) l.seen l.packed l.k l.left

@@ -1,88 +1,87 @@
 -- `module::operands::plain` meets its contract, class by class.
+use Rattle.module.specs.Decode.{level_handles, mode_handles}
 use Rattle.module.specs.Operands.{taken}
-use Rattle.module.specs.Packed.{operand_of}
+use Rattle.module.specs.Packed.{meant}
 use Rattle.module.specs.Tables.{scope_in}
 use Rattle.module.specs.Scan.{pass_of}
-use Rattle.module.proofs.Shaped.{class_never}
 use Rattle.module.proofs.operands.plain.Goals as goal
 
-pub returns-in-1 : goal.returns-in-1
-unfolding operand_of taken scope_in pass_of
-returns-in-1 c = rw c.in-1.is c.one.ensures
+pub returns-in-Expression : goal.returns-in-Expression
+unfolding meant taken scope_in pass_of
+returns-in-Expression c = rw c.in-Expression.is c.one.ensures
 
-pub returns-in-2 : goal.returns-in-2
-unfolding operand_of taken scope_in pass_of
-returns-in-2 c = rw c.in-2.is c.one-in-2.ensures
+pub returns-in-Optional : goal.returns-in-Optional
+unfolding meant taken scope_in pass_of
+returns-in-Optional c = rw c.in-Optional.is c.one-in-Optional.ensures
 
-pub returns-in-3 : goal.returns-in-3
-unfolding operand_of taken scope_in pass_of
-returns-in-3 c = rw c.in-3.is c.one-in-3.ensures
+pub returns-in-Index : goal.returns-in-Index
+unfolding meant taken scope_in pass_of
+returns-in-Index c = rw c.in-Index.is c.one-in-Index.ensures
 
-pub returns-in-4 : goal.returns-in-4
-unfolding operand_of taken scope_in pass_of
-returns-in-4 c = rw c.in-4.is c.list.ensures
+pub returns-in-List : goal.returns-in-List
+unfolding meant taken scope_in pass_of
+returns-in-List c = rw c.in-List.is c.list.ensures
 
-pub returns-in-5 : goal.returns-in-5
-unfolding operand_of taken scope_in pass_of
-returns-in-5 c = rw c.in-5.is c.pattern.ensures
+pub returns-in-Pattern : goal.returns-in-Pattern
+unfolding meant taken scope_in pass_of
+returns-in-Pattern c = rw c.in-Pattern.is c.pattern.ensures
 
-pub returns-in-6 : goal.returns-in-6
-unfolding operand_of taken scope_in pass_of
-returns-in-6 c = rw c.in-6.is c.level.ensures
+pub returns-in-Level : goal.returns-in-Level
+unfolding meant taken scope_in pass_of level_handles
+returns-in-Level c = rw c.in-Level.is c.coded.ensures
 
-pub returns-in-7 : goal.returns-in-7
-unfolding operand_of taken scope_in pass_of
-returns-in-7 c = rw c.in-7.is c.mode.ensures
+pub returns-in-Mode : goal.returns-in-Mode
+unfolding meant taken scope_in pass_of mode_handles
+returns-in-Mode c = rw c.in-Mode.is c.coded-in-Mode.ensures
 
-pub returns-in-8 : goal.returns-in-8
-unfolding operand_of taken scope_in pass_of
-returns-in-8 c = rw c.in-8.is c.one-in-8.ensures
+pub returns-in-Argument : goal.returns-in-Argument
+unfolding meant taken scope_in pass_of
+returns-in-Argument c = rw c.in-Argument.is c.one-in-Argument.ensures
 
-pub returns-in-9 : goal.returns-in-9
-unfolding operand_of taken scope_in pass_of
-returns-in-9 c = rw c.in-9.is c.one-in-9.ensures
+pub returns-in-Global : goal.returns-in-Global
+unfolding meant taken scope_in pass_of
+returns-in-Global c = rw c.in-Global.is c.one-in-Global.ensures
 
-pub returns-in-10 : goal.returns-in-10
-unfolding operand_of taken scope_in pass_of
-returns-in-10 c = rw c.in-10.is c.one-in-10.ensures
+pub returns-in-Local : goal.returns-in-Local
+unfolding meant taken scope_in pass_of
+returns-in-Local c = rw c.in-Local.is c.one-in-Local.ensures
 
-pub returns-in-11 : goal.returns-in-11
-unfolding operand_of taken scope_in pass_of
-returns-in-11 c = rw c.in-11.is c.one-in-11.ensures
+pub returns-in-Block : goal.returns-in-Block
+unfolding meant taken scope_in pass_of
+returns-in-Block c = rw c.in-Block.is c.one-in-Block.ensures
 
-pub returns-in-13 : goal.returns-in-13
-unfolding operand_of taken scope_in pass_of
-returns-in-13 c = rw c.in-13.is c.one-in-13.ensures
+pub returns-in-Function : goal.returns-in-Function
+unfolding meant taken scope_in pass_of
+returns-in-Function c = rw c.in-Function.is c.one-in-Function.ensures
 
-pub returns-in-14 : goal.returns-in-14
-unfolding operand_of taken scope_in pass_of
-returns-in-14 c = rw c.in-14.is c.range.ensures
+pub returns-in-Range : goal.returns-in-Range
+unfolding meant taken scope_in pass_of
+returns-in-Range c = rw c.in-Range.is c.range.ensures
 
-pub returns-in-15 : goal.returns-in-15
-unfolding operand_of taken scope_in pass_of
-returns-in-15 c = rw c.in-15.is c.one-in-15.ensures
+pub returns-in-Type : goal.returns-in-Type
+unfolding meant taken scope_in pass_of
+returns-in-Type c = rw c.in-Type.is c.one-in-Type.ensures
 
-pub returns-in-16 : goal.returns-in-16
-unfolding operand_of taken scope_in pass_of
-returns-in-16 c = rw c.in-16.is c.one-in-16.ensures
+pub returns-in-Size : goal.returns-in-Size
+unfolding meant taken scope_in pass_of
+returns-in-Size c = rw c.in-Size.is c.one-in-Size.ensures
 
-pub returns-in-17 : goal.returns-in-17
-unfolding operand_of taken scope_in pass_of
-returns-in-17 c = rw c.in-17.is c.members.ensures
+pub returns-in-Members : goal.returns-in-Members
+unfolding meant taken scope_in pass_of
+returns-in-Members c = rw c.in-Members.is c.members.ensures
 
-pub returns-in-18 : goal.returns-in-18
-unfolding operand_of taken scope_in pass_of
-returns-in-18 c = rw c.in-18.is c.one-in-18.ensures
+pub returns-in-Binding : goal.returns-in-Binding
+unfolding meant taken scope_in pass_of
+returns-in-Binding c = rw c.in-Binding.is c.one-in-Binding.ensures
 
-pub returns-in-19 : goal.returns-in-19
-unfolding operand_of taken scope_in pass_of
-returns-in-19 c = rw c.in-19.is c.one-in-19.ensures
+pub returns-in-Flag : goal.returns-in-Flag
+unfolding meant taken scope_in pass_of
+returns-in-Flag c = rw c.in-Flag.is c.one-in-Flag.ensures
 
-pub returns-in-20 : goal.returns-in-20
-unfolding operand_of taken scope_in pass_of
-returns-in-20 c = rw c.in-20.is c.result.ensures
+pub returns-in-Result : goal.returns-in-Result
+unfolding meant taken scope_in pass_of
+returns-in-Result c = rw c.in-Result.is c.result.ensures
 
-pub returns-in_default : goal.returns-in_default
-unfolding taken pass_of
-returns-in_default c =
-    rw (class_never _ c.in_default.in_default-own.rest.0.0.0.0.0.0.0.0.0.0.0.0.0.0.0.0.0.0.1 c.in_default.in_default-own.rest.0.0.0.0.0.0.0.0.0.0.0.0.0.0.0.0.0.1 c.in_default.in_default-own.rest.0.0.0.0.0.0.0.0.0.0.0.0.0.0.0.0.1 c.in_default.in_default-own.rest.0.0.0.0.0.0.0.0.0.0.0.0.0.0.0.1 c.in_default.in_default-own.rest.0.0.0.0.0.0.0.0.0.0.0.0.0.0.1 c.in_default.in_default-own.rest.0.0.0.0.0.0.0.0.0.0.0.0.0.1 c.in_default.in_default-own.rest.0.0.0.0.0.0.0.0.0.0.0.0.1 c.in_default.in_default-own.rest.0.0.0.0.0.0.0.0.0.0.0.1 c.in_default.in_default-own.rest.0.0.0.0.0.0.0.0.0.0.1 c.in_default.in_default-own.rest.0.0.0.0.0.0.0.0.0.1 c.in_default.in_default-own.rest.0.0.0.0.0.0.0.0.1 c.in_default.in_default-own.rest.0.0.0.0.0.0.0.1 c.in_default.in_default-own.rest.0.0.0.0.0.0.1 c.in_default.in_default-own.rest.0.0.0.0.0.1 c.in_default.in_default-own.rest.0.0.0.0.1 c.in_default.in_default-own.rest.0.0.0.1 c.in_default.in_default-own.rest.0.0.1 c.in_default.in_default-own.rest.0.1 c.in_default.in_default-own.rest.1 c.requires.fact) c.one-in_default.ensures
+pub returns-in-Never : goal.returns-in-Never
+unfolding meant taken scope_in pass_of
+returns-in-Never c = rw c.in-Never.is c.one-in-Never.ensures

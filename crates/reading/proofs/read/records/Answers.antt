@@ -1,24 +1,25 @@
 -- `reading::read::records` meets its contract: what is left of the records gives the answer for the whole.
 use mathlib.Core.Path.{refl}
-use Prim.Native.Nat.{◌-◌}
+use Rattle.std.proofs.lemmas.Result.{err_from_is_err_and}
 use Rattle.reading.proofs.Left.{left_first, left_again, left_stops, left_done}
 use native.Mathlib.Omega.{arith}
 use Rattle.reading.proofs.read.records.Goals as goal
 
 pub loop-at-init : goal.loop-at-init
 loop-at-init c =
-    (left_first _ _ _ _ c.requires.bytes_len_bound c.requires.words_in_bounds _ _ c.clear_all.ensures c.requires.values_in_bounds c.requires.max_items_in_bounds c.no_counts-c.ensures, refl, refl, refl)
+    (left_first _ _ _ _ c.requires.bytes_len_bound c.requires.words_in_bounds _ _ (c.fill.ensures.after (λ y e. e)) c.requires.values_in_bounds c.requires.max_items_in_bounds c.no_counts-c.ensures, refl, refl, refl)
 
 pub overflow_cast-at : goal.overflow_cast-at
 overflow_cast-at c =
     omega (arith, c.loop-at.invariant.0.between.progress.used.here, c.requires.bytes_len_bound)
 
-pub record_next-step-requires : goal.record_next-step-requires
-record_next-step-requires c = record { between = c.loop-at.invariant.0.between; at_in_bounds = c.loop-at-test.true }
+pub record_next-requires : goal.record_next-requires
+record_next-requires c = record { between = c.loop-at.invariant.0.between; at_in_bounds = c.loop-at-test.true }
 
-pub returns-in_default : goal.returns-in_default
-returns-in_default c =
-    left_stops c.loop-at.invariant.0 c.loop-at-test.true c.record_next-step.ensures _ c.in_default.is
+pub returns-in_err-c : goal.returns-in_err-c
+returns-in_err-c c =
+    let p = err_from_is_err_and c.from_residual.result c.from_residual.ensures.1 in
+    rw (p.1, p.2) (left_stops c.loop-at.invariant.0 c.loop-at-test.true c.in_err-c.ensures _ refl)
 
 pub overflow_cast-at-in-loop-at : goal.overflow_cast-at-in-loop-at
 overflow_cast-at-in-loop-at c = omega (arith, c.loop-at-test.true, c.requires.bytes_len_bound)
@@ -28,18 +29,18 @@ overflow_add-at c = omega (arith, c.loop-at-test.true, c.requires.bytes_len_boun
 
 pub overflow_add-at-in-loop-at : goal.overflow_add-at-in-loop-at
 overflow_add-at-in-loop-at c =
-    omega (arith, c.get.ensures, (c.record_next-step.ensures.progress c.in-Go.d c.in-Go.is).used.here, c.requires.bytes_len_bound)
+    omega (arith, c.get.ensures, (c.in_ok-c.ensures.progress _ refl).used.here, c.requires.bytes_len_bound)
 
 pub overflow_add-at-in-loop-at-2 : goal.overflow_add-at-in-loop-at-2
 overflow_add-at-in-loop-at-2 c =
-    omega (arith, c.get.ensures, (c.record_next-step.ensures.progress c.in-Go.d c.in-Go.is).used.here, c.requires.bytes_len_bound)
+    omega (arith, c.get.ensures, (c.in_ok-c.ensures.progress _ refl).used.here, c.requires.bytes_len_bound)
 
 pub loop-at-smaller : goal.loop-at-smaller
 loop-at-smaller c = omega (arith, c.loop-at-test.true)
 
 pub loop-at-preserved : goal.loop-at-preserved
 loop-at-preserved c =
-    (left_again c.loop-at.invariant.0 c.loop-at-test.true c.record_next-step.ensures _ _ _ c.in-Go.is (omega (arith, c.loop-at.invariant.0.between.room, c.record_next-step.auto)) (omega (arith, c.get.ensures)), omega (arith, c.loop-at.invariant.1, c.record_next-step.auto), omega (arith, c.loop-at.invariant.2, c.record_next-step.auto), omega (arith, c.loop-at.invariant.3, c.record_next-step.auto))
+    (left_again c.loop-at.invariant.0 c.loop-at-test.true c.in_ok-c.ensures _ _ _ refl (omega (arith, c.loop-at.invariant.0.between.room, c.record_next.auto)) (omega (arith, c.get.ensures)), omega (arith, c.loop-at.invariant.1, c.record_next.auto), omega (arith, c.loop-at.invariant.2, c.record_next.auto), omega (arith, c.loop-at.invariant.3, c.record_next.auto))
 
 pub returns : goal.returns
 returns c = left_done c.loop-at.invariant.0 c.loop-at-test.false

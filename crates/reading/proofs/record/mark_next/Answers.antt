@@ -1,18 +1,21 @@
 -- `reading::record::mark_next` meets its contract: by whether the mark is in its place, and how the function before it ends.
+use mathlib.Core.Path.{refl}
+use Rattle.std.proofs.lemmas.Result.{err_from_is_err_and}
 use Rattle.reading.proofs.Stepping.{elsewhere, ends_wrong, begun, then_body}
 use Rattle.reading.proofs.record.mark_next.Goals as goal
 
-pub returns-in_default : goal.returns-in_default
-returns-in_default c =
-    ends_wrong _ _ _ _ _ _ c.placed.ensures _ _ c.requires.between c.if-placed.true _ _ c.ended_at-step.ensures.value c.ended_at-step.ensures.t_after _ c.in_default.is
+pub returns-in_err-d : goal.returns-in_err-d
+returns-in_err-d c =
+    let p = err_from_is_err_and c.from_residual.result c.from_residual.ensures.1 in
+    rw (p.1, p.2) (ends_wrong _ _ _ _ _ _ c.placed.ensures _ _ c.requires.between c.if-placed.true _ _ c.in_err-d.ensures.value c.in_err-d.ensures.t_after _ refl)
 
 pub body_next-requires : goal.body_next-requires
 body_next-requires c =
-    begun _ _ _ _ _ _ c.placed.ensures _ _ c.requires.between c.if-placed.true _ _ c.ended_at-step.ensures.value c.ended_at-step.ensures.t_after _ c.in-Go.is c.requires.at_in_bounds
+    begun _ _ _ _ _ _ c.placed.ensures _ _ c.requires.between c.if-placed.true _ _ c.in_ok-d.ensures.value c.in_ok-d.ensures.t_after _ refl c.requires.at_in_bounds
 
 pub returns-then-placed : goal.returns-then-placed
 returns-then-placed c =
-    then_body _ _ _ _ _ _ c.placed.ensures _ _ c.requires.between c.if-placed.true _ _ c.ended_at-step.ensures.value c.ended_at-step.ensures.t_after _ c.in-Go.is _ _ _ c.body_next.ensures
+    then_body _ _ _ _ _ _ c.placed.ensures _ _ c.requires.between c.if-placed.true _ _ c.in_ok-d.ensures.value c.in_ok-d.ensures.t_after _ refl _ _ _ c.body_next.ensures
 
 pub returns : goal.returns
 returns c = elsewhere _ _ _ _ _ _ c.placed.ensures _ c.if-placed.false

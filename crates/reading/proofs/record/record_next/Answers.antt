@@ -15,4 +15,4 @@ returns-in_default c =
 
 pub returns : goal.returns
 returns c =
-    then_mark _ _ _ _ (omega (arith, c.if-left-lt4.false)) (omega (arith, c.get.ensures, c.if-left-lt4.false, c.if-left-get.false)) _ _ c.get-2.ensures c.mark_of.ensures _ _ _ _ c.in-Mark.is c.mark_next.ensures
+    then_mark _ _ _ _ (omega (arith, c.if-left-lt4.false)) (omega (arith, c.get.ensures, c.if-left-lt4.false, c.if-left-get.false)) _ _ c.get-2.ensures c.mark_of.ensures _ _ _ _ c.in-Some.is c.mark_next.ensures

@@ -1,6 +1,6 @@
--- `module::access::block_start` meets its contract.
+-- `module::access::first_statement` meets its contract.
 use Rattle.module.proofs.Tab.{get_d_tab, tab-past}
-use Rattle.module.proofs.access.block_start.Goals as goal
+use Rattle.module.proofs.access.first_statement.Goals as goal
 
 pub returns-then-b-row : goal.returns-then-b-row
 returns-then-b-row c = rw (get_d_tab _ _ _ _ c.if-b-row.true) c.word.ensures
