@@ -13,7 +13,7 @@ use Rattle.module.specs.declared.handles.FunctionHandle.{FunctionHandle as Handl
 use Rattle.module.specs.Module.{BlockHandle, BlockRange}
 use Rattle.module.specs.Tables.{row_at, module_of}
 use Rattle.access.specs.Access.{range_at, range_from, statement_row}
-use Rattle.access.specs.declared.function.BlockRange.{BlockRange as Range}
+use Rattle.module.specs.declared.access.BlockRange.{BlockRange as Range}
 use Rattle.access.proofs.Access.{range_is, blocks-are}
 use Rattle.context.specs.RequiredContext.{RequiredContext, pieces}
 use Rattle.walk.specs.State.{State, Out, Walk}

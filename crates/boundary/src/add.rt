@@ -61,9 +61,8 @@ pub fn add_in(
     requires cells_len_bound { (length cells.old ≤ store_words) × (cell_words * (5 + max_members * max_types + max_pieces) + table_words + 2 * (4 + 65535) ≤ length cells.old) }
     ensures { Answers out.old out.new (add_answer bytes.now (length out.old) b request.now) result }
 {
-    let refusal = read(bytes, t, seen, held);
-    if 0 < refusal {
-        return word_of(Bytes::Refused(refusal));
+    if let Err(refusal) = read(bytes, t, seen, held) {
+        return word_of(Bytes::Refused(u32::from(refusal)));
     }
     // a request that is longer than it says is none
     if 4 + (get(request, 2) as usize) < request.len() {

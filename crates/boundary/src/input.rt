@@ -54,9 +54,8 @@ pub fn input_in(
     requires max_types_in_bounds { (type_words * max_types ≤ length table.old) × ((max_types ≤ length sets.old) × (2 * max_arguments ≤ length pairs.old)) }
     ensures { Answers out.old out.new (input_answer bytes.now (length out.old) f context.now) result }
 {
-    let refusal = read(bytes, t, seen, held);
-    if 0 < refusal {
-        return word_of(Bytes::Refused(refusal));
+    if let Err(refusal) = read(bytes, t, seen, held) {
+        return word_of(Bytes::Refused(u32::from(refusal)));
     }
     let n = types(t) as usize;
     let e = TYPE_WORDS * n;

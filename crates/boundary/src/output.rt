@@ -62,9 +62,8 @@ pub fn output_in(
     requires cells_len_bound { (length cells.old ≤ store_words) × (cell_words * (5 + max_members * max_types + max_pieces) + table_words ≤ length cells.old) }
     ensures { Answers out.old out.new (output_answer bytes.now (length out.old) f list.now) result }
 {
-    let refusal = read(bytes, t, seen, held);
-    if 0 < refusal {
-        return word_of(Bytes::Refused(refusal));
+    if let Err(refusal) = read(bytes, t, seen, held) {
+        return word_of(Bytes::Refused(u32::from(refusal)));
     }
     let n = types(t) as usize;
     let e = TYPE_WORDS * n;

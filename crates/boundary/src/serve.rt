@@ -100,9 +100,8 @@ pub fn request_any(
 ) -> u64
     ensures { Requests bytes.now request.now pruner.old report.old answer.old result pruner.new report.new answer.new }
 {
-    let refusal = read_module(bytes, t);
-    if 0 < refusal {
-        return reply_word(Reply::Refused(refusal, Place::Nowhere));
+    if let Err(refusal) = read_module(bytes, t) {
+        return reply_word(Reply::Refused(u32::from(refusal), Place::Nowhere));
     }
     request_in(bytes, t, request, pruner, report, answer)
 }

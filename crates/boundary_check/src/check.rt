@@ -1,5 +1,6 @@
 // From the bytes of a module, a request, a report and a context to the check's number. Nothing of theirs is written.
 ghost use Rattle.std.specs.Prelude.{◌≡◌, ◌≤◌, length};
+ghost use Rattle.field.specs.Refusal.{number_of};
 ghost use Rattle.module.specs.Scan.{values};
 ghost use Rattle.module.specs.Tables.{words, max_items};
 ghost use Rattle.reading.specs.Reads.{Reads};
@@ -7,15 +8,16 @@ ghost use Rattle.checking.specs.Check.{check};
 ghost use Rattle.checking.specs.Word.{check_word};
 
 use checking::words::REFUSAL;
+use field::refusal::Refusal;
 use memory::layout::{CELLS, SLOTS};
 use module::tables::WORDS;
 use reading::read::{HELD, SEEN, read};
 use verdict::check::check_in;
 
 // The module is read in the memory of the rounds.
-fn read_file(bytes: &[u8], t: &mut [u32], cells: &mut [u32], slots: &mut [u32]) -> u32
+fn read_file(bytes: &[u8], t: &mut [u32], cells: &mut [u32], slots: &mut [u32]) -> Result<(), Refusal>
     requires { (words ≤ length t.old) × ((values ≤ length cells.old) × (max_items ≤ length slots.old)) }
-    ensures { Reads bytes.now t.new result }
+    ensures { Reads bytes.now t.new (number_of result) }
 {
     read(bytes, t, &mut cells[0..SEEN], &mut slots[0..HELD])
 }
@@ -32,9 +34,8 @@ pub fn check_any(
 ) -> u64
     ensures { result ≡ check_word (check bytes.now request.now report.now context.now) }
 {
-    let refusal = read_file(bytes, t, cells, slots);
-    if 0 < refusal {
-        return REFUSAL * (refusal as u64);
+    if let Err(refusal) = read_file(bytes, t, cells, slots) {
+        return REFUSAL * (u32::from(refusal) as u64);
     }
     check_in(bytes, t, cells, slots, request, report, context)
 }

@@ -77,18 +77,9 @@ fn answer(
     slots: &mut [u32; SLOTS],
     open: &mut [u8; MIN_REPORT],
 ) -> io::Result<()> {
-    let refusal = read_front(input, t, cells, slots);
-    if 0 < refusal {
-        return print(
-            rt,
-            input,
-            t,
-            places,
-            cells,
-            slots,
-            open,
-            Outcome::Refused(refusal),
-        );
+    if let Err(refusal) = read_front(input, t, cells, slots) {
+        let outcome = Outcome::Refused(u32::from(refusal));
+        return print(rt, input, t, places, cells, slots, open, outcome);
     }
     let outcome = walk_input(input, t, places, cells, slots, open);
     print(rt, input, t, places, cells, slots, open, outcome)

@@ -1,6 +1,7 @@
 // From the bytes of an input to the end of the walk of its request.
 ghost use Rattle.std.specs.Prelude.{◌≡◌, ◌*◌, ◌≤◌, length};
 ghost use Rattle.field.specs.Limits.{min_report};
+ghost use Rattle.field.specs.Refusal.{number_of};
 ghost use Rattle.module.specs.Scan.{values};
 ghost use Rattle.module.specs.Tables.{words, max_items, module_of};
 ghost use Rattle.context.specs.Types.{type_words};
@@ -14,6 +15,7 @@ ghost use Rattle.report.specs.Outcome.{TextIs, Asked, Walked};
 use access::whole::types;
 use context::remove::TYPE_WORDS;
 use field::limits::{MAX_PIECES, MAX_TYPES, MIN_REPORT};
+use field::refusal::Refusal;
 use function::add::add_function;
 use leave::leave::own_pieces;
 use marks::places::{PLACES, place_marks};
@@ -137,10 +139,10 @@ fn walk_read(
 }
 
 // The module in front of the request. The walk's memory is room for its reading.
-pub fn read_front(input: &[u8], t: &mut [u32], cells: &mut [u32], slots: &mut [u32]) -> u32
+pub fn read_front(input: &[u8], t: &mut [u32], cells: &mut [u32], slots: &mut [u32]) -> Result<(), Refusal>
     requires words_in_bounds { words ≤ length t.old }
     requires values_in_bounds { (values ≤ length cells.old) × (max_items ≤ length slots.old) }
-    ensures { Reads (module_in input.now) t.new result }
+    ensures { Reads (module_in input.now) t.new (number_of result) }
 {
     let at = split(input);
     read(&input[0..at], t, &mut cells[0..SEEN], &mut slots[0..HELD])

@@ -13,5 +13,8 @@ pub extern "C" fn tickingtor_read(bytes: &[u8]) -> u32
     let mut t: [u32; WORDS] = [0; WORDS];
     let mut seen: [u32; SEEN] = [0; SEEN];
     let mut held: [u32; HELD] = [0; HELD];
-    read(bytes, &mut t, &mut seen, &mut held)
+    match read(bytes, &mut t, &mut seen, &mut held) {
+        Ok(()) => 0,
+        Err(refusal) => u32::from(refusal),
+    }
 }
