@@ -6,20 +6,11 @@ pub read_variables-requires : goal.read_variables-requires
 read_variables-requires c =
     record { good = c.requires.good; at_in_bounds = c.requires.at_in_bounds; limit_le_absent = c.requires.limit_le_absent }
 
-pub shape_of-cells-in_default : goal.shape_of-cells-in_default
-shape_of-cells-in_default c = c.read_variables.ensures.kept.long
-
 pub returns-in_default : goal.returns-in_default
 returns-in_default c = map_refused c.args.limit c.read_variables.ensures c.in_default.is
 
-pub shape_of-cells-in_default-o : goal.shape_of-cells-in_default-o
-shape_of-cells-in_default-o c = c.read_variables.ensures.kept.long
-
 pub returns-in_default-o : goal.returns-in_default-o
 returns-in_default-o c = map_unknown c.args.limit c.read_variables.ensures c.in-Got.is c.in_default-o.is
-
-pub shape_of-cells : goal.shape_of-cells
-shape_of-cells c = c.read_variables.ensures.kept.long
 
 pub returns : goal.returns
 returns c = map_read c.args.limit c.read_variables.ensures c.in-Got.is c.in-Piece.is
