@@ -92,6 +92,7 @@ pub fn act_emit(
     true
 }
 
+// Stays: a store does the same around its own act. One function over both would take the act apart twice, each time in one more function with all these parameters.
 // The expression e of the emit l, in a pass.
 fn pass_emit(
     bytes: &[u8],

@@ -19,15 +19,10 @@ use ends::held::{begin_loop, end_if, end_switch};
 use ends::merge::{end_loop, merge};
 use ends::notes::{blame, note};
 use hold::hold::copy;
+use judge::kinds::{BLOCK, IF, SWITCH};
 use module::handles::{BlockHandle, FunctionHandle};
 use quiet::blocks::obeys;
 use standing::passing::{Exits, Passing, filled};
-
-const BLOCK: u16 = 1;
-
-const IF: u16 = 2;
-
-const SWITCH: u16 = 3;
 
 // The cases of a switch: their union stands in the last slot, none at first. The needs after the switch stand where a break leads.
 #[cycle(blocks)]
@@ -331,20 +326,17 @@ fn pass_bare(
     requires lt_kind { (1 < row.kind) × (row.kind < 5) }
     ensures { Passes (scope_at bytes.now t.now f.0) (inside (bare_tree (blocks_under (function_of bytes.now t.now f.0) marks.now b.0) s row.kind (operand_at bytes.now row))) cells.old roots.old n x p cells.new roots.new path.old path.new result }
 {
-    let kind = row.kind;
-    if kind == IF {
-        return pass_if(
+    match row.kind {
+        IF => pass_if(
             bytes, t, f, types, alike, paths, marks, firsts, cells, roots, path, n, x, p, b, s, row,
-        );
-    }
-    if kind == SWITCH {
-        return pass_switch(
+        ),
+        SWITCH => pass_switch(
             bytes, t, f, types, alike, paths, marks, firsts, cells, roots, path, n, x, p, b, s, row,
-        );
+        ),
+        _ => pass_loop(
+            bytes, t, f, types, alike, paths, marks, firsts, cells, roots, path, n, x, p, b, s, row,
+        ),
     }
-    pass_loop(
-        bytes, t, f, types, alike, paths, marks, firsts, cells, roots, path, n, x, p, b, s, row,
-    )
 }
 
 // One that breaks its rule is walked as if marked, and what is needed after it is needed before it too.

@@ -10,13 +10,10 @@ use access::kinded::{Kinded, expression_operand};
 use acts::emits::pass_emits;
 use acts::marks::mark_at;
 use acts::stores::pass_store;
+use judge::kinds::{EMIT, STORE};
 use leaving::leave::pass_leaving;
 use module::handles::{BlockHandle, FunctionHandle};
 use standing::passing::{Exits, Passing};
-
-const EMIT: u16 = 0;
-
-const STORE: u16 = 12;
 
 // The statement s of the block b, whose row is given.
 pub fn pass_plain(
@@ -45,25 +42,26 @@ pub fn pass_plain(
     ensures { Passes (scope_at bytes.now t.now f.0) (inside (statement_tree (function_of bytes.now t.now f.0) marks.now b.0 s)) cells.old roots.old n x p cells.new roots.new path.old path.new result }
 {
     let begin = firsts[s as usize];
-    let kind = row.kind;
-    if kind == EMIT {
-        let first = expression_operand(bytes, row, 0);
-        let last = expression_operand(bytes, row, 1);
-        return pass_emits(
-            bytes, t, f, types, alike, paths, marks, cells, roots, path, n, p, s as u16, begin,
-            first, last,
-        );
+    match row.kind {
+        EMIT => {
+            let first = expression_operand(bytes, row, 0);
+            let last = expression_operand(bytes, row, 1);
+            pass_emits(
+                bytes, t, f, types, alike, paths, marks, cells, roots, path, n, p, s as u16, begin,
+                first, last,
+            )
+        }
+        STORE => {
+            let marked = mark_at(marks, begin as usize);
+            let pointer = expression_operand(bytes, row, 0);
+            let value = expression_operand(bytes, row, 1);
+            pass_store(
+                bytes, t, f, types, alike, paths, cells, roots, path, n, p, s as u16, marked,
+                pointer, value,
+            )
+        }
+        _ => pass_leaving(
+            bytes, t, f, types, alike, paths, cells, roots, n, x, p, s, row,
+        ),
     }
-    if kind == STORE {
-        let marked = mark_at(marks, begin as usize);
-        let pointer = expression_operand(bytes, row, 0);
-        let value = expression_operand(bytes, row, 1);
-        return pass_store(
-            bytes, t, f, types, alike, paths, cells, roots, path, n, p, s as u16, marked, pointer,
-            value,
-        );
-    }
-    pass_leaving(
-        bytes, t, f, types, alike, paths, cells, roots, n, x, p, s, row,
-    )
 }

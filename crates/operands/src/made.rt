@@ -65,6 +65,7 @@ fn ask_component(
     ask_value(bytes, t, f, cells, roots, n, v, c)
 }
 
+// Stays: the loops here differ in what they ask of an operand. One loop over them would take that as a closure over cells and roots, with a longer contract than they have.
 // Letters of a vector.
 pub fn ask_letters(
     bytes: &[u8],

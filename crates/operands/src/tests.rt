@@ -10,7 +10,7 @@ ghost use Rattle.operands.specs.Lists.{components};
 use access::kinded::{Kinded, expression_operand, operand};
 use judge::rows::{TypeKind, kind_at};
 use judge::shapes::is_alike;
-use judge::values::{both, type_of};
+use judge::values::type_of;
 use module::handles::{ExpressionHandle, FunctionHandle};
 
 // Whether a binary operator is by part: both operands have the result's type, a scalar or a vector.
@@ -37,7 +37,7 @@ pub fn by_part(
     let y = expression_operand(bytes, row, 1);
     let first = is_alike(alike, type_of(bytes, t, f, x), own);
     let second = is_alike(alike, type_of(bytes, t, f, y), own);
-    both(first, second)
+    first && second
 }
 
 // Whether a component is a vector.

@@ -11,6 +11,7 @@ ghost use Rattle.pruner.specs.Stored.{total_in, Stored};
 use field::field::write;
 use request::write::{write_return, write_variables};
 
+// Stays: the loops that write differ in what they write. One loop over them would take that as a closure over the lent slice, with a longer contract than they have.
 // The n marks from the byte `from` on, one field each.
 pub fn write_marks(marks: &[u8], from: usize, n: usize, out: &mut [u8], at: usize) -> usize
     requires n_in_bounds { from + n ≤ length marks.now }

@@ -57,63 +57,63 @@ pass_around-returns t c =
 
 pub pass_bare-pass_if-requires : goal.pass_bare-pass_if-requires
 pass_bare-pass_if-requires t c =
-    (omega (arith, c.decreases), (c.requires.course, (c.requires.b_in_bounds, (c.requires.row_in, c.if-kind-eq-IF.true))))
+    (omega (arith, c.decreases), (c.requires.course, (c.requires.b_in_bounds, (c.requires.row_in, c.in-2.is))))
 
-pub pass_bare-shape_of-cells-then-kind-eq-IF : goal.pass_bare-shape_of-cells-then-kind-eq-IF
-pass_bare-shape_of-cells-then-kind-eq-IF t c =
-    (bare-if c.requires.course c.requires.row_in c.args.marks.now c.if-kind-eq-IF.true c.pass_if.ensures).walked.cells
+pub pass_bare-shape_of-cells-in-2 : goal.pass_bare-shape_of-cells-in-2
+pass_bare-shape_of-cells-in-2 t c =
+    (bare-if c.requires.course c.requires.row_in c.args.marks.now c.in-2.is c.pass_if.ensures).walked.cells
 
-pub pass_bare-shape_of-roots-then-kind-eq-IF : goal.pass_bare-shape_of-roots-then-kind-eq-IF
-pass_bare-shape_of-roots-then-kind-eq-IF t c =
-    (bare-if c.requires.course c.requires.row_in c.args.marks.now c.if-kind-eq-IF.true c.pass_if.ensures).walked.slots
+pub pass_bare-shape_of-roots-in-2 : goal.pass_bare-shape_of-roots-in-2
+pass_bare-shape_of-roots-in-2 t c =
+    (bare-if c.requires.course c.requires.row_in c.args.marks.now c.in-2.is c.pass_if.ensures).walked.slots
 
-pub pass_bare-shape_of-path-then-kind-eq-IF : goal.pass_bare-shape_of-path-then-kind-eq-IF
-pass_bare-shape_of-path-then-kind-eq-IF t c =
-    (bare-if c.requires.course c.requires.row_in c.args.marks.now c.if-kind-eq-IF.true c.pass_if.ensures).long
+pub pass_bare-shape_of-path-in-2 : goal.pass_bare-shape_of-path-in-2
+pass_bare-shape_of-path-in-2 t c =
+    (bare-if c.requires.course c.requires.row_in c.args.marks.now c.in-2.is c.pass_if.ensures).long
 
-pub pass_bare-returns-then-kind-eq-IF : goal.pass_bare-returns-then-kind-eq-IF
-pass_bare-returns-then-kind-eq-IF t c =
-    bare-if c.requires.course c.requires.row_in c.args.marks.now c.if-kind-eq-IF.true c.pass_if.ensures
+pub pass_bare-returns-in-2 : goal.pass_bare-returns-in-2
+pass_bare-returns-in-2 t c =
+    bare-if c.requires.course c.requires.row_in c.args.marks.now c.in-2.is c.pass_if.ensures
 
 pub pass_bare-pass_switch-requires : goal.pass_bare-pass_switch-requires
 pass_bare-pass_switch-requires t c =
-    (omega (arith, c.decreases), (c.requires.course, (c.requires.b_in_bounds, (c.requires.row_in, c.if-kind-eq-SWITCH.true))))
+    (omega (arith, c.decreases), (c.requires.course, (c.requires.b_in_bounds, (c.requires.row_in, c.in-3.is))))
 
-pub pass_bare-shape_of-cells-then-kind-eq-SWITCH : goal.pass_bare-shape_of-cells-then-kind-eq-SWITCH
-pass_bare-shape_of-cells-then-kind-eq-SWITCH t c =
-    (bare-switch c.requires.course c.requires.row_in c.args.marks.now c.if-kind-eq-SWITCH.true c.pass_switch.ensures).walked.cells
+pub pass_bare-shape_of-cells-in-3 : goal.pass_bare-shape_of-cells-in-3
+pass_bare-shape_of-cells-in-3 t c =
+    (bare-switch c.requires.course c.requires.row_in c.args.marks.now c.in-3.is c.pass_switch.ensures).walked.cells
 
-pub pass_bare-shape_of-roots-then-kind-eq-SWITCH : goal.pass_bare-shape_of-roots-then-kind-eq-SWITCH
-pass_bare-shape_of-roots-then-kind-eq-SWITCH t c =
-    (bare-switch c.requires.course c.requires.row_in c.args.marks.now c.if-kind-eq-SWITCH.true c.pass_switch.ensures).walked.slots
+pub pass_bare-shape_of-roots-in-3 : goal.pass_bare-shape_of-roots-in-3
+pass_bare-shape_of-roots-in-3 t c =
+    (bare-switch c.requires.course c.requires.row_in c.args.marks.now c.in-3.is c.pass_switch.ensures).walked.slots
 
-pub pass_bare-shape_of-path-then-kind-eq-SWITCH : goal.pass_bare-shape_of-path-then-kind-eq-SWITCH
-pass_bare-shape_of-path-then-kind-eq-SWITCH t c =
-    (bare-switch c.requires.course c.requires.row_in c.args.marks.now c.if-kind-eq-SWITCH.true c.pass_switch.ensures).long
+pub pass_bare-shape_of-path-in-3 : goal.pass_bare-shape_of-path-in-3
+pass_bare-shape_of-path-in-3 t c =
+    (bare-switch c.requires.course c.requires.row_in c.args.marks.now c.in-3.is c.pass_switch.ensures).long
 
-pub pass_bare-returns-then-kind-eq-SWITCH : goal.pass_bare-returns-then-kind-eq-SWITCH
-pass_bare-returns-then-kind-eq-SWITCH t c =
-    bare-switch c.requires.course c.requires.row_in c.args.marks.now c.if-kind-eq-SWITCH.true c.pass_switch.ensures
+pub pass_bare-returns-in-3 : goal.pass_bare-returns-in-3
+pass_bare-returns-in-3 t c =
+    bare-switch c.requires.course c.requires.row_in c.args.marks.now c.in-3.is c.pass_switch.ensures
 
 pub pass_bare-pass_loop-requires : goal.pass_bare-pass_loop-requires
 pass_bare-pass_loop-requires t c =
-    (omega (arith, c.decreases), (c.requires.course, (c.requires.b_in_bounds, (c.requires.row_in, is_loop c.requires.lt_kind c.if-kind-eq-IF.false c.if-kind-eq-SWITCH.false))))
+    (omega (arith, c.decreases), (c.requires.course, (c.requires.b_in_bounds, (c.requires.row_in, is_loop c.requires.lt_kind (omega arith) (omega arith)))))
 
-pub pass_bare-shape_of-cells : goal.pass_bare-shape_of-cells
-pass_bare-shape_of-cells t c =
-    (bare-loop c.requires.course c.requires.row_in c.args.marks.now c.if-kind-eq-IF.false c.if-kind-eq-SWITCH.false c.pass_loop.ensures).walked.cells
+pub pass_bare-shape_of-cells-in_default : goal.pass_bare-shape_of-cells-in_default
+pass_bare-shape_of-cells-in_default t c =
+    (bare-loop c.requires.course c.requires.row_in c.args.marks.now (omega arith) (omega arith) c.pass_loop.ensures).walked.cells
 
-pub pass_bare-shape_of-roots : goal.pass_bare-shape_of-roots
-pass_bare-shape_of-roots t c =
-    (bare-loop c.requires.course c.requires.row_in c.args.marks.now c.if-kind-eq-IF.false c.if-kind-eq-SWITCH.false c.pass_loop.ensures).walked.slots
+pub pass_bare-shape_of-roots-in_default : goal.pass_bare-shape_of-roots-in_default
+pass_bare-shape_of-roots-in_default t c =
+    (bare-loop c.requires.course c.requires.row_in c.args.marks.now (omega arith) (omega arith) c.pass_loop.ensures).walked.slots
 
-pub pass_bare-shape_of-path : goal.pass_bare-shape_of-path
-pass_bare-shape_of-path t c =
-    (bare-loop c.requires.course c.requires.row_in c.args.marks.now c.if-kind-eq-IF.false c.if-kind-eq-SWITCH.false c.pass_loop.ensures).long
+pub pass_bare-shape_of-path-in_default : goal.pass_bare-shape_of-path-in_default
+pass_bare-shape_of-path-in_default t c =
+    (bare-loop c.requires.course c.requires.row_in c.args.marks.now (omega arith) (omega arith) c.pass_loop.ensures).long
 
-pub pass_bare-returns : goal.pass_bare-returns
-pass_bare-returns t c =
-    bare-loop c.requires.course c.requires.row_in c.args.marks.now c.if-kind-eq-IF.false c.if-kind-eq-SWITCH.false c.pass_loop.ensures
+pub pass_bare-returns-in_default : goal.pass_bare-returns-in_default
+pass_bare-returns-in_default t c =
+    bare-loop c.requires.course c.requires.row_in c.args.marks.now (omega arith) (omega arith) c.pass_loop.ensures
 
 pub pass_block-loop-k-init : goal.pass_block-loop-k-init
 pass_block-loop-k-init t c = no_statement c.requires.course c.args.b.0 c.args.marks.now _ _ _ refl

@@ -13,29 +13,29 @@ overflow_cast-s c = omega (arith, statement_small c.requires.row_in.statement)
 
 pub pass_emits-requires : goal.pass_emits-requires
 pass_emits-requires c =
-    record { pass_given = act_given c.requires.course c.requires.row_in c.requires.n_in_bounds; begin_value = begin_is c.requires.course c.requires.row_in; last_in_bounds = last-there c.requires.course.world (in_function c.requires.row_in.statement) c.requires.row_in.is c.if-kind-eq-EMIT.true c.expression_operand-last.ensures }
+    record { pass_given = act_given c.requires.course c.requires.row_in c.requires.n_in_bounds; begin_value = begin_is c.requires.course c.requires.row_in; last_in_bounds = last-there c.requires.course.world (in_function c.requires.row_in.statement) c.requires.row_in.is c.in-0.is c.expression_operand-last.ensures }
 
-pub returns-then-kind-eq-EMIT : goal.returns-then-kind-eq-EMIT
-returns-then-kind-eq-EMIT c =
-    passes_emit c.requires.course c.requires.row_in _ c.if-kind-eq-EMIT.true c.expression_operand-first.ensures c.expression_operand-last.ensures c.pass_emits.ensures
+pub returns-in-0 : goal.returns-in-0
+returns-in-0 c =
+    passes_emit c.requires.course c.requires.row_in _ c.in-0.is c.expression_operand-first.ensures c.expression_operand-last.ensures c.pass_emits.ensures
 
-pub overflow_cast-begin-then-kind-eq-STORE : goal.overflow_cast-begin-then-kind-eq-STORE
-overflow_cast-begin-then-kind-eq-STORE c = omega (arith, c.type_inv.firsts c.args.s)
+pub overflow_cast-begin-in-12 : goal.overflow_cast-begin-in-12
+overflow_cast-begin-in-12 c = omega (arith, c.type_inv.firsts c.args.s)
 
-pub overflow_cast-s-then-kind-eq-STORE : goal.overflow_cast-s-then-kind-eq-STORE
-overflow_cast-s-then-kind-eq-STORE c = omega (arith, statement_small c.requires.row_in.statement)
+pub overflow_cast-s-in-12 : goal.overflow_cast-s-in-12
+overflow_cast-s-in-12 c = omega (arith, statement_small c.requires.row_in.statement)
 
 pub pass_store-requires : goal.pass_store-requires
 pass_store-requires c =
-    record { pass_given = act_given c.requires.course c.requires.row_in c.requires.n_in_bounds; store_of = store_given c.requires.course c.requires.row_in c.if-kind-eq-STORE.true c.expression_operand-pointer.ensures c.expression_operand-value.ensures }
+    record { pass_given = act_given c.requires.course c.requires.row_in c.requires.n_in_bounds; store_of = store_given c.requires.course c.requires.row_in c.in-12.is c.expression_operand-pointer.ensures c.expression_operand-value.ensures }
 
-pub returns-then-kind-eq-STORE : goal.returns-then-kind-eq-STORE
-returns-then-kind-eq-STORE c =
-    passes_store c.requires.course c.requires.row_in _ c.if-kind-eq-STORE.true c.expression_operand-pointer.ensures c.expression_operand-value.ensures c.mark_at-marked.ensures c.pass_store.ensures
+pub returns-in-12 : goal.returns-in-12
+returns-in-12 c =
+    passes_store c.requires.course c.requires.row_in _ c.in-12.is c.expression_operand-pointer.ensures c.expression_operand-value.ensures c.mark_at-marked.ensures c.pass_store.ensures
 
 pub pass_leaving-requires : goal.pass_leaving-requires
 pass_leaving-requires c =
-    record { leave_given = leave_given c.requires.course c.requires.row_in c.requires.n_in_bounds; lt_kind = (c.requires.lt_kind c.if-kind-eq-EMIT.false, c.if-kind-eq-STORE.false) }
+    record { leave_given = leave_given c.requires.course c.requires.row_in c.requires.n_in_bounds; lt_kind = (c.requires.lt_kind (omega arith), omega arith) }
 
-pub returns : goal.returns
-returns c = passes_leaving c.requires.course c.requires.row_in _ c.pass_leaving.ensures
+pub returns-in_default : goal.returns-in_default
+returns-in_default c = passes_leaving c.requires.course c.requires.row_in _ c.pass_leaving.ensures

@@ -1,10 +1,6 @@
 -- `operands::made::ask_component` meets its contract.
 use Rattle.operands.proofs.Lists.{wanted_piece, value_given, value_all}
-use native.Mathlib.Omega.{arith}
 use Rattle.operands.proofs.made.ask_component.Goals as goal
-
-pub overflow_add-k : goal.overflow_add-k
-overflow_add-k c = omega (arith, c.requires.k_bound)
 
 pub subpart-c-requires : goal.subpart-c-requires
 subpart-c-requires c =

@@ -10,9 +10,6 @@ pub loop-k-init : goal.loop-k-init
 loop-k-init c =
     loop_start (joined_each (operand_at c.args.bytes.now c.args.row) _) c.requires c.operand-k.ensures
 
-pub overflow_add-k : goal.overflow_add-k
-overflow_add-k c = omega arith
-
 pub ask_whole-requires : goal.ask_whole-requires
 ask_whole-requires c =
     loop_given (joined_each (operand_at c.args.bytes.now c.args.row) _) c.requires (c.loop-k.k - 1) (omega arith) (omega arith) c.loop-k.invariant

@@ -9,9 +9,6 @@ use Rattle.operands.proofs.tests.any_vector.Goals as goal
 pub loop-i-init : goal.loop-i-init
 loop-i-init c = no_vector_start _ _
 
-pub overflow_add-i : goal.overflow_add-i
-overflow_add-i c = omega (arith, c.loop-i-test.true)
-
 pub returns-then-eq : goal.returns-then-eq
 returns-then-eq c =
     vector_found _ (operand_at c.args.bytes.now c.args.row) _ c.requires c.operand-i-end.ensures c.loop-i-test.true c.expression_operand.ensures c.type_of-a.ensures c.kind_at.ensures (equal c.kind_at.result Vector c.eq.ensures c.if-eq.true)

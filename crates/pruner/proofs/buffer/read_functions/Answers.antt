@@ -19,18 +19,6 @@ pub loop-f-preserved : goal.loop-f-preserved
 loop-f-preserved c =
     through_more c.requires.has_totals.0.was_read c.loop-f.invariant (omega (arith, c.functions-f-end.ensures c.args.bytes.now, c.loop-f-test.true)) c.read_total.ensures c.in_ok-end.was
 
-pub shape_of-cells : goal.shape_of-cells
-shape_of-cells c =
-    (through_done c.requires.has_totals.0.was_read c.loop-f.invariant (omega (arith, c.functions-f-end.ensures c.args.bytes.now, c.loop-f-test.false))).kept.long
-
-pub shape_of-slots : goal.shape_of-slots
-shape_of-slots c =
-    (through_done c.requires.has_totals.0.was_read c.loop-f.invariant (omega (arith, c.functions-f-end.ensures c.args.bytes.now, c.loop-f-test.false))).long
-
-pub shape_of-totals : goal.shape_of-totals
-shape_of-totals c =
-    (through_done c.requires.has_totals.0.was_read c.loop-f.invariant (omega (arith, c.functions-f-end.ensures c.args.bytes.now, c.loop-f-test.false))).marks_long
-
 pub returns : goal.returns
 returns c =
     through_done c.requires.has_totals.0.was_read c.loop-f.invariant (omega (arith, c.functions-f-end.ensures c.args.bytes.now, c.loop-f-test.false))

@@ -1,7 +1,5 @@
 -- `pruner::frame::record_length` meets its contract: one law for each test.
 use native.Mathlib.Omega.{arith}
-use lib.Seq.{length-take-le}
-use mathlib.Core.Path.{sym}
 use Rattle.pruner.proofs.Header.{record_short, record_wide, record_other, record_there}
 use Rattle.pruner.proofs.frame.record_length.Goals as goal
 
@@ -13,9 +11,6 @@ returns-then-long c = record_wide _ c.read_word-long.ensures (omega (arith, c.if
 
 pub returns-then-bytes-end : goal.returns-then-bytes-end
 returns-then-bytes-end c = record_short _ (omega (arith, c.if-bytes-end.true, c.read_word-long.ensures))
-
-pub slice_bounds-is_record-end : goal.slice_bounds-is_record-end
-slice_bounds-is_record-end c = sym (length-take-le _ _ c.if-bytes-end.false)
 
 pub returns-then-is_record : goal.returns-then-is_record
 returns-then-is_record c =

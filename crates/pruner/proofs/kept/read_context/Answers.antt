@@ -7,9 +7,6 @@ pub read_lists-requires : goal.read_lists-requires
 read_lists-requires c =
     record { good = c.requires.memory.0.good; at_in_bounds = (c.requires.at_in_bounds.0, c.requires.at_in_bounds.1); limits = c.requires.limits }
 
-pub shape_of-cells-in_default : goal.shape_of-cells-in_default
-shape_of-cells-in_default c = c.read_lists.ensures.kept.long
-
 pub returns-in_default : goal.returns-in_default
 returns-in_default c =
     context_refused _ c.args.slots.now c.args.slot c.args.sum c.read_lists.ensures c.in_default.is
@@ -30,38 +27,12 @@ pub entries-p-requires : goal.entries-p-requires
 entries-p-requires c =
     record { good = c.read_lists.ensures.kept.good; n_bound = (context_has _ c.args.slots.now c.args.slot c.args.sum c.read_lists.ensures c.in-Got.is).retval }
 
-pub overflow_add-count : goal.overflow_add-count
-overflow_add-count c =
-    omega (arith, c.entries-g.ensures, c.entries-l.ensures, c.entries-a.ensures, c.entries-p.ensures, c.requires.at_in_bounds.2)
-
-pub overflow_add-count-2 : goal.overflow_add-count-2
-overflow_add-count-2 c =
-    omega (arith, c.entries-g.ensures, c.entries-l.ensures, c.entries-a.ensures, c.entries-p.ensures, c.requires.at_in_bounds.2)
-
-pub overflow_add-count-3 : goal.overflow_add-count-3
-overflow_add-count-3 c =
-    omega (arith, c.entries-g.ensures, c.entries-l.ensures, c.entries-a.ensures, c.entries-p.ensures, c.requires.at_in_bounds.2)
-
-pub overflow_add-count-4 : goal.overflow_add-count-4
-overflow_add-count-4 c =
-    omega (arith, c.entries-g.ensures, c.entries-l.ensures, c.entries-a.ensures, c.entries-p.ensures, c.requires.at_in_bounds.2)
-
-pub shape_of-cells-then-count-gt-MAX_PIECES : goal.shape_of-cells-then-count-gt-MAX_PIECES
-shape_of-cells-then-count-gt-MAX_PIECES c = c.read_lists.ensures.kept.long
-
 pub returns-then-count-gt-MAX_PIECES : goal.returns-then-count-gt-MAX_PIECES
 returns-then-count-gt-MAX_PIECES c =
     context_many _ c.args.slots.now c.args.slot c.args.sum c.read_lists.ensures c.in-Got.is c.entries-g.ensures c.entries-l.ensures c.entries-a.ensures c.entries-p.ensures c.if-count-gt-MAX_PIECES.true
 
 pub save_context-requires : goal.save_context-requires
 save_context-requires c = c.requires.memory.2
-
-pub shape_of-cells : goal.shape_of-cells
-shape_of-cells c = c.read_lists.ensures.kept.long
-
-pub shape_of-slots : goal.shape_of-slots
-shape_of-slots c =
-    (context_stored _ c.args.slots.now c.args.slot c.args.sum c.read_lists.ensures c.in-Got.is c.entries-g.ensures c.entries-l.ensures c.entries-a.ensures c.entries-p.ensures (omega (arith, c.if-count-gt-MAX_PIECES.false)) c.requires.memory.0 c.requires.memory.1 c.requires.memory.2 c.save_context.ensures).long
 
 pub returns : goal.returns
 returns c =

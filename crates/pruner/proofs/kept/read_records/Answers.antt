@@ -1,5 +1,4 @@
 -- `pruner::kept::read_records` meets its contract: the loop's invariant says that the first k records were read.
-use mathlib.Core.Path.{◌∙◌}
 use Rattle.pruner.proofs.Pieces.{piece_placed}
 use Rattle.pruner.proofs.Recording.{recording_first, recording_room, recording_refused, recording_many, recording_more, recording_done}
 use native.Mathlib.Omega.{arith}
@@ -13,12 +12,6 @@ pub read_single-requires : goal.read_single-requires
 read_single-requires c =
     record { good = c.loop-k.invariant.memory.good; at_in_bounds = (c.loop-k.invariant.spent.inside, recording_room c.loop-k.invariant c.loop-k-test.true c.requires.at_in_bounds.1) }
 
-pub shape_of-cells-in_default : goal.shape_of-cells-in_default
-shape_of-cells-in_default c = c.read_single.ensures.kept.long ∙ c.loop-k.invariant.kept.long
-
-pub shape_of-slots-in_default : goal.shape_of-slots-in_default
-shape_of-slots-in_default c = c.loop-k.invariant.long
-
 pub returns-in_default : goal.returns-in_default
 returns-in_default c =
     recording_refused c.loop-k.invariant c.loop-k-test.true c.read_single.ensures c.in_default.is
@@ -27,37 +20,13 @@ pub entries-requires : goal.entries-requires
 entries-requires c =
     record { good = c.read_single.ensures.kept.good; n_bound = (piece_placed c.read_single.ensures c.in-Some.is).0 }
 
-pub overflow_add-count : goal.overflow_add-count
-overflow_add-count c = omega (arith, c.loop-k.invariant.low, c.entries.ensures)
-
-pub shape_of-cells-then-count-gt-MAX_PIECES : goal.shape_of-cells-then-count-gt-MAX_PIECES
-shape_of-cells-then-count-gt-MAX_PIECES c = c.read_single.ensures.kept.long ∙ c.loop-k.invariant.kept.long
-
-pub shape_of-slots-then-count-gt-MAX_PIECES : goal.shape_of-slots-then-count-gt-MAX_PIECES
-shape_of-slots-then-count-gt-MAX_PIECES c = c.loop-k.invariant.long
-
 pub returns-then-count-gt-MAX_PIECES : goal.returns-then-count-gt-MAX_PIECES
 returns-then-count-gt-MAX_PIECES c =
     recording_many c.loop-k.invariant c.loop-k-test.true c.read_single.ensures c.in-Some.is c.entries.ensures c.if-count-gt-MAX_PIECES.true
 
-pub overflow_add-slots : goal.overflow_add-slots
-overflow_add-slots c = omega (arith, c.requires.memory.2, c.loop-k-test.true)
-
-pub offset_bounds-slots-base : goal.offset_bounds-slots-base
-offset_bounds-slots-base c = omega (arith, c.requires.memory.2, c.loop-k-test.true)
-
-pub bounds-slots-base : goal.bounds-slots-base
-bounds-slots-base c = omega (arith, c.requires.memory.2, c.loop-k-test.true, c.loop-k.invariant.memory.slots)
-
 pub loop-k-preserved : goal.loop-k-preserved
 loop-k-preserved c =
     recording_more c.loop-k.invariant c.loop-k-test.true c.read_single.ensures c.in-Some.is c.entries.ensures (omega (arith, c.if-count-gt-MAX_PIECES.false)) c.requires.memory.1 c.requires.memory.2
-
-pub shape_of-cells : goal.shape_of-cells
-shape_of-cells c = c.loop-k.invariant.kept.long
-
-pub shape_of-slots : goal.shape_of-slots
-shape_of-slots c = c.loop-k.invariant.long
 
 pub returns : goal.returns
 returns c = recording_done c.loop-k.invariant (omega (arith, c.loop-k-test.false))

@@ -1,7 +1,5 @@
 -- `pruner::lent::read_pruner` meets its contract: nothing was asked yet, no record of totals stands there, or its body tells them.
-use mathlib.Core.Path.{sym}
-use lib.Seq.{length-take-le}
-use Rattle.pruner.proofs.Telling.{flags_there, none_yet, cleared-has, tells_fresh, tells_none, stands, body_there, body_fits, tells_body}
+use Rattle.pruner.proofs.Telling.{flags_there, none_yet, cleared-has, tells_fresh, tells_none, body_there, body_fits, tells_body}
 use Rattle.pruner.proofs.lent.read_pruner.Goals as goal
 
 pub clear_flags-requires : goal.clear_flags-requires
@@ -14,9 +12,6 @@ returns-then-is_fresh c =
 pub returns-in_default : goal.returns-in_default
 returns-in_default c =
     tells_none c.requires.0 c.requires.1 (c.functions-n.ensures c.args.bytes.now) c.clear_flags.ensures c.args.pruner.now c.is_fresh.ensures c.if-is_fresh.false c.record_length.ensures c.in_default.is
-
-pub slice_bounds-read_body-end : goal.slice_bounds-read_body-end
-slice_bounds-read_body-end c = sym (length-take-le _ _ (stands c.requires.0 c.requires.1 (c.functions-n.ensures c.args.bytes.now) c.clear_flags.ensures c.args.pruner.now c.is_fresh.ensures c.if-is_fresh.false c.record_length.ensures c.in-Some.is).inside)
 
 pub read_body-requires : goal.read_body-requires
 read_body-requires c =

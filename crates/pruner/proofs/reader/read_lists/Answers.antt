@@ -1,13 +1,9 @@
 -- `pruner::reader::read_lists` meets its contract: one list after the other, and one law for each way.
-use mathlib.Core.Path.{◌∙◌}
 use Rattle.pruner.proofs.Pieces.{lists-no_retval, globals_room, lists-no_globals, args_room, lists-no_args, locals_room, lists-no_locals, lists-got}
 use Rattle.pruner.proofs.reader.read_lists.Goals as goal
 
 pub read_single-requires : goal.read_single-requires
 read_single-requires c = record { good = c.requires.good; at_in_bounds = c.requires.at_in_bounds }
-
-pub shape_of-cells-in_default : goal.shape_of-cells-in_default
-shape_of-cells-in_default c = c.read_single.ensures.kept.long
 
 pub returns-in_default : goal.returns-in_default
 returns-in_default c =
@@ -18,9 +14,6 @@ read_map-requires c =
     let h = globals_room c.args.globals c.args.args c.args.locals c.read_single.ensures c.in-Some.is c.requires.at_in_bounds.1 in
     record { good = c.read_single.ensures.kept.good; at_in_bounds = h; limit_le_absent = c.requires.limits.globals_fit }
 
-pub shape_of-cells-in_default-read_map : goal.shape_of-cells-in_default-read_map
-shape_of-cells-in_default-read_map c = c.read_map.ensures.kept.long ∙ c.read_single.ensures.kept.long
-
 pub returns-in_default-read_map : goal.returns-in_default-read_map
 returns-in_default-read_map c =
     lists-no_globals c.args.globals c.args.args c.args.locals c.read_single.ensures c.in-Some.is c.read_map.ensures c.in_default-read_map.is
@@ -29,10 +22,6 @@ pub read_map-requires-2 : goal.read_map-requires-2
 read_map-requires-2 c =
     let h = args_room c.args.globals c.args.args c.args.locals c.read_single.ensures c.in-Some.is c.read_map.ensures c.in-Some-read_map.is c.requires.at_in_bounds.1 in
     record { good = c.read_map.ensures.kept.good; at_in_bounds = h; limit_le_absent = c.requires.limits.args_fit }
-
-pub shape_of-cells-in_default-read_map-2 : goal.shape_of-cells-in_default-read_map-2
-shape_of-cells-in_default-read_map-2 c =
-    c.read_map-2.ensures.kept.long ∙ c.read_map.ensures.kept.long ∙ c.read_single.ensures.kept.long
 
 pub returns-in_default-read_map-2 : goal.returns-in_default-read_map-2
 returns-in_default-read_map-2 c =
@@ -43,17 +32,9 @@ read_map-requires-3 c =
     let h = locals_room c.args.globals c.args.args c.args.locals c.read_single.ensures c.in-Some.is c.read_map.ensures c.in-Some-read_map.is c.read_map-2.ensures c.in-Some-read_map-2.is c.requires.at_in_bounds.1 in
     record { good = c.read_map-2.ensures.kept.good; at_in_bounds = h; limit_le_absent = c.requires.limits.locals_fit }
 
-pub shape_of-cells-in_default-read_map-3 : goal.shape_of-cells-in_default-read_map-3
-shape_of-cells-in_default-read_map-3 c =
-    c.read_map-3.ensures.kept.long ∙ c.read_map-2.ensures.kept.long ∙ c.read_map.ensures.kept.long ∙ c.read_single.ensures.kept.long
-
 pub returns-in_default-read_map-3 : goal.returns-in_default-read_map-3
 returns-in_default-read_map-3 c =
     lists-no_locals c.args.globals c.args.args c.args.locals c.read_single.ensures c.in-Some.is c.read_map.ensures c.in-Some-read_map.is c.read_map-2.ensures c.in-Some-read_map-2.is c.read_map-3.ensures c.in_default-read_map-3.is
-
-pub shape_of-cells : goal.shape_of-cells
-shape_of-cells c =
-    c.read_map-3.ensures.kept.long ∙ c.read_map-2.ensures.kept.long ∙ c.read_map.ensures.kept.long ∙ c.read_single.ensures.kept.long
 
 pub returns : goal.returns
 returns c =

@@ -11,9 +11,6 @@ loop-k-init c =
 pub ends-requires : goal.ends-requires
 ends-requires c = c.loop-k.invariant.inside
 
-pub shape_of-marks-then-ends : goal.shape_of-marks-then-ends
-shape_of-marks-then-ends c = c.loop-k.invariant.long
-
 pub returns-then-ends : goal.returns-then-ends
 returns-then-ends c =
     marking_ends c.loop-k.invariant c.loop-k-test.true (ended c.args.pruner.now c.loop-k.next c.ends.ensures c.if-ends.true)
@@ -21,31 +18,13 @@ returns-then-ends c =
 pub read-mark-requires : goal.read-mark-requires
 read-mark-requires c = (goes_on c.args.pruner.now c.loop-k.next c.ends.ensures c.if-ends.false)
 
-pub shape_of-marks-then-mark-gt1 : goal.shape_of-marks-then-mark-gt1
-shape_of-marks-then-mark-gt1 c = c.loop-k.invariant.long
-
 pub returns-then-mark-gt1 : goal.returns-then-mark-gt1
 returns-then-mark-gt1 c =
     marking_other c.loop-k.invariant c.loop-k-test.true (goes_on c.args.pruner.now c.loop-k.next c.ends.ensures c.if-ends.false) c.read-mark.ensures c.if-mark-gt1.true
 
-pub overflow_cast-marks : goal.overflow_cast-marks
-overflow_cast-marks c = omega (arith, c.if-mark-gt1.false)
-
-pub overflow_add-marks : goal.overflow_add-marks
-overflow_add-marks c = omega (arith, c.requires.1, c.loop-k-test.true)
-
-pub bounds-marks-first : goal.bounds-marks-first
-bounds-marks-first c = omega (arith, c.requires.1, c.loop-k-test.true, c.loop-k.invariant.long)
-
-pub overflow_add-next : goal.overflow_add-next
-overflow_add-next c = omega (arith, (goes_on c.args.pruner.now c.loop-k.next c.ends.ensures c.if-ends.false))
-
 pub loop-k-preserved : goal.loop-k-preserved
 loop-k-preserved c =
     marking_more c.loop-k.invariant c.loop-k-test.true (goes_on c.args.pruner.now c.loop-k.next c.ends.ensures c.if-ends.false) c.read-mark.ensures c.requires.1 (omega (arith, c.if-mark-gt1.false))
-
-pub shape_of-marks : goal.shape_of-marks
-shape_of-marks c = c.loop-k.invariant.long
 
 pub returns : goal.returns
 returns c = marking_done c.loop-k.invariant (omega (arith, c.loop-k-test.false))

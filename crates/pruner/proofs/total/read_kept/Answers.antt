@@ -1,6 +1,6 @@
 -- `pruner::total::read_kept` meets its contract: the marks, the context and the records, one law for each way.
 use Rattle.pruner.proofs.Whole.{flag_there, starts_there}
-use Rattle.pruner.proofs.Keeping.{limits, context_inside, ascending, behind_flags, few_marks, kept_no_marks, lists-inside, lists-room, kept_no_context, context_memory, context_few, records_from, base_inside, kept_read}
+use Rattle.pruner.proofs.Keeping.{limits, context_inside, ascending, behind_flags, kept_no_marks, lists-inside, lists-room, kept_no_context, context_memory, context_few, records_from, base_inside, kept_read}
 use native.Mathlib.Omega.{arith}
 use Rattle.pruner.proofs.total.read_kept.Goals as goal
 
@@ -17,29 +17,13 @@ overflow_sub-n c =
 pub bounds-totals-i : goal.bounds-totals-i
 bounds-totals-i c = flag_there c.requires.has_totals.0 c.args.f.0 c.requires.has_totals.1
 
-pub overflow_add-from : goal.overflow_add-from
-overflow_add-from c =
-    omega (arith, few_marks c.requires.has_totals.0 c.args.f.0 c.requires.has_totals.1 c.start-from.ensures c.start.ensures)
-
 pub read_marks-requires : goal.read_marks-requires
 read_marks-requires c =
     (c.requires.at_in_bounds.0, behind_flags c.requires.has_totals.0 c.args.f.0 c.requires.has_totals.1 c.start-from.ensures c.start.ensures)
 
-pub shape_of-totals-then-not-read_marks : goal.shape_of-totals-then-not-read_marks
-shape_of-totals-then-not-read_marks c =
-    (kept_no_marks c.requires.has_totals.0 c.args.f.0 c.requires.has_totals.1 c.start-from.ensures c.start.ensures c.args.sum c.read_marks.ensures c.requires.has_totals.0.memory c.if-not-read_marks.true).marks_long
-
 pub returns-then-not-read_marks : goal.returns-then-not-read_marks
 returns-then-not-read_marks c =
     kept_no_marks c.requires.has_totals.0 c.args.f.0 c.requires.has_totals.1 c.start-from.ensures c.start.ensures c.args.sum c.read_marks.ensures c.requires.has_totals.0.memory c.if-not-read_marks.true
-
-pub overflow_mul-lists : goal.overflow_mul-lists
-overflow_mul-lists c =
-    omega (arith, few_marks c.requires.has_totals.0 c.args.f.0 c.requires.has_totals.1 c.start-from.ensures c.start.ensures)
-
-pub overflow_add-lists : goal.overflow_add-lists
-overflow_add-lists c =
-    omega (arith, lists-inside c.requires.has_totals.0 c.args.f.0 c.requires.has_totals.1 c.start-from.ensures c.start.ensures c.args.sum c.read_marks.ensures c.if-not-read_marks.false, few_marks c.requires.has_totals.0 c.args.f.0 c.requires.has_totals.1 c.start-from.ensures c.start.ensures)
 
 pub read_context-requires : goal.read_context-requires
 read_context-requires c =
@@ -57,18 +41,6 @@ pub read_records-requires : goal.read_records-requires
 read_records-requires c =
     let r = records_from c.requires.has_totals.0 c.args.f.0 c.requires.has_totals.1 c.start-from.ensures c.start.ensures c.args.sum c.read_marks.ensures c.if-not-read_marks.false (c.globals-g.ensures c.args.bytes.now) (c.arguments-a.ensures c.args.bytes.now) (c.locals-l.ensures c.args.bytes.now) c.read_context.ensures c.in_ok-next.was in
     record { memory = (context_memory c.requires.has_totals.0 c.args.f.0 c.requires.has_totals.1 c.start-from.ensures c.start.ensures c.args.sum c.read_marks.ensures c.if-not-read_marks.false (c.globals-g.ensures c.args.bytes.now) (c.arguments-a.ensures c.args.bytes.now) (c.locals-l.ensures c.args.bytes.now) c.read_context.ensures c.in_ok-next.was, omega arith, base_inside c.requires.has_totals.0 c.args.f.0 c.requires.has_totals.1 c.start-from.ensures c.start.ensures c.args.sum c.read_marks.ensures c.if-not-read_marks.false (c.globals-g.ensures c.args.bytes.now) (c.arguments-a.ensures c.args.bytes.now) (c.locals-l.ensures c.args.bytes.now) c.read_context.ensures c.in_ok-next.was c.records_of-records.ensures); at_in_bounds = (r.0, omega (arith, r.1 c.requires.at_in_bounds.1, c.records_of-records.ensures.n), context_few c.requires.has_totals.0 c.args.f.0 c.requires.has_totals.1 c.start-from.ensures c.start.ensures c.args.sum c.read_marks.ensures c.if-not-read_marks.false (c.globals-g.ensures c.args.bytes.now) (c.arguments-a.ensures c.args.bytes.now) (c.locals-l.ensures c.args.bytes.now) c.read_context.ensures c.in_ok-next.was) }
-
-pub shape_of-cells : goal.shape_of-cells
-shape_of-cells c =
-    (kept_read c.requires.has_totals.0 c.args.f.0 c.requires.has_totals.1 c.start-from.ensures c.start.ensures c.args.sum c.read_marks.ensures c.if-not-read_marks.false (c.globals-g.ensures c.args.bytes.now) (c.arguments-a.ensures c.args.bytes.now) (c.locals-l.ensures c.args.bytes.now) c.read_context.ensures c.in_ok-next.was c.records_of-records.ensures _ _ c.read_records.ensures).kept.long
-
-pub shape_of-slots : goal.shape_of-slots
-shape_of-slots c =
-    (kept_read c.requires.has_totals.0 c.args.f.0 c.requires.has_totals.1 c.start-from.ensures c.start.ensures c.args.sum c.read_marks.ensures c.if-not-read_marks.false (c.globals-g.ensures c.args.bytes.now) (c.arguments-a.ensures c.args.bytes.now) (c.locals-l.ensures c.args.bytes.now) c.read_context.ensures c.in_ok-next.was c.records_of-records.ensures _ _ c.read_records.ensures).long
-
-pub shape_of-totals : goal.shape_of-totals
-shape_of-totals c =
-    (kept_read c.requires.has_totals.0 c.args.f.0 c.requires.has_totals.1 c.start-from.ensures c.start.ensures c.args.sum c.read_marks.ensures c.if-not-read_marks.false (c.globals-g.ensures c.args.bytes.now) (c.arguments-a.ensures c.args.bytes.now) (c.locals-l.ensures c.args.bytes.now) c.read_context.ensures c.in_ok-next.was c.records_of-records.ensures _ _ c.read_records.ensures).marks_long
 
 pub returns : goal.returns
 returns c =

@@ -1,7 +1,6 @@
 -- `pruner::total::read_total` meets its contract: one law for each flag.
 use Rattle.request.proofs.Entries.{ended, goes_on}
 use Rattle.pruner.proofs.Flagged.{total_ends, total_other, total_none, kept_room, total_kept}
-use native.Mathlib.Omega.{arith}
 use Rattle.pruner.proofs.total.read_total.Goals as goal
 
 pub ends-requires : goal.ends-requires
@@ -22,24 +21,9 @@ pub returns-then-flag-ne1 : goal.returns-then-flag-ne1
 returns-then-flag-ne1 c =
     total_other c.args.bytes.now c.args.t.now c.args.cells.now c.args.slots.now c.args.totals.now c.args.pruner.now c.args.at c.args.f.0 c.args.sum (goes_on c.args.pruner.now c.args.at c.ends.ensures c.if-ends.false) c.read-flag.ensures c.requires.has_totals.0.memory c.if-flag-eq0.false c.if-flag-ne1.true
 
-pub overflow_add-at : goal.overflow_add-at
-overflow_add-at c = omega (arith, (goes_on c.args.pruner.now c.args.at c.ends.ensures c.if-ends.false))
-
 pub read_kept-requires : goal.read_kept-requires
 read_kept-requires c =
     record { has_totals = (c.requires.has_totals.0, c.requires.has_totals.1); at_in_bounds = ((goes_on c.args.pruner.now c.args.at c.ends.ensures c.if-ends.false), kept_room c.args.bytes.now c.args.t.now c.args.cells.now c.args.slots.now c.args.totals.now c.args.pruner.now c.args.at c.args.f.0 c.args.sum (goes_on c.args.pruner.now c.args.at c.ends.ensures c.if-ends.false) c.read-flag.ensures c.requires.at_in_bounds.1, c.requires.at_in_bounds.2) }
-
-pub shape_of-cells : goal.shape_of-cells
-shape_of-cells c =
-    (total_kept c.args.bytes.now c.args.t.now c.args.cells.now c.args.slots.now c.args.totals.now c.args.pruner.now c.args.at c.args.f.0 c.args.sum (goes_on c.args.pruner.now c.args.at c.ends.ensures c.if-ends.false) c.read-flag.ensures c.if-flag-ne1.false c.read_kept.ensures).kept.long
-
-pub shape_of-slots : goal.shape_of-slots
-shape_of-slots c =
-    (total_kept c.args.bytes.now c.args.t.now c.args.cells.now c.args.slots.now c.args.totals.now c.args.pruner.now c.args.at c.args.f.0 c.args.sum (goes_on c.args.pruner.now c.args.at c.ends.ensures c.if-ends.false) c.read-flag.ensures c.if-flag-ne1.false c.read_kept.ensures).long
-
-pub shape_of-totals : goal.shape_of-totals
-shape_of-totals c =
-    (total_kept c.args.bytes.now c.args.t.now c.args.cells.now c.args.slots.now c.args.totals.now c.args.pruner.now c.args.at c.args.f.0 c.args.sum (goes_on c.args.pruner.now c.args.at c.ends.ensures c.if-ends.false) c.read-flag.ensures c.if-flag-ne1.false c.read_kept.ensures).marks_long
 
 pub returns : goal.returns
 returns c =

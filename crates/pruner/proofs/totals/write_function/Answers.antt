@@ -1,5 +1,5 @@
 -- `pruner::totals::write_function` meets its contract: 0, or the total by its places.
-use Rattle.pruner.proofs.Whole.{flag_there, starts_there, none_room, none_done, ascends, start_small, records_small, total_stored, total-room, total-done}
+use Rattle.pruner.proofs.Whole.{flag_there, starts_there, none_room, none_done, ascends, records_small, total_stored, total-room, total-done}
 use native.Mathlib.Omega.{arith}
 use Rattle.pruner.proofs.totals.write_function.Goals as goal
 
@@ -23,10 +23,6 @@ start-requires c = starts_there c.requires.has_totals.0 c.args.f.0 c.requires.ha
 pub overflow_sub-n : goal.overflow_sub-n
 overflow_sub-n c =
     ascends c.requires.has_totals.0 c.args.f.0 c.requires.has_totals.1 c.records_of-records.ensures c.start-from.ensures c.start.ensures
-
-pub overflow_add-from : goal.overflow_add-from
-overflow_add-from c =
-    omega (arith, start_small c.requires.has_totals.0 c.args.f.0 c.requires.has_totals.1 c.records_of-records.ensures c.start-from.ensures c.start.ensures)
 
 pub overflow_add-records : goal.overflow_add-records
 overflow_add-records c =

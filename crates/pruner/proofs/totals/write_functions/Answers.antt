@@ -1,6 +1,5 @@
 -- `pruner::totals::write_functions` meets its contract: the loop's invariant says that the totals of the first f functions are written.
 use Rattle.module.specs.Tables.{module_of}
-use Rattle.request.proofs.Writing.{written_long}
 use Rattle.memory.specs.Memory.{read}
 use Rattle.block.specs.Standing.{total_in}
 use Rattle.pruner.proofs.Whole.{functions_none, function_room, function_again, functions_room, functions_done}
@@ -18,9 +17,6 @@ write_function-next-requires c =
 pub loop-f-preserved : goal.loop-f-preserved
 loop-f-preserved c =
     function_again (total_in (module_of c.args.bytes.now c.args.t.now) c.args.t.now (read c.args.cells.now c.args.slots.now) c.args.totals.now) c.loop-f.invariant c.loop-f-test.true c.write_function-next.ensures
-
-pub shape_of-out : goal.shape_of-out
-shape_of-out c = written_long c.loop-f.invariant.written
 
 pub returns : goal.returns
 returns c =

@@ -1,6 +1,5 @@
 -- `pruner::write::write_lists` meets its contract: one list after the other.
 use Prim.Native.Nat.{◌+◌}
-use Rattle.request.proofs.Writing.{written_long}
 use Rattle.pruner.proofs.Writing.{retval_fits, globals_fit, args_fit, locals_fit, lists_written}
 use native.Mathlib.Omega.{arith}
 use Rattle.pruner.proofs.write.write_lists.Goals as goal
@@ -20,10 +19,6 @@ write_variables-locals-requires c =
 pub write_variables-requires : goal.write_variables-requires
 write_variables-requires c =
     record { good = c.requires.good; n_bound = c.requires.below (c.args.context + 1) (omega (arith, c.requires.context_in_bounds)); fits = locals_fit c.args.cells.now c.args.slots.now c.args.context c.requires.context_in_bounds c.args.out.now c.args.at c.requires.fits c.write_return-globals.ensures c.write_variables-args.ensures c.write_variables-locals.ensures }
-
-pub shape_of-out : goal.shape_of-out
-shape_of-out c =
-    written_long (lists_written c.args.cells.now c.args.slots.now c.args.context c.requires.context_in_bounds c.args.out.now c.args.at c.requires.fits c.write_return-globals.ensures c.write_variables-args.ensures c.write_variables-locals.ensures c.write_variables.ensures)
 
 pub returns : goal.returns
 returns c =

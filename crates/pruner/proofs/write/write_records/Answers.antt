@@ -1,6 +1,5 @@
 -- `pruner::write::write_records` meets its contract: the loop's invariant says that the first k records are written.
 use Prim.Native.Nat.{◌+◌}
-use Rattle.request.proofs.Writing.{written_long}
 use Rattle.memory.specs.Memory.{read, records_of}
 use Rattle.pruner.specs.Form.{write_records}
 use Rattle.pruner.proofs.Writing.{records_none, all_written, record_room, record_again}
@@ -10,15 +9,6 @@ use Rattle.pruner.proofs.write.write_records.Goals as goal
 pub loop-k-init : goal.loop-k-init
 loop-k-init c = records_none c.args.cells.now c.args.slots.now c.args.base c.args.n c.requires.n_in_bounds
 
-pub overflow_add-base : goal.overflow_add-base
-overflow_add-base c = omega (arith, c.requires.n_in_bounds)
-
-pub offset_bounds-slots-base : goal.offset_bounds-slots-base
-offset_bounds-slots-base c = omega (arith, c.requires.n_in_bounds)
-
-pub bounds-slots-base : goal.bounds-slots-base
-bounds-slots-base c = omega (arith, c.requires.n_in_bounds)
-
 pub write_return-next-requires : goal.write_return-next-requires
 write_return-next-requires c =
     record { good = c.requires.good; n_bound = c.requires.below (c.args.base + c.loop-k.k) (omega (arith, c.requires.n_in_bounds)); fits = record_room c.args.cells.now c.args.slots.now c.args.base c.args.n c.requires.n_in_bounds c.loop-k.invariant c.loop-k-test.true c.requires.fits }
@@ -26,9 +16,6 @@ write_return-next-requires c =
 pub loop-k-preserved : goal.loop-k-preserved
 loop-k-preserved c =
     record_again c.args.cells.now c.args.slots.now c.args.base c.args.n c.requires.n_in_bounds c.loop-k.invariant c.loop-k-test.true c.write_return-next.ensures
-
-pub shape_of-out : goal.shape_of-out
-shape_of-out c = written_long c.loop-k.invariant.written
 
 pub returns : goal.returns
 returns c =

@@ -1,17 +1,11 @@
 -- `pruner::write::write_total` meets its contract: one list after the other.
-use Rattle.request.proofs.Writing.{written_long}
 use Rattle.pruner.specs.Stored.{total_in}
 use Rattle.pruner.proofs.Writing.{flag_room, marks_fit, context_fits, exprs_fit, total_written}
-use native.Mathlib.Omega.{arith}
 use Rattle.pruner.proofs.write.write_total.Goals as goal
 
 pub write-requires : goal.write-requires
 write-requires c =
     flag_room (total_in c.args.cells.now c.args.slots.now c.args.marks.now c.args.from c.args.n c.args.context c.args.base c.args.count) c.args.out.now c.args.at c.requires.fits
-
-pub overflow_add-at : goal.overflow_add-at
-overflow_add-at c =
-    omega (arith, flag_room (total_in c.args.cells.now c.args.slots.now c.args.marks.now c.args.from c.args.n c.args.context c.args.base c.args.count) c.args.out.now c.args.at c.requires.fits)
 
 pub write_marks-lists-requires : goal.write_marks-lists-requires
 write_marks-lists-requires c =
@@ -24,10 +18,6 @@ write_lists-records-requires c =
 pub write_records-requires : goal.write_records-requires
 write_records-requires c =
     record { good = c.requires.stored.good; below = c.requires.stored.below; n_in_bounds = c.requires.stored.records_there; fits = exprs_fit (total_in c.args.cells.now c.args.slots.now c.args.marks.now c.args.from c.args.n c.args.context c.args.base c.args.count) c.args.out.now c.args.at c.requires.fits c.write.ensures c.write_marks-lists.ensures c.write_lists-records.ensures }
-
-pub shape_of-out : goal.shape_of-out
-shape_of-out c =
-    written_long (total_written (total_in c.args.cells.now c.args.slots.now c.args.marks.now c.args.from c.args.n c.args.context c.args.base c.args.count) c.args.out.now c.args.at c.requires.fits c.write.ensures c.write_marks-lists.ensures c.write_lists-records.ensures c.write_records.ensures)
 
 pub returns : goal.returns
 returns c =
