@@ -2,7 +2,7 @@
 use Prim.Native.Nat.{ℕ, ◌+◌, ◌-◌, ◌≤◌, ◌<◌}
 use native.Mathlib.Omega.{arith}
 use mathlib.Core.Path.{◌≡◌, refl, ap, sym, subst, ◌∙◌}
-use mathlib.Core.Bool.{Bool, false}
+use mathlib.Core.Bool.{Bool, true, false}
 use mathlib.Core.List.{List}
 use lib.ListN.{length}
 use borrow.Author.Tests.{lt-ltb, le-ltb}
@@ -16,6 +16,7 @@ use Rattle.request.specs.Answers.{from, Field}
 use Rattle.request.proofs.Bytes.{from_end}
 use Rattle.request.proofs.Entries.{Index, index_next, entries_none}
 use Rattle.std.specs.Prelude.{Option as Maybe, Some, None}
+use Rattle.std.specs.Option.{option_eq}
 use Rattle.request.specs.declared.codes.Code.{Code}
 use Rattle.request.specs.declared.codes.Code.TheVariants.{All, Exist, Entries}
 use Rattle.request.specs.Codes.{CodeWasRead, by_answer}
@@ -201,16 +202,21 @@ module _ {b : List ℕ} {at d : ℕ} (R : Readable b at d) where
     listed_not_exist : is_exist (part_at b at d) ≡ false
     listed_not_exist = (read_list (read_part (d - 1)) 0 0 n (from b (at + 2 + 2)) (coded was)).1
 
-  -- another code
-  pub not_all : (c : Code) → CodeWasRead b at d (Some c) → (c ≡ All → ⊥) → false ≡ is_all (part_at b at d)
-  not_all All was h = absurd (h refl)
-  not_all Exist was h = ap is_all (it_is_exist was)
-  not_all (Entries n) was h = sym (listed_not_all was)
+  -- the code compared, by what `E` says of two codes
+  module _ (E : Code → Code → Bool) where
+    pub is_all_by : E All All ≡ true → E Exist All ≡ false → ((n : ℕ) → E (Entries n) All ≡ false) → (c : Maybe Code) → CodeWasRead b at d c
+        → option_eq E c (Some All) ≡ is_all (part_at b at d)
+    is_all_by y n m None was = never was
+    is_all_by y n m (Some All) was = y ∙ ap is_all (it_is_all was)
+    is_all_by y n m (Some Exist) was = n ∙ ap is_all (it_is_exist was)
+    is_all_by y n m (Some (Entries k)) was = m k ∙ sym (listed_not_all was)
 
-  pub not_exist : (c : Code) → CodeWasRead b at d (Some c) → (c ≡ Exist → ⊥) → false ≡ is_exist (part_at b at d)
-  not_exist All was h = ap is_exist (it_is_all was)
-  not_exist Exist was h = absurd (h refl)
-  not_exist (Entries n) was h = sym (listed_not_exist was)
+    pub is_exist_by : E Exist Exist ≡ true → E All Exist ≡ false → ((n : ℕ) → E (Entries n) Exist ≡ false) → (c : Maybe Code) → CodeWasRead b at d c
+        → option_eq E c (Some Exist) ≡ is_exist (part_at b at d)
+    is_exist_by y n m None was = never was
+    is_exist_by y n m (Some All) was = n ∙ ap is_exist (it_is_all was)
+    is_exist_by y n m (Some Exist) was = y ∙ ap is_exist (it_is_exist was)
+    is_exist_by y n m (Some (Entries k)) was = m k ∙ sym (listed_not_exist was)
 
 -- a list of variables
 pub variable_short : (b : List ℕ) (at i : ℕ) → length b < at + 2 → VariableFound b at i None

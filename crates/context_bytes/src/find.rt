@@ -56,10 +56,7 @@ pub fn is_all(bytes: &[u8], at: usize, depth: usize) -> bool
     requires { Readable bytes.now at depth }
     ensures { result ≡ is_all (part_at bytes.now at depth) }
 {
-    let Some(code) = part_code(bytes, at, depth) else {
-        return false;
-    };
-    matches!(code, Code::All)
+    part_code(bytes, at, depth) == Some(Code::All)
 }
 
 // Whether no value is needed.
@@ -67,10 +64,7 @@ pub fn is_exist(bytes: &[u8], at: usize, depth: usize) -> bool
     requires { Readable bytes.now at depth }
     ensures { result ≡ is_exist (part_at bytes.now at depth) }
 {
-    let Some(code) = part_code(bytes, at, depth) else {
-        return false;
-    };
-    matches!(code, Code::Exist)
+    part_code(bytes, at, depth) == Some(Code::Exist)
 }
 
 // Where the list of arguments stands in the context that bytes mean.

@@ -6,7 +6,7 @@ use crate::record::field;
 use field::limits::{ABSENT, MAX_ENTRIES};
 
 // What a part's code says: of code 2, how many entries follow it.
-#[derive(Clone, Copy)]
+#[derive(Clone, Copy, PartialEq, Eq)]
 pub enum Code {
     All,
     Exist,

@@ -1,12 +1,10 @@
 -- `context_bytes::find::is_exist` meets its contract, by the part's code.
-use Rattle.context_bytes.proofs.Found.{never, not_exist}
+use mathlib.Core.Path.{refl, ◌∙◌}
+use Rattle.context_bytes.proofs.Found.{is_exist_by}
 use Rattle.context_bytes.proofs.find.is_exist.Goals as goal
 
 pub part_code-requires : goal.part_code-requires
 part_code-requires c = c.requires.inside
 
-pub returns-in_default : goal.returns-in_default
-returns-in_default c = never c.requires c.in_default.ensures
-
-pub returns-in_default-matches : goal.returns-in_default-matches
-returns-in_default-matches c = not_exist c.requires c.in-Some.code c.in-Some.ensures c.in_default-matches.not-Exist
+pub returns : goal.returns
+returns c = c.eq.ensures ∙ is_exist_by c.requires _ refl refl (λ n. refl) c.part_code.result c.part_code.ensures
