@@ -16,7 +16,7 @@ use Rattle.part.proofs.Order.{reflexive}
 use Rattle.part.proofs.Sum.{add-contained, sum_right}
 use Rattle.part.proofs.Write.{kept_self}
 use Rattle.part.proofs.Making.{kept_trans}
-use Rattle.part.proofs.Reading.{Along, along_start, along_gt, along_call, along_not, along_both, along_next}
+use Rattle.part.proofs.Reading.{Along, along_gt, along_not, along_both, along_next}
 use Rattle.part.proofs.Counting.{by_bool}
 use Rattle.part.proofs.Distinct.{untrue}
 
@@ -59,9 +59,6 @@ module _ {s : List ℕ} {a b : ℕ} (P : Good s × ((a < top s) × (b < top s)))
       (λ e q. ne_eqb n a (λ z. untrue (sym e ∙ d.1 z)))
       refl)
 
-  pub covering_start : Covering s s a b a b
-  covering_start = record { remembered = remembered_self P.0; along = along_start P.1.0 P.1.1 }
-
   module _ {t : List ℕ} {m n : ℕ} (w : Covering s t a b m n) where
     good_t : Good t
     good_t = w.remembered.kept.good
@@ -72,9 +69,6 @@ module _ {s : List ℕ} {a b : ℕ} (P : Good s × ((a < top s) × (b < top s)))
     -- where the answer is found
     pub covered : {r : Bool} → r ≡ contains (part t a) (part t b) → Covered s t a b r
     covered e = record { remembered = w.remembered; is = e ∙ whole }
-
-    pub covered_end : {r : Bool} → r ≡ contains (part t m) (part t n) → Covered s t a b r
-    covered_end e = covered (e ∙ w.along.is)
 
     -- it is remembered where it is yes
     pub known_asks : contains (part t m) (part t n) ≡ true → Good t × Known t a b a
@@ -98,9 +92,6 @@ module _ {s : List ℕ} {a b : ℕ} (P : Good s × ((a < top s) × (b < top s)))
     module _ {i c r j d q : ℕ} (x : Seen t m i c r) (y : Seen t n j d q) where
       pub covered_gt : j < i → Covered s t a b false
       covered_gt l = covered (along_gt w.along x y l)
-
-      pub covering_call : {z : ℕ} → a ≡ z → (c < z) × (Good t × ((c < top t) × (d < top t)))
-      covering_call e = let p = along_call w.along x y e in (p.0, (good_t, p.1))
 
       pub covering_next : i ≤ j → (i ≡ j → ⊥) → Covering s t a b r n
       covering_next l ne = record { remembered = w.remembered; along = along_next w.along x y l ne }

@@ -12,15 +12,12 @@ use Rattle.part.proofs.Sum.{add-contained}
 use Rattle.part.proofs.Sizes.{sum_small}
 use Rattle.part.proofs.Pieces.{part-0, part-1, part-2, not_exist}
 use Rattle.part.proofs.Write.{stay, holds_on}
-use Rattle.part.proofs.Making.{JoinAsked, Joined, MakeAsked, RemakeAsked, kept_trans, then, then_then, as_made}
+use Rattle.part.proofs.Making.{JoinAsked, Joined, RemakeAsked, kept_trans, then, then_then, as_made}
 
 -- where `contains_entry` stands along the map
 pub record Passing (s : List ℕ) (m i p n : ℕ) : Type 0 where
   pub inside : n < top s
   pub is : contains (part s n) (more i (part s p) none) ≡ contains (part s m) (more i (part s p) none)
-
-pub passing_start : {s : List ℕ} {m : ℕ} (i p : ℕ) → m < top s → Passing s m i p m
-passing_start i p h = record { inside = h; is = refl }
 
 and_not : (b : Bool) → b && false ≡ false
 and_not true = refl
@@ -55,9 +52,6 @@ module _ {s : List ℕ} {m i p n : ℕ} (g : Passing s m i p n) where
     pub passed_at : i ≡ j → (r ≡ 1 → ⊥) → {b : Bool} → b ≡ contains (part s c) (part s p) → b ≡ contains (part s m) (more i (part s p) none)
     passed_at e ne h = h ∙ sym (at e ∙ rw (not_exist s r ne) (and-true _)) ∙ g.is
 
-    pub passed_asks : Good s → p < top s → Good s × ((c < top s) × (p < top s))
-    passed_asks w h = (w, (omega (arith, g.inside, x.child_low), h))
-
     pub passed_after : j ≤ i → (i ≡ j → ⊥) → Passing s m i p r
     passed_after h ne =
         let l : j < i = omega arith in
@@ -77,9 +71,6 @@ module _ {s : List ℕ} {m p : ℕ} (P : EntryAsked s m p) where
   pub entry_all : (i : ℕ) → m ≡ 0 → Entered s s m i p 0
   entry_all i e = stay s _ _ 0 P.0 (omega (arith, P.0.base)) (part-0 s ∙ rw (e, part-0) (sym (all_add _)))
 
-  pub entry_makes : MakeAsked s p 2
-  entry_makes = (P.0, (omega arith, (P.1.0.1, omega (arith, P.0.base))))
-
   pub entry_end : {t : List ℕ} {i n : ℕ} → (m ≡ 0 → ⊥) → m < 3 → Made s t (more i (part s p) (part s 2)) 1 n → Entered s t m i p n
   entry_end {i = i} z h a = as_made a (rw part-2 (sym (go m z h))) (omega arith)
     where
@@ -89,19 +80,10 @@ module _ {s : List ℕ} {m p : ℕ} (P : EntryAsked s m p) where
       go (suc (suc zero)) z h = rw part-2 (none-add _ refl)
       go (suc (suc (suc k))) z h = absurd (omega arith)
 
-  pub entry_makes_before : MakeAsked s p m
-  entry_makes_before = (P.0, (omega arith, (P.1.0.1, P.1.0.0)))
-
   module _ {j c r : ℕ} (x : Seen s m j c r) where
     pub entry_before : {t : List ℕ} {i n : ℕ} → i < j → Made s t (more i (part s p) (part s m)) 1 n → Entered s t m i p n
     entry_before {i = i} h a =
         as_made a (rw x.is (sym (add_gt j i _ _ _ _ h ∙ ap (more i (part s p)) (add_none (more j (part s c) (part s r)) refl)))) (omega arith)
-
-    pub entry_call : {t : ℕ} → m ≡ t → (r < t) × EntryAsked s r p
-    entry_call e = (omega arith, (P.0, ((omega arith, P.1.0.1), omega arith)))
-
-    pub entry_remakes : {t : List ℕ} (i : ℕ) {n : ℕ} → Entered s t r i p n → RemakeAsked t m j c r c n
-    entry_remakes i a = (a.kept.good, (omega arith, ((omega arith, omega arith), holds_on x P.1.0.0 a.kept)))
 
     pub entry_after : {t u : List ℕ} {i n l : ℕ} → j < i → Entered s t r i p n → Made t u (more j (part t c) (part t n)) 1 l → Entered s u m i p l
     entry_after {i = i} h a b = then a b (omega arith) (rw x.is (add-lt j i _ _ _ _ h)) (omega arith)

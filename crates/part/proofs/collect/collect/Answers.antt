@@ -1,12 +1,8 @@
 -- `collect` meets its contract.
 use Rattle.part.specs.Store.{distinct_in}
-use mathlib.Core.Path.{◌∙◌}
 use Rattle.part.proofs.Once.{formed}
-use Rattle.part.proofs.Slides.{roots_asked, down_asked, slide_asks, turn_asked, collect_long, collected, rebuild_asked}
+use Rattle.part.proofs.Slides.{roots_asked, down_asked, slide_asks, turn_asked, collected, rebuild_asked}
 use Rattle.part.proofs.collect.collect.Goals as goal
-
-pub clear-requires : goal.clear-requires
-clear-requires c = formed c.requires.good
 
 pub mark_roots-requires : goal.mark_roots-requires
 mark_roots-requires c =
@@ -30,10 +26,6 @@ pub rebuild-requires : goal.rebuild-requires
 rebuild-requires c =
     let q9 = rebuild_asked c.args.roots.now (formed c.requires.good) c.requires.below c.clear.ensures c.mark_roots.ensures.rooted c.mark_down.ensures.marking c.slide-used.ensures c.turn.ensures (distinct_in c.requires.good.unique) in
     record { formed = q9.0; distinct = q9.1 }
-
-pub shape_of-cells : goal.shape_of-cells
-shape_of-cells c =
-    c.rebuild.ensures.long ∙ collect_long c.args.roots.now (formed c.requires.good) c.requires.below c.clear.ensures c.mark_roots.ensures.rooted c.mark_down.ensures.marking c.slide-used.ensures
 
 pub returns : goal.returns
 returns c =

@@ -1,5 +1,4 @@
 -- `turn` meets its contract: after k turns the first k roots are where they went.
-use lib.ListN.{length}
 use Rattle.part.specs.Collect.{Turned}
 use Rattle.part.proofs.collect.turn.Given as goal
 

@@ -1,39 +1,17 @@
 -- `join_entry` meets its contract. The measure is the map's number.
-use Rattle.part.proofs.Entries.{entry_all, entry_makes, entry_end, entry_makes_before, entry_before, entry_call, entry_remakes, entry_after, entry_joins, entry_rests, entry_remakes_at, entry_at}
+use Rattle.part.proofs.Entries.{entry_all, entry_end, entry_before, entry_after, entry_joins, entry_rests, entry_remakes_at, entry_at}
 use Rattle.part.proofs.entry.+join_entry.Goals as goal
 
 pub returns-then-m-eq0 : goal.returns-then-m-eq0
 returns-then-m-eq0 t c = entry_all (c.requires.good, (c.requires.m_bound, c.requires.room)) _ c.if-m-eq0.true
 
-pub make-requires : goal.make-requires
-make-requires t c =
-    let q9 = entry_makes (c.requires.good, (c.requires.m_bound, c.requires.room)) in
-    record { good = q9.0; room = q9.1.0; child_bound = q9.1.1 }
-
 pub returns-then-m-lt3 : goal.returns-then-m-lt3
 returns-then-m-lt3 t c =
     entry_end (c.requires.good, (c.requires.m_bound, c.requires.room)) c.if-m-eq0.false c.if-m-lt3.true c.make.ensures
 
-pub look-x-requires : goal.look-x-requires
-look-x-requires t c = record { good = c.requires.good; lt_n = (c.if-m-lt3.false, c.requires.m_bound.0) }
-
-pub make-requires-then-i-x : goal.make-requires-then-i-x
-make-requires-then-i-x t c =
-    let q9 = entry_makes_before (c.requires.good, (c.requires.m_bound, c.requires.room)) in
-    record { good = q9.0; room = q9.1.0; child_bound = q9.1.1 }
-
 pub returns-then-i-x : goal.returns-then-i-x
 returns-then-i-x t c =
     entry_before (c.requires.good, (c.requires.m_bound, c.requires.room)) c.look-x.ensures c.if-i-x.true c.make-then-i-x.ensures
-
-pub join_entry-r-requires : goal.join_entry-r-requires
-join_entry-r-requires t c =
-    entry_call (c.requires.good, (c.requires.m_bound, c.requires.room)) c.look-x.ensures c.decreases
-
-pub remake-requires : goal.remake-requires
-remake-requires t c =
-    let q9 = entry_remakes (c.requires.good, (c.requires.m_bound, c.requires.room)) c.look-x.ensures _ c.join_entry-r.ensures in
-    record { good = q9.0; room = q9.1.0; child_bound = q9.1.1.0; holds = q9.1.1.1 }
 
 pub returns-then-x-i : goal.returns-then-x-i
 returns-then-x-i t c =

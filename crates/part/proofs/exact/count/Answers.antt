@@ -1,11 +1,6 @@
 -- `count` meets its contract.
-use mathlib.Core.Path.{◌∙◌}
-use Rattle.part.proofs.Once.{formed}
 use Rattle.part.proofs.Exactly.{maps_asked, walk_asked, add-asked, rebuild_asks, counted}
 use Rattle.part.proofs.exact.count.Goals as goal
-
-pub clear-requires : goal.clear-requires
-clear-requires c = formed c.requires.good
 
 pub mark_roots-requires : goal.mark_roots-requires
 mark_roots-requires c =
@@ -24,10 +19,6 @@ pub rebuild-requires : goal.rebuild-requires
 rebuild-requires c =
     let q9 = rebuild_asks c.args.maps.now c.requires.good c.requires.below c.clear.ensures c.mark_roots.ensures.mapped c.mark_down.ensures.walked in
     record { formed = q9.0; distinct = q9.1 }
-
-pub shape_of-cells : goal.shape_of-cells
-shape_of-cells c =
-    c.rebuild.ensures.long ∙ c.mark_down.ensures.walked.cells.long ∙ c.mark_roots.ensures.mapped.cells.long ∙ c.clear.ensures.cells.long
 
 pub returns : goal.returns
 returns c =

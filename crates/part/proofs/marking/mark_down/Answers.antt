@@ -1,16 +1,8 @@
 -- `mark_down` meets its contract: from n up, what is marked is walked, and what a marked cell names is marked.
-use mathlib.Core.Path.{◌≡◌}
-use Rattle.part.proofs.Marks.{raised_marks, marking_start, marking_skip, marking_more, marking_asks, marking_asks_child, marking_asks_rest}
-use Rattle.part.proofs.Exactly.{walked_start, walked_skip, walked_more}
+use Rattle.part.proofs.Marks.{raised_marks, marking_skip, marking_more, marking_asks, marking_asks_child, marking_asks_rest}
+use Rattle.part.proofs.Exactly.{walked_skip, walked_more}
 use native.Mathlib.Omega.{arith}
 use Rattle.part.proofs.marking.mark_down.Goals as goal
-
-pub loop-n-init : goal.loop-n-init
-loop-n-init c = (marking_start _ c.requires, walked_start _ c.requires)
-
-pub word-requires : goal.word-requires
-word-requires c =
-    (omega (arith, c.requires.room, c.loop-n.invariant.0.high, c.loop-n.invariant.0.cells.long), omega arith)
 
 pub peek-x-requires : goal.peek-x-requires
 peek-x-requires c =
@@ -38,11 +30,3 @@ loop-n-preserved c = (
   marking_skip c.loop-n.invariant.0 (omega arith) (omega arith) (omega (arith, c.if-word-gt0.false, c.word.ensures)),
   walked_skip c.requires c.loop-n.invariant.1 (omega arith) (omega arith) (omega (arith, c.if-word-gt0.false, c.word.ensures)),
 )
-
-pub shape_of-cells : goal.shape_of-cells
-shape_of-cells c = c.loop-n.invariant.0.cells.long
-
-pub returns : goal.returns
-returns c =
-    let e : c.loop-n.n ≡ 3 = omega (arith, c.loop-n.invariant.0.low) in
-    record { marking = rw e at c.loop-n.invariant.0; walked = rw e at c.loop-n.invariant.1 }

@@ -1,6 +1,5 @@
 -- `mark_roots` meets its contract: after k turns the first k roots are marked.
-use mathlib.Core.Path.{◌≡◌, refl}
-use lib.ListN.{length}
+use mathlib.Core.Path.{refl}
 use Rattle.part.proofs.Marks.{cells_top, cells_good, raised_marks, rooted_none, rooted_more}
 use Rattle.part.proofs.Exactly.{mapped_none, mapped_more}
 use native.Mathlib.Omega.{arith}
@@ -18,11 +17,3 @@ loop-n-preserved c = (
   rooted_more c.requires.formed refl c.loop-n-test.true c.loop-n.invariant.0 (raised_marks (omega arith) c.raise.ensures),
   mapped_more refl (c.requires.below c.loop-n.n-index c.loop-n-test.true) c.loop-n.invariant.1 c.raise.ensures,
 )
-
-pub shape_of-cells : goal.shape_of-cells
-shape_of-cells c = c.loop-n.invariant.0.cells.long
-
-pub returns : goal.returns
-returns c =
-    let e : c.loop-n.n-index ≡ length c.args.roots.now = omega arith in
-    record { rooted = rw e at c.loop-n.invariant.0; mapped = rw e at c.loop-n.invariant.1 }

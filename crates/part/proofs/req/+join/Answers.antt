@@ -1,29 +1,9 @@
 -- `join` meets its contract. The measure is the sum of the two numbers.
-use mathlib.Core.Path.{sym}
-use Rattle.part.proofs.Making.{sum_same, sum_plain, sum_plain_right, call_lt, make_lt, done_lt, call_gt, make_gt, done_gt, call_eq, call_eq_rest, make_eq, done_eq}
+use Rattle.part.proofs.Making.{sum_same, call_lt, make_lt, done_lt, call_gt, make_gt, done_gt, call_eq, call_eq_rest, make_eq, done_eq}
 use Rattle.part.proofs.req.+join.Goals as goal
 
 pub returns-then-a-b : goal.returns-then-a-b
 returns-then-a-b t c = sum_same (c.requires.good, (c.requires.a_bound, c.requires.room)) c.if-a-b.true
-
-pub join_plain-requires : goal.join_plain-requires
-join_plain-requires t c = (c.if-a-lt3.true, c.if-a-b.false)
-
-pub returns-then-a-lt3 : goal.returns-then-a-lt3
-returns-then-a-lt3 t c = sum_plain (c.requires.good, (c.requires.a_bound, c.requires.room)) c.join_plain.ensures
-
-pub join_plain-requires-then-b-lt3 : goal.join_plain-requires-then-b-lt3
-join_plain-requires-then-b-lt3 t c = (c.if-b-lt3.true, λ e. c.if-a-b.false (sym e))
-
-pub returns-then-b-lt3 : goal.returns-then-b-lt3
-returns-then-b-lt3 t c =
-    sum_plain_right (c.requires.good, (c.requires.a_bound, c.requires.room)) c.join_plain-then-b-lt3.ensures
-
-pub look-x-requires : goal.look-x-requires
-look-x-requires t c = record { good = c.requires.good; lt_n = (c.if-a-lt3.false, c.requires.a_bound.0) }
-
-pub look-y-requires : goal.look-y-requires
-look-y-requires t c = record { good = c.requires.good; lt_n = (c.if-b-lt3.false, c.requires.a_bound.1) }
 
 pub join-r-requires : goal.join-r-requires
 join-r-requires t c =

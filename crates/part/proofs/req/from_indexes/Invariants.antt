@@ -1,5 +1,4 @@
 -- `from_indexes` meets its contract. After k turns the piece is the path of the first k indexes.
-use lib.ListN.{length}
 use Rattle.part.specs.PartReq.{from_first}
 use Rattle.part.specs.Store.{Made}
 use Rattle.part.proofs.req.from_indexes.Given as goal

@@ -1,5 +1,5 @@
 -- `fresh` meets its contract.
-use Rattle.part.proofs.Write.{made_fresh, made_long, found_fresh}
+use Rattle.part.proofs.Write.{made_fresh, found_fresh}
 use Rattle.part.proofs.Measures.{small, packed_small, byte_is}
 use native.Mathlib.Omega.{arith}
 use Rattle.part.proofs.store.fresh.Goals as goal
@@ -20,19 +20,6 @@ overflow_mul-m c =
 pub overflow_add-m : goal.overflow_add-m
 overflow_add-m c =
     omega (arith, packed_small c.requires.good c.requires.child_bound.1 c.measure-p.ensures c.measure-r.ensures c.sizes_of-m.ensures)
-
-pub link-requires : goal.link-requires
-link-requires c = omega (arith, c.put.ensures.long, c.requires.room)
-
-pub overflow_add-cells : goal.overflow_add-cells
-overflow_add-cells c = omega (arith, c.requires.good.fits, c.requires.room)
-
-pub bounds-cells-0-2 : goal.bounds-cells-0-2
-bounds-cells-0-2 c =
-    omega (arith, c.link.ensures.long, c.put.ensures.long, c.requires.good.room, c.requires.good.base)
-
-pub shape_of-cells : goal.shape_of-cells
-shape_of-cells c = made_long c.put.ensures c.link.ensures
 
 pub returns : goal.returns
 returns c =

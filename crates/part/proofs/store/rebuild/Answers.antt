@@ -1,10 +1,6 @@
 -- `rebuild` meets its contract.
 use Rattle.part.proofs.Chains.{relink_asked, rebuilt_anew}
-use native.Mathlib.Omega.{arith}
 use Rattle.part.proofs.store.rebuild.Goals as goal
-
-pub empty-requires : goal.empty-requires
-empty-requires c = omega (arith, c.requires.formed.room)
 
 pub relink-requires : goal.relink-requires
 relink-requires c =

@@ -1,6 +1,6 @@
 -- `finish` meets its contract.
 use Rattle.part.proofs.Write.{found_fresh}
-use Rattle.part.proofs.Summing.{finish_short, finish_asks, finish_known, finish_done}
+use Rattle.part.proofs.Summing.{finish_short, finish_known, finish_done}
 use Rattle.part.proofs.sums.finish.Goals as goal
 
 pub remember-requires : goal.remember-requires
@@ -15,16 +15,6 @@ returns-in-Some c =
 pub returns-then-cells-next : goal.returns-then-cells-next
 returns-then-cells-next c =
     finish_short c.requires.good c.requires.a_bound c.requires.rested c.in_default.ensures c.if-cells-next.true
-
-pub fresh-n-requires : goal.fresh-n-requires
-fresh-n-requires c =
-    let q9 = finish_asks c.requires.good c.requires.a_bound c.requires.rested c.if-cells-next.false in
-    record { good = q9.0; room = q9.1.0; child_bound = q9.1.1 }
-
-pub remember-requires-2 : goal.remember-requires-2
-remember-requires-2 c =
-    let q9 = finish_known c.requires.good c.requires.a_bound c.requires.rested c.fresh-n.ensures in
-    record { good = q9.0; known = q9.1 }
 
 pub returns : goal.returns
 returns c = finish_done c.requires.good c.requires.a_bound c.requires.rested c.fresh-n.ensures c.remember-2.ensures
