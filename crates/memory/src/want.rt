@@ -14,6 +14,7 @@ use field::limits::{MAX_DEPTH, MAX_ENTRIES};
 use part::store::{depth, look, make};
 
 // The part of a slot, `down` positions of entries on the way into it, and `up` indexes wrapped around, from path[MAX_DEPTH] on.
+// Stays: with no heap both stand in one array with their lengths beside it.
 #[derive(Clone, Copy)]
 pub struct Want {
     pub slot: usize,
