@@ -1,4 +1,4 @@
-// One thing that an arm does. An enum holds no array, so the part by value stands beside it.
+// One thing that an arm does, and the part by value that it asks.
 use memory::want::Want;
 use module::handles::{ExpressionHandle, GlobalHandle, LocalHandle};
 

@@ -1,4 +1,5 @@
 // The table of the marks' places: filled once, in one pass over the statements.
+// Stays: two tables in one array, since it is the caller's fixed memory.
 ghost use Rattle.std.specs.Prelude.{◌≡◌, ℕ, suc, ◌+◌, ◌-◌, ◌<◌, ◌≤◌, length, get_or};
 ghost use Rattle.module.specs.Decode.{statement_of};
 ghost use Rattle.module.specs.Marks.{mark_count};

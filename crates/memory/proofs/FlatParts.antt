@@ -24,7 +24,7 @@ use Rattle.memory.specs.Layout.{all_slot, exist_slot, flat_slot, flat_count, glo
 use Rattle.memory.specs.Flat.{entry_of, flat_from, flat_of, digits_from, code}
 use Rattle.memory.specs.Want.{kid, after, tail, asked, first, Child}
 use Rattle.memory.specs.Memory.{Memory, Flats}
-use Rattle.memory.specs.Picks.{digit_of, Letters, FourDigits, Picks, Picking-on}
+use Rattle.memory.specs.Picks.{digit_of, some_digit, Letters, FourDigits, Picks, Picking-on}
 use Rattle.memory.specs.declared.want.Want.{Want}
 use Rattle.std.specs.Prelude.{Some, None, IsSomeAnd}
 use Rattle.memory.proofs.Asks.{tail_more}
@@ -203,32 +203,41 @@ insert-digit k (suc j) (d ∷ ds) q f h =
 
 -- `digit`
 module _ (p : PartReq) where
-  pub digit_all : true ≡ is_all p → 1 ≡ digit_of p
+  pub digit_all : true ≡ is_all p → Some 1 ≡ some_digit (digit_of p)
   digit_all h = go p h
     where
-      go : (p : PartReq) → true ≡ is_all p → 1 ≡ digit_of p
+      go : (p : PartReq) → true ≡ is_all p → Some 1 ≡ some_digit (digit_of p)
       go all h = unfold digit_of in refl
       go exist h = let z : ◌≡◌ {A = ℕ} 0 1 = cc in absurd (omega arith)
       go none h = let z : ◌≡◌ {A = ℕ} 0 1 = cc in absurd (omega arith)
       go (more i q r) h = let z : ◌≡◌ {A = ℕ} 0 1 = cc in absurd (omega arith)
 
-  pub digit_exist : true ≡ is_exist p → 2 ≡ digit_of p
+  pub digit_exist : true ≡ is_exist p → Some 2 ≡ some_digit (digit_of p)
   digit_exist h = go p h
     where
-      go : (p : PartReq) → true ≡ is_exist p → 2 ≡ digit_of p
+      go : (p : PartReq) → true ≡ is_exist p → Some 2 ≡ some_digit (digit_of p)
       go all h = let z : ◌≡◌ {A = ℕ} 0 1 = cc in absurd (omega arith)
       go exist h = unfold digit_of in refl
       go none h = let z : ◌≡◌ {A = ℕ} 0 1 = cc in absurd (omega arith)
       go (more i q r) h = let z : ◌≡◌ {A = ℕ} 0 1 = cc in absurd (omega arith)
 
-  pub digit_none : false ≡ is_all p → false ≡ is_exist p → 0 ≡ digit_of p
+  pub digit_none : false ≡ is_all p → false ≡ is_exist p → None ≡ some_digit (digit_of p)
   digit_none h g = go p h g
     where
-      go : (p : PartReq) → false ≡ is_all p → false ≡ is_exist p → 0 ≡ digit_of p
+      go : (p : PartReq) → false ≡ is_all p → false ≡ is_exist p → None ≡ some_digit (digit_of p)
       go all h g = let z : ◌≡◌ {A = ℕ} 0 1 = cc in absurd (omega arith)
       go exist h g = let z : ◌≡◌ {A = ℕ} 0 1 = cc in absurd (omega arith)
       go none h g = unfold digit_of in refl
       go (more i q r) h g = unfold digit_of in refl
+
+-- what an answer of `digit` says
+pub digit_missing : (n : ℕ) → None ≡ some_digit n → n ≡ 0
+digit_missing zero e = refl
+digit_missing (suc n) e = cc
+
+pub digit_there : (n d : ℕ) → Some d ≡ some_digit n → (d ≡ n) × (d ≡ 0 → ⊥)
+digit_there zero d e = cc
+digit_there (suc n) d e = let z : d ≡ suc n = cc in (z, omega arith)
 
 digit_flat : (q : PartReq) → (digit_of q ≡ 0 → ⊥) → (is_flat q ≡ true) × (digit_of q < 3)
 unfolding digit_of is_flat

@@ -1,5 +1,5 @@
 -- What the answer of `swizzle` says.
-use Rattle.std.specs.Prelude.{ℕ, ◌+◌, ◌<◌, ◌≤◌, ◌≡◌, false, List, length, get_or, Option, Some, None}
+use Rattle.std.specs.Prelude.{ℕ, zero, suc, ◌+◌, ◌<◌, ◌≤◌, ◌≡◌, false, List, length, get_or, Option, Some, None}
 use Rattle.part.specs.PartReq.{PartReq, all, exist, none, more, entries, over}
 use Rattle.part.specs.Store.{part}
 use Rattle.context.specs.Swizzle.{Swizzled, asks, panics, collected}
@@ -13,6 +13,11 @@ digit_of all = 1
 digit_of exist = 2
 digit_of none = 0
 digit_of (more i p r) = 0
+
+-- a digit but for 0
+abbrev pub some_digit : ℕ → Option ℕ
+some_digit zero = None
+some_digit (suc d) = Some (suc d)
 
 -- four letters, 0 to 3
 pub record Letters (pattern : List ℕ) : Type 0 where

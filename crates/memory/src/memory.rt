@@ -1,4 +1,5 @@
 // The memory of a walk: a store of pieces, and slots that are its roots.
+// Stays: cells and slots are the caller's fixed memory, since nothing here has a heap; a piece and a slot go by their number.
 ghost use Rattle.std.specs.Prelude.{◌≡◌, ◌+◌, ◌*◌, ◌≤◌, ◌<◌, length};
 ghost use Rattle.field.specs.Limits.{max_depth};
 ghost use Rattle.part.specs.PartReq.{none, more, entries, spine};

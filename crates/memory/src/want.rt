@@ -6,7 +6,7 @@ ghost use Rattle.part.specs.Store.{top, part, Good, Room, Made};
 ghost use Rattle.memory.specs.Want.{kid, tail, core, asks, want_of, wrapped, inside, popped, is_plain, asked, Wants, first, Child};
 ghost use Rattle.memory.specs.Memory.{Memory};
 ghost use Rattle.memory.specs.Layout.{flat_slot};
-ghost use Rattle.memory.specs.Picks.{digit_of, Letters, FourDigits, Picks};
+ghost use Rattle.memory.specs.Picks.{digit_of, some_digit, Letters, FourDigits, Picks};
 ghost use Rattle.context.specs.Swizzle.{swizzled};
 
 use crate::layout::{ALL, EXIST, FLAT, PATH};
@@ -14,6 +14,7 @@ use field::limits::{MAX_DEPTH, MAX_ENTRIES};
 use part::store::{depth, look, make};
 
 // The part of a slot, `down` positions of entries on the way into it, and `up` indexes wrapped around, from path[MAX_DEPTH] on.
+// Stays: with no heap both stand in one array with their lengths beside it.
 #[derive(Clone, Copy)]
 pub struct Want {
     pub slot: usize,
@@ -218,18 +219,18 @@ pub fn child(cells: &[u32], slots: &[u32], w: Want, k: u32) -> Want
     w.into(k)
 }
 
-// How a component is asked: 1 whole, 2 to be there, 0 neither.
-fn digit(cells: &[u32], slots: &[u32], w: Want) -> usize
+// How a component is asked, as a digit of a flat part's code: 1 whole, 2 to be there. None where it is neither.
+fn digit(cells: &[u32], slots: &[u32], w: Want) -> Option<usize>
     requires { Memory cells.now slots.now × Wants cells.now slots.now w }
-    ensures { result ≡ digit_of (asked cells.now slots.now w) }
+    ensures { result ≡ some_digit (digit_of (asked cells.now slots.now w)) }
 {
     if is_all(cells, slots, w) {
-        return 1;
+        return Some(1);
     }
     if is_exist(cells, slots, w) {
-        return 2;
+        return Some(2);
     }
-    0
+    None
 }
 
 // The letter i of a pattern.
@@ -271,10 +272,7 @@ pub fn swizzle(cells: &[u32], slots: &[u32], w: Want, pattern: [u32; 4]) -> Opti
             return None;
         }
         let u = child(cells, slots, w, k);
-        let d = digit(cells, slots, u);
-        if d == 0 {
-            return None;
-        }
+        let d = digit(cells, slots, u)?;
         let letter = letter_at(pattern, i);
         digits[letter] = d;
         k += 1;

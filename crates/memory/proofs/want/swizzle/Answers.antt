@@ -1,6 +1,6 @@
 -- `memory::want::swizzle` meets its contract. Assumes nothing.
 use mathlib.Core.Path.{refl, sym, ◌∙◌}
-use Rattle.memory.proofs.FlatParts.{picks_all, picks_exist, picks_panic, pick_first, pick_there, pick_less, pick_out, pick_panics, pick_on, pick_done}
+use Rattle.memory.proofs.FlatParts.{digit_missing, digit_there, picks_all, picks_exist, picks_panic, pick_first, pick_there, pick_less, pick_out, pick_panics, pick_on, pick_done}
 use Rattle.memory.proofs.Slots.{asked-small}
 use native.Mathlib.Omega.{arith}
 use Rattle.memory.proofs.want.swizzle.Goals as goal
@@ -21,9 +21,9 @@ pub child-u-requires : goal.child-u-requires
 child-u-requires c =
     record { memory = c.requires.memory; k_value = pick_there c.loop-i.invariant c.in-Some.ensures c.if-i-ge4.false }
 
-pub returns-then-d-eq0 : goal.returns-then-d-eq0
-returns-then-d-eq0 c =
-    picks_panic (pick_panics c.loop-i.invariant c.in-Some.ensures c.if-i-ge4.false c.child-u.ensures refl c.digit-d.ensures c.if-d-eq0.true)
+pub returns-in_err-d : goal.returns-in_err-d
+returns-in_err-d c =
+    rw c.from_residual.ensures (picks_panic (pick_panics c.loop-i.invariant c.in-Some.ensures c.if-i-ge4.false c.child-u.ensures refl refl (digit_missing _ (sym c.in_err-d.was ∙ c.digit.ensures))))
 
 pub overflow_add-k : goal.overflow_add-k
 overflow_add-k c =
@@ -34,7 +34,8 @@ loop-i-smaller c = pick_less c.loop-i.invariant c.in-Some.ensures
 
 pub loop-i-preserved : goal.loop-i-preserved
 loop-i-preserved c =
-    pick_on c.loop-i.invariant c.in-Some.ensures c.if-i-ge4.false c.child-u.ensures refl c.digit-d.ensures _ c.requires.letters c.letter_at-letter.ensures c.if-d-eq0.false
+    let d = digit_there _ _ (sym c.in_ok-d.was ∙ c.digit.ensures) in
+    pick_on c.loop-i.invariant c.in-Some.ensures c.if-i-ge4.false c.child-u.ensures refl d.0 _ c.requires.letters c.letter_at-letter.ensures d.1
 
 pub returns : goal.returns
 returns c = pick_done c.loop-i.invariant _ c.requires.memory.0 (sym c.in_default.is ∙ c.entry.ensures) c.flat_slot.ensures
