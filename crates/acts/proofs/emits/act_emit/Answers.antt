@@ -37,9 +37,6 @@ pub copy-requires : goal.copy-requires
 copy-requires c =
     emit_copy c.requires.act_given c.requires.e_in_bounds (needs_some c.emit_overlap-a.ensures c.is_some.ensures c.if-not-is_some.false) c.evaluated_path.ensures.is c.take_out.ensures c.if-not-take_out.false c.ask_emitted.ensures c.if-not-ask_emitted.false
 
-pub shape_of-path : goal.shape_of-path
-shape_of-path c = c.ask_emitted.auto.path ∙ (c.evaluated_path.ensures.long ∙ c.emit_overlap-a.ensures.long)
-
 pub returns : goal.returns
 returns c =
     record { step = emit-left c.requires.act_given c.requires.e_in_bounds (needs_some c.emit_overlap-a.ensures c.is_some.ensures c.if-not-is_some.false) c.evaluated_path.ensures.is c.take_out.ensures c.if-not-take_out.false c.ask_emitted.ensures c.if-not-ask_emitted.false c.copy.ensures; long = c.ask_emitted.auto.path ∙ (c.evaluated_path.ensures.long ∙ c.emit_overlap-a.ensures.long) }

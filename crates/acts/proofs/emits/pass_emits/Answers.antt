@@ -15,30 +15,9 @@ pub note-at-requires : goal.note-at-requires
 note-at-requires c =
     record { live = c.loop-k.invariant.0.ready.live; n_nonzero = omega (arith, c.requires.pass_given.ready.high) }
 
-pub overflow_cast-k : goal.overflow_cast-k
-overflow_cast-k c =
-    omega (arith, c.saturating_sub-count.ensures, c.loop-k.invariant.0.low, c.requires.last_in_bounds, world_few c.requires.pass_given.world)
-
-pub overflow_add-begin : goal.overflow_add-begin
-overflow_add-begin c =
-    omega (arith, c.saturating_sub-count.ensures, c.loop-k.invariant.0.low, c.requires.last_in_bounds, world_few c.requires.pass_given.world, c.ranges)
-
-pub overflow_add-e : goal.overflow_add-e
-overflow_add-e c =
-    omega (arith, c.saturating_sub-count.ensures, c.loop-k.invariant.0.low, c.requires.last_in_bounds, world_few c.requires.pass_given.world)
-
 pub pass_emit-q-requires : goal.pass_emit-q-requires
 pass_emit-q-requires c =
     record { pass_given = next_given c.requires.pass_given c.loop-k.invariant.0 c.note-at.ensures c.loop-k.invariant.1; e_in_bounds = omega (arith, c.saturating_sub-count.ensures, c.loop-k.invariant.0.low, c.requires.last_in_bounds) }
-
-pub shape_of-cells-then-q : goal.shape_of-cells-then-q
-shape_of-cells-then-q c = c.pass_emit-q.ensures.cells ∙ c.loop-k.invariant.0.cells
-
-pub shape_of-roots-then-q : goal.shape_of-roots-then-q
-shape_of-roots-then-q c = c.pass_emit-q.ensures.slots ∙ c.loop-k.invariant.0.slots
-
-pub shape_of-path-then-q : goal.shape_of-path-then-q
-shape_of-path-then-q c = c.pass_emit-q.ensures.long ∙ c.loop-k.invariant.1
 
 pub returns-then-q : goal.returns-then-q
 returns-then-q c =
@@ -47,15 +26,6 @@ returns-then-q c =
 pub loop-k-preserved : goal.loop-k-preserved
 loop-k-preserved c =
     (emitted_on _ _ _ _ _ (back (omega arith) c.loop-k.invariant.0) c.note-at.ensures (mark_is _ _ _ _ _ c.requires.begin_value c.mark_at-marked.ensures) c.pass_emit-q.ensures c.if-q.false, c.pass_emit-q.ensures.long ∙ c.loop-k.invariant.1)
-
-pub shape_of-cells : goal.shape_of-cells
-shape_of-cells c = c.loop-k.invariant.0.cells
-
-pub shape_of-roots : goal.shape_of-roots
-shape_of-roots c = c.loop-k.invariant.0.slots
-
-pub shape_of-path : goal.shape_of-path
-shape_of-path c = c.loop-k.invariant.1
 
 pub returns : goal.returns
 returns c =

@@ -1,6 +1,4 @@
 -- `acts::take::take_out` meets its contract: from what was made and pushed (Steps).
-use mathlib.Core.Path.{◌∙◌}
-use lib.ListN.{length-set}
 use Rattle.acts.proofs.Steps.{take_asks, push_asks, taken_out}
 use Rattle.acts.proofs.take.take_out.Goals as goal
 
@@ -13,9 +11,6 @@ pub push-requires : goal.push-requires
 push-requires c =
     let q9 = push_asks c.requires c.take_place-left.ensures in
     record { loose = q9.0; n_in_bounds = q9.1.0; p_bound = q9.1.1 }
-
-pub shape_of-roots : goal.shape_of-roots
-shape_of-roots c = c.push.ensures.slots ∙ simp length-set
 
 pub returns : goal.returns
 returns c = taken_out c.requires c.take_place-left.ensures c.push.ensures
