@@ -6,6 +6,8 @@ use mathlib.Core.List.{List}
 use mathlib.Core.Option.{some, none as nothing}
 use lib.ListN.{get_or}
 use borrow.Author.Tests.{eq-eqb, ne_eqb}
+use Rattle.std.specs.Prelude.{Ok, Err}
+use Rattle.field.specs.declared.refusal.Refusal.TheVariants.{Panic, PartLimit}
 use Rattle.module.specs.declared.handles.FunctionHandle.{FunctionHandle as Handle}
 use Rattle.module.specs.Module.{FunctionHandle}
 use Rattle.module.specs.Tables.{module_of}
@@ -18,7 +20,6 @@ use Rattle.marks.specs.declared.ray.Ray.TheVariants as rays
 use Rattle.state.specs.State.{place_of}
 use Rattle.state.specs.declared.answer.Place.{Place}
 use Rattle.state.specs.declared.answer.Place.TheVariants as position
-use Rattle.state.specs.declared.answer.Walked.TheVariants.{Went, Halt}
 use Rattle.block.specs.Adding.{FirstTotal, joint, joint_out, IsLater, Later}
 use Rattle.block.specs.AddTotal.{TotalEnds}
 use Rattle.block.specs.declared.added.Joint.{Joint}
@@ -34,7 +35,7 @@ flag totals f e = rw (ne_eqb (get_or totals f 0) 0 e)
 
 module _ {bytes t places s rs open_marks totals : List ℕ} {f : FunctionHandle} {at sum : ℕ} (visits : ℕ) (here : Place) where
   pub total_first : {us after : List ℕ} {k : ℕ} → get_or totals f 0 ≡ 0 → FirstTotal t places s rs open_marks totals f at sum k us after
-      → TotalEnds bytes t places s rs open_marks totals f at sum visits here (Went (record { visits = visits; sum = k })) s us after
+      → TotalEnds bytes t places s rs open_marks totals f at sum visits here (Ok (record { visits = visits; sum = k })) s us after
   total_first e T = record {
     by = λ types held S.
         let n = no_flag totals f e in
@@ -47,7 +48,7 @@ module _ {bytes t places s rs open_marks totals : List ℕ} {f : FunctionHandle}
   }
 
   module _ (ne : get_or totals f 0 ≡ 0 → ⊥) (r : Ray) (ray : ray_in r ≡ first_ray (module_of bytes t) f (body_of (module_of bytes t) f)) where
-    pub total_ray : {g : Handle} {k : ℕ} → g.0 ≡ f → r ≡ rays.At k → TotalEnds bytes t places s rs open_marks totals f at sum visits here (Halt 13 (position.Statement g k)) s rs totals
+    pub total_ray : {g : Handle} {k : ℕ} → g.0 ≡ f → r ≡ rays.At k → TotalEnds bytes t places s rs open_marks totals f at sum visits here (Err (record { refusal = Panic; place = position.Statement g k })) s rs totals
     total_ray {g} {k} z e = record {
       by = λ types held S.
           let is : some k ≡ first_ray (module_of bytes t) f (body_of (module_of bytes t) f) = subst (λ (x : Ray). ray_in x ≡ first_ray (module_of bytes t) f (body_of (module_of bytes t) f)) e ray in
@@ -55,7 +56,7 @@ module _ {bytes t places s rs open_marks totals : List ℕ} {f : FunctionHandle}
     }
 
     module _ {u us after : List ℕ} (j : Joint) (L : IsLater t places s rs open_marks totals f at sum j u us after) (e : r ≡ rays.Nothing) where
-      pub total_over : j ≡ Over → TotalEnds bytes t places s rs open_marks totals f at sum visits here (Halt 15 here) u us after
+      pub total_over : j ≡ Over → TotalEnds bytes t places s rs open_marks totals f at sum visits here (Err (record { refusal = PartLimit; place = here })) u us after
       total_over z = record {
         by = λ types held S.
             let no-ray : nothing ≡ first_ray (module_of bytes t) f (body_of (module_of bytes t) f) = subst (λ (x : Ray). ray_in x ≡ first_ray (module_of bytes t) f (body_of (module_of bytes t) f)) e ray in
@@ -63,7 +64,7 @@ module _ {bytes t places s rs open_marks totals : List ℕ} {f : FunctionHandle}
             (λ st. subst (λ (x : Joint). joint_out x (place_of here) st ≡ limited_context (place_of here) (joint s rs f at) st) z (L.is (place_of here) st));
       }
 
-      pub total_later : {k : ℕ} → j ≡ Sum k → TotalEnds bytes t places s rs open_marks totals f at sum visits here (Went (record { visits = visits; sum = k })) u us after
+      pub total_later : {k : ℕ} → j ≡ Sum k → TotalEnds bytes t places s rs open_marks totals f at sum visits here (Ok (record { visits = visits; sum = k })) u us after
       total_later z = record {
         by = λ types held S.
             let no-ray : nothing ≡ first_ray (module_of bytes t) f (body_of (module_of bytes t) f) = subst (λ (x : Ray). ray_in x ≡ first_ray (module_of bytes t) f (body_of (module_of bytes t) f)) e ray in

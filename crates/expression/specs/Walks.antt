@@ -1,5 +1,5 @@
 -- What a walk of an expression says of the definition's.
-use Rattle.std.specs.Prelude.{◌≡◌, List, ℕ, ◌+◌, ◌≤◌, length, drop}
+use Rattle.std.specs.Prelude.{◌≡◌, List, ℕ, ◌+◌, ◌≤◌, length, drop, Result}
 use Rattle.field.specs.Limits.{max_pieces}
 use Rattle.part.specs.PartReq.{PartReq, get_subpart}
 use Rattle.part.specs.Store.{Room}
@@ -15,10 +15,11 @@ use Rattle.memory.specs.Want.{asked, Still}
 use Rattle.memory.specs.declared.want.Want.{Want}
 use Rattle.state.specs.State.{Rest, state_of, totals_sum}
 use Rattle.state.specs.Ready.{Ready, Ends}
-use Rattle.state.specs.declared.answer.Walked.{Walked}
+use Rattle.state.specs.declared.answer.Halt.{Halt}
+use Rattle.state.specs.declared.answer.Tally.{Tally}
 
 -- From the memory s rs, the answer and the memory that is left are what `walk` says, whatever no walk of an expression looks at.
-pub record Walks (bytes t : List ℕ) (f : FunctionHandle) (at held : ℕ) (s rs : List ℕ) (walk : Walk (Unit {0})) (visits : ℕ) (r : Walked) (u us : List ℕ) : Type 0 where
+pub record Walks (bytes t : List ℕ) (f : FunctionHandle) (at held : ℕ) (s rs : List ℕ) (walk : Walk (Unit {0})) (visits : ℕ) (r : Result Tally Halt) (u us : List ℕ) : Type 0 where
   pub by : (rest : Rest) → total_pieces rest.functions ≡ totals_sum (read s rs)
       → Ends bytes t f at held s rs rest (walk (state_of t f at (read s rs) rest visits)) r u us
 
@@ -50,5 +51,5 @@ pub record Left (bytes t : List ℕ) (f e : ℕ) (at held : ℕ) (s rs : List �
   pub cells : length u ≡ length s
   pub slots : length us ≡ length rs
   pub inside : j ≤ length (arm_asks (expression_at (module_of bytes t) f e) (asked s rs w))
-  pub rest : (r : Walked) (z zs : List ℕ) → Walks bytes t f at held u us (asks_from (module_of bytes t) f held e (asked s rs w) j) visits r z zs
+  pub rest : (r : Result Tally Halt) (z zs : List ℕ) → Walks bytes t f at held u us (asks_from (module_of bytes t) f held e (asked s rs w) j) visits r z zs
       → Walks bytes t f at held s rs (asks_from (module_of bytes t) f held e (asked s rs w) 0) begun r z zs

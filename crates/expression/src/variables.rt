@@ -9,6 +9,7 @@ ghost use Rattle.expression.specs.Walks.{Walks, ending_argument, ending_local, e
 ghost use Rattle.expression.specs.Visits.{Visiting, Mapping, Meets};
 
 use crate::visit::close;
+use field::refusal::Refusal;
 use memory::layout::GLOBALS;
 use memory::memory::{ask_global, join_asked};
 use memory::want::Want;
@@ -16,7 +17,7 @@ use module::handles::{ExpressionHandle, FunctionHandle, GlobalHandle, LocalHandl
 use part::limits::SPINE;
 use part::req::{Found, get};
 use part::store::over;
-use state::answer::{Place, Walked};
+use state::answer::{Halt, Place, Walked};
 
 // Joins what w asks to the entry of the variable i in the map of the slot k, where that passes no limit. Whether it does.
 fn join(cells: &mut [u32], slots: &mut [u32], k: usize, i: u32, w: Want) -> bool
@@ -51,8 +52,10 @@ pub fn argument(
     ensures { (bytes : List ℕ) → Ready bytes t.now cells.old slots.old f.0 at held sum → Walks bytes t.now f.0 at held cells.old slots.old (ending_argument f.0 held e.0 i (asked cells.old slots.old w)) visits result cells.new slots.new }
 {
     if join(cells, slots, at + 2, i, w) {
-        let place = Place::Expression(f, e);
-        return Walked::Halt(15, place);
+        return Err(Halt {
+            refusal: Refusal::PartLimit,
+            place: Place::Expression(f, e),
+        });
     }
     close(t, cells, slots, f, at, held, e, w, visits, sum)
 }
@@ -76,8 +79,10 @@ pub fn local(
     ensures { (bytes : List ℕ) → Ready bytes t.now cells.old slots.old f.0 at held sum → Walks bytes t.now f.0 at held cells.old slots.old (ending_local f.0 held e.0 l.0 (asked cells.old slots.old w)) visits result cells.new slots.new }
 {
     if join(cells, slots, at + 1, l.0, w) {
-        let place = Place::Expression(f, e);
-        return Walked::Halt(15, place);
+        return Err(Halt {
+            refusal: Refusal::PartLimit,
+            place: Place::Expression(f, e),
+        });
     }
     close(t, cells, slots, f, at, held, e, w, visits, sum)
 }
@@ -110,8 +115,10 @@ pub fn global(
         }
         Found::There(q) => {
             if over(cells, slots[GLOBALS]) {
-                let place = Place::Expression(f, e);
-                return Walked::Halt(15, place);
+                return Err(Halt {
+                    refusal: Refusal::PartLimit,
+                    place: Place::Expression(f, e),
+                });
             }
             close(t, cells, slots, f, at, held, e, w, visits, r.sum)
         }

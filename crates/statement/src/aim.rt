@@ -3,18 +3,20 @@ ghost use Rattle.std.specs.Prelude.{◌≡◌, ◌+◌, ◌≤◌, length};
 ghost use Rattle.statement.specs.Aim.{pieces_at, Aiming, Aims};
 
 use context::required_context::RequiredContext;
+use field::refusal::Refusal;
 use module::handles::ExpressionHandle;
 use part::req::Found;
 use part::store::over;
+use state::answer::Halt;
 use state::frame::Frame;
 use target::resolve::{Target, VarRefPart, resolve_var};
 use target::store::store_required;
 
-// 13 at a pointer that names no variable, 15 at a path that is too long.
+// The target, and what is needed of it.
 #[derive(Clone, Copy)]
-pub enum Aim {
-    Refuse(u32),
-    At(Target, Found),
+pub struct Aim {
+    pub target: Target,
+    pub needed: Found,
 }
 
 // The context in the slots from `at` on.
@@ -30,7 +32,7 @@ pub fn load_context(slots: &[u32], at: usize) -> RequiredContext
     }
 }
 
-// The target that the expression e names.
+// The target that the expression e names: 13 where that is no variable, 15 at a path that is too long.
 pub fn target_of(
     bytes: &[u8],
     t: &[u32],
@@ -38,7 +40,7 @@ pub fn target_of(
     slots: &[u32],
     fr: Frame,
     e: ExpressionHandle,
-) -> Aim
+) -> Result<Aim, Halt>
     requires { Aiming bytes.now t.now cells.old slots.now fr e.0 }
     ensures { Aims bytes.now t.now cells.old slots.now fr e.0 result cells.new }
 {
@@ -48,11 +50,14 @@ pub fn target_of(
     match found {
         VarRefPart::Resolved(target) => {
             if over(cells, target.part) {
-                return Aim::Refuse(15);
+                return Err(fr.halt(Refusal::PartLimit));
             }
             let needed = store_required(cells, c, target);
-            Aim::At(target, needed)
+            Ok(Aim {
+                target: target,
+                needed: needed,
+            })
         }
-        VarRefPart::Unresolved => Aim::Refuse(13),
+        VarRefPart::Unresolved => Err(fr.halt(Refusal::Panic)),
     }
 }

@@ -13,7 +13,8 @@ use crate::rays::add_ray;
 use crate::returns::add_return;
 use crate::stores::add_store;
 use access::kinded::Kinded;
-use state::answer::{Answered, Place, Tally};
+use field::refusal::Refusal;
+use state::answer::{Answer, Answered, Tally};
 use state::frame::Frame;
 
 const RETURN: u16 = 7;
@@ -55,18 +56,25 @@ fn add_plain(
         sum: sum,
     };
     if kind == KILL {
-        return Answered::Went(tally, true);
+        return Ok(Answer {
+            tally: tally,
+            required: true,
+        });
     }
     if kind == CONTROL_BARRIER {
-        return Answered::Went(tally, false);
+        return Ok(Answer {
+            tally: tally,
+            required: false,
+        });
     }
     if kind == MEMORY_BARRIER {
-        return Answered::Went(tally, false);
+        return Ok(Answer {
+            tally: tally,
+            required: false,
+        });
     }
     if kind == IMAGE_ATOMIC {
-        let f = fr.function;
-        let place = Place::Statement(f, fr.statement);
-        return Answered::Halt(13, place);
+        return Err(fr.halt(Refusal::Panic));
     }
     leave(slots, fr, visits, sum)
 }

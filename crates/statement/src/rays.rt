@@ -6,13 +6,13 @@ ghost use Rattle.access.specs.Access.{operand_at};
 ghost use Rattle.statement.specs.Leaf.{Arm, Leaves};
 ghost use Rattle.statement.specs.Rays.{RayKind, ray_of, gather_fields, ray_fields};
 
-use crate::aim::{Aim, target_of};
+use crate::aim::target_of;
 use crate::ask::{answer, then_maybe};
 use access::kinded::{Kinded, expression_operand, operand};
 use memory::layout::ALL;
 use module::handles::{ExpressionHandle, NO_HANDLE};
 use part::req::Found;
-use state::answer::{Answered, Place, Tally, Walked};
+use state::answer::{Answer, Answered, Tally};
 use state::frame::Frame;
 
 // The target, and what is asked of where it is needed, absent where a kind has no such field.
@@ -98,23 +98,16 @@ pub fn add_ray(
         visits: visits,
         sum: sum,
     };
-    let aimed = target_of(bytes, t, cells, slots, fr, x.target);
-    match aimed {
-        Aim::Refuse(n) => {
-            let f = fr.function;
-            let place = Place::Statement(f, fr.statement);
-            Answered::Halt(n, place)
-        }
-        Aim::At(target, needed) => {
-            match needed {
-                Found::Gone => Answered::Went(tally, false),
-                Found::There(p) => {
-                    let began = Walked::Went(tally);
-                    let a = then_maybe(bytes, t, cells, slots, fr, began, x.first, ALL);
-                    let b = then_maybe(bytes, t, cells, slots, fr, a, x.second, ALL);
-                    answer(b, true)
-                }
-            }
+    let aim = target_of(bytes, t, cells, slots, fr, x.target)?;
+    match aim.needed {
+        Found::Gone => Ok(Answer {
+            tally: tally,
+            required: false,
+        }),
+        Found::There(p) => {
+            let a = then_maybe(bytes, t, cells, slots, fr, Ok(tally), x.first, ALL);
+            let b = then_maybe(bytes, t, cells, slots, fr, a, x.second, ALL);
+            answer(b, true)
         }
     }
 }

@@ -2,6 +2,7 @@
 -- nothing.
 use mathlib.Core.Path.{refl, ◌∙◌}
 use Prim.Native.Nat.{◌-◌}
+use Rattle.state.proofs.Ends.{passed}
 use Rattle.expression.proofs.Walking.{visit_counting, walk_17, walk_16, began, left_all, left_ask, left_closing, left_visiting, left_end, left_refuse, argument_low, local_low, global_low, left_argument, left_local, left_global, operand_low, operand_asks, operand_inside, operand_few, left_halt, left_next}
 use native.Mathlib.Omega.{arith}
 use Rattle.expression.proofs.add.+add_expression.Goals as goal
@@ -39,15 +40,10 @@ pub add_expression-requires : goal.add_expression-requires
 add_expression-requires t c =
     let h = operand_low (began c.requires.ready c.requires.e_in_bounds c.requires.wants c.if-visits-ge-MAX_VISITS.false c.allowed.ensures c.if-not-allowed.false) c.loop-h.invariant c.ask-a.ensures c.in-Operand.is in (omega (arith, c.decreases, h), operand_asks (began c.requires.ready c.requires.e_in_bounds c.requires.wants c.if-visits-ge-MAX_VISITS.false c.allowed.ensures c.if-not-allowed.false) c.loop-h.invariant c.ask-a.ensures c.in-Operand.is)
 
-pub shape_of-cells-in-Halt : goal.shape_of-cells-in-Halt
-shape_of-cells-in-Halt t c = c.add_expression.auto.cells ∙ c.loop-h.invariant.cells ∙ c.allowed.auto.cells
-
-pub shape_of-slots-in-Halt : goal.shape_of-slots-in-Halt
-shape_of-slots-in-Halt t c = c.add_expression.auto.slots ∙ c.loop-h.invariant.slots ∙ c.allowed.auto.slots
-
-pub returns-in-Halt : goal.returns-in-Halt
-returns-in-Halt t c =
-    left_halt (began c.requires.ready c.requires.e_in_bounds c.requires.wants c.if-visits-ge-MAX_VISITS.false c.allowed.ensures c.if-not-allowed.false) c.loop-h.invariant c.ask-a.ensures c.in-Operand.is c.add_expression.ensures c.in-Halt.is
+pub returns-in_err-tally-in-Operand : goal.returns-in_err-tally-in-Operand
+returns-in_err-tally-in-Operand t c =
+    rw (passed c.from_residual.ensures.1)
+    (left_halt (began c.requires.ready c.requires.e_in_bounds c.requires.wants c.if-visits-ge-MAX_VISITS.false c.allowed.ensures c.if-not-allowed.false) c.loop-h.invariant c.ask-a.ensures c.in-Operand.is c.add_expression.ensures c.in_err-tally-in-Operand.was)
 
 pub argument-requires : goal.argument-requires
 argument-requires t c =
@@ -125,4 +121,4 @@ loop-h-smaller t c =
 
 pub loop-h-preserved : goal.loop-h-preserved
 loop-h-preserved t c =
-    left_next (began c.requires.ready c.requires.e_in_bounds c.requires.wants c.if-visits-ge-MAX_VISITS.false c.allowed.ensures c.if-not-allowed.false) c.loop-h.invariant c.ask-a.ensures c.in-Operand.is c.add_expression.ensures c.in-Went.is c.add_expression.auto.cells
+    left_next (began c.requires.ready c.requires.e_in_bounds c.requires.wants c.if-visits-ge-MAX_VISITS.false c.allowed.ensures c.if-not-allowed.false) c.loop-h.invariant c.ask-a.ensures c.in-Operand.is c.add_expression.ensures c.in_ok-tally-in-Operand.was c.add_expression.auto.cells

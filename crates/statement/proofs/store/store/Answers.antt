@@ -1,17 +1,24 @@
 -- `statement::store::store` meets its contract. Assumes nothing.
-use Rattle.statement.proofs.Storing.{store_refused, store_none, store_takes, store_goes}
+use Rattle.state.proofs.Ends.{passed}
+use Rattle.statement.proofs.Storing.{store_refused, store_none, store_takes, store_stops, store_goes}
 use Rattle.statement.proofs.store.store.Goals as goal
 
 pub take-requires : goal.take-requires
 take-requires c =
-    store_takes c.requires.aiming c.target_of-aimed.ensures c.in-At.is c.in-There.is c.requires.types_value
+    store_takes c.requires.aiming c.target_of.ensures c.in_ok-aim.was c.in-There.is c.requires.types_value
 
-pub returns-in-Refuse : goal.returns-in-Refuse
-returns-in-Refuse c = store_refused c.requires.aiming c.target_of-aimed.ensures c.in-Refuse.is
+pub returns-in_err-aim : goal.returns-in_err-aim
+returns-in_err-aim c =
+    rw (passed c.from_residual.ensures.1) (store_refused c.requires.aiming c.target_of.ensures c.in_err-aim.was)
 
 pub returns-in-Gone : goal.returns-in-Gone
-returns-in-Gone c = store_none c.requires.aiming c.target_of-aimed.ensures c.in-At.is c.in-Gone.is
+returns-in-Gone c = store_none c.requires.aiming c.target_of.ensures c.in_ok-aim.was c.in-Gone.is
+
+pub returns-in_err-take : goal.returns-in_err-take
+returns-in_err-take c =
+    rw (passed c.from_residual-take.ensures.1)
+    (store_stops c.requires.aiming c.target_of.ensures c.in_ok-aim.was c.in-There.is c.take.ensures c.in_err-take.was)
 
 pub returns-in-There : goal.returns-in-There
 returns-in-There c =
-    store_goes c.requires.aiming c.target_of-aimed.ensures c.in-At.is c.in-There.is c.take.ensures
+    store_goes c.requires.aiming c.target_of.ensures c.in_ok-aim.was c.in-There.is c.take.ensures c.in_ok-take.was
