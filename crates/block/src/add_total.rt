@@ -2,9 +2,10 @@
 ghost use Rattle.block.specs.AddTotal.{TotalAsked, TotalEnds};
 
 use crate::added::{Joint, first_total, later_total};
+use field::refusal::Refusal;
 use marks::ray::{Ray, first_ray};
 use module::handles::FunctionHandle;
-use state::answer::{Place, Tally, Walked};
+use state::answer::{Halt, Place, Tally, Walked};
 
 // `here` is where f was called.
 pub fn add_total(
@@ -27,19 +28,25 @@ pub fn add_total(
     let i = f.0 as usize;
     if totals[i] == 0 {
         let first = first_total(t, places, cells, slots, open, totals, f, at, sum);
-        return Walked::Went(Tally {
+        return Ok(Tally {
             visits: visits,
             sum: first,
         });
     }
     let ray = first_ray(bytes, t, f);
     if let Ray::At(s) = ray {
-        return Walked::Halt(13, Place::Statement(f, s));
+        return Err(Halt {
+            refusal: Refusal::Panic,
+            place: Place::Statement(f, s),
+        });
     }
     let joint = later_total(t, places, cells, slots, open, totals, f, at, sum);
     match joint {
-        Joint::Over => Walked::Halt(15, here),
-        Joint::Sum(later) => Walked::Went(Tally {
+        Joint::Over => Err(Halt {
+            refusal: Refusal::PartLimit,
+            place: here,
+        }),
+        Joint::Sum(later) => Ok(Tally {
             visits: visits,
             sum: later,
         }),

@@ -29,19 +29,14 @@ fn then_argument(
     requires e_in_bounds { e.0 < length (function_at (module_of bytes.now t.now) fr.function.0).expressions }
     ensures { Argued bytes.now t.now cells.old slots.old fr before e.0 i result cells.new slots.new }
 {
-    match before {
-        Walked::Went(tally) => {
-            let needed = get(cells, slots[RETURNED], SPINE + (i as u32));
-            match needed {
-                Found::Gone => Walked::Went(tally),
-                Found::There(p) => {
-                    slots[ASK] = p;
-                    let began = Walked::Went(tally);
-                    then_ask(bytes, t, cells, slots, fr, began, e, ASK)
-                }
-            }
+    let tally = before?;
+    let needed = get(cells, slots[RETURNED], SPINE + (i as u32));
+    match needed {
+        Found::Gone => Ok(tally),
+        Found::There(p) => {
+            slots[ASK] = p;
+            then_ask(bytes, t, cells, slots, fr, Ok(tally), e, ASK)
         }
-        Walked::Halt(n, place) => Walked::Halt(n, place),
     }
 }
 
@@ -60,7 +55,7 @@ pub fn ask_arguments(
     ensures { AskedArguments bytes.now t.now cells.old slots.old fr row visits (operand_at bytes.now row 1) result cells.new slots.new }
 {
     let n = operand(bytes, row, 1);
-    let mut walked = Walked::Went(Tally {
+    let mut walked = Ok(Tally {
         visits: visits,
         sum: sum,
     });

@@ -82,7 +82,7 @@ module _ {bytes t s rs : List ℕ} {fr : Frame} {before : Result Tally Halt} whe
 
   pub ask_halt : {stop : Halt} {walk : PartReq → Walk (Unit {0})} {k : ℕ} → before ≡ Err stop
       → Asked bytes t s rs fr before walk k (Err stop) s rs
-  ask_halt {n} {place} {walk} {k} is = record {
+  ask_halt {walk = walk} {k} is = record {
     opens = record { by = tt };
     by = λ z zs rest total m h g.
         let x = subst (λ (b : Result Tally Halt). Going bytes t z zs fr rest total b s rs) is g.by in

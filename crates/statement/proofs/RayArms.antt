@@ -21,7 +21,7 @@ use Rattle.access.specs.Access.{operand_at}
 use Rattle.access.specs.declared.kinded.Kinded.{Kinded}
 use Rattle.valid.specs.Valid.{UsesBelow}
 use Rattle.context.specs.Contexts.{variable_of}
-use Rattle.walk.specs.State.{State, Out, went, halt, Walk, ◌>>◌}
+use Rattle.walk.specs.State.{State, Place, Out, went, halt, Walk, ◌>>◌}
 use Rattle.walk.specs.Resolve.{function_at, store_required}
 use Rattle.walk.specs.StatementReq.{StatementReq}
 use Rattle.walk.specs.Statement.{FunctionWalk, BlockWalk, Frame, Target, here, ask, ask_optional, ask_mode, target, when_needed, ray, add_statement}
@@ -186,7 +186,7 @@ module _ (m : Module) (fr : Frame) (n : ℕ) (es : List Bool) (few : n ≤ max_e
 
 -- the definition, once the target is known
 module _ (m : Module) (fr : Frame) (e : ExpressionHandle) (asks : Walk (Unit {0})) (st : State) where
-  ray-halts : {n : ℕ} → halt n (here fr) ≡ target m fr e st → halt n (here fr) ≡ ray m fr e asks st
+  ray-halts : {n : ℕ} {p : Place} → halt n p ≡ target m fr e st → halt n p ≡ ray m fr e asks st
   ray-halts is = sym (then_halt (λ found t. when_needed asks t.needed found) (sym is))
 
   module _ (t : Target) (is : went st t ≡ target m fr e st) where

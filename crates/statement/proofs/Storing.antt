@@ -5,7 +5,6 @@ use mathlib.Core.Path.{◌≡◌, refl, sym, ap, subst, ◌∙◌}
 use mathlib.Core.Bool.{true, false}
 use mathlib.Core.List.{List}
 use Rattle.std.specs.Prelude.{Result, Ok, Err}
-use Rattle.field.specs.Refusal.{number}
 use Rattle.part.specs.PartReq.{PartReq, exist, Subpart, gone, there}
 use Rattle.part.specs.Store.{top, part}
 use Rattle.part.specs.declared.req.Found.{Found}
@@ -17,13 +16,13 @@ use Rattle.context.specs.Types.{types_of}
 use Rattle.context.specs.RequiredContext.{VarRef, remove_var}
 use Rattle.context.specs.Contexts.{variable_of}
 use Rattle.sound.proofs.Walks.{module_sound}
-use Rattle.walk.specs.State.{State, Out, went, halt, Walk, ◌>>◌}
+use Rattle.walk.specs.State.{State, Place, Out, went, halt, Walk, ◌>>◌}
 use Rattle.walk.specs.Resolve.{function_at, store_required}
 use Rattle.walk.specs.Statement.{Frame, Target, here, ask, target, taken_out, add_store, store}
 use Rattle.walk.proofs.Bind.{then_went, then_halt, next_halt}
 use Rattle.memory.specs.Memory.{read, context_at}
 use Rattle.memory.proofs.Slots.{kept_read}
-use Rattle.state.specs.State.{state_of, place_of}
+use Rattle.state.specs.State.{state_of}
 use Rattle.state.specs.Frame.{frame_of}
 use Rattle.state.specs.declared.answer.Halt.{Halt}
 use Rattle.state.specs.declared.frame.Frame as declared
@@ -49,15 +48,15 @@ module _ (m : Module) (fr : Frame) (e : ExpressionHandle) (accessors : Walk (Uni
   unfolding add_store
   store-part h = sym (known ∙ rw h)
 
-store-halts : (m : Module) (fr : Frame) (e : ExpressionHandle) (accessors : Walk (Unit {0})) (value : ExpressionHandle) (st : State) {h : Halt} → halt (number h.refusal) (place_of h.place) ≡ target m fr e st
-    → halt (number h.refusal) (place_of h.place) ≡ store m fr e accessors value st
+store-halts : (m : Module) (fr : Frame) (e : ExpressionHandle) (accessors : Walk (Unit {0})) (value : ExpressionHandle) (st : State) {n : ℕ} {p : Place} → halt n p ≡ target m fr e st
+    → halt n p ≡ store m fr e accessors value st
 store-halts m fr e accessors value st is = sym (then_halt (λ found t. add_store m fr e accessors value t.var t.part t.needed found) (sym is))
 
 module _ {bytes t s rs : List ℕ} {fr : declared.Frame} {e : ℕ} (q : Aiming bytes t s rs fr e) {a : Result Aim Halt} {u : List ℕ} (x : Aims bytes t s rs fr e a u) where
   pub store_refused : {stop : Halt} → a ≡ Err stop → Stores bytes t s rs fr e (Err stop) u rs
-  store_refused {stop} h =
+  store_refused h =
       let f = subst (AimIs (module_of bytes t) (frame_of s rs fr) e (context_at (read s rs) fr.at) u) h x.by in
-      record { by = λ accessors value rest v. store-halts (module_of bytes t) (frame_of s rs fr) e accessors value (state_of t fr.function.0 fr.at (read s rs) rest v) {stop} (f (state_of t fr.function.0 fr.at (read s rs) rest v) refl) }
+      record { by = λ accessors value rest v. store-halts (module_of bytes t) (frame_of s rs fr) e accessors value (state_of t fr.function.0 fr.at (read s rs) rest v) (f (state_of t fr.function.0 fr.at (read s rs) rest v) refl) }
 
   module _ {y : resolve.Target} {found : Found} (h : a ≡ Ok (record { target = y; needed = found })) where
     pub aimed : Aimed (module_of bytes t) (frame_of s rs fr) e (context_at (read s rs) fr.at) u y found

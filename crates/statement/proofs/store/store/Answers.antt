@@ -14,11 +14,11 @@ returns-in_err-aim c =
 pub returns-in-Gone : goal.returns-in-Gone
 returns-in-Gone c = store_none c.requires.aiming c.target_of.ensures c.in_ok-aim.was c.in-Gone.is
 
-pub returns-in_err-take : goal.returns-in_err-take
-returns-in_err-take c =
-    rw (passed c.from_residual-take.ensures.1)
-    (store_stops c.requires.aiming c.target_of.ensures c.in_ok-aim.was c.in-There.is c.take.ensures c.in_err-take.was)
+pub returns-in_err-take-in-There : goal.returns-in_err-take-in-There
+returns-in_err-take-in-There c =
+    rw (passed c.from_residual-in_err-take-in-There.ensures.1)
+    (store_stops c.requires.aiming c.target_of.ensures c.in_ok-aim.was c.in-There.is c.take.ensures c.in_err-take-in-There.was)
 
-pub returns-in-There : goal.returns-in-There
-returns-in-There c =
-    store_goes c.requires.aiming c.target_of.ensures c.in_ok-aim.was c.in-There.is c.take.ensures c.in_ok-take.was
+pub returns-in_ok-take-in-There : goal.returns-in_ok-take-in-There
+returns-in_ok-take-in-There c =
+    store_goes c.requires.aiming c.target_of.ensures c.in_ok-aim.was c.in-There.is c.take.ensures c.in_ok-take-in-There.was

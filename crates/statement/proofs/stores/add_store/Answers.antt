@@ -9,7 +9,7 @@ store-requires c =
 
 pub ask_fields-r-requires : goal.ask_fields-r-requires
 ask_fields-r-requires c =
-    store-fields c.requires.arm c.requires.store_kind 0 c.store_fields-x.ensures c.store.ensures c.in_ok-needed.was c.if-needed.true
+    store-fields c.requires.arm c.requires.store_kind 0 c.store_fields-x.ensures c.store.ensures c.in_ok-needed.was c.if-not-needed.false
 
 pub returns-in_err-needed : goal.returns-in_err-needed
 returns-in_err-needed c =
