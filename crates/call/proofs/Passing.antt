@@ -1,5 +1,5 @@
 -- The asks of arguments, one after the other: each is put into the slot that is asked with, and leaves what is needed of the others as it was.
-use Prim.Native.Nat.{ℕ, suc, ◌+◌, ◌<◌, ◌≤◌}
+use Prim.Native.Nat.{ℕ, zero, suc, ◌+◌, ◌<◌, ◌≤◌}
 use native.Mathlib.Omega.{arith}
 use mathlib.Core.Path.{◌≡◌, refl, sym, ap, subst, ◌∙◌}
 use mathlib.Core.List.{List, [], ◌∷◌, ◌++◌}
@@ -189,7 +189,7 @@ module _ {bytes t s rs : List ℕ} {fr : Frame} {before : Result Tally Halt} (e 
         }
 
   pub argue_halt : {stop : Halt} → before ≡ Err stop → Argued bytes t s rs fr before e i (Err stop) s rs
-  argue_halt {k} {place} is = record {
+  argue_halt is = record {
     opens = record { by = tt };
     by = λ c z zs rest total counts p.
         let x = subst (λ (b : Result Tally Halt). Passing bytes t z zs fr rest total b s rs) is p.by in
@@ -212,6 +212,11 @@ module _ {bytes t s rs : List ℕ} {fr : Frame} {row : Kinded} {visits : ℕ} wh
         ∙ sym (tab-more (module_of bytes t) (frame_over fr c) (part s (get_or rs returned 0)) k (λ j. operand_at bytes row (2 + j)) (state_of t fr.function.0 fr.at (read s rs) rest visits)))
         (x.by c s rs rest _ counts (a.by c rest counts));
   })
+
+  -- a refusal is that of all
+  pub arguments_stop : (d : ℕ) {k n : ℕ} {stop : Halt} {u us : List ℕ} → AskedArguments bytes t s rs fr row visits k (Err stop) u us → n ≡ k + d → AskedArguments bytes t s rs fr row visits n (Err stop) u us
+  arguments_stop zero {stop = stop} {u} {us} a e = subst (λ (i : ℕ). AskedArguments bytes t s rs fr row visits i (Err stop) u us) (omega (arith, e)) a
+  arguments_stop (suc d) a e = arguments_stop d (arguments_next a refl refl (argue_halt _ _ refl)) (omega (arith, e))
 
   pub arguments_whole : {k : ℕ} {r : Result Tally Halt} {u us : List ℕ} → AskedArguments bytes t s rs fr row visits k r u us → k ≡ operand_at bytes row 1
       → AskedArguments bytes t s rs fr row visits (operand_at bytes row 1) r u us
