@@ -6,7 +6,7 @@ use mathlib.Core.List.{List}
 use mathlib.Core.Option.{some, none as nothing}
 use lib.ListN.{get_or}
 use borrow.Author.Tests.{eq-eqb, ne_eqb}
-use Rattle.std.specs.Prelude.{Ok, Err}
+use Rattle.std.specs.Prelude.{Option, Some, None, Ok, Err}
 use Rattle.field.specs.declared.refusal.Refusal.TheVariants.{Panic, PartLimit}
 use Rattle.module.specs.declared.handles.FunctionHandle.{FunctionHandle as Handle}
 use Rattle.module.specs.Module.{FunctionHandle}
@@ -22,8 +22,6 @@ use Rattle.state.specs.declared.answer.Place.{Place}
 use Rattle.state.specs.declared.answer.Place.TheVariants as position
 use Rattle.block.specs.Adding.{FirstTotal, joint, joint_out, IsLater, Later}
 use Rattle.block.specs.AddTotal.{TotalEnds}
-use Rattle.block.specs.declared.added.Joint.{Joint}
-use Rattle.block.specs.declared.added.Joint.TheVariants.{Sum, Over}
 use Rattle.block.proofs.Keeping.{beside_total}
 use Rattle.block.proofs.Finals.{first_added, first_standing, ray_meets, over_meets, later_added, later_standing}
 
@@ -55,20 +53,20 @@ module _ {bytes t places s rs open_marks totals : List ℕ} {f : FunctionHandle}
           rw z (ray_meets S (flag totals f ne) visits (place_of here) is);
     }
 
-    module _ {u us after : List ℕ} (j : Joint) (L : IsLater t places s rs open_marks totals f at sum j u us after) (e : r ≡ rays.Nothing) where
-      pub total_over : j ≡ Over → TotalEnds bytes t places s rs open_marks totals f at sum visits here (Err (record { refusal = PartLimit; place = here })) u us after
+    module _ {u us after : List ℕ} (j : Option ℕ) (L : IsLater t places s rs open_marks totals f at sum j u us after) (e : r ≡ rays.Nothing) where
+      pub total_over : j ≡ None → TotalEnds bytes t places s rs open_marks totals f at sum visits here (Err (record { refusal = PartLimit; place = here })) u us after
       total_over z = record {
         by = λ types held S.
             let no-ray : nothing ≡ first_ray (module_of bytes t) f (body_of (module_of bytes t) f) = subst (λ (x : Ray). ray_in x ≡ first_ray (module_of bytes t) f (body_of (module_of bytes t) f)) e ray in
             over_meets S (flag totals f ne) visits (place_of here) no-ray
-            (λ st. subst (λ (x : Joint). joint_out x (place_of here) st ≡ limited_context (place_of here) (joint s rs f at) st) z (L.is (place_of here) st));
+            (λ st. subst (λ (x : Option ℕ). joint_out x (place_of here) st ≡ limited_context (place_of here) (joint s rs f at) st) z (L.is (place_of here) st));
       }
 
-      pub total_later : {k : ℕ} → j ≡ Sum k → TotalEnds bytes t places s rs open_marks totals f at sum visits here (Ok (record { visits = visits; sum = k })) u us after
+      pub total_later : {k : ℕ} → j ≡ Some k → TotalEnds bytes t places s rs open_marks totals f at sum visits here (Ok (record { visits = visits; sum = k })) u us after
       total_later z = record {
         by = λ types held S.
             let no-ray : nothing ≡ first_ray (module_of bytes t) f (body_of (module_of bytes t) f) = subst (λ (x : Ray). ray_in x ≡ first_ray (module_of bytes t) f (body_of (module_of bytes t) f)) e ray in
-            let T = subst (λ (x : Joint). Later t places s rs open_marks totals f at sum x u us after) z L.by in
+            let T = subst (λ (x : Option ℕ). Later t places s rs open_marks totals f at sum x u us after) z L.by in
             record {
               is = later_added S (flag totals f ne) visits (place_of here) no-ray T;
               few = T.few;

@@ -9,7 +9,6 @@ use mathlib.Core.Option.{Option, some, none as nothing}
 use lib.ListN.{length, get_or}
 use Rattle.std.specs.Prelude.{Result, Ok, Err}
 use Rattle.field.specs.Limits.{max_pieces}
-use Rattle.field.specs.Refusal.{number}
 use Rattle.part.specs.PartReq.{PartReq, none, entries}
 use Rattle.module.specs.Module.{FunctionHandle, BlockHandle, Function, Module}
 use Rattle.module.specs.Tables.{max_items, row_at, function_of, module_of}

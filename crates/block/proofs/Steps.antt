@@ -66,7 +66,7 @@ pub ends_from : {A : Type 0} {bytes t types places s rs open_marks totals u us o
     → Beside bytes t fr.function.0 fr.at s rs open_marks u us open-1 → first ≡ total
     → StatementEnds bytes t types places u us open-1 totals-1 fr first answer r x xs open-2 totals-2
     → StatementEnds bytes t types places s rs open_marks totals fr total answer r x xs open-2 totals-2
-ends_from {fr = fr} (Ok (record { tally = tally; required = b })) k e E = record {
+ends_from {fr = fr} (Ok a) k e E = record {
   by = record { is = E.by.is ∙ e; standing = E.by.standing; beside = beside_then fr.at k E.by.beside (le_refl fr.at) };
 }
 ends_from (Err stop) k e E = record { by = E.by ∙ e }

@@ -75,8 +75,8 @@ pub record BlockEnded (bytes t types places s rs open_marks totals : List ℕ) (
   pub beside : Beside bytes t f at s rs open_marks u us open_after
 
 abbrev pub BlockEnding : (bytes t types places s rs open_marks totals : List ℕ) → FunctionHandle → (base at held own sum : ℕ) → Out Bool → Result Answer Halt → (u us open_after totals-after : List ℕ) → Type 0
-BlockEnding bytes t types places s rs open_marks totals f base at held own sum total (Ok (record { tally = tally; required = b })) u us open_after totals-after =
-    BlockEnded bytes t types places s rs open_marks totals f base at held own sum total tally.visits tally.sum b u us open_after totals-after
+BlockEnding bytes t types places s rs open_marks totals f base at held own sum total (Ok a) u us open_after totals-after =
+    BlockEnded bytes t types places s rs open_marks totals f base at held own sum total a.tally.visits a.tally.sum a.required u us open_after totals-after
 BlockEnding bytes t types places s rs open_marks totals f base at held own sum total (Err h) u us open_after totals-after = halt (number h.refusal) (place_of h.place) ≡ total
 
 pub record BlockEnds (bytes t types places s rs open_marks totals : List ℕ) (f : FunctionHandle) (base at held own sum : ℕ) (total : Out Bool) (r : Result Answer Halt) (u us open_after totals-after : List ℕ) : Type 0 where
@@ -89,8 +89,8 @@ pub record StatementEnded {A : Type 0} (bytes t types places s rs open_marks tot
   pub beside : Beside bytes t fr.function.0 fr.at s rs open_marks u us open_after
 
 abbrev pub StatementEnding : {A : Type 0} → (bytes t types places s rs open_marks totals : List ℕ) → Frame → Out A → (Bool → A) → Result Answer Halt → (u us open_after totals-after : List ℕ) → Type 0
-StatementEnding bytes t types places s rs open_marks totals fr total answer (Ok (record { tally = tally; required = b })) u us open_after totals-after =
-    StatementEnded bytes t types places s rs open_marks totals fr total answer tally.visits tally.sum b u us open_after totals-after
+StatementEnding bytes t types places s rs open_marks totals fr total answer (Ok a) u us open_after totals-after =
+    StatementEnded bytes t types places s rs open_marks totals fr total answer a.tally.visits a.tally.sum a.required u us open_after totals-after
 StatementEnding bytes t types places s rs open_marks totals fr total answer (Err h) u us open_after totals-after = halt (number h.refusal) (place_of h.place) ≡ total
 
 pub record StatementEnds {A : Type 0} (bytes t types places s rs open_marks totals : List ℕ) (fr : Frame) (total : Out A) (answer : Bool → A) (r : Result Answer Halt) (u us open_after totals-after : List ℕ) : Type 0 where

@@ -42,8 +42,8 @@ pub record FunctionEnded (bytes t types places s rs open_marks totals : List ℕ
   pub beside : Beside bytes t f (base + 4) s rs open_marks u us open_after
 
 abbrev pub FunctionEnding : (bytes t types places s rs open_marks totals : List ℕ) → FunctionHandle → (base held : ℕ) → Out Bool → Result Answer Halt → (u us open_after totals-after : List ℕ) → Type 0
-FunctionEnding bytes t types places s rs open_marks totals f base held total (Ok (record { tally = tally; required = b })) u us open_after totals-after =
-    FunctionEnded bytes t types places s rs open_marks totals f base held total tally.visits tally.sum b u us open_after totals-after
+FunctionEnding bytes t types places s rs open_marks totals f base held total (Ok a) u us open_after totals-after =
+    FunctionEnded bytes t types places s rs open_marks totals f base held total a.tally.visits a.tally.sum a.required u us open_after totals-after
 FunctionEnding bytes t types places s rs open_marks totals f base held total (Err h) u us open_after totals-after = halt (number h.refusal) (place_of h.place) ≡ total
 
 pub record FunctionEnds (bytes t types places s rs open_marks totals : List ℕ) (f : FunctionHandle) (base held : ℕ) (total : Out Bool) (r : Result Answer Halt) (u us open_after totals-after : List ℕ) : Type 0 where

@@ -50,8 +50,8 @@ pub record PairEnded (bytes t types places s rs open_marks totals : List ℕ) (f
   pub beside : Beside bytes t f at s rs open_marks u us open_after
 
 abbrev pub PairEnding : (bytes t types places s rs open_marks totals : List ℕ) → FunctionHandle → (base at held : ℕ) → Out (RequiredContext × Bool) → Result Answer Halt → (u us open_after totals-after : List ℕ) → Type 0
-PairEnding bytes t types places s rs open_marks totals f base at held total (Ok (record { tally = tally; required = b })) u us open_after totals-after =
-    PairEnded bytes t types places s rs open_marks totals f base at held total tally.visits tally.sum b u us open_after totals-after
+PairEnding bytes t types places s rs open_marks totals f base at held total (Ok a) u us open_after totals-after =
+    PairEnded bytes t types places s rs open_marks totals f base at held total a.tally.visits a.tally.sum a.required u us open_after totals-after
 PairEnding bytes t types places s rs open_marks totals f base at held total (Err h) u us open_after totals-after = halt (number h.refusal) (place_of h.place) ≡ total
 
 pub record PairEnds (bytes t types places s rs open_marks totals : List ℕ) (f : FunctionHandle) (base at held : ℕ) (total : Out (RequiredContext × Bool)) (r : Result Answer Halt) (u us open_after totals-after : List ℕ) : Type 0 where

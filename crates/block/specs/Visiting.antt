@@ -60,8 +60,8 @@ pub record VisitEnded (bytes t types places s rs open_marks totals : List ℕ) (
   pub beside : Beside bytes t fr.function.0 fr.at s rs open_marks u us open_after
 
 abbrev pub VisitEnding : (bytes t types places s rs open_marks totals : List ℕ) → Frame → Out Bool → Result Answer Halt → (u us open_after totals-after : List ℕ) → Type 0
-VisitEnding bytes t types places s rs open_marks totals fr total (Ok (record { tally = tally; required = b })) u us open_after totals-after =
-    VisitEnded bytes t types places s rs open_marks totals fr total tally.visits tally.sum b u us open_after totals-after
+VisitEnding bytes t types places s rs open_marks totals fr total (Ok a) u us open_after totals-after =
+    VisitEnded bytes t types places s rs open_marks totals fr total a.tally.visits a.tally.sum a.required u us open_after totals-after
 VisitEnding bytes t types places s rs open_marks totals fr total (Err h) u us open_after totals-after = halt (number h.refusal) (place_of h.place) ≡ total
 
 pub record VisitEnds (bytes t types places s rs open_marks totals : List ℕ) (fr : Frame) (total : Out Bool) (r : Result Answer Halt) (u us open_after totals-after : List ℕ) : Type 0 where

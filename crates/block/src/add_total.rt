@@ -1,7 +1,7 @@
 // The walk just done put into the totals, as `add_function_ref` ends.
 ghost use Rattle.block.specs.AddTotal.{TotalAsked, TotalEnds};
 
-use crate::added::{Joint, first_total, later_total};
+use crate::added::{first_total, later_total};
 use field::refusal::Refusal;
 use marks::ray::{Ray, first_ray};
 use module::handles::FunctionHandle;
@@ -40,13 +40,12 @@ pub fn add_total(
             place: Place::Statement(f, s),
         });
     }
-    let joint = later_total(t, places, cells, slots, open, totals, f, at, sum);
-    match joint {
-        Joint::Over => Err(Halt {
+    match later_total(t, places, cells, slots, open, totals, f, at, sum) {
+        None => Err(Halt {
             refusal: Refusal::PartLimit,
             place: here,
         }),
-        Joint::Sum(later) => Ok(Tally {
+        Some(later) => Ok(Tally {
             visits: visits,
             sum: later,
         }),
