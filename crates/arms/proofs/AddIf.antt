@@ -7,6 +7,7 @@ use mathlib.Core.Bool.{Bool, ◌||◌}
 use mathlib.Core.List.{List}
 use lib.ListN.{length}
 use Rattle.std.specs.Prelude.{Result, Ok, Err}
+use Rattle.field.specs.Refusal.{number}
 use Rattle.field.specs.Limits.{max_pieces}
 use Rattle.module.specs.Module.{Module, FunctionHandle, BlockHandle, ExpressionHandle, Statement, If}
 use Rattle.module.specs.Decode.{statement_of}
@@ -140,8 +141,8 @@ module _ {bytes t types places s rs open_marks totals : List ℕ} {fr : Frame} {
           (E : PairEnds bytes t types places s rs open_marks totals f at (at + 4) (fr.held + n) Pair r u us open_after totals-after) where
         pub if_halts : {stop : Halt} → r ≡ Err stop
             → StatementEnds bytes t types places s rs open_marks totals fr Whole StatementReq.If (Err stop) u us open_after totals-after
-        if_halts {k} {place} e =
-            let h : halt k (place_of place) ≡ Pair = subst (λ (x : Result Answer Halt). PairEnding bytes t types places s rs open_marks totals f at (at + 4) (fr.held + n) Pair x u us open_after totals-after) e E.by in
+        if_halts {stop} e =
+            let h : halt (number stop.refusal) (place_of stop.place) ≡ Pair = subst (λ (x : Result Answer Halt). PairEnding bytes t types places s rs open_marks totals f at (at + 4) (fr.held + n) Pair x u us open_after totals-after) e E.by in
             record { by = sym (whole_is ∙ then_halt (λ left p. end_if m (frame_of s rs fr) (operand_at bytes row 0) outer p.0 p.1 left) (sym h)) }
 
         module _ {tally : Tally} {required : Bool} (e : r ≡ Ok (record { tally = tally; required = required })) where

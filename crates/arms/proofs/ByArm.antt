@@ -99,7 +99,7 @@ module _ {bytes t types places s rs open_marks totals : List ℕ} {fr : Frame} {
 
   leaf_ending : (r : Result Answer Halt) {u us : List ℕ} → ArmEnding bytes t s rs fr (rest_in m t f (read s rs) open_marks totals) (arm_of row.kind) (leaf_req (statement_of row.kind o)) r u us
       → Ends (arm_of row.kind) (leaf_req (statement_of row.kind o)) r u us open_marks totals
-  leaf_ending (Ok (record { tally = tally; required = c })) E = record { by = leaf_ended E }
+  leaf_ending (Ok a) E = record { by = leaf_ended E }
   leaf_ending (Err stop) E = record { by = E }
 
   pub leaf_ends : (r : Result Answer Halt) {u us : List ℕ} → Leaves bytes t s rs fr (statement_of row.kind o) visits r u us → Ends (arm_of row.kind) (leaf_req (statement_of row.kind o)) r u us open_marks totals
@@ -108,7 +108,7 @@ module _ {bytes t types places s rs open_marks totals : List ℕ} {fr : Frame} {
 
   -- the marks of a leaf or a holder
   pub mark_asks : {total : Out StatementReq} (r : Result Answer Halt) {u us open_after totals-after : List ℕ} → Ends total (leaf_req (statement_of row.kind o)) r u us open_after totals-after → MarkAsked t places open_after fr row r
-  mark_asks (Ok (record { tally = tally; required = c })) E =
+  mark_asks (Ok a) E =
       record {
         by = record {
           bytes = bytes;

@@ -213,8 +213,8 @@ module _ {bytes t places s rs open_marks : List ℕ} {fr : Frame} {row : Kinded}
           → after ≡ call_marks open_marks k (is_there need) r
           → ArmEnds bytes t s vs fr (rest_in def t f (read s rs) open_marks totals) (Whole true totals) (λ x. StatementReq.Call x (is_there need)) r u us
           → StatementEnds bytes t types places s rs open_marks totals fr (marked def (frame_of s rs fr) (Whole true totals)) (λ x. x) r u us after totals
-      returned_by S (Ok (record { tally = tally; required = b })) e E = rw e (record { by = went_returned S tally b E.by })
-      returned_by S (Halt at) e E = record {
+      returned_by S (Ok a) e E = rw e (record { by = went_returned S a.tally a.required E.by })
+      returned_by S (Err stop) e E = record {
         by = sym (then_halt (λ ended req. went (with_marks (write_marks ended.marks (marks_before (function_at def f).statements fr.statement) (own_marks req)) ended) (required req)) (sym E.by));
       }
 

@@ -7,8 +7,8 @@ use mathlib.Core.List.{List}
 use mathlib.Core.Option.{Option}
 use lib.ListN.{length, get_or, replicate}
 use Rattle.std.specs.Prelude.{Result, Ok, Err}
-use Rattle.field.specs.Limits.{max_pieces}
 use Rattle.field.specs.Refusal.{number}
+use Rattle.field.specs.Limits.{max_pieces}
 use Rattle.part.specs.PartReq.{PartReq, Subpart, all, exist, none, more, entries, over, spine}
 use Rattle.part.specs.Store.{part}
 use Rattle.part.proofs.Sizes.{over-variable}
@@ -197,8 +197,8 @@ module _ {bytes t types places s rs open_marks totals : List ℕ} {fr : Frame} {
     module _ {r : Result Answer Halt} {v vs open-2 totals-2 : List ℕ} (F : FunctionEnds bytes t types places u us open-1 totals g (at + 4) held Called r v vs open-2 totals-2) where
       pub call_stops : {stop : Halt} → r ≡ Err stop
           → StatementEnds bytes t types places s rs open_marks totals fr (marked m (frame_of s rs fr) Whole) (λ x. x) (Err stop) v vs open-2 totals-2
-      call_stops {n} {place} e =
-          let h : halt n (place_of place) ≡ Called = (rw e at F).by in
+      call_stops {stop} e =
+          let h : halt (number stop.refusal) (place_of stop.place) ≡ Called = (rw e at F).by in
           record {
             by = sym (then_halt (λ ended req. went (with_marks (write_marks ended.marks (marks_before (function_at m f).statements fr.statement) (own_marks req)) ended) (required req))
                 (whole_is ∙ call-halt m (add_function m) (frame_of s rs fr) (o 0) (arguments_of bytes row (o 1)) (result_of bytes row) st (h ∙ called_is)));

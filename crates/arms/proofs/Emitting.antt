@@ -6,7 +6,6 @@ use Prim.Native.Nat.{ℕ, suc, ◌+◌, ◌-◌, ◌<◌, ◌≤◌}
 use native.Mathlib.Omega.{arith}
 use lib.ListN.{length, get_or}
 use Rattle.std.specs.Prelude.{Ok}
-use Rattle.field.specs.Refusal.{number}
 use Rattle.module.specs.Module.{Emit, Function}
 use Rattle.module.specs.Marks.{mark_count}
 use Rattle.module.specs.Decode.{statement_of}

@@ -130,7 +130,7 @@ module _ {bytes t s rs : List ℕ} {fr : Frame} {e sum visits : ℕ} (P : Passin
 
   -- and then the join
   module _ {r : Result Tally Halt} {u us : List ℕ} (E : BreakEnds bytes t s rs fr e sum visits r u us) where
-    pub pass_halts : {n : ℕ} {at : Place} → r ≡ Halt at → PassEnds bytes t s rs fr e sum visits (Halt at) u us
+    pub pass_halts : {stop : Halt} → r ≡ Err stop → PassEnds bytes t s rs fr e sum visits (Err stop) u us
     pass_halts is = record {
       by = λ types places open_marks totals B.
           pass_halt m (frame_of s rs fr) (option_of e) (context_at (read s rs) fr.at) (context_at (read s rs) (fr.at + 4))

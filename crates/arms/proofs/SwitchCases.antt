@@ -8,6 +8,7 @@ use mathlib.Core.Bool.{Bool, true, false, ◌||◌}
 use mathlib.Core.List.{List}
 use lib.ListN.{length, get_or}
 use Rattle.std.specs.Prelude.{Result, Ok, Err}
+use Rattle.field.specs.Refusal.{number}
 use Rattle.field.specs.Limits.{max_pieces}
 use Rattle.field.specs.declared.refusal.Refusal.TheVariants.{PartLimit}
 use Rattle.module.specs.Module.{BlockHandle, Module, SwitchCase}
@@ -259,10 +260,10 @@ module _ {bytes t types places s rs open_marks totals : List ℕ} {fr : Frame} {
 
           pub case_halts : {stop : Halt} → r ≡ Err stop
               → StatementEnds bytes t types places s rs open_marks totals fr Switching StatementReq.Switch (Err stop) w ws open-2 totals-2
-          case_halts {x} {place} e =
-              let h : halt x (place_of place) ≡ Code (at + 4 + 4) held =
+          case_halts {stop} e =
+              let h : halt (number stop.refusal) (place_of stop.place) ≡ Code (at + 4 + 4) held =
               subst (λ (a : Result Answer Halt). BlockEnding bytes t types places u us open-1 totals-1 f at (at + 4 + 4) held (held + context_in u us at) m' (Code (at + 4 + 4) held) a w ws open-2 totals-2) e walked.by in
-              record { by = halts place (sym (cases-halt block frame outer cases any st k (h ∙ case_is))) }
+              record { by = halts stop.place (sym (cases-halt block frame outer cases any st k (h ∙ case_is))) }
 
           module _ {tally : Tally} {c : Bool} (e : r ≡ Ok (record { tally = tally; required = c })) where
             B : BlockEnded bytes t types places u us open-1 totals-1 f at (at + 4 + 4) held held m' (Code (at + 4 + 4) held) tally.visits tally.sum c w ws open-2 totals-2

@@ -244,8 +244,8 @@ module _ {bytes t types places s rs open_marks totals : List ℕ} {fr : Frame} {
         asks_is = ap (λ (st : State). add_expression m f fr.held selector all st) down_state
 
         selector-halt : {stop : Halt} → r ≡ Err stop → halt (number stop.refusal) (place_of stop.place) ≡ Total selector true
-        selector-halt {n} {place} e =
-            let h : halt n (place_of place) ≡ Asks down selector all =
+        selector-halt {stop} e =
+            let h : halt (number stop.refusal) (place_of stop.place) ≡ Asks down selector all =
             subst (λ (w : Result Tally Halt). Ending bytes t f at fr.held u vs (rest_in m t f (read u vs) open_marks totals) (Asks down selector all) w x xs) e ends.by in
             sym (selector-halts m (frame_of s rs fr) selector outer walked (h ∙ asks_is))
 

@@ -80,14 +80,14 @@ later S l = record {
 -- 16 can be asked of what an arm has left
 pub last_asks : {bytes t types places s rs open_marks totals : List ℕ} {fr : Frame} {total : Out Bool} (r : Result Answer Halt) {u us open_after totals-after : List ℕ}
     → StatementEnds bytes t types places s rs open_marks totals fr total (λ b. b) r u us open_after totals-after → LastAsked u us fr r
-last_asks (Ok (record { tally = tally; required = b })) E = record { by = ready-counting E.by.standing.ready }
+last_asks (Ok a) E = record { by = ready-counting E.by.standing.ready }
 last_asks (Err stop) E = record { by = tt }
 
 -- the same visit, from a memory that means the same
 moved : {bytes t types places s rs v vs open_marks totals : List ℕ} {fr : Frame} {total other : Out Bool} (r : Result Answer Halt) {u us open_after totals-after : List ℕ}
     → Beside bytes t fr.function.0 fr.at v vs open_marks s rs open_marks → total ≡ other → VisitEnds bytes t types places s rs open_marks totals fr total r u us open_after totals-after
     → VisitEnds bytes t types places v vs open_marks totals fr other r u us open_after totals-after
-moved {fr = fr} (Ok (record { tally = tally; required = b })) B e E =
+moved {fr = fr} (Ok a) B e E =
     record {
       by = record {
         is = E.by.is ∙ e;
@@ -115,7 +115,7 @@ module _ {bytes t types places s rs open_marks totals : List ℕ} {fr : Frame} {
   abbrev total : Out Bool
   total = visit_statement m (add_function m) (block_in bytes t f) (frame_of s rs fr) st
 
-  abbrev Ends : Answered → (u us open_after totals-after : List ℕ) → Type 0
+  abbrev Ends : Result Answer Halt → (u us open_after totals-after : List ℕ) → Type 0
   Ends r u us open_after totals-after = VisitEnds bytes t types places s rs open_marks totals fr total r u us open_after totals-after
 
   pub visit_counting : Counting s rs fr.at fr.held sum

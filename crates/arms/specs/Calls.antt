@@ -116,5 +116,5 @@ pub record Returned (bytes t places s rs open_marks : List ℕ) (fr : Frame) (ro
 
 -- the marks of a call that went, whose result is required or not
 abbrev pub call_marks : List ℕ → (at : ℕ) → Bool → Result Answer Halt → List ℕ
-call_marks open_marks at result (Ok (record { tally = tally; required = b })) = write_marks open_marks at (mark b ∷ mark result ∷ [])
+call_marks open_marks at result (Ok a) = write_marks open_marks at (mark a.required ∷ mark result ∷ [])
 call_marks open_marks at result (Err h) = open_marks

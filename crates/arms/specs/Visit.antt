@@ -34,7 +34,7 @@ pub record Marking (t places open_marks : List ℕ) (fr : Frame) (row : Kinded) 
   pub long : min_report ≤ length open_marks
 
 abbrev pub MarkingWhen : (t places open_marks : List ℕ) → Frame → Kinded → Result Answer Halt → Type 0
-MarkingWhen t places open_marks fr row (Ok (record { tally = tally; required = b })) = Marking t places open_marks fr row
+MarkingWhen t places open_marks fr row (Ok a) = Marking t places open_marks fr row
 MarkingWhen t places open_marks fr row (Err h) = Unit {0}
 
 pub record MarkAsked (t places open_marks : List ℕ) (fr : Frame) (row : Kinded) (r : Result Answer Halt) : Type 0 where
@@ -49,7 +49,7 @@ pub record MarkEnds (t places open_marks : List ℕ) (fr : Frame) (row : Kinded)
 
 -- 16 can be asked
 abbrev pub CountingWhen : (s rs : List ℕ) → Frame → Result Answer Halt → Type 0
-CountingWhen s rs fr (Ok (record { tally = tally; required = b })) = Counting s rs fr.at fr.held tally.sum
+CountingWhen s rs fr (Ok a) = Counting s rs fr.at fr.held a.tally.sum
 CountingWhen s rs fr (Err h) = Unit {0}
 
 pub record LastAsked (s rs : List ℕ) (fr : Frame) (r : Result Answer Halt) : Type 0 where
