@@ -6,6 +6,7 @@ use mathlib.Core.Bool.{Bool, true, false, not}
 use mathlib.Core.List.{List, [], ◌∷◌}
 use lib.ListN.{length, get_or, set}
 use lib.Seq.{get_or-set_other}
+use borrow.Author.Tests.{not-true, not-false}
 use Rattle.std.specs.Prelude.{Result, Ok, Err}
 use Rattle.field.specs.Limits.{max_arguments}
 use Rattle.part.specs.PartReq.{PartReq, none, Subpart, there, entries}
@@ -66,14 +67,6 @@ call_marked open_marks at asked e h = rw e (refl, h)
 
 pub call_halted : {r : Result Answer Halt} {stop : Halt} (open_marks : List ℕ) (at : ℕ) (asked : Bool) → r ≡ Err stop → (Err stop ≡ r) × (open_marks ≡ call_marks open_marks at asked r)
 call_halted open_marks at asked e = rw e (refl, refl)
-
-not-required : (r : Bool) → not r ≡ true → r ≡ false
-not-required true h = sym h
-not-required false h = refl
-
-is-required : (r : Bool) → not r ≡ false → r ≡ true
-is-required true h = refl
-is-required false h = sym h
 
 there_is : (s : List ℕ) (found : Found) → was_found found ≡ is_there (found_part s found)
 unfolding is_there
@@ -167,7 +160,7 @@ module _ {bytes t places s rs open_marks : List ℕ} {fr : Frame} {row : Kinded}
         → Returned bytes t places s rs open_marks fr row req visits sum (Ok (record { tally = (record { visits = visits; sum = sum }); required = false })) s rs after
     unfolding end_call required own_marks
     not-returned req unneeded e =
-        rw (not-required req unneeded, e)
+        rw (not-true req unneeded, e)
         (record {
           by = λ types totals S. record {
             by = record {
@@ -252,7 +245,7 @@ module _ {bytes t places s rs open_marks : List ℕ} {fr : Frame} {row : Kinded}
       call_returned {b} {a} {r} {u} {us} {after} req needed is E h =
           let there-need : b ≡ is_there need = is ∙ there_is s found ∙ ap is_there need-is in
           let asked : requested s vs b ≡ need = ap (requested s vs) is ∙ in_slot.requested_is ∙ need-is in
-          rw (is-required req needed, h.0)
+          rw (not-false req needed, h.0)
           (record {
             by = λ types totals S.
                 let rest : Rest = rest_in def t f (read s rs) open_marks totals in

@@ -174,10 +174,11 @@ module _ {bytes t types places s rs open_marks totals : List ℕ} {fr : Frame} {
           loop_drops = omega (arith, branched.standing.ready.high)
 
           pub loop_dropped : c ≡ false → {vs : List ℕ} → BothDropped us fr.at vs
-              → StatementEnds bytes t types places s rs open_marks totals fr Total StatementReq.Loop (Ok (record { tally = tally; required = false })) u vs open-1 totals-1
+              → StatementEnds bytes t types places s rs open_marks totals fr Total StatementReq.Loop (Ok (record { tally = tally; required = c })) u vs open-1 totals-1
           loop_dropped e B =
               let D = dropped branched B StatementReq.Loop in
-              record {
+              rw e
+              (record {
                 by = record {
                   is = D.is
                       ∙ ap (λ (d : RequiredContext). went (with_context d continued) (StatementReq.Loop false)) outer_same
@@ -185,7 +186,7 @@ module _ {bytes t types places s rs open_marks totals : List ℕ} {fr : Frame} {
                   standing = D.standing;
                   beside = beside_then fr.at (beside_fewer fr.at (omega arith) went_on.beside) D.beside (le_refl fr.at);
                 };
-              }
+              })
 
           -- required
           module _ {z : ℕ} (break-if : z ≡ o 2) where
