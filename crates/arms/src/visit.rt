@@ -6,20 +6,13 @@ ghost use Rattle.statement.specs.Leaf.{leaf_req};
 ghost use Rattle.arms.specs.Visit.{mark_when, MarkAsked, MarkEnds, LastAsked, LastEnds};
 
 use access::kinded::Kinded;
+use access::kinds::{CALL, EMIT, IF, KILL, STORE};
 use expression::visit::allowed;
 use field::refusal::Refusal;
 use marks::places::place;
 use marks::set::set_mark;
 use state::answer::{Answer, Answered};
 use state::frame::Frame;
-
-const IF: u16 = 2;
-
-const KILL: u16 = 8;
-
-const STORE: u16 = 12;
-
-const CALL: u16 = 14;
 
 // Whether a statement has one mark, of those that are no emit and no call.
 fn has_mark(kind: u16) -> bool
@@ -47,7 +40,7 @@ fn required(kind: u16, b: bool) -> bool
     if kind == KILL {
         return true;
     }
-    if kind == 0 {
+    if kind == EMIT {
         return false;
     }
     if kind == CALL {

@@ -37,6 +37,11 @@ ending_local f held e l p st = ask_local (at_expression f e) l p st >> closing f
 abbrev pub ending_global : FunctionHandle → (held : ℕ) → ExpressionHandle → GlobalHandle → PartReq → Walk (Unit {0})
 ending_global f held e g p st = ask_global (at_expression f e) g p (get_subpart st.globals (variable g)) st >> closing f held e p
 
+-- the same by the map of the context that has the variable: locals are at 1, arguments at 2
+pub record EntryWalks (bytes t : List ℕ) (f : FunctionHandle) (at held : ℕ) (s rs : List ℕ) (map : ℕ) (e : ExpressionHandle) (i : ℕ) (p : PartReq) (visits : ℕ) (r : Result Tally Halt) (u us : List ℕ) : Type 0 where
+  pub argument : map ≡ 2 → Walks bytes t f at held s rs (ending_argument f held e i p) visits r u us
+  pub local : map ≡ 1 → Walks bytes t f at held s rs (ending_local f held e i p) visits r u us
+
 -- a visit of e from the j-th ask on
 abbrev pub asks_from : Module → FunctionHandle → (held : ℕ) → ExpressionHandle → PartReq → ℕ → Walk (Unit {0})
 asks_from m f held e p j st =

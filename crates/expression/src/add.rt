@@ -7,7 +7,7 @@ ghost use Rattle.memory.specs.Want.{asked, Wants};
 ghost use Rattle.state.specs.Ready.{Ready};
 ghost use Rattle.expression.specs.Walks.{Walks};
 
-use crate::variables::{argument, global, local};
+use crate::variables::{entry, global};
 use crate::visit::{allowed, close};
 use asks::ask::ask;
 use asks::what::What;
@@ -16,6 +16,11 @@ use field::refusal::Refusal;
 use memory::want::Want;
 use module::handles::{ExpressionHandle, FunctionHandle};
 use state::answer::{Halt, Place, Walked};
+
+// The places of a context's maps.
+const LOCALS: usize = 1;
+
+const ARGUMENTS: usize = 2;
 
 // `add_expression`: a visit of the expression e of f, of which w is asked, with the current context in the slots from `at` on.
 pub fn add_expression(
@@ -62,9 +67,11 @@ pub fn add_expression(
                 v = tally.visits;
                 m = tally.sum;
             }
-            What::Argument(i) => return argument(t, cells, slots, f, at, held, e, i, w, v, m),
+            What::Argument(i) => {
+                return entry(t, cells, slots, f, at, held, e, ARGUMENTS, i, w, v, m);
+            }
             What::Global(g) => return global(t, cells, slots, f, at, held, e, g, w, v, m),
-            What::Local(l) => return local(t, cells, slots, f, at, held, e, l, w, v, m),
+            What::Local(l) => return entry(t, cells, slots, f, at, held, e, LOCALS, l.0, w, v, m),
             What::Refuse(refusal) => {
                 return Err(Halt {
                     refusal: refusal,

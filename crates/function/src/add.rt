@@ -23,6 +23,7 @@ use access::function::{block, body_block};
 use access::kinded::{
     Kinded, block_operand, expression_operand, function_operand, operand, statement,
 };
+use access::kinds::{BLOCK, BREAK, CALL, EMIT, IF, SWITCH};
 use arms::calls::{begin_call, leave_call, return_call};
 use arms::emit::add_emit;
 use arms::ifs::end_if;
@@ -148,18 +149,6 @@ pub fn add_block(
         required: required,
     })
 }
-
-const EMIT: u16 = 0;
-
-const BLOCK: u16 = 1;
-
-const IF: u16 = 2;
-
-const SWITCH: u16 = 3;
-
-const BREAK: u16 = 5;
-
-const CALL: u16 = 14;
 
 // `add_statement`, as a visit: 17, 16, the arm with its marks, and 16 again. The statement stands in the block b.
 #[cycle(walk)]

@@ -9,6 +9,7 @@ ghost use Rattle.statement.specs.Rays.{RayKind, ray_of, gather_fields, ray_field
 use crate::aim::target_of;
 use crate::ask::{answer, then_maybe};
 use access::kinded::{Kinded, expression_operand, operand};
+use access::kinds::{RAY_QUERY, SUBGROUP_BALLOT, SUBGROUP_GATHER};
 use memory::layout::ALL;
 use module::handles::{ExpressionHandle, NO_HANDLE};
 use part::req::Found;
@@ -22,12 +23,6 @@ pub struct Ray {
     pub first: ExpressionHandle,
     pub second: ExpressionHandle,
 }
-
-const RAY_QUERY: u16 = 16;
-
-const SUBGROUP_BALLOT: u16 = 18;
-
-const SUBGROUP_GATHER: u16 = 19;
 
 // Those of a gather: a mode that names an expression has it before the argument.
 fn gather_fields(bytes: &[u8], row: Kinded) -> Ray

@@ -10,6 +10,7 @@ ghost use Rattle.statement.specs.Fields.{StoreKind, fields_of, store_fields, Fie
 use crate::ask::{answer, then_ask, then_maybe};
 use crate::store::store;
 use access::kinded::{Kinded, expression_operand};
+use access::kinds::IMAGE_STORE;
 use memory::layout::{ALL, ASK, EXIST};
 use module::handles::{ExpressionHandle, NO_HANDLE};
 use state::answer::{Answer, Answered, Tally, Walked};
@@ -23,8 +24,6 @@ pub struct Fields {
     pub index: ExpressionHandle,
     pub value: ExpressionHandle,
 }
-
-const IMAGE_STORE: u16 = 15;
 
 fn store_fields(bytes: &[u8], row: Kinded) -> Fields
     ensures { fields_of result ≡ store_fields row.kind (operand_at bytes.now row) }
