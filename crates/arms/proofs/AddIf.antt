@@ -25,7 +25,6 @@ use Rattle.memory.specs.Memory.{read, sum_from, context_at}
 use Rattle.memory.proofs.Runs.{context_pieces}
 use Rattle.state.specs.State.{place_of}
 use Rattle.state.specs.Frame.{frame_of}
-use Rattle.state.specs.declared.answer.Place.{Place}
 use Rattle.state.specs.declared.answer.Tally.{Tally}
 use Rattle.state.specs.declared.frame.Frame.{Frame}
 use Rattle.state.specs.declared.answer.Halt.{Halt}

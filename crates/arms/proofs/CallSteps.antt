@@ -42,7 +42,6 @@ use Rattle.marks.specs.Places.{start_in, size_in}
 use Rattle.state.specs.State.{records_in, place_of}
 use Rattle.state.specs.Frame.{frame_of}
 use Rattle.state.specs.declared.answer.Tally.{Tally}
-use Rattle.state.specs.declared.answer.Place as declared
 use Rattle.state.specs.declared.frame.Frame.{Frame}
 use Rattle.state.specs.declared.answer.Halt.{Halt}
 use Rattle.state.specs.declared.answer.Answer.{Answer}

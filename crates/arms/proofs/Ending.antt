@@ -10,7 +10,6 @@ use Rattle.module.specs.Tables.{module_of}
 use Rattle.walk.specs.State.{at_statement, went, halt, count}
 use Rattle.walk.proofs.Bind.{counted-over, counted-under}
 use Rattle.memory.specs.Memory.{read}
-use Rattle.state.specs.declared.answer.Place as declared
 use Rattle.state.specs.declared.answer.Place.TheVariants as place
 use Rattle.state.specs.declared.answer.Tally.{Tally}
 use Rattle.state.specs.declared.frame.Frame.{Frame}

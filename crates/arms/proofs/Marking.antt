@@ -26,7 +26,6 @@ use Rattle.marks.proofs.Fit.{start_suc}
 use Rattle.marks.proofs.Placed.{at_function}
 use Rattle.marks.proofs.Buffers.{statement_inside, own_fits, own_written}
 use Rattle.state.specs.Frame.{frame_of}
-use Rattle.state.specs.declared.answer.Place.{Place}
 use Rattle.state.specs.declared.answer.Tally.{Tally}
 use Rattle.state.specs.declared.frame.Frame.{Frame}
 use Rattle.state.specs.declared.answer.Halt.{Halt}

@@ -30,7 +30,6 @@ use Rattle.memory.proofs.Slots.{asked-slot}
 use Rattle.memory.proofs.Runs.{context_pieces}
 use Rattle.state.specs.Ready.{Ready, Ends}
 use Rattle.state.specs.Frame.{frame_of}
-use Rattle.state.specs.declared.answer.Place.{Place}
 use Rattle.state.specs.declared.answer.Place.TheVariants as place
 use Rattle.state.specs.declared.answer.Tally.{Tally}
 use Rattle.state.specs.declared.frame.Frame.{Frame}

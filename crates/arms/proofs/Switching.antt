@@ -32,7 +32,6 @@ use Rattle.state.specs.State.{place_of}
 use Rattle.state.specs.Ready.{Ready, Ended, Ending, Ends}
 use Rattle.state.specs.Frame.{frame_of, Apart}
 use Rattle.state.specs.declared.answer.Tally.{Tally}
-use Rattle.state.specs.declared.answer.Place as declared
 use Rattle.state.specs.declared.frame.Frame.{Frame}
 use Rattle.state.specs.declared.answer.Halt.{Halt}
 use Rattle.state.proofs.Others.{sum_same}

@@ -21,7 +21,6 @@ use Rattle.memory.specs.Memory.{read, sum_from, context_at, Memory}
 use Rattle.memory.specs.Memory as memory
 use Rattle.memory.proofs.Runs.{context_pieces}
 use Rattle.state.specs.Frame.{frame_of}
-use Rattle.state.specs.declared.answer.Place.{Place}
 use Rattle.state.specs.declared.answer.Place.TheVariants as place
 use Rattle.state.specs.declared.answer.Tally.{Tally}
 use Rattle.state.specs.declared.frame.Frame.{Frame}

@@ -21,7 +21,6 @@ use Rattle.marks.proofs.Placed.{at_function}
 use Rattle.state.specs.State.{place_of}
 use Rattle.state.specs.Ready.{WasRead}
 use Rattle.state.specs.declared.answer.Tally.{Tally}
-use Rattle.state.specs.declared.answer.Place.{Place}
 use Rattle.state.specs.declared.answer.Halt.{Halt}
 use Rattle.state.specs.declared.answer.Answer.{Answer}
 use Rattle.block.specs.Blocks.{BlockEnded, BlockEnding, BlockEnds}

@@ -16,7 +16,6 @@ use Rattle.walk.specs.Statement.{BlockWalk}
 use Rattle.memory.specs.Memory.{read, sum_from, context_at, Memory}
 use Rattle.memory.proofs.Runs.{context_pieces}
 use Rattle.state.specs.declared.answer.Tally.{Tally}
-use Rattle.state.specs.declared.answer.Place as declared
 use Rattle.state.specs.declared.answer.Halt.{Halt}
 use Rattle.state.specs.declared.answer.Answer.{Answer}
 use Rattle.block.specs.Standing.{state_in, Standing}

@@ -32,7 +32,6 @@ use Rattle.marks.proofs.Rays.{statement_in, statement_small}
 use Rattle.marks.proofs.Placed.{at_function}
 use Rattle.state.specs.Frame.{frame_of}
 use Rattle.state.specs.declared.answer.Tally.{Tally}
-use Rattle.state.specs.declared.answer.Place.{Place}
 use Rattle.state.specs.declared.frame.Frame.{Frame}
 use Rattle.state.specs.declared.answer.Halt.{Halt}
 use Rattle.state.specs.declared.answer.Answer.{Answer}

@@ -28,7 +28,6 @@ use Rattle.memory.specs.Memory.{read, Memory}
 use Rattle.state.specs.State.{Rest, state_of, totals_sum}
 use Rattle.state.specs.Ready.{Ready, Others}
 use Rattle.state.specs.declared.answer.Tally.{Tally}
-use Rattle.state.specs.declared.answer.Place.{Place}
 use Rattle.state.specs.declared.frame.Frame.{Frame}
 use Rattle.state.specs.declared.answer.Halt.{Halt}
 use Rattle.state.proofs.Others.{others_still, ready_fits, others_apart, apart_trans, apart_totals}

@@ -17,7 +17,7 @@ use Rattle.module.specs.declared.handles.ExpressionHandle.{ExpressionHandle}
 use Rattle.module.specs.declared.handles.FunctionHandle.{FunctionHandle}
 use Rattle.access.specs.Access.{expression_number}
 use Rattle.context.specs.RequiredContext.{pieces}
-use Rattle.walk.specs.State.{State, at_expression, went, count, counted, total_pieces}
+use Rattle.walk.specs.State.{State, at_expression, went, count, total_pieces}
 use Rattle.walk.specs.Expression.{recorded}
 use Rattle.walk.proofs.Bind.{counted-over, counted-under}
 use Rattle.memory.specs.Layout.{exprs_slot, stack_slot, most}

@@ -37,7 +37,6 @@ use Rattle.memory.specs.declared.want.Want.{Want}
 use Rattle.memory.proofs.Slots.{asked-small, wants_still, asked-still, tidied_still, still_trans}
 use Rattle.state.specs.State.{state_of, totals_sum}
 use Rattle.state.specs.Ready.{Ready, Ended}
-use Rattle.state.specs.declared.answer.Place.{Place}
 use Rattle.state.specs.declared.answer.Place.TheVariants as place
 use Rattle.state.specs.declared.answer.Tally.{Tally}
 use Rattle.state.specs.declared.answer.Halt.{Halt}

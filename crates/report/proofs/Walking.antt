@@ -19,7 +19,6 @@ use Rattle.walk.specs.Requests.{Answer, Pruner, fresh, request, end_count, repor
 use Rattle.walk.proofs.Ends.{ended}
 use Rattle.memory.specs.Layout.{stack_slot}
 use Rattle.memory.specs.Memory.{read, Memory}
-use Rattle.state.specs.declared.answer.Place.{Place}
 use Rattle.state.specs.declared.answer.Tally.{Tally}
 use Rattle.state.specs.declared.answer.Halt.{Halt}
 use Rattle.state.specs.declared.answer.Answer as walked

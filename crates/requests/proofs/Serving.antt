@@ -24,7 +24,6 @@ use Rattle.walk.specs.Requests.{Pruner, request, fresh}
 use Rattle.sound.proofs.Asked as sound
 use Rattle.memory.specs.Layout.{stack_slot}
 use Rattle.memory.specs.Memory.{read}
-use Rattle.state.specs.declared.answer.Place.{Place}
 use Rattle.state.specs.declared.answer.Place.TheVariants.{Nowhere}
 use Rattle.state.specs.declared.answer.Tally.{Tally}
 use Rattle.state.specs.declared.answer.Halt.{Halt}
@@ -35,7 +34,7 @@ use Rattle.pruner.specs.Form.{min_pruner, pruner_pieces, read_body, stated, is_p
 use Rattle.requests.specs.Answer.{min_answer}
 use Rattle.requests.specs.Loaded.{Loaded}
 use Rattle.requests.specs.Begin.{with_totals, after_request, beginning, Begins, Ready}
-use Rattle.requests.specs.Serve.{Lent, Reply, refused_at, finish, lent_pruner, on_pruner, on_request, serve_read}
+use Rattle.requests.specs.Serve.{Lent, refused_at, finish, lent_pruner, on_pruner, on_request, serve_read}
 use Rattle.requests.specs.Finish.{Finishing, Finished}
 use Rattle.requests.specs.Served.{Walking, Walked, Served}
 use Rattle.requests.specs.declared.begin.Begun.{Begun}

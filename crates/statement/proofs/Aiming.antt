@@ -19,7 +19,7 @@ use Rattle.context.specs.Contexts.{context_of, HasContext, variable_of}
 use Rattle.context.specs.declared.required_context.RequiredContext.{RequiredContext as Pieces}
 use Rattle.sound.proofs.Walks.{module_sound}
 use Rattle.walk.specs.State.{State, went, halt}
-use Rattle.walk.specs.Resolve.{function_at, VarRefPart, resolved, unresolved, resolve_var, store_required}
+use Rattle.walk.specs.Resolve.{function_at, resolved, unresolved, resolve_var, store_required}
 use Rattle.walk.specs.Statement.{here, target, target_of}
 use Rattle.walk.specs.Statement as walk
 use Rattle.walk.proofs.Bind.{limited_over, limited-under}

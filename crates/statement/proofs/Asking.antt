@@ -27,7 +27,6 @@ use Rattle.state.specs.State.{Rest, state_of, totals_sum}
 use Rattle.state.specs.Ready.{Ready, Others, Ends}
 use Rattle.state.specs.Frame.{Apart, ArmEnds}
 use Rattle.state.specs.declared.answer.Tally.{Tally}
-use Rattle.state.specs.declared.answer.Place.{Place}
 use Rattle.state.specs.declared.frame.Frame.{Frame}
 use Rattle.state.specs.declared.answer.Halt.{Halt}
 use Rattle.state.proofs.Others.{others_same, others_trans, others_still, others_totals, ready_fits, others_apart, apart_trans}

@@ -15,7 +15,7 @@ use Rattle.part.specs.Store.{part}
 use Rattle.part.specs.Found.{Got}
 use Rattle.part.specs.declared.req.Found.{Found}
 use Rattle.part.specs.declared.req.Found.TheVariants.{Gone, There}
-use Rattle.module.specs.Module.{Module, Statement, AtomicStatement}
+use Rattle.module.specs.Module.{Module, AtomicStatement}
 use Rattle.module.specs.Decode.{option_of, statement_of}
 use Rattle.module.specs.Tables.{module_of}
 use Rattle.access.specs.Access.{operand_at}
@@ -27,7 +27,7 @@ use Rattle.walk.specs.State.{Records, State, Out, went, ◌>>◌, record_pieces}
 use Rattle.walk.specs.Resolve.{function_at, store_required, is_there}
 use Rattle.walk.specs.Proper.{Fine, EachRecord}
 use Rattle.walk.specs.StatementReq.{StatementReq}
-use Rattle.walk.specs.Statement.{Frame, Target, ask_needed, ask_result, need_of, record_of, add_atomic, add_statement}
+use Rattle.walk.specs.Statement.{Frame, ask_needed, ask_result, need_of, record_of, add_atomic, add_statement}
 use Rattle.walk.proofs.Keeps.{Needs}
 use Rattle.walk.proofs.Bind.{then_went, then_halt, next_same}
 use Rattle.memory.specs.Layout as layout
@@ -37,7 +37,6 @@ use Rattle.memory.proofs.Slots.{kept_read}
 use Rattle.state.specs.State.{Rest, records_in, state_of, totals_sum}
 use Rattle.state.specs.Ready.{Ready}
 use Rattle.state.specs.Frame.{frame_of, Apart}
-use Rattle.state.specs.declared.answer.Place.TheVariants as place
 use Rattle.state.specs.declared.frame.Frame as declared
 use Rattle.state.specs.declared.answer.Halt.{Halt}
 use Rattle.state.specs.declared.answer.Tally.{Tally}

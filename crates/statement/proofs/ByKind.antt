@@ -8,7 +8,7 @@ use mathlib.Core.List.{List}
 use lib.ListN.{get_or}
 use Rattle.std.specs.Prelude.{Result, Ok, Err}
 use Rattle.field.specs.declared.refusal.Refusal.TheVariants.{Panic}
-use Rattle.module.specs.Module.{Statement, Break}
+use Rattle.module.specs.Module.{Break}
 use Rattle.module.specs.Decode.{statement_of}
 use Rattle.module.proofs.Each.{past}
 use Rattle.access.specs.Access.{operand_at}

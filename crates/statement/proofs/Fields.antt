@@ -30,7 +30,6 @@ use Rattle.memory.specs.Layout as layout
 use Rattle.memory.specs.Memory.{read}
 use Rattle.state.specs.State.{state_of}
 use Rattle.state.specs.Frame.{frame_of}
-use Rattle.state.specs.declared.answer.Place.TheVariants as place
 use Rattle.state.specs.declared.frame.Frame as declared
 use Rattle.state.specs.declared.answer.Halt.{Halt}
 use Rattle.state.specs.declared.answer.Tally.{Tally}

@@ -24,7 +24,7 @@ use Rattle.context.specs.Contexts.{variable_of}
 use Rattle.walk.specs.State.{State, Place, Out, went, halt, Walk, ◌>>◌}
 use Rattle.walk.specs.Resolve.{function_at, store_required}
 use Rattle.walk.specs.StatementReq.{StatementReq}
-use Rattle.walk.specs.Statement.{FunctionWalk, BlockWalk, Frame, Target, here, ask, ask_optional, ask_mode, target, when_needed, ray, add_statement}
+use Rattle.walk.specs.Statement.{FunctionWalk, BlockWalk, Frame, Target, ask, ask_optional, ask_mode, target, when_needed, ray, add_statement}
 use Rattle.walk.proofs.Bind.{then_went, then_halt, next_self, next_same}
 use Rattle.memory.specs.Layout as layout
 use Rattle.memory.specs.Memory.{read, context_at}
@@ -32,7 +32,6 @@ use Rattle.memory.proofs.Slots.{kept_read}
 use Rattle.state.specs.State.{state_of, totals_sum}
 use Rattle.state.specs.Ready.{Ready}
 use Rattle.state.specs.Frame.{frame_of}
-use Rattle.state.specs.declared.answer.Place.TheVariants as place
 use Rattle.state.specs.declared.frame.Frame as declared
 use Rattle.state.specs.declared.answer.Halt.{Halt}
 use Rattle.state.specs.declared.answer.Tally.{Tally}

@@ -18,7 +18,7 @@ use Rattle.context.specs.Contexts.{variable_of}
 use Rattle.sound.proofs.Walks.{module_sound}
 use Rattle.walk.specs.State.{State, Place, Out, went, halt, Walk, ◌>>◌}
 use Rattle.walk.specs.Resolve.{function_at, store_required}
-use Rattle.walk.specs.Statement.{Frame, Target, here, ask, target, taken_out, add_store, store}
+use Rattle.walk.specs.Statement.{Frame, ask, target, taken_out, add_store, store}
 use Rattle.walk.proofs.Bind.{then_went, then_halt, next_halt}
 use Rattle.memory.specs.Memory.{read, context_at}
 use Rattle.memory.proofs.Slots.{kept_read}

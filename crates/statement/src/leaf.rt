@@ -13,7 +13,10 @@ use crate::rays::add_ray;
 use crate::returns::add_return;
 use crate::stores::add_store;
 use access::kinded::Kinded;
-use access::kinds::{ATOMIC, CONTROL_BARRIER, IMAGE_ATOMIC, IMAGE_STORE, KILL, MEMORY_BARRIER, RETURN, STORE, SUBGROUP_COLLECTIVE_OPERATION};
+use access::kinds::{
+    ATOMIC, CONTROL_BARRIER, IMAGE_ATOMIC, IMAGE_STORE, KILL, MEMORY_BARRIER, RETURN, STORE,
+    SUBGROUP_COLLECTIVE_OPERATION,
+};
 use field::refusal::Refusal;
 use state::answer::{Answer, Answered, Tally};
 use state::frame::Frame;

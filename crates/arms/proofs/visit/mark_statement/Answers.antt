@@ -14,6 +14,6 @@ returns-in_err-a c = rw (passed c.from_residual.ensures.1) (mark_halts _ c.in_er
 pub returns : goal.returns
 returns c =
     elim c.if-has_mark.branch [
-      then-has_mark w ↦ rw w.open-is (mark_one _ c.in_ok-a.was c.has_mark.ensures w.if-has_mark.true w.place-at.ensures w.set_mark.ensures c.required.ensures)
-    | else-has_mark w ↦ rw w.open-is (mark_none _ c.in_ok-a.was c.has_mark.ensures w.if-has_mark.false c.required.ensures)
+      | then-has_mark w ↦ rw w.open-is (mark_one _ c.in_ok-a.was c.has_mark.ensures w.if-has_mark.true w.place-at.ensures w.set_mark.ensures c.required.ensures)
+      | else-has_mark w ↦ rw w.open-is (mark_none _ c.in_ok-a.was c.has_mark.ensures w.if-has_mark.false c.required.ensures)
     ]

@@ -1,7 +1,6 @@
 -- `expression::variables::entry` meets its contract. Assumes nothing.
 use mathlib.Core.Path.{refl}
 use Rattle.expression.proofs.Maps.{is_over, is_mapped, visit_mapping, map_closing, argument_15, argument_ends, local_15, local_ends}
-use native.Mathlib.Omega.{arith}
 use Rattle.expression.proofs.variables.entry.Goals as goal
 
 pub join-requires : goal.join-requires
