@@ -3,4 +3,5 @@
 
 pub mod function;
 pub mod kinded;
+pub mod kinds;
 pub mod whole;

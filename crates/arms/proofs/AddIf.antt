@@ -6,6 +6,8 @@ use mathlib.Core.Path.{◌≡◌, refl, sym, ap, subst, ◌∙◌}
 use mathlib.Core.Bool.{Bool, ◌||◌}
 use mathlib.Core.List.{List}
 use lib.ListN.{length}
+use Rattle.std.specs.Prelude.{Result, Ok, Err}
+use Rattle.field.specs.Refusal.{number}
 use Rattle.field.specs.Limits.{max_pieces}
 use Rattle.module.specs.Module.{Module, FunctionHandle, BlockHandle, ExpressionHandle, Statement, If}
 use Rattle.module.specs.Decode.{statement_of}
@@ -23,11 +25,10 @@ use Rattle.memory.specs.Memory.{read, sum_from, context_at}
 use Rattle.memory.proofs.Runs.{context_pieces}
 use Rattle.state.specs.State.{place_of}
 use Rattle.state.specs.Frame.{frame_of}
-use Rattle.state.specs.declared.answer.Answered.{Answered}
-use Rattle.state.specs.declared.answer.Answered.TheVariants.{Went, Halt}
-use Rattle.state.specs.declared.answer.Place.{Place}
 use Rattle.state.specs.declared.answer.Tally.{Tally}
 use Rattle.state.specs.declared.frame.Frame.{Frame}
+use Rattle.state.specs.declared.answer.Halt.{Halt}
+use Rattle.state.specs.declared.answer.Answer.{Answer}
 use Rattle.marks.specs.Ray.{held_count, held_number}
 use Rattle.marks.proofs.Rays.{held_block}
 use Rattle.statement.proofs.Uses.{arm_uses}
@@ -135,17 +136,17 @@ module _ {bytes t types places s rs open_marks totals : List ℕ} {fr : Frame} {
               rw (accept-is, reject-is, counted, up_state A.begins.standing)
               (sym (pair_anywhere A.begins.standing.ready.was_read f (operand_at bytes row 1) (operand_at bytes row 2) (fr.held + context_in s rs at) outer empty_context fr.break_required (state_in bytes t s rs open_marks totals f at visits)))
 
-      module _ {r : Answered} {u us open_after totals-after : List ℕ}
+      module _ {r : Result Answer Halt} {u us open_after totals-after : List ℕ}
           (E : PairEnds bytes t types places s rs open_marks totals f at (at + 4) (fr.held + n) Pair r u us open_after totals-after) where
-        pub if_halts : {k : ℕ} {place : Place} → r ≡ Halt k place
-            → StatementEnds bytes t types places s rs open_marks totals fr Whole StatementReq.If (Halt k place) u us open_after totals-after
-        if_halts {k} {place} e =
-            let h : halt k (place_of place) ≡ Pair = subst (λ (x : Answered). PairEnding bytes t types places s rs open_marks totals f at (at + 4) (fr.held + n) Pair x u us open_after totals-after) e E.by in
+        pub if_halts : {stop : Halt} → r ≡ Err stop
+            → StatementEnds bytes t types places s rs open_marks totals fr Whole StatementReq.If (Err stop) u us open_after totals-after
+        if_halts {stop} e =
+            let h : halt (number stop.refusal) (place_of stop.place) ≡ Pair = subst (λ (x : Result Answer Halt). PairEnding bytes t types places s rs open_marks totals f at (at + 4) (fr.held + n) Pair x u us open_after totals-after) e E.by in
             record { by = sym (whole_is ∙ then_halt (λ left p. end_if m (frame_of s rs fr) (operand_at bytes row 0) outer p.0 p.1 left) (sym h)) }
 
-        module _ {tally : Tally} {required : Bool} (e : r ≡ Went tally required) where
+        module _ {tally : Tally} {required : Bool} (e : r ≡ Ok (record { tally = tally; required = required })) where
           ended : PairEnded bytes t types places s rs open_marks totals f at (at + 4) (fr.held + n) Pair tally.visits tally.sum required u us open_after totals-after
-          ended = subst (λ (x : Answered). PairEnding bytes t types places s rs open_marks totals f at (at + 4) (fr.held + n) Pair x u us open_after totals-after) e E.by
+          ended = subst (λ (x : Result Answer Halt). PairEnding bytes t types places s rs open_marks totals f at (at + 4) (fr.held + n) Pair x u us open_after totals-after) e E.by
 
           outer_same : context_at (read u us) at ≡ outer
           outer_same = beside_context ended.beside at A.begins.standing.ready.low (le_refl (at + 4))
@@ -181,6 +182,6 @@ module _ {bytes t types places s rs open_marks totals : List ℕ} {fr : Frame} {
                 rw (condition-is, outer_same, base_same)
                 (sym (whole_is ∙ then_went (λ left p. end_if m (frame_of s rs fr) (operand_at bytes row 0) outer p.0 p.1 left) (sym ended.is)))
 
-            pub if_ends : (q : Answered) {v vs : List ℕ} → IfEnds bytes t u us fr condition required tally.sum tally.visits q v vs
+            pub if_ends : (q : Result Answer Halt) {v vs : List ℕ} → IfEnds bytes t u us fr condition required tally.sum tally.visits q v vs
                 → StatementEnds bytes t types places s rs open_marks totals fr Whole StatementReq.If q v vs open_after totals-after
             if_ends q F = ends_from q (beside_down (omega arith) ended.beside) ending (F.by types places open_after totals-after branched)

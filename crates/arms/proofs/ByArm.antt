@@ -4,6 +4,7 @@ use mathlib.Core.Bool.{Bool}
 use mathlib.Core.List.{List}
 use Prim.Native.Nat.{ℕ, ◌<◌, ◌≤◌}
 use native.Mathlib.Omega.{arith}
+use Rattle.std.specs.Prelude.{Result, Ok, Err}
 use Rattle.module.specs.Module.{Module, BlockHandle}
 use Rattle.module.specs.Decode.{tab, option_of, case_of, statement_of}
 use Rattle.module.specs.Tables.{module_of}
@@ -22,9 +23,9 @@ use Rattle.walk.proofs.Functions.{function_keeps}
 use Rattle.sound.proofs.Walks.{module_sound}
 use Rattle.memory.specs.Memory.{read}
 use Rattle.state.specs.Frame.{frame_of, ArmEnded, ArmEnding}
-use Rattle.state.specs.declared.answer.Answered.{Answered}
-use Rattle.state.specs.declared.answer.Answered.TheVariants.{Went, Halt}
 use Rattle.state.specs.declared.frame.Frame.{Frame}
+use Rattle.state.specs.declared.answer.Halt.{Halt}
+use Rattle.state.specs.declared.answer.Answer.{Answer}
 use Rattle.statement.specs.Leaf.{leaf_req, Arm, Leaves}
 use Rattle.statement.specs.LeafKinds.{LeafKind}
 use Rattle.block.specs.Standing.{rest_in, state_in}
@@ -57,7 +58,7 @@ module _ {bytes t types places s rs open_marks totals : List ℕ} {fr : Frame} {
   abbrev arm_of : ℕ → Out StatementReq
   arm_of k = add_statement m (add_function m) (block_in bytes t f) (frame_of s rs fr) (statement_of k o) st
 
-  abbrev Ends : {B : Type 0} → Out B → (Bool → B) → Answered → (u us open_after totals-after : List ℕ) → Type 0
+  abbrev Ends : {B : Type 0} → Out B → (Bool → B) → Result Answer Halt → (u us open_after totals-after : List ℕ) → Type 0
   Ends total answer r u us open_after totals-after = StatementEnds bytes t types places s rs open_marks totals fr total answer r u us open_after totals-after
 
   arm : Arm bytes t s rs fr row sum
@@ -67,7 +68,7 @@ module _ {bytes t types places s rs open_marks totals : List ℕ} {fr : Frame} {
   pub emit_asks : row.kind ≡ 0 → EmitAsked bytes t places s rs open_marks fr row sum
   emit_asks e = record { arm = arm; kind = e; placed = A.begins.standing.placed; long = A.begins.standing.open_long }
 
-  pub emit_arm : {r : Answered} {open_after : List ℕ} → EmitEnds bytes t places s rs open_marks fr row sum visits r open_after → Ends (marked m (frame_of s rs fr) (arm_of row.kind)) (λ b. b) r s rs open_after totals
+  pub emit_arm : {r : Result Answer Halt} {open_after : List ℕ} → EmitEnds bytes t places s rs open_marks fr row sum visits r open_after → Ends (marked m (frame_of s rs fr) (arm_of row.kind)) (λ b. b) r s rs open_after totals
   emit_arm E = E.by types totals (add_function m) (block_in bytes t f) A.begins.standing
 
   -- a leaf
@@ -96,18 +97,18 @@ module _ {bytes t types places s rs open_marks totals : List ℕ} {fr : Frame} {
         beside = beside_apart A.begins.standing E.apart;
       }
 
-  leaf_ending : (r : Answered) {u us : List ℕ} → ArmEnding bytes t s rs fr (rest_in m t f (read s rs) open_marks totals) (arm_of row.kind) (leaf_req (statement_of row.kind o)) r u us
+  leaf_ending : (r : Result Answer Halt) {u us : List ℕ} → ArmEnding bytes t s rs fr (rest_in m t f (read s rs) open_marks totals) (arm_of row.kind) (leaf_req (statement_of row.kind o)) r u us
       → Ends (arm_of row.kind) (leaf_req (statement_of row.kind o)) r u us open_marks totals
-  leaf_ending (Went tally c) E = record { by = leaf_ended E }
-  leaf_ending (Halt n here) E = record { by = E }
+  leaf_ending (Ok a) E = record { by = leaf_ended E }
+  leaf_ending (Err stop) E = record { by = E }
 
-  pub leaf_ends : (r : Answered) {u us : List ℕ} → Leaves bytes t s rs fr (statement_of row.kind o) visits r u us → Ends (arm_of row.kind) (leaf_req (statement_of row.kind o)) r u us open_marks totals
+  pub leaf_ends : (r : Result Answer Halt) {u us : List ℕ} → Leaves bytes t s rs fr (statement_of row.kind o) visits r u us → Ends (arm_of row.kind) (leaf_req (statement_of row.kind o)) r u us open_marks totals
   leaf_ends r L =
       leaf_ending r (L.by (add_function m) (block_in bytes t f) (rest_in m t f (read s rs) open_marks totals) A.begins.standing.totals-sum).by
 
   -- the marks of a leaf or a holder
-  pub mark_asks : {total : Out StatementReq} (r : Answered) {u us open_after totals-after : List ℕ} → Ends total (leaf_req (statement_of row.kind o)) r u us open_after totals-after → MarkAsked t places open_after fr row r
-  mark_asks (Went tally c) E =
+  pub mark_asks : {total : Out StatementReq} (r : Result Answer Halt) {u us open_after totals-after : List ℕ} → Ends total (leaf_req (statement_of row.kind o)) r u us open_after totals-after → MarkAsked t places open_after fr row r
+  mark_asks (Ok a) E =
       record {
         by = record {
           bytes = bytes;
@@ -119,17 +120,17 @@ module _ {bytes t types places s rs open_marks totals : List ℕ} {fr : Frame} {
           long = E.by.standing.open_long;
         };
       }
-  mark_asks (Halt n here) E = record { by = tt }
+  mark_asks (Err stop) E = record { by = tt }
 
-  pub mark_ends : {r q : Answered} {u us open_after open-last totals-after : List ℕ} → MarkEnds t places open_after fr row r q open-last
+  pub mark_ends : {r q : Result Answer Halt} {u us open_after open-last totals-after : List ℕ} → MarkEnds t places open_after fr row r q open-last
       → Ends (arm_of row.kind) (leaf_req (statement_of row.kind o)) r u us open_after totals-after → Ends (marked m (frame_of s rs fr) (arm_of row.kind)) (λ b. b) q u us open-last totals-after
   mark_ends {u = u} {us = us} {totals-after = totals-after} M E = M.by bytes types s rs open_marks totals u us totals-after (arm_of row.kind) A.begins.begun.statement A.is E
 
-  abbrev As : ℕ → Answered → (u us open_after totals-after : List ℕ) → Type 0
+  abbrev As : ℕ → Result Answer Halt → (u us open_after totals-after : List ℕ) → Type 0
   As k r u us open_after totals-after = Ends (arm_of k) (leaf_req (statement_of k o)) r u us open_after totals-after
 
   -- the holders
-  module _ {r : Answered} {u us open_after totals-after : List ℕ} where
+  module _ {r : Result Answer Halt} {u us open_after totals-after : List ℕ} where
     pub nested_arm : row.kind ≡ 1 → Ends (add_nested (block_in bytes t f) (frame_of s rs fr) (o 0) st) StatementReq.BlockStmt r u us open_after totals-after → As row.kind r u us open_after totals-after
     unfolding statement_of add_statement leaf_req
     nested_arm e E = subst (λ (k : ℕ). As k r u us open_after totals-after) (sym e) E

@@ -6,7 +6,8 @@ use mathlib.Core.Bool.{Bool, true, false, not}
 use mathlib.Core.List.{List, [], ◌∷◌}
 use lib.ListN.{length, get_or, set}
 use lib.Seq.{get_or-set_other}
-use Rattle.std.specs.Prelude.{Option, Some, None}
+use borrow.Author.Tests.{not-true, not-false}
+use Rattle.std.specs.Prelude.{Option, Some, None, Result, Ok, Err}
 use Rattle.field.specs.Limits.{max_arguments}
 use Rattle.part.specs.PartReq.{PartReq, none, Subpart, there, entries}
 use Rattle.part.specs.Store.{part}
@@ -36,11 +37,10 @@ use Rattle.marks.proofs.Buffers.{own_fits}
 use Rattle.state.specs.State.{Rest, records_in, state_of, totals_sum}
 use Rattle.state.specs.Ready.{Ready}
 use Rattle.state.specs.Frame.{frame_of, Apart, ArmEnded, ArmEnds}
-use Rattle.state.specs.declared.answer.Answered.{Answered}
-use Rattle.state.specs.declared.answer.Answered.TheVariants.{Went, Halt}
 use Rattle.state.specs.declared.answer.Tally.{Tally}
-use Rattle.state.specs.declared.answer.Place.{Place}
 use Rattle.state.specs.declared.frame.Frame.{Frame}
+use Rattle.state.specs.declared.answer.Halt.{Halt}
+use Rattle.state.specs.declared.answer.Answer.{Answer}
 use Rattle.statement.specs.Aside.{aside_slots, Loading}
 use Rattle.statement.proofs.Holding.{Holdable, hold_ready, hold_state, hold_totals, hold_apart, hold_part}
 use Rattle.statement.proofs.Uses.{in_function}
@@ -58,20 +58,12 @@ use Rattle.arms.proofs.Marking.{written_state, written_standing, written_beside}
 pub result-held : {found : Option ℕ} {n : ℕ} (rs : List ℕ) → found ≡ Some n → (true ≡ was_found found) × (set rs result n ≡ aside_slots rs result found)
 result-held rs e = rw e (refl, refl)
 
-pub call_marked : {r : Answered} {tally : Tally} {b : Bool} {after : List ℕ} (open_marks : List ℕ) (at : ℕ) (asked : Bool) → r ≡ Went tally b
-    → after ≡ write_marks open_marks at (mark b ∷ mark asked ∷ []) → (Went tally b ≡ r) × (after ≡ call_marks open_marks at asked r)
+pub call_marked : {r : Result Answer Halt} {tally : Tally} {b : Bool} {after : List ℕ} (open_marks : List ℕ) (at : ℕ) (asked : Bool) → r ≡ Ok (record { tally = tally; required = b })
+    → after ≡ write_marks open_marks at (mark b ∷ mark asked ∷ []) → (Ok (record { tally = tally; required = b }) ≡ r) × (after ≡ call_marks open_marks at asked r)
 call_marked open_marks at asked e h = rw e (refl, h)
 
-pub call_halted : {r : Answered} {n : ℕ} {place : Place} (open_marks : List ℕ) (at : ℕ) (asked : Bool) → r ≡ Halt n place → (Halt n place ≡ r) × (open_marks ≡ call_marks open_marks at asked r)
+pub call_halted : {r : Result Answer Halt} {stop : Halt} (open_marks : List ℕ) (at : ℕ) (asked : Bool) → r ≡ Err stop → (Err stop ≡ r) × (open_marks ≡ call_marks open_marks at asked r)
 call_halted open_marks at asked e = rw e (refl, refl)
-
-not-required : (r : Bool) → not r ≡ true → r ≡ false
-not-required true h = sym h
-not-required false h = refl
-
-is-required : (r : Bool) → not r ≡ false → r ≡ true
-is-required true h = refl
-is-required false h = sym h
 
 there_is : (s : List ℕ) (found : Option ℕ) → was_found found ≡ is_there (found_part s found)
 unfolding is_there
@@ -162,10 +154,10 @@ module _ {bytes t places s rs open_marks : List ℕ} {fr : Frame} {row : Kinded}
         )
 
     pub not-returned : {after : List ℕ} (req : Bool) → not req ≡ true → after ≡ write_marks open_marks k (mark false ∷ mark false ∷ [])
-        → Returned bytes t places s rs open_marks fr row req visits sum (Went (record { visits = visits; sum = sum }) false) s rs after
+        → Returned bytes t places s rs open_marks fr row req visits sum (Ok (record { tally = (record { visits = visits; sum = sum }); required = false })) s rs after
     unfolding end_call required own_marks
     not-returned req unneeded e =
-        rw (not-required req unneeded, e)
+        rw (not-true req unneeded, e)
         (record {
           by = λ types totals S. record {
             by = record {
@@ -207,12 +199,12 @@ module _ {bytes t places s rs open_marks : List ℕ} {fr : Frame} {row : Kinded}
             beside = beside_then fr.at (beside_apart S a) (written_beside T q.statement (StatementReq.Call b (is_there need)) (marks_two b (is_there need)) k place) (omega arith);
           }
 
-      returned_by : {types totals : List ℕ} (S : Standing bytes t types places s rs open_marks totals f fr.at fr.held sum visits) (r : Answered) {u us after : List ℕ}
+      returned_by : {types totals : List ℕ} (S : Standing bytes t types places s rs open_marks totals f fr.at fr.held sum visits) (r : Result Answer Halt) {u us after : List ℕ}
           → after ≡ call_marks open_marks k (is_there need) r
           → ArmEnds bytes t s vs fr (rest_in def t f (read s rs) open_marks totals) (Whole true totals) (λ x. StatementReq.Call x (is_there need)) r u us
           → StatementEnds bytes t types places s rs open_marks totals fr (marked def (frame_of s rs fr) (Whole true totals)) (λ x. x) r u us after totals
-      returned_by S (Went tally b) e E = rw e (record { by = went_returned S tally b E.by })
-      returned_by S (Halt n at) e E = record {
+      returned_by S (Ok a) e E = rw e (record { by = went_returned S a.tally a.required E.by })
+      returned_by S (Err stop) e E = record {
         by = sym (then_halt (λ ended req. went (with_marks (write_marks ended.marks (marks_before (function_at def f).statements fr.statement) (own_marks req)) ended) (required req)) (sym E.by));
       }
 
@@ -245,12 +237,12 @@ module _ {bytes t places s rs open_marks : List ℕ} {fr : Frame} {row : Kinded}
         args = record { count = length (function_at def q.callee).arguments; are = rw in_slot.returned_same q.args };
       }
 
-      pub call_returned : {b : Bool} {a r : Answered} {u us after : List ℕ} (req : Bool) → not req ≡ false → b ≡ was_found found → EndsCall bytes t s vs fr row b visits r u us
+      pub call_returned : {b : Bool} {a r : Result Answer Halt} {u us after : List ℕ} (req : Bool) → not req ≡ false → b ≡ was_found found → EndsCall bytes t s vs fr row b visits r u us
           → (a ≡ r) × (after ≡ call_marks open_marks k b r) → Returned bytes t places s rs open_marks fr row req visits sum a u us after
       call_returned {b} {a} {r} {u} {us} {after} req needed is E h =
           let there-need : b ≡ is_there need = is ∙ there_is s found ∙ ap is_there need-is in
           let asked : requested s vs b ≡ need = ap (requested s vs) is ∙ in_slot.requested_is ∙ need-is in
-          rw (is-required req needed, h.0)
+          rw (not-false req needed, h.0)
           (record {
             by = λ types totals S.
                 let rest : Rest = rest_in def t f (read s rs) open_marks totals in

@@ -6,6 +6,8 @@ use mathlib.Core.Bool.{Bool, false}
 use mathlib.Core.List.{List}
 use mathlib.Core.Option.{Option}
 use lib.ListN.{length, get_or, replicate}
+use Rattle.std.specs.Prelude.{Result, Ok, Err}
+use Rattle.field.specs.Refusal.{number}
 use Rattle.field.specs.Limits.{max_pieces}
 use Rattle.part.specs.PartReq.{PartReq, Subpart, all, exist, none, more, entries, over, spine}
 use Rattle.part.specs.Store.{part}
@@ -39,11 +41,10 @@ use Rattle.memory.proofs.Runs.{context_put}
 use Rattle.marks.specs.Places.{start_in, size_in}
 use Rattle.state.specs.State.{records_in, place_of}
 use Rattle.state.specs.Frame.{frame_of}
-use Rattle.state.specs.declared.answer.Answered.{Answered}
-use Rattle.state.specs.declared.answer.Answered.TheVariants.{Went, Halt}
 use Rattle.state.specs.declared.answer.Tally.{Tally}
-use Rattle.state.specs.declared.answer.Place as declared
 use Rattle.state.specs.declared.frame.Frame.{Frame}
+use Rattle.state.specs.declared.answer.Halt.{Halt}
+use Rattle.state.specs.declared.answer.Answer.{Answer}
 use Rattle.state.proofs.Own.{fits, records_there}
 use Rattle.call.specs.Calls.{frame_over, arguments_of}
 use Rattle.leave.specs.Leave.{own_in, Leaving}
@@ -192,17 +193,17 @@ module _ {bytes t types places s rs open_marks totals : List ℕ} {fr : Frame} {
         (function_from m (o 0) (here (frame_of s rs fr)) (held_by t s rs f at fr.held) st.context.globals (retval_of need) base st
         (function_is bytes m standing.ready.was_read.module_is (o 0) (here (frame_of s rs fr)) (held_by t s rs f at fr.held) st.context.globals (retval_of need)))
 
-    module _ {r : Answered} {v vs open-2 totals-2 : List ℕ} (F : FunctionEnds bytes t types places u us open-1 totals g (at + 4) held Called r v vs open-2 totals-2) where
-      pub call_stops : {n : ℕ} {place : declared.Place} → r ≡ Halt n place
-          → StatementEnds bytes t types places s rs open_marks totals fr (marked m (frame_of s rs fr) Whole) (λ x. x) (Halt n place) v vs open-2 totals-2
-      call_stops {n} {place} e =
-          let h : halt n (place_of place) ≡ Called = (rw e at F).by in
+    module _ {r : Result Answer Halt} {v vs open-2 totals-2 : List ℕ} (F : FunctionEnds bytes t types places u us open-1 totals g (at + 4) held Called r v vs open-2 totals-2) where
+      pub call_stops : {stop : Halt} → r ≡ Err stop
+          → StatementEnds bytes t types places s rs open_marks totals fr (marked m (frame_of s rs fr) Whole) (λ x. x) (Err stop) v vs open-2 totals-2
+      call_stops {stop} e =
+          let h : halt (number stop.refusal) (place_of stop.place) ≡ Called = (rw e at F).by in
           record {
             by = sym (then_halt (λ ended req. went (with_marks (write_marks ended.marks (marks_before (function_at m f).statements fr.statement) (own_marks req)) ended) (required req))
                 (whole_is ∙ call-halt m (add_function m) (frame_of s rs fr) (o 0) (arguments_of bytes row (o 1)) (result_of bytes row) st (h ∙ called_is)));
           }
 
-      module _ {tally : Tally} {req : Bool} (e : r ≡ Went tally req) where
+      module _ {tally : Tally} {req : Bool} (e : r ≡ Ok (record { tally = tally; required = req })) where
         ended : FunctionEnded bytes t types places u us open-1 totals g (at + 4) held Called tally.visits tally.sum req v vs open-2 totals-2
         ended = (rw e at F).by
 
@@ -305,7 +306,7 @@ module _ {bytes t types places s rs open_marks totals : List ℕ} {fr : Frame} {
               ∙ end_same m (arguments_of bytes row (o 1)) (result_of bytes row) req frame_back (ap (λ (es : Records). record_of es (result_of bytes row)) (sym records_back))
               (ap (λ (k : ℕ). get_or (read v vs) (k + 2) none) eight ∙ sym args_back) (sym back-state)
 
-          pub call_ended : {a : Answered} {x xs open-3 : List ℕ} → Returned bytes t places v ws open-2 fr row req tally.visits n a x xs open-3
+          pub call_ended : {a : Result Answer Halt} {x xs open-3 : List ℕ} → Returned bytes t places v ws open-2 fr row req tally.visits n a x xs open-3
               → StatementEnds bytes t types places s rs open_marks totals fr (marked m (frame_of s rs fr) Whole) (λ x. x) a x xs open-3 totals-2
           call_ended {a} R =
               ends_from a back_beside (sym (ap (λ (y : Out StatementReq). marked m (frame_of s rs fr) y) whole_ends)) (R.by types totals-2 back_standing)

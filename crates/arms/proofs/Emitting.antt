@@ -5,6 +5,7 @@ use mathlib.Core.List.{List}
 use Prim.Native.Nat.{ℕ, suc, ◌+◌, ◌-◌, ◌<◌, ◌≤◌}
 use native.Mathlib.Omega.{arith}
 use lib.ListN.{length, get_or}
+use Rattle.std.specs.Prelude.{Ok}
 use Rattle.module.specs.Module.{Emit, Function}
 use Rattle.module.specs.Marks.{mark_count}
 use Rattle.module.specs.Decode.{statement_of}
@@ -23,7 +24,6 @@ use Rattle.marks.proofs.Turns.{emit_long}
 use Rattle.marks.proofs.Buffers.{own_fits, emit_recorded}
 use Rattle.state.specs.State.{records_in}
 use Rattle.state.specs.Frame.{frame_of}
-use Rattle.state.specs.declared.answer.Answered.TheVariants.{Went}
 use Rattle.state.specs.declared.frame.Frame.{Frame}
 use Rattle.statement.proofs.Uses.{arm_statement, arm_uses}
 use Rattle.block.specs.Standing.{state_in, Standing}
@@ -94,7 +94,7 @@ module _ {bytes t places s rs open_marks : List ℕ} {fr : Frame} {row : Kinded}
           (emit_recorded bytes t s rs f (o 0) (suc (o 1) - o 0) A.arm.begun.ready.was_read A.arm.begun.ready.function A.arm.begun.ready.memory (omega (arith, emit_uses.0, emit_uses.1)))
 
       pub emit_ends : {open_after : List ℕ} {r : Bool} (visits : ℕ) → (open_after ≡ write_marks open_marks place marks) × (r ≡ any (recorded_in rs (exprs_slot + from) n))
-          → EmitEnds bytes t places s rs open_marks fr row sum visits (Went (record { visits = visits; sum = sum }) r) open_after
+          → EmitEnds bytes t places s rs open_marks fr row sum visits (Ok (record { tally = (record { visits = visits; sum = sum }); required = r })) open_after
       unfolding own_marks required add_statement
       emit_ends {open_after} {r} visits w = record {
         by = λ types totals call block S.

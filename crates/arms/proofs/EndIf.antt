@@ -6,6 +6,8 @@ use mathlib.Core.Path.{◌≡◌, refl, sym, ap, ◌∙◌}
 use mathlib.Core.Bool.{Bool, true, false}
 use mathlib.Core.List.{List}
 use lib.ListN.{length}
+use Rattle.std.specs.Prelude.{Result, Ok, Err}
+use Rattle.field.specs.declared.refusal.Refusal.TheVariants.{PartLimit}
 use Rattle.part.specs.PartReq.{all}
 use Rattle.part.specs.Store.{Room}
 use Rattle.module.specs.Module.{Module, FunctionHandle, ExpressionHandle}
@@ -22,12 +24,11 @@ use Rattle.memory.specs.Want.{asked, Wants, want_of}
 use Rattle.memory.proofs.Slots.{asked-slot}
 use Rattle.state.specs.Ready.{Ready, Ends}
 use Rattle.state.specs.Frame.{frame_of}
-use Rattle.state.specs.declared.answer.Answered.{Answered}
-use Rattle.state.specs.declared.answer.Answered.TheVariants as answered
 use Rattle.state.specs.declared.answer.Place.TheVariants as place
-use Rattle.state.specs.declared.answer.Walked.{Walked}
-use Rattle.state.specs.declared.answer.Walked.TheVariants.{Went, Halt}
 use Rattle.state.specs.declared.frame.Frame.{Frame}
+use Rattle.state.specs.declared.answer.Halt.{Halt}
+use Rattle.state.specs.declared.answer.Tally.{Tally}
+use Rattle.state.specs.declared.answer.Answer.{Answer}
 use Rattle.expression.specs.Walks.{Walks}
 use Rattle.statement.specs.Asks.{answer_of}
 use Rattle.statement.proofs.Asking.{slot_wants}
@@ -95,10 +96,10 @@ module _ {bytes t types places s rs open_marks totals : List ℕ} {fr : Frame} {
     abbrev Ending : Bool → Out StatementReq
     Ending required = end_in bytes t s rs open_marks totals fr condition required visits
 
-    abbrev Ended : Bool → Answered → (u us : List ℕ) → Type 0
+    abbrev Ended : Bool → Result Answer Halt → (u us : List ℕ) → Type 0
     Ended required r u us = StatementEnds bytes t types places s rs open_marks totals fr (Ending required) StatementReq.If r u us open_marks totals
 
-    if_dropped : {us : List ℕ} → BothDropped rs at us → Ended false (answered.Went (record { visits = visits; sum = sum }) false) s us
+    if_dropped : {us : List ℕ} → BothDropped rs at us → Ended false (Ok (record { tally = (record { visits = visits; sum = sum }); required = false })) s us
     if_dropped D =
         let d = dropped B D StatementReq.If in
         record {
@@ -106,7 +107,7 @@ module _ {bytes t types places s rs open_marks totals : List ℕ} {fr : Frame} {
         }
 
     module _ {r : Bool} {x xs : List ℕ} (J : JoinedUp s rs at r x xs) where
-      if_limit : r ≡ true → Ended true (answered.Halt 15 (place.Statement fr.function fr.statement)) x xs
+      if_limit : r ≡ true → Ended true (Err (record { refusal = PartLimit; place = place.Statement fr.function fr.statement })) x xs
       if_limit e = record { by = sym (if_over m (frame_of s rs fr) condition outer first rejected (sym e ∙ J.joined.over)) }
 
       -- the condition is asked
@@ -117,18 +118,18 @@ module _ {bytes t types places s rs open_marks totals : List ℕ} {fr : Frame} {
             ∙ ap (λ (st : State). ask m (frame_of s rs fr) condition all st >> λ left. went left (StatementReq.If true)) (up_state J e)
             ∙ sym (if_asks m (frame_of s rs fr) condition outer first rejected (sym e ∙ J.joined.over))
 
-        if_answers : (w : Walked) {y ys : List ℕ} → Ends bytes t f at fr.held x xs (rest_in m t f (read x xs) open_marks totals) (Asks (up J e) condition all) w y ys
+        if_answers : (w : Result Tally Halt) {y ys : List ℕ} → Ends bytes t f at fr.held x xs (rest_in m t f (read x xs) open_marks totals) (Asks (up J e) condition all) w y ys
             → Ended true (answer_of w true) y ys
-        if_answers (Went tally) E = record {
+        if_answers (Ok tally) E = record {
           by = record {
             is = if_then (asked_state (up J e) condition all E.by);
             standing = asked_standing (up J e) condition all E.by fine_all;
             beside = beside_then at (up_beside J e) (asked_beside (up J e) condition all E.by) (le_refl at);
           };
         }
-        if_answers (Halt n place) E = record { by = if_then E.by }
+        if_answers (Err stop) E = record { by = if_then E.by }
 
-        if_asked : (w : Walked) {y ys : List ℕ} → Walks bytes t f at fr.held x xs (add_expression m f fr.held condition (asked x xs (want_of all_slot))) visits w y ys
+        if_asked : (w : Result Tally Halt) {y ys : List ℕ} → Walks bytes t f at fr.held x xs (add_expression m f fr.held condition (asked x xs (want_of all_slot))) visits w y ys
             → Ended true (answer_of w true) y ys
         if_asked w W =
             if_answers w (rw (asked-slot x xs all_slot, (up J e).ready.memory.first) at (W.by (rest_in m t f (read x xs) open_marks totals) (up J e).totals-sum))
@@ -150,14 +151,14 @@ module _ {bytes t s rs : List ℕ} {fr : Frame} {sum visits : ℕ} (I : IfAsked 
 
   module _ {condition : ExpressionHandle} {required : Bool} where
     pub ends_dropped : required ≡ false → {us : List ℕ} → BothDropped rs fr.at us
-        → IfEnds bytes t s rs fr condition required sum visits (answered.Went (record { visits = visits; sum = sum }) false) s us
+        → IfEnds bytes t s rs fr condition required sum visits (Ok (record { tally = (record { visits = visits; sum = sum }); required = false })) s us
     ends_dropped e D = rw e (record { by = λ types places open_marks totals B. if_dropped B condition D })
 
     module _ (e : required ≡ true) {over : Bool} {x xs : List ℕ} (J : JoinedUp s rs fr.at over x xs) where
-      pub ends_over : over ≡ true → IfEnds bytes t s rs fr condition required sum visits (answered.Halt 15 (place.Statement fr.function fr.statement)) x xs
+      pub ends_over : over ≡ true → IfEnds bytes t s rs fr condition required sum visits (Err (record { refusal = PartLimit; place = place.Statement fr.function fr.statement })) x xs
       ends_over o = rw e (record { by = λ types places open_marks totals B. if_limit B condition J o })
 
-      pub ends_asked : over ≡ false → (w : Walked) {y ys : List ℕ}
+      pub ends_asked : over ≡ false → (w : Result Tally Halt) {y ys : List ℕ}
           → Walks bytes t fr.function.0 fr.at fr.held x xs (add_expression (module_of bytes t) fr.function.0 fr.held condition (asked x xs (want_of all_slot))) visits w y ys
           → IfEnds bytes t s rs fr condition required sum visits (answer_of w true) y ys
       ends_asked o w W = rw e (record { by = λ types places open_marks totals B. if_asked B condition J o w W })

@@ -6,6 +6,7 @@ use mathlib.Core.Path.{◌≡◌, sym, ap, subst, ◌∙◌}
 use mathlib.Core.Bool.{Bool, true, false}
 use mathlib.Core.List.{List}
 use lib.ListN.{length}
+use Rattle.std.specs.Prelude.{Result, Ok, Err}
 use Rattle.field.specs.Limits.{max_pieces, max_turns}
 use Rattle.module.specs.Module.{Module, BlockHandle}
 use Rattle.module.specs.Decode.{option_of, statement_of}
@@ -23,13 +24,10 @@ use Rattle.memory.specs.Layout.{stack_slot}
 use Rattle.memory.specs.Memory.{read, sum_from, context_at}
 use Rattle.memory.proofs.Runs.{context_pieces}
 use Rattle.state.specs.Frame.{frame_of}
-use Rattle.state.specs.declared.answer.Place.{Place}
 use Rattle.state.specs.declared.answer.Tally.{Tally}
-use Rattle.state.specs.declared.answer.Walked.{Walked}
-use Rattle.state.specs.declared.answer.Walked.TheVariants as walked
-use Rattle.state.specs.declared.answer.Answered.{Answered}
-use Rattle.state.specs.declared.answer.Answered.TheVariants.{Went, Halt}
 use Rattle.state.specs.declared.frame.Frame.{Frame}
+use Rattle.state.specs.declared.answer.Halt.{Halt}
+use Rattle.state.specs.declared.answer.Answer.{Answer}
 use Rattle.marks.specs.Ray.{held_count, held_number}
 use Rattle.marks.proofs.Rays.{held_block}
 use Rattle.statement.proofs.Uses.{arm_uses}
@@ -128,14 +126,14 @@ module _ {bytes t types places s rs open_marks totals : List ℕ} {fr : Frame} {
           ∙ rw (body, continuing, outer)
 
       -- both blocks are walked
-      module _ {r : Answered} {u us open-1 totals-1 : List ℕ} (E : PairEnds bytes t types places s rs open_marks totals f fr.at (fr.at + 4) (fr.held + n) Pair r u us open-1 totals-1) where
-        ending : {q : Answered} → r ≡ q → PairEnding bytes t types places s rs open_marks totals f fr.at (fr.at + 4) (fr.held + n) Pair q u us open-1 totals-1
-        ending is = subst (λ (q : Answered). PairEnding bytes t types places s rs open_marks totals f fr.at (fr.at + 4) (fr.held + n) Pair q u us open-1 totals-1) is E.by
+      module _ {r : Result Answer Halt} {u us open-1 totals-1 : List ℕ} (E : PairEnds bytes t types places s rs open_marks totals f fr.at (fr.at + 4) (fr.held + n) Pair r u us open-1 totals-1) where
+        ending : {q : Result Answer Halt} → r ≡ q → PairEnding bytes t types places s rs open_marks totals f fr.at (fr.at + 4) (fr.held + n) Pair q u us open-1 totals-1
+        ending is = subst (λ (q : Result Answer Halt). PairEnding bytes t types places s rs open_marks totals f fr.at (fr.at + 4) (fr.held + n) Pair q u us open-1 totals-1) is E.by
 
-        pub loop_halts : {k : ℕ} {place : Place} → r ≡ Halt k place → StatementEnds bytes t types places s rs open_marks totals fr Total StatementReq.Loop (Halt k place) u us open-1 totals-1
+        pub loop_halts : {stop : Halt} → r ≡ Err stop → StatementEnds bytes t types places s rs open_marks totals fr Total StatementReq.Loop (Err stop) u us open-1 totals-1
         loop_halts is = record { by = sym (loop_halt m (block_in bytes t f) (frame_of s rs fr) (o 0) (o 1) (option_of (o 2)) st (ending is ∙ pair_is)) }
 
-        module _ {tally : Tally} {c : Bool} (is : r ≡ Went tally c) where
+        module _ {tally : Tally} {c : Bool} (is : r ≡ Ok (record { tally = tally; required = c })) where
           went_on : PairEnded bytes t types places s rs open_marks totals f fr.at (fr.at + 4) (fr.held + n) Pair tally.visits tally.sum c u us open-1 totals-1
           went_on = ending is
 
@@ -175,10 +173,11 @@ module _ {bytes t types places s rs open_marks totals : List ℕ} {fr : Frame} {
           loop_drops = omega (arith, branched.standing.ready.high)
 
           pub loop_dropped : c ≡ false → {vs : List ℕ} → BothDropped us fr.at vs
-              → StatementEnds bytes t types places s rs open_marks totals fr Total StatementReq.Loop (Went tally false) u vs open-1 totals-1
+              → StatementEnds bytes t types places s rs open_marks totals fr Total StatementReq.Loop (Ok (record { tally = tally; required = c })) u vs open-1 totals-1
           loop_dropped e B =
               let D = dropped branched B StatementReq.Loop in
-              record {
+              rw e
+              (record {
                 by = record {
                   is = D.is
                       ∙ ap (λ (d : RequiredContext). went (with_context d continued) (StatementReq.Loop false)) outer_same
@@ -186,14 +185,14 @@ module _ {bytes t types places s rs open_marks totals : List ℕ} {fr : Frame} {
                   standing = D.standing;
                   beside = beside_then fr.at (beside_fewer fr.at (omega arith) went_on.beside) D.beside (le_refl fr.at);
                 };
-              }
+              })
 
           -- required
           module _ {z : ℕ} (break-if : z ≡ o 2) where
             pub loop_passing : Passing bytes t u us fr z tally.sum tally.visits
             loop_passing = record { types = types; places = places; open_marks = open-1; totals = totals-1; branched = branched; there = rw break-if breaks }
 
-            module _ (required : c ≡ true) {q : Walked} {v vs : List ℕ} (K : PassEnds bytes t u us fr z tally.sum tally.visits q v vs) where
+            module _ (required : c ≡ true) {q : Result Tally Halt} {v vs : List ℕ} (K : PassEnds bytes t u us fr z tally.sum tally.visits q v vs) where
               abbrev Pass : Out RequiredContext
               Pass = end_pass m (frame_of u us fr) (option_of z) (context_at (read u us) fr.at) first continued
 
@@ -204,16 +203,16 @@ module _ {bytes t types places s rs open_marks totals : List ℕ} {fr : Frame} {
                   ∙ ap (λ (d : RequiredContext). end_pass m (frame_of s rs fr) (option_of z) d first continued) outer_same
                   ∙ ap (λ (k : ℕ). end_pass m (frame_of s rs fr) (option_of k) before first continued) break-if
 
-              passing : {p : Walked} → q ≡ p → PassEnding bytes t types places u us open-1 totals-1 fr Pass p v vs
-              passing e = subst (λ (p : Walked). PassEnding bytes t types places u us open-1 totals-1 fr Pass p v vs) e (K.by types places open-1 totals-1 branched)
+              passing : {p : Result Tally Halt} → q ≡ p → PassEnding bytes t types places u us open-1 totals-1 fr Pass p v vs
+              passing e = subst (λ (p : Result Tally Halt). PassEnding bytes t types places u us open-1 totals-1 fr Pass p v vs) e (K.by types places open-1 totals-1 branched)
 
-              pub loop_pass_halts : {k : ℕ} {place : Place} → q ≡ walked.Halt k place
-                  → StatementEnds bytes t types places s rs open_marks totals fr Total StatementReq.Loop (Halt k place) v vs open-1 totals-1
+              pub loop_pass_halts : {stop : Halt} → q ≡ Err stop
+                  → StatementEnds bytes t types places s rs open_marks totals fr Total StatementReq.Loop (Err stop) v vs open-1 totals-1
               loop_pass_halts e = record {
                 by = sym (total_is required ∙ end_halt m (frame_of s rs fr) (option_of (o 2)) before first continued (block_in bytes t f) (o 0) (o 1) (passing e ∙ pass_is));
               }
 
-              module _ {left : Tally} (e : q ≡ walked.Went left) where
+              module _ {left : Tally} (e : q ≡ Ok left) where
                 passed : PassEnded bytes t types places u us open-1 totals-1 fr Pass left.visits left.sum v vs
                 passed = passing e
 
@@ -249,7 +248,7 @@ module _ {bytes t types places s rs open_marks totals : List ℕ} {fr : Frame} {
                     ∙ ap (λ (k : ℕ). turns (block_in bytes t f) (frame_of s rs fr) held (o 0) k working max_turns joined) continuing
                     ∙ sym (total_is required ∙ end_turns m (frame_of s rs fr) (option_of (o 2)) before first continued (block_in bytes t f) (o 0) (o 1) (passed.is ∙ pass_is))
 
-                pub loop_ends : (p : Answered) {w ws open-2 totals-2 : List ℕ}
+                pub loop_ends : (p : Result Answer Halt) {w ws open-2 totals-2 : List ℕ}
                     → StatementEnds bytes t types places v vs open-1 totals-1 fr (turns_in bytes t v vs fr x y max_turns joined) StatementReq.Loop p w ws open-2 totals-2
                     → StatementEnds bytes t types places s rs open_marks totals fr Total StatementReq.Loop p w ws open-2 totals-2
                 loop_ends p T = ends_from p pass_beside turns_are T

@@ -5,6 +5,7 @@ use mathlib.Core.List.{List, [], ◌∷◌}
 use Prim.Native.Nat.{ℕ, suc, ◌+◌, ◌<◌, ◌≤◌}
 use native.Mathlib.Omega.{arith}
 use lib.ListN.{length, get_or}
+use Rattle.std.specs.Prelude.{Result, Ok, Err}
 use Rattle.module.specs.Module.{Module, Statement, Emit, Block, If, Switch, Loop, Break, Continue, Return, Kill, ControlBarrier, MemoryBarrier, ImageAtomic, Store, AtomicStatement, Call, ImageStore, RayQuery, WorkGroupUniformLoad, SubgroupBallot, SubgroupGather, SubgroupCollectiveOperation}
 use Rattle.module.specs.Marks.{mark_count, marks_before}
 use Rattle.module.specs.Decode.{statement_of}
@@ -25,11 +26,10 @@ use Rattle.marks.proofs.Fit.{start_suc}
 use Rattle.marks.proofs.Placed.{at_function}
 use Rattle.marks.proofs.Buffers.{statement_inside, own_fits, own_written}
 use Rattle.state.specs.Frame.{frame_of}
-use Rattle.state.specs.declared.answer.Answered.{Answered}
-use Rattle.state.specs.declared.answer.Answered.TheVariants.{Went, Halt}
-use Rattle.state.specs.declared.answer.Place.{Place}
 use Rattle.state.specs.declared.answer.Tally.{Tally}
 use Rattle.state.specs.declared.frame.Frame.{Frame}
+use Rattle.state.specs.declared.answer.Halt.{Halt}
+use Rattle.state.specs.declared.answer.Answer.{Answer}
 use Rattle.statement.specs.Leaf.{leaf_req}
 use Rattle.statement.proofs.Uses.{in_function, row-statement}
 use Rattle.block.specs.Standing.{state_in, Standing}
@@ -159,18 +159,18 @@ module _ (kind : ℕ) (b : Bool) {has : Bool} (own : (b : Bool) (o : ℕ → ℕ
   counts_one = long_one ∙ sym (own_counts (statement_of kind o) b long_one)
 
 -- `mark_statement`: what it answers
-module _ {t places open_marks : List ℕ} {fr : Frame} {row : Kinded} (r : Answered) where
-  pub mark_halts : {n : ℕ} {here : Place} → r ≡ Halt n here → MarkEnds t places open_marks fr row r (Halt n here) open_marks
+module _ {t places open_marks : List ℕ} {fr : Frame} {row : Kinded} (r : Result Answer Halt) where
+  pub mark_halts : {stop : Halt} → r ≡ Err stop → MarkEnds t places open_marks fr row r (Err stop) open_marks
   mark_halts e = record {
     by = λ bytes types s rs before totals u us totals-after total there is E.
         record {
           by =
               ap (marked (module_of bytes t) (frame_of s rs fr))
-              (subst (λ (x : Answered). StatementEnding bytes t types places s rs before totals fr total (leaf_req (statement_of row.kind (operand_at bytes row))) x u us open_marks totals-after) e E.by);
+              (subst (λ (x : Result Answer Halt). StatementEnding bytes t types places s rs before totals fr total (leaf_req (statement_of row.kind (operand_at bytes row))) x u us open_marks totals-after) e E.by);
         };
   }
 
-  module _ {tally : Tally} {b : Bool} (e : r ≡ Went tally b) {has : Bool} (own : (b : Bool) (o : ℕ → ℕ) → own_marks (leaf_req (statement_of row.kind o) b) ≡ mark_when has b) where
+  module _ {tally : Tally} {b : Bool} (e : r ≡ Ok (record { tally = tally; required = b })) {has : Bool} (own : (b : Bool) (o : ℕ → ℕ) → own_marks (leaf_req (statement_of row.kind o) b) ≡ mark_when has b) where
     module _ (h : has ≡ true) where
       pub mark_fits : {place : ℕ} → MarkAsked t places open_marks fr row r → place ≡ get_or places (statement_number t fr.function.0 fr.statement) 0 → place < length open_marks
       mark_fits {place} A is =
@@ -181,10 +181,10 @@ module _ {t places open_marks : List ℕ} {fr : Frame} {row : Kinded} (r : Answe
           omega (arith, fits, long_one row.kind b own h (operand_at M.bytes row), M.long)
 
       pub mark_one : {place : ℕ} {open_after : List ℕ} {q : Bool} → place ≡ get_or places (statement_number t fr.function.0 fr.statement) 0 → open_after ≡ write_marks open_marks place (mark b ∷ [])
-          → ((o : ℕ → ℕ) → q ≡ required (leaf_req (statement_of row.kind o) b)) → MarkEnds t places open_marks fr row r (Went tally q) open_after
+          → ((o : ℕ → ℕ) → q ≡ required (leaf_req (statement_of row.kind o) b)) → MarkEnds t places open_marks fr row r (Ok (record { tally = tally; required = q })) open_after
       mark_one {place} {open_after} {q} at w answer = record {
         by = λ bytes types s rs before totals u us totals-after total there is E.
-            let W = subst (λ (x : Answered). StatementEnding bytes t types places s rs before totals fr total (leaf_req (statement_of row.kind (operand_at bytes row))) x u us open_marks totals-after) e E.by in
+            let W = subst (λ (x : Result Answer Halt). StatementEnding bytes t types places s rs before totals fr total (leaf_req (statement_of row.kind (operand_at bytes row))) x u us open_marks totals-after) e E.by in
             record {
               by =
                   marked_ended W there (counts_one row.kind b own h (operand_at bytes row) ∙ ap mark_count (sym (row-statement W.standing.ready.was_read W.standing.ready.function there row is))) at
@@ -192,9 +192,9 @@ module _ {t places open_marks : List ℕ} {fr : Frame} {row : Kinded} (r : Answe
             };
       }
 
-    pub mark_none : {q : Bool} → has ≡ false → ((o : ℕ → ℕ) → q ≡ required (leaf_req (statement_of row.kind o) b)) → MarkEnds t places open_marks fr row r (Went tally q) open_marks
+    pub mark_none : {q : Bool} → has ≡ false → ((o : ℕ → ℕ) → q ≡ required (leaf_req (statement_of row.kind o) b)) → MarkEnds t places open_marks fr row r (Ok (record { tally = tally; required = q })) open_marks
     mark_none h answer = record {
       by = λ bytes types s rs before totals u us totals-after total there is E.
-          let W = subst (λ (x : Answered). StatementEnding bytes t types places s rs before totals fr total (leaf_req (statement_of row.kind (operand_at bytes row))) x u us open_marks totals-after) e E.by in
+          let W = subst (λ (x : Result Answer Halt). StatementEnding bytes t types places s rs before totals fr total (leaf_req (statement_of row.kind (operand_at bytes row))) x u us open_marks totals-after) e E.by in
           record { by = unmarked_ended W (rw h at (own b (operand_at bytes row))) (answer (operand_at bytes row)) };
     }

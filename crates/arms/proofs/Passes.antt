@@ -6,7 +6,9 @@ use mathlib.Core.Path.{◌≡◌, refl, sym, ap, subst, ◌∙◌}
 use mathlib.Core.Bool.{Bool, true, false}
 use mathlib.Core.List.{List}
 use lib.ListN.{length}
+use Rattle.std.specs.Prelude.{Result, Ok, Err}
 use Rattle.field.specs.Limits.{absent, max_pieces}
+use Rattle.field.specs.declared.refusal.Refusal.TheVariants.{PartLimit}
 use Rattle.part.specs.PartReq.{PartReq, all}
 use Rattle.part.specs.Store.{Room}
 use Rattle.part.specs.StoreLimits.{entries_cap}
@@ -28,12 +30,10 @@ use Rattle.memory.proofs.Slots.{asked-slot}
 use Rattle.memory.proofs.Runs.{context_pieces}
 use Rattle.state.specs.Ready.{Ready, Ends}
 use Rattle.state.specs.Frame.{frame_of}
-use Rattle.state.specs.declared.answer.Place.{Place}
 use Rattle.state.specs.declared.answer.Place.TheVariants as place
 use Rattle.state.specs.declared.answer.Tally.{Tally}
-use Rattle.state.specs.declared.answer.Walked.{Walked}
-use Rattle.state.specs.declared.answer.Walked.TheVariants.{Went, Halt}
 use Rattle.state.specs.declared.frame.Frame.{Frame}
+use Rattle.state.specs.declared.answer.Halt.{Halt}
 use Rattle.expression.specs.Walks.{Walks}
 use Rattle.statement.proofs.Asking.{slot_wants, below_there}
 use Rattle.block.specs.Standing.{rest_in, state_in, Standing}
@@ -64,7 +64,7 @@ module _ {bytes t s rs : List ℕ} {fr : Frame} {e sum visits : ℕ} (P : Passin
   pub first_weighs : Memory s rs × ((fr.at + 4 + 4 ≤ length rs) × (sum_from (read s rs) (fr.at + 4) 4 ≤ entries_cap))
   first_weighs = let B = P.branched in (B.standing.ready.memory, (omega (arith, B.standing.ready.high), omega (arith, B.first_few, context_pieces (read s rs) (fr.at + 4))))
 
-  pub break_absent : e ≡ absent → BreakEnds bytes t s rs fr e sum visits (Went (record { visits = visits; sum = sum })) s rs
+  pub break_absent : e ≡ absent → BreakEnds bytes t s rs fr e sum visits (Ok (record { visits = visits; sum = sum })) s rs
   break_absent h = record {
     by = λ types places open_marks totals B.
         rw (optional_absent m (holding (context_in s rs (fr.at + 4) + context_in s rs (fr.at + 4 + 4)) (frame_of s rs fr)) e all (state_in bytes t s rs open_marks totals fr.function.0 fr.at visits) h)
@@ -90,11 +90,11 @@ module _ {bytes t s rs : List ℕ} {fr : Frame} {e sum visits : ℕ} (P : Passin
           (below_there (length (function_at m fr.function.0).expressions) e h P.there, rw is (slot_wants B.standing.ready.memory 0 (omega arith))),
         )
 
-    ends : {types places open_marks totals : List ℕ} (B : Branched bytes t types places s rs open_marks totals fr sum visits) (r : Walked) {u us : List ℕ}
+    ends : {types places open_marks totals : List ℕ} (B : Branched bytes t types places s rs open_marks totals fr sum visits) (r : Result Tally Halt) {u us : List ℕ}
         → Ends bytes t fr.function.0 fr.at (fr.held + (context_in s rs (fr.at + 4) + context_in s rs (fr.at + 4 + 4))) s rs
         (rest_in m t fr.function.0 (read s rs) open_marks totals) (HeldAsks fr.at fr.held B.standing B.low e all) r u us
         → BreakEnding bytes t types places s rs open_marks totals fr (HeldAsks fr.at fr.held B.standing B.low e all) r u us
-    ends B (Went tally) x =
+    ends B (Ok tally) x =
         let E = x.by in
         let S = B.standing in
         record {
@@ -113,9 +113,9 @@ module _ {bytes t s rs : List ℕ} {fr : Frame} {e sum visits : ℕ} (P : Passin
           second = held_second fr.at fr.held S B.low e all E;
           beside = held_beside fr.at fr.held S B.low e all E;
         }
-    ends B (Halt n place) x = x.by
+    ends B (Err stop) x = x.by
 
-    pub break_asked : (e ≡ absent → ⊥) → {w : Want} → w ≡ want_of 0 → {r : Walked} {u us : List ℕ}
+    pub break_asked : (e ≡ absent → ⊥) → {w : Want} → w ≡ want_of 0 → {r : Result Tally Halt} {u us : List ℕ}
         → Walks bytes t fr.function.0 fr.at (fr.held + (a + b)) s rs (add_expression m fr.function.0 (fr.held + (a + b)) e (asked s rs w)) visits r u us
         → BreakEnds bytes t s rs fr e sum visits r u us
     break_asked h {w} is {r} {u} {us} W = record {
@@ -128,20 +128,20 @@ module _ {bytes t s rs : List ℕ} {fr : Frame} {e sum visits : ℕ} (P : Passin
     }
 
   -- and then the join
-  module _ {r : Walked} {u us : List ℕ} (E : BreakEnds bytes t s rs fr e sum visits r u us) where
-    pub pass_halts : {n : ℕ} {at : Place} → r ≡ Halt n at → PassEnds bytes t s rs fr e sum visits (Halt n at) u us
+  module _ {r : Result Tally Halt} {u us : List ℕ} (E : BreakEnds bytes t s rs fr e sum visits r u us) where
+    pub pass_halts : {stop : Halt} → r ≡ Err stop → PassEnds bytes t s rs fr e sum visits (Err stop) u us
     pass_halts is = record {
       by = λ types places open_marks totals B.
           pass_halt m (frame_of s rs fr) (option_of e) (context_at (read s rs) fr.at) (context_at (read s rs) (fr.at + 4))
           (state_in bytes t s rs open_marks totals fr.function.0 (fr.at + 4 + 4) visits)
-          (subst (λ (x : Walked). BreakEnding bytes t types places s rs open_marks totals fr (Asks open_marks totals) x u us) is (E.by types places open_marks totals B));
+          (subst (λ (x : Result Tally Halt). BreakEnding bytes t types places s rs open_marks totals fr (Asks open_marks totals) x u us) is (E.by types places open_marks totals B));
     }
 
-    module _ {tally : Tally} (is : r ≡ Went tally) where
+    module _ {tally : Tally} (is : r ≡ Ok tally) where
       goes : (types places open_marks totals : List ℕ) (B : Branched bytes t types places s rs open_marks totals fr sum visits)
           → BreakEnded bytes t types places s rs open_marks totals fr (Asks open_marks totals) tally.visits tally.sum u us
       goes types places open_marks totals B =
-          subst (λ (x : Walked). BreakEnding bytes t types places s rs open_marks totals fr (Asks open_marks totals) x u us) is (E.by types places open_marks totals B)
+          subst (λ (x : Result Tally Halt). BreakEnding bytes t types places s rs open_marks totals fr (Asks open_marks totals) x u us) is (E.by types places open_marks totals B)
 
       left : Branched bytes t P.types P.places u us P.open_marks P.totals fr tally.sum tally.visits
       left = (goes P.types P.places P.open_marks P.totals P.branched).branched
@@ -154,7 +154,7 @@ module _ {bytes t s rs : List ℕ} {fr : Frame} {e sum visits : ℕ} (P : Passin
           )
 
       module _ {b : Bool} {x xs : List ℕ} (J : Joined u us (fr.at + 4) b x xs) where
-        pub pass_limit : b ≡ true → PassEnds bytes t s rs fr e sum visits (Halt 15 (place.Statement fr.function fr.statement)) x xs
+        pub pass_limit : b ≡ true → PassEnds bytes t s rs fr e sum visits (Err (record { refusal = PartLimit; place = place.Statement fr.function fr.statement })) x xs
         pass_limit o = record {
           by = λ types places open_marks totals B.
               let K = goes types places open_marks totals B in
@@ -209,5 +209,5 @@ module _ {bytes t s rs : List ℕ} {fr : Frame} {e sum visits : ℕ} (P : Passin
                 beside = beside_then fr.at (beside_then (fr.at + 4) K.beside beside (omega arith)) (beside_same T.long T.same) (le_refl fr.at);
               }
 
-          pub pass_went : {v vs : List ℕ} → Tidied x xs v vs → PassEnds bytes t s rs fr e sum visits (Went tally) v vs
+          pub pass_went : {v vs : List ℕ} → Tidied x xs v vs → PassEnds bytes t s rs fr e sum visits (Ok tally) v vs
           pass_went T = record { by = λ types places open_marks totals B. ended B T }

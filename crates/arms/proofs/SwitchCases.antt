@@ -7,7 +7,10 @@ use mathlib.Core.Path.{◌≡◌, refl, sym, ap, subst, ◌∙◌}
 use mathlib.Core.Bool.{Bool, true, false, ◌||◌}
 use mathlib.Core.List.{List}
 use lib.ListN.{length, get_or}
+use Rattle.std.specs.Prelude.{Result, Ok, Err}
+use Rattle.field.specs.Refusal.{number}
 use Rattle.field.specs.Limits.{max_pieces}
+use Rattle.field.specs.declared.refusal.Refusal.TheVariants.{PartLimit}
 use Rattle.module.specs.Module.{BlockHandle, Module, SwitchCase}
 use Rattle.module.specs.Decode.{tab, case_of, statement_of}
 use Rattle.module.specs.Tables.{module_of}
@@ -31,9 +34,9 @@ use Rattle.state.specs.Frame.{frame_of}
 use Rattle.state.specs.declared.answer.Tally.{Tally}
 use Rattle.state.specs.declared.answer.Place.{Place}
 use Rattle.state.specs.declared.answer.Place.TheVariants as position
-use Rattle.state.specs.declared.answer.Answered.{Answered}
-use Rattle.state.specs.declared.answer.Answered.TheVariants.{Went, Halt}
 use Rattle.state.specs.declared.frame.Frame.{Frame}
+use Rattle.state.specs.declared.answer.Halt.{Halt}
+use Rattle.state.specs.declared.answer.Answer.{Answer}
 use Rattle.statement.proofs.Uses.{arm_uses}
 use Rattle.block.specs.Saved.{Saved}
 use Rattle.block.specs.Standing.{state_in, Standing}
@@ -179,7 +182,7 @@ module _ {bytes t types places s rs open_marks totals : List ℕ} {fr : Frame} {
       there = rw e (selector_there kind);
     }
 
-    pub switch_whole : {selector : ℕ} {r : Answered} {x xs : List ℕ} → n ≡ 0 → selector ≡ o 0 → SwitchEnds bytes t u us fr selector any m' v r x xs
+    pub switch_whole : {selector : ℕ} {r : Result Answer Halt} {x xs : List ℕ} → n ≡ 0 → selector ≡ o 0 → SwitchEnds bytes t u us fr selector any m' v r x xs
         → StatementEnds bytes t types places s rs open_marks totals fr Switching StatementReq.Switch r x xs open-1 totals-1
     switch_whole {selector} {r} z e E =
         let rest : went st any ≡ Whole =
@@ -248,25 +251,25 @@ module _ {bytes t types places s rs open_marks totals : List ℕ} {fr : Frame} {
         halts place h = sym (switch_halt m block frame (o 0) cases begun (h ∙ from_rest))
 
         -- the case was walked
-        module _ {r : Answered} {w ws open-2 totals-2 : List ℕ}
+        module _ {r : Result Answer Halt} {w ws open-2 totals-2 : List ℕ}
             (E : BlockEnds bytes t types places u us open-1 totals-1 f at (at + 8) (outside + more) (outside + more + context_in u us at) m' (Code (at + 8) (outside + more)) r w ws open-2 totals-2) where
           walked : BlockEnds bytes t types places u us open-1 totals-1 f at (at + 4 + 4) held (held + context_in u us at) m' (Code (at + 4 + 4) held) r w ws open-2 totals-2
           walked =
               subst (λ (h : ℕ). BlockEnds bytes t types places u us open-1 totals-1 f at (at + 4 + 4) h (h + context_in u us at) m' (Code (at + 4 + 4) h) r w ws open-2 totals-2) (sym held_is)
               (subst (λ (p : ℕ). BlockEnds bytes t types places u us open-1 totals-1 f at p (outside + more) (outside + more + context_in u us at) m' (Code p (outside + more)) r w ws open-2 totals-2) (sym eight) E)
 
-          pub case_halts : {x : ℕ} {place : Place} → r ≡ Halt x place
-              → StatementEnds bytes t types places s rs open_marks totals fr Switching StatementReq.Switch (Halt x place) w ws open-2 totals-2
-          case_halts {x} {place} e =
-              let h : halt x (place_of place) ≡ Code (at + 4 + 4) held =
-              subst (λ (a : Answered). BlockEnding bytes t types places u us open-1 totals-1 f at (at + 4 + 4) held (held + context_in u us at) m' (Code (at + 4 + 4) held) a w ws open-2 totals-2) e walked.by in
-              record { by = halts place (sym (cases-halt block frame outer cases any st k (h ∙ case_is))) }
+          pub case_halts : {stop : Halt} → r ≡ Err stop
+              → StatementEnds bytes t types places s rs open_marks totals fr Switching StatementReq.Switch (Err stop) w ws open-2 totals-2
+          case_halts {stop} e =
+              let h : halt (number stop.refusal) (place_of stop.place) ≡ Code (at + 4 + 4) held =
+              subst (λ (a : Result Answer Halt). BlockEnding bytes t types places u us open-1 totals-1 f at (at + 4 + 4) held (held + context_in u us at) m' (Code (at + 4 + 4) held) a w ws open-2 totals-2) e walked.by in
+              record { by = halts stop.place (sym (cases-halt block frame outer cases any st k (h ∙ case_is))) }
 
-          module _ {tally : Tally} {c : Bool} (e : r ≡ Went tally c) where
+          module _ {tally : Tally} {c : Bool} (e : r ≡ Ok (record { tally = tally; required = c })) where
             B : BlockEnded bytes t types places u us open-1 totals-1 f at (at + 4 + 4) held held m' (Code (at + 4 + 4) held) tally.visits tally.sum c w ws open-2 totals-2
             B =
                 ends_less tight (omega arith)
-                (subst (λ (a : Answered). BlockEnding bytes t types places u us open-1 totals-1 f at (at + 4 + 4) held (held + context_in u us at) m' (Code (at + 4 + 4) held) a w ws open-2 totals-2) e walked.by)
+                (subst (λ (a : Result Answer Halt). BlockEnding bytes t types places u us open-1 totals-1 f at (at + 4 + 4) held (held + context_in u us at) m' (Code (at + 4 + 4) held) a w ws open-2 totals-2) e walked.by)
 
             high : stack_slot ≤ at + 4
             high = omega (arith, low)
@@ -303,7 +306,7 @@ module _ {bytes t types places s rs open_marks totals : List ℕ} {fr : Frame} {
 
             module _ {l : Bool} {x xs : List ℕ} (J : CaseEnds w ws (at + 4) l x xs) where
               pub case_limit : l ≡ true
-                  → StatementEnds bytes t types places s rs open_marks totals fr Switching StatementReq.Switch (Halt 15 (position.Statement fr.function fr.statement)) x xs open-2 totals-2
+                  → StatementEnds bytes t types places s rs open_marks totals fr Switching StatementReq.Switch (Err (record { refusal = PartLimit; place = position.Statement fr.function fr.statement })) x xs open-2 totals-2
               case_limit z =
                   let over : over_context (with_case w ws (at + 4)) ≡ true = subst (λ (y : Bool). CaseEnding w ws (at + 4) y x xs) z J.by in
                   record {
@@ -370,12 +373,12 @@ module _ {bytes t types places s ss open_marks totals : List ℕ} {fr : Frame} {
 
   module _ {n : ℕ} {any : Bool} {m v : ℕ} {u us open-1 totals-1 : List ℕ}
       (I : CasesGo bytes t types places s ss open_marks totals fr row sum visits outside n any m v u us open-1 totals-1) where
-    pub cases_next : {more k body : ℕ} {r : Answered} {w ws open-2 totals-2 : List ℕ} {tally : Tally} {c : Bool} {l : Bool} {x xs : List ℕ} {required : Bool}
+    pub cases_next : {more k body : ℕ} {r : Result Answer Halt} {w ws open-2 totals-2 : List ℕ} {tally : Tally} {c : Bool} {l : Bool} {x xs : List ℕ} {required : Bool}
         → more ≡ sum_from (read u us) (fr.at + 4) 4 → body ≡ operand_at bytes row (3 + 2 * k) → n ≡ suc k
         → BlockEnds bytes t types places u us open-1 totals-1 fr.function.0 fr.at (fr.at + 8) (outside + more) (outside + more + context_in u us fr.at) m
         (block_in bytes t fr.function.0 body (outside + more) (context_at (read u us) fr.at) false (state_in bytes t u us open-1 totals-1 fr.function.0 (fr.at + 8) v))
         r w ws open-2 totals-2
-        → r ≡ Went tally c → CaseEnds w ws (fr.at + 4) l x xs → l ≡ false → required ≡ (any || c)
+        → r ≡ Ok (record { tally = tally; required = c }) → CaseEnds w ws (fr.at + 4) l x xs → l ≡ false → required ≡ (any || c)
         → CasesGo bytes t types places s ss open_marks totals fr row sum visits outside k required tally.sum tally.visits x xs open-2 totals-2
     cases_next e₂ body_is is E e J z o =
         record { by = λ b rs G. rw o (case_again G.arms (I.by b rs G) G.kind G.outside_is e₂ body_is is E e J z) }

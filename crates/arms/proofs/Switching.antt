@@ -9,6 +9,8 @@ use lib.ListN.{length, get_or}
 use Rattle.walk.specs.Resolve.{function_at}
 use lib.Seq.{get_or-set_same, get_or-set_other}
 use borrow.Author.Tests.{le-ltb}
+use Rattle.std.specs.Prelude.{Result, Ok, Err}
+use Rattle.field.specs.Refusal.{number}
 use Rattle.part.specs.PartReq.{PartReq, all, exist, none, more, over, spine}
 use Rattle.part.specs.Store.{part}
 use Rattle.module.specs.Module.{ExpressionHandle, Module}
@@ -30,11 +32,8 @@ use Rattle.state.specs.State.{place_of}
 use Rattle.state.specs.Ready.{Ready, Ended, Ending, Ends}
 use Rattle.state.specs.Frame.{frame_of, Apart}
 use Rattle.state.specs.declared.answer.Tally.{Tally}
-use Rattle.state.specs.declared.answer.Place as declared
-use Rattle.state.specs.declared.answer.Walked.{Walked}
-use Rattle.state.specs.declared.answer.Walked.TheVariants as walks
-use Rattle.state.specs.declared.answer.Answered.TheVariants.{Went, Halt}
 use Rattle.state.specs.declared.frame.Frame.{Frame}
+use Rattle.state.specs.declared.answer.Halt.{Halt}
 use Rattle.state.proofs.Others.{sum_same}
 use Rattle.expression.specs.Walks.{Walks}
 use Rattle.statement.proofs.Asking.{slot_wants}
@@ -232,7 +231,7 @@ module _ {bytes t types places s rs open_marks totals : List ℕ} {fr : Frame} {
       pub selector_asks : Ready bytes t u vs f at fr.held sum × Wants u vs (want_of 0)
       selector_asks = (down.ready, slot_wants down.ready.memory 0 (omega arith))
 
-      module _ (selector : ExpressionHandle) {r : Walked} {x xs : List ℕ}
+      module _ (selector : ExpressionHandle) {r : Result Tally Halt} {x xs : List ℕ}
           (X : Walks bytes t f at fr.held u vs (add_expression m f fr.held selector (asked u vs (want_of 0))) visits r x xs) where
         ends : Ends bytes t f at fr.held u vs (rest_in m t f (read u vs) open_marks totals) (Asks down selector all) r x xs
         ends =
@@ -243,15 +242,15 @@ module _ {bytes t types places s rs open_marks totals : List ℕ} {fr : Frame} {
         asks_is : Asks down selector all ≡ ask m (frame_of s rs fr) selector all (with_context outer walked)
         asks_is = ap (λ (st : State). add_expression m f fr.held selector all st) down_state
 
-        selector-halt : {n : ℕ} {place : declared.Place} → r ≡ walks.Halt n place → halt n (place_of place) ≡ Total selector true
-        selector-halt {n} {place} e =
-            let h : halt n (place_of place) ≡ Asks down selector all =
-            subst (λ (w : Walked). Ending bytes t f at fr.held u vs (rest_in m t f (read u vs) open_marks totals) (Asks down selector all) w x xs) e ends.by in
+        selector-halt : {stop : Halt} → r ≡ Err stop → halt (number stop.refusal) (place_of stop.place) ≡ Total selector true
+        selector-halt {stop} e =
+            let h : halt (number stop.refusal) (place_of stop.place) ≡ Asks down selector all =
+            subst (λ (w : Result Tally Halt). Ending bytes t f at fr.held u vs (rest_in m t f (read u vs) open_marks totals) (Asks down selector all) w x xs) e ends.by in
             sym (selector-halts m (frame_of s rs fr) selector outer walked (h ∙ asks_is))
 
-        module _ {tally : Tally} (e : r ≡ walks.Went tally) where
+        module _ {tally : Tally} (e : r ≡ Ok tally) where
           ended : Ended bytes t f at fr.held u vs (rest_in m t f (read u vs) open_marks totals) (Asks down selector all) tally.visits tally.sum x xs
-          ended = subst (λ (w : Walked). Ending bytes t f at fr.held u vs (rest_in m t f (read u vs) open_marks totals) (Asks down selector all) w x xs) e ends.by
+          ended = subst (λ (w : Result Tally Halt). Ending bytes t f at fr.held u vs (rest_in m t f (read u vs) open_marks totals) (Asks down selector all) w x xs) e ends.by
 
           left : Standing bytes t types places x xs open_marks totals f at fr.held tally.sum tally.visits
           left = asked_standing down selector all ended fine_all
@@ -281,14 +280,14 @@ module _ {bytes t types places s rs open_marks totals : List ℕ} {fr : Frame} {
 -- what `end_switch` gives
 module _ {bytes t s rs : List ℕ} {fr : Frame} {sum visits : ℕ} (selector : ExpressionHandle) where
   pub switch_drops : {required : Bool} {us : List ℕ} → required ≡ false → Dropped rs fr.at us
-      → SwitchEnds bytes t s rs fr selector required sum visits (Went (record { visits = visits; sum = sum }) false) s us
+      → SwitchEnds bytes t s rs fr selector required sum visits (Ok (record { tally = (record { visits = visits; sum = sum }); required = false })) s us
   switch_drops e D = rw e (record { by = λ types places open_marks totals W. record { by = switch_dropped W selector D } })
 
-  module _ {required : Bool} (is : required ≡ true) {u us vs : List ℕ} (A : Aside s rs (fr.at + 4) u us) (D : Dropped us fr.at vs) {r : Walked} {x xs : List ℕ}
+  module _ {required : Bool} (is : required ≡ true) {u us vs : List ℕ} (A : Aside s rs (fr.at + 4) u us) (D : Dropped us fr.at vs) {r : Result Tally Halt} {x xs : List ℕ}
       (X : Walks bytes t fr.function.0 fr.at fr.held u vs (add_expression (module_of bytes t) fr.function.0 fr.held selector (asked u vs (want_of 0))) visits r x xs) where
-    pub switch_halts : {n : ℕ} {place : declared.Place} → r ≡ walks.Halt n place → SwitchEnds bytes t s rs fr selector required sum visits (Halt n place) x xs
+    pub switch_halts : {stop : Halt} → r ≡ Err stop → SwitchEnds bytes t s rs fr selector required sum visits (Err stop) x xs
     switch_halts e = rw is (record { by = λ types places open_marks totals W. record { by = selector-halt W A D selector X e } })
 
-    pub switch_takes : {tally : Tally} {ys : List ℕ} → r ≡ walks.Went tally → Saved x xs fr.at (from_aside (part x (get_or xs result 0))) x ys
-        → SwitchEnds bytes t s rs fr selector required sum visits (Went tally true) x ys
+    pub switch_takes : {tally : Tally} {ys : List ℕ} → r ≡ Ok tally → Saved x xs fr.at (from_aside (part x (get_or xs result 0))) x ys
+        → SwitchEnds bytes t s rs fr selector required sum visits (Ok (record { tally = tally; required = true })) x ys
     switch_takes e B = rw is (record { by = λ types places open_marks totals W. record { by = selector-ends W A D selector X e B } })

@@ -6,7 +6,9 @@ use mathlib.Core.Path.{◌≡◌, refl, sym, ap, subst, ◌∙◌}
 use mathlib.Core.Bool.{Bool, true, false}
 use mathlib.Core.List.{List}
 use lib.ListN.{length, get_or}
+use Rattle.std.specs.Prelude.{Result, Ok, Err}
 use Rattle.field.specs.Limits.{max_pieces, max_turns}
+use Rattle.field.specs.declared.refusal.Refusal.TheVariants.{PartLimit, Unsettled}
 use Rattle.part.specs.PartReq.{PartReq, none}
 use Rattle.part.specs.StoreLimits.{entries_cap}
 use Rattle.module.specs.Module.{BlockHandle}
@@ -19,12 +21,11 @@ use Rattle.memory.specs.Memory.{read, sum_from, context_at, Memory}
 use Rattle.memory.specs.Memory as memory
 use Rattle.memory.proofs.Runs.{context_pieces}
 use Rattle.state.specs.Frame.{frame_of}
-use Rattle.state.specs.declared.answer.Place.{Place}
 use Rattle.state.specs.declared.answer.Place.TheVariants as place
 use Rattle.state.specs.declared.answer.Tally.{Tally}
-use Rattle.state.specs.declared.answer.Answered.{Answered}
-use Rattle.state.specs.declared.answer.Answered.TheVariants.{Went, Halt}
 use Rattle.state.specs.declared.frame.Frame.{Frame}
+use Rattle.state.specs.declared.answer.Halt.{Halt}
+use Rattle.state.specs.declared.answer.Answer.{Answer}
 use Rattle.block.specs.Standing.{state_in, Standing}
 use Rattle.block.specs.Saved.{Popped, Dropped, Joined}
 use Rattle.block.specs.Blocks.{context_in, Beside, StatementEnded, StatementEnds}
@@ -130,7 +131,7 @@ module _ {bytes t types places s rs open_marks totals : List ℕ} {fr : Frame} {
       pub turn_paired : Paired bytes t types places u us open-1 totals-1 f b body continuing (at + 4) (at + 8) (fr.held + a + c) k v
       turn_paired = subst (λ (i : ℕ). Paired bytes t types places u us open-1 totals-1 f b body continuing (at + 4) i (fr.held + a + c) k v) (sym eight) paired
 
-      pub turns_over : n ≤ 0 → StatementEnds bytes t types places s rs open_marks totals fr Total StatementReq.Loop (Halt 14 (place.Statement fr.function fr.statement)) u us open-1 totals-1
+      pub turns_over : n ≤ 0 → StatementEnds bytes t types places s rs open_marks totals fr Total StatementReq.Loop (Err (record { refusal = Unsettled; place = place.Statement fr.function fr.statement })) u us open-1 totals-1
       turns_over z = record { by = by n z L.rest }
         where
           by : (n : ℕ) → n ≤ 0 → turns_in bytes t s rs fr body continuing n (state_in bytes t u us open-1 totals-1 f (at + 4) v) ≡ Total → halt 14 (here (frame_of s rs fr)) ≡ Total
@@ -156,14 +157,14 @@ module _ {bytes t types places s rs open_marks totals : List ℕ} {fr : Frame} {
             ∙ ap (λ (h : ℕ). add_pair (block_in bytes t f) body continuing h (context_at (read u us) (at + 4)) true start) held_is
             ∙ ap (λ (d : RequiredContext). add_pair (block_in bytes t f) body continuing Held d true start) working-same
 
-        module _ {r : Answered} {w ws open-2 totals-2 : List ℕ} (E : PairEnds bytes t types places u us open-1 totals-1 f (at + 4) (at + 8) (fr.held + a + c) Pair r w ws open-2 totals-2) where
-          ending : {q : Answered} → r ≡ q → PairEnding bytes t types places u us open-1 totals-1 f (at + 4) (at + 8) (fr.held + a + c) Pair q w ws open-2 totals-2
-          ending is = subst (λ (q : Answered). PairEnding bytes t types places u us open-1 totals-1 f (at + 4) (at + 8) (fr.held + a + c) Pair q w ws open-2 totals-2) is E.by
+        module _ {r : Result Answer Halt} {w ws open-2 totals-2 : List ℕ} (E : PairEnds bytes t types places u us open-1 totals-1 f (at + 4) (at + 8) (fr.held + a + c) Pair r w ws open-2 totals-2) where
+          ending : {q : Result Answer Halt} → r ≡ q → PairEnding bytes t types places u us open-1 totals-1 f (at + 4) (at + 8) (fr.held + a + c) Pair q w ws open-2 totals-2
+          ending is = subst (λ (q : Result Answer Halt). PairEnding bytes t types places u us open-1 totals-1 f (at + 4) (at + 8) (fr.held + a + c) Pair q w ws open-2 totals-2) is E.by
 
-          pub turn_halts : {i : ℕ} {place : Place} → r ≡ Halt i place → StatementEnds bytes t types places s rs open_marks totals fr Total StatementReq.Loop (Halt i place) w ws open-2 totals-2
+          pub turn_halts : {stop : Halt} → r ≡ Err stop → StatementEnds bytes t types places s rs open_marks totals fr Total StatementReq.Loop (Err stop) w ws open-2 totals-2
           turn_halts is = record { by = sym (turn_halt (block_in bytes t f) (frame_of s rs fr) Held body continuing working (n - 1) start (ending is ∙ pair_is)) ∙ rest }
 
-          module _ {tally : Tally} {d : Bool} (is : r ≡ Went tally d) where
+          module _ {tally : Tally} {d : Bool} (is : r ≡ Ok (record { tally = tally; required = d })) where
             walked : PairEnded bytes t types places u us open-1 totals-1 f (at + 4) (at + 4 + 4) (fr.held + a + c) Pair tally.visits tally.sum d w ws open-2 totals-2
             walked = subst (λ (i : ℕ). PairEnded bytes t types places u us open-1 totals-1 f (at + 4) i (fr.held + a + c) Pair tally.visits tally.sum d w ws open-2 totals-2) eight (ending is)
 
@@ -304,7 +305,7 @@ module _ {bytes t types places s rs open_marks totals : List ℕ} {fr : Frame} {
               ended e = subst (λ (p : Turn). TurnEnding w ws at p x xs) e K.by
 
               pub turn_limits : q ≡ Over
-                  → StatementEnds bytes t types places s rs open_marks totals fr Total StatementReq.Loop (Halt 15 (place.Statement fr.function fr.statement)) x xs open-2 totals-2
+                  → StatementEnds bytes t types places s rs open_marks totals fr Total StatementReq.Loop (Err (record { refusal = PartLimit; place = place.Statement fr.function fr.statement })) x xs open-2 totals-2
               unfolding merged
               turn_limits e =
                   let at-loop = here (frame_of s rs fr) in
@@ -313,7 +314,7 @@ module _ {bytes t types places s rs open_marks totals : List ℕ} {fr : Frame} {
                   record { by = sym (turn_over (block_in bytes t f) (frame_of s rs fr) Held body continuing working (n - 1) start (walked.is ∙ pair_is) told) ∙ rest }
 
               pub turn_settles : q ≡ Settled
-                  → StatementEnds bytes t types places s rs open_marks totals fr Total StatementReq.Loop (Went (record { visits = tally.visits; sum = tally.sum }) true) x xs open-2 totals-2
+                  → StatementEnds bytes t types places s rs open_marks totals fr Total StatementReq.Loop (Ok (record { tally = (record { visits = tally.visits; sum = tally.sum }); required = true })) x xs open-2 totals-2
               turn_settles e = record { by = settles (ended e) }
 
               pub turn_goes_on : q ≡ Again

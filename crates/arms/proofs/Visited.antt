@@ -6,7 +6,9 @@ use Prim.Native.Nat.{ℕ, suc, ◌+◌, ◌<◌, ◌≤◌}
 use native.Mathlib.Numerals.{add-one}
 use native.Mathlib.Omega.{arith}
 use lib.ListN.{length}
+use Rattle.std.specs.Prelude.{Result, Ok, Err}
 use Rattle.field.specs.Limits.{max_visits}
+use Rattle.field.specs.declared.refusal.Refusal.TheVariants.{PiecesLimit, VisitsLimit}
 use Rattle.module.specs.Module.{Module, Function, FunctionHandle, BlockHandle}
 use Rattle.module.specs.Decode.{statement_of}
 use Rattle.module.specs.Tables.{row_at, module_of}
@@ -25,10 +27,10 @@ use Rattle.memory.specs.Memory.{Tidied}
 use Rattle.marks.specs.Ray.{StatementIn}
 use Rattle.marks.proofs.Placed.{at_function}
 use Rattle.state.specs.Frame.{frame_of}
-use Rattle.state.specs.declared.answer.Answered.{Answered}
-use Rattle.state.specs.declared.answer.Answered.TheVariants.{Went, Halt}
 use Rattle.state.specs.declared.answer.Place.TheVariants as place
 use Rattle.state.specs.declared.frame.Frame.{Frame}
+use Rattle.state.specs.declared.answer.Halt.{Halt}
+use Rattle.state.specs.declared.answer.Answer.{Answer}
 use Rattle.expression.specs.Visits.{Counting, Allowed}
 use Rattle.expression.proofs.Visits.{is_allowed, not_allowed}
 use Rattle.expression.proofs.Walking.{visit_counting as ready-counting}
@@ -76,16 +78,16 @@ later S l = record {
 }
 
 -- 16 can be asked of what an arm has left
-pub last_asks : {bytes t types places s rs open_marks totals : List ℕ} {fr : Frame} {total : Out Bool} (r : Answered) {u us open_after totals-after : List ℕ}
+pub last_asks : {bytes t types places s rs open_marks totals : List ℕ} {fr : Frame} {total : Out Bool} (r : Result Answer Halt) {u us open_after totals-after : List ℕ}
     → StatementEnds bytes t types places s rs open_marks totals fr total (λ b. b) r u us open_after totals-after → LastAsked u us fr r
-last_asks (Went tally b) E = record { by = ready-counting E.by.standing.ready }
-last_asks (Halt n here) E = record { by = tt }
+last_asks (Ok a) E = record { by = ready-counting E.by.standing.ready }
+last_asks (Err stop) E = record { by = tt }
 
 -- the same visit, from a memory that means the same
-moved : {bytes t types places s rs v vs open_marks totals : List ℕ} {fr : Frame} {total other : Out Bool} (r : Answered) {u us open_after totals-after : List ℕ}
+moved : {bytes t types places s rs v vs open_marks totals : List ℕ} {fr : Frame} {total other : Out Bool} (r : Result Answer Halt) {u us open_after totals-after : List ℕ}
     → Beside bytes t fr.function.0 fr.at v vs open_marks s rs open_marks → total ≡ other → VisitEnds bytes t types places s rs open_marks totals fr total r u us open_after totals-after
     → VisitEnds bytes t types places v vs open_marks totals fr other r u us open_after totals-after
-moved {fr = fr} (Went tally b) B e E =
+moved {fr = fr} (Ok a) B e E =
     record {
       by = record {
         is = E.by.is ∙ e;
@@ -95,7 +97,7 @@ moved {fr = fr} (Went tally b) B e E =
         beside = beside_then fr.at B E.by.beside (omega arith);
       };
     }
-moved (Halt n here) B e E = record { by = E.by ∙ e }
+moved (Err stop) B e E = record { by = E.by ∙ e }
 
 module _ {bytes t types places s rs open_marks totals : List ℕ} {fr : Frame} {b : BlockHandle} {sum visits : ℕ} (Q : Visits bytes t types places s rs open_marks totals fr b sum visits) where
   abbrev m : Module
@@ -113,13 +115,13 @@ module _ {bytes t types places s rs open_marks totals : List ℕ} {fr : Frame} {
   abbrev total : Out Bool
   total = visit_statement m (add_function m) (block_in bytes t f) (frame_of s rs fr) st
 
-  abbrev Ends : Answered → (u us open_after totals-after : List ℕ) → Type 0
+  abbrev Ends : Result Answer Halt → (u us open_after totals-after : List ℕ) → Type 0
   Ends r u us open_after totals-after = VisitEnds bytes t types places s rs open_marks totals fr total r u us open_after totals-after
 
   pub visit_counting : Counting s rs fr.at fr.held sum
   visit_counting = ready-counting Q.standing.ready
 
-  pub visit_17 : max_visits ≤ visits → Ends (Halt 17 (place.Statement fr.function fr.statement)) s rs open_marks totals
+  pub visit_17 : max_visits ≤ visits → Ends (Err (record { refusal = VisitsLimit; place = place.Statement fr.function fr.statement })) s rs open_marks totals
   unfolding visit_statement
   visit_17 l = record { by = sym (bind.visit-late fr.held (at_statement f fr.statement) arm st l) }
 
@@ -128,7 +130,7 @@ module _ {bytes t types places s rs open_marks totals : List ℕ} {fr : Frame} {
     unfolding visit_statement
     begins = visit-begins fr.held (at_statement f fr.statement) arm st l
 
-    pub visit_16 : h ≡ false → Ends (Halt 16 (place.Statement fr.function fr.statement)) u us open_marks totals
+    pub visit_16 : h ≡ false → Ends (Err (record { refusal = PiecesLimit; place = place.Statement fr.function fr.statement })) u us open_marks totals
     visit_16 e =
         let over = counted-over fr.held (at_statement f fr.statement) (visited st) (omega (arith, standing_count Q.standing (suc visits), not_allowed A e)) in
         let z : halt 16 (at_statement f fr.statement) ≡ (counted fr.held (at_statement f fr.statement) (visited st) >> arm >>= λ ended a. counted fr.held (at_statement f fr.statement) ended >> λ left. went left a) =
@@ -165,7 +167,7 @@ module _ {bytes t types places s rs open_marks totals : List ℕ} {fr : Frame} {
             is = is;
           }
 
-      pub visit_ends : {row : Kinded} (r q : Answered) {v vs w ws open_after totals-after : List ℕ} → row ≡ statement_row bytes t f fr.statement
+      pub visit_ends : {row : Kinded} (r q : Result Answer Halt) {v vs w ws open_after totals-after : List ℕ} → row ≡ statement_row bytes t f fr.statement
           → StatementEnds bytes t types places u us open_marks totals fr
           (marked m (frame_of u us fr) (add_statement m (add_function m) (block_in bytes t f) (frame_of u us fr) (statement_of row.kind (operand_at bytes row)) (state_in bytes t u us open_marks totals f fr.at (visits + 1))))
           (λ b. b) r v vs open_after totals-after

@@ -1,5 +1,5 @@
 -- The statement Call, but for the walk of the called function: what its beginning, the end of that function and its own end ask and leave.
-use Rattle.std.specs.Prelude.{◌≡◌, Bool, true, false, List, [], ◌∷◌, ℕ, ◌+◌, ◌<◌, ◌≤◌, length, get_or, replicate, Option as Found, Some, None}
+use Rattle.std.specs.Prelude.{◌≡◌, Bool, true, false, List, [], ◌∷◌, ℕ, ◌+◌, ◌<◌, ◌≤◌, length, get_or, replicate, Option as Found, Some, None, Result, Ok, Err}
 use Rattle.std.proofs.Math.Option.{Option}
 use Rattle.field.specs.Limits.{max_pieces}
 use Rattle.part.specs.PartReq.{none, Subpart, gone, there}
@@ -22,9 +22,9 @@ use Rattle.memory.specs.Memory.{read, context_at, Memory}
 use Rattle.marks.specs.Places.{start_in, size_in}
 use Rattle.state.specs.State.{records_in}
 use Rattle.state.specs.Frame.{frame_of}
-use Rattle.state.specs.declared.answer.Answered.{Answered}
-use Rattle.state.specs.declared.answer.Answered.TheVariants.{Went, Halt}
 use Rattle.state.specs.declared.frame.Frame.{Frame}
+use Rattle.state.specs.declared.answer.Halt.{Halt}
+use Rattle.state.specs.declared.answer.Answer.{Answer}
 use Rattle.call.specs.Calls.{arguments_of}
 use Rattle.leave.specs.Leave.{Placed, own_in, left_slots}
 use Rattle.block.specs.Standing.{state_in, Standing}
@@ -104,7 +104,7 @@ pub record Returns (bytes t places s rs open_marks : List ℕ) (fr : Frame) (row
   pub few : record_pieces (records_in t exprs_slot fr.function.0 (read s rs)) ≤ max_pieces
 
 -- the call has ended as the definition says, and its marks are written
-pub record Returned (bytes t places s rs open_marks : List ℕ) (fr : Frame) (row : Kinded) (required : Bool) (visits sum : ℕ) (r : Answered) (u us open_after : List ℕ) : Type 0 where
+pub record Returned (bytes t places s rs open_marks : List ℕ) (fr : Frame) (row : Kinded) (required : Bool) (visits sum : ℕ) (r : Result Answer Halt) (u us open_after : List ℕ) : Type 0 where
   pub by : (types totals : List ℕ) → Standing bytes t types places s rs open_marks totals fr.function.0 fr.at fr.held sum visits
       → StatementEnds bytes t types places s rs open_marks totals fr
       (marked (module_of bytes t) (frame_of s rs fr)
@@ -113,6 +113,6 @@ pub record Returned (bytes t places s rs open_marks : List ℕ) (fr : Frame) (ro
       (λ b. b) r u us open_after totals
 
 -- the marks of a call that went, whose result is required or not
-abbrev pub call_marks : List ℕ → (at : ℕ) → Bool → Answered → List ℕ
-call_marks open_marks at result (Went tally b) = write_marks open_marks at (mark b ∷ mark result ∷ [])
-call_marks open_marks at result (Halt n place) = open_marks
+abbrev pub call_marks : List ℕ → (at : ℕ) → Bool → Result Answer Halt → List ℕ
+call_marks open_marks at result (Ok a) = write_marks open_marks at (mark a.required ∷ mark result ∷ [])
+call_marks open_marks at result (Err h) = open_marks

@@ -1,5 +1,5 @@
 -- The statement Emit: what it asks, and what it leaves of every state that stands so. Its marks say which of its expressions have a record.
-use Rattle.std.specs.Prelude.{◌≡◌, List, ℕ, ◌≤◌, length}
+use Rattle.std.specs.Prelude.{◌≡◌, List, ℕ, ◌≤◌, length, Result}
 use Rattle.field.specs.Limits.{min_report}
 use Rattle.module.specs.Decode.{statement_of}
 use Rattle.module.specs.Tables.{module_of}
@@ -8,8 +8,9 @@ use Rattle.access.specs.declared.kinded.Kinded.{Kinded}
 use Rattle.walk.specs.Statement.{BlockWalk, FunctionWalk, add_statement}
 use Rattle.marks.specs.Places.{Places}
 use Rattle.state.specs.Frame.{frame_of}
-use Rattle.state.specs.declared.answer.Answered.{Answered}
 use Rattle.state.specs.declared.frame.Frame.{Frame}
+use Rattle.state.specs.declared.answer.Halt.{Halt}
+use Rattle.state.specs.declared.answer.Answer.{Answer}
 use Rattle.statement.specs.Leaf.{Arm}
 use Rattle.block.specs.Standing.{state_in, Standing}
 use Rattle.block.specs.Blocks.{StatementEnds}
@@ -21,7 +22,7 @@ pub record EmitAsked (bytes t places s rs open_marks : List ℕ) (fr : Frame) (r
   pub placed : Places bytes t places
   pub long : min_report ≤ length open_marks
 
-pub record EmitEnds (bytes t places s rs open_marks : List ℕ) (fr : Frame) (row : Kinded) (sum visits : ℕ) (r : Answered) (open_after : List ℕ) : Type 0 where
+pub record EmitEnds (bytes t places s rs open_marks : List ℕ) (fr : Frame) (row : Kinded) (sum visits : ℕ) (r : Result Answer Halt) (open_after : List ℕ) : Type 0 where
   pub by : (types totals : List ℕ) (call : FunctionWalk) (block : BlockWalk) → Standing bytes t types places s rs open_marks totals fr.function.0 fr.at fr.held sum visits
       → StatementEnds bytes t types places s rs open_marks totals fr
       (marked (module_of bytes t) (frame_of s rs fr)

@@ -1,5 +1,5 @@
 -- How an If ends, once its two blocks are walked.
-use Rattle.std.specs.Prelude.{Bool, List, ℕ, ◌+◌}
+use Rattle.std.specs.Prelude.{Bool, List, ℕ, ◌+◌, Result}
 use Rattle.module.specs.Module.{ExpressionHandle}
 use Rattle.module.specs.Tables.{module_of}
 use Rattle.walk.specs.State.{Out}
@@ -7,8 +7,9 @@ use Rattle.walk.specs.StatementReq.{StatementReq}
 use Rattle.walk.specs.Statement.{end_if}
 use Rattle.memory.specs.Memory.{read, context_at}
 use Rattle.state.specs.Frame.{frame_of}
-use Rattle.state.specs.declared.answer.Answered.{Answered}
 use Rattle.state.specs.declared.frame.Frame.{Frame}
+use Rattle.state.specs.declared.answer.Halt.{Halt}
+use Rattle.state.specs.declared.answer.Answer.{Answer}
 use Rattle.block.specs.Standing.{state_in}
 use Rattle.block.specs.Blocks.{StatementEnds}
 use Rattle.block.specs.Pairing.{Branched}
@@ -28,6 +29,6 @@ end_in bytes t s rs open_marks totals fr condition required visits =
     (state_in bytes t s rs open_marks totals fr.function.0 (fr.at + 4 + 4) visits)
 
 -- the answer, and the memory that is left, are the definition's for whatever types, places and marks are there
-pub record IfEnds (bytes t s rs : List ℕ) (fr : Frame) (condition : ExpressionHandle) (required : Bool) (sum visits : ℕ) (r : Answered) (u us : List ℕ) : Type 0 where
+pub record IfEnds (bytes t s rs : List ℕ) (fr : Frame) (condition : ExpressionHandle) (required : Bool) (sum visits : ℕ) (r : Result Answer Halt) (u us : List ℕ) : Type 0 where
   pub by : (types places open_marks totals : List ℕ) → Branched bytes t types places s rs open_marks totals fr sum visits
       → StatementEnds bytes t types places s rs open_marks totals fr (end_in bytes t s rs open_marks totals fr condition required visits) StatementReq.If r u us open_marks totals

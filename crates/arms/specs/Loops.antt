@@ -1,7 +1,8 @@
 -- A loop beside the walks of its blocks: the end of its first pass, the end of a turn, and what its turns ask.
-use Rattle.std.specs.Prelude.{◌≡◌, true, false, List, ℕ, ◌+◌, ◌*◌, ◌<◌, ◌≤◌, length}
+use Rattle.std.specs.Prelude.{◌≡◌, true, false, List, ℕ, ◌+◌, ◌*◌, ◌<◌, ◌≤◌, length, Result, Ok, Err}
 use Rattle.std.proofs.Math.Option.{Option}
 use Rattle.field.specs.Limits.{max_pieces, max_turns}
+use Rattle.field.specs.Refusal.{number}
 use Rattle.part.specs.PartReq.{all}
 use Rattle.part.specs.Store.{Room}
 use Rattle.module.specs.Module.{Module, ExpressionHandle, BlockHandle}
@@ -18,9 +19,9 @@ use Rattle.memory.specs.Layout.{stack_slot, most, room}
 use Rattle.memory.specs.Memory.{read, counted, context_at, Memory, Tidied}
 use Rattle.state.specs.State.{place_of}
 use Rattle.state.specs.Frame.{frame_of}
-use Rattle.state.specs.declared.answer.Walked.{Walked}
-use Rattle.state.specs.declared.answer.Walked.TheVariants.{Went, Halt}
 use Rattle.state.specs.declared.frame.Frame.{Frame}
+use Rattle.state.specs.declared.answer.Halt.{Halt}
+use Rattle.state.specs.declared.answer.Tally.{Tally}
 use Rattle.block.specs.Standing.{state_in, Standing}
 use Rattle.block.specs.Saved.{Lowered, Dropped, Joined}
 use Rattle.block.specs.Blocks.{context_in, Deep, Beside}
@@ -52,12 +53,12 @@ pub record BreakEnded (bytes t types places s rs open_marks totals : List ℕ) (
   pub second : context_at (read u us) (fr.at + 4 + 4) ≡ context_at (read s rs) (fr.at + 4 + 4)
   pub beside : Beside bytes t fr.function.0 fr.at s rs open_marks u us open_marks
 
-abbrev pub BreakEnding : (bytes t types places s rs open_marks totals : List ℕ) → Frame → Out (Unit {0}) → Walked → (u us : List ℕ) → Type 0
-BreakEnding bytes t types places s rs open_marks totals fr total (Went tally) u us =
+abbrev pub BreakEnding : (bytes t types places s rs open_marks totals : List ℕ) → Frame → Out (Unit {0}) → Result Tally Halt → (u us : List ℕ) → Type 0
+BreakEnding bytes t types places s rs open_marks totals fr total (Ok tally) u us =
     BreakEnded bytes t types places s rs open_marks totals fr total tally.visits tally.sum u us
-BreakEnding bytes t types places s rs open_marks totals fr total (Halt n place) u us = halt n (place_of place) ≡ total
+BreakEnding bytes t types places s rs open_marks totals fr total (Err h) u us = halt (number h.refusal) (place_of h.place) ≡ total
 
-pub record BreakEnds (bytes t s rs : List ℕ) (fr : Frame) (break_if sum visits : ℕ) (r : Walked) (u us : List ℕ) : Type 0 where
+pub record BreakEnds (bytes t s rs : List ℕ) (fr : Frame) (break_if sum visits : ℕ) (r : Result Tally Halt) (u us : List ℕ) : Type 0 where
   pub by : (types places open_marks totals : List ℕ) → Branched bytes t types places s rs open_marks totals fr sum visits
       → BreakEnding bytes t types places s rs open_marks totals fr
       (ask_optional (module_of bytes t) (holding (context_in s rs (fr.at + 4) + context_in s rs (fr.at + 4 + 4)) (frame_of s rs fr)) (option_of break_if) all
@@ -73,12 +74,12 @@ pub record PassEnded (bytes t types places s rs open_marks totals : List ℕ) (f
   pub roomy : Room u room
   pub beside : Beside bytes t fr.function.0 fr.at s rs open_marks u us open_marks
 
-abbrev pub PassEnding : (bytes t types places s rs open_marks totals : List ℕ) → Frame → Out RequiredContext → Walked → (u us : List ℕ) → Type 0
-PassEnding bytes t types places s rs open_marks totals fr total (Went tally) u us =
+abbrev pub PassEnding : (bytes t types places s rs open_marks totals : List ℕ) → Frame → Out RequiredContext → Result Tally Halt → (u us : List ℕ) → Type 0
+PassEnding bytes t types places s rs open_marks totals fr total (Ok tally) u us =
     PassEnded bytes t types places s rs open_marks totals fr total tally.visits tally.sum u us
-PassEnding bytes t types places s rs open_marks totals fr total (Halt n place) u us = halt n (place_of place) ≡ total
+PassEnding bytes t types places s rs open_marks totals fr total (Err h) u us = halt (number h.refusal) (place_of h.place) ≡ total
 
-pub record PassEnds (bytes t s rs : List ℕ) (fr : Frame) (break_if sum visits : ℕ) (r : Walked) (u us : List ℕ) : Type 0 where
+pub record PassEnds (bytes t s rs : List ℕ) (fr : Frame) (break_if sum visits : ℕ) (r : Result Tally Halt) (u us : List ℕ) : Type 0 where
   pub by : (types places open_marks totals : List ℕ) → Branched bytes t types places s rs open_marks totals fr sum visits
       → PassEnding bytes t types places s rs open_marks totals fr
       (end_pass (module_of bytes t) (frame_of s rs fr) (option_of break_if) (context_at (read s rs) fr.at) (context_at (read s rs) (fr.at + 4))

@@ -1,5 +1,5 @@
 -- The statement Switch: the join of a case to those before it, and its end once its cases are walked.
-use Rattle.std.specs.Prelude.{◌≡◌, Bool, true, false, List, ℕ, ◌+◌, ◌<◌, ◌≤◌, length}
+use Rattle.std.specs.Prelude.{◌≡◌, Bool, true, false, List, ℕ, ◌+◌, ◌<◌, ◌≤◌, length, Result}
 use Rattle.field.specs.Limits.{max_pieces}
 use Rattle.part.specs.Store.{Room}
 use Rattle.module.specs.Tables.{module_of}
@@ -11,8 +11,9 @@ use Rattle.walk.specs.Proper.{FineContext}
 use Rattle.memory.specs.Layout.{stack_slot, room, most}
 use Rattle.memory.specs.Memory.{read, counted, context_at, Memory}
 use Rattle.state.specs.Frame.{frame_of}
-use Rattle.state.specs.declared.answer.Answered.{Answered}
 use Rattle.state.specs.declared.frame.Frame.{Frame}
+use Rattle.state.specs.declared.answer.Halt.{Halt}
+use Rattle.state.specs.declared.answer.Answer.{Answer}
 use Rattle.block.specs.Saved.{Popped}
 use Rattle.block.specs.Standing.{state_in, Standing}
 use Rattle.block.specs.Blocks.{context_in, StatementEnds}
@@ -60,7 +61,7 @@ pub record EndingSwitch (bytes t s rs : List ℕ) (fr : Frame) (selector sum vis
   pub there : selector < length (function_at (module_of bytes t) fr.function.0).expressions
 
 -- it ends as the definition says, whatever those are
-pub record SwitchEnds (bytes t s rs : List ℕ) (fr : Frame) (selector : ℕ) (required : Bool) (sum visits : ℕ) (r : Answered) (u us : List ℕ) : Type 0 where
+pub record SwitchEnds (bytes t s rs : List ℕ) (fr : Frame) (selector : ℕ) (required : Bool) (sum visits : ℕ) (r : Result Answer Halt) (u us : List ℕ) : Type 0 where
   pub by : (types places open_marks totals : List ℕ) → Switched bytes t types places s rs open_marks totals fr sum visits
       → StatementEnds bytes t types places s rs open_marks totals fr
       (end_switch (module_of bytes t) (frame_of s rs fr) selector (context_at (read s rs) fr.at) required

@@ -17,7 +17,7 @@ use memory::memory::{tidy, weigh};
 use module::handles::FunctionHandle;
 use part::limits::SPINE;
 use part::store::make;
-use state::answer::{Answered, Tally};
+use state::answer::{Answer, Answered, Tally};
 use state::frame::Frame;
 use statement::atomic::record_of;
 
@@ -107,13 +107,9 @@ fn mark_call(open: &mut [u8], at: usize, res: bool, r: Answered) -> Answered
     requires { at + 1 < length «open».old }
     ensures { (result ≡ r) × («open».new ≡ call_marks «open».old at res r) }
 {
-    match r {
-        Answered::Went(tally, b) => {
-            set_call(open, at, b, res);
-            Answered::Went(tally, b)
-        }
-        Answered::Halt(n, place) => Answered::Halt(n, place),
-    }
+    let a = r?;
+    set_call(open, at, a.required, res);
+    Ok(a)
 }
 
 // The call ends, once its function was walked: whether that is required.
@@ -137,13 +133,13 @@ pub fn return_call(
     let at = place(t, places, f, fr.statement);
     if !required {
         set_call(open, at, false, false);
-        return Answered::Went(
-            Tally {
+        return Ok(Answer {
+            tally: Tally {
                 visits: visits,
                 sum: sum,
             },
-            false,
-        );
+            required: false,
+        });
     }
     let n = operand(bytes, row, 1);
     let result = expression_operand(bytes, row, 2 + n);

@@ -5,7 +5,7 @@ use access::kinded::{Kinded, expression_number, expression_operand};
 use marks::places::place;
 use marks::set::set_emit;
 use memory::layout::EXPRS;
-use state::answer::{Answered, Tally};
+use state::answer::{Answer, Answered, Tally};
 use state::frame::Frame;
 
 // `Emit`, with its marks: which of its expressions have a record. It is required if any has.
@@ -31,11 +31,11 @@ pub fn add_emit(
     let from = EXPRS + expression_number(t, f, first);
     let at = place(t, places, f, fr.statement);
     let any = set_emit(open, at, slots, from, n);
-    Answered::Went(
-        Tally {
+    Ok(Answer {
+        tally: Tally {
             visits: visits,
             sum: sum,
         },
-        any,
-    )
+        required: any,
+    })
 }

@@ -6,10 +6,11 @@ ghost use Rattle.arms.specs.Ifs.{IfAsked, IfEnds};
 
 use block::branches::{drop_both, join_up};
 use expression::add::add_expression;
+use field::refusal::Refusal;
 use memory::layout::ALL;
 use memory::want::want_of;
 use module::handles::ExpressionHandle;
-use state::answer::{Answered, Place, Tally};
+use state::answer::{Answer, Answered, Tally};
 use state::frame::Frame;
 use statement::ask::answer;
 
@@ -33,16 +34,16 @@ pub fn end_if(
     let at = fr.at;
     if !required {
         drop_both(slots, at);
-        return Answered::Went(
-            Tally {
+        return Ok(Answer {
+            tally: Tally {
                 visits: visits,
                 sum: sum,
             },
-            false,
-        );
+            required: false,
+        });
     }
     if join_up(cells, slots, at) {
-        return Answered::Halt(15, Place::Statement(f, fr.statement));
+        return Err(fr.halt(Refusal::PartLimit));
     }
     let w = want_of(ALL);
     let r = add_expression(

@@ -3,11 +3,12 @@ ghost use Rattle.arms.specs.Loops.{Passing, BreakEnds, PassEnds, TurnWalked, Tur
 
 use block::stack::{drop, join, lower, settled};
 use expression::add::add_expression;
+use field::refusal::Refusal;
 use memory::layout::ALL;
 use memory::memory::{tidy, weigh};
 use memory::want::want_of;
 use module::handles::{ExpressionHandle, NO_HANDLE};
-use state::answer::{Place, Tally, Walked};
+use state::answer::{Tally, Walked};
 use state::frame::Frame;
 
 // How a turn has ended: 15, the working context contains it, or another one follows.
@@ -33,7 +34,7 @@ fn ask_break_if(
     ensures { BreakEnds bytes.now t.now cells.old slots.old fr break_if.0 sum visits result cells.new slots.new }
 {
     if break_if.0 == NO_HANDLE {
-        return Walked::Went(Tally {
+        return Ok(Tally {
             visits: visits,
             sum: sum,
         });
@@ -64,19 +65,13 @@ pub fn end_pass(
     requires { Passing bytes.now t.now cells.old slots.old fr break_if.0 sum visits }
     ensures { PassEnds bytes.now t.now cells.old slots.old fr break_if.0 sum visits result cells.new slots.new }
 {
-    let f = fr.function;
     let at = fr.at;
-    let asked = ask_break_if(bytes, t, cells, slots, fr, break_if, visits, sum);
-    match asked {
-        Walked::Halt(n, place) => Walked::Halt(n, place),
-        Walked::Went(tally) => {
-            if join(cells, slots, at + 4) {
-                return Walked::Halt(15, Place::Statement(f, fr.statement));
-            }
-            tidy(cells, slots);
-            Walked::Went(tally)
-        }
+    let tally = ask_break_if(bytes, t, cells, slots, fr, break_if, visits, sum)?;
+    if join(cells, slots, at + 4) {
+        return Err(fr.halt(Refusal::PartLimit));
     }
+    tidy(cells, slots);
+    Ok(tally)
 }
 
 // A turn ends: its two contexts, above the working one and the statement's, are joined. Where the working context contains the join, it takes the place of the statement's.

@@ -11,7 +11,7 @@ use memory::layout::ALL;
 use memory::memory::tidy;
 use memory::want::want_of;
 use module::handles::{BlockHandle, ExpressionHandle};
-use state::answer::{Answered, Tally, Walked};
+use state::answer::{Answer, Answered, Tally};
 use state::frame::Frame;
 
 // The block of the case k.
@@ -51,26 +51,24 @@ pub fn end_switch(
     let at = fr.at;
     if !required {
         drop(slots, at);
-        return Answered::Went(
-            Tally {
+        return Ok(Answer {
+            tally: Tally {
                 visits: visits,
                 sum: sum,
             },
-            false,
-        );
+            required: false,
+        });
     }
     put_aside(cells, slots, at + 4);
     drop(slots, at);
     let f = fr.function;
     let w = want_of(ALL);
-    let r = add_expression(
+    let tally = add_expression(
         bytes, t, cells, slots, f, at, fr.held, selector, w, visits, sum,
-    );
-    match r {
-        Walked::Halt(n, place) => Answered::Halt(n, place),
-        Walked::Went(tally) => {
-            take_back(cells, slots, at);
-            Answered::Went(tally, true)
-        }
-    }
+    )?;
+    take_back(cells, slots, at);
+    Ok(Answer {
+        tally: tally,
+        required: true,
+    })
 }

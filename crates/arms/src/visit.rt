@@ -6,19 +6,13 @@ ghost use Rattle.statement.specs.Leaf.{leaf_req};
 ghost use Rattle.arms.specs.Visit.{mark_when, MarkAsked, MarkEnds, LastAsked, LastEnds};
 
 use access::kinded::Kinded;
+use access::kinds::{CALL, EMIT, IF, KILL, STORE};
 use expression::visit::allowed;
+use field::refusal::Refusal;
 use marks::places::place;
 use marks::set::set_mark;
-use state::answer::{Answered, Place};
+use state::answer::{Answer, Answered};
 use state::frame::Frame;
-
-const IF: u16 = 2;
-
-const KILL: u16 = 8;
-
-const STORE: u16 = 12;
-
-const CALL: u16 = 14;
 
 // Whether a statement has one mark, of those that are no emit and no call.
 fn has_mark(kind: u16) -> bool
@@ -46,7 +40,7 @@ fn required(kind: u16, b: bool) -> bool
     if kind == KILL {
         return true;
     }
-    if kind == 0 {
+    if kind == EMIT {
         return false;
     }
     if kind == CALL {
@@ -73,18 +67,16 @@ pub fn mark_statement(
     requires { MarkAsked t.now places.now «open».old fr row r }
     ensures { MarkEnds t.now places.now «open».old fr row r result «open».new }
 {
-    match r {
-        Answered::Halt(n, here) => Answered::Halt(n, here),
-        Answered::Went(tally, b) => {
-            let kind = row.kind;
-            if has_mark(kind) {
-                let at = place(t, places, fr.function, fr.statement);
-                set_mark(open, at, b);
-                return Answered::Went(tally, required(kind, b));
-            }
-            Answered::Went(tally, required(kind, b))
-        }
+    let a = r?;
+    let kind = row.kind;
+    if has_mark(kind) {
+        let at = place(t, places, fr.function, fr.statement);
+        set_mark(open, at, a.required);
     }
+    Ok(Answer {
+        tally: a.tally,
+        required: required(kind, a.required),
+    })
 }
 
 // 16, as the visit ends, and room for the next one.
@@ -92,14 +84,9 @@ pub fn end_statement(cells: &mut [u32], slots: &mut [u32], fr: Frame, r: Answere
     requires { LastAsked cells.old slots.old fr r }
     ensures { LastEnds cells.old slots.old fr r result cells.new slots.new }
 {
-    match r {
-        Answered::Halt(n, here) => Answered::Halt(n, here),
-        Answered::Went(tally, b) => {
-            if allowed(cells, slots, fr.at, fr.held, tally.sum) {
-                return Answered::Went(tally, b);
-            }
-            let f = fr.function;
-            Answered::Halt(16, Place::Statement(f, fr.statement))
-        }
+    let a = r?;
+    if allowed(cells, slots, fr.at, fr.held, a.tally.sum) {
+        return Ok(a);
     }
+    Err(fr.halt(Refusal::PiecesLimit))
 }

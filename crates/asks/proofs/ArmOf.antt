@@ -5,6 +5,7 @@ use mathlib.Core.List.{List, [], ◌∷◌}
 use mathlib.Core.Option.{some}
 use Prim.Native.Nat.{ℕ, zero, suc, ◌+◌, ◌<◌}
 use lib.ListN.{length, get_or}
+use Rattle.field.specs.declared.refusal.Refusal.TheVariants.{Panic}
 use Rattle.part.specs.PartReq.{none, more}
 use Rattle.module.specs.Module.{Literal}
 use Rattle.module.specs.declared.handles.GlobalHandle as global-handles
@@ -121,7 +122,7 @@ module _ {bytes t : List ℕ} {f e : ℕ} (h : There bytes t f e) where
       unfolding expression_of arm_asks
       asks_local q d v b = asks_by_arm 11 q (only_told v b (rw d))
 
-      pub asks_positions : row.kind ≡ 31 → Wants s rs w → Only (Refuse 13) w j a → Asks (module_of bytes t) f e s rs w j a
+      pub asks_positions : row.kind ≡ 31 → Wants s rs w → Only (Refuse Panic) w j a → Asks (module_of bytes t) f e s rs w j a
       unfolding expression_of arm_asks
       asks_positions q v b = asks_by_arm 31 q (only_told v b refl)
 

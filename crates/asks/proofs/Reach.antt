@@ -33,7 +33,7 @@ module _ (globals arguments locals e : ℕ) where
     said-within s rs (Argument i) w b = (b, omega arith)
     said-within s rs (Global g) w b = (b, omega arith)
     said-within s rs (Local l) w b = (b, omega arith)
-    said-within s rs (Refuse n) w b = tt
+    said-within s rs (Refuse r) w b = tt
     said-within s rs End w b = tt
 
     pub arm_within : {s rs : List ℕ} (x : Expression) (p : PartReq) {j : ℕ} {r : declared.Ask} → OperandsBelow e x → NamesBelow globals arguments locals x → Told s rs (arm_asks x p) j r → Within globals arguments locals e r.what

@@ -12,6 +12,9 @@ use native.Mathlib.Nat.{le_of_suc-le-suc}
 use native.Mathlib.Decide.{dec_lt}
 use lib.ListN.{length, get_or, get_elem?, get_or-eq_default}
 use Rattle.field.specs.Limits.{max_depth}
+use Rattle.field.specs.Refusal.{number}
+use Rattle.field.specs.declared.refusal.Refusal.{Refusal}
+use Rattle.field.specs.declared.refusal.Refusal.TheVariants.{Panic, PartLimit}
 use Rattle.part.specs.PartReq.{PartReq, all, exist, none, more, over, spine, is_all, is_exist}
 use Rattle.part.specs.Store.{part}
 use Rattle.module.specs.Module.{ExpressionHandle}
@@ -38,7 +41,7 @@ module _ {s rs : List ℕ} {xs : List Ask} {j : ℕ} where
   pub told_end : {w : Want} → Wants s rs w → get_elem? xs j ≡ nothing → Told s rs xs j (record { what = End; want = w })
   told_end q e = record { wants = q; is = e }
 
-  pub told_refuse : {w : Want} {n : ℕ} → Wants s rs w → get_elem? xs j ≡ some (refuse n) → Told s rs xs j (record { what = Refuse n; want = w })
+  pub told_refuse : {w : Want} {r : Refusal} → Wants s rs w → get_elem? xs j ≡ some (refuse (number r)) → Told s rs xs j (record { what = Refuse r; want = w })
   told_refuse q e = record { wants = q; is = e }
 
   pub told_operand : (h : handles.ExpressionHandle) {p : PartReq} {u : Want} → By s rs p u → get_elem? xs j ≡ some (of_operand h.0 p) → Told s rs xs j (record { what = Operand h; want = u })
@@ -81,7 +84,7 @@ module _ {s rs : List ℕ} {w : Want} (q : Wants s rs w) (j : ℕ) where
 
   -- the index i is the field x, and b says whether {i: what w asks} passes a limit
   module _ (h : j ≤ 0) {i x : ℕ} {b : Bool} (d : i ≡ x) (o : b ≡ over (more i (asked s rs w) none)) where
-    pub index_over : (a : ExpressionHandle) → b ≡ true → Told s rs (formed a (more x (asked s rs w) none)) j (record { what = Refuse 15; want = w })
+    pub index_over : (a : ExpressionHandle) → b ≡ true → Told s rs (formed a (more x (asked s rs w) none)) j (record { what = Refuse PartLimit; want = w })
     unfolding formed
     index_over a t = let z : j ≡ 0 = omega arith in told_refuse q (rw (z, ← d, ← o, t))
 
@@ -111,7 +114,7 @@ module _ {s rs : List ℕ} {w : Want} (q : Wants s rs w) (j : ℕ) where
   constant_exist none h = absurd (true≢false h)
   constant_exist (more i p r) h = absurd (true≢false h)
 
-  pub constant_refused : (p : PartReq) → j ≤ 0 → false ≡ is_all p → false ≡ is_exist p → Told s rs (constant_asks p) j (record { what = Refuse 13; want = w })
+  pub constant_refused : (p : PartReq) → j ≤ 0 → false ≡ is_all p → false ≡ is_exist p → Told s rs (constant_asks p) j (record { what = Refuse Panic; want = w })
   unfolding constant_asks
   constant_refused all h a e = absurd (false≢true a)
   constant_refused exist h a e = absurd (false≢true e)
@@ -155,7 +158,7 @@ module _ {s rs pattern letters : List ℕ} {w : Want} (q : Wants s rs w) (j : �
   picked : {a : std.Option ℕ} → Picks s rs (swizzled letters (asked s rs w)) a → Picking s rs (swizzled pattern (asked s rs w)) a
   picked x = rw (← swizzled-same letters pattern l.same (asked s rs w)) x.by
 
-  pub swizzle_refused : (v : ExpressionHandle) → j ≤ 0 → Picks s rs (swizzled letters (asked s rs w)) None → Told s rs (swizzle_asks v (swizzled pattern (asked s rs w))) j (record { what = Refuse 13; want = w })
+  pub swizzle_refused : (v : ExpressionHandle) → j ≤ 0 → Picks s rs (swizzled letters (asked s rs w)) None → Told s rs (swizzle_asks v (swizzled pattern (asked s rs w))) j (record { what = Refuse Panic; want = w })
   unfolding swizzle_asks
   swizzle_refused v h x = let z : j ≡ 0 = omega arith in told_refuse q (rw (picked x, z))
 
@@ -268,6 +271,6 @@ module _ {s rs : List ℕ} {w : Want} (q : Wants s rs w) (j : ℕ) (n : ℕ) (f 
           told_operand x (record { wants = c.wants; is = c.is })
           (entry_is (tab n f) (asked s rs w) j h e ∙ rw (component_at (tab n f) i (rw length-tab l), get_d_tab n f i 0 l, d))
 
-      pub compose_refused : n ≤ i → Told s rs (compose_asks (tab n f) (asked s rs w)) j (record { what = Refuse 13; want = w })
+      pub compose_refused : n ≤ i → Told s rs (compose_asks (tab n f) (asked s rs w)) j (record { what = Refuse Panic; want = w })
       unfolding component_ask
       compose_refused l = told_refuse q (entry_is (tab n f) (asked s rs w) j h e ∙ rw (component_past (tab n f) i (rw length-tab l)))

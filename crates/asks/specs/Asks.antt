@@ -2,6 +2,7 @@
 use Rattle.std.specs.Prelude.{ℕ, zero, suc, ◌<◌, ◌≡◌, List, length, get_or}
 use Rattle.std.proofs.Math.Option.{Option, some, none as nothing}
 use Rattle.std.proofs.Math.ListN.{get_elem?}
+use Rattle.field.specs.Refusal.{number}
 use Rattle.part.specs.PartReq.{spine}
 use Rattle.module.specs.Module.{Module}
 use Rattle.module.specs.Tables.{module_of}
@@ -20,7 +21,7 @@ said s rs (Operand h) w = some (of_operand h.0 (asked s rs w))
 said s rs (Argument i) w = some (of_argument i (asked s rs w))
 said s rs (Global g) w = some (of_global g.0 (asked s rs w))
 said s rs (Local l) w = some (of_local l.0 (asked s rs w))
-said s rs (Refuse n) w = some (refuse n)
+said s rs (Refuse r) w = some (refuse (number r))
 said s rs End w = nothing
 
 -- a says what the arm that asks xs does at j
@@ -34,7 +35,7 @@ Within globals arguments locals e (Operand h) = h.0 < e
 Within globals arguments locals e (Argument i) = (i < arguments) × (i < spine)
 Within globals arguments locals e (Global g) = (g.0 < globals) × (g.0 < spine)
 Within globals arguments locals e (Local l) = (l.0 < locals) × (l.0 < spine)
-Within globals arguments locals e (Refuse n) = Unit {0}
+Within globals arguments locals e (Refuse r) = Unit {0}
 Within globals arguments locals e End = Unit {0}
 
 -- the module was read, and has the expression e of the function f

@@ -12,6 +12,7 @@ ghost use Rattle.asks.specs.Asks.{Told, Lettered};
 
 use crate::what::{Ask, What};
 use access::kinded::{Kinded, expression_operand, operand};
+use field::refusal::Refusal;
 use memory::layout::ALL;
 use memory::want::{Want, child, entry, is_all, is_exist, swizzle, want_of, wrap_over};
 use module::handles::ExpressionHandle;
@@ -29,7 +30,7 @@ pub fn access_index(bytes: &[u8], cells: &[u32], slots: &[u32], row: Kinded, w: 
     let i = operand(bytes, row, 1) as u32;
     if wrap_over(cells, slots, w, i) {
         return Ask {
-            what: What::Refuse(15),
+            what: What::Refuse(Refusal::PartLimit),
             want: w,
         };
     }
@@ -60,7 +61,7 @@ pub fn constant(cells: &[u32], slots: &[u32], w: Want, j: u32) -> Ask
         return end;
     }
     Ask {
-        what: What::Refuse(13),
+        what: What::Refuse(Refusal::Panic),
         want: w,
     }
 }
@@ -101,7 +102,7 @@ pub fn swizzle_ask(bytes: &[u8], cells: &[u32], slots: &[u32], row: Kinded, w: W
     let pattern = letters(bytes, row);
     let Some(slot) = swizzle(cells, slots, w, pattern) else {
         return Ask {
-            what: What::Refuse(13),
+            what: What::Refuse(Refusal::Panic),
             want: w,
         };
     };
@@ -149,7 +150,7 @@ pub fn compose(bytes: &[u8], cells: &[u32], slots: &[u32], row: Kinded, w: Want,
     };
     if n <= i {
         return Ask {
-            what: What::Refuse(13),
+            what: What::Refuse(Refusal::Panic),
             want: w,
         };
     }

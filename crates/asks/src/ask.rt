@@ -8,6 +8,7 @@ use crate::arms::{access_index, compose, constant, swizzle_ask};
 use crate::fields::field_ask;
 use crate::what::{Ask, What};
 use access::kinded::{expression, global_operand, local_operand, operand};
+use field::refusal::Refusal;
 use memory::want::Want;
 use module::handles::{ExpressionHandle, FunctionHandle};
 
@@ -52,7 +53,7 @@ pub fn ask(
         9 => only(What::Argument(operand(bytes, row, 0) as u32), w, j),
         10 => only(What::Global(global_operand(bytes, row, 0)), w, j),
         11 => only(What::Local(local_operand(bytes, row, 0)), w, j),
-        31 => only(What::Refuse(13), w, j),
+        31 => only(What::Refuse(Refusal::Panic), w, j),
         _ => field_ask(bytes, cells, slots, row, w, j),
     }
 }

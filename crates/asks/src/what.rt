@@ -1,4 +1,5 @@
 // One thing that an arm does, and the part by value that it asks.
+use field::refusal::Refusal;
 use memory::want::Want;
 use module::handles::{ExpressionHandle, GlobalHandle, LocalHandle};
 
@@ -8,7 +9,7 @@ pub enum What {
     Argument(u32),
     Global(GlobalHandle),
     Local(LocalHandle),
-    Refuse(u32),
+    Refuse(Refusal),
     // the arm does no more
     End,
 }

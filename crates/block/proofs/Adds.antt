@@ -4,6 +4,7 @@ use native.Mathlib.Omega.{arith}
 use mathlib.Core.Path.{◌≡◌, sym, ap, ◌∙◌}
 use mathlib.Core.Bool.{Bool, true, false}
 use mathlib.Core.List.{List}
+use Rattle.std.specs.Prelude.{Some, None}
 use Rattle.part.specs.StoreLimits.{entries_cap}
 use Rattle.module.specs.Module.{FunctionHandle}
 use Rattle.context.specs.RequiredContext.{RequiredContext, pieces}
@@ -15,7 +16,6 @@ use Rattle.memory.specs.Memory.{read, context_at}
 use Rattle.state.specs.State.{records_in}
 use Rattle.block.specs.Total.{total_count, TotalMade, TotalKept, TotalJoined, Weighing}
 use Rattle.block.specs.Adding.{Adding, kept_marks, joined_marks, Added, FirstTotal, joint, IsLater}
-use Rattle.block.specs.declared.added.Joint.TheVariants.{Sum, Over}
 use Rattle.block.proofs.Unroll.{limited_within, limited_over}
 
 module _ {t places s rs open_marks totals : List ℕ} {f : FunctionHandle} {at sum : ℕ} (A : Adding t places s rs open_marks totals f at sum) where
@@ -64,11 +64,11 @@ module _ {t places s rs open_marks totals : List ℕ} {f : FunctionHandle} {at s
   later_small = pieces-merge (context_at (read s rs) (functions_slot + 4 * f)) (context_at (read s rs) at)
 
   module _ {b : Bool} {u us : List ℕ} (J : TotalJoined t f at s rs b u us) where
-    pub later_over : {after : List ℕ} → b ≡ true → IsLater t places s rs open_marks totals f at sum Over u us after
+    pub later_over : {after : List ℕ} → b ≡ true → IsLater t places s rs open_marks totals f at sum None u us after
     later_over e = record { is = λ here st. limited_over here (joint s rs f at) st (sym e ∙ J.over); by = tt }
 
     pub later_is : {after : List ℕ} {less more : ℕ} → b ≡ false → less ≡ total_count t f (read s rs) → more ≡ total_count t f (read u us)
-        → after ≡ joined_marks places open_marks totals f → IsLater t places s rs open_marks totals f at sum (Sum (sum - less + more)) u us after
+        → after ≡ joined_marks places open_marks totals f → IsLater t places s rs open_marks totals f at sum (Some (sum - less + more)) u us after
     later_is z e g h = record {
       is = λ here st. limited_within here (joint s rs f at) st (sym z ∙ J.over);
       by = record { within = sym J.over ∙ z; added = added_is J.made later_small e g; marks = h; few = sum_few J.made later_small e g };

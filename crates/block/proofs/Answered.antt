@@ -5,6 +5,8 @@ use mathlib.Core.Path.{◌≡◌, refl, sym, ap, ◌∙◌, subst}
 use mathlib.Core.Bool.{Bool}
 use mathlib.Core.List.{List}
 use lib.ListN.{length}
+use Rattle.std.specs.Prelude.{Result, Ok, Err}
+use Rattle.field.specs.Refusal.{number}
 use Rattle.module.specs.Module.{FunctionHandle, BlockHandle, Function}
 use Rattle.module.specs.Tables.{max_items, row_at, module_of}
 use Rattle.access.proofs.Access.{blocks-are}
@@ -18,22 +20,21 @@ use Rattle.sound.proofs.Blocks.{record_within}
 use Rattle.marks.proofs.Placed.{at_function}
 use Rattle.state.specs.State.{place_of}
 use Rattle.state.specs.Ready.{WasRead}
-use Rattle.state.specs.declared.answer.Answered.{Answered}
-use Rattle.state.specs.declared.answer.Answered.TheVariants.{Went, Halt}
 use Rattle.state.specs.declared.answer.Tally.{Tally}
-use Rattle.state.specs.declared.answer.Place.{Place}
+use Rattle.state.specs.declared.answer.Halt.{Halt}
+use Rattle.state.specs.declared.answer.Answer.{Answer}
 use Rattle.block.specs.Blocks.{BlockEnded, BlockEnding, BlockEnds}
 use Rattle.block.specs.Visiting.{block_in}
 use Rattle.block.specs.Pairing.{add_pair}
 
-module _ {bytes t types places s rs open_marks totals : List ℕ} {f : FunctionHandle} {base at held own sum : ℕ} {total : Out Bool} {r : Answered} {u us open_after totals-after : List ℕ}
+module _ {bytes t types places s rs open_marks totals : List ℕ} {f : FunctionHandle} {base at held own sum : ℕ} {total : Out Bool} {r : Result Answer Halt} {u us open_after totals-after : List ℕ}
     (E : BlockEnds bytes t types places s rs open_marks totals f base at held own sum total r u us open_after totals-after) where
-  pub block_went : {tally : Tally} {b : Bool} → r ≡ Went tally b
+  pub block_went : {tally : Tally} {b : Bool} → r ≡ Ok (record { tally = tally; required = b })
       → BlockEnded bytes t types places s rs open_marks totals f base at held own sum total tally.visits tally.sum b u us open_after totals-after
-  block_went e = subst (λ (x : Answered). BlockEnding bytes t types places s rs open_marks totals f base at held own sum total x u us open_after totals-after) e E.by
+  block_went e = subst (λ (x : Result Answer Halt). BlockEnding bytes t types places s rs open_marks totals f base at held own sum total x u us open_after totals-after) e E.by
 
-  pub block_halt : {n : ℕ} {place : Place} → r ≡ Halt n place → halt n (place_of place) ≡ total
-  block_halt e = subst (λ (x : Answered). BlockEnding bytes t types places s rs open_marks totals f base at held own sum total x u us open_after totals-after) e E.by
+  pub block_halt : {stop : Halt} → r ≡ Err stop → halt (number stop.refusal) (place_of stop.place) ≡ total
+  block_halt e = subst (λ (x : Result Answer Halt). BlockEnding bytes t types places s rs open_marks totals f base at held own sum total x u us open_after totals-after) e E.by
 
 module _ {bytes t : List ℕ} (w : WasRead bytes t) (f : FunctionHandle) where
   -- from any context

@@ -6,6 +6,8 @@ use mathlib.Core.List.{List}
 use mathlib.Core.Option.{some, none as nothing}
 use lib.ListN.{get_or}
 use borrow.Author.Tests.{eq-eqb, ne_eqb}
+use Rattle.std.specs.Prelude.{Option, Some, None, Ok, Err}
+use Rattle.field.specs.declared.refusal.Refusal.TheVariants.{Panic, PartLimit}
 use Rattle.module.specs.declared.handles.FunctionHandle.{FunctionHandle as Handle}
 use Rattle.module.specs.Module.{FunctionHandle}
 use Rattle.module.specs.Tables.{module_of}
@@ -17,11 +19,8 @@ use Rattle.std.specs.Prelude.{Option, Some, None}
 use Rattle.state.specs.State.{place_of}
 use Rattle.state.specs.declared.answer.Place.{Place}
 use Rattle.state.specs.declared.answer.Place.TheVariants as position
-use Rattle.state.specs.declared.answer.Walked.TheVariants.{Went, Halt}
 use Rattle.block.specs.Adding.{FirstTotal, joint, joint_out, IsLater, Later}
 use Rattle.block.specs.AddTotal.{TotalEnds}
-use Rattle.block.specs.declared.added.Joint.{Joint}
-use Rattle.block.specs.declared.added.Joint.TheVariants.{Sum, Over}
 use Rattle.block.proofs.Keeping.{beside_total}
 use Rattle.block.proofs.Finals.{first_added, first_standing, ray_meets, over_meets, later_added, later_standing}
 
@@ -33,7 +32,7 @@ flag totals f e = rw (ne_eqb (get_or totals f 0) 0 e)
 
 module _ {bytes t places s rs open_marks totals : List ℕ} {f : FunctionHandle} {at sum : ℕ} (visits : ℕ) (here : Place) where
   pub total_first : {us after : List ℕ} {k : ℕ} → get_or totals f 0 ≡ 0 → FirstTotal t places s rs open_marks totals f at sum k us after
-      → TotalEnds bytes t places s rs open_marks totals f at sum visits here (Went (record { visits = visits; sum = k })) s us after
+      → TotalEnds bytes t places s rs open_marks totals f at sum visits here (Ok (record { visits = visits; sum = k })) s us after
   total_first e T = record {
     by = λ types held S.
         let n = no_flag totals f e in
@@ -46,27 +45,27 @@ module _ {bytes t places s rs open_marks totals : List ℕ} {f : FunctionHandle}
   }
 
   module _ (ne : get_or totals f 0 ≡ 0 → ⊥) (r : Option ℕ) (ray : ray_in r ≡ first_ray (module_of bytes t) f (body_of (module_of bytes t) f)) where
-    pub total_ray : {g : Handle} {k : ℕ} → g.0 ≡ f → r ≡ Some k → TotalEnds bytes t places s rs open_marks totals f at sum visits here (Halt 13 (position.Statement g k)) s rs totals
+    pub total_ray : {g : Handle} {k : ℕ} → g.0 ≡ f → r ≡ Some k → TotalEnds bytes t places s rs open_marks totals f at sum visits here (Err (record { refusal = Panic; place = position.Statement g k })) s rs totals
     total_ray {g} {k} z e = record {
       by = λ types held S.
           let is : some k ≡ first_ray (module_of bytes t) f (body_of (module_of bytes t) f) = subst (λ (x : Option ℕ). ray_in x ≡ first_ray (module_of bytes t) f (body_of (module_of bytes t) f)) e ray in
           rw z (ray_meets S (flag totals f ne) visits (place_of here) is);
     }
 
-    module _ {u us after : List ℕ} (j : Joint) (L : IsLater t places s rs open_marks totals f at sum j u us after) (e : r ≡ None) where
-      pub total_over : j ≡ Over → TotalEnds bytes t places s rs open_marks totals f at sum visits here (Halt 15 here) u us after
+    module _ {u us after : List ℕ} (j : Option ℕ) (L : IsLater t places s rs open_marks totals f at sum j u us after) (e : r ≡ None) where
+      pub total_over : j ≡ None → TotalEnds bytes t places s rs open_marks totals f at sum visits here (Err (record { refusal = PartLimit; place = here })) u us after
       total_over z = record {
         by = λ types held S.
             let no-ray : nothing ≡ first_ray (module_of bytes t) f (body_of (module_of bytes t) f) = subst (λ (x : Option ℕ). ray_in x ≡ first_ray (module_of bytes t) f (body_of (module_of bytes t) f)) e ray in
             over_meets S (flag totals f ne) visits (place_of here) no-ray
-            (λ st. subst (λ (x : Joint). joint_out x (place_of here) st ≡ limited_context (place_of here) (joint s rs f at) st) z (L.is (place_of here) st));
+            (λ st. subst (λ (x : Option ℕ). joint_out x (place_of here) st ≡ limited_context (place_of here) (joint s rs f at) st) z (L.is (place_of here) st));
       }
 
-      pub total_later : {k : ℕ} → j ≡ Sum k → TotalEnds bytes t places s rs open_marks totals f at sum visits here (Went (record { visits = visits; sum = k })) u us after
+      pub total_later : {k : ℕ} → j ≡ Some k → TotalEnds bytes t places s rs open_marks totals f at sum visits here (Ok (record { visits = visits; sum = k })) u us after
       total_later z = record {
         by = λ types held S.
             let no-ray : nothing ≡ first_ray (module_of bytes t) f (body_of (module_of bytes t) f) = subst (λ (x : Option ℕ). ray_in x ≡ first_ray (module_of bytes t) f (body_of (module_of bytes t) f)) e ray in
-            let T = subst (λ (x : Joint). Later t places s rs open_marks totals f at sum x u us after) z L.by in
+            let T = subst (λ (x : Option ℕ). Later t places s rs open_marks totals f at sum x u us after) z L.by in
             record {
               is = later_added S (flag totals f ne) visits (place_of here) no-ray T;
               few = T.few;

@@ -7,6 +7,7 @@ use mathlib.Core.Bool.{Bool, true, false, cond}
 use mathlib.Core.List.{List}
 use mathlib.Core.Option.{Option, some, none as nothing}
 use lib.ListN.{length, get_or}
+use Rattle.std.specs.Prelude.{Result, Ok, Err}
 use Rattle.field.specs.Limits.{max_pieces}
 use Rattle.part.specs.PartReq.{PartReq, none, entries}
 use Rattle.module.specs.Module.{FunctionHandle, BlockHandle, Function, Module}
@@ -23,12 +24,10 @@ use Rattle.memory.specs.Memory.{read, context_at}
 use Rattle.marks.proofs.Placed.{at_function}
 use Rattle.state.specs.State.{place_of}
 use Rattle.state.specs.Ready.{WasRead}
-use Rattle.state.specs.declared.answer.Answered.{Answered}
-use Rattle.state.specs.declared.answer.Answered.TheVariants.{Went, Halt}
-use Rattle.state.specs.declared.answer.Walked.{Walked}
-use Rattle.state.specs.declared.answer.Walked.TheVariants as walked
 use Rattle.state.specs.declared.answer.Tally.{Tally}
 use Rattle.state.specs.declared.answer.Place as declared
+use Rattle.state.specs.declared.answer.Halt.{Halt}
+use Rattle.state.specs.declared.answer.Answer.{Answer}
 use Rattle.block.specs.Standing.{functions_in, state_in}
 use Rattle.block.specs.Blocks.{context_in, Entered, Settled, untouched, checked, BlockEnded, BlockEnds}
 use Rattle.block.specs.AddTotal.{TotalAsked, TotalEnded, TotalEnding, TotalEnds}
@@ -175,15 +174,15 @@ module _ {bytes t types places s rs open_marks totals : List ℕ} {f : FunctionH
           ∙ ap (λ (c : RequiredContext). block_in bytes t f body held c false (walk.with_context asked start)) context_is
           ∙ ap (block_in bytes t f body held asked false) entered-is)
 
-      module _ {r : Answered} {u us open-1 totals-1 : List ℕ}
+      module _ {r : Result Answer Halt} {u us open-1 totals-1 : List ℕ}
           (E : BlockEnds bytes t types places s rs open_marks totals f base (base + 4) held (held + context_in s rs base) sum Walks r u us open-1 totals-1) where
-        pub function_halt : {n : ℕ} {place : declared.Place} → r ≡ Halt n place
-            → FunctionEnds bytes t types places s rs open_marks totals f base held whole (Halt n place) u us open-1 totals-1
+        pub function_halt : {stop : Halt} → r ≡ Err stop
+            → FunctionEnds bytes t types places s rs open_marks totals f base held whole (Err stop) u us open-1 totals-1
         function_halt e = record {
           by = sym (step_is ∙ body_stops m f (place_of here) held (get_or (read s rs) base none) (get_or (read s rs) (base + 3) none) start (block_halt E e ∙ walks_is));
         }
 
-        module _ {tally : Tally} {required : Bool} (e : r ≡ Went tally required) where
+        module _ {tally : Tally} {required : Bool} (e : r ≡ Ok (record { tally = tally; required = required })) where
           ended : BlockEnded bytes t types places s rs open_marks totals f base (base + 4) held (held + context_in s rs base) sum Walks tally.visits tally.sum required u us open-1 totals-1
           ended = block_went E e
 
@@ -196,7 +195,7 @@ module _ {bytes t types places s rs open_marks totals : List ℕ} {f : FunctionH
           pub body_asked : TotalAsked bytes t places u us open-1 totals-1 f (base + 4) tally.sum
           body_asked = total_asked ended.standing left_few (omega (arith, left_sum)) ended.roomy
 
-          module _ {q : Walked} {v vs after : List ℕ} (T : TotalEnds bytes t places u us open-1 totals-1 f (base + 4) tally.sum tally.visits here q v vs after) where
+          module _ {q : Result Tally Halt} {v vs after : List ℕ} (T : TotalEnds bytes t places u us open-1 totals-1 f (base + 4) tally.sum tally.visits here q v vs after) where
             abbrev Totalled : Out (Unit {0})
             Totalled =
                 add_total m f (place_of here) (get_or (functions_in m t (read u us) totals-1) f nothing) (state_in bytes t u us open-1 totals-1 f (base + 4) tally.visits)
@@ -204,17 +203,17 @@ module _ {bytes t types places s rs open_marks totals : List ℕ} {f : FunctionH
             told : TotalEnding bytes t types places u us open-1 f (base + 4) (held + context_in s rs base) tally.sum Totalled q v vs after
             told = T.by types (held + context_in s rs base) ended.standing
 
-            pub function_halt_2 : {n : ℕ} {place : declared.Place} → q ≡ walked.Halt n place
-                → FunctionEnds bytes t types places s rs open_marks totals f base held whole (Halt n place) v vs open-1 after
+            pub function_halt_2 : {stop : Halt} → q ≡ Err stop
+                → FunctionEnds bytes t types places s rs open_marks totals f base held whole (Err stop) v vs open-1 after
             function_halt_2 g = record {
               by = sym (step_is
                   ∙ total_stops m f (place_of here) held (get_or (read s rs) base none) (get_or (read s rs) (base + 3) none) start (ended.is ∙ walks_is)
-                  (subst (λ (x : Walked). TotalEnding bytes t types places u us open-1 f (base + 4) (held + context_in s rs base) tally.sum Totalled x v vs after) g told));
+                  (subst (λ (x : Result Tally Halt). TotalEnding bytes t types places u us open-1 f (base + 4) (held + context_in s rs base) tally.sum Totalled x v vs after) g told));
             }
 
-            module _ {left : Tally} (g : q ≡ walked.Went left) where
+            module _ {left : Tally} (g : q ≡ Ok left) where
               totalled : TotalEnded bytes t types places u us open-1 f (base + 4) (held + context_in s rs base) tally.sum Totalled left.visits left.sum v vs after
-              totalled = subst (λ (x : Walked). TotalEnding bytes t types places u us open-1 f (base + 4) (held + context_in s rs base) tally.sum Totalled x v vs after) g told
+              totalled = subst (λ (x : Result Tally Halt). TotalEnding bytes t types places u us open-1 f (base + 4) (held + context_in s rs base) tally.sum Totalled x v vs after) g told
 
               own_same : context_at (read v vs) (base + 4) ≡ context_at (read u us) (base + 4)
               own_same =
@@ -227,7 +226,7 @@ module _ {bytes t types places s rs open_marks totals : List ℕ} {f : FunctionH
               sum_few : left.sum ≤ 4 * max_pieces
               sum_few = omega (arith, totalled.few, left_sum, left_few, ended.standing.ready.sums)
 
-              pub function_ends : FunctionEnds bytes t types places s rs open_marks totals f base held whole (Went left required) v vs open-1 after
+              pub function_ends : FunctionEnds bytes t types places s rs open_marks totals f base held whole (Ok (record { tally = left; required = required })) v vs open-1 after
               function_ends = record {
                 by = record {
                   is = sym (step_is

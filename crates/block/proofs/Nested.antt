@@ -5,6 +5,7 @@ use mathlib.Core.Path.{◌≡◌, sym, ap, ◌∙◌}
 use mathlib.Core.Bool.{Bool}
 use mathlib.Core.List.{List}
 use lib.ListN.{length}
+use Rattle.std.specs.Prelude.{Result, Ok, Err}
 use Rattle.part.specs.StoreLimits.{entries_cap}
 use Rattle.module.specs.Module.{BlockHandle}
 use Rattle.access.specs.Access.{operand_at}
@@ -18,11 +19,10 @@ use Rattle.memory.proofs.Runs.{context_pieces}
 use Rattle.marks.specs.Ray.{held_count, held_number}
 use Rattle.marks.proofs.Rays.{held_block}
 use Rattle.state.specs.Frame.{frame_of}
-use Rattle.state.specs.declared.answer.Answered.{Answered}
-use Rattle.state.specs.declared.answer.Answered.TheVariants.{Went, Halt}
 use Rattle.state.specs.declared.answer.Tally.{Tally}
-use Rattle.state.specs.declared.answer.Place.{Place}
 use Rattle.state.specs.declared.frame.Frame.{Frame}
+use Rattle.state.specs.declared.answer.Halt.{Halt}
+use Rattle.state.specs.declared.answer.Answer.{Answer}
 use Rattle.block.specs.Standing.{state_in}
 use Rattle.block.specs.Saved.{Lowered}
 use Rattle.block.specs.Blocks.{context_in, Entered, BlockEnded, BlockEnds, StatementEnds}
@@ -78,15 +78,15 @@ module _ {bytes t types places s rs open_marks totals : List ℕ} {fr : Frame} {
       pub nested_enters : Entered bytes t types places s rs open_marks totals fr.function.0 inner fr.at (fr.at + 4) (fr.held + w) (fr.held + w + context_in s rs fr.at) sum visits
       nested_enters = rw weight (enters_more nested_held (omega arith))
 
-      module _ {r : Answered} {u us open_after totals-after : List ℕ}
+      module _ {r : Result Answer Halt} {u us open_after totals-after : List ℕ}
           (E : BlockEnds bytes t types places s rs open_marks totals fr.function.0 fr.at (fr.at + 4) (fr.held + w) (fr.held + w + context_in s rs fr.at) sum (Inside w) r u us open_after totals-after) where
-        pub nested_stops : {n : ℕ} {place : Place} → r ≡ Halt n place
-            → StatementEnds bytes t types places s rs open_marks totals fr whole StatementReq.BlockStmt (Halt n place) u us open_after totals-after
+        pub nested_stops : {stop : Halt} → r ≡ Err stop
+            → StatementEnds bytes t types places s rs open_marks totals fr whole StatementReq.BlockStmt (Err stop) u us open_after totals-after
         nested_stops e = record {
           by = sym (nested_halt (block_in bytes t fr.function.0) (frame_of s rs fr) (operand_at bytes row 0) start (block_halt E e ∙ ap Inside weight ∙ inside_is));
         }
 
-        module _ {tally : Tally} {required : Bool} (e : r ≡ Went tally required) where
+        module _ {tally : Tally} {required : Bool} (e : r ≡ Ok (record { tally = tally; required = required })) where
           ended : BlockEnded bytes t types places s rs open_marks totals fr.function.0 fr.at (fr.at + 4) (fr.held + context_in s rs fr.at) (fr.held + context_in s rs fr.at) sum (Inside (context_in s rs fr.at)) tally.visits tally.sum required u us open_after totals-after
           ended = ends_less nested_held (omega arith) (rw weight at (block_went E e))
 
@@ -94,7 +94,7 @@ module _ {bytes t types places s rs open_marks totals : List ℕ} {fr : Frame} {
           nested_lowers = omega (arith, ended.standing.ready.high)
 
           pub nested_ends : {vs : List ℕ} → Lowered us fr.at vs
-              → StatementEnds bytes t types places s rs open_marks totals fr whole StatementReq.BlockStmt (Went tally required) u vs open_after totals-after
+              → StatementEnds bytes t types places s rs open_marks totals fr whole StatementReq.BlockStmt (Ok (record { tally = tally; required = required })) u vs open_after totals-after
           nested_ends L = record {
             by = record {
               is = sym (nested_done (block_in bytes t fr.function.0) (frame_of s rs fr) (operand_at bytes row 0) start (lowered_is A.begins.standing ended L ∙ inside_is));

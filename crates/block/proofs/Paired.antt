@@ -6,6 +6,7 @@ use mathlib.Core.Path.{◌≡◌, sym, ap, ◌∙◌}
 use mathlib.Core.Bool.{Bool, ◌||◌}
 use mathlib.Core.List.{List}
 use lib.ListN.{length}
+use Rattle.std.specs.Prelude.{Result, Ok, Err}
 use Rattle.field.specs.Limits.{max_pieces}
 use Rattle.part.specs.StoreLimits.{entries_cap}
 use Rattle.module.specs.Module.{FunctionHandle, BlockHandle}
@@ -14,10 +15,9 @@ use Rattle.walk.specs.State.{State, Place, Out, went, halt}
 use Rattle.walk.specs.Statement.{BlockWalk}
 use Rattle.memory.specs.Memory.{read, sum_from, context_at, Memory}
 use Rattle.memory.proofs.Runs.{context_pieces}
-use Rattle.state.specs.declared.answer.Answered.{Answered}
-use Rattle.state.specs.declared.answer.Answered.TheVariants.{Went, Halt}
 use Rattle.state.specs.declared.answer.Tally.{Tally}
-use Rattle.state.specs.declared.answer.Place as declared
+use Rattle.state.specs.declared.answer.Halt.{Halt}
+use Rattle.state.specs.declared.answer.Answer.{Answer}
 use Rattle.block.specs.Standing.{state_in, Standing}
 use Rattle.block.specs.Blocks.{context_in, Entered, BlockEnded, BlockEnds}
 use Rattle.block.specs.Visiting.{block_in}
@@ -76,13 +76,13 @@ module _ {bytes t types places s rs open_marks totals : List ℕ} {f : FunctionH
     abbrev whole : Out (RequiredContext × Bool)
     whole = add_pair (block_in bytes t f) first second held (context_at (read s rs) base) required start
 
-    module _ {r : Answered} {u us open-1 totals-1 : List ℕ}
+    module _ {r : Result Answer Halt} {u us open-1 totals-1 : List ℕ}
         (E : BlockEnds bytes t types places s rs open_marks totals f base at held (held + context_in s rs base) sum (block_in bytes t f first held (context_at (read s rs) base) required start) r u us open-1 totals-1) where
-      pub pair_halt : {n : ℕ} {place : declared.Place} → r ≡ Halt n place
-          → PairEnds bytes t types places s rs open_marks totals f base at held whole (Halt n place) u us open-1 totals-1
+      pub pair_halt : {stop : Halt} → r ≡ Err stop
+          → PairEnds bytes t types places s rs open_marks totals f base at held whole (Err stop) u us open-1 totals-1
       pair_halt e = record { by = sym (pair_stops (block_in bytes t f) first second held (context_at (read s rs) base) required start (block_halt E e)) }
 
-      module _ {tally : Tally} {a : Bool} (e : r ≡ Went tally a) where
+      module _ {tally : Tally} {a : Bool} (e : r ≡ Ok (record { tally = tally; required = a })) where
         ended : BlockEnded bytes t types places s rs open_marks totals f base at held held sum (block_in bytes t f first held (context_at (read s rs) base) required start) tally.visits tally.sum a u us open-1 totals-1
         ended = ends_less first-held (omega arith) (block_went E e)
 
@@ -135,22 +135,22 @@ module _ {bytes t types places s rs open_marks totals : List ℕ} {f : FunctionH
           second_is = rw weight second_anywhere
 
           -- and the second
-          module _ {q : Answered} {v vs open-2 totals-2 : List ℕ}
+          module _ {q : Result Answer Halt} {v vs open-2 totals-2 : List ℕ}
               (D : BlockEnds bytes t types places u us open-1 totals-1 f base (at + 4) (held + w) (held + w + context_in u us base) tally.sum (Second w) q v vs open-2 totals-2) where
-            pub pair_halt_2 : {n : ℕ} {place : declared.Place} → q ≡ Halt n place
-                → PairEnds bytes t types places s rs open_marks totals f base at held whole (Halt n place) v vs open-2 totals-2
+            pub pair_halt_2 : {stop : Halt} → q ≡ Err stop
+                → PairEnds bytes t types places s rs open_marks totals f base at held whole (Err stop) v vs open-2 totals-2
             pair_halt_2 g = record {
               by = sym (pair_stops_2 (block_in bytes t f) first second held (context_at (read s rs) base) required start ended.is (block_halt D g ∙ second_is));
             }
 
-            module _ {left : Tally} {c : Bool} (g : q ≡ Went left c) where
+            module _ {left : Tally} {c : Bool} (g : q ≡ Ok (record { tally = left; required = c })) where
               continued : BlockEnded bytes t types places u us open-1 totals-1 f base (at + 4) (held + context_in u us at) (held + context_in u us at) tally.sum (Second (context_in u us at)) left.visits left.sum c v vs open-2 totals-2
               continued = ends_less second-held (omega arith) (rw weight at (block_went D g))
 
               first_same : context_at (read v vs) at ≡ context_at (read u us) at
               first_same = beside_context continued.beside at P.standing.ready.low (omega arith)
 
-              pub pair_ends : {o : Bool} → o ≡ (a || c) → PairEnds bytes t types places s rs open_marks totals f base at held whole (Went left o) v vs open-2 totals-2
+              pub pair_ends : {o : Bool} → o ≡ (a || c) → PairEnds bytes t types places s rs open_marks totals f base at held whole (Ok (record { tally = left; required = o })) v vs open-2 totals-2
               pair_ends h = record {
                 by = record {
                   is = rw (first_same, h)

@@ -6,6 +6,7 @@ use mathlib.Core.Path.{◌≡◌, refl, sym, ap, ◌∙◌, subst}
 use mathlib.Core.Bool.{Bool, false, ◌||◌}
 use mathlib.Core.List.{List}
 use lib.ListN.{length, get_or}
+use Rattle.std.specs.Prelude.{Result, Ok, Err}
 use Rattle.field.specs.Limits.{max_statements}
 use Rattle.part.specs.Store.{Room}
 use Rattle.part.specs.StoreLimits.{entries_cap}
@@ -30,11 +31,10 @@ use Rattle.marks.specs.Ray.{BlockOf, StatementIn}
 use Rattle.marks.proofs.Rays.{statement_in, statement_small}
 use Rattle.marks.proofs.Placed.{at_function}
 use Rattle.state.specs.Frame.{frame_of}
-use Rattle.state.specs.declared.answer.Answered.{Answered}
-use Rattle.state.specs.declared.answer.Answered.TheVariants.{Went, Halt}
 use Rattle.state.specs.declared.answer.Tally.{Tally}
-use Rattle.state.specs.declared.answer.Place.{Place}
 use Rattle.state.specs.declared.frame.Frame.{Frame}
+use Rattle.state.specs.declared.answer.Halt.{Halt}
+use Rattle.state.specs.declared.answer.Answer.{Answer}
 use Rattle.block.specs.Standing.{state_in, Standing}
 use Rattle.block.specs.Saved.{Saved}
 use Rattle.block.specs.Blocks.{context_in, Entered, Beside, Settled, untouched, checked, BlockEnds}
@@ -160,7 +160,7 @@ module _ {bytes t types places s rs open_marks totals : List ℕ} (f : Handle) {
         now = state_in bytes t u us open-1 totals-1 f.0 at v
 
         -- none is left
-        pub none_left : n ≤ 0 → BlockEnds bytes t types places s rs open_marks totals f.0 base at held (held + context_in s rs base) sum whole (Went (record { visits = v; sum = m }) needed) u us open-1 totals-1
+        pub none_left : n ≤ 0 → BlockEnds bytes t types places s rs open_marks totals f.0 base at held (held + context_in s rs base) sum whole (Ok (record { tally = (record { visits = v; sum = m }); required = needed })) u us open-1 totals-1
         none_left l =
             let z : n ≡ 0 = omega arith in
             record {
@@ -204,16 +204,16 @@ module _ {bytes t types places s rs open_marks totals : List ℕ} (f : Handle) {
           left_is : add_statements visits_one first (suc (n - 1)) behind needed now ≡ Begun
           left_is = let z : n ≡ suc (n - 1) = omega arith in subst (λ (k : ℕ). add_statements visits_one first k behind needed now ≡ Begun) z L.rest
 
-          module _ {r : Answered} {x xs open-2 totals-2 : List ℕ} (R : VisitEnds bytes t types places u us open-1 totals-1 frame Visited r x xs open-2 totals-2) where
-            pub statements_stop : {c : ℕ} {place : Place} → r ≡ Halt c place
-                → BlockEnds bytes t types places s rs open_marks totals f.0 base at held (held + context_in s rs base) sum whole (Halt c place) x xs open-2 totals-2
+          module _ {r : Result Answer Halt} {x xs open-2 totals-2 : List ℕ} (R : VisitEnds bytes t types places u us open-1 totals-1 frame Visited r x xs open-2 totals-2) where
+            pub statements_stop : {stop : Halt} → r ≡ Err stop
+                → BlockEnds bytes t types places s rs open_marks totals f.0 base at held (held + context_in s rs base) sum whole (Err stop) x xs open-2 totals-2
             statements_stop e =
-                let h = subst (λ (y : Answered). VisitEnding bytes t types places u us open-1 totals-1 frame Visited y x xs open-2 totals-2) e R.by in
+                let h = subst (λ (y : Result Answer Halt). VisitEnding bytes t types places u us open-1 totals-1 frame Visited y x xs open-2 totals-2) e R.by in
                 record { by = sym (statements_halt visits_one first behind needed now (n - 1) (h ∙ visited_is)) ∙ left_is ∙ begun_is }
 
-            module _ {tally : Tally} {q : Bool} (e : r ≡ Went tally q) where
+            module _ {tally : Tally} {q : Bool} (e : r ≡ Ok (record { tally = tally; required = q })) where
               ended : VisitEnded bytes t types places u us open-1 totals-1 frame Visited tally.visits tally.sum q x xs open-2 totals-2
-              ended = subst (λ (y : Answered). VisitEnding bytes t types places u us open-1 totals-1 frame Visited y x xs open-2 totals-2) e R.by
+              ended = subst (λ (y : Result Answer Halt). VisitEnding bytes t types places u us open-1 totals-1 frame Visited y x xs open-2 totals-2) e R.by
 
               pub statements_next : {o p : Bool} → o ≡ (behind || q) → p ≡ (needed || q)
                   → StatementsLeft bytes t types places s bs open_marks totals f.0 b base at held sum Begun first inner tally.visits tally.sum o p (n - 1) x xs open-2 totals-2

@@ -6,6 +6,7 @@ use mathlib.Core.Path.{◌≡◌, refl, sym, ap, ◌∙◌}
 use mathlib.Core.Bool.{Bool}
 use mathlib.Core.List.{List}
 use lib.ListN.{length, get_or}
+use Rattle.std.specs.Prelude.{Result, Ok, Err}
 use Rattle.field.specs.Limits.{max_pieces}
 use Rattle.part.specs.PartReq.{PartReq, none}
 use Rattle.part.specs.Store.{Room}
@@ -21,9 +22,9 @@ use Rattle.memory.proofs.Runs.{context_same}
 use Rattle.state.specs.State.{state_of}
 use Rattle.state.specs.Ready.{WasRead, Ready}
 use Rattle.state.specs.Frame.{Apart}
-use Rattle.state.specs.declared.answer.Answered.{Answered}
-use Rattle.state.specs.declared.answer.Answered.TheVariants.{Went, Halt}
 use Rattle.state.specs.declared.frame.Frame.{Frame}
+use Rattle.state.specs.declared.answer.Halt.{Halt}
+use Rattle.state.specs.declared.answer.Answer.{Answer}
 use Rattle.block.specs.Standing.{rest_in, state_in, Standing}
 use Rattle.block.specs.Saved.{Popped}
 use Rattle.block.specs.Blocks.{context_in, Deep, Entered, Beside, StatementEnds}
@@ -61,14 +62,14 @@ module _ {bytes t : List ℕ} {f : FunctionHandle} where
   beside_context {s = s} {rs = rs} {u = u} {us = us} b k l h = context_same (read s rs) (read u us) k (λ i x. b.stack (k + i) (omega arith) (omega arith))
 
 -- a statement's end, as one of a statement that began before
-pub ends_from : {A : Type 0} {bytes t types places s rs open_marks totals u us open-1 totals-1 : List ℕ} {fr : Frame} {first total : Out A} {answer : Bool → A} (r : Answered) {x xs open-2 totals-2 : List ℕ}
+pub ends_from : {A : Type 0} {bytes t types places s rs open_marks totals u us open-1 totals-1 : List ℕ} {fr : Frame} {first total : Out A} {answer : Bool → A} (r : Result Answer Halt) {x xs open-2 totals-2 : List ℕ}
     → Beside bytes t fr.function.0 fr.at s rs open_marks u us open-1 → first ≡ total
     → StatementEnds bytes t types places u us open-1 totals-1 fr first answer r x xs open-2 totals-2
     → StatementEnds bytes t types places s rs open_marks totals fr total answer r x xs open-2 totals-2
-ends_from {fr = fr} (Went tally b) k e E = record {
+ends_from {fr = fr} (Ok a) k e E = record {
   by = record { is = E.by.is ∙ e; standing = E.by.standing; beside = beside_then fr.at k E.by.beside (le_refl fr.at) };
 }
-ends_from (Halt n place) k e E = record { by = E.by ∙ e }
+ends_from (Err stop) k e E = record { by = E.by ∙ e }
 
 -- the two contexts at the top made one, where k is the lower of them
 pub beside_popped : {bytes t types places s rs open_marks totals : List ℕ} {f k outer sum visits : ℕ} {c : RequiredContext} {u us : List ℕ}

@@ -1,6 +1,7 @@
 -- The walk just done put into the totals, beside `add_total`: what it asks, and what it leaves of every state that stands so.
-use Rattle.std.specs.Prelude.{◌≡◌, List, ℕ, ◌+◌, ◌*◌, ◌<◌, ◌≤◌, length, get_or}
+use Rattle.std.specs.Prelude.{◌≡◌, List, ℕ, ◌+◌, ◌*◌, ◌<◌, ◌≤◌, length, get_or, Result, Ok, Err}
 use Rattle.std.proofs.Math.Option.{none as nothing}
+use Rattle.field.specs.Refusal.{number}
 use Rattle.part.specs.Store.{Room}
 use Rattle.part.specs.StoreLimits.{entries_cap}
 use Rattle.module.specs.Module.{FunctionHandle}
@@ -14,8 +15,8 @@ use Rattle.memory.specs.Memory.{read, context_at}
 use Rattle.state.specs.State.{records_in, place_of}
 use Rattle.state.specs.Ready.{WasRead}
 use Rattle.state.specs.declared.answer.Place.{Place}
-use Rattle.state.specs.declared.answer.Walked.{Walked}
-use Rattle.state.specs.declared.answer.Walked.TheVariants.{Went, Halt}
+use Rattle.state.specs.declared.answer.Halt.{Halt}
+use Rattle.state.specs.declared.answer.Tally.{Tally}
 use Rattle.block.specs.Standing.{functions_in, state_in, Standing}
 use Rattle.block.specs.Blocks.{Beside}
 use Rattle.block.specs.Adding.{Adding}
@@ -33,12 +34,12 @@ pub record TotalEnded (bytes t types places s rs open_marks : List ℕ) (f : Fun
   pub standing : Sound (module_of bytes t) → held + (pieces (context_at (read s rs) at) + sum) ≤ entries_cap → Standing bytes t types places u us open_marks after f at held sum visits
   pub beside : Beside bytes t f at s rs open_marks u us open_marks
 
-abbrev pub TotalEnding : (bytes t types places s rs open_marks : List ℕ) → FunctionHandle → (at held before : ℕ) → Out (Unit {0}) → Walked → (u us after : List ℕ) → Type 0
-TotalEnding bytes t types places s rs open_marks f at held before total (Went tally) u us after =
+abbrev pub TotalEnding : (bytes t types places s rs open_marks : List ℕ) → FunctionHandle → (at held before : ℕ) → Out (Unit {0}) → Result Tally Halt → (u us after : List ℕ) → Type 0
+TotalEnding bytes t types places s rs open_marks f at held before total (Ok tally) u us after =
     TotalEnded bytes t types places s rs open_marks f at held before total tally.visits tally.sum u us after
-TotalEnding bytes t types places s rs open_marks f at held before total (Halt n place) u us after = halt n (place_of place) ≡ total
+TotalEnding bytes t types places s rs open_marks f at held before total (Err h) u us after = halt (number h.refusal) (place_of h.place) ≡ total
 
-pub record TotalEnds (bytes t places s rs open_marks totals : List ℕ) (f : FunctionHandle) (at sum visits : ℕ) (here : Place) (r : Walked) (u us after : List ℕ) : Type 0 where
+pub record TotalEnds (bytes t places s rs open_marks totals : List ℕ) (f : FunctionHandle) (at sum visits : ℕ) (here : Place) (r : Result Tally Halt) (u us after : List ℕ) : Type 0 where
   pub by : (types : List ℕ) (held : ℕ) → Standing bytes t types places s rs open_marks totals f at held sum visits
       → TotalEnding bytes t types places s rs open_marks f at held sum
       (add_total (module_of bytes t) f (place_of here) (get_or (functions_in (module_of bytes t) t (read s rs) totals) f nothing) (state_in bytes t s rs open_marks totals f at visits)) r u us after

@@ -1,5 +1,5 @@
 -- The walk just done put into the totals: slots, marks, and what records and totals count for.
-use Rattle.std.specs.Prelude.{◌≡◌, false, List, ℕ, ◌+◌, ◌*◌, ◌≤◌, set}
+use Rattle.std.specs.Prelude.{◌≡◌, false, List, ℕ, ◌+◌, ◌*◌, ◌≤◌, set, Option, Some, None}
 use Rattle.field.specs.Limits.{min_report}
 use Rattle.part.specs.StoreLimits.{entries_cap}
 use Rattle.module.specs.Module.{FunctionHandle}
@@ -12,8 +12,6 @@ use Rattle.marks.specs.Places.{slice, start_in, size_in, Inside}
 use Rattle.marks.specs.Report.{totals_at, Sized}
 use Rattle.state.specs.State.{records_in}
 use Rattle.block.specs.Total.{total_count, Totalling, TotalMade, Weighing}
-use Rattle.block.specs.declared.added.Joint.{Joint}
-use Rattle.block.specs.declared.added.Joint.TheVariants.{Sum, Over}
 
 -- what it asks: the current context of f stands at `at`, and `sum` counts the total of f too
 pub record Adding (t places s rs open_marks totals : List ℕ) (f : FunctionHandle) (at sum : ℕ) : Type 0 where
@@ -57,14 +55,14 @@ pub record LaterTotal (t places s rs open_marks totals : List ℕ) (f : Function
   pub few : m ≤ sum + (record_pieces (records_in t exprs_slot f (read s rs)) + pieces (context_at (read s rs) at))
 
 -- the answer as the walk has it: it goes on, or 15
-abbrev pub joint_out : Joint → Place → State → Out (Unit {0})
-joint_out (Sum m) here st = went st tt
-joint_out Over here st = halt 15 here
+abbrev pub joint_out : Option ℕ → Place → State → Out (Unit {0})
+joint_out (Some m) here st = went st tt
+joint_out None here st = halt 15 here
 
-abbrev pub Later : (t places s rs open_marks totals : List ℕ) → FunctionHandle → (at sum : ℕ) → Joint → (u us after : List ℕ) → Type 0
-Later t places s rs open_marks totals f at sum (Sum m) u us after = LaterTotal t places s rs open_marks totals f at sum m u us after
-Later t places s rs open_marks totals f at sum Over u us after = Unit {0}
+abbrev pub Later : (t places s rs open_marks totals : List ℕ) → FunctionHandle → (at sum : ℕ) → Option ℕ → (u us after : List ℕ) → Type 0
+Later t places s rs open_marks totals f at sum (Some m) u us after = LaterTotal t places s rs open_marks totals f at sum m u us after
+Later t places s rs open_marks totals f at sum None u us after = Unit {0}
 
-pub record IsLater (t places s rs open_marks totals : List ℕ) (f : FunctionHandle) (at sum : ℕ) (r : Joint) (u us after : List ℕ) : Type 0 where
+pub record IsLater (t places s rs open_marks totals : List ℕ) (f : FunctionHandle) (at sum : ℕ) (r : Option ℕ) (u us after : List ℕ) : Type 0 where
   pub is : (here : Place) (st : State) → joint_out r here st ≡ limited_context here (joint s rs f at) st
   pub by : Later t places s rs open_marks totals f at sum r u us after

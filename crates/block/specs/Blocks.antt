@@ -1,6 +1,7 @@
 -- What the walks of a block, of a statement and of a function ask of the memory, and what they leave.
-use Rattle.std.specs.Prelude.{◌≡◌, Bool, List, ℕ, suc, ◌+◌, ◌*◌, ◌<◌, ◌≤◌, length, get_or}
+use Rattle.std.specs.Prelude.{◌≡◌, Bool, List, ℕ, suc, ◌+◌, ◌*◌, ◌<◌, ◌≤◌, length, get_or, Result, Ok, Err}
 use Rattle.field.specs.Limits.{max_pieces}
+use Rattle.field.specs.Refusal.{number}
 use Rattle.part.specs.PartReq.{none}
 use Rattle.part.specs.Store.{Room}
 use Rattle.module.specs.Module.{FunctionHandle, BlockHandle}
@@ -14,9 +15,9 @@ use Rattle.memory.specs.Memory.{read, context_at}
 use Rattle.marks.specs.Places.{start_of}
 use Rattle.state.specs.State.{place_of}
 use Rattle.state.specs.Frame.{Begun}
-use Rattle.state.specs.declared.answer.Answered.{Answered}
-use Rattle.state.specs.declared.answer.Answered.TheVariants.{Went, Halt}
 use Rattle.state.specs.declared.frame.Frame.{Frame}
+use Rattle.state.specs.declared.answer.Halt.{Halt}
+use Rattle.state.specs.declared.answer.Answer.{Answer}
 use Rattle.block.specs.Standing.{state_in, Standing}
 
 -- what 16 counts of the context in four slots
@@ -73,12 +74,12 @@ pub record BlockEnded (bytes t types places s rs open_marks totals : List ℕ) (
   pub roomy : Room u room
   pub beside : Beside bytes t f at s rs open_marks u us open_after
 
-abbrev pub BlockEnding : (bytes t types places s rs open_marks totals : List ℕ) → FunctionHandle → (base at held own sum : ℕ) → Out Bool → Answered → (u us open_after totals-after : List ℕ) → Type 0
-BlockEnding bytes t types places s rs open_marks totals f base at held own sum total (Went tally b) u us open_after totals-after =
-    BlockEnded bytes t types places s rs open_marks totals f base at held own sum total tally.visits tally.sum b u us open_after totals-after
-BlockEnding bytes t types places s rs open_marks totals f base at held own sum total (Halt n place) u us open_after totals-after = halt n (place_of place) ≡ total
+abbrev pub BlockEnding : (bytes t types places s rs open_marks totals : List ℕ) → FunctionHandle → (base at held own sum : ℕ) → Out Bool → Result Answer Halt → (u us open_after totals-after : List ℕ) → Type 0
+BlockEnding bytes t types places s rs open_marks totals f base at held own sum total (Ok a) u us open_after totals-after =
+    BlockEnded bytes t types places s rs open_marks totals f base at held own sum total a.tally.visits a.tally.sum a.required u us open_after totals-after
+BlockEnding bytes t types places s rs open_marks totals f base at held own sum total (Err h) u us open_after totals-after = halt (number h.refusal) (place_of h.place) ≡ total
 
-pub record BlockEnds (bytes t types places s rs open_marks totals : List ℕ) (f : FunctionHandle) (base at held own sum : ℕ) (total : Out Bool) (r : Answered) (u us open_after totals-after : List ℕ) : Type 0 where
+pub record BlockEnds (bytes t types places s rs open_marks totals : List ℕ) (f : FunctionHandle) (base at held own sum : ℕ) (total : Out Bool) (r : Result Answer Halt) (u us open_after totals-after : List ℕ) : Type 0 where
   pub by : BlockEnding bytes t types places s rs open_marks totals f base at held own sum total r u us open_after totals-after
 
 -- a statement, or its arm, went as `total` says, with `answer` for its answer b
@@ -87,10 +88,10 @@ pub record StatementEnded {A : Type 0} (bytes t types places s rs open_marks tot
   pub standing : Standing bytes t types places u us open_after totals-after fr.function.0 fr.at fr.held sum visits
   pub beside : Beside bytes t fr.function.0 fr.at s rs open_marks u us open_after
 
-abbrev pub StatementEnding : {A : Type 0} → (bytes t types places s rs open_marks totals : List ℕ) → Frame → Out A → (Bool → A) → Answered → (u us open_after totals-after : List ℕ) → Type 0
-StatementEnding bytes t types places s rs open_marks totals fr total answer (Went tally b) u us open_after totals-after =
-    StatementEnded bytes t types places s rs open_marks totals fr total answer tally.visits tally.sum b u us open_after totals-after
-StatementEnding bytes t types places s rs open_marks totals fr total answer (Halt n place) u us open_after totals-after = halt n (place_of place) ≡ total
+abbrev pub StatementEnding : {A : Type 0} → (bytes t types places s rs open_marks totals : List ℕ) → Frame → Out A → (Bool → A) → Result Answer Halt → (u us open_after totals-after : List ℕ) → Type 0
+StatementEnding bytes t types places s rs open_marks totals fr total answer (Ok a) u us open_after totals-after =
+    StatementEnded bytes t types places s rs open_marks totals fr total answer a.tally.visits a.tally.sum a.required u us open_after totals-after
+StatementEnding bytes t types places s rs open_marks totals fr total answer (Err h) u us open_after totals-after = halt (number h.refusal) (place_of h.place) ≡ total
 
-pub record StatementEnds {A : Type 0} (bytes t types places s rs open_marks totals : List ℕ) (fr : Frame) (total : Out A) (answer : Bool → A) (r : Answered) (u us open_after totals-after : List ℕ) : Type 0 where
+pub record StatementEnds {A : Type 0} (bytes t types places s rs open_marks totals : List ℕ) (fr : Frame) (total : Out A) (answer : Bool → A) (r : Result Answer Halt) (u us open_after totals-after : List ℕ) : Type 0 where
   pub by : StatementEnding bytes t types places s rs open_marks totals fr total answer r u us open_after totals-after

@@ -1,7 +1,8 @@
 -- The walk of a function: what it asks of the memory, and what it leaves.
-use Rattle.std.specs.Prelude.{◌≡◌, Bool, List, ℕ, ◌+◌, ◌*◌, ◌≤◌, length, get_or, replicate}
+use Rattle.std.specs.Prelude.{◌≡◌, Bool, List, ℕ, ◌+◌, ◌*◌, ◌≤◌, length, get_or, replicate, Result, Ok, Err}
 use Rattle.std.proofs.Math.Option.{none as nothing}
 use Rattle.field.specs.Limits.{max_pieces}
+use Rattle.field.specs.Refusal.{number}
 use Rattle.part.specs.PartReq.{none, entries}
 use Rattle.part.specs.Store.{Room}
 use Rattle.module.specs.Module.{FunctionHandle}
@@ -13,8 +14,8 @@ use Rattle.memory.specs.Layout.{exprs_slot, room}
 use Rattle.memory.specs.Memory.{read}
 use Rattle.marks.specs.Places.{slice, start_of}
 use Rattle.state.specs.State.{records_in, place_of}
-use Rattle.state.specs.declared.answer.Answered.{Answered}
-use Rattle.state.specs.declared.answer.Answered.TheVariants.{Went, Halt}
+use Rattle.state.specs.declared.answer.Halt.{Halt}
+use Rattle.state.specs.declared.answer.Answer.{Answer}
 use Rattle.block.specs.Standing.{state_in, Standing}
 use Rattle.block.specs.Blocks.{context_in, Deep, Beside}
 
@@ -40,10 +41,10 @@ pub record FunctionEnded (bytes t types places s rs open_marks totals : List ℕ
   pub sum_few : sum ≤ 4 * max_pieces
   pub beside : Beside bytes t f (base + 4) s rs open_marks u us open_after
 
-abbrev pub FunctionEnding : (bytes t types places s rs open_marks totals : List ℕ) → FunctionHandle → (base held : ℕ) → Out Bool → Answered → (u us open_after totals-after : List ℕ) → Type 0
-FunctionEnding bytes t types places s rs open_marks totals f base held total (Went tally b) u us open_after totals-after =
-    FunctionEnded bytes t types places s rs open_marks totals f base held total tally.visits tally.sum b u us open_after totals-after
-FunctionEnding bytes t types places s rs open_marks totals f base held total (Halt n place) u us open_after totals-after = halt n (place_of place) ≡ total
+abbrev pub FunctionEnding : (bytes t types places s rs open_marks totals : List ℕ) → FunctionHandle → (base held : ℕ) → Out Bool → Result Answer Halt → (u us open_after totals-after : List ℕ) → Type 0
+FunctionEnding bytes t types places s rs open_marks totals f base held total (Ok a) u us open_after totals-after =
+    FunctionEnded bytes t types places s rs open_marks totals f base held total a.tally.visits a.tally.sum a.required u us open_after totals-after
+FunctionEnding bytes t types places s rs open_marks totals f base held total (Err h) u us open_after totals-after = halt (number h.refusal) (place_of h.place) ≡ total
 
-pub record FunctionEnds (bytes t types places s rs open_marks totals : List ℕ) (f : FunctionHandle) (base held : ℕ) (total : Out Bool) (r : Answered) (u us open_after totals-after : List ℕ) : Type 0 where
+pub record FunctionEnds (bytes t types places s rs open_marks totals : List ℕ) (f : FunctionHandle) (base held : ℕ) (total : Out Bool) (r : Result Answer Halt) (u us open_after totals-after : List ℕ) : Type 0 where
   pub by : FunctionEnding bytes t types places s rs open_marks totals f base held total r u us open_after totals-after

@@ -1,6 +1,7 @@
 -- Two blocks one after the other, from one base: those of an If, and of a loop's first pass and turns.
-use Rattle.std.specs.Prelude.{◌≡◌, Bool, ◌||◌, List, ℕ, ◌+◌, ◌*◌, ◌<◌, ◌≤◌}
+use Rattle.std.specs.Prelude.{◌≡◌, Bool, ◌||◌, List, ℕ, ◌+◌, ◌*◌, ◌<◌, ◌≤◌, Result, Ok, Err}
 use Rattle.field.specs.Limits.{max_pieces}
+use Rattle.field.specs.Refusal.{number}
 use Rattle.part.specs.Store.{Room}
 use Rattle.module.specs.Module.{FunctionHandle, BlockHandle}
 use Rattle.module.specs.Tables.{row_at, module_of}
@@ -11,9 +12,9 @@ use Rattle.walk.specs.Proper.{FineContext}
 use Rattle.memory.specs.Layout.{stack_slot, room}
 use Rattle.memory.specs.Memory.{read, context_at}
 use Rattle.state.specs.State.{sum_in, place_of}
-use Rattle.state.specs.declared.answer.Answered.{Answered}
-use Rattle.state.specs.declared.answer.Answered.TheVariants.{Went, Halt}
 use Rattle.state.specs.declared.frame.Frame.{Frame}
+use Rattle.state.specs.declared.answer.Halt.{Halt}
+use Rattle.state.specs.declared.answer.Answer.{Answer}
 use Rattle.block.specs.Standing.{state_in, Standing}
 use Rattle.block.specs.Blocks.{context_in, Deep, Beside}
 
@@ -48,12 +49,12 @@ pub record PairEnded (bytes t types places s rs open_marks totals : List ℕ) (f
   pub roomy : Room u room
   pub beside : Beside bytes t f at s rs open_marks u us open_after
 
-abbrev pub PairEnding : (bytes t types places s rs open_marks totals : List ℕ) → FunctionHandle → (base at held : ℕ) → Out (RequiredContext × Bool) → Answered → (u us open_after totals-after : List ℕ) → Type 0
-PairEnding bytes t types places s rs open_marks totals f base at held total (Went tally b) u us open_after totals-after =
-    PairEnded bytes t types places s rs open_marks totals f base at held total tally.visits tally.sum b u us open_after totals-after
-PairEnding bytes t types places s rs open_marks totals f base at held total (Halt n place) u us open_after totals-after = halt n (place_of place) ≡ total
+abbrev pub PairEnding : (bytes t types places s rs open_marks totals : List ℕ) → FunctionHandle → (base at held : ℕ) → Out (RequiredContext × Bool) → Result Answer Halt → (u us open_after totals-after : List ℕ) → Type 0
+PairEnding bytes t types places s rs open_marks totals f base at held total (Ok a) u us open_after totals-after =
+    PairEnded bytes t types places s rs open_marks totals f base at held total a.tally.visits a.tally.sum a.required u us open_after totals-after
+PairEnding bytes t types places s rs open_marks totals f base at held total (Err h) u us open_after totals-after = halt (number h.refusal) (place_of h.place) ≡ total
 
-pub record PairEnds (bytes t types places s rs open_marks totals : List ℕ) (f : FunctionHandle) (base at held : ℕ) (total : Out (RequiredContext × Bool)) (r : Answered) (u us open_after totals-after : List ℕ) : Type 0 where
+pub record PairEnds (bytes t types places s rs open_marks totals : List ℕ) (f : FunctionHandle) (base at held : ℕ) (total : Out (RequiredContext × Bool)) (r : Result Answer Halt) (u us open_after totals-after : List ℕ) : Type 0 where
   pub by : PairEnding bytes t types places s rs open_marks totals f base at held total r u us open_after totals-after
 
 -- What the end of an If and of a loop's first pass finds: the statement's context, and above it those that its two blocks have left.

@@ -1,6 +1,7 @@
 -- The visit of a statement: its arm with its marks, what it asks of the memory, and what it leaves.
-use Rattle.std.specs.Prelude.{◌≡◌, Bool, List, ℕ, ◌+◌, ◌≤◌}
+use Rattle.std.specs.Prelude.{◌≡◌, Bool, List, ℕ, ◌+◌, ◌≤◌, Result, Ok, Err}
 use Rattle.field.specs.Limits.{max_pieces}
+use Rattle.field.specs.Refusal.{number}
 use Rattle.part.specs.Store.{Room}
 use Rattle.module.specs.Module.{Module, FunctionHandle, BlockHandle}
 use Rattle.module.specs.Marks.{marks_before}
@@ -19,9 +20,9 @@ use Rattle.memory.specs.Layout.{stack_slot, room}
 use Rattle.memory.specs.Memory.{read, context_at}
 use Rattle.marks.specs.Ray.{StatementIn}
 use Rattle.state.specs.State.{place_of}
-use Rattle.state.specs.declared.answer.Answered.{Answered}
-use Rattle.state.specs.declared.answer.Answered.TheVariants.{Went, Halt}
 use Rattle.state.specs.declared.frame.Frame.{Frame}
+use Rattle.state.specs.declared.answer.Halt.{Halt}
+use Rattle.state.specs.declared.answer.Answer.{Answer}
 use Rattle.block.specs.Standing.{state_in, Standing}
 use Rattle.block.specs.Blocks.{context_in, Deep, Begins, Beside}
 
@@ -58,10 +59,10 @@ pub record VisitEnded (bytes t types places s rs open_marks totals : List ℕ) (
   pub roomy : Room u room
   pub beside : Beside bytes t fr.function.0 fr.at s rs open_marks u us open_after
 
-abbrev pub VisitEnding : (bytes t types places s rs open_marks totals : List ℕ) → Frame → Out Bool → Answered → (u us open_after totals-after : List ℕ) → Type 0
-VisitEnding bytes t types places s rs open_marks totals fr total (Went tally b) u us open_after totals-after =
-    VisitEnded bytes t types places s rs open_marks totals fr total tally.visits tally.sum b u us open_after totals-after
-VisitEnding bytes t types places s rs open_marks totals fr total (Halt n place) u us open_after totals-after = halt n (place_of place) ≡ total
+abbrev pub VisitEnding : (bytes t types places s rs open_marks totals : List ℕ) → Frame → Out Bool → Result Answer Halt → (u us open_after totals-after : List ℕ) → Type 0
+VisitEnding bytes t types places s rs open_marks totals fr total (Ok a) u us open_after totals-after =
+    VisitEnded bytes t types places s rs open_marks totals fr total a.tally.visits a.tally.sum a.required u us open_after totals-after
+VisitEnding bytes t types places s rs open_marks totals fr total (Err h) u us open_after totals-after = halt (number h.refusal) (place_of h.place) ≡ total
 
-pub record VisitEnds (bytes t types places s rs open_marks totals : List ℕ) (fr : Frame) (total : Out Bool) (r : Answered) (u us open_after totals-after : List ℕ) : Type 0 where
+pub record VisitEnds (bytes t types places s rs open_marks totals : List ℕ) (fr : Frame) (total : Out Bool) (r : Result Answer Halt) (u us open_after totals-after : List ℕ) : Type 0 where
   pub by : VisitEnding bytes t types places s rs open_marks totals fr total r u us open_after totals-after

@@ -1,10 +1,11 @@
 // The walk just done put into the totals, as `add_function_ref` ends.
 ghost use Rattle.block.specs.AddTotal.{TotalAsked, TotalEnds};
 
-use crate::added::{Joint, first_total, later_total};
+use crate::added::{first_total, later_total};
+use field::refusal::Refusal;
 use marks::ray::first_ray;
 use module::handles::FunctionHandle;
-use state::answer::{Place, Tally, Walked};
+use state::answer::{Halt, Place, Tally, Walked};
 
 // `here` is where f was called.
 pub fn add_total(
@@ -27,19 +28,24 @@ pub fn add_total(
     let i = f.0 as usize;
     if totals[i] == 0 {
         let first = first_total(t, places, cells, slots, open, totals, f, at, sum);
-        return Walked::Went(Tally {
+        return Ok(Tally {
             visits: visits,
             sum: first,
         });
     }
     let ray = first_ray(bytes, t, f);
     if let Some(s) = ray {
-        return Walked::Halt(13, Place::Statement(f, s));
+        return Err(Halt {
+            refusal: Refusal::Panic,
+            place: Place::Statement(f, s),
+        });
     }
-    let joint = later_total(t, places, cells, slots, open, totals, f, at, sum);
-    match joint {
-        Joint::Over => Walked::Halt(15, here),
-        Joint::Sum(later) => Walked::Went(Tally {
+    match later_total(t, places, cells, slots, open, totals, f, at, sum) {
+        None => Err(Halt {
+            refusal: Refusal::PartLimit,
+            place: here,
+        }),
+        Some(later) => Ok(Tally {
             visits: visits,
             sum: later,
         }),

@@ -10,13 +10,6 @@ use crate::total::{join_total, keep_total, weigh_total};
 use marks::set::{add_marks, keep_marks};
 use module::handles::FunctionHandle;
 
-// What records and totals count for, or that a limit is passed.
-#[derive(Clone, Copy)]
-pub enum Joint {
-    Sum(usize),
-    Over,
-}
-
 // The first total of f.
 pub fn first_total(
     t: &[u32],
@@ -39,7 +32,7 @@ pub fn first_total(
     sum - less + more
 }
 
-// A later one: joined to the total of f.
+// A later one: joined to the total of f. None where that passes a limit.
 pub fn later_total(
     t: &[u32],
     places: &[u32],
@@ -50,16 +43,16 @@ pub fn later_total(
     f: FunctionHandle,
     at: usize,
     sum: usize,
-) -> Joint
+) -> Option<usize>
     requires adding { Adding t.now places.now cells.old slots.old «open».now totals.old f.0 at sum }
     requires room { Room cells.old (pieces (context_at (read cells.old slots.old) (functions_slot + 4 * f.0)) + pieces (context_at (read cells.old slots.old) at)) }
     ensures { IsLater t.now places.now cells.old slots.old «open».now totals.old f.0 at sum result cells.new slots.new totals.new }
 {
     let less = weigh_total(t, cells, slots, f);
     if join_total(t, cells, slots, f, at) {
-        return Joint::Over;
+        return None;
     }
     let more = weigh_total(t, cells, slots, f);
     add_marks(totals, open, places, f);
-    Joint::Sum(sum - less + more)
+    Some(sum - less + more)
 }

@@ -5,6 +5,7 @@ use mathlib.Core.Bool.{Bool, true, false}
 use mathlib.Core.List.{List}
 use mathlib.Core.Option.{Option, some, none as nothing}
 use lib.ListN.{get_or}
+use Rattle.std.specs.Prelude.{Result, Ok, Err}
 use Rattle.part.specs.PartReq.{PartReq, gone, there}
 use Rattle.part.specs.Store.{part}
 use Rattle.module.specs.Module.{Module}
@@ -23,10 +24,10 @@ use Rattle.memory.specs.Layout.{result, returned, stack_slot}
 use Rattle.memory.specs.Memory.{read, Memory}
 use Rattle.state.specs.State.{Rest, state_of, totals_sum}
 use Rattle.state.specs.Frame.{ArmEnds}
-use Rattle.state.specs.declared.answer.Answered.{Answered}
-use Rattle.state.specs.declared.answer.Walked.{Walked}
-use Rattle.state.specs.declared.answer.Walked.TheVariants.{Went, Halt}
 use Rattle.state.specs.declared.frame.Frame.{Frame}
+use Rattle.state.specs.declared.answer.Halt.{Halt}
+use Rattle.state.specs.declared.answer.Tally.{Tally}
+use Rattle.state.specs.declared.answer.Answer.{Answer}
 use Rattle.state.proofs.Others.{ready_fits, apart_totals}
 use Rattle.statement.specs.Asks.{Open, Asked, maybe_ask, answer_of}
 use Rattle.statement.proofs.Asking.{began}
@@ -53,33 +54,33 @@ next_same (went st a) v w k h = rw (h st)
 next_same (halt n at) v w k h = refl
 
 module _ {bytes t : List ℕ} {fr : Frame} where
-  pub passable_open : {s rs : List ℕ} (r : Walked) → Passable bytes t s rs fr r → Open bytes t s rs fr r
-  passable_open (Went tally) p = record { by = p.by.0 }
-  passable_open (Halt k place) p = record { by = tt }
+  pub passable_open : {s rs : List ℕ} (r : Result Tally Halt) → Passable bytes t s rs fr r → Open bytes t s rs fr r
+  passable_open (Ok tally) p = record { by = p.by.0 }
+  passable_open (Err stop) p = record { by = tt }
 
   -- one ask more
-  passes_next : {s rs z zs u us : List ℕ} {rest : Rest} {total : Out (Unit {0})} {r : Walked} (walk : PartReq → Walk (Unit {0})) (before : Walked)
+  passes_next : {s rs z zs u us : List ℕ} {rest : Rest} {total : Out (Unit {0})} {r : Result Tally Halt} (walk : PartReq → Walk (Unit {0})) (before : Result Tally Halt)
       → stack_slot ≤ fr.at → Memory s rs → total_pieces rest.functions ≡ totals_sum (read s rs)
       → Passes bytes t s rs fr rest total before z zs → Asked bytes t z zs fr before walk result r u us
       → Passes bytes t s rs fr rest (total >> walk (part s (get_or rs result 0))) r u us
-  passes_next {s} {rs} {z} {zs} {u} {us} {rest} {total} {r} walk (Went tally) low m counts p a =
+  passes_next {s} {rs} {z} {zs} {u} {us} {rest} {total} {r} walk (Ok tally) low m counts p a =
       let x = p.by in
       goes_passes r low x.ready.memory x.beside
       (rw x.beside.result_same (sym (next_went (walk (part s (get_or rs result 0))) (sym x.is))))
       (a.by z zs rest (went (state_of t fr.function.0 fr.at (read z zs) rest tally.visits) tt) x.ready.memory
       (counts ∙ sym (apart_totals (ready_fits x.ready) low x.beside.apart)) (began rest x.ready))
-  passes_next {s} {rs} {z} {zs} {u} {us} {rest} {total} {r} walk (Halt k place) low m counts p a =
+  passes_next {s} {rs} {z} {zs} {u} {us} {rest} {total} {r} walk (Err stop) low m counts p a =
       goes_passes r low m beside_self refl (a.by s rs rest total m counts (record { by = p.by }))
 
   -- with the answer b
-  passes_ends : {A : Type 0} {s rs u us : List ℕ} {rest : Rest} {total : Out (Unit {0})} {whole : Out A} (answer : Bool → A) (b : Bool) (r : Walked)
+  passes_ends : {A : Type 0} {s rs u us : List ℕ} {rest : Rest} {total : Out (Unit {0})} {whole : Out A} (answer : Bool → A) (b : Bool) (r : Result Tally Halt)
       → (total >> λ left. went left (answer b)) ≡ whole → Passes bytes t s rs fr rest total r u us → ArmEnds bytes t s rs fr rest whole answer (answer_of r b) u us
-  passes_ends answer b (Went tally) e p = record {
+  passes_ends answer b (Ok tally) e p = record {
     by = record { is = sym (next_went (λ left. went left (answer b)) (sym p.by.is)) ∙ e; ready = p.by.ready; apart = p.by.beside.apart };
   }
-  passes_ends answer b (Halt k place) e p = record { by = sym (next_halt (λ left. went left (answer b)) (sym p.by)) ∙ e }
+  passes_ends answer b (Err stop) e p = record { by = sym (next_halt (λ left. went left (answer b)) (sym p.by)) ∙ e }
 
-module _ {bytes t s rs : List ℕ} {fr : Frame} {row : Kinded} {sum visits : ℕ} (a : Calling bytes t s rs fr row sum) {passed : Walked} {z zs : List ℕ} (x : AskedArguments bytes t s rs fr row visits (operand_at bytes row 1) passed z zs) where
+module _ {bytes t s rs : List ℕ} {fr : Frame} {row : Kinded} {sum visits : ℕ} (a : Calling bytes t s rs fr row sum) {passed : Result Tally Halt} {z zs : List ℕ} (x : AskedArguments bytes t s rs fr row visits (operand_at bytes row 1) passed z zs) where
   -- the expression of the result, and the walk of the arguments
   abbrev asked : Option ℕ
   asked = option_of (operand_at bytes row (2 + operand_at bytes row 1))
@@ -88,7 +89,7 @@ module _ {bytes t s rs : List ℕ} {fr : Frame} {row : Kinded} {sum visits : ℕ
   arguments c rest =
       ask_arguments (module_of bytes t) (frame_over fr c) (arguments_of bytes row (operand_at bytes row 1)) 0 (part s (get_or rs returned 0)) (state_of t fr.function.0 fr.at (read s rs) rest visits)
 
-  pub end_unasked : {req : Bool} {r : Answered} → req ≡ false → r ≡ answer_of passed true → EndsCall bytes t s rs fr row req visits r z zs
+  pub end_unasked : {req : Bool} {r : Result Answer Halt} → req ≡ false → r ≡ answer_of passed true → EndsCall bytes t s rs fr row req visits r z zs
   unfolding end_call
   end_unasked h e =
       rw (h, e)
@@ -100,7 +101,7 @@ module _ {bytes t s rs : List ℕ} {fr : Frame} {row : Kinded} {sum visits : ℕ
             (x.by c rest counts);
       })
 
-  pub end_asked : {req : Bool} {d : ℕ} {b : Answered} {r : Walked} {u us : List ℕ} → req ≡ true → d ≡ operand_at bytes row (2 + operand_at bytes row 1)
+  pub end_asked : {req : Bool} {d : ℕ} {b : Result Answer Halt} {r : Result Tally Halt} {u us : List ℕ} → req ≡ true → d ≡ operand_at bytes row (2 + operand_at bytes row 1)
       → Asked bytes t z zs fr passed (maybe_ask (module_of bytes t) fr.function.0 fr.held (option_of d)) result r u us
       → b ≡ answer_of r true → EndsCall bytes t s rs fr row req visits b u us
   unfolding end_call

@@ -1,10 +1,11 @@
 -- The asks of arguments, one after the other: each is put into the slot that is asked with, and leaves what is needed of the others as it was.
-use Prim.Native.Nat.{ℕ, suc, ◌+◌, ◌<◌, ◌≤◌}
+use Prim.Native.Nat.{ℕ, zero, suc, ◌+◌, ◌<◌, ◌≤◌}
 use native.Mathlib.Omega.{arith}
 use mathlib.Core.Path.{◌≡◌, refl, sym, ap, subst, ◌∙◌}
 use mathlib.Core.List.{List, [], ◌∷◌, ◌++◌}
 use lib.ListN.{length, get_or, set}
 use lib.Seq.{get_or-set_other}
+use Rattle.std.specs.Prelude.{Result, Ok, Err}
 use Rattle.part.specs.PartReq.{PartReq, entries, Subpart, gone, there, get_subpart, spine}
 use Rattle.part.specs.Store.{top, part, Good}
 use Rattle.module.specs.Module.{Module}
@@ -27,10 +28,8 @@ use Rattle.memory.specs.Memory.{read, Memory}
 use Rattle.state.specs.State.{Rest, state_of, totals_sum}
 use Rattle.state.specs.Ready.{Ready, Others}
 use Rattle.state.specs.declared.answer.Tally.{Tally}
-use Rattle.state.specs.declared.answer.Place.{Place}
-use Rattle.state.specs.declared.answer.Walked.{Walked}
-use Rattle.state.specs.declared.answer.Walked.TheVariants.{Went, Halt}
 use Rattle.state.specs.declared.frame.Frame.{Frame}
+use Rattle.state.specs.declared.answer.Halt.{Halt}
 use Rattle.state.proofs.Others.{others_still, ready_fits, others_apart, apart_trans, apart_totals}
 use Rattle.state.proofs.Rests.{some_rest, rest_counts}
 use Rattle.statement.specs.Asks.{Open, Goes, Asked}
@@ -65,21 +64,21 @@ module _ {t : List ℕ} {f at : ℕ} where
 module _ {bytes t : List ℕ} {fr : Frame} where
   -- how the asks begin
   pub passes_self : {s rs : List ℕ} {visits sum : ℕ} (rest : Rest) → Ready bytes t s rs fr.function.0 fr.at fr.held sum
-      → Passes bytes t s rs fr rest (went (state_of t fr.function.0 fr.at (read s rs) rest visits) tt) (Went (record { visits = visits; sum = sum })) s rs
+      → Passes bytes t s rs fr rest (went (state_of t fr.function.0 fr.at (read s rs) rest visits) tt) (Ok (record { visits = visits; sum = sum })) s rs
   passes_self rest r = record { by = record { is = refl; ready = r; beside = beside_self } }
 
   -- what a statement's ask leaves, from where the asks began
-  pub goes_passes : {z zs s rs u us : List ℕ} {rest : Rest} {first whole : Out (Unit {0})} (r : Walked)
+  pub goes_passes : {z zs s rs u us : List ℕ} {rest : Rest} {first whole : Out (Unit {0})} (r : Result Tally Halt)
       → stack_slot ≤ fr.at → Memory s rs → Beside t fr.function.0 fr.at z zs s rs → first ≡ whole
       → Goes bytes t s rs fr rest first r u us → Passes bytes t z zs fr rest whole r u us
-  goes_passes (Went tally) low m b e g =
+  goes_passes (Ok tally) low m b e g =
       record { by = record { is = g.by.is ∙ e; ready = g.by.ready; beside = beside_trans b (others_beside low m g.by.others) } }
-  goes_passes (Halt k place) low m b e g = record { by = g.by ∙ e }
+  goes_passes (Err stop) low m b e g = record { by = g.by ∙ e }
 
-  pub passes_passable : {s rs u us : List ℕ} {rest : Rest} {total : Out (Unit {0})} (r : Walked)
+  pub passes_passable : {s rs u us : List ℕ} {rest : Rest} {total : Out (Unit {0})} (r : Result Tally Halt)
       → Needed (part s (get_or rs returned 0)) → Passes bytes t s rs fr rest total r u us → Passable bytes t u us fr r
-  passes_passable (Went tally) n p = record { by = (p.by.ready, subst Needed (sym p.by.beside.returned_same) n) }
-  passes_passable (Halt k place) n p = record { by = tt }
+  passes_passable (Ok tally) n p = record { by = (p.by.ready, subst Needed (sym p.by.beside.returned_same) n) }
+  passes_passable (Err stop) n p = record { by = tt }
 
 -- the definition
 module _ (m : Module) (fr : walk.Frame) (e : ℕ) (st : State) where
@@ -110,10 +109,10 @@ unfolding tab
 tab-more m fr args k o st = arguments_more m fr args (tab k o) (o k) 0 k st (omega (arith, length-tab k o))
 
 -- one argument
-module _ {bytes t s rs : List ℕ} {fr : Frame} {before : Walked} (e i : ℕ) where
-  module _ {tally : Tally} (is : before ≡ Went tally) (o : Passable bytes t s rs fr before) where
+module _ {bytes t s rs : List ℕ} {fr : Frame} {before : Result Tally Halt} (e i : ℕ) where
+  module _ {tally : Tally} (is : before ≡ Ok tally) (o : Passable bytes t s rs fr before) where
     opened : Ready bytes t s rs fr.function.0 fr.at fr.held tally.sum × Needed (part s (get_or rs returned 0))
-    opened = subst (λ (r : Walked). PassableAs bytes t s rs fr r) is o.by
+    opened = subst (λ (r : Result Tally Halt). PassableAs bytes t s rs fr r) is o.by
 
     pub argue_get : (returned < length rs) × (Good s × (get_or rs returned 0 < top s))
     argue_get =
@@ -122,11 +121,11 @@ module _ {bytes t s rs : List ℕ} {fr : Frame} {before : Walked} (e i : ℕ) wh
         (inside, (m.good, m.below returned inside))
 
     -- nothing is needed of it
-    pub argue_none : get_subpart (part s (get_or rs returned 0)) (variable i) ≡ gone → Argued bytes t s rs fr before e i (Went tally) s rs
+    pub argue_none : get_subpart (part s (get_or rs returned 0)) (variable i) ≡ gone → Argued bytes t s rs fr before e i (Ok tally) s rs
     argue_none h = record {
       opens = record { by = opened };
       by = λ c z zs rest total counts p.
-          let x = subst (λ (b : Walked). Passing bytes t z zs fr rest total b s rs) is p.by in
+          let x = subst (λ (b : Result Tally Halt). Passing bytes t z zs fr rest total b s rs) is p.by in
           let walk = ask_needed (module_of bytes t) (frame_over fr c) e (get_subpart (part z (get_or zs returned 0)) (variable i)) in
           record {
             by = record {
@@ -160,10 +159,10 @@ module _ {bytes t s rs : List ℕ} {fr : Frame} {before : Walked} (e i : ℕ) wh
         fine = fine.within;
       }
 
-      pub argue_begins : Open bytes t s (set rs ask n) fr (Went tally)
+      pub argue_begins : Open bytes t s (set rs ask n) fr (Ok tally)
       argue_begins = begins (hold_ready opened.0 holdable)
 
-      module _ {r : Walked} {u us : List ℕ} (a : Asked bytes t s (set rs ask n) fr (Went tally) (add_expression (module_of bytes t) fr.function.0 fr.held e) ask r u us) where
+      module _ {r : Result Tally Halt} {u us : List ℕ} (a : Asked bytes t s (set rs ask n) fr (Ok tally) (add_expression (module_of bytes t) fr.function.0 fr.held e) ask r u us) where
         passes : (c : RequiredContext) (z zs : List ℕ) (rest : Rest) (total : Out (Unit {0})) → total_pieces rest.functions ≡ totals_sum (read z zs)
             → Passed bytes t z zs fr rest total tally.visits tally.sum s rs
             → Passes bytes t z zs fr rest (total >> ask_needed (module_of bytes t) (frame_over fr c) e (get_subpart (part z (get_or zs returned 0)) (variable i))) r u us
@@ -185,24 +184,24 @@ module _ {bytes t s rs : List ℕ} {fr : Frame} {before : Walked} (e i : ℕ) wh
               passes_passable r opened.1
               (passes empty_context s rs (some_rest (totals_sum (read s rs))) _ (rest_counts (totals_sum (read s rs))) (passes_self (some_rest (totals_sum (read s rs))) opened.0).by);
           by = λ c z zs rest total counts p.
-              passes c z zs rest total counts (subst (λ (b : Walked). Passing bytes t z zs fr rest total b s rs) is p.by);
+              passes c z zs rest total counts (subst (λ (b : Result Tally Halt). Passing bytes t z zs fr rest total b s rs) is p.by);
         }
 
-  pub argue_halt : {k : ℕ} {place : Place} → before ≡ Halt k place → Argued bytes t s rs fr before e i (Halt k place) s rs
-  argue_halt {k} {place} is = record {
+  pub argue_halt : {stop : Halt} → before ≡ Err stop → Argued bytes t s rs fr before e i (Err stop) s rs
+  argue_halt is = record {
     opens = record { by = tt };
     by = λ c z zs rest total counts p.
-        let x = subst (λ (b : Walked). Passing bytes t z zs fr rest total b s rs) is p.by in
+        let x = subst (λ (b : Result Tally Halt). Passing bytes t z zs fr rest total b s rs) is p.by in
         record { by = sym (next_halt (ask_needed (module_of bytes t) (frame_over fr c) e (get_subpart (part z (get_or zs returned 0)) (variable i))) (sym x)) };
   }
 
 -- the arguments
 module _ {bytes t s rs : List ℕ} {fr : Frame} {row : Kinded} {visits : ℕ} where
-  pub arguments_none : {sum : ℕ} → Calling bytes t s rs fr row sum → AskedArguments bytes t s rs fr row visits 0 (Went (record { visits = visits; sum = sum })) s rs
+  pub arguments_none : {sum : ℕ} → Calling bytes t s rs fr row sum → AskedArguments bytes t s rs fr row visits 0 (Ok (record { visits = visits; sum = sum })) s rs
   unfolding ask_arguments tab
   arguments_none a = record { opens = record { by = (a.ready, a.args) }; by = λ c rest counts. passes_self rest a.ready }
 
-  pub arguments_next : {k j e : ℕ} {before r : Walked} {z zs u us : List ℕ} → AskedArguments bytes t s rs fr row visits k before z zs
+  pub arguments_next : {k j e : ℕ} {before r : Result Tally Halt} {z zs u us : List ℕ} → AskedArguments bytes t s rs fr row visits k before z zs
       → j ≡ suc k → e ≡ operand_at bytes row (2 + k) → Argued bytes t z zs fr before e k r u us → AskedArguments bytes t s rs fr row visits j r u us
   arguments_next {k} {j} {e} {before} {r} {z} {zs} {u} {us} a one is x = subst (λ (i : ℕ). AskedArguments bytes t s rs fr row visits i r u us) (sym one) (record {
     opens = x.opens;
@@ -213,6 +212,11 @@ module _ {bytes t s rs : List ℕ} {fr : Frame} {row : Kinded} {visits : ℕ} wh
         (x.by c s rs rest _ counts (a.by c rest counts));
   })
 
-  pub arguments_whole : {k : ℕ} {r : Walked} {u us : List ℕ} → AskedArguments bytes t s rs fr row visits k r u us → k ≡ operand_at bytes row 1
+  -- a refusal is that of all
+  pub arguments_stop : (d : ℕ) {k n : ℕ} {stop : Halt} {u us : List ℕ} → AskedArguments bytes t s rs fr row visits k (Err stop) u us → n ≡ k + d → AskedArguments bytes t s rs fr row visits n (Err stop) u us
+  arguments_stop zero {stop = stop} {u} {us} a e = subst (λ (i : ℕ). AskedArguments bytes t s rs fr row visits i (Err stop) u us) (omega (arith, e)) a
+  arguments_stop (suc d) a e = arguments_stop d (arguments_next a refl refl (argue_halt _ _ refl)) (omega (arith, e))
+
+  pub arguments_whole : {k : ℕ} {r : Result Tally Halt} {u us : List ℕ} → AskedArguments bytes t s rs fr row visits k r u us → k ≡ operand_at bytes row 1
       → AskedArguments bytes t s rs fr row visits (operand_at bytes row 1) r u us
   arguments_whole {k} {r} {u} {us} a e = subst (λ (i : ℕ). AskedArguments bytes t s rs fr row visits i r u us) e a

@@ -1,5 +1,6 @@
 -- The end of a call, once the called function was walked: what it needs of its arguments is asked of them in turn, and then the result is asked.
-use Rattle.std.specs.Prelude.{◌≡◌, Bool, true, false, List, ℕ, ◌+◌, ◌<◌, get_or}
+use Rattle.std.specs.Prelude.{◌≡◌, Bool, true, false, List, ℕ, ◌+◌, ◌<◌, get_or, Result, Ok, Err}
+use Rattle.field.specs.Refusal.{number}
 use Rattle.part.specs.PartReq.{PartReq, Subpart, gone, there, get_subpart}
 use Rattle.part.specs.Store.{part}
 use Rattle.module.specs.Module.{FunctionHandle, ExpressionHandle}
@@ -19,10 +20,10 @@ use Rattle.memory.specs.Memory.{read}
 use Rattle.state.specs.State.{Rest, state_of, totals_sum, place_of}
 use Rattle.state.specs.Ready.{Ready}
 use Rattle.state.specs.Frame.{Apart, ArmEnds}
-use Rattle.state.specs.declared.answer.Answered.{Answered}
-use Rattle.state.specs.declared.answer.Walked.{Walked}
-use Rattle.state.specs.declared.answer.Walked.TheVariants.{Went, Halt}
 use Rattle.state.specs.declared.frame.Frame.{Frame}
+use Rattle.state.specs.declared.answer.Halt.{Halt}
+use Rattle.state.specs.declared.answer.Tally.{Tally}
+use Rattle.state.specs.declared.answer.Answer.{Answer}
 
 -- the frame that the code's stands for, with the base c, at which no ask looks
 abbrev pub frame_over : Frame → RequiredContext → walk.Frame
@@ -52,12 +53,12 @@ pub record Calling (bytes t s rs : List ℕ) (fr : Frame) (row : Kinded) (sum : 
   pub args : Needed (part s (get_or rs returned 0))
 
 -- where the walk so far went, the function is open, and that slot is as said
-abbrev pub PassableAs : (bytes t s rs : List ℕ) → Frame → Walked → Type 0
-PassableAs bytes t s rs fr (Went tally) =
+abbrev pub PassableAs : (bytes t s rs : List ℕ) → Frame → Result Tally Halt → Type 0
+PassableAs bytes t s rs fr (Ok tally) =
     Ready bytes t s rs fr.function.0 fr.at fr.held tally.sum × Needed (part s (get_or rs returned 0))
-PassableAs bytes t s rs fr (Halt k place) = Unit {0}
+PassableAs bytes t s rs fr (Err h) = Unit {0}
 
-pub record Passable (bytes t s rs : List ℕ) (fr : Frame) (r : Walked) : Type 0 where
+pub record Passable (bytes t s rs : List ℕ) (fr : Frame) (r : Result Tally Halt) : Type 0 where
   pub by : PassableAs bytes t s rs fr r
 
 -- what no ask of an argument changes: what stands apart, and the slots RESULT and RETURNED
@@ -72,22 +73,22 @@ pub record Passed (bytes t s rs : List ℕ) (fr : Frame) (rest : Rest) (total : 
   pub ready : Ready bytes t u us fr.function.0 fr.at fr.held sum
   pub beside : Beside t fr.function.0 fr.at s rs u us
 
-abbrev pub Passing : (bytes t s rs : List ℕ) → Frame → Rest → Out (Unit {0}) → Walked → (u us : List ℕ) → Type 0
-Passing bytes t s rs fr rest total (Went tally) u us = Passed bytes t s rs fr rest total tally.visits tally.sum u us
-Passing bytes t s rs fr rest total (Halt k place) u us = halt k (place_of place) ≡ total
+abbrev pub Passing : (bytes t s rs : List ℕ) → Frame → Rest → Out (Unit {0}) → Result Tally Halt → (u us : List ℕ) → Type 0
+Passing bytes t s rs fr rest total (Ok tally) u us = Passed bytes t s rs fr rest total tally.visits tally.sum u us
+Passing bytes t s rs fr rest total (Err h) u us = halt (number h.refusal) (place_of h.place) ≡ total
 
-pub record Passes (bytes t s rs : List ℕ) (fr : Frame) (rest : Rest) (total : Out (Unit {0})) (r : Walked) (u us : List ℕ) : Type 0 where
+pub record Passes (bytes t s rs : List ℕ) (fr : Frame) (rest : Rest) (total : Out (Unit {0})) (r : Result Tally Halt) (u us : List ℕ) : Type 0 where
   pub by : Passing bytes t s rs fr rest total r u us
 
 -- After `before`, which left s rs, comes the argument i, which is the expression e: the asks that began in any z zs go on with that.
-pub record Argued (bytes t s rs : List ℕ) (fr : Frame) (before : Walked) (e i : ℕ) (r : Walked) (u us : List ℕ) : Type 0 where
+pub record Argued (bytes t s rs : List ℕ) (fr : Frame) (before : Result Tally Halt) (e i : ℕ) (r : Result Tally Halt) (u us : List ℕ) : Type 0 where
   pub opens : Passable bytes t u us fr r
   pub by : (c : RequiredContext) (z zs : List ℕ) (rest : Rest) (total : Out (Unit {0})) → total_pieces rest.functions ≡ totals_sum (read z zs)
       → Passes bytes t z zs fr rest total before s rs
       → Passes bytes t z zs fr rest (total >> ask_needed (module_of bytes t) (frame_over fr c) e (get_subpart (part z (get_or zs returned 0)) (variable i))) r u us
 
 -- the first k arguments were asked
-pub record AskedArguments (bytes t s rs : List ℕ) (fr : Frame) (row : Kinded) (visits k : ℕ) (r : Walked) (u us : List ℕ) : Type 0 where
+pub record AskedArguments (bytes t s rs : List ℕ) (fr : Frame) (row : Kinded) (visits k : ℕ) (r : Result Tally Halt) (u us : List ℕ) : Type 0 where
   pub opens : Passable bytes t u us fr r
   pub by : (c : RequiredContext) (rest : Rest) → total_pieces rest.functions ≡ totals_sum (read s rs)
       → Passes bytes t s rs fr rest
@@ -95,7 +96,7 @@ pub record AskedArguments (bytes t s rs : List ℕ) (fr : Frame) (row : Kinded) 
       r u us
 
 -- the call has ended as the definition says, where `req` is whether the result is asked for, and the called function is required
-pub record EndsCall (bytes t s rs : List ℕ) (fr : Frame) (row : Kinded) (req : Bool) (visits : ℕ) (r : Answered) (u us : List ℕ) : Type 0 where
+pub record EndsCall (bytes t s rs : List ℕ) (fr : Frame) (row : Kinded) (req : Bool) (visits : ℕ) (r : Result Answer Halt) (u us : List ℕ) : Type 0 where
   pub by : (c : RequiredContext) (rest : Rest) → total_pieces rest.functions ≡ totals_sum (read s rs)
       → ArmEnds bytes t s rs fr rest
       (end_call (module_of bytes t) (frame_over fr c) (arguments_of bytes row (operand_at bytes row 1)) (option_of (operand_at bytes row (2 + operand_at bytes row 1)))

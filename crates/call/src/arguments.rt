@@ -1,5 +1,5 @@
 // The arguments of a call, once the called function was walked.
-ghost use Rattle.std.specs.Prelude.{◌<◌, length};
+ghost use Rattle.std.specs.Prelude.{◌<◌, length, Ok};
 ghost use Rattle.module.specs.Tables.{module_of};
 ghost use Rattle.access.specs.Access.{operand_at};
 ghost use Rattle.walk.specs.Resolve.{function_at};
@@ -14,34 +14,28 @@ use state::answer::{Tally, Walked};
 use state::frame::Frame;
 use statement::ask::then_ask;
 
-// What is needed of the argument i, if anything is, is asked of the expression e, where the walk so far went.
+// What is needed of the argument i, if anything is, is asked of the expression e, after a walk that went.
 fn then_argument(
     bytes: &[u8],
     t: &[u32],
     cells: &mut [u32],
     slots: &mut [u32],
     fr: Frame,
-    before: Walked,
+    tally: Tally,
     e: ExpressionHandle,
     i: u16,
 ) -> Walked
-    requires passable { Passable bytes.now t.now cells.old slots.old fr before }
+    requires passable { Passable bytes.now t.now cells.old slots.old fr (Ok tally) }
     requires e_in_bounds { e.0 < length (function_at (module_of bytes.now t.now) fr.function.0).expressions }
-    ensures { Argued bytes.now t.now cells.old slots.old fr before e.0 i result cells.new slots.new }
+    ensures { Argued bytes.now t.now cells.old slots.old fr (Ok tally) e.0 i result cells.new slots.new }
 {
-    match before {
-        Walked::Went(tally) => {
-            let needed = get(cells, slots[RETURNED], SPINE + (i as u32));
-            match needed {
-                None => Walked::Went(tally),
-                Some(p) => {
-                    slots[ASK] = p;
-                    let began = Walked::Went(tally);
-                    then_ask(bytes, t, cells, slots, fr, began, e, ASK)
-                }
-            }
+    let needed = get(cells, slots[RETURNED], SPINE + (i as u32));
+    match needed {
+        None => Ok(tally),
+        Some(p) => {
+            slots[ASK] = p;
+            then_ask(bytes, t, cells, slots, fr, Ok(tally), e, ASK)
         }
-        Walked::Halt(n, place) => Walked::Halt(n, place),
     }
 }
 
@@ -60,15 +54,13 @@ pub fn ask_arguments(
     ensures { AskedArguments bytes.now t.now cells.old slots.old fr row visits (operand_at bytes.now row 1) result cells.new slots.new }
 {
     let n = operand(bytes, row, 1);
-    let mut walked = Walked::Went(Tally {
+    let mut tally = Tally {
         visits: visits,
         sum: sum,
-    });
-    let mut i: u16 = 0;
-    while i < n {
+    };
+    for i in 0..n {
         let e = expression_operand(bytes, row, 2 + i);
-        walked = then_argument(bytes, t, cells, slots, fr, walked, e, i);
-        i = i + 1;
+        tally = then_argument(bytes, t, cells, slots, fr, tally, e, i)?;
     }
-    walked
+    Ok(tally)
 }

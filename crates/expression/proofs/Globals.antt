@@ -7,6 +7,8 @@ use mathlib.Core.Bool.{Bool, true, false}
 use mathlib.Core.List.{List}
 use lib.ListN.{length, get_or, set, length-set}
 use lib.Seq.{get_or-set_same}
+use Rattle.std.specs.Prelude.{Result, Err}
+use Rattle.field.specs.declared.refusal.Refusal.TheVariants.{PartLimit}
 use Rattle.part.specs.PartReq.{PartReq, none, gone, there, get_subpart, entries, over, spine}
 use Rattle.part.specs.Insert.{insert}
 use Rattle.part.specs.Store.{top, part, Good}
@@ -27,8 +29,8 @@ use Rattle.state.specs.State.{Rest, state_of}
 use Rattle.state.specs.Ready.{Ready, Others}
 use Rattle.state.specs.Stored.{Stored}
 use Rattle.state.specs.declared.answer.Place.TheVariants as place
-use Rattle.state.specs.declared.answer.Walked.{Walked}
-use Rattle.state.specs.declared.answer.Walked.TheVariants.{Halt}
+use Rattle.state.specs.declared.answer.Halt.{Halt}
+use Rattle.state.specs.declared.answer.Tally.{Tally}
 use Rattle.state.proofs.Own.{state_entries, state_total, map_sum, map_pieces, total_sum, total-pieces, context_apart}
 use Rattle.state.proofs.Others.{others_trans, others_set, own_map, own_total, others_still, others_totals, ready_fits, ready_set}
 use Rattle.state.proofs.Ends.{halts, ends_after}
@@ -122,7 +124,7 @@ module _ {t : List ℕ} {f e at held : ℕ} {s rs : List ℕ} {w : Want} {sum : 
       }
 
       pub later_15 : {bytes : List ℕ} {b : Bool} {v vs : List ℕ} {fh : FunctionHandle} {eh : ExpressionHandle} (visits : ℕ) → b ≡ over (part u (get_or us globals_slot 0)) → b ≡ true
-          → fh.0 ≡ f → eh.0 ≡ e → Walks bytes t f at held s rs (ending_global f held e g (asked s rs w)) visits (Halt 15 (place.Expression fh eh)) v vs
+          → fh.0 ≡ f → eh.0 ≡ e → Walks bytes t f at held s rs (ending_global f held e g (asked s rs w)) visits (Err (record { refusal = PartLimit; place = place.Expression fh eh })) v vs
       later_15 visits eb eo ef ee = record {
         by = λ rest h.
             halts
@@ -131,7 +133,7 @@ module _ {t : List ℕ} {f e at held : ℕ} {s rs : List ℕ} {w : Want} {sum : 
       }
 
       pub later_ends : {bytes : List ℕ} {b : Bool} (visits : ℕ) → b ≡ over (part u (get_or us globals_slot 0)) → b ≡ false
-          → Ready bytes t s rs f at held sum → {r : Walked} {v vs : List ℕ}
+          → Ready bytes t s rs f at held sum → {r : Result Tally Halt} {v vs : List ℕ}
           → ((bytes : List ℕ) → Ready bytes t u us f at held m → Walks bytes t f at held u us (closing f held e (asked u us w)) visits r v vs)
           → Walks bytes t f at held s rs (ending_global f held e g (asked s rs w)) visits r v vs
       later_ends {bytes} visits eb eo r y = record {
@@ -235,7 +237,7 @@ module _ {t : List ℕ} {f e at held : ℕ} {s rs : List ℕ} {w : Want} {sum : 
               ≡ went (with_context (with_global_entries put (context_at (read s rs) at)) (with_globals total (state_of t f at (read s rs) rest visits))) tt
           inserted = rw inserted_is (rw (total_is, seen, read_at s rs at (omega (arith, q.ready.high))))
 
-      pub first_ends : {bytes : List ℕ} (visits : ℕ) → Ready bytes t s rs f at held sum → {r : Walked} {v vs : List ℕ}
+      pub first_ends : {bytes : List ℕ} (visits : ℕ) → Ready bytes t s rs f at held sum → {r : Result Tally Halt} {v vs : List ℕ}
           → ((bytes : List ℕ) → Ready bytes t u (set us at d) f at held m → Walks bytes t f at held u (set us at d) (closing f held e (asked u (set us at d) w)) visits r v vs)
           → Walks bytes t f at held s rs (ending_global f held e g (asked s rs w)) visits r v vs
       first_ends {bytes} visits r y = record {

@@ -6,7 +6,9 @@ use mathlib.Core.Path.{◌≡◌, refl, sym, ap, subst, ◌∙◌}
 use mathlib.Core.Bool.{Bool, true, false}
 use mathlib.Core.List.{List}
 use lib.ListN.{length, get_or, set, length-set}
+use Rattle.std.specs.Prelude.{Result, Err}
 use Rattle.field.specs.Limits.{max_pieces, max_depth}
+use Rattle.field.specs.declared.refusal.Refusal.TheVariants.{PartLimit}
 use Rattle.part.specs.PartReq.{PartReq, none, more, there, entries, over, spine}
 use Rattle.part.specs.Store.{part, Made}
 use Rattle.part.proofs.Sizes.{sum_small}
@@ -24,8 +26,8 @@ use Rattle.memory.proofs.Notes.{entries-single}
 use Rattle.state.specs.State.{Rest, state_of}
 use Rattle.state.specs.Ready.{Ready, Others}
 use Rattle.state.specs.declared.answer.Place.TheVariants as place
-use Rattle.state.specs.declared.answer.Walked.{Walked}
-use Rattle.state.specs.declared.answer.Walked.TheVariants.{Halt}
+use Rattle.state.specs.declared.answer.Halt.{Halt}
+use Rattle.state.specs.declared.answer.Tally.{Tally}
 use Rattle.state.proofs.Own.{Fits, state_locals, state_args, map_sum, map_pieces}
 use Rattle.state.proofs.Others.{others_set, own_map, others_still, others_totals, ready_fits, ready_set}
 use Rattle.state.proofs.Ends.{halts, ends_after}
@@ -127,7 +129,7 @@ module _ {t : List ℕ} {f e at held : ℕ} {s rs : List ℕ} {w : Want} {sum : 
     -- where an ask sets that map, unless it passes a limit
     map_ends : {bytes : List ℕ} (ask : Walk (Unit {0})) (visits : ℕ)
         → ((rest : Rest) → ask (state_of t f at (read s rs) rest visits) ≡ limited (at_expression f e) new (state_of t f at (set (read s rs) (at + j) new) rest visits))
-        → Ready bytes t s rs f at held sum → {r : Walked} {v vs : List ℕ}
+        → Ready bytes t s rs f at held sum → {r : Result Tally Halt} {v vs : List ℕ}
         → ((bytes : List ℕ) → Ready bytes t u us f at held sum → Walks bytes t f at held u us (closing f held e (asked u us w)) visits r v vs)
         → Walks bytes t f at held s rs (λ st. ask st >> closing f held e (asked s rs w)) visits r v vs
     map_ends {bytes} ask visits is r x = record {
@@ -143,7 +145,7 @@ module _ {t : List ℕ} {f e at held : ℕ} {s rs : List ℕ} {w : Want} {sum : 
   map_15 : {bytes : List ℕ} (j i : ℕ) (ask : Walk (Unit {0})) (visits : ℕ) → over (joined (part s (get_or rs (at + j) 0)) i (asked s rs w)) ≡ true
       → ((rest : Rest) → ask (state_of t f at (read s rs) rest visits) ≡ limited (at_expression f e) (joined (part s (get_or rs (at + j) 0)) i (asked s rs w)) (state_of t f at (set (read s rs) (at + j) (joined (part s (get_or rs (at + j) 0)) i (asked s rs w))) rest visits))
       → {fh : FunctionHandle} {eh : ExpressionHandle} → fh.0 ≡ f → eh.0 ≡ e → {u us : List ℕ}
-      → Walks bytes t f at held s rs (λ st. ask st >> closing f held e (asked s rs w)) visits (Halt 15 (place.Expression fh eh)) u us
+      → Walks bytes t f at held s rs (λ st. ask st >> closing f held e (asked s rs w)) visits (Err (record { refusal = PartLimit; place = place.Expression fh eh })) u us
   map_15 j i ask visits o is ef ee = record {
     by = λ rest h.
         halts (rw (ef, ee) (sym (next_halt (closing f held e (asked s rs w)) (is rest ∙ limited_over (at_expression f e) _ _ o))));
@@ -165,21 +167,21 @@ module _ {t : List ℕ} {f e at held : ℕ} {s rs : List ℕ} {w : Want} {sum : 
   -- `argument` and `local`
   module _ (i visits : ℕ) where
     pub argument_15 : {bytes : List ℕ} {u us : List ℕ} {fh : FunctionHandle} {eh : ExpressionHandle} → over (joined (part s (get_or rs (at + 2) 0)) i (asked s rs w)) ≡ true
-        → fh.0 ≡ f → eh.0 ≡ e → Walks bytes t f at held s rs (ending_argument f held e i (asked s rs w)) visits (Halt 15 (place.Expression fh eh)) u us
+        → fh.0 ≡ f → eh.0 ≡ e → Walks bytes t f at held s rs (ending_argument f held e i (asked s rs w)) visits (Err (record { refusal = PartLimit; place = place.Expression fh eh })) u us
     argument_15 o ef ee = map_15 2 i (ask_argument (at_expression f e) i (asked s rs w)) visits o (argument_is i visits) ef ee
 
     pub local_15 : {bytes : List ℕ} {u us : List ℕ} {fh : FunctionHandle} {eh : ExpressionHandle} → over (joined (part s (get_or rs (at + 1) 0)) i (asked s rs w)) ≡ true
-        → fh.0 ≡ f → eh.0 ≡ e → Walks bytes t f at held s rs (ending_local f held e i (asked s rs w)) visits (Halt 15 (place.Expression fh eh)) u us
+        → fh.0 ≡ f → eh.0 ≡ e → Walks bytes t f at held s rs (ending_local f held e i (asked s rs w)) visits (Err (record { refusal = PartLimit; place = place.Expression fh eh })) u us
     local_15 o ef ee = map_15 1 i (ask_local (at_expression f e) i (asked s rs w)) visits o (local_is i visits) ef ee
 
     pub argument_ends : {bytes : List ℕ} {u us : List ℕ} → Mapped s rs (at + 2) (joined (part s (get_or rs (at + 2) 0)) i (asked s rs w)) u us
-        → Ready bytes t s rs f at held sum → {r : Walked} {v vs : List ℕ}
+        → Ready bytes t s rs f at held sum → {r : Result Tally Halt} {v vs : List ℕ}
         → ((bytes : List ℕ) → Ready bytes t u us f at held sum → Walks bytes t f at held u us (closing f held e (asked u us w)) visits r v vs)
         → Walks bytes t f at held s rs (ending_argument f held e i (asked s rs w)) visits r v vs
     argument_ends d r x = map_ends 2 i (omega arith) d (ask_argument (at_expression f e) i (asked s rs w)) visits (argument_is i visits) r x
 
     pub local_ends : {bytes : List ℕ} {u us : List ℕ} → Mapped s rs (at + 1) (joined (part s (get_or rs (at + 1) 0)) i (asked s rs w)) u us
-        → Ready bytes t s rs f at held sum → {r : Walked} {v vs : List ℕ}
+        → Ready bytes t s rs f at held sum → {r : Result Tally Halt} {v vs : List ℕ}
         → ((bytes : List ℕ) → Ready bytes t u us f at held sum → Walks bytes t f at held u us (closing f held e (asked u us w)) visits r v vs)
         → Walks bytes t f at held s rs (ending_local f held e i (asked s rs w)) visits r v vs
     local_ends d r x = map_ends 1 i (omega arith) d (ask_local (at_expression f e) i (asked s rs w)) visits (local_is i visits) r x

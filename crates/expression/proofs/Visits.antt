@@ -6,7 +6,9 @@ use mathlib.Core.Path.{◌≡◌, refl, sym, ap, subst, ◌∙◌}
 use mathlib.Core.Bool.{Bool, true, false}
 use mathlib.Core.List.{List}
 use lib.ListN.{length, get_or, set}
+use Rattle.std.specs.Prelude.{Ok, Err}
 use Rattle.field.specs.Limits.{max_pieces, max_depth}
+use Rattle.field.specs.declared.refusal.Refusal.TheVariants.{PiecesLimit}
 use Rattle.part.specs.PartReq.{PartReq, none, more, entries}
 use Rattle.part.specs.Store.{part}
 use Rattle.part.specs.StoreLimits.{entries_cap}
@@ -15,7 +17,7 @@ use Rattle.module.specs.declared.handles.ExpressionHandle.{ExpressionHandle}
 use Rattle.module.specs.declared.handles.FunctionHandle.{FunctionHandle}
 use Rattle.access.specs.Access.{expression_number}
 use Rattle.context.specs.RequiredContext.{pieces}
-use Rattle.walk.specs.State.{State, at_expression, went, count, counted, total_pieces}
+use Rattle.walk.specs.State.{State, at_expression, went, count, total_pieces}
 use Rattle.walk.specs.Expression.{recorded}
 use Rattle.walk.proofs.Bind.{counted-over, counted-under}
 use Rattle.memory.specs.Layout.{exprs_slot, stack_slot, most}
@@ -31,7 +33,6 @@ use Rattle.state.specs.State.{Rest, state_of, sum_in, totals_sum}
 use Rattle.state.specs.Ready.{Ready, Others}
 use Rattle.state.specs.Stored.{Stored}
 use Rattle.state.specs.declared.answer.Place.TheVariants as place
-use Rattle.state.specs.declared.answer.Walked.TheVariants.{Went, Halt}
 use Rattle.state.proofs.Own.{record_slot, Fits, record_sum, record-pieces, state_record, records_there}
 use Rattle.state.proofs.Others.{others_same, others_trans, others_set, own_record, others_totals, count_is, ready_fits, ready_set, ready_tidied}
 use Rattle.state.proofs.Ends.{goes, halts}
@@ -159,7 +160,7 @@ module _ {t : List ℕ} {f e at held : ℕ} {s rs : List ℕ} {w : Want} {sum : 
             ∙ count_is t f at held (read u us) rest visits m (rw stored.reads sum_is) (h ∙ sym (others_totals room_there q.ready.low others))
 
         pub closed : {r : Bool} {v vs : List ℕ} → Allowed u us at held m r v vs → r ≡ true
-            → Walks bytes t f at held s rs (closing f held e (asked s rs w)) visits (Went (record { visits = visits; sum = m })) v vs
+            → Walks bytes t f at held s rs (closing f held e (asked s rs w)) visits (Ok (record { visits = visits; sum = m })) v vs
         closed {r} {v} {vs} x g =
             let a = is_allowed x g in
             let few : held + (pieces (context_at (set (read s rs) (record_slot t f e) new) at) + m) ≤ max_pieces = rw stored.reads at a.0 in
@@ -178,7 +179,7 @@ module _ {t : List ℕ} {f e at held : ℕ} {s rs : List ℕ} {w : Want} {sum : 
             }
 
         pub closed_16 : {r : Bool} {v vs : List ℕ} {fh : FunctionHandle} {eh : ExpressionHandle} → Allowed u us at held m r v vs → r ≡ false → fh.0 ≡ f → eh.0 ≡ e
-            → Walks bytes t f at held s rs (closing f held e (asked s rs w)) visits (Halt 16 (place.Expression fh eh)) v vs
+            → Walks bytes t f at held s rs (closing f held e (asked s rs w)) visits (Err (record { refusal = PiecesLimit; place = place.Expression fh eh })) v vs
         closed_16 x g ef ee =
             record {
               by = λ rest h.

@@ -8,7 +8,11 @@ use mathlib.Core.Bool.{Bool, true, false}
 use mathlib.Core.List.{List, []}
 use mathlib.Core.Option.{none as nothing}
 use lib.ListN.{length, get_elem?}
+use Rattle.std.specs.Prelude.{Result, Ok, Err}
 use Rattle.field.specs.Limits.{max_pieces, max_visits, max_depth, max_components}
+use Rattle.field.specs.Refusal.{number}
+use Rattle.field.specs.declared.refusal.Refusal.{Refusal}
+use Rattle.field.specs.declared.refusal.Refusal.TheVariants.{PiecesLimit, VisitsLimit}
 use Rattle.part.specs.PartReq.{PartReq, entries, spine}
 use Rattle.module.specs.Module.{Function}
 use Rattle.module.specs.Tables.{row_at, module_of}
@@ -33,11 +37,9 @@ use Rattle.memory.specs.declared.want.Want.{Want}
 use Rattle.memory.proofs.Slots.{asked-small, wants_still, asked-still, tidied_still, still_trans}
 use Rattle.state.specs.State.{state_of, totals_sum}
 use Rattle.state.specs.Ready.{Ready, Ended}
-use Rattle.state.specs.declared.answer.Place.{Place}
 use Rattle.state.specs.declared.answer.Place.TheVariants as place
 use Rattle.state.specs.declared.answer.Tally.{Tally}
-use Rattle.state.specs.declared.answer.Walked.{Walked}
-use Rattle.state.specs.declared.answer.Walked.TheVariants.{Went, Halt}
+use Rattle.state.specs.declared.answer.Halt.{Halt}
 use Rattle.state.proofs.Others.{others_same, others_still, others_totals, count_is, ready_fits, ready_tidied}
 use Rattle.state.proofs.Rests.{some_rest, rest_counts}
 use Rattle.state.proofs.Ends.{ends_went, ends_halt, halts, ends_after}
@@ -52,7 +54,7 @@ use Rattle.expression.proofs.Turns.{visit_17, visit_16, visit_asks, turn_operand
 use Rattle.expression.proofs.Visits.{is_allowed, not_allowed}
 
 -- the same walk, said otherwise
-pub walks_as : {bytes t : List ℕ} {f at held : ℕ} {s rs : List ℕ} {walk : Walk (Unit {0})} {visits : ℕ} {r : Walked} {u us : List ℕ} (other : Walk (Unit {0}))
+pub walks_as : {bytes t : List ℕ} {f at held : ℕ} {s rs : List ℕ} {walk : Walk (Unit {0})} {visits : ℕ} {r : Result Tally Halt} {u us : List ℕ} (other : Walk (Unit {0}))
     → ((st : State) → walk st ≡ other st) → Walks bytes t f at held s rs walk visits r u us → Walks bytes t f at held s rs other visits r u us
 walks_as other e x = record { by = λ rest h. ends_after (others_same refl refl) (e _) (x.by rest h) }
 
@@ -94,13 +96,13 @@ module _ {bytes t s rs : List ℕ} {f at held sum : ℕ} (r : Ready bytes t s rs
 
   module _ (e visits : ℕ) (w : Want) where
     pub walk_17 : {fh : FunctionHandle} {eh : ExpressionHandle} → fh.0 ≡ f → eh.0 ≡ e → max_visits ≤ visits
-        → Walks bytes t f at held s rs (add_expression (module_of bytes t) f held e (asked s rs w)) visits (Halt 17 (place.Expression fh eh)) s rs
+        → Walks bytes t f at held s rs (add_expression (module_of bytes t) f held e (asked s rs w)) visits (Err (record { refusal = VisitsLimit; place = place.Expression fh eh })) s rs
     walk_17 ef ee l = record {
       by = λ rest h. halts (rw (ef, ee) (visit_17 (module_of bytes t) f held e (asked s rs w) (low r e) (state_of t f at (read s rs) rest visits) l));
     }
 
     pub walk_16 : {b : Bool} {u us : List ℕ} {fh : FunctionHandle} {eh : ExpressionHandle} → fh.0 ≡ f → eh.0 ≡ e → visits < max_visits → Allowed s rs at held sum b u us → b ≡ false
-        → Walks bytes t f at held s rs (add_expression (module_of bytes t) f held e (asked s rs w)) visits (Halt 16 (place.Expression fh eh)) u us
+        → Walks bytes t f at held s rs (add_expression (module_of bytes t) f held e (asked s rs w)) visits (Err (record { refusal = PiecesLimit; place = place.Expression fh eh })) u us
     walk_16 ef ee few x not = record {
       by = λ rest h.
           halts
@@ -140,7 +142,7 @@ module _ {bytes t : List ℕ} {f e at held : ℕ} {s rs : List ℕ} {w : Want} {
   }
 
   -- all asks are the visit
-  begun_walks : {r : Walked} {y ys : List ℕ} → Walks bytes t f at held u us (asks_from (module_of bytes t) f held e (asked u us w) 0) (visits + 1) r y ys
+  begun_walks : {r : Result Tally Halt} {y ys : List ℕ} → Walks bytes t f at held u us (asks_from (module_of bytes t) f held e (asked u us w) 0) (visits + 1) r y ys
       → Walks bytes t f at held s rs (add_expression (module_of bytes t) f held e (asked s rs w)) visits r y ys
   begun_walks x = record {
     by = λ rest h.
@@ -183,12 +185,12 @@ module _ {bytes t : List ℕ} {f e at held : ℕ} {s rs : List ℕ} {w : Want} {
     abbrev left : ℕ → Walk (Unit {0})
     left j = asks_from (module_of bytes t) f held e (asked u us w) j
 
-    ended : {r : Walked} {y ys : List ℕ} → Walks bytes t f at held z zs (left j) v r y ys → Walks bytes t f at held s rs whole visits r y ys
+    ended : {r : Result Tally Halt} {y ys : List ℕ} → Walks bytes t f at held z zs (left j) v r y ys → Walks bytes t f at held s rs whole visits r y ys
     ended x = begun_walks (l.rest _ _ _ x)
 
     -- a walk that is what is left
     module _ (walk : PartReq → Walk (Unit {0})) (is : (st : State) → walk (asked u us w) st ≡ left j st) where
-      ended_by : {r : Walked} {y ys : List ℕ} → ((bytes : List ℕ) → Ready bytes t z zs f at held m → Walks bytes t f at held z zs (walk (asked z zs w)) v r y ys)
+      ended_by : {r : Result Tally Halt} {y ys : List ℕ} → ((bytes : List ℕ) → Ready bytes t z zs f at held m → Walks bytes t f at held z zs (walk (asked z zs w)) v r y ys)
           → Walks bytes t f at held s rs whole visits r y ys
       ended_by x = ended (walks_as (left j) is (rw asked-now at (x bytes l.ready)))
 
@@ -200,15 +202,15 @@ module _ {bytes t : List ℕ} {f e at held : ℕ} {s rs : List ℕ} {w : Want} {
       within_is g = subst (λ (y : What). Within (length (module_of bytes t).globals) (length (function_at (module_of bytes t) f).arguments) (length (function_at (module_of bytes t) f).locals) e y) g x.within
 
       -- nothing more, or a refusal
-      pub left_end : a.what ≡ End → {r : Walked} {y ys : List ℕ}
+      pub left_end : a.what ≡ End → {r : Result Tally Halt} {y ys : List ℕ}
           → ((bytes : List ℕ) → Ready bytes t z zs f at held m → Walks bytes t f at held z zs (closing f held e (asked z zs w)) v r y ys)
           → Walks bytes t f at held s rs whole visits r y ys
       left_end g = ended_by (closing f held e) (λ st. turn_end (module_of bytes t) f held e (asked u us w) j st (said-is g))
 
-      pub left_refuse : {n : ℕ} {fh : FunctionHandle} {eh : ExpressionHandle} → a.what ≡ Refuse n → fh.0 ≡ f → eh.0 ≡ e
-          → Walks bytes t f at held s rs whole visits (Halt n (place.Expression fh eh)) z zs
-      left_refuse {n} g ef ee =
-          ended (record { by = λ rest h. halts (rw (ef, ee) (turn_refuse (module_of bytes t) f held e (asked u us w) j (state_of t f at (read z zs) rest v) n (said-is g))) })
+      pub left_refuse : {r : Refusal} {fh : FunctionHandle} {eh : ExpressionHandle} → a.what ≡ Refuse r → fh.0 ≡ f → eh.0 ≡ e
+          → Walks bytes t f at held s rs whole visits (Err (record { refusal = r; place = place.Expression fh eh })) z zs
+      left_refuse {r} g ef ee =
+          ended (record { by = λ rest h. halts (rw (ef, ee) (turn_refuse (module_of bytes t) f held e (asked u us w) j (state_of t f at (read z zs) rest v) (number r) (said-is g))) })
 
       -- a variable
       pub argument_low : {i : ℕ} → a.what ≡ Argument i → i < spine
@@ -220,17 +222,17 @@ module _ {bytes t : List ℕ} {f e at held : ℕ} {s rs : List ℕ} {w : Want} {
       pub global_low : {i : GlobalHandle} → a.what ≡ Global i → i.0 < spine
       global_low g = (within_is g).1
 
-      pub left_argument : {i : ℕ} → a.what ≡ Argument i → {r : Walked} {y ys : List ℕ}
+      pub left_argument : {i : ℕ} → a.what ≡ Argument i → {r : Result Tally Halt} {y ys : List ℕ}
           → ((bytes : List ℕ) → Ready bytes t z zs f at held m → Walks bytes t f at held z zs (ending_argument f held e i (asked z zs w)) v r y ys)
           → Walks bytes t f at held s rs whole visits r y ys
       left_argument {i} g = ended_by (ending_argument f held e i) (λ st. turn_argument (module_of bytes t) f held e (asked u us w) j st components_now i _ (said-is g))
 
-      pub left_local : {i : LocalHandle} → a.what ≡ Local i → {r : Walked} {y ys : List ℕ}
+      pub left_local : {i : LocalHandle} → a.what ≡ Local i → {r : Result Tally Halt} {y ys : List ℕ}
           → ((bytes : List ℕ) → Ready bytes t z zs f at held m → Walks bytes t f at held z zs (ending_local f held e i.0 (asked z zs w)) v r y ys)
           → Walks bytes t f at held s rs whole visits r y ys
       left_local {i} g = ended_by (ending_local f held e i.0) (λ st. turn_local (module_of bytes t) f held e (asked u us w) j st components_now i.0 _ (said-is g))
 
-      pub left_global : {i : GlobalHandle} → a.what ≡ Global i → {r : Walked} {y ys : List ℕ}
+      pub left_global : {i : GlobalHandle} → a.what ≡ Global i → {r : Result Tally Halt} {y ys : List ℕ}
           → ((bytes : List ℕ) → Ready bytes t z zs f at held m → Walks bytes t f at held z zs (ending_global f held e i.0 (asked z zs w)) v r y ys)
           → Walks bytes t f at held s rs whole visits r y ys
       left_global {i} g = ended_by (ending_global f held e i.0) (λ st. turn_global (module_of bytes t) f held e (asked u us w) j st components_now i.0 _ (said-is g))
@@ -256,15 +258,15 @@ module _ {bytes t : List ℕ} {f e at held : ℕ} {s rs : List ℕ} {w : Want} {
               asked-small l.ready.memory w wants_now,
             )
 
-        module _ {r : Walked} {y ys : List ℕ} (c : Walks bytes t f at held z zs (add_expression (module_of bytes t) f held h.0 (asked z zs a.want)) v r y ys) where
+        module _ {r : Result Tally Halt} {y ys : List ℕ} (c : Walks bytes t f at held z zs (add_expression (module_of bytes t) f held h.0 (asked z zs a.want)) v r y ys) where
           turn_is : (st : State) → left j st ≡ (add_expression (module_of bytes t) f held h.0 (asked z zs a.want) st >> left (suc j))
           turn_is st = turn_operand (module_of bytes t) f held e (asked u us w) j st h.0 (asked z zs a.want) (said-is g)
 
-          pub left_halt : {n : ℕ} {p : Place} → r ≡ Halt n p → Walks bytes t f at held s rs whole visits (Halt n p) y ys
+          pub left_halt : {stop : Halt} → r ≡ Err stop → Walks bytes t f at held s rs whole visits (Err stop) y ys
           left_halt is =
               ended (record { by = λ rest k. halts (sym (turn_is (state_of t f at (read z zs) rest v) ∙ next_halt (left (suc j)) (sym (ends_halt (c.by rest k) is)))) })
 
-          module _ {tally : Tally} (is : r ≡ Went tally) where
+          module _ {tally : Tally} (is : r ≡ Ok tally) where
             some_end : Ended bytes t f at held z zs (some_rest (totals_sum (read z zs))) (add_expression (module_of bytes t) f held h.0 (asked z zs a.want) (state_of t f at (read z zs) (some_rest (totals_sum (read z zs))) v)) tally.visits tally.sum y ys
             some_end = ends_went (c.by (some_rest (totals_sum (read z zs))) (rest_counts (totals_sum (read z zs)))) is
 

@@ -1,5 +1,5 @@
 -- What a walk of an expression says of the definition's.
-use Rattle.std.specs.Prelude.{◌≡◌, List, ℕ, ◌+◌, ◌≤◌, length, drop}
+use Rattle.std.specs.Prelude.{◌≡◌, List, ℕ, ◌+◌, ◌≤◌, length, drop, Result}
 use Rattle.field.specs.Limits.{max_pieces}
 use Rattle.part.specs.PartReq.{PartReq, get_subpart}
 use Rattle.part.specs.Store.{Room}
@@ -15,10 +15,11 @@ use Rattle.memory.specs.Want.{asked, Still}
 use Rattle.memory.specs.declared.want.Want.{Want}
 use Rattle.state.specs.State.{Rest, state_of, totals_sum}
 use Rattle.state.specs.Ready.{Ready, Ends}
-use Rattle.state.specs.declared.answer.Walked.{Walked}
+use Rattle.state.specs.declared.answer.Halt.{Halt}
+use Rattle.state.specs.declared.answer.Tally.{Tally}
 
 -- From the memory s rs, the answer and the memory that is left are what `walk` says, whatever no walk of an expression looks at.
-pub record Walks (bytes t : List ℕ) (f : FunctionHandle) (at held : ℕ) (s rs : List ℕ) (walk : Walk (Unit {0})) (visits : ℕ) (r : Walked) (u us : List ℕ) : Type 0 where
+pub record Walks (bytes t : List ℕ) (f : FunctionHandle) (at held : ℕ) (s rs : List ℕ) (walk : Walk (Unit {0})) (visits : ℕ) (r : Result Tally Halt) (u us : List ℕ) : Type 0 where
   pub by : (rest : Rest) → total_pieces rest.functions ≡ totals_sum (read s rs)
       → Ends bytes t f at held s rs rest (walk (state_of t f at (read s rs) rest visits)) r u us
 
@@ -36,6 +37,11 @@ ending_local f held e l p st = ask_local (at_expression f e) l p st >> closing f
 abbrev pub ending_global : FunctionHandle → (held : ℕ) → ExpressionHandle → GlobalHandle → PartReq → Walk (Unit {0})
 ending_global f held e g p st = ask_global (at_expression f e) g p (get_subpart st.globals (variable g)) st >> closing f held e p
 
+-- the same by the map of the context that has the variable: locals are at 1, arguments at 2
+pub record EntryWalks (bytes t : List ℕ) (f : FunctionHandle) (at held : ℕ) (s rs : List ℕ) (map : ℕ) (e : ExpressionHandle) (i : ℕ) (p : PartReq) (visits : ℕ) (r : Result Tally Halt) (u us : List ℕ) : Type 0 where
+  pub argument : map ≡ 2 → Walks bytes t f at held s rs (ending_argument f held e i p) visits r u us
+  pub local : map ≡ 1 → Walks bytes t f at held s rs (ending_local f held e i p) visits r u us
+
 -- a visit of e from the j-th ask on
 abbrev pub asks_from : Module → FunctionHandle → (held : ℕ) → ExpressionHandle → PartReq → ℕ → Walk (Unit {0})
 asks_from m f held e p j st =
@@ -50,5 +56,5 @@ pub record Left (bytes t : List ℕ) (f e : ℕ) (at held : ℕ) (s rs : List �
   pub cells : length u ≡ length s
   pub slots : length us ≡ length rs
   pub inside : j ≤ length (arm_asks (expression_at (module_of bytes t) f e) (asked s rs w))
-  pub rest : (r : Walked) (z zs : List ℕ) → Walks bytes t f at held u us (asks_from (module_of bytes t) f held e (asked s rs w) j) visits r z zs
+  pub rest : (r : Result Tally Halt) (z zs : List ℕ) → Walks bytes t f at held u us (asks_from (module_of bytes t) f held e (asked s rs w) j) visits r z zs
       → Walks bytes t f at held s rs (asks_from (module_of bytes t) f held e (asked s rs w) 0) begun r z zs

@@ -7,14 +7,20 @@ ghost use Rattle.memory.specs.Want.{asked, Wants};
 ghost use Rattle.state.specs.Ready.{Ready};
 ghost use Rattle.expression.specs.Walks.{Walks};
 
-use crate::variables::{argument, global, local};
+use crate::variables::{entry, global};
 use crate::visit::{allowed, close};
 use asks::ask::ask;
 use asks::what::What;
 use field::limits::MAX_VISITS;
+use field::refusal::Refusal;
 use memory::want::Want;
 use module::handles::{ExpressionHandle, FunctionHandle};
-use state::answer::{Place, Walked};
+use state::answer::{Halt, Place, Walked};
+
+// The places of a context's maps.
+const LOCALS: usize = 1;
+
+const ARGUMENTS: usize = 2;
 
 // `add_expression`: a visit of the expression e of f, of which w is asked, with the current context in the slots from `at` on.
 pub fn add_expression(
@@ -37,10 +43,16 @@ pub fn add_expression(
 {
     let here = Place::Expression(f, e);
     if MAX_VISITS <= visits {
-        return Walked::Halt(17, here);
+        return Err(Halt {
+            refusal: Refusal::VisitsLimit,
+            place: here,
+        });
     }
     if !allowed(cells, slots, at, held, sum) {
-        return Walked::Halt(16, here);
+        return Err(Halt {
+            refusal: Refusal::PiecesLimit,
+            place: here,
+        });
     }
     let mut v = visits + 1;
     let mut m = sum;
@@ -51,18 +63,21 @@ pub fn add_expression(
         let want = a.want;
         match what {
             What::Operand(h) => {
-                match add_expression(bytes, t, cells, slots, f, at, held, h, want, v, m) {
-                    Walked::Went(tally) => {
-                        v = tally.visits;
-                        m = tally.sum;
-                    }
-                    Walked::Halt(n, place) => return Walked::Halt(n, place),
-                }
+                let tally = add_expression(bytes, t, cells, slots, f, at, held, h, want, v, m)?;
+                v = tally.visits;
+                m = tally.sum;
             }
-            What::Argument(i) => return argument(t, cells, slots, f, at, held, e, i, w, v, m),
+            What::Argument(i) => {
+                return entry(t, cells, slots, f, at, held, e, ARGUMENTS, i, w, v, m);
+            }
             What::Global(g) => return global(t, cells, slots, f, at, held, e, g, w, v, m),
-            What::Local(l) => return local(t, cells, slots, f, at, held, e, l, w, v, m),
-            What::Refuse(n) => return Walked::Halt(n, here),
+            What::Local(l) => return entry(t, cells, slots, f, at, held, e, LOCALS, l.0, w, v, m),
+            What::Refuse(refusal) => {
+                return Err(Halt {
+                    refusal: refusal,
+                    place: here,
+                });
+            }
             What::End => return close(t, cells, slots, f, at, held, e, w, v, m),
         }
         j += 1;

@@ -5,18 +5,19 @@ ghost use Rattle.part.specs.Store.{part};
 ghost use Rattle.walk.specs.Expression.{joined};
 ghost use Rattle.memory.specs.Want.{asked};
 ghost use Rattle.state.specs.Ready.{Ready};
-ghost use Rattle.expression.specs.Walks.{Walks, ending_argument, ending_local, ending_global};
+ghost use Rattle.expression.specs.Walks.{Walks, EntryWalks, ending_global};
 ghost use Rattle.expression.specs.Visits.{Visiting, Mapping, Meets};
 
 use crate::visit::close;
+use field::refusal::Refusal;
 use memory::layout::GLOBALS;
 use memory::memory::{ask_global, join_asked};
 use memory::want::Want;
-use module::handles::{ExpressionHandle, FunctionHandle, GlobalHandle, LocalHandle};
+use module::handles::{ExpressionHandle, FunctionHandle, GlobalHandle};
 use part::limits::SPINE;
 use part::req::get;
 use part::store::over;
-use state::answer::{Place, Walked};
+use state::answer::{Halt, Place, Walked};
 
 // Joins what w asks to the entry of the variable i in the map of the slot k, where that passes no limit. Whether it does.
 fn join(cells: &mut [u32], slots: &mut [u32], k: usize, i: u32, w: Want) -> bool
@@ -32,8 +33,8 @@ fn join(cells: &mut [u32], slots: &mut [u32], k: usize, i: u32, w: Want) -> bool
     false
 }
 
-// The argument i is asked w, and the visit ends.
-pub fn argument(
+// The entry i of a map of the current context is asked w, and the visit ends: that of an argument, or of a local, by the map's place in the context.
+pub fn entry(
     t: &[u32],
     cells: &mut [u32],
     slots: &mut [u32],
@@ -41,43 +42,21 @@ pub fn argument(
     at: usize,
     held: usize,
     e: ExpressionHandle,
+    map: usize,
     i: u32,
     w: Want,
     visits: usize,
     sum: usize,
 ) -> Walked
     requires visiting { Visiting t.now f.0 e.0 at held cells.old slots.old w sum }
-    requires i_lt_spine { i < spine }
-    ensures { (bytes : List ℕ) → Ready bytes t.now cells.old slots.old f.0 at held sum → Walks bytes t.now f.0 at held cells.old slots.old (ending_argument f.0 held e.0 i (asked cells.old slots.old w)) visits result cells.new slots.new }
+    requires in_bounds { (map < 4) × (i < spine) }
+    ensures { (bytes : List ℕ) → Ready bytes t.now cells.old slots.old f.0 at held sum → EntryWalks bytes t.now f.0 at held cells.old slots.old map e.0 i (asked cells.old slots.old w) visits result cells.new slots.new }
 {
-    if join(cells, slots, at + 2, i, w) {
-        let place = Place::Expression(f, e);
-        return Walked::Halt(15, place);
-    }
-    close(t, cells, slots, f, at, held, e, w, visits, sum)
-}
-
-// The local l is asked w, and the visit ends.
-pub fn local(
-    t: &[u32],
-    cells: &mut [u32],
-    slots: &mut [u32],
-    f: FunctionHandle,
-    at: usize,
-    held: usize,
-    e: ExpressionHandle,
-    l: LocalHandle,
-    w: Want,
-    visits: usize,
-    sum: usize,
-) -> Walked
-    requires visiting { Visiting t.now f.0 e.0 at held cells.old slots.old w sum }
-    requires l_lt_spine { l.0 < spine }
-    ensures { (bytes : List ℕ) → Ready bytes t.now cells.old slots.old f.0 at held sum → Walks bytes t.now f.0 at held cells.old slots.old (ending_local f.0 held e.0 l.0 (asked cells.old slots.old w)) visits result cells.new slots.new }
-{
-    if join(cells, slots, at + 1, l.0, w) {
-        let place = Place::Expression(f, e);
-        return Walked::Halt(15, place);
+    if join(cells, slots, at + map, i, w) {
+        return Err(Halt {
+            refusal: Refusal::PartLimit,
+            place: Place::Expression(f, e),
+        });
     }
     close(t, cells, slots, f, at, held, e, w, visits, sum)
 }
@@ -110,8 +89,10 @@ pub fn global(
         }
         Some(_) => {
             if over(cells, slots[GLOBALS]) {
-                let place = Place::Expression(f, e);
-                return Walked::Halt(15, place);
+                return Err(Halt {
+                    refusal: Refusal::PartLimit,
+                    place: Place::Expression(f, e),
+                });
             }
             close(t, cells, slots, f, at, held, e, w, visits, r.sum)
         }

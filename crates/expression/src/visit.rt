@@ -7,11 +7,12 @@ ghost use Rattle.expression.specs.Visits.{Counting, Allowed, Closing};
 
 use access::kinded::expression_number;
 use field::limits::MAX_PIECES;
+use field::refusal::Refusal;
 use memory::layout::EXPRS;
 use memory::memory::{note, tidy, weigh};
 use memory::want::Want;
 use module::handles::{ExpressionHandle, FunctionHandle};
-use state::answer::{Place, Tally, Walked};
+use state::answer::{Halt, Place, Tally, Walked};
 
 // Whether 16 allows what is held, with the context in the slots from `at` on. Where it does, there is room for a visit then.
 pub fn allowed(cells: &mut [u32], slots: &mut [u32], at: usize, held: usize, sum: usize) -> bool
@@ -49,8 +50,10 @@ pub fn close(
             visits: visits,
             sum: m,
         };
-        return Walked::Went(tally);
+        return Ok(tally);
     }
-    let place = Place::Expression(f, e);
-    Walked::Halt(16, place)
+    Err(Halt {
+        refusal: Refusal::PiecesLimit,
+        place: Place::Expression(f, e),
+    })
 }

@@ -1,4 +1,4 @@
-// The walk of functions, blocks and statements: they call each other, and have one proof. One module, so that the name of that proof, which names them all, stays short enough for a file.
+// The walk of functions, blocks and statements: they call each other, and have one proof.
 ghost use Rattle.std.specs.Prelude.{◌+◌, ◌≤◌, get_or, ◌≡◌};
 ghost use Rattle.part.specs.PartReq.{none};
 ghost use Rattle.module.specs.Tables.{module_of};
@@ -23,6 +23,7 @@ use access::function::{block, body_block};
 use access::kinded::{
     Kinded, block_operand, expression_operand, function_operand, operand, statement,
 };
+use access::kinds::{BLOCK, BREAK, CALL, EMIT, IF, SWITCH};
 use arms::calls::{begin_call, leave_call, return_call};
 use arms::emit::add_emit;
 use arms::ifs::end_if;
@@ -34,6 +35,7 @@ use block::branches::drop_both;
 use block::stack::lower;
 use expression::visit::allowed;
 use field::limits::{MAX_TURNS, MAX_VISITS, MIN_REPORT};
+use field::refusal::Refusal;
 use marks::places::PLACES;
 use marks::report::TOTALS_SIZE;
 use marks::set::or;
@@ -42,12 +44,12 @@ use memory::memory::weigh;
 use memory::stretches::copy_context;
 use module::handles::{BlockHandle, FunctionHandle};
 use module::tables::WORDS;
-use state::answer::{Answered, Place, Tally, Walked};
+use state::answer::{Answer, Answered, Place, Tally};
 use state::frame::Frame;
 use statement::leaf::add_leaf;
 
 // `add_function_ref`: f, whose base context stands in the slots from `base` on, and which was called at `here`. Its context is left behind that.
-#[cycle(add_arm_add_block_add_call_add_function_add_holder_add_if_add_loop_add_nested_add_pair_add_statement_add_switch_add_turns)]
+#[cycle(walk)]
 pub fn add_function(
     bytes: &[u8],
     t: &[u32; WORDS],
@@ -70,36 +72,32 @@ pub fn add_function(
 {
     let b = body_block(t, f);
     let at = base + 4;
-    match add_block(
+    let a = add_block(
         bytes, t, types, places, cells, slots, open, totals, f, b, base, at, held, false, visits,
         sum,
-    ) {
-        Answered::Halt(n, place) => Answered::Halt(n, place),
-        Answered::Went(tally, required) => {
-            let r = add_total(
-                bytes,
-                t,
-                places,
-                cells,
-                slots,
-                open,
-                totals,
-                f,
-                at,
-                here,
-                tally.visits,
-                tally.sum,
-            );
-            match r {
-                Walked::Halt(n, place) => Answered::Halt(n, place),
-                Walked::Went(left) => Answered::Went(left, required),
-            }
-        }
-    }
+    )?;
+    let tally = add_total(
+        bytes,
+        t,
+        places,
+        cells,
+        slots,
+        open,
+        totals,
+        f,
+        at,
+        here,
+        a.tally.visits,
+        a.tally.sum,
+    )?;
+    Ok(Answer {
+        tally: tally,
+        required: a.required,
+    })
 }
 
 // `add_block`: the block b of f, whose base stands in the slots from `base` on. Its context is left in those from `at` on.
-#[cycle(add_arm_add_block_add_call_add_function_add_holder_add_if_add_loop_add_nested_add_pair_add_statement_add_switch_add_turns)]
+#[cycle(walk)]
 pub fn add_block(
     bytes: &[u8],
     t: &[u32; WORDS],
@@ -129,9 +127,7 @@ pub fn add_block(
     let mut m = sum;
     let mut behind = break_required;
     let mut required = false;
-    let mut n = range.count;
-    while 0 < n {
-        let k = n - 1;
+    for k in (0..range.count).rev() {
         let fr = Frame {
             function: f,
             statement: first + k,
@@ -140,38 +136,22 @@ pub fn add_block(
             held: inner,
             break_required: behind,
         };
-        match add_statement(
+        let a = add_statement(
             bytes, t, types, places, cells, slots, open, totals, fr, b, v, m,
-        ) {
-            Answered::Went(tally, r) => {
-                v = tally.visits;
-                m = tally.sum;
-                behind = or(behind, r);
-                required = or(required, r);
-            }
-            Answered::Halt(number, place) => {
-                return Answered::Halt(number, place);
-            }
-        }
-        n = k;
+        )?;
+        v = a.tally.visits;
+        m = a.tally.sum;
+        behind = or(behind, a.required);
+        required = or(required, a.required);
     }
-    Answered::Went(Tally { visits: v, sum: m }, required)
+    Ok(Answer {
+        tally: Tally { visits: v, sum: m },
+        required: required,
+    })
 }
 
-const EMIT: u16 = 0;
-
-const BLOCK: u16 = 1;
-
-const IF: u16 = 2;
-
-const SWITCH: u16 = 3;
-
-const BREAK: u16 = 5;
-
-const CALL: u16 = 14;
-
 // `add_statement`, as a visit: 17, 16, the arm with its marks, and 16 again. The statement stands in the block b.
-#[cycle(add_arm_add_block_add_call_add_function_add_holder_add_if_add_loop_add_nested_add_pair_add_statement_add_switch_add_turns)]
+#[cycle(walk)]
 pub fn add_statement(
     bytes: &[u8],
     t: &[u32; WORDS],
@@ -191,10 +171,10 @@ pub fn add_statement(
 {
     let f = fr.function;
     if MAX_VISITS <= visits {
-        return Answered::Halt(17, Place::Statement(f, fr.statement));
+        return Err(fr.halt(Refusal::VisitsLimit));
     }
     if !allowed(cells, slots, fr.at, fr.held, sum) {
-        return Answered::Halt(16, Place::Statement(f, fr.statement));
+        return Err(fr.halt(Refusal::PiecesLimit));
     }
     let row = statement(bytes, t, f, fr.statement);
     let r = add_arm(
@@ -216,7 +196,7 @@ pub fn add_statement(
 }
 
 // The arm with its marks.
-#[cycle(add_arm_add_block_add_call_add_function_add_holder_add_if_add_loop_add_nested_add_pair_add_statement_add_switch_add_turns)]
+#[cycle(walk)]
 fn add_arm(
     bytes: &[u8],
     t: &[u32; WORDS],
@@ -254,7 +234,7 @@ fn add_arm(
 }
 
 // The arm of a statement that holds blocks, with its marks: each takes them by itself, so that no answer of a walk waits beside those of the others.
-#[cycle(add_arm_add_block_add_call_add_function_add_holder_add_if_add_loop_add_nested_add_pair_add_statement_add_switch_add_turns)]
+#[cycle(walk)]
 fn add_holder(
     bytes: &[u8],
     t: &[u32; WORDS],
@@ -300,7 +280,7 @@ fn add_holder(
 }
 
 // Two blocks one after the other, both from the base in the slots from `base` on. Their contexts are left in the slots from `at` on, and behind them. A statement of the block b holds them.
-#[cycle(add_arm_add_block_add_call_add_function_add_holder_add_if_add_loop_add_nested_add_pair_add_statement_add_switch_add_turns)]
+#[cycle(walk)]
 pub fn add_pair(
     bytes: &[u8],
     t: &[u32; WORDS],
@@ -324,7 +304,7 @@ pub fn add_pair(
     requires { Paired bytes.now t.now types.now places.now cells.old slots.old «open».old totals.old f.0 b.0 first.0 second.0 base at held sum visits }
     ensures { PairEnds bytes.now t.now types.now places.now cells.old slots.old «open».old totals.old f.0 base at held (add_pair (block_in bytes.now t.now f.0) first.0 second.0 held (context_at (read cells.old slots.old) base) break_required (state_in bytes.now t.now cells.old slots.old «open».old totals.old f.0 at visits)) result cells.new slots.new «open».new totals.new }
 {
-    match add_block(
+    let a = add_block(
         bytes,
         t,
         types,
@@ -341,38 +321,34 @@ pub fn add_pair(
         break_required,
         visits,
         sum,
-    ) {
-        Answered::Halt(n, place) => Answered::Halt(n, place),
-        Answered::Went(tally, a) => {
-            let more = held + weigh(cells, slots, at, 4);
-            let r = add_block(
-                bytes,
-                t,
-                types,
-                places,
-                cells,
-                slots,
-                open,
-                totals,
-                f,
-                second,
-                base,
-                at + 4,
-                more,
-                break_required,
-                tally.visits,
-                tally.sum,
-            );
-            match r {
-                Answered::Halt(n, place) => Answered::Halt(n, place),
-                Answered::Went(left, c) => Answered::Went(left, or(a, c)),
-            }
-        }
-    }
+    )?;
+    let more = held + weigh(cells, slots, at, 4);
+    let c = add_block(
+        bytes,
+        t,
+        types,
+        places,
+        cells,
+        slots,
+        open,
+        totals,
+        f,
+        second,
+        base,
+        at + 4,
+        more,
+        break_required,
+        a.tally.visits,
+        a.tally.sum,
+    )?;
+    Ok(Answer {
+        tally: c.tally,
+        required: or(a.required, c.required),
+    })
 }
 
 // `Block`.
-#[cycle(add_arm_add_block_add_call_add_function_add_holder_add_if_add_loop_add_nested_add_pair_add_statement_add_switch_add_turns)]
+#[cycle(walk)]
 pub fn add_nested(
     bytes: &[u8],
     t: &[u32; WORDS],
@@ -396,7 +372,7 @@ pub fn add_nested(
     let at = fr.at;
     let inner = block_operand(bytes, row, 0);
     let held = fr.held + weigh(cells, slots, at, 4);
-    let r = add_block(
+    let a = add_block(
         bytes,
         t,
         types,
@@ -413,18 +389,13 @@ pub fn add_nested(
         fr.break_required,
         visits,
         sum,
-    );
-    match r {
-        Answered::Halt(n, place) => Answered::Halt(n, place),
-        Answered::Went(tally, required) => {
-            lower(slots, at);
-            Answered::Went(tally, required)
-        }
-    }
+    )?;
+    lower(slots, at);
+    Ok(a)
 }
 
 // `If`.
-#[cycle(add_arm_add_block_add_call_add_function_add_holder_add_if_add_loop_add_nested_add_pair_add_statement_add_switch_add_turns)]
+#[cycle(walk)]
 pub fn add_if(
     bytes: &[u8],
     t: &[u32; WORDS],
@@ -449,7 +420,7 @@ pub fn add_if(
     let accept = block_operand(bytes, row, 1);
     let reject = block_operand(bytes, row, 2);
     let held = fr.held + weigh(cells, slots, at, 4);
-    let r = add_pair(
+    let a = add_pair(
         bytes,
         t,
         types,
@@ -468,28 +439,23 @@ pub fn add_if(
         fr.break_required,
         visits,
         sum,
-    );
-    match r {
-        Answered::Halt(n, place) => Answered::Halt(n, place),
-        Answered::Went(tally, required) => {
-            let condition = expression_operand(bytes, row, 0);
-            end_if(
-                bytes,
-                t,
-                cells,
-                slots,
-                fr,
-                condition,
-                required,
-                tally.visits,
-                tally.sum,
-            )
-        }
-    }
+    )?;
+    let condition = expression_operand(bytes, row, 0);
+    end_if(
+        bytes,
+        t,
+        cells,
+        slots,
+        fr,
+        condition,
+        a.required,
+        a.tally.visits,
+        a.tally.sum,
+    )
 }
 
 // `Switch`: the cases, the last first, joined behind the current context.
-#[cycle(add_arm_add_block_add_call_add_function_add_holder_add_if_add_loop_add_nested_add_pair_add_statement_add_switch_add_turns)]
+#[cycle(walk)]
 pub fn add_switch(
     bytes: &[u8],
     t: &[u32; WORDS],
@@ -516,12 +482,10 @@ pub fn add_switch(
     let mut v = visits;
     let mut m = sum;
     let mut any = false;
-    let mut n = operand(bytes, row, 1);
-    while 0 < n {
-        let k = n - 1;
+    for k in (0..operand(bytes, row, 1)).rev() {
         let body = case_body(bytes, row, k);
         let held = outside + weigh(cells, slots, at + 4, 4);
-        match add_block(
+        let a = add_block(
             bytes,
             t,
             types,
@@ -538,27 +502,20 @@ pub fn add_switch(
             false,
             v,
             m,
-        ) {
-            Answered::Halt(number, place) => {
-                return Answered::Halt(number, place);
-            }
-            Answered::Went(tally, r) => {
-                if end_case(cells, slots, at + 4) {
-                    return Answered::Halt(15, Place::Statement(f, fr.statement));
-                }
-                v = tally.visits;
-                m = tally.sum;
-                any = or(any, r);
-            }
+        )?;
+        if end_case(cells, slots, at + 4) {
+            return Err(fr.halt(Refusal::PartLimit));
         }
-        n = k;
+        v = a.tally.visits;
+        m = a.tally.sum;
+        any = or(any, a.required);
     }
     let selector = expression_operand(bytes, row, 0);
     end_switch(bytes, t, cells, slots, fr, selector, any, v, m)
 }
 
 // `Loop`: the first pass, and the turns where it is required.
-#[cycle(add_arm_add_block_add_call_add_function_add_holder_add_if_add_loop_add_nested_add_pair_add_statement_add_switch_add_turns)]
+#[cycle(walk)]
 pub fn add_loop(
     bytes: &[u8],
     t: &[u32; WORDS],
@@ -583,7 +540,7 @@ pub fn add_loop(
     let body = block_operand(bytes, row, 0);
     let continuing = block_operand(bytes, row, 1);
     let held = fr.held + weigh(cells, slots, at, 4);
-    let r = add_pair(
+    let a = add_pair(
         bytes,
         t,
         types,
@@ -602,49 +559,42 @@ pub fn add_loop(
         false,
         visits,
         sum,
-    );
-    match r {
-        Answered::Halt(n, place) => Answered::Halt(n, place),
-        Answered::Went(tally, required) => {
-            if !required {
-                drop_both(slots, at);
-                return Answered::Went(tally, false);
-            }
-            let break_if = expression_operand(bytes, row, 2);
-            match end_pass(
-                bytes,
-                t,
-                cells,
-                slots,
-                fr,
-                break_if,
-                tally.visits,
-                tally.sum,
-            ) {
-                Walked::Halt(n, place) => Answered::Halt(n, place),
-                Walked::Went(left) => add_turns(
-                    bytes,
-                    t,
-                    types,
-                    places,
-                    cells,
-                    slots,
-                    open,
-                    totals,
-                    fr,
-                    b,
-                    body,
-                    continuing,
-                    left.visits,
-                    left.sum,
-                ),
-            }
-        }
+    )?;
+    if !a.required {
+        drop_both(slots, at);
+        return Ok(a);
     }
+    let break_if = expression_operand(bytes, row, 2);
+    let left = end_pass(
+        bytes,
+        t,
+        cells,
+        slots,
+        fr,
+        break_if,
+        a.tally.visits,
+        a.tally.sum,
+    )?;
+    add_turns(
+        bytes,
+        t,
+        types,
+        places,
+        cells,
+        slots,
+        open,
+        totals,
+        fr,
+        b,
+        body,
+        continuing,
+        left.visits,
+        left.sum,
+    )
 }
 
 // The turns, each from the working context behind the current one, until that contains what a turn leaves.
-#[cycle(add_arm_add_block_add_call_add_function_add_holder_add_if_add_loop_add_nested_add_pair_add_statement_add_switch_add_turns)]
+#[cycle(walk)]
 fn add_turns(
     bytes: &[u8],
     t: &[u32; WORDS],
@@ -669,9 +619,8 @@ fn add_turns(
     let held = fr.held + weigh(cells, slots, at, 4) + weigh(cells, slots, at + 4, 4);
     let mut v = visits;
     let mut m = sum;
-    let mut left = MAX_TURNS;
-    while 0 < left {
-        match add_pair(
+    for left in (0..MAX_TURNS).rev() {
+        let a = add_pair(
             bytes,
             t,
             types,
@@ -690,32 +639,25 @@ fn add_turns(
             true,
             v,
             m,
-        ) {
-            Answered::Halt(number, place) => {
-                return Answered::Halt(number, place);
-            }
-            Answered::Went(tally, r) => {
-                v = tally.visits;
-                m = tally.sum;
-            }
-        }
+        )?;
+        v = a.tally.visits;
+        m = a.tally.sum;
         match end_turn(cells, slots, at) {
-            Turn::Over => {
-                return Answered::Halt(15, Place::Statement(f, fr.statement));
-            }
+            Turn::Over => return Err(fr.halt(Refusal::PartLimit)),
             Turn::Settled => {
-                return Answered::Went(Tally { visits: v, sum: m }, true);
+                return Ok(Answer {
+                    tally: a.tally,
+                    required: true,
+                });
             }
-            Turn::Again => {
-                left -= 1;
-            }
+            Turn::Again => {}
         }
     }
-    Answered::Halt(14, Place::Statement(f, fr.statement))
+    Err(fr.halt(Refusal::Unsettled))
 }
 
 // `Call`, with its marks.
-#[cycle(add_arm_add_block_add_call_add_function_add_holder_add_if_add_loop_add_nested_add_pair_add_statement_add_switch_add_turns)]
+#[cycle(walk)]
 pub fn add_call(
     bytes: &[u8],
     t: &[u32; WORDS],
@@ -740,7 +682,7 @@ pub fn add_call(
     let g = function_operand(bytes, row, 0);
     let begun = begin_call(bytes, t, places, cells, slots, open, fr, row, sum);
     let own = begun.own;
-    let r = add_function(
+    let a = add_function(
         bytes,
         t,
         types,
@@ -755,24 +697,19 @@ pub fn add_call(
         begun.held,
         visits,
         sum - own,
-    );
-    match r {
-        Answered::Halt(n, place) => Answered::Halt(n, place),
-        Answered::Went(tally, required) => {
-            let left = leave_call(t, cells, slots, g, at, tally.sum + own);
-            return_call(
-                bytes,
-                t,
-                places,
-                cells,
-                slots,
-                open,
-                fr,
-                row,
-                required,
-                tally.visits,
-                left,
-            )
-        }
-    }
+    )?;
+    let left = leave_call(t, cells, slots, g, at, a.tally.sum + own);
+    return_call(
+        bytes,
+        t,
+        places,
+        cells,
+        slots,
+        open,
+        fr,
+        row,
+        a.required,
+        a.tally.visits,
+        left,
+    )
 }

@@ -4,6 +4,8 @@ use native.Mathlib.Omega.{arith}
 use mathlib.Core.Path.{◌≡◌, refl, sym, ap, ◌∙◌}
 use mathlib.Core.Bool.{Bool}
 use mathlib.Core.List.{List, ◌++◌}
+use Rattle.std.specs.Prelude.{Result, Ok, Err}
+use Rattle.field.specs.Refusal.{number}
 use Rattle.field.specs.Limits.{max_pieces, min_report}
 use Rattle.part.specs.PartReq.{none}
 use Rattle.part.specs.StoreLimits.{entries_cap}
@@ -17,10 +19,9 @@ use Rattle.walk.specs.Requests.{Answer, Pruner, fresh, request, end_count, repor
 use Rattle.walk.proofs.Ends.{ended}
 use Rattle.memory.specs.Layout.{stack_slot}
 use Rattle.memory.specs.Memory.{read, Memory}
-use Rattle.state.specs.declared.answer.Answered.{Answered}
-use Rattle.state.specs.declared.answer.Answered.TheVariants.{Went, Halt}
-use Rattle.state.specs.declared.answer.Place.{Place}
 use Rattle.state.specs.declared.answer.Tally.{Tally}
+use Rattle.state.specs.declared.answer.Halt.{Halt}
+use Rattle.state.specs.declared.answer.Answer as walked
 use Rattle.leave.specs.Leave.{Placed, own_in}
 use Rattle.block.specs.Standing.{state_in, functions_in}
 use Rattle.block.specs.Functions.{FunctionEntered, FunctionEnded, FunctionEnds}
@@ -80,9 +81,9 @@ module _ {bytes t types places s rs open_marks totals : List ℕ} {h : Handle} {
   pub walk_enters : FunctionEntered bytes t types places s rs open_marks totals h.0 stack_slot 0 sum 0
   walk_enters = rw (← A.function_is, A.sum_is) (enters A.loaded)
 
-  module _ {a : Answered} {u us open_after totals-after : List ℕ}
+  module _ {a : Result walked.Answer Halt} {u us open_after totals-after : List ℕ}
       (E : FunctionEnds bytes t types places s rs open_marks totals h.0 stack_slot 0 (walk_in bytes t s rs open_marks totals h.0) a u us open_after totals-after) where
-    pub walk_halted : {n : ℕ} {place : Place} → a ≡ Halt n place → Walked bytes t types places s rs open_marks totals h.0 u us open_after (Refused n)
+    pub walk_halted : {stop : Halt} → a ≡ Err stop → Walked bytes t types places s rs open_marks totals h.0 u us open_after (Refused (number stop.refusal))
     unfolding answer_text
     walk_halted e = record {
       by = λ asked-bytes q asks named L. record {
@@ -90,7 +91,7 @@ module _ {bytes t types places s rs open_marks totals : List ℕ} {h : Handle} {
       };
     }
 
-    module _ {tally : Tally} {required : Bool} (e : a ≡ Went tally required) where
+    module _ {tally : Tally} {required : Bool} (e : a ≡ Ok (record { tally = tally; required = required })) where
       went : FunctionEnded bytes t types places s rs open_marks totals h.0 stack_slot 0 (walk_in bytes t s rs open_marks totals h.0) tally.visits tally.sum required u us open_after totals-after
       went = rw e at E.by
 

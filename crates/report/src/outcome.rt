@@ -26,7 +26,7 @@ use module::tables::WORDS;
 use reading::read::{HELD, SEEN, read};
 use report_text::split::split;
 use requests::begin::{Begun, begin_request};
-use state::answer::{Answered, Place};
+use state::answer::Place;
 use type_table::fill;
 
 // 01's number; or the asked function, of which memory has a report, and whether it is required.
@@ -68,13 +68,13 @@ fn walk_function(
         0,
         sum,
     ) {
-        Answered::Halt(n, _) => Outcome::Refused(n),
-        Answered::Went(tally, required) => {
+        Err(h) => Outcome::Refused(u32::from(h.refusal)),
+        Ok(a) => {
             let own = own_pieces(t, cells, slots, f);
-            if MAX_PIECES < tally.sum - own {
+            if MAX_PIECES < a.tally.sum - own {
                 return Outcome::Refused(16);
             }
-            Outcome::Reported(f, required)
+            Outcome::Reported(f, a.required)
         }
     }
 }

@@ -8,6 +8,8 @@ use mathlib.Core.Option.{Option, some, none as nothing}
 use lib.Dec.{leb, ltb}
 use lib.ListN.{length, get_or, drop}
 use borrow.Author.Tests.{lt-ltb, le-ltb}
+use Rattle.std.specs.Prelude.{Result, Ok, Err}
+use Rattle.field.specs.Refusal.{number}
 use Rattle.field.specs.Limits.{max_pieces}
 use Rattle.part.specs.PartReq.{none}
 use Rattle.module.specs.Module.{Module}
@@ -22,18 +24,17 @@ use Rattle.walk.specs.Requests.{Pruner, request, fresh}
 use Rattle.sound.proofs.Asked as sound
 use Rattle.memory.specs.Layout.{stack_slot}
 use Rattle.memory.specs.Memory.{read}
-use Rattle.state.specs.declared.answer.Answered.{Answered}
-use Rattle.state.specs.declared.answer.Answered.TheVariants.{Went, Halt}
-use Rattle.state.specs.declared.answer.Place.{Place}
 use Rattle.state.specs.declared.answer.Place.TheVariants.{Nowhere}
 use Rattle.state.specs.declared.answer.Tally.{Tally}
+use Rattle.state.specs.declared.answer.Halt.{Halt}
+use Rattle.state.specs.declared.answer.Answer.{Answer}
 use Rattle.block.specs.Standing.{state_in}
 use Rattle.block.specs.Functions.{FunctionEntered, FunctionEnded, FunctionEnds}
 use Rattle.pruner.specs.Form.{min_pruner, pruner_pieces, read_body, stated, is_pruner, is_fresh, answered, read_pruner}
 use Rattle.requests.specs.Answer.{min_answer}
 use Rattle.requests.specs.Loaded.{Loaded}
 use Rattle.requests.specs.Begin.{with_totals, after_request, beginning, Begins, Ready}
-use Rattle.requests.specs.Serve.{Lent, Reply, refused_at, finish, lent_pruner, on_pruner, on_request, serve_read}
+use Rattle.requests.specs.Serve.{Lent, refused_at, finish, lent_pruner, on_pruner, on_request, serve_read}
 use Rattle.requests.specs.Finish.{Finishing, Finished}
 use Rattle.requests.specs.Served.{Walking, Walked, Served}
 use Rattle.requests.specs.declared.begin.Begun.{Begun}
@@ -57,14 +58,14 @@ module _ {bytes t types places s rs open_marks totals : List ℕ} {f : ℕ} wher
     pub walk_enters : FunctionEntered bytes t types places s rs open_marks totals f stack_slot 0 sum 0
     walk_enters = rw (← W.function_is, W.sum_is) (enters W.loaded)
 
-    module _ {a : Answered} {u us open_after totals-after : List ℕ}
+    module _ {a : Result Answer Halt} {u us open_after totals-after : List ℕ}
         (E : FunctionEnds bytes t types places s rs open_marks totals f stack_slot 0 (walk_in bytes t s rs open_marks totals f) a u us open_after totals-after) where
       -- the walk was refused
-      pub walk_halted : {n : ℕ} {place : Place} → a ≡ Halt n place → Walked bytes t types places s rs open_marks totals f sum pruner report answer (Refused n place) pruner report answer
+      pub walk_halted : {stop : Halt} → a ≡ Err stop → Walked bytes t types places s rs open_marks totals f sum pruner report answer (Refused (number stop.refusal) stop.place) pruner report answer
       unfolding finish
       walk_halted e = record { by = λ q old named count L. sym (ap (finish _) (request-halts bytes t old q ((rw e at E.by) ∙ walk_is L named))) }
 
-      module _ {tally : Tally} {required : Bool} (e : a ≡ Went tally required) where
+      module _ {tally : Tally} {required : Bool} (e : a ≡ Ok (record { tally = tally; required = required })) where
         ended : FunctionEnded bytes t types places s rs open_marks totals f stack_slot 0 (walk_in bytes t s rs open_marks totals f) tally.visits tally.sum required u us open_after totals-after
         ended = rw e at E.by
 

@@ -17,7 +17,7 @@ use memory::layout::{CELLS, SLOTS, STACK};
 use module::handles::FunctionHandle;
 use module::tables::WORDS;
 use pruner::frame::MIN_PRUNER;
-use state::answer::{Answered, Place};
+use state::answer::Place;
 
 // The walk of f, and how it ends.
 fn walk_request(
@@ -54,8 +54,8 @@ fn walk_request(
         0,
         sum,
     ) {
-        Answered::Halt(n, place) => Reply::Refused(n, place),
-        Answered::Went(tally, required) => finish_request(
+        Err(h) => Reply::Refused(u32::from(h.refusal), h.place),
+        Ok(a) => finish_request(
             bytes,
             t,
             places,
@@ -65,9 +65,9 @@ fn walk_request(
             totals,
             f,
             STACK,
-            required,
-            tally.visits,
-            tally.sum,
+            a.required,
+            a.tally.visits,
+            a.tally.sum,
             pruner,
             report,
             answer,

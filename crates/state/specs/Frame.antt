@@ -1,6 +1,7 @@
 -- What the arm of a statement asks of the memory once its visit has begun, and what it leaves.
-use Rattle.std.specs.Prelude.{◌≡◌, Bool, List, ℕ, ◌+◌, ◌<◌, ◌≤◌, length, get_or}
+use Rattle.std.specs.Prelude.{◌≡◌, Bool, List, ℕ, ◌+◌, ◌<◌, ◌≤◌, length, get_or, Result, Ok, Err}
 use Rattle.field.specs.Limits.{max_pieces}
+use Rattle.field.specs.Refusal.{number}
 use Rattle.part.specs.PartReq.{none}
 use Rattle.part.specs.Store.{Room}
 use Rattle.module.specs.Module.{FunctionHandle}
@@ -11,8 +12,8 @@ use Rattle.walk.specs.Statement as walk
 use Rattle.walk.specs.Proper.{FineContext, FineRecords}
 use Rattle.memory.specs.Layout.{globals_slot, exprs_slot, stack_slot, room}
 use Rattle.memory.specs.Memory.{read, context_at}
-use Rattle.state.specs.declared.answer.Answered.{Answered}
-use Rattle.state.specs.declared.answer.Answered.TheVariants.{Went, Halt}
+use Rattle.state.specs.declared.answer.Answer.{Answer}
+use Rattle.state.specs.declared.answer.Halt.{Halt}
 use Rattle.state.specs.declared.frame.Frame.{Frame}
 use Rattle.state.specs.State.{Rest, state_of, records_in, place_of}
 use Rattle.state.specs.Ready.{Ready, Elsewhere}
@@ -52,11 +53,11 @@ pub record ArmEnded {A : Type 0} (bytes t s rs : List ℕ) (fr : Frame) (rest : 
   pub ready : Ready bytes t u us fr.function.0 fr.at fr.held sum
   pub apart : Apart t fr.function.0 fr.at s rs u us
 
-abbrev pub ArmEnding : {A : Type 0} → (bytes t s rs : List ℕ) → Frame → Rest → Out A → (Bool → A) → Answered → (u us : List ℕ) → Type 0
-ArmEnding bytes t s rs fr rest total answer (Went tally b) u us =
-    ArmEnded bytes t s rs fr rest total answer tally.visits tally.sum b u us
-ArmEnding bytes t s rs fr rest total answer (Halt n place) u us = halt n (place_of place) ≡ total
+abbrev pub ArmEnding : {A : Type 0} → (bytes t s rs : List ℕ) → Frame → Rest → Out A → (Bool → A) → Result Answer Halt → (u us : List ℕ) → Type 0
+ArmEnding bytes t s rs fr rest total answer (Ok a) u us =
+    ArmEnded bytes t s rs fr rest total answer a.tally.visits a.tally.sum a.required u us
+ArmEnding bytes t s rs fr rest total answer (Err h) u us = halt (number h.refusal) (place_of h.place) ≡ total
 
 -- the answer of an arm, and the memory that is left, are what `total` says
-pub record ArmEnds {A : Type 0} (bytes t s rs : List ℕ) (fr : Frame) (rest : Rest) (total : Out A) (answer : Bool → A) (r : Answered) (u us : List ℕ) : Type 0 where
+pub record ArmEnds {A : Type 0} (bytes t s rs : List ℕ) (fr : Frame) (rest : Rest) (total : Out A) (answer : Bool → A) (r : Result Answer Halt) (u us : List ℕ) : Type 0 where
   pub by : ArmEnding bytes t s rs fr rest total answer r u us

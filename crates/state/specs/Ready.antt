@@ -1,6 +1,7 @@
 -- What the walks ask of the memory, and what they leave.
-use Rattle.std.specs.Prelude.{◌≡◌, List, ℕ, ◌+◌, ◌<◌, ◌≤◌, length, get_or}
+use Rattle.std.specs.Prelude.{◌≡◌, List, ℕ, ◌+◌, ◌<◌, ◌≤◌, length, get_or, Result, Ok, Err}
 use Rattle.field.specs.Limits.{max_pieces}
+use Rattle.field.specs.Refusal.{number}
 use Rattle.part.specs.PartReq.{none}
 use Rattle.part.specs.Store.{Room}
 use Rattle.part.specs.StoreLimits.{entries_cap}
@@ -12,8 +13,8 @@ use Rattle.context.specs.RequiredContext.{pieces}
 use Rattle.walk.specs.State.{Out, went, halt}
 use Rattle.memory.specs.Layout.{globals_slot, exprs_slot, stack_slot, room}
 use Rattle.memory.specs.Memory.{read, counted, context_at, Memory}
-use Rattle.state.specs.declared.answer.Walked.{Walked}
-use Rattle.state.specs.declared.answer.Walked.TheVariants.{Went, Halt}
+use Rattle.state.specs.declared.answer.Tally.{Tally}
+use Rattle.state.specs.declared.answer.Halt.{Halt}
 use Rattle.state.specs.State.{Rest, state_of, sum_in, place_of}
 
 -- the module was read
@@ -52,10 +53,10 @@ pub record Ended (bytes t : List ℕ) (f : FunctionHandle) (at held : ℕ) (s rs
   pub roomy : Room u room
   pub others : Others t f at s rs u us
 
-abbrev pub Ending : (bytes t : List ℕ) → FunctionHandle → (at held : ℕ) → (s rs : List ℕ) → Rest → Out (Unit {0}) → Walked → (u us : List ℕ) → Type 0
-Ending bytes t f at held s rs rest total (Went tally) u us = Ended bytes t f at held s rs rest total tally.visits tally.sum u us
-Ending bytes t f at held s rs rest total (Halt n place) u us = halt n (place_of place) ≡ total
+abbrev pub Ending : (bytes t : List ℕ) → FunctionHandle → (at held : ℕ) → (s rs : List ℕ) → Rest → Out (Unit {0}) → Result Tally Halt → (u us : List ℕ) → Type 0
+Ending bytes t f at held s rs rest total (Ok tally) u us = Ended bytes t f at held s rs rest total tally.visits tally.sum u us
+Ending bytes t f at held s rs rest total (Err h) u us = halt (number h.refusal) (place_of h.place) ≡ total
 
 -- the answer, and the memory that is left, are what `total` says
-pub record Ends (bytes t : List ℕ) (f : FunctionHandle) (at held : ℕ) (s rs : List ℕ) (rest : Rest) (total : Out (Unit {0})) (r : Walked) (u us : List ℕ) : Type 0 where
+pub record Ends (bytes t : List ℕ) (f : FunctionHandle) (at held : ℕ) (s rs : List ℕ) (rest : Rest) (total : Out (Unit {0})) (r : Result Tally Halt) (u us : List ℕ) : Type 0 where
   pub by : Ending bytes t f at held s rs rest total r u us

@@ -1,4 +1,5 @@
 // What a walk gives.
+use field::refusal::Refusal;
 use module::handles::{ExpressionHandle, FunctionHandle};
 
 // Where a refusal falls.
@@ -16,16 +17,21 @@ pub struct Tally {
     pub sum: usize,
 }
 
-// A walk without an answer of its own: how far it went, or 01's number and its place.
+// Why a walk is refused, and where.
 #[derive(Clone, Copy)]
-pub enum Walked {
-    Went(Tally),
-    Halt(u32, Place),
+pub struct Halt {
+    pub refusal: Refusal,
+    pub place: Place,
 }
 
-// A walk that answers whether what it walked is required.
+// A walk without an answer of its own: how far it went.
+pub type Walked = Result<Tally, Halt>;
+
+// How far a walk went, and whether what it walked is required.
 #[derive(Clone, Copy)]
-pub enum Answered {
-    Went(Tally, bool),
-    Halt(u32, Place),
+pub struct Answer {
+    pub tally: Tally,
+    pub required: bool,
 }
+
+pub type Answered = Result<Answer, Halt>;

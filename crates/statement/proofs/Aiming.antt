@@ -5,8 +5,9 @@ use mathlib.Core.Path.{◌≡◌, sym, ap, subst, ◌∙◌}
 use mathlib.Core.Bool.{Bool, true, false}
 use mathlib.Core.List.{List, []}
 use lib.ListN.{length}
-use Rattle.std.specs.Prelude.{Option}
+use Rattle.std.specs.Prelude.{Option, Some, None, Ok, Err}
 use Rattle.field.specs.Limits.{max_expressions}
+use Rattle.field.specs.declared.refusal.Refusal.TheVariants.{Panic, PartLimit}
 use Rattle.part.specs.PartReq.{PartReq, over, spine}
 use Rattle.part.specs.Store.{top, part, Good, Room, Kept}
 use Rattle.part.specs.Found.{Got}
@@ -17,7 +18,7 @@ use Rattle.context.specs.Contexts.{context_of, HasContext, variable_of}
 use Rattle.context.specs.declared.required_context.RequiredContext.{RequiredContext as Pieces}
 use Rattle.sound.proofs.Walks.{module_sound}
 use Rattle.walk.specs.State.{State, went, halt}
-use Rattle.walk.specs.Resolve.{function_at, VarRefPart, resolved, unresolved, resolve_var, store_required}
+use Rattle.walk.specs.Resolve.{function_at, resolved, unresolved, resolve_var, store_required}
 use Rattle.walk.specs.Statement.{here, target, target_of}
 use Rattle.walk.specs.Statement as walk
 use Rattle.walk.proofs.Bind.{limited_over, limited-under}
@@ -25,13 +26,12 @@ use Rattle.memory.specs.Memory.{read, context_at, Memory}
 use Rattle.memory.proofs.Slots.{read_at, kept_read, kept_memory}
 use Rattle.state.specs.Ready.{Ready}
 use Rattle.state.specs.Frame.{frame_of}
+use Rattle.state.specs.declared.answer.Place.TheVariants as place
 use Rattle.state.specs.declared.frame.Frame.{Frame}
 use Rattle.target.specs.Target.{HasTarget, HasResolved, var_ref_part, Resolves}
 use Rattle.target.specs.declared.resolve.Target.{Target}
-use Rattle.std.specs.Prelude.{Option, Some, None}
 use Rattle.memory.specs.Stretches.{pieces_at}
 use Rattle.statement.specs.Aim.{Aiming, Aims}
-use Rattle.statement.specs.declared.aim.Aim.TheVariants.{Refuse, At}
 use Rattle.statement.proofs.Paths.{path_few}
 
 -- a store that has grown
@@ -100,7 +100,7 @@ module _ {bytes t s rs : List ℕ} {fr : Frame} {e : ℕ} (q : Aiming bytes t s 
   aim_resolve = (q.begun.ready.was_read.module_is, (q.there, (q.begun.ready.memory.good, omega (arith, q.begun.roomy))))
 
   module _ {u : List ℕ} {r : Option Target} (x : Resolves (module_of bytes t) fr.function.0 e s u r) where
-    pub aim_unresolved : r ≡ None → Aims bytes t s rs fr e (Refuse 13) u
+    pub aim_unresolved : r ≡ None → Aims bytes t s rs fr e (Err (record { refusal = Panic; place = place.Statement fr.function fr.statement })) u
     aim_unresolved h =
         let is : var_ref_part u None ≡ resolve_var (module_of bytes t) fr.function.0 e [] = rw h at x.is in
         record { kept = x.kept; cost = x.cost; by = λ st g. target-13 (module_of bytes t) (frame_of s rs fr) e (sym is) st }
@@ -115,7 +115,7 @@ module _ {bytes t s rs : List ℕ} {fr : Frame} {e : ℕ} (q : Aiming bytes t s 
       pub aim_over : Good u × (a.part < top u)
       aim_over = (x.kept.good, has.piece)
 
-      pub aim_long : {o : Bool} → o ≡ over (part u a.part) → o ≡ true → Aims bytes t s rs fr e (Refuse 15) u
+      pub aim_long : {o : Bool} → o ≡ over (part u a.part) → o ≡ true → Aims bytes t s rs fr e (Err (record { refusal = PartLimit; place = place.Statement fr.function fr.statement })) u
       aim_long i z =
           record { kept = x.kept; cost = x.cost; by = λ st g. target-15 (module_of bytes t) (frame_of s rs fr) e is (sym i ∙ z) st }
 
@@ -124,7 +124,7 @@ module _ {bytes t s rs : List ℕ} {fr : Frame} {e : ℕ} (q : Aiming bytes t s 
         aim_needs = (x.kept.good, (rw loaded (later_has q.begun.ready.memory x.kept fr.at aim_slots), (has.piece, has.low)))
 
         pub aim_at : {o : Bool} {found : Option ℕ} → o ≡ over (part u a.part) → o ≡ false
-            → Got u (store_required (context_of u c) (variable_of a.var) (part u a.part)) found → Aims bytes t s rs fr e (At a found) u
+            → Got u (store_required (context_of u c) (variable_of a.var) (part u a.part)) found → Aims bytes t s rs fr e (Ok (record { target = a; needed = found })) u
         aim_at i z g =
             let same : context_of u c ≡ context_at (read s rs) fr.at = rw loaded (later_are q.begun.ready.memory x.kept fr.at aim_slots) in
             record {

@@ -7,6 +7,7 @@ use mathlib.Core.List.{List}
 use mathlib.Core.Option.{Option, some, none as nothing}
 use lib.ListN.{get_or}
 use borrow.Author.Tests.{eq-eqb, ne_eqb}
+use Rattle.std.specs.Prelude.{Result, Ok, Err}
 use Rattle.field.specs.Limits.{absent}
 use Rattle.part.specs.PartReq.{PartReq, over}
 use Rattle.part.specs.Store.{part}
@@ -26,10 +27,8 @@ use Rattle.state.specs.State.{Rest, state_of, totals_sum}
 use Rattle.state.specs.Ready.{Ready, Others, Ends}
 use Rattle.state.specs.Frame.{Apart, ArmEnds}
 use Rattle.state.specs.declared.answer.Tally.{Tally}
-use Rattle.state.specs.declared.answer.Place.{Place}
-use Rattle.state.specs.declared.answer.Walked.{Walked}
-use Rattle.state.specs.declared.answer.Walked.TheVariants.{Went, Halt}
 use Rattle.state.specs.declared.frame.Frame.{Frame}
+use Rattle.state.specs.declared.answer.Halt.{Halt}
 use Rattle.state.proofs.Others.{others_same, others_trans, others_still, others_totals, ready_fits, others_apart, apart_trans}
 use Rattle.state.proofs.Rests.{some_rest, rest_counts}
 use Rattle.expression.specs.Walks.{Walks}
@@ -45,27 +44,27 @@ slot_wants {s} {rs} m k l = want_slot s rs k (omega arith) (fine k l)
     fine (suc (suc k)) l = m.fine (suc (suc k)) (omega arith) l
 
 -- what an ask answers, from where the walk began
-goes_after : {bytes t : List ℕ} {fr : Frame} {z zs s rs u us : List ℕ} {rest : Rest} {first total : Out (Unit {0})} (r : Walked)
+goes_after : {bytes t : List ℕ} {fr : Frame} {z zs s rs u us : List ℕ} {rest : Rest} {first total : Out (Unit {0})} (r : Result Tally Halt)
     → Others t fr.function.0 fr.at z zs s rs → first ≡ total
     → Ends bytes t fr.function.0 fr.at fr.held s rs rest first r u us → Goes bytes t z zs fr rest total r u us
-goes_after (Went tally) o e x = record { by = record { is = x.by.is ∙ e; ready = x.by.ready; others = others_trans o x.by.others } }
-goes_after (Halt n place) o e x = record { by = x.by ∙ e }
+goes_after (Ok tally) o e x = record { by = record { is = x.by.is ∙ e; ready = x.by.ready; others = others_trans o x.by.others } }
+goes_after (Err stop) o e x = record { by = x.by ∙ e }
 
-opens_after : {bytes t : List ℕ} {fr : Frame} {s rs u us : List ℕ} {rest : Rest} {total : Out (Unit {0})} (r : Walked)
+opens_after : {bytes t : List ℕ} {fr : Frame} {s rs u us : List ℕ} {rest : Rest} {total : Out (Unit {0})} (r : Result Tally Halt)
     → Ends bytes t fr.function.0 fr.at fr.held s rs rest total r u us → Open bytes t u us fr r
-opens_after (Went tally) x = record { by = x.by.ready }
-opens_after (Halt n place) x = record { by = tt }
+opens_after (Ok tally) x = record { by = x.by.ready }
+opens_after (Err stop) x = record { by = tt }
 
-module _ {bytes t s rs : List ℕ} {fr : Frame} {before : Walked} where
-  open_went : {tally : Tally} → before ≡ Went tally → Open bytes t s rs fr before → Ready bytes t s rs fr.function.0 fr.at fr.held tally.sum
-  open_went e o = subst (λ (r : Walked). Opening bytes t s rs fr r) e o.by
+module _ {bytes t s rs : List ℕ} {fr : Frame} {before : Result Tally Halt} where
+  open_went : {tally : Tally} → before ≡ Ok tally → Open bytes t s rs fr before → Ready bytes t s rs fr.function.0 fr.at fr.held tally.sum
+  open_went e o = subst (λ (r : Result Tally Halt). Opening bytes t s rs fr r) e o.by
 
   -- what `add_expression` asks
-  pub ask_wants : {tally : Tally} (k : ℕ) → before ≡ Went tally → Open bytes t s rs fr before → k ≤ returned
+  pub ask_wants : {tally : Tally} (k : ℕ) → before ≡ Ok tally → Open bytes t s rs fr before → k ≤ returned
       → Ready bytes t s rs fr.function.0 fr.at fr.held tally.sum × Wants s rs (want_of k)
   ask_wants k e o l = let r = open_went e o in (r, slot_wants r.memory k l)
 
-  pub ask_went : {tally : Tally} (e k : ℕ) {r : Walked} {u us : List ℕ} → before ≡ Went tally → Open bytes t s rs fr before → k ≤ returned
+  pub ask_went : {tally : Tally} (e k : ℕ) {r : Result Tally Halt} {u us : List ℕ} → before ≡ Ok tally → Open bytes t s rs fr before → k ≤ returned
       → Walks bytes t fr.function.0 fr.at fr.held s rs (add_expression (module_of bytes t) fr.function.0 fr.held e (asked s rs (want_of k))) tally.visits r u us
       → Asked bytes t s rs fr before (add_expression (module_of bytes t) fr.function.0 fr.held e) k r u us
   ask_went {tally} e k {r} {u} {us} is o l w =
@@ -73,19 +72,19 @@ module _ {bytes t s rs : List ℕ} {fr : Frame} {before : Walked} where
       record {
         opens = opens_after r (w.by (some_rest (totals_sum (read s rs))) (rest_counts (totals_sum (read s rs))));
         by = λ z zs rest total m h g.
-            let x = subst (λ (b : Walked). Going bytes t z zs fr rest total b s rs) is g.by in
+            let x = subst (λ (b : Result Tally Halt). Going bytes t z zs fr rest total b s rs) is g.by in
             let still = others_still ready.low m x.others in
             goes_after r x.others
             (rw (asked-slot s rs k, still.slot k (omega arith)) (sym (next_went (add_expression (module_of bytes t) fr.function.0 fr.held e (part z (get_or zs k 0))) (sym x.is))))
             (w.by rest (h ∙ sym (others_totals (ready_fits ready) ready.low x.others)));
       }
 
-  pub ask_halt : {n : ℕ} {place : Place} {walk : PartReq → Walk (Unit {0})} {k : ℕ} → before ≡ Halt n place
-      → Asked bytes t s rs fr before walk k (Halt n place) s rs
-  ask_halt {n} {place} {walk} {k} is = record {
+  pub ask_halt : {stop : Halt} {walk : PartReq → Walk (Unit {0})} {k : ℕ} → before ≡ Err stop
+      → Asked bytes t s rs fr before walk k (Err stop) s rs
+  ask_halt {walk = walk} {k} is = record {
     opens = record { by = tt };
     by = λ z zs rest total m h g.
-        let x = subst (λ (b : Walked). Going bytes t z zs fr rest total b s rs) is g.by in
+        let x = subst (λ (b : Result Tally Halt). Going bytes t z zs fr rest total b s rs) is g.by in
         record { by = sym (next_halt (walk (part z (get_or zs k 0))) (sym x)) };
   }
 
@@ -96,7 +95,7 @@ module _ {bytes t s rs : List ℕ} {fr : Frame} {before : Walked} where
   maybe_absent e k h o =
       rw (eq-eqb e absent h) (record { opens = o; by = λ z zs rest total m x g. record { by = subst (λ (y : Out (Unit {0})). Going bytes t z zs fr rest y before s rs) (sym (next_self total)) g.by } })
 
-  pub maybe_there : (e k : ℕ) {r : Walked} {u us : List ℕ} → (e ≡ absent → ⊥)
+  pub maybe_there : (e k : ℕ) {r : Result Tally Halt} {u us : List ℕ} → (e ≡ absent → ⊥)
       → Asked bytes t s rs fr before (add_expression (module_of bytes t) fr.function.0 fr.held e) k r u us
       → Asked bytes t s rs fr before (maybe_ask (module_of bytes t) fr.function.0 fr.held (option_of e)) k r u us
   unfolding option_of maybe_ask
@@ -113,18 +112,18 @@ optional_is fr m (some e) p st = refl
 
 -- how the walk begins, and how it ends
 module _ {bytes t s rs : List ℕ} {fr : Frame} where
-  pub begins : {visits sum : ℕ} → Ready bytes t s rs fr.function.0 fr.at fr.held sum → Open bytes t s rs fr (Went (record { visits = visits; sum = sum }))
+  pub begins : {visits sum : ℕ} → Ready bytes t s rs fr.function.0 fr.at fr.held sum → Open bytes t s rs fr (Ok (record { visits = visits; sum = sum }))
   begins r = record { by = r }
 
   pub began : {visits sum : ℕ} (rest : Rest) → Ready bytes t s rs fr.function.0 fr.at fr.held sum
-      → Goes bytes t s rs fr rest (went (state_of t fr.function.0 fr.at (read s rs) rest visits) tt) (Went (record { visits = visits; sum = sum })) s rs
+      → Goes bytes t s rs fr rest (went (state_of t fr.function.0 fr.at (read s rs) rest visits) tt) (Ok (record { visits = visits; sum = sum })) s rs
   began rest r = record { by = record { is = refl; ready = r; others = others_same refl refl } }
 
   -- with the answer b, for an arm that came to s rs from z zs
-  pub ends : {A : Type 0} {z zs u us : List ℕ} {rest : Rest} {total : Out (Unit {0})} {whole : Out A} (answer : Bool → A) (b : Bool) (r : Walked)
+  pub ends : {A : Type 0} {z zs u us : List ℕ} {rest : Rest} {total : Out (Unit {0})} {whole : Out A} (answer : Bool → A) (b : Bool) (r : Result Tally Halt)
       → Apart t fr.function.0 fr.at z zs s rs → (total >> λ left. went left (answer b)) ≡ whole
       → Goes bytes t s rs fr rest total r u us → ArmEnds bytes t z zs fr rest whole answer (answer_of r b) u us
-  ends answer b (Went tally) a e g =
+  ends answer b (Ok tally) a e g =
       record {
         by = record {
           is = sym (next_went (λ left. went left (answer b)) (sym g.by.is)) ∙ e;
@@ -132,7 +131,7 @@ module _ {bytes t s rs : List ℕ} {fr : Frame} where
           apart = apart_trans a (others_apart g.by.others);
         };
       }
-  ends answer b (Halt n place) a e g = record { by = sym (next_halt (λ left. went left (answer b)) (sym g.by)) ∙ e }
+  ends answer b (Err stop) a e g = record { by = sym (next_halt (λ left. went left (answer b)) (sym g.by)) ∙ e }
 
-pub answer_is : {walked r : Walked} (b : Bool) → walked ≡ r → answer_of r b ≡ answer_of walked b
+pub answer_is : {walked r : Result Tally Halt} (b : Bool) → walked ≡ r → answer_of r b ≡ answer_of walked b
 answer_is b e = rw e

@@ -8,12 +8,12 @@ use mathlib.Core.Option.{Option, some, none as nothing}
 use lib.ListN.{length, get_or}
 use lib.Seq.{get_or-set_same, get_or-set_other}
 use borrow.Author.Tests.{eq-eqb, ne_eqb}
-use Rattle.std.specs.Prelude.{Option as Found, Some, None}
+use Rattle.std.specs.Prelude.{Option as Found, Some, None, Result, Ok, Err}
 use Rattle.field.specs.Limits.{absent, max_pieces}
 use Rattle.part.specs.PartReq.{PartReq, entries, Subpart, gone, there}
 use Rattle.part.specs.Store.{part}
 use Rattle.part.specs.Found.{Got}
-use Rattle.module.specs.Module.{Module, Statement, AtomicStatement}
+use Rattle.module.specs.Module.{Module, AtomicStatement}
 use Rattle.module.specs.Decode.{option_of, statement_of}
 use Rattle.module.specs.Tables.{module_of}
 use Rattle.access.specs.Access.{operand_at}
@@ -25,7 +25,7 @@ use Rattle.walk.specs.State.{Records, State, Out, went, ◌>>◌, record_pieces}
 use Rattle.walk.specs.Resolve.{function_at, store_required, is_there}
 use Rattle.walk.specs.Proper.{Fine, EachRecord}
 use Rattle.walk.specs.StatementReq.{StatementReq}
-use Rattle.walk.specs.Statement.{Frame, Target, ask_needed, ask_result, need_of, record_of, add_atomic, add_statement}
+use Rattle.walk.specs.Statement.{Frame, ask_needed, ask_result, need_of, record_of, add_atomic, add_statement}
 use Rattle.walk.proofs.Keeps.{Needs}
 use Rattle.walk.proofs.Bind.{then_went, then_halt, next_same}
 use Rattle.memory.specs.Layout as layout
@@ -35,12 +35,10 @@ use Rattle.memory.proofs.Slots.{kept_read}
 use Rattle.state.specs.State.{Rest, records_in, state_of, totals_sum}
 use Rattle.state.specs.Ready.{Ready}
 use Rattle.state.specs.Frame.{frame_of, Apart}
-use Rattle.state.specs.declared.answer.Answered.{Answered}
-use Rattle.state.specs.declared.answer.Answered.TheVariants as answered
-use Rattle.state.specs.declared.answer.Place.TheVariants as place
-use Rattle.state.specs.declared.answer.Walked.{Walked}
-use Rattle.state.specs.declared.answer.Walked.TheVariants.{Went}
 use Rattle.state.specs.declared.frame.Frame as declared
+use Rattle.state.specs.declared.answer.Halt.{Halt}
+use Rattle.state.specs.declared.answer.Tally.{Tally}
+use Rattle.state.specs.declared.answer.Answer.{Answer}
 use Rattle.state.proofs.Others.{others_same, others_apart, apart_trans}
 use Rattle.target.specs.declared.resolve.Target as resolve
 use Rattle.target.proofs.Checking.{need_fine}
@@ -49,7 +47,6 @@ use Rattle.statement.specs.Asks.{Open, Asked, maybe_ask, answer_of}
 use Rattle.statement.specs.Aim.{Aiming, Aimed, AimIs, Aims}
 use Rattle.statement.specs.Aside.{aside_field, aside_slots, some_field, Loading}
 use Rattle.statement.specs.declared.aim.Aim.{Aim}
-use Rattle.statement.specs.declared.aim.Aim.TheVariants as aims
 use Rattle.statement.proofs.Holding.{Holdable, hold_ready, hold_state, hold_totals, hold_apart}
 use Rattle.statement.proofs.Asking.{begins, began, ends}
 use Rattle.statement.proofs.Aiming.{kept_ready}
@@ -171,14 +168,14 @@ module _ {bytes t s rs : List ℕ} {fr : declared.Frame} {row : Kinded} {sum : �
   pub atomic_aims : Aiming bytes t s rs fr (o 0)
   atomic_aims = record { sum = sum; begun = a.begun; there = uses.0 }
 
-  module _ {aim : Aim} {u : List ℕ} (d : Aims bytes t s rs fr (o 0) aim u) where
+  module _ {aim : Result Aim Halt} {u : List ℕ} (d : Aims bytes t s rs fr (o 0) aim u) where
     after : Ready bytes t u rs fr.function.0 fr.at fr.held sum
     after = kept_ready a.begun.ready d.kept
 
     same : read u rs ≡ read s rs
     same = kept_read rs d.kept a.begun.ready.memory.below
 
-    pub atomic_refuses : {k : ℕ} → aim ≡ aims.Refuse k → Leaves bytes t s rs fr (statement_of row.kind o) visits (answered.Halt k (place.Statement fr.function fr.statement)) u rs
+    pub atomic_refuses : {stop : Halt} → aim ≡ Err stop → Leaves bytes t s rs fr (statement_of row.kind o) visits (Err stop) u rs
     unfolding add_statement add_atomic
     atomic_refuses h =
         let f = subst (AimIs (module_of bytes t) (frame_of s rs fr) (o 0) (context_at (read s rs) fr.at) u) h d.by in
@@ -193,7 +190,7 @@ module _ {bytes t s rs : List ℕ} {fr : declared.Frame} {row : Kinded} {sum : �
     abbrev load_sub : Subpart
     load_sub = record_of records (option_of (o 2))
 
-    module _ {y : resolve.Target} {found : Found ℕ} (load : Found ℕ) (h : aim ≡ aims.At y found) (got : Got u (record_of (records_in t exprs_slot fr.function.0 (read u rs)) (option_of (o 2))) load) where
+    module _ {y : resolve.Target} {found : Found ℕ} (load : Found ℕ) (h : aim ≡ Ok (record { target = y; needed = found })) (got : Got u (record_of (records_in t exprs_slot fr.function.0 (read u rs)) (option_of (o 2))) load) where
       aimed : Aimed (module_of bytes t) (frame_of s rs fr) (o 0) (context_at (read s rs) fr.at) u y found
       aimed = subst (AimIs (module_of bytes t) (frame_of s rs fr) (o 0) (context_at (read s rs) fr.at) u) h d.by
 
@@ -235,7 +232,7 @@ module _ {bytes t s rs : List ℕ} {fr : declared.Frame} {row : Kinded} {sum : �
       pub atomic_second : layout.ask < length us1
       atomic_second = omega (arith, ready1.memory.slots)
 
-      pub atomic_begins : Open bytes t u us2 fr (Went (record { visits = visits; sum = sum }))
+      pub atomic_begins : Open bytes t u us2 fr (Ok (record { visits = visits; sum = sum }))
       atomic_begins = begins ready2
 
       pub atomic_below : MaybeBelow n (option_of (aside_field load (o 2))) × MaybeBelow n (option_of (aside_field found (o 1)))
@@ -252,8 +249,8 @@ module _ {bytes t s rs : List ℕ} {fr : declared.Frame} {row : Kinded} {sum : �
           let b : ◌≡◌ {A = ℕ} 0 1 = cc in
           omega arith
 
-      pub atomic_asks : {w z : Walked} {c : Bool} {r : Answered} {s1 rs1 v vs : List ℕ}
-          → Asked bytes t u us2 fr (Went (record { visits = visits; sum = sum })) (maybe_ask (module_of bytes t) fr.function.0 fr.held (option_of (aside_field load (o 2)))) layout.result w s1 rs1
+      pub atomic_asks : {w z : Result Tally Halt} {c : Bool} {r : Result Answer Halt} {s1 rs1 v vs : List ℕ}
+          → Asked bytes t u us2 fr (Ok (record { visits = visits; sum = sum })) (maybe_ask (module_of bytes t) fr.function.0 fr.held (option_of (aside_field load (o 2)))) layout.result w s1 rs1
           → Asked bytes t s1 rs1 fr w (maybe_ask (module_of bytes t) fr.function.0 fr.held (option_of (aside_field found (o 1)))) layout.ask z v vs
           → c ≡ some_field (aside_field load (o 2)) (aside_field found (o 1)) → r ≡ answer_of z c → Leaves bytes t s rs fr (statement_of row.kind o) visits r v vs
       unfolding add_statement add_atomic leaf_req

@@ -6,16 +6,18 @@ use mathlib.Core.Path.{◌≡◌, refl, sym, subst}
 use mathlib.Core.Bool.{true, false}
 use mathlib.Core.List.{List}
 use lib.ListN.{get_or}
-use Rattle.module.specs.Module.{Statement, Break}
+use Rattle.std.specs.Prelude.{Result, Ok, Err}
+use Rattle.field.specs.declared.refusal.Refusal.TheVariants.{Panic}
+use Rattle.module.specs.Module.{Break}
 use Rattle.module.specs.Decode.{statement_of}
 use Rattle.module.proofs.Each.{past}
 use Rattle.access.specs.Access.{operand_at}
 use Rattle.access.specs.declared.kinded.Kinded.{Kinded}
 use Rattle.memory.specs.Stretches.{four_set}
-use Rattle.state.specs.declared.answer.Answered.{Answered}
-use Rattle.state.specs.declared.answer.Answered.TheVariants.{Went, Halt}
 use Rattle.state.specs.declared.answer.Place.TheVariants as place
 use Rattle.state.specs.declared.frame.Frame.{Frame}
+use Rattle.state.specs.declared.answer.Halt.{Halt}
+use Rattle.state.specs.declared.answer.Answer.{Answer}
 use Rattle.statement.specs.Leaf.{Arm, Leaves}
 use Rattle.statement.specs.LeafKinds.{LeafKind, PlainKind}
 use Rattle.statement.specs.Fields.{StoreKind, plain, image}
@@ -27,31 +29,31 @@ unfolding statement_of
 other_breaks o j = refl
 
 module _ {bytes t s rs : List ℕ} {fr : Frame} {row : Kinded} {sum : ℕ} (a : Arm bytes t s rs fr row sum) (visits : ℕ) where
-  abbrev As : ℕ → Answered → List ℕ → Type 0
+  abbrev As : ℕ → Result Answer Halt → List ℕ → Type 0
   As k r us = Leaves bytes t s rs fr (statement_of k (operand_at bytes row)) visits r s us
 
-  at_kind : {r : Answered} {us : List ℕ} (j : ℕ) → row.kind ≡ j → As j r us → As row.kind r us
+  at_kind : {r : Result Answer Halt} {us : List ℕ} (j : ℕ) → row.kind ≡ j → As j r us → As row.kind r us
   at_kind {r} {us} j e h = subst (λ (k : ℕ). As k r us) (sym e) h
 
-  pub plain_kill : row.kind ≡ 8 → As row.kind (Went (record { visits = visits; sum = sum }) true) rs
+  pub plain_kill : row.kind ≡ 8 → As row.kind (Ok (record { tally = (record { visits = visits; sum = sum }); required = true })) rs
   unfolding statement_of
   plain_kill e = at_kind 8 e (kill_stays a.begun visits)
 
-  pub plain_control : row.kind ≡ 9 → As row.kind (Went (record { visits = visits; sum = sum }) false) rs
+  pub plain_control : row.kind ≡ 9 → As row.kind (Ok (record { tally = (record { visits = visits; sum = sum }); required = false })) rs
   unfolding statement_of
   plain_control e = at_kind 9 e (control_stays a.begun visits)
 
-  pub plain_memory : row.kind ≡ 10 → As row.kind (Went (record { visits = visits; sum = sum }) false) rs
+  pub plain_memory : row.kind ≡ 10 → As row.kind (Ok (record { tally = (record { visits = visits; sum = sum }); required = false })) rs
   unfolding statement_of
   plain_memory e = at_kind 10 e (memory_stays a.begun visits)
 
-  pub plain_image : row.kind ≡ 11 → As row.kind (Halt 13 (place.Statement fr.function fr.statement)) rs
+  pub plain_image : row.kind ≡ 11 → As row.kind (Err (record { refusal = Panic; place = place.Statement fr.function fr.statement })) rs
   unfolding statement_of
   plain_image e = at_kind 11 e (image_atomic_halts a.begun visits)
 
   module _ {us : List ℕ} (e : us ≡ four_set rs fr.at (get_or rs fr.base 0) (get_or rs (fr.base + 1) 0) (get_or rs (fr.base + 2) 0) (get_or rs (fr.base + 3) 0)) where
-    abbrev gone_out : Answered
-    gone_out = Went (record { visits = visits; sum = sum }) fr.break_required
+    abbrev gone_out : Result Answer Halt
+    gone_out = Ok (record { tally = (record { visits = visits; sum = sum }); required = fr.break_required })
 
     by-break : As 5 gone_out us
     unfolding statement_of

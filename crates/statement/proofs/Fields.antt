@@ -8,6 +8,7 @@ use mathlib.Core.Option.{some, none as nothing}
 use lib.Dec.{eqb}
 use lib.ListN.{length, get_or}
 use borrow.Author.Tests.{ne_eqb, eq-eqb}
+use Rattle.std.specs.Prelude.{Result, Ok, Err}
 use Rattle.field.specs.Limits.{absent, max_expressions}
 use Rattle.part.specs.PartReq.{PartReq, all, exist}
 use Rattle.part.specs.Store.{part}
@@ -29,19 +30,15 @@ use Rattle.memory.specs.Layout as layout
 use Rattle.memory.specs.Memory.{read}
 use Rattle.state.specs.State.{state_of}
 use Rattle.state.specs.Frame.{frame_of}
-use Rattle.state.specs.declared.answer.Answered.{Answered}
-use Rattle.state.specs.declared.answer.Answered.TheVariants as answered
-use Rattle.state.specs.declared.answer.Place.TheVariants as place
-use Rattle.state.specs.declared.answer.Walked.{Walked}
-use Rattle.state.specs.declared.answer.Walked.TheVariants.{Went}
 use Rattle.state.specs.declared.frame.Frame as declared
+use Rattle.state.specs.declared.answer.Halt.{Halt}
+use Rattle.state.specs.declared.answer.Tally.{Tally}
+use Rattle.state.specs.declared.answer.Answer.{Answer}
 use Rattle.statement.specs.Leaf.{leaf_req, Arm, Leaves}
 use Rattle.statement.specs.Asks.{Open, Asked, maybe_ask, answer_of}
 use Rattle.statement.specs.Aim.{Aiming}
 use Rattle.statement.specs.Stores.{StoreIs, Stores}
 use Rattle.statement.specs.Fields.{StoreKind, plain, image, Fields, store_fields, FieldsBelow, Fielding, Fielded}
-use Rattle.statement.specs.declared.store.Need.{Need}
-use Rattle.statement.specs.declared.store.Need.TheVariants.{Refuse, Nothing, Part}
 use Rattle.statement.proofs.Asking.{begins, began, ends, optional_is}
 use Rattle.statement.proofs.Uses.{arm_uses}
 
@@ -62,11 +59,11 @@ there_asked m f held n e p st l h =
 
 -- the four asks
 module _ {bytes t s rs : List ℕ} {fr : declared.Frame} {x : Fields} {sum : ℕ} (q : Fielding bytes t s rs fr x sum) (visits : ℕ) where
-  pub fields_begin : Open bytes t s rs fr (Went (record { visits = visits; sum = sum }))
+  pub fields_begin : Open bytes t s rs fr (Ok (record { visits = visits; sum = sum }))
   fields_begin = begins q.ready
 
-  pub fields_asked : {a b c d : Walked} {s1 rs1 s2 rs2 s3 rs3 u us : List ℕ}
-      → Asked bytes t s rs fr (Went (record { visits = visits; sum = sum })) (add_expression (module_of bytes t) fr.function.0 fr.held x.pointer) layout.exist_slot a s1 rs1
+  pub fields_asked : {a b c d : Result Tally Halt} {s1 rs1 s2 rs2 s3 rs3 u us : List ℕ}
+      → Asked bytes t s rs fr (Ok (record { visits = visits; sum = sum })) (add_expression (module_of bytes t) fr.function.0 fr.held x.pointer) layout.exist_slot a s1 rs1
       → Asked bytes t s1 rs1 fr a (maybe_ask (module_of bytes t) fr.function.0 fr.held (option_of x.coordinate)) layout.all_slot b s2 rs2
       → Asked bytes t s2 rs2 fr b (maybe_ask (module_of bytes t) fr.function.0 fr.held (option_of x.index)) layout.exist_slot c s3 rs3
       → Asked bytes t s3 rs3 fr c (add_expression (module_of bytes t) fr.function.0 fr.held x.value) layout.ask d u us
@@ -149,11 +146,11 @@ module _ {bytes t s rs : List ℕ} {fr : declared.Frame} {row : Kinded} {sum : �
   as_plain : AsStore (module_of bytes t) (frame_of s rs fr) (statement_of row.kind (operand_at bytes row)) x
   as_plain = rw fields (as_store (operand_at bytes row) _ _ row.kind (module_of bytes t) (frame_of s rs fr) kind (few a) (arm_uses a _ refl))
 
-  module _ {need : Need} {u us : List ℕ} (d : Stores bytes t s rs fr x.pointer need u us) where
-    pub store_refuses : {n : ℕ} → need ≡ Refuse n
-        → Leaves bytes t s rs fr (statement_of row.kind (operand_at bytes row)) visits (answered.Halt n (place.Statement fr.function fr.statement)) u us
+  module _ {need : Result Bool Halt} {u us : List ℕ} (d : Stores bytes t s rs fr x.pointer need u us) where
+    pub store_refuses : {stop : Halt} → need ≡ Err stop
+        → Leaves bytes t s rs fr (statement_of row.kind (operand_at bytes row)) visits (Err stop) u us
     store_refuses h =
-        let f = subst (λ (y : Need). StoreIs bytes t s rs fr x.pointer y u us) h d.by in
+        let f = subst (λ (y : Result Bool Halt). StoreIs bytes t s rs fr x.pointer y u us) h d.by in
         record {
           by = λ call block rest g.
               record {
@@ -162,10 +159,10 @@ module _ {bytes t s rs : List ℕ} {fr : declared.Frame} {row : Kinded} {sum : �
               };
         }
 
-    pub store_unneeded : need ≡ Nothing
-        → Leaves bytes t s rs fr (statement_of row.kind (operand_at bytes row)) visits (answered.Went (record { visits = visits; sum = sum }) false) u us
-    store_unneeded h =
-        let f = subst (λ (y : Need). StoreIs bytes t s rs fr x.pointer y u us) h d.by in
+    pub store_unneeded : {b : Bool} → need ≡ Ok b → b ≡ false
+        → Leaves bytes t s rs fr (statement_of row.kind (operand_at bytes row)) visits (Ok (record { tally = (record { visits = visits; sum = sum }); required = false })) u us
+    store_unneeded h g =
+        let f = subst (λ (y : Result Bool Halt). StoreIs bytes t s rs fr x.pointer y u us) (h ∙ ap (λ (b : Bool). Ok b) g) d.by in
         let l = f.0 sum a.begun.ready in
         record {
           by = λ call block rest g.
@@ -180,14 +177,14 @@ module _ {bytes t s rs : List ℕ} {fr : declared.Frame} {row : Kinded} {sum : �
               };
         }
 
-    module _ (h : need ≡ Part) where
-      needed : StoreIs bytes t s rs fr x.pointer Part u us
-      needed = subst (λ (y : Need). StoreIs bytes t s rs fr x.pointer y u us) h d.by
+    module _ {b : Bool} (h : need ≡ Ok b) (g : b ≡ true) where
+      needed : StoreIs bytes t s rs fr x.pointer (Ok true) u us
+      needed = subst (λ (y : Result Bool Halt). StoreIs bytes t s rs fr x.pointer y u us) (h ∙ ap (λ (b : Bool). Ok b) g) d.by
 
       pub store-fields : Fielding bytes t u us fr x sum
       store-fields = record { ready = (needed.0 sum a.begun.ready).ready; below = below }
 
-      pub store_asks : {w : Walked} {r : Answered} {v vs : List ℕ} → Fielded bytes t u us fr x visits w v vs → r ≡ answer_of w true
+      pub store_asks : {w : Result Tally Halt} {r : Result Answer Halt} {v vs : List ℕ} → Fielded bytes t u us fr x visits w v vs → r ≡ answer_of w true
           → Leaves bytes t s rs fr (statement_of row.kind (operand_at bytes row)) visits r v vs
       store_asks {w} {r} {v} {vs} asked e =
           let l = needed.0 sum a.begun.ready in

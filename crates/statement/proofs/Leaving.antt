@@ -5,6 +5,8 @@ use mathlib.Core.Path.{◌≡◌, refl, ap, ◌∙◌}
 use mathlib.Core.Bool.{Bool, true, false}
 use mathlib.Core.List.{List}
 use lib.ListN.{length, get_or}
+use Rattle.std.specs.Prelude.{Ok, Err}
+use Rattle.field.specs.declared.refusal.Refusal.TheVariants.{Panic}
 use Rattle.module.specs.Module.{Statement, Break, Continue, Kill, ControlBarrier, MemoryBarrier, ImageAtomic}
 use Rattle.module.specs.Tables.{module_of}
 use Rattle.walk.specs.State.{State, went, with_context}
@@ -14,7 +16,6 @@ use Rattle.memory.specs.Stretches.{four_set}
 use Rattle.memory.proofs.Runs.{copy_read, four_memory, four_long}
 use Rattle.state.specs.State.{Rest, state_of}
 use Rattle.state.specs.Frame.{Begun, frame_of}
-use Rattle.state.specs.declared.answer.Answered.TheVariants.{Went, Halt}
 use Rattle.state.specs.declared.answer.Place.TheVariants as place
 use Rattle.state.specs.declared.frame.Frame.{Frame}
 use Rattle.state.proofs.Others.{others_same, others_apart}
@@ -30,25 +31,25 @@ module _ {bytes t s rs : List ℕ} {fr : Frame} {sum : ℕ} (b : Begun bytes t s
 
   -- nothing is done
   stays : (x : Statement) (r : Bool) → ((call : FunctionWalk) (block : BlockWalk) (st : State) → went st (leaf_req x r) ≡ add_statement (module_of bytes t) call block (frame_of s rs fr) x st)
-      → Leaves bytes t s rs fr x visits (Went (record { visits = visits; sum = sum }) r) s rs
+      → Leaves bytes t s rs fr x visits (Ok (record { tally = (record { visits = visits; sum = sum }); required = r })) s rs
   stays x r is = record {
     by = λ call block rest h. record { by = record { is = is call block _; ready = b.ready; apart = others_apart (others_same refl refl) } };
   }
 
-  pub kill_stays : Leaves bytes t s rs fr Kill visits (Went (record { visits = visits; sum = sum }) true) s rs
+  pub kill_stays : Leaves bytes t s rs fr Kill visits (Ok (record { tally = (record { visits = visits; sum = sum }); required = true })) s rs
   unfolding add_statement leaf_req
   kill_stays = stays Kill true (λ call block st. refl)
 
-  pub control_stays : Leaves bytes t s rs fr ControlBarrier visits (Went (record { visits = visits; sum = sum }) false) s rs
+  pub control_stays : Leaves bytes t s rs fr ControlBarrier visits (Ok (record { tally = (record { visits = visits; sum = sum }); required = false })) s rs
   unfolding add_statement leaf_req
   control_stays = stays ControlBarrier false (λ call block st. refl)
 
-  pub memory_stays : Leaves bytes t s rs fr MemoryBarrier visits (Went (record { visits = visits; sum = sum }) false) s rs
+  pub memory_stays : Leaves bytes t s rs fr MemoryBarrier visits (Ok (record { tally = (record { visits = visits; sum = sum }); required = false })) s rs
   unfolding add_statement leaf_req
   memory_stays = stays MemoryBarrier false (λ call block st. refl)
 
   -- a refusal
-  pub image_atomic_halts : Leaves bytes t s rs fr ImageAtomic visits (Halt 13 (place.Statement fr.function fr.statement)) s rs
+  pub image_atomic_halts : Leaves bytes t s rs fr ImageAtomic visits (Err (record { refusal = Panic; place = place.Statement fr.function fr.statement })) s rs
   unfolding add_statement
   image_atomic_halts = record { by = λ call block rest h. record { by = refl } }
 
@@ -66,7 +67,7 @@ module _ {bytes t s rs : List ℕ} {fr : Frame} {sum : ℕ} (b : Begun bytes t s
         })
 
     pub leaves : (x : Statement) → ((call : FunctionWalk) (block : BlockWalk) (rest : Rest) → went (with_context (frame_of s rs fr).base (state_of t fr.function.0 fr.at (read s rs) rest visits)) (leaf_req x fr.break_required) ≡ add_statement (module_of bytes t) call block (frame_of s rs fr) x (state_of t fr.function.0 fr.at (read s rs) rest visits))
-        → Leaves bytes t s rs fr x visits (Went (record { visits = visits; sum = sum }) fr.break_required) s us
+        → Leaves bytes t s rs fr x visits (Ok (record { tally = (record { visits = visits; sum = sum }); required = fr.break_required })) s us
     leaves x is = record {
       by = λ call block rest h.
           record {
@@ -78,10 +79,10 @@ module _ {bytes t s rs : List ℕ} {fr : Frame} {sum : ℕ} (b : Begun bytes t s
           };
     }
 
-    pub break_leaves : Leaves bytes t s rs fr Break visits (Went (record { visits = visits; sum = sum }) fr.break_required) s us
+    pub break_leaves : Leaves bytes t s rs fr Break visits (Ok (record { tally = (record { visits = visits; sum = sum }); required = fr.break_required })) s us
     unfolding add_statement leaf_req
     break_leaves = leaves Break (λ call block rest. refl)
 
-    pub continue_leaves : Leaves bytes t s rs fr Continue visits (Went (record { visits = visits; sum = sum }) fr.break_required) s us
+    pub continue_leaves : Leaves bytes t s rs fr Continue visits (Ok (record { tally = (record { visits = visits; sum = sum }); required = fr.break_required })) s us
     unfolding add_statement leaf_req
     continue_leaves = leaves Continue (λ call block rest. refl)

@@ -7,7 +7,7 @@ use mathlib.Core.Bool.{Bool, true, false}
 use mathlib.Core.List.{List}
 use lib.ListN.{length, get_or}
 use borrow.Author.Tests.{ne_eqb, eq-eqb}
-use Rattle.std.specs.Prelude.{Option, Some, None}
+use Rattle.std.specs.Prelude.{Option, Some, None, Result, Ok, Err}
 use Rattle.field.specs.Limits.{absent, max_expressions}
 use Rattle.part.specs.PartReq.{PartReq, all, Subpart, gone, there}
 use Rattle.part.specs.Store.{part}
@@ -19,10 +19,10 @@ use Rattle.access.specs.Access.{operand_at}
 use Rattle.access.specs.declared.kinded.Kinded.{Kinded}
 use Rattle.valid.specs.Valid.{UsesBelow}
 use Rattle.context.specs.Contexts.{variable_of}
-use Rattle.walk.specs.State.{State, Out, went, halt, Walk, ◌>>◌}
+use Rattle.walk.specs.State.{State, Place, Out, went, halt, Walk, ◌>>◌}
 use Rattle.walk.specs.Resolve.{function_at, store_required}
 use Rattle.walk.specs.StatementReq.{StatementReq}
-use Rattle.walk.specs.Statement.{FunctionWalk, BlockWalk, Frame, Target, here, ask, ask_optional, ask_mode, target, when_needed, ray, add_statement}
+use Rattle.walk.specs.Statement.{FunctionWalk, BlockWalk, Frame, Target, ask, ask_optional, ask_mode, target, when_needed, ray, add_statement}
 use Rattle.walk.proofs.Bind.{then_went, then_halt, next_self, next_same}
 use Rattle.memory.specs.Layout as layout
 use Rattle.memory.specs.Memory.{read, context_at}
@@ -30,12 +30,10 @@ use Rattle.memory.proofs.Slots.{kept_read}
 use Rattle.state.specs.State.{state_of, totals_sum}
 use Rattle.state.specs.Ready.{Ready}
 use Rattle.state.specs.Frame.{frame_of}
-use Rattle.state.specs.declared.answer.Answered.{Answered}
-use Rattle.state.specs.declared.answer.Answered.TheVariants as answered
-use Rattle.state.specs.declared.answer.Place.TheVariants as place
-use Rattle.state.specs.declared.answer.Walked.{Walked}
-use Rattle.state.specs.declared.answer.Walked.TheVariants.{Went}
 use Rattle.state.specs.declared.frame.Frame as declared
+use Rattle.state.specs.declared.answer.Halt.{Halt}
+use Rattle.state.specs.declared.answer.Tally.{Tally}
+use Rattle.state.specs.declared.answer.Answer.{Answer}
 use Rattle.state.proofs.Others.{others_same, others_apart}
 use Rattle.target.specs.declared.resolve.Target as resolve
 use Rattle.statement.specs.Leaf.{leaf_req, Arm, Leaves}
@@ -43,7 +41,6 @@ use Rattle.statement.specs.Asks.{Open, Asked, maybe_ask, answer_of}
 use Rattle.statement.specs.Aim.{Aiming, Aimed, AimIs, Aims}
 use Rattle.statement.specs.Rays.{RayKind, query, load, ballot, gather, collective, Ray, gather_fields, ray_fields, RayBelow}
 use Rattle.statement.specs.declared.aim.Aim.{Aim}
-use Rattle.statement.specs.declared.aim.Aim.TheVariants as aims
 use Rattle.statement.proofs.Asking.{begins, began, ends, optional_is}
 use Rattle.statement.proofs.Aiming.{kept_ready}
 use Rattle.statement.proofs.Uses.{arm_uses}
@@ -186,7 +183,7 @@ module _ (m : Module) (fr : Frame) (n : ℕ) (es : List Bool) (few : n ≤ max_e
 
 -- the definition, once the target is known
 module _ (m : Module) (fr : Frame) (e : ExpressionHandle) (asks : Walk (Unit {0})) (st : State) where
-  ray-halts : {n : ℕ} → halt n (here fr) ≡ target m fr e st → halt n (here fr) ≡ ray m fr e asks st
+  ray-halts : {n : ℕ} {p : Place} → halt n p ≡ target m fr e st → halt n p ≡ ray m fr e asks st
   ray-halts is = sym (then_halt (λ found t. when_needed asks t.needed found) (sym is))
 
   module _ (t : Target) (is : went st t ≡ target m fr e st) where
@@ -211,8 +208,8 @@ module _ {bytes t s rs : List ℕ} {fr : declared.Frame} {row : Kinded} {sum : �
   pub ray_aims : Aiming bytes t s rs fr x.target
   ray_aims = record { sum = sum; begun = a.begun; there = as_one.below.target }
 
-  module _ {aim : Aim} {u : List ℕ} (d : Aims bytes t s rs fr x.target aim u) where
-    pub ray_refuses : {n : ℕ} → aim ≡ aims.Refuse n → Leaves bytes t s rs fr statement visits (answered.Halt n (place.Statement fr.function fr.statement)) u rs
+  module _ {aim : Result Aim Halt} {u : List ℕ} (d : Aims bytes t s rs fr x.target aim u) where
+    pub ray_refuses : {stop : Halt} → aim ≡ Err stop → Leaves bytes t s rs fr statement visits (Err stop) u rs
     ray_refuses h =
         let f = subst (AimIs (module_of bytes t) (frame_of s rs fr) x.target (context_at (read s rs) fr.at) u) h d.by in
         record {
@@ -225,14 +222,14 @@ module _ {bytes t s rs : List ℕ} {fr : declared.Frame} {row : Kinded} {sum : �
     after : Ready bytes t u rs fr.function.0 fr.at fr.held sum
     after = kept_ready a.begun.ready d.kept
 
-    module _ {y : resolve.Target} {found : Option ℕ} (h : aim ≡ aims.At y found) where
+    module _ {y : resolve.Target} {found : Option ℕ} (h : aim ≡ Ok (record { target = y; needed = found })) where
       aimed : Aimed (module_of bytes t) (frame_of s rs fr) x.target (context_at (read s rs) fr.at) u y found
       aimed = subst (AimIs (module_of bytes t) (frame_of s rs fr) x.target (context_at (read s rs) fr.at) u) h d.by
 
       abbrev need : Subpart
       need = store_required (context_at (read s rs) fr.at) (variable_of y.var) (part u y.part)
 
-      pub ray_unneeded : found ≡ None → Leaves bytes t s rs fr statement visits (answered.Went (record { visits = visits; sum = sum }) false) u rs
+      pub ray_unneeded : found ≡ None → Leaves bytes t s rs fr statement visits (Ok (record { tally = (record { visits = visits; sum = sum }); required = false })) u rs
       ray_unneeded z =
           let none_needed : need ≡ gone = subst (Got u need) z aimed.needs in
           record {
@@ -248,14 +245,14 @@ module _ {bytes t s rs : List ℕ} {fr : declared.Frame} {row : Kinded} {sum : �
                 };
           }
 
-      pub ray_begins : Open bytes t u rs fr (Went (record { visits = visits; sum = sum }))
+      pub ray_begins : Open bytes t u rs fr (Ok (record { visits = visits; sum = sum }))
       ray_begins = begins after
 
       pub ray_below : RayBelow (length (function_at (module_of bytes t) fr.function.0).expressions) x
       ray_below = as_one.below
 
-      pub ray_asks : {n : ℕ} → found ≡ Some n → {w z : Walked} {r : Answered} {s1 rs1 v vs : List ℕ}
-          → Asked bytes t u rs fr (Went (record { visits = visits; sum = sum })) (maybe_ask (module_of bytes t) fr.function.0 fr.held (option_of x.first)) layout.all_slot w s1 rs1
+      pub ray_asks : {n : ℕ} → found ≡ Some n → {w z : Result Tally Halt} {r : Result Answer Halt} {s1 rs1 v vs : List ℕ}
+          → Asked bytes t u rs fr (Ok (record { visits = visits; sum = sum })) (maybe_ask (module_of bytes t) fr.function.0 fr.held (option_of x.first)) layout.all_slot w s1 rs1
           → Asked bytes t s1 rs1 fr w (maybe_ask (module_of bytes t) fr.function.0 fr.held (option_of x.second)) layout.all_slot z v vs
           → r ≡ answer_of z true → Leaves bytes t s rs fr statement visits r v vs
       ray_asks {n} g {w} {z} {r} {s1} {rs1} {v} {vs} k l e =

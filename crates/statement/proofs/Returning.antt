@@ -7,6 +7,7 @@ use mathlib.Core.List.{List}
 use mathlib.Core.Option.{Option, some, none as nothing}
 use lib.ListN.{length, get_or, set}
 use borrow.Author.Tests.{eq-eqb, ne_eqb}
+use Rattle.std.specs.Prelude.{Result, Ok}
 use Rattle.field.specs.Limits.{absent}
 use Rattle.part.specs.PartReq.{PartReq, entries, Subpart, gone, there, get_subpart, spine}
 use Rattle.part.specs.Store.{top, part, Good}
@@ -30,11 +31,10 @@ use Rattle.memory.specs.Memory.{read, context_at}
 use Rattle.memory.specs.Stretches.{four_set}
 use Rattle.memory.proofs.Slots.{read_at}
 use Rattle.state.specs.Frame.{frame_of}
-use Rattle.state.specs.declared.answer.Answered.{Answered}
-use Rattle.state.specs.declared.answer.Answered.TheVariants.{Went}
-use Rattle.state.specs.declared.answer.Walked.{Walked}
-use Rattle.state.specs.declared.answer.Walked.TheVariants as walked
 use Rattle.state.specs.declared.frame.Frame.{Frame}
+use Rattle.state.specs.declared.answer.Halt.{Halt}
+use Rattle.state.specs.declared.answer.Tally.{Tally}
+use Rattle.state.specs.declared.answer.Answer.{Answer}
 use Rattle.statement.specs.Leaf.{leaf_req, Arm, Leaves}
 use Rattle.statement.specs.Asks.{Open, Asked, answer_of}
 use Rattle.statement.proofs.Leaving.{leaves}
@@ -72,13 +72,13 @@ module _ {bytes t s rs : List ℕ} {fr : Frame} {row : Kinded} {sum : ℕ} (a : 
 
   -- nothing is asked
   module _ {us : List ℕ} (e : us ≡ four_set rs fr.at (get_or rs fr.base 0) (get_or rs (fr.base + 1) 0) (get_or rs (fr.base + 2) 0) (get_or rs (fr.base + 3) 0)) where
-    pub return_absent_leaves : value ≡ absent → Leaves bytes t s rs fr (statement_of row.kind (operand_at bytes row)) visits (Went (record { visits = visits; sum = sum }) fr.break_required) s us
+    pub return_absent_leaves : value ≡ absent → Leaves bytes t s rs fr (statement_of row.kind (operand_at bytes row)) visits (Ok (record { tally = (record { visits = visits; sum = sum }); required = fr.break_required })) s us
     unfolding add_statement leaf_req option_of
     return_absent_leaves h =
         rw (statement_is, eq-eqb value absent h)
         (leaves a.begun visits e (Return nothing) (λ call block rest. sym (return_absent (frame_of s rs fr) (module_of bytes t) _ _)))
 
-    pub return_none_leaves : get_subpart (part s (get_or rs (fr.at + 3) 0)) (variable 0) ≡ gone → Leaves bytes t s rs fr (statement_of row.kind (operand_at bytes row)) visits (Went (record { visits = visits; sum = sum }) fr.break_required) s us
+    pub return_none_leaves : get_subpart (part s (get_or rs (fr.at + 3) 0)) (variable 0) ≡ gone → Leaves bytes t s rs fr (statement_of row.kind (operand_at bytes row)) visits (Ok (record { tally = (record { visits = visits; sum = sum }); required = fr.break_required })) s us
     unfolding add_statement leaf_req
     return_none_leaves h =
         rw statement_is
@@ -111,11 +111,11 @@ module _ {bytes t s rs : List ℕ} {fr : Frame} {row : Kinded} {sum : ℕ} (a : 
     pub return_there : value < length (function_at (module_of bytes t) fr.function.0).expressions
     return_there = below_there _ value there_is (arm_uses a (Return (option_of value)) statement_is)
 
-    pub return_begins : Open bytes t s (set rs ask n) fr (walked.Went (record { visits = visits; sum = sum }))
+    pub return_begins : Open bytes t s (set rs ask n) fr (Ok (record { visits = visits; sum = sum }))
     return_begins = begins (hold_ready a.begun.ready holdable)
 
-    pub return_asks : {r : Walked} {b : Answered} {u us : List ℕ}
-        → Asked bytes t s (set rs ask n) fr (walked.Went (record { visits = visits; sum = sum })) (add_expression (module_of bytes t) fr.function.0 fr.held value) ask r u us
+    pub return_asks : {r : Result Tally Halt} {b : Result Answer Halt} {u us : List ℕ}
+        → Asked bytes t s (set rs ask n) fr (Ok (record { visits = visits; sum = sum })) (add_expression (module_of bytes t) fr.function.0 fr.held value) ask r u us
         → b ≡ answer_of r true → Leaves bytes t s rs fr (statement_of row.kind (operand_at bytes row)) visits b u us
     unfolding add_statement add_return leaf_req option_of
     return_asks {r} {b} {u} {us} x e =

@@ -4,7 +4,7 @@ use native.Mathlib.Omega.{arith}
 use mathlib.Core.Path.{◌≡◌, refl, sym, ap, subst, ◌∙◌}
 use mathlib.Core.Bool.{true, false}
 use mathlib.Core.List.{List}
-use Rattle.std.specs.Prelude.{Option, Some, None}
+use Rattle.std.specs.Prelude.{Option, Some, None, Result, Ok, Err}
 use Rattle.part.specs.PartReq.{PartReq, exist, Subpart, gone, there}
 use Rattle.part.specs.Store.{top, part}
 use Rattle.part.specs.Found.{Got}
@@ -14,14 +14,15 @@ use Rattle.context.specs.Types.{types_of}
 use Rattle.context.specs.RequiredContext.{VarRef, remove_var}
 use Rattle.context.specs.Contexts.{variable_of}
 use Rattle.sound.proofs.Walks.{module_sound}
-use Rattle.walk.specs.State.{State, Out, went, halt, Walk, ◌>>◌}
+use Rattle.walk.specs.State.{State, Place, Out, went, halt, Walk, ◌>>◌}
 use Rattle.walk.specs.Resolve.{function_at, store_required}
-use Rattle.walk.specs.Statement.{Frame, Target, here, ask, target, taken_out, add_store, store}
+use Rattle.walk.specs.Statement.{Frame, ask, target, taken_out, add_store, store}
 use Rattle.walk.proofs.Bind.{then_went, then_halt, next_halt}
 use Rattle.memory.specs.Memory.{read, context_at}
 use Rattle.memory.proofs.Slots.{kept_read}
 use Rattle.state.specs.State.{state_of}
 use Rattle.state.specs.Frame.{frame_of}
+use Rattle.state.specs.declared.answer.Halt.{Halt}
 use Rattle.state.specs.declared.frame.Frame as declared
 use Rattle.state.proofs.Others.{others_same, others_apart, apart_trans}
 use Rattle.target.specs.declared.resolve.Target as resolve
@@ -29,9 +30,6 @@ use Rattle.target.proofs.Checking.{need_fine}
 use Rattle.statement.specs.Aim.{Aiming, Aimed, AimIs, Aims}
 use Rattle.statement.specs.Stores.{Taking, TakeIs, Takes, Stores}
 use Rattle.statement.specs.declared.aim.Aim.{Aim}
-use Rattle.statement.specs.declared.aim.Aim.TheVariants as aims
-use Rattle.statement.specs.declared.store.Need.{Need}
-use Rattle.statement.specs.declared.store.Need.TheVariants.{Refuse, Nothing, Part}
 use Rattle.statement.proofs.Aiming.{kept_ready}
 
 -- the definition, once the target is known
@@ -48,24 +46,24 @@ module _ (m : Module) (fr : Frame) (e : ExpressionHandle) (accessors : Walk (Uni
   unfolding add_store
   store-part h = sym (known ∙ rw h)
 
-store-halts : (m : Module) (fr : Frame) (e : ExpressionHandle) (accessors : Walk (Unit {0})) (value : ExpressionHandle) (st : State) {n : ℕ} → halt n (here fr) ≡ target m fr e st
-    → halt n (here fr) ≡ store m fr e accessors value st
+store-halts : (m : Module) (fr : Frame) (e : ExpressionHandle) (accessors : Walk (Unit {0})) (value : ExpressionHandle) (st : State) {n : ℕ} {p : Place} → halt n p ≡ target m fr e st
+    → halt n p ≡ store m fr e accessors value st
 store-halts m fr e accessors value st is = sym (then_halt (λ found t. add_store m fr e accessors value t.var t.part t.needed found) (sym is))
 
-module _ {bytes t s rs : List ℕ} {fr : declared.Frame} {e : ℕ} (q : Aiming bytes t s rs fr e) {a : Aim} {u : List ℕ} (x : Aims bytes t s rs fr e a u) where
-  pub store_refused : {n : ℕ} → a ≡ aims.Refuse n → Stores bytes t s rs fr e (Refuse n) u rs
+module _ {bytes t s rs : List ℕ} {fr : declared.Frame} {e : ℕ} (q : Aiming bytes t s rs fr e) {a : Result Aim Halt} {u : List ℕ} (x : Aims bytes t s rs fr e a u) where
+  pub store_refused : {stop : Halt} → a ≡ Err stop → Stores bytes t s rs fr e (Err stop) u rs
   store_refused h =
       let f = subst (AimIs (module_of bytes t) (frame_of s rs fr) e (context_at (read s rs) fr.at) u) h x.by in
       record { by = λ accessors value rest v. store-halts (module_of bytes t) (frame_of s rs fr) e accessors value (state_of t fr.function.0 fr.at (read s rs) rest v) (f (state_of t fr.function.0 fr.at (read s rs) rest v) refl) }
 
-  module _ {y : resolve.Target} {found : Option ℕ} (h : a ≡ aims.At y found) where
+  module _ {y : resolve.Target} {found : Option ℕ} (h : a ≡ Ok (record { target = y; needed = found })) where
     pub aimed : Aimed (module_of bytes t) (frame_of s rs fr) e (context_at (read s rs) fr.at) u y found
     aimed = subst (AimIs (module_of bytes t) (frame_of s rs fr) e (context_at (read s rs) fr.at) u) h x.by
 
     same : read u rs ≡ read s rs
     same = kept_read rs x.kept q.begun.ready.memory.below
 
-    pub store_none : found ≡ None → Stores bytes t s rs fr e Nothing u rs
+    pub store_none : found ≡ None → Stores bytes t s rs fr e (Ok false) u rs
     store_none z =
         let none_needed = subst (Got u (store_required (context_at (read s rs) fr.at) (variable_of y.var) (part u y.part))) z aimed.needs in
         record {
@@ -98,32 +96,35 @@ module _ {bytes t s rs : List ℕ} {fr : declared.Frame} {e : ℕ} (q : Aiming b
             roomy = omega (arith, q.begun.roomy, x.cost, x.kept.long);
           }
 
-      pub store_goes : {r : Need} {v vs : List ℕ} → Takes bytes t u rs fr y n r v vs → Stores bytes t s rs fr e r v vs
-      store_goes {r} {v} {vs} d = go r d.by
-        where
-          go : (r : Need) → TakeIs bytes t u rs fr y n r v vs → Stores bytes t s rs fr e r v vs
-          go (Refuse k) f = record {
-            by = λ accessors value rest i.
-                let st = state_of t fr.function.0 fr.at (read s rs) rest i in
-                sym (next_halt _ (next_halt _ (next_halt _ (next_halt (ask (module_of bytes t) (frame_of s rs fr) e exist) (sym (rw same at (f st)))))))
-                ∙ store-part (module_of bytes t) (frame_of s rs fr) e accessors value (aimed.is st refl) needed.1;
-          }
-          go Nothing f = absurd f
-          go Part f = record {
-            by = (
-              λ sum ready.
-                  let l = f.left sum (kept_ready ready x.kept) in
-                  record {
-                    ready = l.ready;
-                    apart = apart_trans (others_apart (others_same refl same)) l.apart;
-                    totals = rw same at l.totals;
-                    asks = refl;
-                  },
-              λ accessors value rest i.
+      module _ {r : Result (Unit {0}) Halt} {v vs : List ℕ} (d : Takes bytes t u rs fr y n r v vs) where
+        pub store_stops : {stop : Halt} → r ≡ Err stop → Stores bytes t s rs fr e (Err stop) v vs
+        store_stops g =
+            let f = subst (λ (r : Result (Unit {0}) Halt). TakeIs bytes t u rs fr y n r v vs) g d.by in
+            record {
+              by = λ accessors value rest i.
                   let st = state_of t fr.function.0 fr.at (read s rs) rest i in
-                  let l = f.left q.sum (kept_ready q.begun.ready x.kept) in
-                  rw l.asks
-                  (ap (λ (o : Out (Unit {0})). o >> ask (module_of bytes t) (frame_of s rs fr) e exist >> accessors >> ask (module_of bytes t) (frame_of s rs fr) value (part u n) >> λ left. went left true) (rw same at (f.is rest i))
-                  ∙ store-part (module_of bytes t) (frame_of s rs fr) e accessors value (aimed.is st refl) needed.1),
-            );
-          }
+                  sym (next_halt _ (next_halt _ (next_halt _ (next_halt (ask (module_of bytes t) (frame_of s rs fr) e exist) (sym (rw same at (f st)))))))
+                  ∙ store-part (module_of bytes t) (frame_of s rs fr) e accessors value (aimed.is st refl) needed.1;
+            }
+
+        pub store_goes : {done : Unit {0}} → r ≡ Ok done → Stores bytes t s rs fr e (Ok true) v vs
+        store_goes g =
+            let f = subst (λ (r : Result (Unit {0}) Halt). TakeIs bytes t u rs fr y n r v vs) g d.by in
+            record {
+              by = (
+                λ sum ready.
+                    let l = f.left sum (kept_ready ready x.kept) in
+                    record {
+                      ready = l.ready;
+                      apart = apart_trans (others_apart (others_same refl same)) l.apart;
+                      totals = rw same at l.totals;
+                      asks = refl;
+                    },
+                λ accessors value rest i.
+                    let st = state_of t fr.function.0 fr.at (read s rs) rest i in
+                    let l = f.left q.sum (kept_ready q.begun.ready x.kept) in
+                    rw l.asks
+                    (ap (λ (o : Out (Unit {0})). o >> ask (module_of bytes t) (frame_of s rs fr) e exist >> accessors >> ask (module_of bytes t) (frame_of s rs fr) value (part u n) >> λ left. went left true) (rw same at (f.is rest i))
+                    ∙ store-part (module_of bytes t) (frame_of s rs fr) e accessors value (aimed.is st refl) needed.1),
+              );
+            }

@@ -5,6 +5,8 @@ use mathlib.Core.Path.{◌≡◌, refl, sym, ap, subst, ◌∙◌}
 use mathlib.Core.Bool.{Bool, true, false}
 use mathlib.Core.List.{List}
 use lib.ListN.{length, set}
+use Rattle.std.specs.Prelude.{Ok, Err}
+use Rattle.field.specs.declared.refusal.Refusal.TheVariants.{Panic as Panics, PartLimit}
 use Rattle.part.specs.PartReq.{entries}
 use Rattle.part.specs.Store.{part, Good, Room}
 use Rattle.module.specs.File.{accepted, read_module}
@@ -28,13 +30,13 @@ use Rattle.memory.proofs.Runs.{four_read, four_memory, four_long}
 use Rattle.state.specs.State.{state_of}
 use Rattle.state.specs.Ready.{Ready}
 use Rattle.state.specs.Frame.{frame_of}
+use Rattle.state.specs.declared.answer.Place.TheVariants as place
 use Rattle.state.specs.declared.frame.Frame as declared
 use Rattle.state.proofs.Others.{others_totals, ready_fits, others_apart, apart_trans}
 use Rattle.target.specs.Target.{HasTarget}
 use Rattle.target.specs.declared.resolve.Target.{Target}
 use Rattle.memory.specs.Stretches.{pieces_at}
 use Rattle.statement.specs.Stores.{Taking, Takes}
-use Rattle.statement.specs.declared.store.Need.TheVariants.{Refuse, Part}
 use Rattle.statement.proofs.Placed.{Placed, placed_state, placed_ready, placed_others}
 use Rattle.statement.proofs.Holding.{Holdable, hold_inside, hold_ready, hold_state, hold_totals, hold_apart, hold_part}
 use Rattle.statement.proofs.Aiming.{pieces_has, pieces_are}
@@ -75,7 +77,7 @@ module _ {bytes t types s rs : List ℕ} {fr : declared.Frame} {x : Target} {n :
       is : removed u r ≡ taking
       is = rw context_is at d.is
 
-      pub take_panics : {us : List ℕ} → r ≡ None → Takes bytes t s rs fr x n (Refuse 13) u us
+      pub take_panics : {us : List ℕ} → r ≡ None → Takes bytes t s rs fr x n (Err (record { refusal = Panics; place = place.Statement fr.function fr.statement })) u us
       take_panics h =
           let e : panic_context ≡ taking = rw h at is in
           record { by = λ st. taken_13 (frame_of s rs fr) st ∙ ap (λ (y : RemovedContext). taken_out (frame_of s rs fr) y st) e }
@@ -90,7 +92,7 @@ module _ {bytes t types s rs : List ℕ} {fr : declared.Frame} {x : Target} {n :
         left_is : left_context (context_of u y) ≡ taking
         left_is = rw h at is
 
-        pub take_long : {o : Bool} {us : List ℕ} → o ≡ over_context (context_of u y) → o ≡ true → Takes bytes t s rs fr x n (Refuse 15) u us
+        pub take_long : {o : Bool} {us : List ℕ} → o ≡ over_context (context_of u y) → o ≡ true → Takes bytes t s rs fr x n (Err (record { refusal = PartLimit; place = place.Statement fr.function fr.statement })) u us
         take_long i z =
             record { by = λ st. taken_15 (frame_of s rs fr) st (context_of u y) (sym i ∙ z) ∙ ap (λ (w : RemovedContext). taken_out (frame_of s rs fr) w st) left_is }
 
@@ -129,7 +131,7 @@ module _ {bytes t types s rs : List ℕ} {fr : declared.Frame} {x : Target} {n :
           pub take_inside : ask < length vs
           take_inside = hold_inside (open_after q.sum q.ready) holdable
 
-          pub take_done : {o : Bool} → o ≡ over_context (context_of u y) → o ≡ false → Takes bytes t s rs fr x n Part u (set vs ask n)
+          pub take_done : {o : Bool} → o ≡ over_context (context_of u y) → o ≡ false → Takes bytes t s rs fr x n (Ok tt) u (set vs ask n)
           take_done i z = record {
             by = record {
               left = λ sum ready.

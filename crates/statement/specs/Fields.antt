@@ -1,5 +1,5 @@
 -- The fields that the arms of stores ask, by kind, as numbers: an expression that a kind does not have is absent.
-use Rattle.std.specs.Prelude.{◌≡◌, cond, List, ℕ, ◌<◌, eqb, length, get_or}
+use Rattle.std.specs.Prelude.{◌≡◌, cond, List, ℕ, ◌<◌, eqb, length, get_or, Result}
 use Rattle.field.specs.Limits.{absent}
 use Rattle.part.specs.PartReq.{all, exist}
 use Rattle.part.specs.Store.{part}
@@ -13,8 +13,9 @@ use Rattle.memory.specs.Layout as layout
 use Rattle.memory.specs.Memory.{read}
 use Rattle.state.specs.State.{Rest, state_of, totals_sum}
 use Rattle.state.specs.Ready.{Ready}
-use Rattle.state.specs.declared.answer.Walked.{Walked}
 use Rattle.state.specs.declared.frame.Frame.{Frame}
+use Rattle.state.specs.declared.answer.Halt.{Halt}
+use Rattle.state.specs.declared.answer.Tally.{Tally}
 use Rattle.statement.specs.Asks.{Goes, maybe_ask}
 use Rattle.statement.specs.declared.stores.Fields as declared
 
@@ -51,7 +52,7 @@ pub record Fielding (bytes t s rs : List ℕ) (fr : Frame) (x : Fields) (sum : �
   pub below : FieldsBelow (length (function_at (module_of bytes t) fr.function.0).expressions) x
 
 -- pointer, coordinate, array index and value were asked, in this order
-pub record Fielded (bytes t s rs : List ℕ) (fr : Frame) (x : Fields) (visits : ℕ) (r : Walked) (u us : List ℕ) : Type 0 where
+pub record Fielded (bytes t s rs : List ℕ) (fr : Frame) (x : Fields) (visits : ℕ) (r : Result Tally Halt) (u us : List ℕ) : Type 0 where
   pub by : (rest : Rest) → total_pieces rest.functions ≡ totals_sum (read s rs)
       → Goes bytes t s rs fr rest
       (add_expression (module_of bytes t) fr.function.0 fr.held x.pointer exist (state_of t fr.function.0 fr.at (read s rs) rest visits)

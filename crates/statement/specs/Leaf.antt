@@ -1,5 +1,5 @@
 -- The statements that hold no block and call no function: what is said of one, and what its arm leaves.
-use Rattle.std.specs.Prelude.{◌≡◌, Bool, List, ℕ}
+use Rattle.std.specs.Prelude.{◌≡◌, Bool, List, ℕ, Result}
 use Rattle.module.specs.Module.{Statement, Emit, Block, If, Switch, Loop, Break, Continue, Return, Kill, ControlBarrier, MemoryBarrier, ImageAtomic, Store, AtomicStatement, Call, ImageStore, RayQuery, WorkGroupUniformLoad, SubgroupBallot, SubgroupGather, SubgroupCollectiveOperation}
 use Rattle.module.specs.Tables.{module_of}
 use Rattle.access.specs.Access.{statement_row}
@@ -10,8 +10,9 @@ use Rattle.walk.specs.Statement.{BlockWalk, FunctionWalk, add_statement}
 use Rattle.memory.specs.Memory.{read}
 use Rattle.state.specs.State.{Rest, state_of, totals_sum}
 use Rattle.state.specs.Frame.{frame_of, Begun, ArmEnds}
-use Rattle.state.specs.declared.answer.Answered.{Answered}
 use Rattle.state.specs.declared.frame.Frame.{Frame}
+use Rattle.state.specs.declared.answer.Halt.{Halt}
+use Rattle.state.specs.declared.answer.Answer.{Answer}
 
 -- What is said of a statement whose arm answers b. A refusal says nothing of one, nor is anything said here of those that are no leaves.
 unfoldable pub leaf_req : Statement → Bool → StatementReq
@@ -43,7 +44,7 @@ pub record Arm (bytes t s rs : List ℕ) (fr : Frame) (row : Kinded) (sum : ℕ)
   pub is : row ≡ statement_row bytes t fr.function.0 fr.statement
 
 -- From the memory s rs, the answer of the arm of x and the memory that is left are the definition's, whatever walks blocks and calls.
-pub record Leaves (bytes t s rs : List ℕ) (fr : Frame) (x : Statement) (visits : ℕ) (r : Answered) (u us : List ℕ) : Type 0 where
+pub record Leaves (bytes t s rs : List ℕ) (fr : Frame) (x : Statement) (visits : ℕ) (r : Result Answer Halt) (u us : List ℕ) : Type 0 where
   pub by : (call : FunctionWalk) (block : BlockWalk) (rest : Rest) → total_pieces rest.functions ≡ totals_sum (read s rs)
       → ArmEnds bytes t s rs fr rest
       (add_statement (module_of bytes t) call block (frame_of s rs fr) x (state_of t fr.function.0 fr.at (read s rs) rest visits))

@@ -1,6 +1,7 @@
 -- A store into its target, up to what it asks: the context without the target, and what is needed of that in the slot that is asked with.
-use Rattle.std.specs.Prelude.{◌≡◌, true, false, List, ℕ, ◌+◌, ◌*◌, ◌<◌, ◌≤◌, get_or}
+use Rattle.std.specs.Prelude.{◌≡◌, Bool, true, false, List, ℕ, ◌+◌, ◌*◌, ◌<◌, ◌≤◌, get_or, Result, Ok, Err}
 use Rattle.field.specs.Limits.{max_depth, max_pieces}
+use Rattle.field.specs.Refusal.{number}
 use Rattle.part.specs.PartReq.{PartReq, exist, entries, over}
 use Rattle.part.specs.Store.{top, part, Room}
 use Rattle.module.specs.Module.{ExpressionHandle}
@@ -10,17 +11,16 @@ use Rattle.context.specs.RequiredContext.{pieces, remove_var}
 use Rattle.context.specs.Contexts.{variable_of}
 use Rattle.walk.specs.State.{State, went, halt, Walk, ◌>>◌}
 use Rattle.walk.specs.Resolve.{function_at}
-use Rattle.walk.specs.Statement.{here, ask, taken_out, store}
+use Rattle.walk.specs.Statement.{ask, taken_out, store}
 use Rattle.memory.specs.Layout as layout
 use Rattle.memory.specs.Memory.{read, context_at}
-use Rattle.state.specs.State.{Rest, state_of, totals_sum}
+use Rattle.state.specs.State.{Rest, state_of, totals_sum, place_of}
 use Rattle.state.specs.Ready.{Ready}
 use Rattle.state.specs.Frame.{frame_of, Apart}
+use Rattle.state.specs.declared.answer.Halt.{Halt}
 use Rattle.state.specs.declared.frame.Frame.{Frame}
 use Rattle.target.specs.Target.{HasTarget}
 use Rattle.target.specs.declared.resolve.Target.{Target}
-use Rattle.statement.specs.declared.store.Need.{Need}
-use Rattle.statement.specs.declared.store.Need.TheVariants.{Refuse, Nothing, Part}
 
 -- the target x, of which the piece n is needed, can be taken out of the context
 pub record Taking (bytes t types s rs : List ℕ) (fr : Frame) (x : Target) (n : ℕ) : Type 0 where
@@ -51,34 +51,33 @@ pub record Taken (bytes t s rs : List ℕ) (fr : Frame) (x : Target) (n : ℕ) (
       (remove_var (module_of bytes t) (function_at (module_of bytes t) fr.function.0) (context_at (read s rs) fr.at) (variable_of x.var) (part s x.part))
       (state_of t fr.function.0 fr.at (read s rs) rest v)
 
-abbrev pub TakeIs : (bytes t s rs : List ℕ) → Frame → Target → ℕ → Need → (u us : List ℕ) → Type 0
-TakeIs bytes t s rs fr x n (Refuse k) u us =
+abbrev pub TakeIs : (bytes t s rs : List ℕ) → Frame → Target → ℕ → Result (Unit {0}) Halt → (u us : List ℕ) → Type 0
+TakeIs bytes t s rs fr x n (Err h) u us =
     (st : State)
-    → halt k (here (frame_of s rs fr))
+    → halt (number h.refusal) (place_of h.place)
     ≡ taken_out (frame_of s rs fr)
     (remove_var (module_of bytes t) (function_at (module_of bytes t) fr.function.0) (context_at (read s rs) fr.at) (variable_of x.var) (part s x.part)) st
-TakeIs bytes t s rs fr x n Nothing u us = ⊥
-TakeIs bytes t s rs fr x n Part u us = Taken bytes t s rs fr x n u us
+TakeIs bytes t s rs fr x n (Ok done) u us = Taken bytes t s rs fr x n u us
 
-pub record Takes (bytes t s rs : List ℕ) (fr : Frame) (x : Target) (n : ℕ) (r : Need) (u us : List ℕ) : Type 0 where
+pub record Takes (bytes t s rs : List ℕ) (fr : Frame) (x : Target) (n : ℕ) (r : Result (Unit {0}) Halt) (u us : List ℕ) : Type 0 where
   pub by : TakeIs bytes t s rs fr x n r u us
 
 -- the store into what e names, from s rs on: it is refused, nothing is needed, or what it asks is left to do
-abbrev pub StoreIs : (bytes t s rs : List ℕ) → Frame → ExpressionHandle → Need → (u us : List ℕ) → Type 0
-StoreIs bytes t s rs fr e (Refuse k) u us =
+abbrev pub StoreIs : (bytes t s rs : List ℕ) → Frame → ExpressionHandle → Result Bool Halt → (u us : List ℕ) → Type 0
+StoreIs bytes t s rs fr e (Err h) u us =
     (accessors : Walk (Unit {0})) (value : ExpressionHandle) (rest : Rest) (v : ℕ)
-    → halt k (here (frame_of s rs fr)) ≡ store (module_of bytes t) (frame_of s rs fr) e accessors value (state_of t fr.function.0 fr.at (read s rs) rest v)
-StoreIs bytes t s rs fr e Nothing u us =
+    → halt (number h.refusal) (place_of h.place) ≡ store (module_of bytes t) (frame_of s rs fr) e accessors value (state_of t fr.function.0 fr.at (read s rs) rest v)
+StoreIs bytes t s rs fr e (Ok false) u us =
     ((sum : ℕ) → Ready bytes t s rs fr.function.0 fr.at fr.held sum → Ready bytes t u us fr.function.0 fr.at fr.held sum × Apart t fr.function.0 fr.at s rs u us)
     × ((accessors : Walk (Unit {0})) (value : ExpressionHandle) (rest : Rest) (v : ℕ)
     → went (state_of t fr.function.0 fr.at (read u us) rest v) false
     ≡ store (module_of bytes t) (frame_of s rs fr) e accessors value (state_of t fr.function.0 fr.at (read s rs) rest v))
-StoreIs bytes t s rs fr e Part u us =
+StoreIs bytes t s rs fr e (Ok true) u us =
     ((sum : ℕ) → Ready bytes t s rs fr.function.0 fr.at fr.held sum → Left bytes t s rs fr (part u (get_or us layout.ask 0)) sum u us)
     × ((accessors : Walk (Unit {0})) (value : ExpressionHandle) (rest : Rest) (v : ℕ)
     → (ask (module_of bytes t) (frame_of s rs fr) e exist (state_of t fr.function.0 fr.at (read u us) rest v) >> accessors
     >> ask (module_of bytes t) (frame_of s rs fr) value (part u (get_or us layout.ask 0)) >> λ left. went left true)
     ≡ store (module_of bytes t) (frame_of s rs fr) e accessors value (state_of t fr.function.0 fr.at (read s rs) rest v))
 
-pub record Stores (bytes t s rs : List ℕ) (fr : Frame) (e : ExpressionHandle) (r : Need) (u us : List ℕ) : Type 0 where
+pub record Stores (bytes t s rs : List ℕ) (fr : Frame) (e : ExpressionHandle) (r : Result Bool Halt) (u us : List ℕ) : Type 0 where
   pub by : StoreIs bytes t s rs fr e r u us

@@ -1,21 +1,23 @@
 // A store's target, and what is needed of it.
 ghost use Rattle.statement.specs.Aim.{Aiming, Aims};
 
+use field::refusal::Refusal;
 use memory::stretches::load_context;
 use module::handles::ExpressionHandle;
 use part::store::over;
+use state::answer::Halt;
 use state::frame::Frame;
 use target::resolve::{Target, resolve_var};
 use target::store::store_required;
 
-// 13 at a pointer that names no variable, 15 at a path that is too long.
+// The target, and what is needed of it.
 #[derive(Clone, Copy)]
-pub enum Aim {
-    Refuse(u32),
-    At(Target, Option<u32>),
+pub struct Aim {
+    pub target: Target,
+    pub needed: Option<u32>,
 }
 
-// The target that the expression e names.
+// The target that the expression e names: 13 where that is no variable, 15 at a path that is too long.
 pub fn target_of(
     bytes: &[u8],
     t: &[u32],
@@ -23,7 +25,7 @@ pub fn target_of(
     slots: &[u32],
     fr: Frame,
     e: ExpressionHandle,
-) -> Aim
+) -> Result<Aim, Halt>
     requires { Aiming bytes.now t.now cells.old slots.now fr e.0 }
     ensures { Aims bytes.now t.now cells.old slots.now fr e.0 result cells.new }
 {
@@ -33,11 +35,14 @@ pub fn target_of(
     match found {
         Some(target) => {
             if over(cells, target.part) {
-                return Aim::Refuse(15);
+                return Err(fr.halt(Refusal::PartLimit));
             }
             let needed = store_required(cells, c, target);
-            Aim::At(target, needed)
+            Ok(Aim {
+                target: target,
+                needed: needed,
+            })
         }
-        None => Aim::Refuse(13),
+        None => Err(fr.halt(Refusal::Panic)),
     }
 }

@@ -11,7 +11,7 @@ ghost use Rattle.statement.specs.Asks.{Open, Asked, maybe_ask, answer_of};
 use expression::add::add_expression;
 use memory::want::want_of;
 use module::handles::{ExpressionHandle, NO_HANDLE};
-use state::answer::{Answered, Walked};
+use state::answer::{Answer, Answered, Walked};
 use state::frame::Frame;
 
 // The part of the slot k is asked of the expression e, where the walk so far went.
@@ -29,26 +29,22 @@ pub fn then_ask(
     requires e_in_bounds { (e.0 < length (function_at (module_of bytes.now t.now) fr.function.0).expressions) × (k ≤ returned) }
     ensures { Asked bytes.now t.now cells.old slots.old fr before (add_expression (module_of bytes.now t.now) fr.function.0 fr.held e.0) k result cells.new slots.new }
 {
-    match before {
-        Walked::Went(tally) => {
-            let f = fr.function;
-            let w = want_of(k);
-            add_expression(
-                bytes,
-                t,
-                cells,
-                slots,
-                f,
-                fr.at,
-                fr.held,
-                e,
-                w,
-                tally.visits,
-                tally.sum,
-            )
-        }
-        Walked::Halt(n, place) => Walked::Halt(n, place),
-    }
+    let tally = before?;
+    let f = fr.function;
+    let w = want_of(k);
+    add_expression(
+        bytes,
+        t,
+        cells,
+        slots,
+        f,
+        fr.at,
+        fr.held,
+        e,
+        w,
+        tally.visits,
+        tally.sum,
+    )
 }
 
 // The same of an expression that may be absent.
@@ -76,8 +72,9 @@ pub fn then_maybe(
 pub fn answer(walked: Walked, b: bool) -> Answered
     ensures { result ≡ answer_of walked b }
 {
-    match walked {
-        Walked::Went(tally) => Answered::Went(tally, b),
-        Walked::Halt(n, place) => Answered::Halt(n, place),
-    }
+    let tally = walked?;
+    Ok(Answer {
+        tally: tally,
+        required: b,
+    })
 }

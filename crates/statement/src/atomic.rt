@@ -10,13 +10,13 @@ ghost use Rattle.state.specs.State.{records_in};
 ghost use Rattle.statement.specs.Leaf.{Arm, Leaves};
 ghost use Rattle.statement.specs.Aside.{aside_field, aside_slots, some_field, Loading};
 
-use crate::aim::{Aim, target_of};
+use crate::aim::target_of;
 use crate::ask::{answer, then_maybe};
 use access::kinded::{Kinded, expression_number, expression_operand};
 use memory::layout::{ASK, EXPRS, RESULT};
 use memory::want::kid;
 use module::handles::{ExpressionHandle, NO_HANDLE};
-use state::answer::{Answered, Place, Tally, Walked};
+use state::answer::{Answered, Tally};
 use state::frame::Frame;
 
 // The record of a result, which may be absent.
@@ -88,25 +88,16 @@ pub fn add_atomic(
     let pointer = expression_operand(bytes, row, 0);
     let value = expression_operand(bytes, row, 1);
     let result = expression_operand(bytes, row, 2);
-    let aimed = target_of(bytes, t, cells, slots, fr, pointer);
-    match aimed {
-        Aim::Refuse(n) => {
-            let f = fr.function;
-            let place = Place::Statement(f, fr.statement);
-            Answered::Halt(n, place)
-        }
-        Aim::At(target, needed) => {
-            let load = record_of(bytes, t, cells, slots, fr, result);
-            let first = put_aside(slots, RESULT, load, result);
-            let second = put_aside(slots, ASK, needed, value);
-            let began = Walked::Went(Tally {
-                visits: visits,
-                sum: sum,
-            });
-            let a = then_maybe(bytes, t, cells, slots, fr, began, first, RESULT);
-            let b = then_maybe(bytes, t, cells, slots, fr, a, second, ASK);
-            let required = some_field(first, second);
-            answer(b, required)
-        }
-    }
+    let aim = target_of(bytes, t, cells, slots, fr, pointer)?;
+    let load = record_of(bytes, t, cells, slots, fr, result);
+    let first = put_aside(slots, RESULT, load, result);
+    let second = put_aside(slots, ASK, aim.needed, value);
+    let began = Ok(Tally {
+        visits: visits,
+        sum: sum,
+    });
+    let a = then_maybe(bytes, t, cells, slots, fr, began, first, RESULT);
+    let b = then_maybe(bytes, t, cells, slots, fr, a, second, ASK);
+    let required = some_field(first, second);
+    answer(b, required)
 }

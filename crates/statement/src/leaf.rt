@@ -13,26 +13,13 @@ use crate::rays::add_ray;
 use crate::returns::add_return;
 use crate::stores::add_store;
 use access::kinded::Kinded;
-use state::answer::{Answered, Place, Tally};
+use access::kinds::{
+    ATOMIC, CONTROL_BARRIER, IMAGE_ATOMIC, IMAGE_STORE, KILL, MEMORY_BARRIER, RETURN, STORE,
+    SUBGROUP_COLLECTIVE_OPERATION,
+};
+use field::refusal::Refusal;
+use state::answer::{Answer, Answered, Tally};
 use state::frame::Frame;
-
-const RETURN: u16 = 7;
-
-const KILL: u16 = 8;
-
-const CONTROL_BARRIER: u16 = 9;
-
-const MEMORY_BARRIER: u16 = 10;
-
-const IMAGE_ATOMIC: u16 = 11;
-
-const STORE: u16 = 12;
-
-const ATOMIC: u16 = 13;
-
-const IMAGE_STORE: u16 = 15;
-
-const SUBGROUP_COLLECTIVE_OPERATION: u16 = 20;
 
 // The arms that ask nothing. An image's atomic is 13.
 fn add_plain(
@@ -55,18 +42,25 @@ fn add_plain(
         sum: sum,
     };
     if kind == KILL {
-        return Answered::Went(tally, true);
+        return Ok(Answer {
+            tally: tally,
+            required: true,
+        });
     }
     if kind == CONTROL_BARRIER {
-        return Answered::Went(tally, false);
+        return Ok(Answer {
+            tally: tally,
+            required: false,
+        });
     }
     if kind == MEMORY_BARRIER {
-        return Answered::Went(tally, false);
+        return Ok(Answer {
+            tally: tally,
+            required: false,
+        });
     }
     if kind == IMAGE_ATOMIC {
-        let f = fr.function;
-        let place = Place::Statement(f, fr.statement);
-        return Answered::Halt(13, place);
+        return Err(fr.halt(Refusal::Panic));
     }
     leave(slots, fr, visits, sum)
 }

@@ -6,12 +6,13 @@ ghost use Rattle.access.specs.Access.{operand_at};
 ghost use Rattle.statement.specs.Leaf.{Arm, Leaves};
 ghost use Rattle.statement.specs.Rays.{RayKind, ray_of, gather_fields, ray_fields};
 
-use crate::aim::{Aim, target_of};
+use crate::aim::target_of;
 use crate::ask::{answer, then_maybe};
 use access::kinded::{Kinded, expression_operand, operand};
+use access::kinds::{RAY_QUERY, SUBGROUP_BALLOT, SUBGROUP_GATHER};
 use memory::layout::ALL;
 use module::handles::{ExpressionHandle, NO_HANDLE};
-use state::answer::{Answered, Place, Tally, Walked};
+use state::answer::{Answer, Answered, Tally};
 use state::frame::Frame;
 
 // The target, and what is asked of where it is needed, absent where a kind has no such field.
@@ -21,12 +22,6 @@ pub struct Ray {
     pub first: ExpressionHandle,
     pub second: ExpressionHandle,
 }
-
-const RAY_QUERY: u16 = 16;
-
-const SUBGROUP_BALLOT: u16 = 18;
-
-const SUBGROUP_GATHER: u16 = 19;
 
 // Those of a gather: a mode that names an expression has it before the argument.
 fn gather_fields(bytes: &[u8], row: Kinded) -> Ray
@@ -97,23 +92,16 @@ pub fn add_ray(
         visits: visits,
         sum: sum,
     };
-    let aimed = target_of(bytes, t, cells, slots, fr, x.target);
-    match aimed {
-        Aim::Refuse(n) => {
-            let f = fr.function;
-            let place = Place::Statement(f, fr.statement);
-            Answered::Halt(n, place)
-        }
-        Aim::At(target, needed) => {
-            match needed {
-                None => Answered::Went(tally, false),
-                Some(p) => {
-                    let began = Walked::Went(tally);
-                    let a = then_maybe(bytes, t, cells, slots, fr, began, x.first, ALL);
-                    let b = then_maybe(bytes, t, cells, slots, fr, a, x.second, ALL);
-                    answer(b, true)
-                }
-            }
+    let aim = target_of(bytes, t, cells, slots, fr, x.target)?;
+    match aim.needed {
+        None => Ok(Answer {
+            tally: tally,
+            required: false,
+        }),
+        Some(p) => {
+            let a = then_maybe(bytes, t, cells, slots, fr, Ok(tally), x.first, ALL);
+            let b = then_maybe(bytes, t, cells, slots, fr, a, x.second, ALL);
+            answer(b, true)
         }
     }
 }

@@ -11,7 +11,7 @@ use memory::layout::ASK;
 use module::handles::NO_HANDLE;
 use part::limits::SPINE;
 use part::req::get;
-use state::answer::{Answered, Tally, Walked};
+use state::answer::{Answered, Tally};
 use state::frame::Frame;
 
 // A return leaves the block; where its value is asked for, that is asked in its turn.
@@ -38,7 +38,7 @@ pub fn add_return(
         return leave(slots, fr, visits, sum);
     };
     slots[ASK] = p;
-    let began = Walked::Went(Tally {
+    let began = Ok(Tally {
         visits: visits,
         sum: sum,
     });

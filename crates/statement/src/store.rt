@@ -5,21 +5,15 @@ ghost use Rattle.context.specs.Types.{types_of};
 ghost use Rattle.statement.specs.Aim.{Aiming};
 ghost use Rattle.statement.specs.Stores.{Taking, Takes, Stores};
 
-use crate::aim::{Aim, target_of};
+use crate::aim::target_of;
+use field::refusal::Refusal;
 use memory::layout::ASK;
 use memory::stretches::{load_context, save_context};
 use module::handles::ExpressionHandle;
+use state::answer::Halt;
 use state::frame::Frame;
 use target::resolve::Target;
 use target::store::take_out;
-
-// What is needed of the target: that is refused, nothing, or a part, which the slot ASK has then.
-#[derive(Clone, Copy)]
-pub enum Need {
-    Refuse(u32),
-    Nothing,
-    Part,
-}
 
 // The target is taken out of the context, and the piece p of it, which is needed, is put into the slot ASK.
 fn take(
@@ -31,7 +25,7 @@ fn take(
     fr: Frame,
     target: Target,
     p: u32,
-) -> Need
+) -> Result<(), Halt>
     requires { Taking bytes.now t.now types.now cells.old slots.old fr target p }
     ensures { Takes bytes.now t.now cells.old slots.old fr target p result cells.new slots.new }
 {
@@ -41,17 +35,17 @@ fn take(
     match taken {
         Some(d) => {
             if d.over(cells) {
-                return Need::Refuse(15);
+                return Err(fr.halt(Refusal::PartLimit));
             }
             save_context(slots, fr.at, d);
             slots[ASK] = p;
-            Need::Part
+            Ok(())
         }
-        None => Need::Refuse(13),
+        None => Err(fr.halt(Refusal::Panic)),
     }
 }
 
-// The store into what the expression e names.
+// The store into what the expression e names. Whether anything is needed of that: the slot ASK has what, then.
 pub fn store(
     bytes: &[u8],
     t: &[u32],
@@ -60,19 +54,17 @@ pub fn store(
     slots: &mut [u32],
     fr: Frame,
     e: ExpressionHandle,
-) -> Need
+) -> Result<bool, Halt>
     requires aiming { Aiming bytes.now t.now cells.old slots.old fr e.0 }
     requires types_value { types_of types.now ≡ (module_of bytes.now t.now).types }
     ensures { Stores bytes.now t.now cells.old slots.old fr e.0 result cells.new slots.new }
 {
-    let aimed = target_of(bytes, t, cells, slots, fr, e);
-    match aimed {
-        Aim::Refuse(n) => Need::Refuse(n),
-        Aim::At(target, needed) => {
-            match needed {
-                None => Need::Nothing,
-                Some(p) => take(bytes, t, types, cells, slots, fr, target, p),
-            }
+    let aim = target_of(bytes, t, cells, slots, fr, e)?;
+    match aim.needed {
+        None => Ok(false),
+        Some(p) => {
+            take(bytes, t, types, cells, slots, fr, aim.target, p)?;
+            Ok(true)
         }
     }
 }

@@ -8,11 +8,12 @@ ghost use Rattle.statement.specs.Leaf.{Arm, Leaves};
 ghost use Rattle.statement.specs.Fields.{StoreKind, fields_of, store_fields, Fielding, Fielded};
 
 use crate::ask::{answer, then_ask, then_maybe};
-use crate::store::{Need, store};
+use crate::store::store;
 use access::kinded::{Kinded, expression_operand};
+use access::kinds::IMAGE_STORE;
 use memory::layout::{ALL, ASK, EXIST};
 use module::handles::{ExpressionHandle, NO_HANDLE};
-use state::answer::{Answered, Place, Tally, Walked};
+use state::answer::{Answer, Answered, Tally, Walked};
 use state::frame::Frame;
 
 // The fields of a store: coordinate and array index are an image's, absent where it is none.
@@ -23,8 +24,6 @@ pub struct Fields {
     pub index: ExpressionHandle,
     pub value: ExpressionHandle,
 }
-
-const IMAGE_STORE: u16 = 15;
 
 fn store_fields(bytes: &[u8], row: Kinded) -> Fields
     ensures { fields_of result ≡ store_fields row.kind (operand_at bytes.now row) }
@@ -61,7 +60,7 @@ fn ask_fields(
     requires { Fielding bytes.now t.now cells.old slots.old fr (fields_of x) sum }
     ensures { Fielded bytes.now t.now cells.old slots.old fr (fields_of x) visits result cells.new slots.new }
 {
-    let began = Walked::Went(Tally {
+    let began = Ok(Tally {
         visits: visits,
         sum: sum,
     });
@@ -89,23 +88,16 @@ pub fn add_store(
     ensures { Leaves bytes.now t.now cells.old slots.old fr (statement_of row.kind (operand_at bytes.now row)) visits result cells.new slots.new }
 {
     let x = store_fields(bytes, row);
-    let need = store(bytes, t, types, cells, slots, fr, x.pointer);
-    match need {
-        Need::Refuse(n) => {
-            let f = fr.function;
-            let place = Place::Statement(f, fr.statement);
-            Answered::Halt(n, place)
-        }
-        Need::Nothing => {
-            let tally = Tally {
+    let needed = store(bytes, t, types, cells, slots, fr, x.pointer)?;
+    if !needed {
+        return Ok(Answer {
+            tally: Tally {
                 visits: visits,
                 sum: sum,
-            };
-            Answered::Went(tally, false)
-        }
-        Need::Part => {
-            let r = ask_fields(bytes, t, cells, slots, fr, x, visits, sum);
-            answer(r, true)
-        }
+            },
+            required: false,
+        });
     }
+    let r = ask_fields(bytes, t, cells, slots, fr, x, visits, sum);
+    answer(r, true)
 }

@@ -14,7 +14,8 @@ join_up-requires c =
     record { memory = q9.0; stack_slot_le_k = q9.1.0; room = q9.1.1 }
 
 pub returns-then-join_up : goal.returns-then-join_up
-returns-then-join_up c = ends_over c.requires.if_asked c.if-not-required.false c.join_up.ensures c.if-join_up.true
+returns-then-join_up c =
+    rw c.halt.ensures (ends_over c.requires.if_asked c.if-not-required.false c.join_up.ensures c.if-join_up.true)
 
 pub add_expression-r-requires : goal.add_expression-r-requires
 add_expression-r-requires c =

@@ -5,14 +5,14 @@ use Rattle.arms.proofs.visit.required.Goals as goal
 pub returns-then-kind-eq-KILL : goal.returns-then-kind-eq-KILL
 returns-then-kind-eq-KILL c = λ o. kill_required _ o _ c.if-kind-eq-KILL.true
 
-pub returns-then-kind-eq0 : goal.returns-then-kind-eq0
-returns-then-kind-eq0 c = λ o. emit_required _ o _ c.if-kind-eq0.true
+pub returns-then-kind-eq-EMIT : goal.returns-then-kind-eq-EMIT
+returns-then-kind-eq-EMIT c = λ o. emit_required _ o _ c.if-kind-eq-EMIT.true
 
 pub returns-then-kind-eq-CALL : goal.returns-then-kind-eq-CALL
 returns-then-kind-eq-CALL c = λ o. call-required _ o _ c.if-kind-eq-CALL.true
 
 pub returns-then-kind-lt-KILL : goal.returns-then-kind-lt-KILL
-returns-then-kind-lt-KILL c = λ o. early_required _ o _ c.if-kind-eq0.false c.if-kind-lt-KILL.true
+returns-then-kind-lt-KILL c = λ o. early_required _ o _ c.if-kind-eq-EMIT.false c.if-kind-lt-KILL.true
 
 pub returns-then-kind-lt-STORE : goal.returns-then-kind-lt-STORE
 returns-then-kind-lt-STORE c =

@@ -10,10 +10,10 @@ pub returns-in-Some : goal.returns-in-Some
 returns-in-Some c =
     total_ray _ _ c.if-totals-i-eq0.false c.first_ray-ray.result c.first_ray-ray.ensures refl c.in-Some.is
 
-pub returns-in-Over : goal.returns-in-Over
-returns-in-Over c =
-    total_over _ _ c.if-totals-i-eq0.false c.first_ray-ray.result c.first_ray-ray.ensures c.later_total-joint.result c.later_total-joint.ensures c.in_default.is c.in-Over.is
+pub returns-in-None : goal.returns-in-None
+returns-in-None c =
+    total_over _ _ c.if-totals-i-eq0.false c.first_ray-ray.result c.first_ray-ray.ensures c.later_total.result c.later_total.ensures c.in_default.is c.in-None.is
 
-pub returns-in-Sum : goal.returns-in-Sum
-returns-in-Sum c =
-    total_later _ _ c.if-totals-i-eq0.false c.first_ray-ray.result c.first_ray-ray.ensures c.later_total-joint.result c.later_total-joint.ensures c.in_default.is c.in-Sum.is
+pub returns-in-Some : goal.returns-in-Some
+returns-in-Some c =
+    total_later _ _ c.if-totals-i-eq0.false c.first_ray-ray.result c.first_ray-ray.ensures c.later_total.result c.later_total.ensures c.in_default.is c.in-Some.is

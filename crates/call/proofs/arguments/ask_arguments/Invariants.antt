@@ -1,12 +1,9 @@
 -- `call::arguments::ask_arguments` meets its contract. Assumes nothing.
 use mathlib.Core.Path.{◌≡◌}
-use Prim.Native.Nat.{◌≤◌, ◌-◌}
 use lib.ListN.{length}
+use Rattle.std.specs.Prelude.{Ok}
 use Rattle.call.specs.Calls.{AskedArguments}
 use Rattle.call.proofs.arguments.ask_arguments.Given as goal
 
 abbrev pub invariant-loop-i : goal.invariant-loop-i
-invariant-loop-i l = (l.i ≤ l.n) × (AskedArguments l.bytes l.t l.initial.cells l.initial.slots l.fr l.row l.visits l.i l.walked l.cells l.slots × ((length l.cells ≡ length l.initial.cells) × (length l.slots ≡ length l.initial.slots)))
-
-abbrev pub decreases-loop-i : goal.decreases-loop-i
-decreases-loop-i l = l.n - l.i
+invariant-loop-i l = AskedArguments l.bytes l.t l.initial.cells l.initial.slots l.fr l.row l.visits l.i (Ok l.tally) l.cells l.slots × ((length l.cells ≡ length l.initial.cells) × (length l.slots ≡ length l.initial.slots))

@@ -2,6 +2,7 @@
 -- nothing.
 use mathlib.Core.Path.{refl, ◌∙◌}
 use Prim.Native.Nat.{◌-◌}
+use Rattle.state.proofs.Ends.{passed}
 use Rattle.expression.proofs.Walking.{visit_counting, walk_17, walk_16, began, left_all, left_ask, left_closing, left_visiting, left_end, left_refuse, argument_low, local_low, global_low, left_argument, left_local, left_global, operand_low, operand_asks, operand_inside, operand_few, left_halt, left_next}
 use native.Mathlib.Omega.{arith}
 use Rattle.expression.proofs.add.+add_expression.Goals as goal
@@ -39,29 +40,24 @@ pub add_expression-requires : goal.add_expression-requires
 add_expression-requires t c =
     let h = operand_low (began c.requires.ready c.requires.e_in_bounds c.requires.wants c.if-visits-ge-MAX_VISITS.false c.allowed.ensures c.if-not-allowed.false) c.loop-h.invariant c.ask-a.ensures c.in-Operand.is in (omega (arith, c.decreases, h), operand_asks (began c.requires.ready c.requires.e_in_bounds c.requires.wants c.if-visits-ge-MAX_VISITS.false c.allowed.ensures c.if-not-allowed.false) c.loop-h.invariant c.ask-a.ensures c.in-Operand.is)
 
-pub shape_of-cells-in-Halt : goal.shape_of-cells-in-Halt
-shape_of-cells-in-Halt t c = c.add_expression.auto.cells ∙ c.loop-h.invariant.cells ∙ c.allowed.auto.cells
+pub returns-in_err-tally-in-Operand : goal.returns-in_err-tally-in-Operand
+returns-in_err-tally-in-Operand t c =
+    rw (passed c.from_residual.ensures.1)
+    (left_halt (began c.requires.ready c.requires.e_in_bounds c.requires.wants c.if-visits-ge-MAX_VISITS.false c.allowed.ensures c.if-not-allowed.false) c.loop-h.invariant c.ask-a.ensures c.in-Operand.is c.add_expression.ensures c.in_err-tally-in-Operand.was)
 
-pub shape_of-slots-in-Halt : goal.shape_of-slots-in-Halt
-shape_of-slots-in-Halt t c = c.add_expression.auto.slots ∙ c.loop-h.invariant.slots ∙ c.allowed.auto.slots
-
-pub returns-in-Halt : goal.returns-in-Halt
-returns-in-Halt t c =
-    left_halt (began c.requires.ready c.requires.e_in_bounds c.requires.wants c.if-visits-ge-MAX_VISITS.false c.allowed.ensures c.if-not-allowed.false) c.loop-h.invariant c.ask-a.ensures c.in-Operand.is c.add_expression.ensures c.in-Halt.is
-
-pub argument-requires : goal.argument-requires
-argument-requires t c =
-    record { visiting = left_visiting (began c.requires.ready c.requires.e_in_bounds c.requires.wants c.if-visits-ge-MAX_VISITS.false c.allowed.ensures c.if-not-allowed.false) c.loop-h.invariant; i_lt_spine = argument_low (began c.requires.ready c.requires.e_in_bounds c.requires.wants c.if-visits-ge-MAX_VISITS.false c.allowed.ensures c.if-not-allowed.false) c.loop-h.invariant c.ask-a.ensures c.in-Argument.is }
+pub entry-requires : goal.entry-requires
+entry-requires t c =
+    record { visiting = left_visiting (began c.requires.ready c.requires.e_in_bounds c.requires.wants c.if-visits-ge-MAX_VISITS.false c.allowed.ensures c.if-not-allowed.false) c.loop-h.invariant; in_bounds = (omega arith, argument_low (began c.requires.ready c.requires.e_in_bounds c.requires.wants c.if-visits-ge-MAX_VISITS.false c.allowed.ensures c.if-not-allowed.false) c.loop-h.invariant c.ask-a.ensures c.in-Argument.is) }
 
 pub shape_of-cells-in-Argument : goal.shape_of-cells-in-Argument
-shape_of-cells-in-Argument t c = c.argument.auto.cells ∙ c.loop-h.invariant.cells ∙ c.allowed.auto.cells
+shape_of-cells-in-Argument t c = c.entry.auto.cells ∙ c.loop-h.invariant.cells ∙ c.allowed.auto.cells
 
 pub shape_of-slots-in-Argument : goal.shape_of-slots-in-Argument
-shape_of-slots-in-Argument t c = c.argument.auto.slots ∙ c.loop-h.invariant.slots ∙ c.allowed.auto.slots
+shape_of-slots-in-Argument t c = c.entry.auto.slots ∙ c.loop-h.invariant.slots ∙ c.allowed.auto.slots
 
 pub returns-in-Argument : goal.returns-in-Argument
 returns-in-Argument t c =
-    left_argument (began c.requires.ready c.requires.e_in_bounds c.requires.wants c.if-visits-ge-MAX_VISITS.false c.allowed.ensures c.if-not-allowed.false) c.loop-h.invariant c.ask-a.ensures c.in-Argument.is c.argument.ensures
+    left_argument (began c.requires.ready c.requires.e_in_bounds c.requires.wants c.if-visits-ge-MAX_VISITS.false c.allowed.ensures c.if-not-allowed.false) c.loop-h.invariant c.ask-a.ensures c.in-Argument.is (λ bytes r. (c.entry.ensures bytes r).argument refl)
 
 pub global-requires : goal.global-requires
 global-requires t c =
@@ -77,19 +73,19 @@ pub returns-in-Global : goal.returns-in-Global
 returns-in-Global t c =
     left_global (began c.requires.ready c.requires.e_in_bounds c.requires.wants c.if-visits-ge-MAX_VISITS.false c.allowed.ensures c.if-not-allowed.false) c.loop-h.invariant c.ask-a.ensures c.in-Global.is c.global.ensures
 
-pub local-requires : goal.local-requires
-local-requires t c =
-    record { visiting = left_visiting (began c.requires.ready c.requires.e_in_bounds c.requires.wants c.if-visits-ge-MAX_VISITS.false c.allowed.ensures c.if-not-allowed.false) c.loop-h.invariant; l_lt_spine = local_low (began c.requires.ready c.requires.e_in_bounds c.requires.wants c.if-visits-ge-MAX_VISITS.false c.allowed.ensures c.if-not-allowed.false) c.loop-h.invariant c.ask-a.ensures c.in-Local.is }
+pub entry-requires-in-Local : goal.entry-requires-in-Local
+entry-requires-in-Local t c =
+    record { visiting = left_visiting (began c.requires.ready c.requires.e_in_bounds c.requires.wants c.if-visits-ge-MAX_VISITS.false c.allowed.ensures c.if-not-allowed.false) c.loop-h.invariant; in_bounds = (omega arith, local_low (began c.requires.ready c.requires.e_in_bounds c.requires.wants c.if-visits-ge-MAX_VISITS.false c.allowed.ensures c.if-not-allowed.false) c.loop-h.invariant c.ask-a.ensures c.in-Local.is) }
 
 pub shape_of-cells-in-Local : goal.shape_of-cells-in-Local
-shape_of-cells-in-Local t c = c.local.auto.cells ∙ c.loop-h.invariant.cells ∙ c.allowed.auto.cells
+shape_of-cells-in-Local t c = c.entry-in-Local.auto.cells ∙ c.loop-h.invariant.cells ∙ c.allowed.auto.cells
 
 pub shape_of-slots-in-Local : goal.shape_of-slots-in-Local
-shape_of-slots-in-Local t c = c.local.auto.slots ∙ c.loop-h.invariant.slots ∙ c.allowed.auto.slots
+shape_of-slots-in-Local t c = c.entry-in-Local.auto.slots ∙ c.loop-h.invariant.slots ∙ c.allowed.auto.slots
 
 pub returns-in-Local : goal.returns-in-Local
 returns-in-Local t c =
-    left_local (began c.requires.ready c.requires.e_in_bounds c.requires.wants c.if-visits-ge-MAX_VISITS.false c.allowed.ensures c.if-not-allowed.false) c.loop-h.invariant c.ask-a.ensures c.in-Local.is c.local.ensures
+    left_local (began c.requires.ready c.requires.e_in_bounds c.requires.wants c.if-visits-ge-MAX_VISITS.false c.allowed.ensures c.if-not-allowed.false) c.loop-h.invariant c.ask-a.ensures c.in-Local.is (λ bytes r. (c.entry-in-Local.ensures bytes r).local refl)
 
 pub shape_of-cells-in-Refuse : goal.shape_of-cells-in-Refuse
 shape_of-cells-in-Refuse t c = c.loop-h.invariant.cells ∙ c.allowed.auto.cells
@@ -125,4 +121,4 @@ loop-h-smaller t c =
 
 pub loop-h-preserved : goal.loop-h-preserved
 loop-h-preserved t c =
-    left_next (began c.requires.ready c.requires.e_in_bounds c.requires.wants c.if-visits-ge-MAX_VISITS.false c.allowed.ensures c.if-not-allowed.false) c.loop-h.invariant c.ask-a.ensures c.in-Operand.is c.add_expression.ensures c.in-Went.is c.add_expression.auto.cells
+    left_next (began c.requires.ready c.requires.e_in_bounds c.requires.wants c.if-visits-ge-MAX_VISITS.false c.allowed.ensures c.if-not-allowed.false) c.loop-h.invariant c.ask-a.ensures c.in-Operand.is c.add_expression.ensures c.in_ok-tally-in-Operand.was c.add_expression.auto.cells

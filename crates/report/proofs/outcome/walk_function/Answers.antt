@@ -8,19 +8,19 @@ add_function-requires c = record { function_entered = walk_enters c.requires; ba
 
 pub own_pieces-own-requires : goal.own_pieces-own-requires
 own_pieces-own-requires c =
-    let q9 = walk_own c.requires c.add_function.ensures c.in-Went.is in
+    let q9 = walk_own c.requires c.add_function.ensures c.in-Ok.is in
     record { memory = q9.0; f_bound = q9.1 }
 
-pub overflow_sub-tally : goal.overflow_sub-tally
-overflow_sub-tally c = walk_sub c.requires c.add_function.ensures c.in-Went.is c.own_pieces-own.ensures
+pub overflow_sub-a : goal.overflow_sub-a
+overflow_sub-a c = walk_sub c.requires c.add_function.ensures c.in-Ok.is c.own_pieces-own.ensures
 
-pub returns-then-tally-own-gt-MAX_PIECES : goal.returns-then-tally-own-gt-MAX_PIECES
-returns-then-tally-own-gt-MAX_PIECES c =
-    walk_over c.requires c.add_function.ensures c.in-Went.is c.own_pieces-own.ensures c.if-tally-own-gt-MAX_PIECES.true
+pub returns-then-a-own-gt-MAX_PIECES : goal.returns-then-a-own-gt-MAX_PIECES
+returns-then-a-own-gt-MAX_PIECES c =
+    walk_over c.requires c.add_function.ensures c.in-Ok.is c.own_pieces-own.ensures c.if-a-own-gt-MAX_PIECES.true
 
-pub returns-in-Halt : goal.returns-in-Halt
-returns-in-Halt c = walk_halted c.requires c.add_function.ensures c.in-Halt.is
+pub returns-in-Err : goal.returns-in-Err
+returns-in-Err c = rw c.from.ensures (walk_halted c.requires c.add_function.ensures c.in-Err.is)
 
-pub returns-else-tally-own-gt-MAX_PIECES : goal.returns-else-tally-own-gt-MAX_PIECES
-returns-else-tally-own-gt-MAX_PIECES c =
-    walk_went c.requires c.add_function.ensures c.in-Went.is c.own_pieces-own.ensures c.if-tally-own-gt-MAX_PIECES.false
+pub returns-else-a-own-gt-MAX_PIECES : goal.returns-else-a-own-gt-MAX_PIECES
+returns-else-a-own-gt-MAX_PIECES c =
+    walk_went c.requires c.add_function.ensures c.in-Ok.is c.own_pieces-own.ensures c.if-a-own-gt-MAX_PIECES.false

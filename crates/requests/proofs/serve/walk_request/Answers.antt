@@ -7,10 +7,10 @@ pub add_function-requires : goal.add_function-requires
 add_function-requires c = record { function_entered = walk_enters c.requires; base_bound = search rules }
 
 pub finish_request-requires : goal.finish_request-requires
-finish_request-requires c = walk_finishes c.requires c.add_function.ensures c.in-Went.is
+finish_request-requires c = walk_finishes c.requires c.add_function.ensures c.in-Ok.is
 
-pub returns-in-Halt : goal.returns-in-Halt
-returns-in-Halt c = walk_halted c.requires c.add_function.ensures c.in-Halt.is
+pub returns-in-Err : goal.returns-in-Err
+returns-in-Err c = rw c.from.ensures (walk_halted c.requires c.add_function.ensures c.in-Err.is)
 
-pub returns-in-Went : goal.returns-in-Went
-returns-in-Went c = walk_finished c.requires c.add_function.ensures c.in-Went.is c.finish_request.ensures
+pub returns-in-Ok : goal.returns-in-Ok
+returns-in-Ok c = walk_finished c.requires c.add_function.ensures c.in-Ok.is c.finish_request.ensures

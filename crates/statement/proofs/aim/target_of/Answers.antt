@@ -17,7 +17,7 @@ over-requires c =
 
 pub returns-then-over : goal.returns-then-over
 returns-then-over c =
-    aim_long c.requires c.resolve_var-found.ensures c.in-Some.is c.over.ensures c.if-over.true
+    rw c.halt.ensures (aim_long c.requires c.resolve_var-found.ensures c.in-Some.is c.over.ensures c.if-over.true)
 
 pub store_required-needed-requires : goal.store_required-needed-requires
 store_required-needed-requires c =
@@ -29,4 +29,5 @@ returns-else-over c =
     aim_at c.requires c.resolve_var-found.ensures c.in-Some.is c.load_context-c.ensures c.over.ensures c.if-over.false c.store_required-needed.ensures
 
 pub returns-in-None : goal.returns-in-None
-returns-in-None c = aim_unresolved c.requires c.resolve_var-found.ensures c.in-None.is
+returns-in-None c =
+    rw c.halt-in-None.ensures (aim_unresolved c.requires c.resolve_var-found.ensures c.in-None.is)

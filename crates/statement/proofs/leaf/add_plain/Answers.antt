@@ -13,7 +13,7 @@ pub returns-then-kind-eq-MEMORY_BARRIER : goal.returns-then-kind-eq-MEMORY_BARRI
 returns-then-kind-eq-MEMORY_BARRIER c = plain_memory c.requires.arm _ c.if-kind-eq-MEMORY_BARRIER.true
 
 pub returns-then-kind-eq-IMAGE_ATOMIC : goal.returns-then-kind-eq-IMAGE_ATOMIC
-returns-then-kind-eq-IMAGE_ATOMIC c = plain_image c.requires.arm _ c.if-kind-eq-IMAGE_ATOMIC.true
+returns-then-kind-eq-IMAGE_ATOMIC c = rw c.halt.ensures (plain_image c.requires.arm _ c.if-kind-eq-IMAGE_ATOMIC.true)
 
 pub leave-requires : goal.leave-requires
 leave-requires c = leave_slots c.requires.arm.begun 0

@@ -1,27 +1,29 @@
 -- `statement::rays::add_ray` meets its contract. Assumes nothing.
+use Rattle.state.proofs.Ends.{passed}
 use Rattle.statement.proofs.RayArms.{ray_aims, ray_refuses, ray_unneeded, ray_begins, ray_below, ray_asks}
 use native.Mathlib.Omega.{arith}
 use Rattle.statement.proofs.rays.add_ray.Goals as goal
 
-pub target_of-aimed-requires : goal.target_of-aimed-requires
-target_of-aimed-requires c = ray_aims c.requires.arm c.requires.ray_kind 0 c.ray_fields-x.ensures
+pub target_of-requires : goal.target_of-requires
+target_of-requires c = ray_aims c.requires.arm c.requires.ray_kind 0 c.ray_fields-x.ensures
 
 pub then_maybe-a-requires : goal.then_maybe-a-requires
 then_maybe-a-requires c =
-    record { fact = ray_begins c.requires.arm c.requires.ray_kind _ c.ray_fields-x.ensures c.target_of-aimed.ensures c.in-At.is; maybe_below = ((ray_below c.requires.arm c.requires.ray_kind 0 c.ray_fields-x.ensures c.target_of-aimed.ensures c.in-At.is).first, omega arith) }
+    record { fact = ray_begins c.requires.arm c.requires.ray_kind _ c.ray_fields-x.ensures c.target_of.ensures c.in_ok-aim.was; maybe_below = ((ray_below c.requires.arm c.requires.ray_kind 0 c.ray_fields-x.ensures c.target_of.ensures c.in_ok-aim.was).first, omega arith) }
 
 pub then_maybe-b-requires : goal.then_maybe-b-requires
 then_maybe-b-requires c =
-    record { fact = c.then_maybe-a.ensures.opens; maybe_below = ((ray_below c.requires.arm c.requires.ray_kind 0 c.ray_fields-x.ensures c.target_of-aimed.ensures c.in-At.is).second, omega arith) }
+    record { fact = c.then_maybe-a.ensures.opens; maybe_below = ((ray_below c.requires.arm c.requires.ray_kind 0 c.ray_fields-x.ensures c.target_of.ensures c.in_ok-aim.was).second, omega arith) }
 
-pub returns-in-Refuse : goal.returns-in-Refuse
-returns-in-Refuse c =
-    ray_refuses c.requires.arm c.requires.ray_kind _ c.ray_fields-x.ensures c.target_of-aimed.ensures c.in-Refuse.is
+pub returns-in_err-aim : goal.returns-in_err-aim
+returns-in_err-aim c =
+    rw (passed c.from_residual.ensures.1)
+    (ray_refuses c.requires.arm c.requires.ray_kind _ c.ray_fields-x.ensures c.target_of.ensures c.in_err-aim.was)
 
 pub returns-in-None : goal.returns-in-None
 returns-in-None c =
-    ray_unneeded c.requires.arm c.requires.ray_kind _ c.ray_fields-x.ensures c.target_of-aimed.ensures c.in-At.is c.in-None.is
+    ray_unneeded c.requires.arm c.requires.ray_kind _ c.ray_fields-x.ensures c.target_of.ensures c.in_ok-aim.was c.in-None.is
 
 pub returns-in-Some : goal.returns-in-Some
 returns-in-Some c =
-    ray_asks c.requires.arm c.requires.ray_kind _ c.ray_fields-x.ensures c.target_of-aimed.ensures c.in-At.is c.in-Some.is c.then_maybe-a.ensures c.then_maybe-b.ensures c.answer.ensures
+    ray_asks c.requires.arm c.requires.ray_kind _ c.ray_fields-x.ensures c.target_of.ensures c.in_ok-aim.was c.in-Some.is c.then_maybe-a.ensures c.then_maybe-b.ensures c.answer.ensures

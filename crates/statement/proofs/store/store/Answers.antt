@@ -1,17 +1,24 @@
 -- `statement::store::store` meets its contract. Assumes nothing.
-use Rattle.statement.proofs.Storing.{store_refused, store_none, store_takes, store_goes}
+use Rattle.state.proofs.Ends.{passed}
+use Rattle.statement.proofs.Storing.{store_refused, store_none, store_takes, store_stops, store_goes}
 use Rattle.statement.proofs.store.store.Goals as goal
 
 pub take-requires : goal.take-requires
 take-requires c =
-    store_takes c.requires.aiming c.target_of-aimed.ensures c.in-At.is c.in-Some.is c.requires.types_value
+    store_takes c.requires.aiming c.target_of.ensures c.in_ok-aim.was c.in-Some.is c.requires.types_value
 
-pub returns-in-Refuse : goal.returns-in-Refuse
-returns-in-Refuse c = store_refused c.requires.aiming c.target_of-aimed.ensures c.in-Refuse.is
+pub returns-in_err-aim : goal.returns-in_err-aim
+returns-in_err-aim c =
+    rw (passed c.from_residual.ensures.1) (store_refused c.requires.aiming c.target_of.ensures c.in_err-aim.was)
 
 pub returns-in-None : goal.returns-in-None
-returns-in-None c = store_none c.requires.aiming c.target_of-aimed.ensures c.in-At.is c.in-None.is
+returns-in-None c = store_none c.requires.aiming c.target_of.ensures c.in_ok-aim.was c.in-None.is
 
-pub returns-in-Some : goal.returns-in-Some
-returns-in-Some c =
-    store_goes c.requires.aiming c.target_of-aimed.ensures c.in-At.is c.in-Some.is c.take.ensures
+pub returns-in_err-take-in-Some : goal.returns-in_err-take-in-Some
+returns-in_err-take-in-Some c =
+    rw (passed c.from_residual-in_err-take-in-Some.ensures.1)
+    (store_stops c.requires.aiming c.target_of.ensures c.in_ok-aim.was c.in-Some.is c.take.ensures c.in_err-take-in-Some.was)
+
+pub returns-in_ok-take-in-Some : goal.returns-in_ok-take-in-Some
+returns-in_ok-take-in-Some c =
+    store_goes c.requires.aiming c.target_of.ensures c.in_ok-aim.was c.in-Some.is c.take.ensures c.in_ok-take-in-Some.was

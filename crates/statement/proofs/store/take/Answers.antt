@@ -17,7 +17,7 @@ over-requires c =
 
 pub returns-then-over : goal.returns-then-over
 returns-then-over c =
-    take_long c.requires c.load_context-c.ensures c.take_out-taken.ensures c.in-Some.is c.over.ensures c.if-over.true
+    rw c.halt.ensures (take_long c.requires c.load_context-c.ensures c.take_out-taken.ensures c.in-Some.is c.over.ensures c.if-over.true)
 
 pub bounds-slots-2 : goal.bounds-slots-2
 bounds-slots-2 c =
@@ -28,4 +28,5 @@ returns-else-over c =
     take_done c.requires c.load_context-c.ensures c.take_out-taken.ensures c.in-Some.is c.save_context.ensures c.over.ensures c.if-over.false
 
 pub returns-in-None : goal.returns-in-None
-returns-in-None c = take_panics c.requires c.load_context-c.ensures c.take_out-taken.ensures c.in-None.is
+returns-in-None c =
+    rw c.halt-in-None.ensures (take_panics c.requires c.load_context-c.ensures c.take_out-taken.ensures c.in-None.is)

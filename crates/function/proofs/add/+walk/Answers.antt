@@ -11,8 +11,10 @@ use Rattle.block.proofs.Bodies.{body_asked, body_below, body_enters, function_en
 use Rattle.block.proofs.Nested.{arm_high, arm_small, arm_weighs, nested_ends, nested_enters, nested_lower, nested_lowers, nested_stops}
 use Rattle.block.proofs.Paired.{pair_ends, pair_first, pair_halt, pair_halt_2, pair_second, pair_small, pair_weighs, weighs}
 use Rattle.block.proofs.Statements.{all_left, base-copies, base-small, base-weighs, none_left, statement_low, statement_visits, statements_next, statements_stop}
+use Rattle.state.proofs.Ends.{passed}
 use native.Mathlib.Omega.{arith}
-use Rattle.function.proofs.add.+add_arm_add_block_add_call_add_function_add_holder_add_if_add_loop_add_nested_add_pair_add_statement_add_switch_add_turns.Goals as goal
+use borrow.Author.Tests.{not-true, not-false}
+use Rattle.function.proofs.add.+walk.Goals as goal
 
 pub add_arm-add_emit-requires : goal.add_arm-add_emit-requires
 add_arm-add_emit-requires t c = emit_asks c.requires c.if-kind-eq-EMIT.true
@@ -56,35 +58,30 @@ add_block-overflow_add-inner t c = let h = base-small c.args.f c.requires c.weig
 pub add_block-copy_context-requires : goal.add_block-copy_context-requires
 add_block-copy_context-requires t c = base-copies c.args.f c.requires
 
-pub add_block-loop-n-init : goal.add_block-loop-n-init
-add_block-loop-n-init t c =
+pub add_block-loop-k-init : goal.add_block-loop-k-init
+add_block-loop-k-init t c =
     all_left c.args.f c.requires c.args.break_required c.copy_context.ensures c.block-range.result c.block-range.ensures c.weigh.ensures
-
-pub add_block-overflow_sub-k : goal.add_block-overflow_sub-k
-add_block-overflow_sub-k t c = omega (arith, c.loop-n-test.true)
 
 pub add_block-overflow_add-fr : goal.add_block-overflow_add-fr
 add_block-overflow_add-fr t c =
-    let h = statement_low c.args.f c.requires c.args.break_required c.copy_context.ensures c.loop-n.invariant c.loop-n-test.true in omega (arith, h)
+    let h = statement_low c.args.f c.requires c.args.break_required c.copy_context.ensures c.loop-k.invariant (omega arith) in omega (arith, h)
 
 pub add_block-add_statement-requires : goal.add_block-add_statement-requires
 add_block-add_statement-requires t c =
-    (omega (arith, c.decreases), statement_visits c.args.f c.requires c.args.break_required c.copy_context.ensures c.loop-n.invariant c.loop-n-test.true)
+    (omega (arith, c.decreases), statement_visits c.args.f c.requires c.args.break_required c.copy_context.ensures c.loop-k.invariant (omega arith))
 
-pub add_block-returns-in-Halt : goal.add_block-returns-in-Halt
-add_block-returns-in-Halt t c =
-    statements_stop c.args.f c.requires c.args.break_required c.copy_context.ensures c.loop-n.invariant c.loop-n-test.true c.add_statement.ensures c.in-Halt.is
+pub add_block-returns-in_err-a : goal.add_block-returns-in_err-a
+add_block-returns-in_err-a t c =
+    rw (passed c.from_residual.ensures.1)
+    (statements_stop c.args.f c.requires c.args.break_required c.copy_context.ensures c.loop-k.invariant (omega arith) c.add_statement.ensures c.in_err-a.was)
 
-pub add_block-loop-n-smaller : goal.add_block-loop-n-smaller
-add_block-loop-n-smaller t c = omega (arith, c.loop-n-test.true)
-
-pub add_block-loop-n-preserved : goal.add_block-loop-n-preserved
-add_block-loop-n-preserved t c =
-    statements_next c.args.f c.requires c.args.break_required c.copy_context.ensures c.loop-n.invariant c.loop-n-test.true c.add_statement.ensures c.in-Went.is c.or-behind.ensures c.or-required.ensures
+pub add_block-loop-k-preserved : goal.add_block-loop-k-preserved
+add_block-loop-k-preserved t c =
+    statements_next c.args.f c.requires c.args.break_required c.copy_context.ensures c.loop-k.invariant (omega arith) c.add_statement.ensures c.in_ok-a.was c.or-behind.ensures c.or-required.ensures
 
 pub add_block-returns : goal.add_block-returns
 add_block-returns t c =
-    none_left c.args.f c.requires c.args.break_required c.copy_context.ensures c.loop-n.invariant (omega (arith, c.loop-n-test.false))
+    none_left c.args.f c.requires c.args.break_required c.copy_context.ensures c.loop-k.invariant (omega arith)
 
 pub add_call-begin_call-begun-requires : goal.add_call-begin_call-begun-requires
 add_call-begin_call-begun-requires t c = call_begins c.requires.arms c.requires.kind_value
@@ -97,29 +94,30 @@ pub add_call-overflow_sub-sum : goal.add_call-overflow_sub-sum
 add_call-overflow_sub-sum t c =
     omega (arith, call_own c.requires.arms c.requires.kind_value c.function_operand-g.ensures c.begin_call-begun.ensures)
 
-pub add_call-add_function-r-requires : goal.add_call-add_function-r-requires
-add_call-add_function-r-requires t c =
+pub add_call-add_function-requires : goal.add_call-add_function-requires
+add_call-add_function-requires t c =
     (omega (arith, c.decreases, callee_below c.requires.arms c.requires.kind_value, c.function_operand-g.ensures), (function_enters c.requires.arms c.requires.kind_value c.function_operand-g.ensures c.begin_call-begun.ensures, omega (arith, call_high c.requires.arms c.requires.kind_value, c.begin_call-arg-4-1.given.0.1)))
 
-pub add_call-overflow_add-tally : goal.add_call-overflow_add-tally
-add_call-overflow_add-tally t c =
-    omega (arith, call_sum c.requires.arms c.requires.kind_value c.function_operand-g.ensures c.begin_call-begun.ensures c.add_function-r.ensures c.in-Went.is)
+pub add_call-overflow_add-a : goal.add_call-overflow_add-a
+add_call-overflow_add-a t c =
+    omega (arith, call_sum c.requires.arms c.requires.kind_value c.function_operand-g.ensures c.begin_call-begun.ensures c.add_function.ensures c.in_ok-a.was)
 
 pub add_call-leave_call-left-requires : goal.add_call-leave_call-left-requires
 add_call-leave_call-left-requires t c =
-    call_leaves c.requires.arms c.requires.kind_value c.function_operand-g.ensures c.begin_call-begun.ensures c.add_function-r.ensures c.in-Went.is
+    call_leaves c.requires.arms c.requires.kind_value c.function_operand-g.ensures c.begin_call-begun.ensures c.add_function.ensures c.in_ok-a.was
 
 pub add_call-return_call-requires : goal.add_call-return_call-requires
 add_call-return_call-requires t c =
-    call_returns c.requires.arms c.requires.kind_value c.function_operand-g.ensures c.begin_call-begun.ensures c.add_function-r.ensures c.in-Went.is c.leave_call-left.ensures
+    call_returns c.requires.arms c.requires.kind_value c.function_operand-g.ensures c.begin_call-begun.ensures c.add_function.ensures c.in_ok-a.was c.leave_call-left.ensures
 
-pub add_call-returns-in-Halt : goal.add_call-returns-in-Halt
-add_call-returns-in-Halt t c =
-    call_stops c.requires.arms c.requires.kind_value c.function_operand-g.ensures c.begin_call-begun.ensures c.add_function-r.ensures c.in-Halt.is
+pub add_call-returns-in_err-a : goal.add_call-returns-in_err-a
+add_call-returns-in_err-a t c =
+    rw (passed c.from_residual.ensures.1)
+    (call_stops c.requires.arms c.requires.kind_value c.function_operand-g.ensures c.begin_call-begun.ensures c.add_function.ensures c.in_err-a.was)
 
-pub add_call-returns-in-Went : goal.add_call-returns-in-Went
-add_call-returns-in-Went t c =
-    call_ended c.requires.arms c.requires.kind_value c.function_operand-g.ensures c.begin_call-begun.ensures c.add_function-r.ensures c.in-Went.is c.leave_call-left.ensures c.return_call.ensures
+pub add_call-returns : goal.add_call-returns
+add_call-returns t c =
+    call_ended c.requires.arms c.requires.kind_value c.function_operand-g.ensures c.begin_call-begun.ensures c.add_function.ensures c.in_ok-a.was c.leave_call-left.ensures c.return_call.ensures
 
 pub add_function-overflow_add-at : goal.add_function-overflow_add-at
 add_function-overflow_add-at t c = omega (arith, c.requires.base_bound)
@@ -128,21 +126,23 @@ pub add_function-add_block-requires : goal.add_function-add_block-requires
 add_function-add_block-requires t c =
     (omega (arith, c.decreases, body_below c.requires.function_entered (c.body_block-b.ensures _)), body_enters c.requires.function_entered (c.body_block-b.ensures _))
 
-pub add_function-add_total-r-requires : goal.add_function-add_total-r-requires
-add_function-add_total-r-requires t c =
-    body_asked c.requires.function_entered (c.body_block-b.ensures _) c.args.here c.add_block.ensures c.in-Went.is
+pub add_function-add_total-requires : goal.add_function-add_total-requires
+add_function-add_total-requires t c =
+    body_asked c.requires.function_entered (c.body_block-b.ensures _) c.args.here c.add_block.ensures c.in_ok-a.was
 
-pub add_function-returns-in-Halt : goal.add_function-returns-in-Halt
-add_function-returns-in-Halt t c =
-    function_halt c.requires.function_entered (c.body_block-b.ensures _) c.args.here c.add_block.ensures c.in-Halt.is
+pub add_function-returns-in_err-a : goal.add_function-returns-in_err-a
+add_function-returns-in_err-a t c =
+    rw (passed c.from_residual.ensures.1)
+    (function_halt c.requires.function_entered (c.body_block-b.ensures _) c.args.here c.add_block.ensures c.in_err-a.was)
 
-pub add_function-returns-in-Halt-r : goal.add_function-returns-in-Halt-r
-add_function-returns-in-Halt-r t c =
-    function_halt_2 c.requires.function_entered (c.body_block-b.ensures _) c.args.here c.add_block.ensures c.in-Went.is c.add_total-r.ensures c.in-Halt-r.is
+pub add_function-returns-in_err-tally : goal.add_function-returns-in_err-tally
+add_function-returns-in_err-tally t c =
+    rw (passed c.from_residual-in_err-tally.ensures.1)
+    (function_halt_2 c.requires.function_entered (c.body_block-b.ensures _) c.args.here c.add_block.ensures c.in_ok-a.was c.add_total.ensures c.in_err-tally.was)
 
-pub add_function-returns-in-Went-r : goal.add_function-returns-in-Went-r
-add_function-returns-in-Went-r t c =
-    function_ends c.requires.function_entered (c.body_block-b.ensures _) c.args.here c.add_block.ensures c.in-Went.is c.add_total-r.ensures c.in-Went-r.is
+pub add_function-returns : goal.add_function-returns
+add_function-returns t c =
+    function_ends c.requires.function_entered (c.body_block-b.ensures _) c.args.here c.add_block.ensures c.in_ok-a.was c.add_total.ensures c.in_ok-tally.was
 
 pub add_holder-add_nested-r-requires : goal.add_holder-add_nested-r-requires
 add_holder-add_nested-r-requires t c = (omega (arith, c.decreases), (c.requires.arms, c.if-kind-eq-BLOCK.true))
@@ -200,22 +200,23 @@ add_if-overflow_add-held t c = omega (arith, if_few c.requires.arms c.requires.k
 pub add_if-overflow_add-at : goal.add_if-overflow_add-at
 add_if-overflow_add-at t c = omega (arith, c.requires.arms.begins.standing.ready.high)
 
-pub add_if-add_pair-r-requires : goal.add_if-add_pair-r-requires
-add_if-add_pair-r-requires t c =
+pub add_if-add_pair-requires : goal.add_if-add_pair-requires
+add_if-add_pair-requires t c =
     (omega (arith, c.decreases), if_paired c.requires.arms c.requires.kind_value c.weigh.ensures c.block_operand-accept.ensures c.block_operand-reject.ensures)
 
 pub add_if-end_if-requires : goal.add_if-end_if-requires
 add_if-end_if-requires t c =
-    let q9 = if_asked c.requires.arms c.requires.kind_value c.weigh.ensures c.block_operand-accept.ensures c.block_operand-reject.ensures c.add_pair-r.ensures c.in-Went.is c.expression_operand-condition.ensures in
+    let q9 = if_asked c.requires.arms c.requires.kind_value c.weigh.ensures c.block_operand-accept.ensures c.block_operand-reject.ensures c.add_pair.ensures c.in_ok-a.was c.expression_operand-condition.ensures in
     record { if_asked = q9.0; condition_in_bounds = q9.1 }
 
-pub add_if-returns-in-Halt : goal.add_if-returns-in-Halt
-add_if-returns-in-Halt t c =
-    if_halts c.requires.arms c.requires.kind_value c.weigh.ensures c.block_operand-accept.ensures c.block_operand-reject.ensures c.add_pair-r.ensures c.in-Halt.is
+pub add_if-returns-in_err-a : goal.add_if-returns-in_err-a
+add_if-returns-in_err-a t c =
+    rw (passed c.from_residual.ensures.1)
+    (if_halts c.requires.arms c.requires.kind_value c.weigh.ensures c.block_operand-accept.ensures c.block_operand-reject.ensures c.add_pair.ensures c.in_err-a.was)
 
-pub add_if-returns-in-Went : goal.add_if-returns-in-Went
-add_if-returns-in-Went t c =
-    if_ends c.requires.arms c.requires.kind_value c.weigh.ensures c.block_operand-accept.ensures c.block_operand-reject.ensures c.add_pair-r.ensures c.in-Went.is c.expression_operand-condition.ensures _ c.end_if.ensures
+pub add_if-returns : goal.add_if-returns
+add_if-returns t c =
+    if_ends c.requires.arms c.requires.kind_value c.weigh.ensures c.block_operand-accept.ensures c.block_operand-reject.ensures c.add_pair.ensures c.in_ok-a.was c.expression_operand-condition.ensures _ c.end_if.ensures
 
 pub add_loop-weigh-requires : goal.add_loop-weigh-requires
 add_loop-weigh-requires t c =
@@ -228,37 +229,39 @@ add_loop-overflow_add-held t c = omega (arith, loop_fits c.requires.arms c.requi
 pub add_loop-overflow_add-at : goal.add_loop-overflow_add-at
 add_loop-overflow_add-at t c = omega (arith, (arm_weighs c.requires.arms).1.0)
 
-pub add_loop-add_pair-r-requires : goal.add_loop-add_pair-r-requires
-add_loop-add_pair-r-requires t c =
+pub add_loop-add_pair-requires : goal.add_loop-add_pair-requires
+add_loop-add_pair-requires t c =
     (omega (arith, c.decreases), loop_paired c.requires.arms c.requires.kind_value c.weigh.ensures c.block_operand-body.ensures c.block_operand-continuing.ensures)
 
 pub add_loop-drop_both-requires : goal.add_loop-drop_both-requires
 add_loop-drop_both-requires t c =
-    loop_drops c.requires.arms c.requires.kind_value c.weigh.ensures c.block_operand-body.ensures c.block_operand-continuing.ensures c.add_pair-r.ensures c.in-Went.is
+    loop_drops c.requires.arms c.requires.kind_value c.weigh.ensures c.block_operand-body.ensures c.block_operand-continuing.ensures c.add_pair.ensures c.in_ok-a.was
 
-pub add_loop-returns-then-not-required : goal.add_loop-returns-then-not-required
-add_loop-returns-then-not-required t c =
-    loop_dropped c.requires.arms c.requires.kind_value c.weigh.ensures c.block_operand-body.ensures c.block_operand-continuing.ensures c.add_pair-r.ensures c.in-Went.is c.if-not-required.true c.drop_both.ensures
+pub add_loop-returns-then-not-a : goal.add_loop-returns-then-not-a
+add_loop-returns-then-not-a t c =
+    loop_dropped c.requires.arms c.requires.kind_value c.weigh.ensures c.block_operand-body.ensures c.block_operand-continuing.ensures c.add_pair.ensures c.in_ok-a.was (not-true _ c.if-not-a.true) c.drop_both.ensures
 
 pub add_loop-end_pass-requires : goal.add_loop-end_pass-requires
 add_loop-end_pass-requires t c =
-    loop_passing c.requires.arms c.requires.kind_value c.weigh.ensures c.block_operand-body.ensures c.block_operand-continuing.ensures c.add_pair-r.ensures c.in-Went.is c.expression_operand-break_if.ensures
+    loop_passing c.requires.arms c.requires.kind_value c.weigh.ensures c.block_operand-body.ensures c.block_operand-continuing.ensures c.add_pair.ensures c.in_ok-a.was c.expression_operand-break_if.ensures
 
 pub add_loop-add_turns-requires : goal.add_loop-add_turns-requires
 add_loop-add_turns-requires t c =
-    (omega (arith, c.decreases), loop_turning c.requires.arms c.requires.kind_value c.weigh.ensures c.block_operand-body.ensures c.block_operand-continuing.ensures c.add_pair-r.ensures c.in-Went.is c.expression_operand-break_if.ensures c.if-not-required.false c.end_pass.ensures c.in-Went-end_pass.is)
+    (omega (arith, c.decreases), loop_turning c.requires.arms c.requires.kind_value c.weigh.ensures c.block_operand-body.ensures c.block_operand-continuing.ensures c.add_pair.ensures c.in_ok-a.was c.expression_operand-break_if.ensures (not-false _ c.if-not-a.false) c.end_pass.ensures c.in_ok-left.was)
 
-pub add_loop-returns-in-Halt : goal.add_loop-returns-in-Halt
-add_loop-returns-in-Halt t c =
-    loop_halts c.requires.arms c.requires.kind_value c.weigh.ensures c.block_operand-body.ensures c.block_operand-continuing.ensures c.add_pair-r.ensures c.in-Halt.is
+pub add_loop-returns-in_err-a : goal.add_loop-returns-in_err-a
+add_loop-returns-in_err-a t c =
+    rw (passed c.from_residual.ensures.1)
+    (loop_halts c.requires.arms c.requires.kind_value c.weigh.ensures c.block_operand-body.ensures c.block_operand-continuing.ensures c.add_pair.ensures c.in_err-a.was)
 
-pub add_loop-returns-in-Halt-end_pass : goal.add_loop-returns-in-Halt-end_pass
-add_loop-returns-in-Halt-end_pass t c =
-    loop_pass_halts c.requires.arms c.requires.kind_value c.weigh.ensures c.block_operand-body.ensures c.block_operand-continuing.ensures c.add_pair-r.ensures c.in-Went.is c.expression_operand-break_if.ensures c.if-not-required.false c.end_pass.ensures c.in-Halt-end_pass.is
+pub add_loop-returns-in_err-left : goal.add_loop-returns-in_err-left
+add_loop-returns-in_err-left t c =
+    rw (passed c.from_residual-in_err-left.ensures.1)
+    (loop_pass_halts c.requires.arms c.requires.kind_value c.weigh.ensures c.block_operand-body.ensures c.block_operand-continuing.ensures c.add_pair.ensures c.in_ok-a.was c.expression_operand-break_if.ensures (not-false _ c.if-not-a.false) c.end_pass.ensures c.in_err-left.was)
 
-pub add_loop-returns-in-Went-end_pass : goal.add_loop-returns-in-Went-end_pass
-add_loop-returns-in-Went-end_pass t c =
-    loop_ends c.requires.arms c.requires.kind_value c.weigh.ensures c.block_operand-body.ensures c.block_operand-continuing.ensures c.add_pair-r.ensures c.in-Went.is c.expression_operand-break_if.ensures c.if-not-required.false c.end_pass.ensures c.in-Went-end_pass.is _ c.add_turns.ensures
+pub add_loop-returns : goal.add_loop-returns
+add_loop-returns t c =
+    loop_ends c.requires.arms c.requires.kind_value c.weigh.ensures c.block_operand-body.ensures c.block_operand-continuing.ensures c.add_pair.ensures c.in_ok-a.was c.expression_operand-break_if.ensures (not-false _ c.if-not-a.false) c.end_pass.ensures c.in_ok-left.was _ c.add_turns.ensures
 
 pub add_nested-weigh-requires : goal.add_nested-weigh-requires
 add_nested-weigh-requires t c =
@@ -271,62 +274,67 @@ add_nested-overflow_add-held t c = let h = arm_small c.requires.arms c.weigh.ens
 pub add_nested-overflow_add-at : goal.add_nested-overflow_add-at
 add_nested-overflow_add-at t c = omega (arith, arm_high c.requires.arms)
 
-pub add_nested-add_block-r-requires : goal.add_nested-add_block-r-requires
-add_nested-add_block-r-requires t c =
+pub add_nested-add_block-requires : goal.add_nested-add_block-requires
+add_nested-add_block-requires t c =
     (omega (arith, c.decreases, nested_lower c.requires.arms c.requires.kind_value, c.block_operand-inner.ensures), nested_enters c.requires.arms c.requires.kind_value c.block_operand-inner.ensures c.weigh.ensures)
 
 pub add_nested-lower-requires : goal.add_nested-lower-requires
 add_nested-lower-requires t c =
-    nested_lowers c.requires.arms c.requires.kind_value c.block_operand-inner.ensures c.weigh.ensures c.add_block-r.ensures c.in-Went.is
+    nested_lowers c.requires.arms c.requires.kind_value c.block_operand-inner.ensures c.weigh.ensures c.add_block.ensures c.in_ok-a.was
 
-pub add_nested-returns-in-Halt : goal.add_nested-returns-in-Halt
-add_nested-returns-in-Halt t c =
-    nested_stops c.requires.arms c.requires.kind_value c.block_operand-inner.ensures c.weigh.ensures c.add_block-r.ensures c.in-Halt.is
+pub add_nested-returns-in_err-a : goal.add_nested-returns-in_err-a
+add_nested-returns-in_err-a t c =
+    rw (passed c.from_residual.ensures.1)
+    (nested_stops c.requires.arms c.requires.kind_value c.block_operand-inner.ensures c.weigh.ensures c.add_block.ensures c.in_err-a.was)
 
-pub add_nested-returns-in-Went : goal.add_nested-returns-in-Went
-add_nested-returns-in-Went t c =
-    nested_ends c.requires.arms c.requires.kind_value c.block_operand-inner.ensures c.weigh.ensures c.add_block-r.ensures c.in-Went.is c.lower.ensures
+pub add_nested-returns : goal.add_nested-returns
+add_nested-returns t c =
+    nested_ends c.requires.arms c.requires.kind_value c.block_operand-inner.ensures c.weigh.ensures c.add_block.ensures c.in_ok-a.was c.lower.ensures
 
 pub add_pair-add_block-requires : goal.add_pair-add_block-requires
 add_pair-add_block-requires t c = (omega (arith, c.decreases, c.requires.first_lower), pair_first c.requires)
 
 pub add_pair-weigh-requires : goal.add_pair-weigh-requires
 add_pair-weigh-requires t c =
-    let q9 = pair_weighs c.requires c.args.break_required c.add_block.ensures c.in-Went.is in
+    let q9 = pair_weighs c.requires c.args.break_required c.add_block.ensures c.in_ok-a.was in
     record { memory = q9.0; n_in_bounds = q9.1 }
 
 pub add_pair-overflow_add-more : goal.add_pair-overflow_add-more
 add_pair-overflow_add-more t c =
-    let h = pair_small c.requires c.args.break_required c.add_block.ensures c.in-Went.is c.weigh.ensures in omega (arith, h)
+    let h = pair_small c.requires c.args.break_required c.add_block.ensures c.in_ok-a.was c.weigh.ensures in omega (arith, h)
 
 pub add_pair-overflow_add-at : goal.add_pair-overflow_add-at
 add_pair-overflow_add-at t c =
-    omega (arith, (pair_weighs c.requires c.args.break_required c.add_block.ensures c.in-Went.is).1.0)
+    omega (arith, (pair_weighs c.requires c.args.break_required c.add_block.ensures c.in_ok-a.was).1.0)
 
-pub add_pair-add_block-r-requires : goal.add_pair-add_block-r-requires
-add_pair-add_block-r-requires t c =
-    (omega (arith, c.decreases, c.requires.second_lower), pair_second c.requires c.args.break_required c.add_block.ensures c.in-Went.is c.weigh.ensures)
+pub add_pair-add_block-requires-2 : goal.add_pair-add_block-requires-2
+add_pair-add_block-requires-2 t c =
+    (omega (arith, c.decreases, c.requires.second_lower), pair_second c.requires c.args.break_required c.add_block.ensures c.in_ok-a.was c.weigh.ensures)
 
-pub add_pair-returns-in-Halt : goal.add_pair-returns-in-Halt
-add_pair-returns-in-Halt t c = pair_halt c.requires c.args.break_required c.add_block.ensures c.in-Halt.is
+pub add_pair-returns-in_err-a : goal.add_pair-returns-in_err-a
+add_pair-returns-in_err-a t c =
+    rw (passed c.from_residual.ensures.1)
+    (pair_halt c.requires c.args.break_required c.add_block.ensures c.in_err-a.was)
 
-pub add_pair-returns-in-Halt-r : goal.add_pair-returns-in-Halt-r
-add_pair-returns-in-Halt-r t c =
-    pair_halt_2 c.requires c.args.break_required c.add_block.ensures c.in-Went.is c.weigh.ensures c.add_block-r.ensures c.in-Halt-r.is
+pub add_pair-returns-in_err-c : goal.add_pair-returns-in_err-c
+add_pair-returns-in_err-c t c =
+    rw (passed c.from_residual-in_err-c.ensures.1)
+    (pair_halt_2 c.requires c.args.break_required c.add_block.ensures c.in_ok-a.was c.weigh.ensures c.add_block-2.ensures c.in_err-c.was)
 
-pub add_pair-returns-in-Went-r : goal.add_pair-returns-in-Went-r
-add_pair-returns-in-Went-r t c =
-    pair_ends c.requires c.args.break_required c.add_block.ensures c.in-Went.is c.weigh.ensures c.add_block-r.ensures c.in-Went-r.is c.or.ensures
+pub add_pair-returns : goal.add_pair-returns
+add_pair-returns t c =
+    pair_ends c.requires c.args.break_required c.add_block.ensures c.in_ok-a.was c.weigh.ensures c.add_block-2.ensures c.in_ok-c.was c.or.ensures
 
 pub add_statement-returns-then-visits-ge-MAX_VISITS : goal.add_statement-returns-then-visits-ge-MAX_VISITS
-add_statement-returns-then-visits-ge-MAX_VISITS t c = visit_17 c.requires c.if-visits-ge-MAX_VISITS.true
+add_statement-returns-then-visits-ge-MAX_VISITS t c =
+    rw c.halt.ensures (visit_17 c.requires c.if-visits-ge-MAX_VISITS.true)
 
 pub add_statement-allowed-requires : goal.add_statement-allowed-requires
 add_statement-allowed-requires t c = visit_counting c.requires
 
 pub add_statement-returns-then-not-allowed : goal.add_statement-returns-then-not-allowed
 add_statement-returns-then-not-allowed t c =
-    visit_16 c.requires c.if-visits-ge-MAX_VISITS.false c.allowed.ensures c.if-not-allowed.true
+    rw c.halt-then-not-allowed.ensures (visit_16 c.requires c.if-visits-ge-MAX_VISITS.false c.allowed.ensures c.if-not-allowed.true)
 
 pub add_statement-overflow_add-visits : goal.add_statement-overflow_add-visits
 add_statement-overflow_add-visits t c = omega (arith, c.if-visits-ge-MAX_VISITS.false)
@@ -356,60 +364,54 @@ add_switch-overflow_add-at t c = omega (arith, (copy_asks c.requires.arms).1)
 pub add_switch-copy_context-requires : goal.add_switch-copy_context-requires
 add_switch-copy_context-requires t c = copy_asks c.requires.arms
 
-pub add_switch-loop-n-init : goal.add_switch-loop-n-init
-add_switch-loop-n-init t c = cases_begin c.operand-n.ensures
+pub add_switch-loop-k-init : goal.add_switch-loop-k-init
+add_switch-loop-k-init t c = cases_begin c.operand-k.ensures
 
-pub add_switch-overflow_sub-k : goal.add_switch-overflow_sub-k
-add_switch-overflow_sub-k t c = omega (arith, c.loop-n-test.true)
+pub add_switch-overflow_add-at-in-loop-k : goal.add_switch-overflow_add-at-in-loop-k
+add_switch-overflow_add-at-in-loop-k t c = omega (arith, (copy_asks c.requires.arms).1)
 
-pub add_switch-overflow_add-at-in-loop-n : goal.add_switch-overflow_add-at-in-loop-n
-add_switch-overflow_add-at-in-loop-n t c = omega (arith, (copy_asks c.requires.arms).1)
-
-pub add_switch-weigh-requires-in-loop-n : goal.add_switch-weigh-requires-in-loop-n
-add_switch-weigh-requires-in-loop-n t c =
-    let q9 = weighs (c.loop-n.invariant.by _ _ (began c.requires.arms c.requires.kind_value c.copy_context.ensures c.weigh.ensures)).switched.standing in
+pub add_switch-weigh-requires-in-loop-k : goal.add_switch-weigh-requires-in-loop-k
+add_switch-weigh-requires-in-loop-k t c =
+    let q9 = weighs (c.loop-k.invariant.by _ _ (began c.requires.arms c.requires.kind_value c.copy_context.ensures c.weigh.ensures)).switched.standing in
     record { memory = q9.0; n_in_bounds = q9.1 }
 
 pub add_switch-overflow_add-held : goal.add_switch-overflow_add-held
 add_switch-overflow_add-held t c =
-    let G = began c.requires.arms c.requires.kind_value c.copy_context.ensures c.weigh.ensures in omega (arith, held_fits c.requires.arms (c.loop-n.invariant.by _ _ G) c.requires.kind_value G.outside_is c.weigh-in-loop-n.ensures)
+    let G = began c.requires.arms c.requires.kind_value c.copy_context.ensures c.weigh.ensures in omega (arith, held_fits c.requires.arms (c.loop-k.invariant.by _ _ G) c.requires.kind_value G.outside_is c.weigh-in-loop-k.ensures)
 
-pub add_switch-overflow_add-at-in-loop-n-2 : goal.add_switch-overflow_add-at-in-loop-n-2
-add_switch-overflow_add-at-in-loop-n-2 t c = omega (arith, (copy_asks c.requires.arms).1)
+pub add_switch-overflow_add-at-in-loop-k-2 : goal.add_switch-overflow_add-at-in-loop-k-2
+add_switch-overflow_add-at-in-loop-k-2 t c = omega (arith, (copy_asks c.requires.arms).1)
 
 pub add_switch-add_block-requires : goal.add_switch-add_block-requires
 add_switch-add_block-requires t c =
-    let G = began c.requires.arms c.requires.kind_value c.copy_context.ensures c.weigh.ensures in (omega (arith, c.decreases, body_lower c.requires.arms (c.loop-n.invariant.by _ _ G) c.requires.kind_value G.outside_is c.weigh-in-loop-n.ensures c.case_body-body.ensures (omega (arith, c.loop-n-test.true))), case_enters c.requires.arms (c.loop-n.invariant.by _ _ G) c.requires.kind_value G.outside_is c.weigh-in-loop-n.ensures c.case_body-body.ensures (omega (arith, c.loop-n-test.true)))
+    let G = began c.requires.arms c.requires.kind_value c.copy_context.ensures c.weigh.ensures in (omega (arith, c.decreases, body_lower c.requires.arms (c.loop-k.invariant.by _ _ G) c.requires.kind_value G.outside_is c.weigh-in-loop-k.ensures c.case_body-body.ensures (omega arith)), case_enters c.requires.arms (c.loop-k.invariant.by _ _ G) c.requires.kind_value G.outside_is c.weigh-in-loop-k.ensures c.case_body-body.ensures (omega arith))
 
-pub add_switch-returns-in-Halt : goal.add_switch-returns-in-Halt
-add_switch-returns-in-Halt t c =
-    let G = began c.requires.arms c.requires.kind_value c.copy_context.ensures c.weigh.ensures in case_halts c.requires.arms (c.loop-n.invariant.by _ _ G) c.requires.kind_value G.outside_is c.weigh-in-loop-n.ensures c.case_body-body.ensures (omega (arith, c.loop-n-test.true)) c.add_block.ensures c.in-Halt.is
+pub add_switch-returns-in_err-a : goal.add_switch-returns-in_err-a
+add_switch-returns-in_err-a t c =
+    let G = began c.requires.arms c.requires.kind_value c.copy_context.ensures c.weigh.ensures in rw (passed c.from_residual.ensures.1) (case_halts c.requires.arms (c.loop-k.invariant.by _ _ G) c.requires.kind_value G.outside_is c.weigh-in-loop-k.ensures c.case_body-body.ensures (omega arith) c.add_block.ensures c.in_err-a.was)
 
-pub add_switch-overflow_add-at-in-Went : goal.add_switch-overflow_add-at-in-Went
-add_switch-overflow_add-at-in-Went t c = omega (arith, (copy_asks c.requires.arms).1)
+pub add_switch-overflow_add-at-in-loop-k-3 : goal.add_switch-overflow_add-at-in-loop-k-3
+add_switch-overflow_add-at-in-loop-k-3 t c = omega (arith, (copy_asks c.requires.arms).1)
 
 pub add_switch-end_case-requires : goal.add_switch-end_case-requires
 add_switch-end_case-requires t c =
-    let G = began c.requires.arms c.requires.kind_value c.copy_context.ensures c.weigh.ensures in case-ends c.requires.arms (c.loop-n.invariant.by _ _ G) c.requires.kind_value G.outside_is c.weigh-in-loop-n.ensures c.case_body-body.ensures (omega (arith, c.loop-n-test.true)) c.add_block.ensures c.in-Went.is
+    let G = began c.requires.arms c.requires.kind_value c.copy_context.ensures c.weigh.ensures in case-ends c.requires.arms (c.loop-k.invariant.by _ _ G) c.requires.kind_value G.outside_is c.weigh-in-loop-k.ensures c.case_body-body.ensures (omega arith) c.add_block.ensures c.in_ok-a.was
 
 pub add_switch-returns-then-end_case : goal.add_switch-returns-then-end_case
 add_switch-returns-then-end_case t c =
-    let G = began c.requires.arms c.requires.kind_value c.copy_context.ensures c.weigh.ensures in case_limit c.requires.arms (c.loop-n.invariant.by _ _ G) c.requires.kind_value G.outside_is c.weigh-in-loop-n.ensures c.case_body-body.ensures (omega (arith, c.loop-n-test.true)) c.add_block.ensures c.in-Went.is c.end_case.ensures c.if-end_case.true
+    let G = began c.requires.arms c.requires.kind_value c.copy_context.ensures c.weigh.ensures in rw c.halt.ensures (case_limit c.requires.arms (c.loop-k.invariant.by _ _ G) c.requires.kind_value G.outside_is c.weigh-in-loop-k.ensures c.case_body-body.ensures (omega arith) c.add_block.ensures c.in_ok-a.was c.end_case.ensures c.if-end_case.true)
 
-pub add_switch-loop-n-smaller : goal.add_switch-loop-n-smaller
-add_switch-loop-n-smaller t c = omega (arith, c.loop-n-test.true)
-
-pub add_switch-loop-n-preserved : goal.add_switch-loop-n-preserved
-add_switch-loop-n-preserved t c =
-    cases_next c.loop-n.invariant c.weigh-in-loop-n.ensures c.case_body-body.ensures (omega (arith, c.loop-n-test.true)) c.add_block.ensures c.in-Went.is c.end_case.ensures c.if-end_case.false c.or-any.ensures
+pub add_switch-loop-k-preserved : goal.add_switch-loop-k-preserved
+add_switch-loop-k-preserved t c =
+    cases_next c.loop-k.invariant c.weigh-in-loop-k.ensures c.case_body-body.ensures (omega arith) c.add_block.ensures c.in_ok-a.was c.end_case.ensures c.if-end_case.false c.or-any.ensures
 
 pub add_switch-end_switch-requires : goal.add_switch-end_switch-requires
 add_switch-end_switch-requires t c =
-    let G = began c.requires.arms c.requires.kind_value c.copy_context.ensures c.weigh.ensures in switch_asks c.requires.arms (c.loop-n.invariant.by _ _ G) c.requires.kind_value c.expression_operand-selector.ensures
+    let G = began c.requires.arms c.requires.kind_value c.copy_context.ensures c.weigh.ensures in switch_asks c.requires.arms (c.loop-k.invariant.by _ _ G) c.requires.kind_value c.expression_operand-selector.ensures
 
 pub add_switch-returns : goal.add_switch-returns
 add_switch-returns t c =
-    let G = began c.requires.arms c.requires.kind_value c.copy_context.ensures c.weigh.ensures in switch_whole c.requires.arms (c.loop-n.invariant.by _ _ G) (omega (arith, c.loop-n-test.false)) c.expression_operand-selector.ensures c.end_switch.ensures
+    let G = began c.requires.arms c.requires.kind_value c.copy_context.ensures c.weigh.ensures in switch_whole c.requires.arms (c.loop-k.invariant.by _ _ G) (omega arith) c.expression_operand-selector.ensures c.end_switch.ensures
 
 pub add_turns-weigh-requires : goal.add_turns-weigh-requires
 add_turns-weigh-requires t c =
@@ -443,32 +445,27 @@ pub add_turns-add_pair-requires : goal.add_turns-add_pair-requires
 add_turns-add_pair-requires t c =
     (omega (arith, c.decreases), turn_paired c.requires c.weigh.ensures c.weigh-2.ensures c.loop-left.invariant)
 
-pub add_turns-returns-in-Halt : goal.add_turns-returns-in-Halt
-add_turns-returns-in-Halt t c =
-    turn_halts c.requires c.weigh.ensures c.weigh-2.ensures c.loop-left.invariant c.loop-left-test.true c.add_pair.ensures c.in-Halt.is
+pub add_turns-returns-in_err-a : goal.add_turns-returns-in_err-a
+add_turns-returns-in_err-a t c =
+    rw (passed c.from_residual.ensures.1)
+    (turn_halts c.requires c.weigh.ensures c.weigh-2.ensures c.loop-left.invariant (omega arith) c.add_pair.ensures c.in_err-a.was)
 
 pub add_turns-end_turn-requires : goal.add_turns-end_turn-requires
 add_turns-end_turn-requires t c =
-    turn_walked c.requires c.weigh.ensures c.weigh-2.ensures c.loop-left.invariant c.loop-left-test.true c.add_pair.ensures c.in-Went.is
+    turn_walked c.requires c.weigh.ensures c.weigh-2.ensures c.loop-left.invariant (omega arith) c.add_pair.ensures c.in_ok-a.was
 
 pub add_turns-returns-in-Over : goal.add_turns-returns-in-Over
 add_turns-returns-in-Over t c =
-    turn_limits c.requires c.weigh.ensures c.weigh-2.ensures c.loop-left.invariant c.loop-left-test.true c.add_pair.ensures c.in-Went.is c.end_turn.ensures c.in-Over.is
+    rw c.halt.ensures (turn_limits c.requires c.weigh.ensures c.weigh-2.ensures c.loop-left.invariant (omega arith) c.add_pair.ensures c.in_ok-a.was c.end_turn.ensures c.in-Over.is)
 
 pub add_turns-returns-in-Settled : goal.add_turns-returns-in-Settled
 add_turns-returns-in-Settled t c =
-    turn_settles c.requires c.weigh.ensures c.weigh-2.ensures c.loop-left.invariant c.loop-left-test.true c.add_pair.ensures c.in-Went.is c.end_turn.ensures c.in-Settled.is
-
-pub add_turns-overflow_sub-left : goal.add_turns-overflow_sub-left
-add_turns-overflow_sub-left t c = omega (arith, c.loop-left-test.true)
-
-pub add_turns-loop-left-smaller : goal.add_turns-loop-left-smaller
-add_turns-loop-left-smaller t c = omega (arith, c.loop-left-test.true)
+    turn_settles c.requires c.weigh.ensures c.weigh-2.ensures c.loop-left.invariant (omega arith) c.add_pair.ensures c.in_ok-a.was c.end_turn.ensures c.in-Settled.is
 
 pub add_turns-loop-left-preserved : goal.add_turns-loop-left-preserved
 add_turns-loop-left-preserved t c =
-    turn_goes_on c.requires c.weigh.ensures c.weigh-2.ensures c.loop-left.invariant c.loop-left-test.true c.add_pair.ensures c.in-Went.is c.end_turn.ensures c.in-Again.is
+    turn_goes_on c.requires c.weigh.ensures c.weigh-2.ensures c.loop-left.invariant (omega arith) c.add_pair.ensures c.in_ok-a.was c.end_turn.ensures c.in-Again.is
 
 pub add_turns-returns : goal.add_turns-returns
 add_turns-returns t c =
-    turns_over c.requires c.weigh.ensures c.weigh-2.ensures c.loop-left.invariant (omega (arith, c.loop-left-test.false))
+    rw c.halt-2.ensures (turns_over c.requires c.weigh.ensures c.weigh-2.ensures c.loop-left.invariant (omega arith))
