@@ -3,8 +3,8 @@ use Prim.Native.Nat.{ℕ, ◌+◌, ◌-◌, ◌<◌, ◌≤◌}
 use native.Mathlib.Omega.{arith}
 use mathlib.Core.Path.{◌≡◌, refl, sym, ap, ◌∙◌}
 use mathlib.Core.Bool.{Bool, true, false, cond}
-use mathlib.Core.List.{List}
-use lib.ListN.{length, get_or, set, take}
+use mathlib.Core.List.{List, ◌++◌}
+use lib.ListN.{length, get_or, set, take, drop, length-append, length-drop, length-take}
 use lib.Seq.{length-take-le}
 use Rattle.part.specs.PartReq.{PartReq, none}
 use Rattle.part.proofs.Distinct.{untrue}
@@ -34,6 +34,10 @@ pub path_room : {bytes tab : List ℕ} {f : ℕ} {types alike paths s rs : List 
 path_room g path h k e =
     let z : length (take (k + 2) path) ≡ k + 2 = length-take-le (k + 2) path (omega arith) in
     record { enough = omega arith; few = omega (arith, world_few g.world) }
+
+-- the path with its lent part again
+pub lent-long : (part path before : List ℕ) (m : ℕ) → length part ≡ length (take m path) → length path ≡ length before → length (part ++ drop m path) ≡ length before
+lent-long part path before m h e = omega (arith, length-append part (drop m path), length-drop m path, length-take m path, h, e)
 
 module _ {bytes tab : List ℕ} {f : ℕ} {types alike paths s rs path : List ℕ} {n : ℕ} (g : ActGiven bytes tab f types alike paths s rs path n) {e : ℕ} (there : e < length (function_of bytes tab f).expressions) where
   abbrev S : Scope

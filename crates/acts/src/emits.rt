@@ -4,7 +4,6 @@ ghost use Rattle.module.specs.Marks.{marks_before};
 ghost use Rattle.module.specs.Tables.{function_of};
 ghost use Rattle.clearance.specs.Tree.{emit};
 ghost use Rattle.judge.specs.Given.{scope_at};
-ghost use Rattle.operands.specs.Arms.{OperandsGiven, AsksOperands};
 ghost use Rattle.acts.specs.Acts.{ActGiven, Acted};
 ghost use Rattle.acts.specs.Marks.{PassGiven, ByMark, EmitsPassed};
 
@@ -19,41 +18,7 @@ use place::slots::evaluated_path;
 use quiet::acts::{emit_idle, emit_overlap, is_some};
 use standing::passing::{Passing, filled};
 
-// What the need of the expression e asks of its operands. They are lent as much of the path as the function's pointers take.
-fn ask_emitted(
-    bytes: &[u8],
-    t: &[u32],
-    f: FunctionHandle,
-    types: &[u32],
-    alike: &[u32],
-    paths: &[u32],
-    cells: &mut [u32],
-    roots: &mut [u32],
-    path: &mut [u32],
-    n: usize,
-    e: ExpressionHandle,
-) -> bool
-    requires operands_given { OperandsGiven bytes.now t.now f.0 types.now alike.now paths.now cells.old roots.old n e.0 }
-    requires f_in_bounds { length (function_of bytes.now t.now f.0).expressions + 2 ≤ length path.old }
-    ensures { AsksOperands bytes.now t.now f.0 e.0 cells.old roots.old n cells.new roots.new result }
-{
-    let size = (expressions(t, f) as usize) + 2;
-    ask_operands(
-        bytes,
-        t,
-        f,
-        types,
-        alike,
-        paths,
-        cells,
-        roots,
-        &mut path[..size],
-        n,
-        e,
-    )
-}
-
-// The needs before an emit of the expression e. Says whether the needs are within the bound.
+// The needs before an emit of the expression e. Its operands are lent as much of the path as the function's pointers take. Says whether the needs are within the bound.
 pub fn act_emit(
     bytes: &[u8],
     t: &[u32],
@@ -83,8 +48,10 @@ pub fn act_emit(
     if !take_out(bytes, t, f, types, cells, roots, n, &path[0..2], a) {
         return false;
     }
-    if !ask_emitted(
-        bytes, t, f, types, alike, paths, cells, roots, path, asked, e,
+    let size = (expressions(t, f) as usize) + 2;
+    let part = &mut path[..size];
+    if !ask_operands(
+        bytes, t, f, types, alike, paths, cells, roots, part, asked, e,
     ) {
         return false;
     }

@@ -2,7 +2,7 @@
 use mathlib.Core.Path.{◌∙◌}
 use Rattle.acts.proofs.Steps.{needs_some, acted_none}
 use Rattle.acts.proofs.Storing.{act_needing}
-use Rattle.acts.proofs.Emit.{emit-take, emit-full, operands_given, operands_full, emit_copy, emit-left}
+use Rattle.acts.proofs.Emit.{path_room, lent-long, emit-take, emit-full, operands_given, operands_full, emit_copy, emit-left}
 use native.Mathlib.Omega.{arith}
 use Rattle.acts.proofs.emits.act_emit.Goals as goal
 
@@ -25,18 +25,19 @@ pub returns-then-not-take_out : goal.returns-then-not-take_out
 returns-then-not-take_out c =
     record { step = emit-full c.requires.act_given c.requires.e_in_bounds (needs_some c.emit_overlap-a.ensures c.is_some.ensures c.if-not-is_some.false) c.evaluated_path.ensures.is c.take_out.ensures c.if-not-take_out.true; long = c.evaluated_path.ensures.long ∙ c.emit_overlap-a.ensures.long }
 
-pub ask_emitted-requires : goal.ask_emitted-requires
-ask_emitted-requires c =
-    record { operands_given = operands_given c.requires.act_given c.requires.e_in_bounds (needs_some c.emit_overlap-a.ensures c.is_some.ensures c.if-not-is_some.false) c.evaluated_path.ensures.is c.take_out.ensures c.if-not-take_out.false; f_in_bounds = omega (arith, c.requires.act_given.room, c.evaluated_path.ensures.long, c.emit_overlap-a.ensures.long) }
+pub ask_operands-requires : goal.ask_operands-requires
+ask_operands-requires c =
+    let given = operands_given c.requires.act_given c.requires.e_in_bounds (needs_some c.emit_overlap-a.ensures c.is_some.ensures c.if-not-is_some.false) c.evaluated_path.ensures.is c.take_out.ensures c.if-not-take_out.false in
+    record { operands_given = given; path_room = path_room given _ (omega (arith, c.requires.act_given.room, c.evaluated_path.ensures.long, c.emit_overlap-a.ensures.long)) _ (c.expressions.ensures c.args.bytes.now) }
 
-pub returns-then-not-ask_emitted : goal.returns-then-not-ask_emitted
-returns-then-not-ask_emitted c =
-    record { step = operands_full c.requires.act_given c.requires.e_in_bounds (needs_some c.emit_overlap-a.ensures c.is_some.ensures c.if-not-is_some.false) c.evaluated_path.ensures.is c.take_out.ensures c.if-not-take_out.false c.ask_emitted.ensures c.if-not-ask_emitted.true; long = c.ask_emitted.auto.path ∙ (c.evaluated_path.ensures.long ∙ c.emit_overlap-a.ensures.long) }
+pub returns-then-not-ask_operands : goal.returns-then-not-ask_operands
+returns-then-not-ask_operands c =
+    record { step = operands_full c.requires.act_given c.requires.e_in_bounds (needs_some c.emit_overlap-a.ensures c.is_some.ensures c.if-not-is_some.false) c.evaluated_path.ensures.is c.take_out.ensures c.if-not-take_out.false c.ask_operands.ensures c.if-not-ask_operands.true; long = lent-long _ _ _ _ c.ask_operands.auto.path (c.evaluated_path.ensures.long ∙ c.emit_overlap-a.ensures.long) }
 
 pub copy-requires : goal.copy-requires
 copy-requires c =
-    emit_copy c.requires.act_given c.requires.e_in_bounds (needs_some c.emit_overlap-a.ensures c.is_some.ensures c.if-not-is_some.false) c.evaluated_path.ensures.is c.take_out.ensures c.if-not-take_out.false c.ask_emitted.ensures c.if-not-ask_emitted.false
+    emit_copy c.requires.act_given c.requires.e_in_bounds (needs_some c.emit_overlap-a.ensures c.is_some.ensures c.if-not-is_some.false) c.evaluated_path.ensures.is c.take_out.ensures c.if-not-take_out.false c.ask_operands.ensures c.if-not-ask_operands.false
 
 pub returns : goal.returns
 returns c =
-    record { step = emit-left c.requires.act_given c.requires.e_in_bounds (needs_some c.emit_overlap-a.ensures c.is_some.ensures c.if-not-is_some.false) c.evaluated_path.ensures.is c.take_out.ensures c.if-not-take_out.false c.ask_emitted.ensures c.if-not-ask_emitted.false c.copy.ensures; long = c.ask_emitted.auto.path ∙ (c.evaluated_path.ensures.long ∙ c.emit_overlap-a.ensures.long) }
+    record { step = emit-left c.requires.act_given c.requires.e_in_bounds (needs_some c.emit_overlap-a.ensures c.is_some.ensures c.if-not-is_some.false) c.evaluated_path.ensures.is c.take_out.ensures c.if-not-take_out.false c.ask_operands.ensures c.if-not-ask_operands.false c.copy.ensures; long = lent-long _ _ _ _ c.ask_operands.auto.path (c.evaluated_path.ensures.long ∙ c.emit_overlap-a.ensures.long) }

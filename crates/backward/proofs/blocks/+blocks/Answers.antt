@@ -4,9 +4,9 @@ use mathlib.Core.Path.{refl}
 use Rattle.strays.proofs.Found.{statement_in, statement_small, there, block_low}
 use Rattle.backward.proofs.Course.{point_asks}
 use Rattle.backward.proofs.Statements.{at-point, around-full, around-on, no_statement, later_point, statement_asks, later_full, later_more, all_walked, row_in, inner_passes, holding, not_holding, is_loop}
-use Rattle.backward.proofs.Holders.{bare-if, bare-switch, bare-loop, first_there, holder_marked, hand_needing, holder_obeys, holder_copy, bare_asks, holder_full, holder_merge, holder_ends, holder_lengths, holder_ends_full, low_number}
-use Rattle.backward.proofs.Ifs.{if_copy, reject_asks, if_rejected, if_exchange, accept_asks, if_accepted, if_end_asks, if_ends, if_lengths, if_ends_full}
-use Rattle.backward.proofs.Switches.{no_case, case_copy, case_asks, case_passes, merge_asks, case_more, case_lengths, case_ends_full, all_cases, switch_write, cases_ask, switch_passes, switch_end_asks, switch-ends, switch_lengths, switch_ends_full}
+use Rattle.backward.proofs.Holders.{bare-if, bare-switch, bare-loop, first_there, holder_marked, hand_needing, holder_obeys, holder_copy, bare_asks, holder_full, holder_merge, holder_ends, holder_ends_full, low_number}
+use Rattle.backward.proofs.Ifs.{if_copy, reject_asks, if_rejected, if_exchange, accept_asks, if_accepted, if_end_asks, if_ends, if_ends_full}
+use Rattle.backward.proofs.Switches.{no_case, case_copy, case_asks, case_passes, merge_asks, case_more, case_ends_full, all_cases, cases_ask, switch_passes, switch_end_asks, switch-ends, switch_ends_full}
 use Rattle.backward.proofs.Loops.{begin_asks, loop_begun_full, continuing_asks, loop_continuing, body_copy, body_asks, loop_body, end_asks, loop_ends}
 use native.Mathlib.Omega.{arith}
 use Rattle.backward.proofs.blocks.+blocks.Goals as goal
@@ -20,17 +20,6 @@ pub pass_around-pass_block-q-requires : goal.pass_around-pass_block-q-requires
 pass_around-pass_block-q-requires t c =
     (omega (arith, c.decreases), (at-point c.requires.course c.note-at.ensures, (c.requires.b_in_bounds, c.requires.block_of)))
 
-pub pass_around-shape_of-cells-then-q : goal.pass_around-shape_of-cells-then-q
-pass_around-shape_of-cells-then-q t c =
-    (around-full c.requires.course c.note-at.ensures c.pass_block-q.ensures c.if-q.true).walked.cells
-
-pub pass_around-shape_of-roots-then-q : goal.pass_around-shape_of-roots-then-q
-pass_around-shape_of-roots-then-q t c =
-    (around-full c.requires.course c.note-at.ensures c.pass_block-q.ensures c.if-q.true).walked.slots
-
-pub pass_around-shape_of-path-then-q : goal.pass_around-shape_of-path-then-q
-pass_around-shape_of-path-then-q t c = (around-full c.requires.course c.note-at.ensures c.pass_block-q.ensures c.if-q.true).long
-
 pub pass_around-returns-then-q : goal.pass_around-returns-then-q
 pass_around-returns-then-q t c = around-full c.requires.course c.note-at.ensures c.pass_block-q.ensures c.if-q.true
 
@@ -38,18 +27,6 @@ pub pass_around-note-requires : goal.pass_around-note-requires
 pass_around-note-requires t c =
     let q9 = point_asks (c.pass_block-q.ensures.walked.ready c.if-q.false) in
     record { live = q9.0; n_nonzero = q9.1 }
-
-pub pass_around-shape_of-cells : goal.pass_around-shape_of-cells
-pass_around-shape_of-cells t c =
-    (around-on c.requires.course c.note-at.ensures c.pass_block-q.ensures c.if-q.false c.note.ensures).walked.cells
-
-pub pass_around-shape_of-roots : goal.pass_around-shape_of-roots
-pass_around-shape_of-roots t c =
-    (around-on c.requires.course c.note-at.ensures c.pass_block-q.ensures c.if-q.false c.note.ensures).walked.slots
-
-pub pass_around-shape_of-path : goal.pass_around-shape_of-path
-pass_around-shape_of-path t c =
-    (around-on c.requires.course c.note-at.ensures c.pass_block-q.ensures c.if-q.false c.note.ensures).long
 
 pub pass_around-returns : goal.pass_around-returns
 pass_around-returns t c =
@@ -59,18 +36,6 @@ pub pass_bare-pass_if-requires : goal.pass_bare-pass_if-requires
 pass_bare-pass_if-requires t c =
     (omega (arith, c.decreases), (c.requires.course, (c.requires.b_in_bounds, (c.requires.row_in, c.in-2.is))))
 
-pub pass_bare-shape_of-cells-in-2 : goal.pass_bare-shape_of-cells-in-2
-pass_bare-shape_of-cells-in-2 t c =
-    (bare-if c.requires.course c.requires.row_in c.args.marks.now c.in-2.is c.pass_if.ensures).walked.cells
-
-pub pass_bare-shape_of-roots-in-2 : goal.pass_bare-shape_of-roots-in-2
-pass_bare-shape_of-roots-in-2 t c =
-    (bare-if c.requires.course c.requires.row_in c.args.marks.now c.in-2.is c.pass_if.ensures).walked.slots
-
-pub pass_bare-shape_of-path-in-2 : goal.pass_bare-shape_of-path-in-2
-pass_bare-shape_of-path-in-2 t c =
-    (bare-if c.requires.course c.requires.row_in c.args.marks.now c.in-2.is c.pass_if.ensures).long
-
 pub pass_bare-returns-in-2 : goal.pass_bare-returns-in-2
 pass_bare-returns-in-2 t c =
     bare-if c.requires.course c.requires.row_in c.args.marks.now c.in-2.is c.pass_if.ensures
@@ -79,18 +44,6 @@ pub pass_bare-pass_switch-requires : goal.pass_bare-pass_switch-requires
 pass_bare-pass_switch-requires t c =
     (omega (arith, c.decreases), (c.requires.course, (c.requires.b_in_bounds, (c.requires.row_in, c.in-3.is))))
 
-pub pass_bare-shape_of-cells-in-3 : goal.pass_bare-shape_of-cells-in-3
-pass_bare-shape_of-cells-in-3 t c =
-    (bare-switch c.requires.course c.requires.row_in c.args.marks.now c.in-3.is c.pass_switch.ensures).walked.cells
-
-pub pass_bare-shape_of-roots-in-3 : goal.pass_bare-shape_of-roots-in-3
-pass_bare-shape_of-roots-in-3 t c =
-    (bare-switch c.requires.course c.requires.row_in c.args.marks.now c.in-3.is c.pass_switch.ensures).walked.slots
-
-pub pass_bare-shape_of-path-in-3 : goal.pass_bare-shape_of-path-in-3
-pass_bare-shape_of-path-in-3 t c =
-    (bare-switch c.requires.course c.requires.row_in c.args.marks.now c.in-3.is c.pass_switch.ensures).long
-
 pub pass_bare-returns-in-3 : goal.pass_bare-returns-in-3
 pass_bare-returns-in-3 t c =
     bare-switch c.requires.course c.requires.row_in c.args.marks.now c.in-3.is c.pass_switch.ensures
@@ -98,18 +51,6 @@ pass_bare-returns-in-3 t c =
 pub pass_bare-pass_loop-requires : goal.pass_bare-pass_loop-requires
 pass_bare-pass_loop-requires t c =
     (omega (arith, c.decreases), (c.requires.course, (c.requires.b_in_bounds, (c.requires.row_in, is_loop c.requires.lt_kind (omega arith) (omega arith)))))
-
-pub pass_bare-shape_of-cells-in_default : goal.pass_bare-shape_of-cells-in_default
-pass_bare-shape_of-cells-in_default t c =
-    (bare-loop c.requires.course c.requires.row_in c.args.marks.now (omega arith) (omega arith) c.pass_loop.ensures).walked.cells
-
-pub pass_bare-shape_of-roots-in_default : goal.pass_bare-shape_of-roots-in_default
-pass_bare-shape_of-roots-in_default t c =
-    (bare-loop c.requires.course c.requires.row_in c.args.marks.now (omega arith) (omega arith) c.pass_loop.ensures).walked.slots
-
-pub pass_bare-shape_of-path-in_default : goal.pass_bare-shape_of-path-in_default
-pass_bare-shape_of-path-in_default t c =
-    (bare-loop c.requires.course c.requires.row_in c.args.marks.now (omega arith) (omega arith) c.pass_loop.ensures).long
 
 pub pass_bare-returns-in_default : goal.pass_bare-returns-in_default
 pass_bare-returns-in_default t c =
@@ -131,18 +72,6 @@ pub pass_block-pass_statement-q-requires : goal.pass_block-pass_statement-q-requ
 pass_block-pass_statement-q-requires t c =
     let z = statement_asks c.requires.course c.loop-k.invariant c.note-at.ensures c.requires.b_in_bounds in (omega (arith, c.decreases), (z.0, (z.1, statement_in c.requires.block_of _ _ c.block-range.ensures (omega (arith, c.loop-k.invariant.within)))))
 
-pub pass_block-shape_of-cells-then-q : goal.pass_block-shape_of-cells-then-q
-pass_block-shape_of-cells-then-q t c =
-    (later_full c.requires.course c.loop-k.invariant c.note-at.ensures (c.loop-k.k - 1) (omega arith) c.pass_statement-q.ensures c.if-q.true c.requires.block_of c.block-range.ensures refl refl).walked.cells
-
-pub pass_block-shape_of-roots-then-q : goal.pass_block-shape_of-roots-then-q
-pass_block-shape_of-roots-then-q t c =
-    (later_full c.requires.course c.loop-k.invariant c.note-at.ensures (c.loop-k.k - 1) (omega arith) c.pass_statement-q.ensures c.if-q.true c.requires.block_of c.block-range.ensures refl refl).walked.slots
-
-pub pass_block-shape_of-path-then-q : goal.pass_block-shape_of-path-then-q
-pass_block-shape_of-path-then-q t c =
-    (later_full c.requires.course c.loop-k.invariant c.note-at.ensures (c.loop-k.k - 1) (omega arith) c.pass_statement-q.ensures c.if-q.true c.requires.block_of c.block-range.ensures refl refl).long
-
 pub pass_block-returns-then-q : goal.pass_block-returns-then-q
 pass_block-returns-then-q t c =
     later_full c.requires.course c.loop-k.invariant c.note-at.ensures (c.loop-k.k - 1) (omega arith) c.pass_statement-q.ensures c.if-q.true c.requires.block_of c.block-range.ensures refl refl
@@ -150,18 +79,6 @@ pass_block-returns-then-q t c =
 pub pass_block-loop-k-preserved : goal.pass_block-loop-k-preserved
 pass_block-loop-k-preserved t c =
     later_more c.requires.course c.loop-k.invariant c.note-at.ensures (c.loop-k.k - 1) (omega arith) c.pass_statement-q.ensures c.if-q.false
-
-pub pass_block-shape_of-cells : goal.pass_block-shape_of-cells
-pass_block-shape_of-cells t c =
-    (all_walked c.requires.course c.loop-k.invariant c.requires.block_of c.block-range.ensures refl refl (omega arith)).walked.cells
-
-pub pass_block-shape_of-roots : goal.pass_block-shape_of-roots
-pass_block-shape_of-roots t c =
-    (all_walked c.requires.course c.loop-k.invariant c.requires.block_of c.block-range.ensures refl refl (omega arith)).walked.slots
-
-pub pass_block-shape_of-path : goal.pass_block-shape_of-path
-pass_block-shape_of-path t c =
-    (all_walked c.requires.course c.loop-k.invariant c.requires.block_of c.block-range.ensures refl refl (omega arith)).long
 
 pub pass_block-returns : goal.pass_block-returns
 pass_block-returns t c =
@@ -175,48 +92,18 @@ pub pass_cases-copy-requires : goal.pass_cases-copy-requires
 pass_cases-copy-requires t c =
     case_copy c.requires.course c.requires.row_in c.requires.kind_value c.args.marks.now c.requires.b_in_bounds _ c.loop-i.invariant
 
-pub pass_cases-overflow_add-n : goal.pass_cases-overflow_add-n
-pass_cases-overflow_add-n t c = omega (arith, c.requires.b_in_bounds, c.well_formed, c.ranges)
-
 pub pass_cases-pass_around-q-requires : goal.pass_cases-pass_around-q-requires
 pass_cases-pass_around-q-requires t c =
     let z = case_asks c.requires.course c.requires.row_in c.requires.kind_value c.args.marks.now c.requires.b_in_bounds _ c.loop-i.invariant (omega (arith, c.loop-i-test.true, c.operand-count.ensures)) c.copy.ensures c.block_operand-case.ensures in (omega (arith, z.0, c.decreases), z.1)
-
-pub pass_cases-shape_of-cells-then-q : goal.pass_cases-shape_of-cells-then-q
-pass_cases-shape_of-cells-then-q t c =
-    (case_passes c.requires.course c.requires.row_in c.requires.kind_value c.args.marks.now c.requires.b_in_bounds _ c.loop-i.invariant (omega (arith, c.loop-i-test.true, c.operand-count.ensures)) c.copy.ensures c.block_operand-case.ensures c.pass_around-q.ensures c.if-q.true).walked.cells
-
-pub pass_cases-shape_of-roots-then-q : goal.pass_cases-shape_of-roots-then-q
-pass_cases-shape_of-roots-then-q t c =
-    (case_passes c.requires.course c.requires.row_in c.requires.kind_value c.args.marks.now c.requires.b_in_bounds _ c.loop-i.invariant (omega (arith, c.loop-i-test.true, c.operand-count.ensures)) c.copy.ensures c.block_operand-case.ensures c.pass_around-q.ensures c.if-q.true).walked.slots
-
-pub pass_cases-shape_of-path-then-q : goal.pass_cases-shape_of-path-then-q
-pass_cases-shape_of-path-then-q t c =
-    (case_passes c.requires.course c.requires.row_in c.requires.kind_value c.args.marks.now c.requires.b_in_bounds _ c.loop-i.invariant (omega (arith, c.loop-i-test.true, c.operand-count.ensures)) c.copy.ensures c.block_operand-case.ensures c.pass_around-q.ensures c.if-q.true).long
 
 pub pass_cases-returns-then-q : goal.pass_cases-returns-then-q
 pass_cases-returns-then-q t c =
     case_passes c.requires.course c.requires.row_in c.requires.kind_value c.args.marks.now c.requires.b_in_bounds _ c.loop-i.invariant (omega (arith, c.loop-i-test.true, c.operand-count.ensures)) c.copy.ensures c.block_operand-case.ensures c.pass_around-q.ensures c.if-q.true
 
-pub pass_cases-overflow_sub-n : goal.pass_cases-overflow_sub-n
-pass_cases-overflow_sub-n t c = omega (arith, c.requires.course.ready.high)
-
 pub pass_cases-merge-requires : goal.pass_cases-merge-requires
 pass_cases-merge-requires t c =
     let q9 = merge_asks c.requires.course c.requires.row_in c.requires.kind_value c.args.marks.now c.requires.b_in_bounds _ c.loop-i.invariant (omega (arith, c.loop-i-test.true, c.operand-count.ensures)) c.copy.ensures c.block_operand-case.ensures c.pass_around-q.ensures c.if-q.false in
     record { live = q9.0; n_nonzero = q9.1.0; i_bound = q9.1.1 }
-
-pub pass_cases-shape_of-cells-then-not-merge : goal.pass_cases-shape_of-cells-then-not-merge
-pass_cases-shape_of-cells-then-not-merge t c =
-    (case_lengths c.requires.course c.requires.row_in c.requires.kind_value c.args.marks.now c.requires.b_in_bounds _ c.loop-i.invariant (omega (arith, c.loop-i-test.true, c.operand-count.ensures)) c.copy.ensures c.block_operand-case.ensures c.pass_around-q.ensures c.if-q.false c.merge.ensures).0
-
-pub pass_cases-shape_of-roots-then-not-merge : goal.pass_cases-shape_of-roots-then-not-merge
-pass_cases-shape_of-roots-then-not-merge t c =
-    (case_lengths c.requires.course c.requires.row_in c.requires.kind_value c.args.marks.now c.requires.b_in_bounds _ c.loop-i.invariant (omega (arith, c.loop-i-test.true, c.operand-count.ensures)) c.copy.ensures c.block_operand-case.ensures c.pass_around-q.ensures c.if-q.false c.merge.ensures).1.0
-
-pub pass_cases-shape_of-path-then-not-merge : goal.pass_cases-shape_of-path-then-not-merge
-pass_cases-shape_of-path-then-not-merge t c =
-    (case_lengths c.requires.course c.requires.row_in c.requires.kind_value c.args.marks.now c.requires.b_in_bounds _ c.loop-i.invariant (omega (arith, c.loop-i-test.true, c.operand-count.ensures)) c.copy.ensures c.block_operand-case.ensures c.pass_around-q.ensures c.if-q.false c.merge.ensures).1.1
 
 pub pass_cases-returns-then-not-merge : goal.pass_cases-returns-then-not-merge
 pass_cases-returns-then-not-merge t c =
@@ -226,61 +113,25 @@ pub pass_cases-loop-i-preserved : goal.pass_cases-loop-i-preserved
 pass_cases-loop-i-preserved t c =
     case_more c.requires.course c.requires.row_in c.requires.kind_value c.args.marks.now c.requires.b_in_bounds _ c.loop-i.invariant (omega (arith, c.loop-i-test.true, c.operand-count.ensures)) c.copy.ensures c.block_operand-case.ensures c.pass_around-q.ensures c.if-q.false c.merge.ensures c.if-not-merge.false
 
-pub pass_cases-shape_of-cells : goal.pass_cases-shape_of-cells
-pass_cases-shape_of-cells t c =
-    (all_cases c.requires.course c.requires.row_in c.requires.kind_value c.args.marks.now c.operand-count.ensures (omega (arith, c.operand-count.ensures)) c.loop-i.invariant).walked.cells
-
-pub pass_cases-shape_of-roots : goal.pass_cases-shape_of-roots
-pass_cases-shape_of-roots t c =
-    (all_cases c.requires.course c.requires.row_in c.requires.kind_value c.args.marks.now c.operand-count.ensures (omega (arith, c.operand-count.ensures)) c.loop-i.invariant).walked.slots
-
-pub pass_cases-shape_of-path : goal.pass_cases-shape_of-path
-pass_cases-shape_of-path t c =
-    (all_cases c.requires.course c.requires.row_in c.requires.kind_value c.args.marks.now c.operand-count.ensures (omega (arith, c.operand-count.ensures)) c.loop-i.invariant).long
-
 pub pass_cases-returns : goal.pass_cases-returns
 pass_cases-returns t c =
     all_cases c.requires.course c.requires.row_in c.requires.kind_value c.args.marks.now c.operand-count.ensures (omega (arith, c.operand-count.ensures)) c.loop-i.invariant
-
-pub pass_holder-overflow_sub-last : goal.pass_holder-overflow_sub-last
-pass_holder-overflow_sub-last t c = omega (arith, c.requires.course.ready.high)
 
 pub pass_holder-bounds-firsts-s : goal.pass_holder-bounds-firsts-s
 pass_holder-bounds-firsts-s t c =
     first_there c.requires.course c.requires.row_in c.args.marks.now c.requires.b_in_bounds c.requires.lt_kind
 
-pub pass_holder-overflow_cast-begin-2 : goal.pass_holder-overflow_cast-begin-2
-pass_holder-overflow_cast-begin-2 t c = omega (arith, c.type_inv.firsts c.args.s)
-
 pub pass_holder-pass_bare-requires : goal.pass_holder-pass_bare-requires
 pass_holder-pass_bare-requires t c =
     (omega (arith, c.decreases), (c.requires.course, (omega (arith, c.requires.b_in_bounds), (c.requires.row_in, c.requires.lt_kind))))
-
-pub pass_holder-shape_of-cells-then-mark_at : goal.pass_holder-shape_of-cells-then-mark_at
-pass_holder-shape_of-cells-then-mark_at t c =
-    (holder_marked c.requires.course c.requires.row_in c.args.marks.now c.requires.b_in_bounds c.requires.lt_kind refl c.mark_at.ensures c.if-mark_at.true c.pass_bare.ensures).walked.cells
-
-pub pass_holder-shape_of-roots-then-mark_at : goal.pass_holder-shape_of-roots-then-mark_at
-pass_holder-shape_of-roots-then-mark_at t c =
-    (holder_marked c.requires.course c.requires.row_in c.args.marks.now c.requires.b_in_bounds c.requires.lt_kind refl c.mark_at.ensures c.if-mark_at.true c.pass_bare.ensures).walked.slots
-
-pub pass_holder-shape_of-path-then-mark_at : goal.pass_holder-shape_of-path-then-mark_at
-pass_holder-shape_of-path-then-mark_at t c =
-    (holder_marked c.requires.course c.requires.row_in c.args.marks.now c.requires.b_in_bounds c.requires.lt_kind refl c.mark_at.ensures c.if-mark_at.true c.pass_bare.ensures).long
 
 pub pass_holder-returns-then-mark_at : goal.pass_holder-returns-then-mark_at
 pass_holder-returns-then-mark_at t c =
     holder_marked c.requires.course c.requires.row_in c.args.marks.now c.requires.b_in_bounds c.requires.lt_kind refl c.mark_at.ensures c.if-mark_at.true c.pass_bare.ensures
 
-pub pass_holder-bounds-roots-last : goal.pass_holder-bounds-roots-last
-pass_holder-bounds-roots-last t c = omega (arith, c.requires.b_in_bounds, c.requires.course.ready.high)
-
 pub pass_holder-obeys-requires : goal.pass_holder-obeys-requires
 pass_holder-obeys-requires t c =
     record { needing = hand_needing c.requires.course c.requires.row_in c.args.marks.now c.requires.b_in_bounds c.requires.lt_kind refl c.mark_at.ensures; f_in_bounds = c.requires.course.long; statement_in = c.requires.row_in.statement }
-
-pub pass_holder-shape_of-path-then-obeys : goal.pass_holder-shape_of-path-then-obeys
-pass_holder-shape_of-path-then-obeys t c = c.obeys.ensures.long
 
 pub pass_holder-returns-then-obeys : goal.pass_holder-returns-then-obeys
 pass_holder-returns-then-obeys t c =
@@ -290,24 +141,9 @@ pub pass_holder-copy-requires : goal.pass_holder-copy-requires
 pass_holder-copy-requires t c =
     holder_copy c.requires.course c.requires.row_in c.args.marks.now c.requires.b_in_bounds c.requires.lt_kind refl c.mark_at.ensures c.if-mark_at.false c.obeys.ensures
 
-pub pass_holder-overflow_add-n : goal.pass_holder-overflow_add-n
-pass_holder-overflow_add-n t c = omega (arith, c.requires.b_in_bounds, c.well_formed, c.ranges)
-
 pub pass_holder-pass_bare-q-requires : goal.pass_holder-pass_bare-q-requires
 pass_holder-pass_bare-q-requires t c =
     let z = bare_asks c.requires.course c.requires.row_in c.args.marks.now c.requires.b_in_bounds c.requires.lt_kind refl c.mark_at.ensures c.if-mark_at.false c.obeys.ensures c.if-obeys.false c.copy.ensures in (omega (arith, c.decreases), (z.0, (z.1, (c.requires.row_in, c.requires.lt_kind))))
-
-pub pass_holder-shape_of-cells-then-q : goal.pass_holder-shape_of-cells-then-q
-pass_holder-shape_of-cells-then-q t c =
-    (holder_full c.requires.course c.requires.row_in c.args.marks.now c.requires.b_in_bounds c.requires.lt_kind refl c.mark_at.ensures c.if-mark_at.false c.obeys.ensures c.if-obeys.false c.copy.ensures c.pass_bare-q.ensures c.if-q.true).walked.cells
-
-pub pass_holder-shape_of-roots-then-q : goal.pass_holder-shape_of-roots-then-q
-pass_holder-shape_of-roots-then-q t c =
-    (holder_full c.requires.course c.requires.row_in c.args.marks.now c.requires.b_in_bounds c.requires.lt_kind refl c.mark_at.ensures c.if-mark_at.false c.obeys.ensures c.if-obeys.false c.copy.ensures c.pass_bare-q.ensures c.if-q.true).walked.slots
-
-pub pass_holder-shape_of-path-then-q : goal.pass_holder-shape_of-path-then-q
-pass_holder-shape_of-path-then-q t c =
-    (holder_full c.requires.course c.requires.row_in c.args.marks.now c.requires.b_in_bounds c.requires.lt_kind refl c.mark_at.ensures c.if-mark_at.false c.obeys.ensures c.if-obeys.false c.copy.ensures c.pass_bare-q.ensures c.if-q.true).long
 
 pub pass_holder-returns-then-q : goal.pass_holder-returns-then-q
 pass_holder-returns-then-q t c =
@@ -325,63 +161,21 @@ pass_holder-merge-requires t c =
     let q9 = holder_merge c.requires.course c.requires.row_in c.args.marks.now c.requires.b_in_bounds c.requires.lt_kind refl c.mark_at.ensures c.if-mark_at.false c.obeys.ensures c.if-obeys.false c.copy.ensures c.pass_bare-q.ensures c.if-q.false in
     record { live = q9.0; n_nonzero = q9.1.0; i_bound = q9.1.1 }
 
-pub pass_holder-shape_of-cells-then-merge : goal.pass_holder-shape_of-cells-then-merge
-pass_holder-shape_of-cells-then-merge t c =
-    (holder_ends c.requires.course c.requires.row_in c.args.marks.now c.requires.b_in_bounds c.requires.lt_kind refl c.mark_at.ensures c.if-mark_at.false c.obeys.ensures c.if-obeys.false c.copy.ensures c.pass_bare-q.ensures c.if-q.false refl c.blame-blamed.ensures c.merge.ensures c.if-merge.true).walked.cells
-
-pub pass_holder-shape_of-roots-then-merge : goal.pass_holder-shape_of-roots-then-merge
-pass_holder-shape_of-roots-then-merge t c =
-    (holder_ends c.requires.course c.requires.row_in c.args.marks.now c.requires.b_in_bounds c.requires.lt_kind refl c.mark_at.ensures c.if-mark_at.false c.obeys.ensures c.if-obeys.false c.copy.ensures c.pass_bare-q.ensures c.if-q.false refl c.blame-blamed.ensures c.merge.ensures c.if-merge.true).walked.slots
-
-pub pass_holder-shape_of-path-then-merge : goal.pass_holder-shape_of-path-then-merge
-pass_holder-shape_of-path-then-merge t c =
-    (holder_ends c.requires.course c.requires.row_in c.args.marks.now c.requires.b_in_bounds c.requires.lt_kind refl c.mark_at.ensures c.if-mark_at.false c.obeys.ensures c.if-obeys.false c.copy.ensures c.pass_bare-q.ensures c.if-q.false refl c.blame-blamed.ensures c.merge.ensures c.if-merge.true).long
-
 pub pass_holder-returns-then-merge : goal.pass_holder-returns-then-merge
 pass_holder-returns-then-merge t c =
     holder_ends c.requires.course c.requires.row_in c.args.marks.now c.requires.b_in_bounds c.requires.lt_kind refl c.mark_at.ensures c.if-mark_at.false c.obeys.ensures c.if-obeys.false c.copy.ensures c.pass_bare-q.ensures c.if-q.false refl c.blame-blamed.ensures c.merge.ensures c.if-merge.true
-
-pub pass_holder-shape_of-cells : goal.pass_holder-shape_of-cells
-pass_holder-shape_of-cells t c =
-    (holder_lengths c.requires.course c.requires.row_in c.args.marks.now c.requires.b_in_bounds c.requires.lt_kind refl c.mark_at.ensures c.if-mark_at.false c.obeys.ensures c.if-obeys.false c.copy.ensures c.pass_bare-q.ensures c.if-q.false refl c.blame-blamed.ensures c.merge.ensures).0
-
-pub pass_holder-shape_of-roots : goal.pass_holder-shape_of-roots
-pass_holder-shape_of-roots t c =
-    (holder_lengths c.requires.course c.requires.row_in c.args.marks.now c.requires.b_in_bounds c.requires.lt_kind refl c.mark_at.ensures c.if-mark_at.false c.obeys.ensures c.if-obeys.false c.copy.ensures c.pass_bare-q.ensures c.if-q.false refl c.blame-blamed.ensures c.merge.ensures).1.0
-
-pub pass_holder-shape_of-path : goal.pass_holder-shape_of-path
-pass_holder-shape_of-path t c =
-    (holder_lengths c.requires.course c.requires.row_in c.args.marks.now c.requires.b_in_bounds c.requires.lt_kind refl c.mark_at.ensures c.if-mark_at.false c.obeys.ensures c.if-obeys.false c.copy.ensures c.pass_bare-q.ensures c.if-q.false refl c.blame-blamed.ensures c.merge.ensures).1.1
 
 pub pass_holder-returns : goal.pass_holder-returns
 pass_holder-returns t c =
     holder_ends_full c.requires.course c.requires.row_in c.args.marks.now c.requires.b_in_bounds c.requires.lt_kind refl c.mark_at.ensures c.if-mark_at.false c.obeys.ensures c.if-obeys.false c.copy.ensures c.pass_bare-q.ensures c.if-q.false refl c.blame-blamed.ensures c.merge.ensures c.if-merge.false c.filled.ensures
 
-pub pass_if-overflow_sub-last : goal.pass_if-overflow_sub-last
-pass_if-overflow_sub-last t c = omega (arith, c.requires.course.ready.high)
-
 pub pass_if-copy-requires : goal.pass_if-copy-requires
 pass_if-copy-requires t c =
     if_copy c.requires.course c.requires.b_in_bounds c.requires.row_in c.requires.kind_value c.args.marks.now
 
-pub pass_if-overflow_add-n : goal.pass_if-overflow_add-n
-pass_if-overflow_add-n t c = omega (arith, c.requires.b_in_bounds, c.well_formed, c.ranges)
-
 pub pass_if-pass_around-q-requires : goal.pass_if-pass_around-q-requires
 pass_if-pass_around-q-requires t c =
     let z = reject_asks c.requires.course c.requires.b_in_bounds c.requires.row_in c.requires.kind_value c.args.marks.now c.copy.ensures c.block_operand-reject.ensures in (omega (arith, z.0, c.decreases), z.1)
-
-pub pass_if-shape_of-cells-then-q : goal.pass_if-shape_of-cells-then-q
-pass_if-shape_of-cells-then-q t c =
-    (if_rejected c.requires.course c.requires.b_in_bounds c.requires.row_in c.requires.kind_value c.args.marks.now c.copy.ensures c.block_operand-reject.ensures c.pass_around-q.ensures c.if-q.true).walked.cells
-
-pub pass_if-shape_of-roots-then-q : goal.pass_if-shape_of-roots-then-q
-pass_if-shape_of-roots-then-q t c =
-    (if_rejected c.requires.course c.requires.b_in_bounds c.requires.row_in c.requires.kind_value c.args.marks.now c.copy.ensures c.block_operand-reject.ensures c.pass_around-q.ensures c.if-q.true).walked.slots
-
-pub pass_if-shape_of-path-then-q : goal.pass_if-shape_of-path-then-q
-pass_if-shape_of-path-then-q t c =
-    (if_rejected c.requires.course c.requires.b_in_bounds c.requires.row_in c.requires.kind_value c.args.marks.now c.copy.ensures c.block_operand-reject.ensures c.pass_around-q.ensures c.if-q.true).long
 
 pub pass_if-returns-then-q : goal.pass_if-returns-then-q
 pass_if-returns-then-q t c =
@@ -391,24 +185,9 @@ pub pass_if-exchange-requires : goal.pass_if-exchange-requires
 pass_if-exchange-requires t c =
     if_exchange c.requires.course c.requires.b_in_bounds c.requires.row_in c.requires.kind_value c.args.marks.now c.copy.ensures c.block_operand-reject.ensures c.pass_around-q.ensures c.if-q.false
 
-pub pass_if-overflow_add-n-2 : goal.pass_if-overflow_add-n-2
-pass_if-overflow_add-n-2 t c = omega (arith, c.requires.b_in_bounds, c.well_formed, c.ranges)
-
 pub pass_if-pass_around-o-requires : goal.pass_if-pass_around-o-requires
 pass_if-pass_around-o-requires t c =
     let z = accept_asks c.requires.course c.requires.b_in_bounds c.requires.row_in c.requires.kind_value c.args.marks.now c.copy.ensures c.block_operand-reject.ensures c.pass_around-q.ensures c.if-q.false c.exchange.ensures c.block_operand-accept.ensures in (omega (arith, z.0, c.decreases), z.1)
-
-pub pass_if-shape_of-cells-then-o : goal.pass_if-shape_of-cells-then-o
-pass_if-shape_of-cells-then-o t c =
-    (if_accepted c.requires.course c.requires.b_in_bounds c.requires.row_in c.requires.kind_value c.args.marks.now c.copy.ensures c.block_operand-reject.ensures c.pass_around-q.ensures c.if-q.false c.exchange.ensures c.block_operand-accept.ensures c.pass_around-o.ensures c.if-o.true).walked.cells
-
-pub pass_if-shape_of-roots-then-o : goal.pass_if-shape_of-roots-then-o
-pass_if-shape_of-roots-then-o t c =
-    (if_accepted c.requires.course c.requires.b_in_bounds c.requires.row_in c.requires.kind_value c.args.marks.now c.copy.ensures c.block_operand-reject.ensures c.pass_around-q.ensures c.if-q.false c.exchange.ensures c.block_operand-accept.ensures c.pass_around-o.ensures c.if-o.true).walked.slots
-
-pub pass_if-shape_of-path-then-o : goal.pass_if-shape_of-path-then-o
-pass_if-shape_of-path-then-o t c =
-    (if_accepted c.requires.course c.requires.b_in_bounds c.requires.row_in c.requires.kind_value c.args.marks.now c.copy.ensures c.block_operand-reject.ensures c.pass_around-q.ensures c.if-q.false c.exchange.ensures c.block_operand-accept.ensures c.pass_around-o.ensures c.if-o.true).long
 
 pub pass_if-returns-then-o : goal.pass_if-returns-then-o
 pass_if-returns-then-o t c =
@@ -418,33 +197,9 @@ pub pass_if-end_if-requires : goal.pass_if-end_if-requires
 pass_if-end_if-requires t c =
     if_end_asks c.requires.course c.requires.b_in_bounds c.requires.row_in c.requires.kind_value c.args.marks.now c.copy.ensures c.block_operand-reject.ensures c.pass_around-q.ensures c.if-q.false c.exchange.ensures c.block_operand-accept.ensures c.pass_around-o.ensures c.if-o.false c.expression_operand-condition.ensures
 
-pub pass_if-shape_of-cells-then-end_if : goal.pass_if-shape_of-cells-then-end_if
-pass_if-shape_of-cells-then-end_if t c =
-    (if_ends c.requires.course c.requires.b_in_bounds c.requires.row_in c.requires.kind_value c.args.marks.now c.copy.ensures c.block_operand-reject.ensures c.pass_around-q.ensures c.if-q.false c.exchange.ensures c.block_operand-accept.ensures c.pass_around-o.ensures c.if-o.false c.expression_operand-condition.ensures c.end_if.ensures c.if-end_if.true).walked.cells
-
-pub pass_if-shape_of-roots-then-end_if : goal.pass_if-shape_of-roots-then-end_if
-pass_if-shape_of-roots-then-end_if t c =
-    (if_ends c.requires.course c.requires.b_in_bounds c.requires.row_in c.requires.kind_value c.args.marks.now c.copy.ensures c.block_operand-reject.ensures c.pass_around-q.ensures c.if-q.false c.exchange.ensures c.block_operand-accept.ensures c.pass_around-o.ensures c.if-o.false c.expression_operand-condition.ensures c.end_if.ensures c.if-end_if.true).walked.slots
-
-pub pass_if-shape_of-path-then-end_if : goal.pass_if-shape_of-path-then-end_if
-pass_if-shape_of-path-then-end_if t c =
-    (if_ends c.requires.course c.requires.b_in_bounds c.requires.row_in c.requires.kind_value c.args.marks.now c.copy.ensures c.block_operand-reject.ensures c.pass_around-q.ensures c.if-q.false c.exchange.ensures c.block_operand-accept.ensures c.pass_around-o.ensures c.if-o.false c.expression_operand-condition.ensures c.end_if.ensures c.if-end_if.true).long
-
 pub pass_if-returns-then-end_if : goal.pass_if-returns-then-end_if
 pass_if-returns-then-end_if t c =
     if_ends c.requires.course c.requires.b_in_bounds c.requires.row_in c.requires.kind_value c.args.marks.now c.copy.ensures c.block_operand-reject.ensures c.pass_around-q.ensures c.if-q.false c.exchange.ensures c.block_operand-accept.ensures c.pass_around-o.ensures c.if-o.false c.expression_operand-condition.ensures c.end_if.ensures c.if-end_if.true
-
-pub pass_if-shape_of-cells : goal.pass_if-shape_of-cells
-pass_if-shape_of-cells t c =
-    (if_lengths c.requires.course c.requires.b_in_bounds c.requires.row_in c.requires.kind_value c.args.marks.now c.copy.ensures c.block_operand-reject.ensures c.pass_around-q.ensures c.if-q.false c.exchange.ensures c.block_operand-accept.ensures c.pass_around-o.ensures c.if-o.false c.expression_operand-condition.ensures c.end_if.ensures).0
-
-pub pass_if-shape_of-roots : goal.pass_if-shape_of-roots
-pass_if-shape_of-roots t c =
-    (if_lengths c.requires.course c.requires.b_in_bounds c.requires.row_in c.requires.kind_value c.args.marks.now c.copy.ensures c.block_operand-reject.ensures c.pass_around-q.ensures c.if-q.false c.exchange.ensures c.block_operand-accept.ensures c.pass_around-o.ensures c.if-o.false c.expression_operand-condition.ensures c.end_if.ensures).1.0
-
-pub pass_if-shape_of-path : goal.pass_if-shape_of-path
-pass_if-shape_of-path t c =
-    (if_lengths c.requires.course c.requires.b_in_bounds c.requires.row_in c.requires.kind_value c.args.marks.now c.copy.ensures c.block_operand-reject.ensures c.pass_around-q.ensures c.if-q.false c.exchange.ensures c.block_operand-accept.ensures c.pass_around-o.ensures c.if-o.false c.expression_operand-condition.ensures c.end_if.ensures).1.1
 
 pub pass_if-returns : goal.pass_if-returns
 pass_if-returns t c =
@@ -454,12 +209,6 @@ pub pass_loop-begin_loop-requires : goal.pass_loop-begin_loop-requires
 pass_loop-begin_loop-requires t c =
     begin_asks c.requires.course c.requires.b_in_bounds c.requires.row_in c.requires.kind_value c.args.marks.now c.expression_operand-break_if.ensures
 
-pub pass_loop-shape_of-cells-then-not-begin_loop : goal.pass_loop-shape_of-cells-then-not-begin_loop
-pass_loop-shape_of-cells-then-not-begin_loop t c = c.begin_loop.ensures.cells
-
-pub pass_loop-shape_of-roots-then-not-begin_loop : goal.pass_loop-shape_of-roots-then-not-begin_loop
-pass_loop-shape_of-roots-then-not-begin_loop t c = c.begin_loop.ensures.slots
-
 pub pass_loop-returns-then-not-begin_loop : goal.pass_loop-returns-then-not-begin_loop
 pass_loop-returns-then-not-begin_loop t c =
     loop_begun_full c.requires.course c.requires.b_in_bounds c.requires.row_in c.requires.kind_value c.args.marks.now c.expression_operand-break_if.ensures c.begin_loop.ensures c.if-not-begin_loop.true c.filled.ensures
@@ -467,31 +216,13 @@ pass_loop-returns-then-not-begin_loop t c =
 pub pass_loop-in_switch-y-requires : goal.pass_loop-in_switch-y-requires
 pass_loop-in_switch-y-requires t c = omega (arith, c.requires.course.ready.high)
 
-pub pass_loop-overflow_add-n : goal.pass_loop-overflow_add-n
-pass_loop-overflow_add-n t c = omega (arith, c.requires.b_in_bounds, c.well_formed, c.ranges)
-
 pub pass_loop-pass_around-q-requires : goal.pass_loop-pass_around-q-requires
 pass_loop-pass_around-q-requires t c =
     let z = continuing_asks c.requires.course c.requires.b_in_bounds c.requires.row_in c.requires.kind_value c.args.marks.now c.expression_operand-break_if.ensures c.begin_loop.ensures c.if-not-begin_loop.false c.in_switch-y.ensures c.block_operand-continuing.ensures in (omega (arith, z.0, c.decreases), z.1)
 
-pub pass_loop-shape_of-cells-then-q : goal.pass_loop-shape_of-cells-then-q
-pass_loop-shape_of-cells-then-q t c =
-    (loop_continuing c.requires.course c.requires.b_in_bounds c.requires.row_in c.requires.kind_value c.args.marks.now c.expression_operand-break_if.ensures c.begin_loop.ensures c.if-not-begin_loop.false c.in_switch-y.ensures c.block_operand-continuing.ensures c.pass_around-q.ensures c.if-q.true).walked.cells
-
-pub pass_loop-shape_of-roots-then-q : goal.pass_loop-shape_of-roots-then-q
-pass_loop-shape_of-roots-then-q t c =
-    (loop_continuing c.requires.course c.requires.b_in_bounds c.requires.row_in c.requires.kind_value c.args.marks.now c.expression_operand-break_if.ensures c.begin_loop.ensures c.if-not-begin_loop.false c.in_switch-y.ensures c.block_operand-continuing.ensures c.pass_around-q.ensures c.if-q.true).walked.slots
-
-pub pass_loop-shape_of-path-then-q : goal.pass_loop-shape_of-path-then-q
-pass_loop-shape_of-path-then-q t c =
-    (loop_continuing c.requires.course c.requires.b_in_bounds c.requires.row_in c.requires.kind_value c.args.marks.now c.expression_operand-break_if.ensures c.begin_loop.ensures c.if-not-begin_loop.false c.in_switch-y.ensures c.block_operand-continuing.ensures c.pass_around-q.ensures c.if-q.true).long
-
 pub pass_loop-returns-then-q : goal.pass_loop-returns-then-q
 pass_loop-returns-then-q t c =
     loop_continuing c.requires.course c.requires.b_in_bounds c.requires.row_in c.requires.kind_value c.args.marks.now c.expression_operand-break_if.ensures c.begin_loop.ensures c.if-not-begin_loop.false c.in_switch-y.ensures c.block_operand-continuing.ensures c.pass_around-q.ensures c.if-q.true
-
-pub pass_loop-overflow_add-above : goal.pass_loop-overflow_add-above
-pass_loop-overflow_add-above t c = omega (arith, c.requires.b_in_bounds, c.well_formed, c.ranges)
 
 pub pass_loop-copy-requires : goal.pass_loop-copy-requires
 pass_loop-copy-requires t c =
@@ -500,24 +231,9 @@ pass_loop-copy-requires t c =
 pub pass_loop-in_body-z-requires : goal.pass_loop-in_body-z-requires
 pass_loop-in_body-z-requires t c = omega (arith, c.requires.course.ready.high)
 
-pub pass_loop-overflow_add-above-2 : goal.pass_loop-overflow_add-above-2
-pass_loop-overflow_add-above-2 t c = omega (arith, c.requires.b_in_bounds, c.well_formed, c.ranges)
-
 pub pass_loop-pass_around-o-requires : goal.pass_loop-pass_around-o-requires
 pass_loop-pass_around-o-requires t c =
     let z = body_asks c.requires.course c.requires.b_in_bounds c.requires.row_in c.requires.kind_value c.args.marks.now c.expression_operand-break_if.ensures c.begin_loop.ensures c.if-not-begin_loop.false c.in_switch-y.ensures c.block_operand-continuing.ensures c.pass_around-q.ensures c.if-q.false c.copy.ensures c.in_body-z.ensures c.block_operand-body.ensures in (omega (arith, z.0, c.decreases), z.1)
-
-pub pass_loop-shape_of-cells-then-o : goal.pass_loop-shape_of-cells-then-o
-pass_loop-shape_of-cells-then-o t c =
-    (loop_body c.requires.course c.requires.b_in_bounds c.requires.row_in c.requires.kind_value c.args.marks.now c.expression_operand-break_if.ensures c.begin_loop.ensures c.if-not-begin_loop.false c.in_switch-y.ensures c.block_operand-continuing.ensures c.pass_around-q.ensures c.if-q.false c.copy.ensures c.in_body-z.ensures c.block_operand-body.ensures c.pass_around-o.ensures c.if-o.true).walked.cells
-
-pub pass_loop-shape_of-roots-then-o : goal.pass_loop-shape_of-roots-then-o
-pass_loop-shape_of-roots-then-o t c =
-    (loop_body c.requires.course c.requires.b_in_bounds c.requires.row_in c.requires.kind_value c.args.marks.now c.expression_operand-break_if.ensures c.begin_loop.ensures c.if-not-begin_loop.false c.in_switch-y.ensures c.block_operand-continuing.ensures c.pass_around-q.ensures c.if-q.false c.copy.ensures c.in_body-z.ensures c.block_operand-body.ensures c.pass_around-o.ensures c.if-o.true).walked.slots
-
-pub pass_loop-shape_of-path-then-o : goal.pass_loop-shape_of-path-then-o
-pass_loop-shape_of-path-then-o t c =
-    (loop_body c.requires.course c.requires.b_in_bounds c.requires.row_in c.requires.kind_value c.args.marks.now c.expression_operand-break_if.ensures c.begin_loop.ensures c.if-not-begin_loop.false c.in_switch-y.ensures c.block_operand-continuing.ensures c.pass_around-q.ensures c.if-q.false c.copy.ensures c.in_body-z.ensures c.block_operand-body.ensures c.pass_around-o.ensures c.if-o.true).long
 
 pub pass_loop-returns-then-o : goal.pass_loop-returns-then-o
 pass_loop-returns-then-o t c =
@@ -528,18 +244,6 @@ pass_loop-end_loop-requires t c =
     let q9 = end_asks c.requires.course c.requires.b_in_bounds c.requires.row_in c.requires.kind_value c.args.marks.now c.expression_operand-break_if.ensures c.begin_loop.ensures c.if-not-begin_loop.false c.in_switch-y.ensures c.block_operand-continuing.ensures c.pass_around-q.ensures c.if-q.false c.copy.ensures c.in_body-z.ensures c.block_operand-body.ensures c.pass_around-o.ensures c.if-o.false in
     record { live = q9.0; stack_slot_lt_n = q9.1 }
 
-pub pass_loop-shape_of-cells : goal.pass_loop-shape_of-cells
-pass_loop-shape_of-cells t c =
-    (loop_ends c.requires.course c.requires.b_in_bounds c.requires.row_in c.requires.kind_value c.args.marks.now c.expression_operand-break_if.ensures c.begin_loop.ensures c.if-not-begin_loop.false c.in_switch-y.ensures c.block_operand-continuing.ensures c.pass_around-q.ensures c.if-q.false c.copy.ensures c.in_body-z.ensures c.block_operand-body.ensures c.pass_around-o.ensures c.if-o.false c.end_loop.ensures).walked.cells
-
-pub pass_loop-shape_of-roots : goal.pass_loop-shape_of-roots
-pass_loop-shape_of-roots t c =
-    (loop_ends c.requires.course c.requires.b_in_bounds c.requires.row_in c.requires.kind_value c.args.marks.now c.expression_operand-break_if.ensures c.begin_loop.ensures c.if-not-begin_loop.false c.in_switch-y.ensures c.block_operand-continuing.ensures c.pass_around-q.ensures c.if-q.false c.copy.ensures c.in_body-z.ensures c.block_operand-body.ensures c.pass_around-o.ensures c.if-o.false c.end_loop.ensures).walked.slots
-
-pub pass_loop-shape_of-path : goal.pass_loop-shape_of-path
-pass_loop-shape_of-path t c =
-    (loop_ends c.requires.course c.requires.b_in_bounds c.requires.row_in c.requires.kind_value c.args.marks.now c.expression_operand-break_if.ensures c.begin_loop.ensures c.if-not-begin_loop.false c.in_switch-y.ensures c.block_operand-continuing.ensures c.pass_around-q.ensures c.if-q.false c.copy.ensures c.in_body-z.ensures c.block_operand-body.ensures c.pass_around-o.ensures c.if-o.false c.end_loop.ensures).long
-
 pub pass_loop-returns : goal.pass_loop-returns
 pass_loop-returns t c =
     loop_ends c.requires.course c.requires.b_in_bounds c.requires.row_in c.requires.kind_value c.args.marks.now c.expression_operand-break_if.ensures c.begin_loop.ensures c.if-not-begin_loop.false c.in_switch-y.ensures c.block_operand-continuing.ensures c.pass_around-q.ensures c.if-q.false c.copy.ensures c.in_body-z.ensures c.block_operand-body.ensures c.pass_around-o.ensures c.if-o.false c.end_loop.ensures
@@ -547,18 +251,6 @@ pass_loop-returns t c =
 pub pass_statement-pass_block-requires : goal.pass_statement-pass_block-requires
 pass_statement-pass_block-requires t c =
     let z = there c.requires.statement_in c.statement-row.ensures 0 c.block_operand-inner.ensures (block_low c.requires.statement_in c.statement-row.ensures c.if-kind-eq-BLOCK.true) in (omega (arith, z.0, c.decreases), (c.requires.course, (omega (arith, z.0, c.requires.b_in_bounds), z.1)))
-
-pub pass_statement-shape_of-cells-then-kind-eq-BLOCK : goal.pass_statement-shape_of-cells-then-kind-eq-BLOCK
-pass_statement-shape_of-cells-then-kind-eq-BLOCK t c =
-    (inner_passes (row_in c.requires.statement_in c.statement-row.ensures) c.args.marks.now c.if-kind-eq-BLOCK.true c.block_operand-inner.ensures c.pass_block.ensures).walked.cells
-
-pub pass_statement-shape_of-roots-then-kind-eq-BLOCK : goal.pass_statement-shape_of-roots-then-kind-eq-BLOCK
-pass_statement-shape_of-roots-then-kind-eq-BLOCK t c =
-    (inner_passes (row_in c.requires.statement_in c.statement-row.ensures) c.args.marks.now c.if-kind-eq-BLOCK.true c.block_operand-inner.ensures c.pass_block.ensures).walked.slots
-
-pub pass_statement-shape_of-path-then-kind-eq-BLOCK : goal.pass_statement-shape_of-path-then-kind-eq-BLOCK
-pass_statement-shape_of-path-then-kind-eq-BLOCK t c =
-    (inner_passes (row_in c.requires.statement_in c.statement-row.ensures) c.args.marks.now c.if-kind-eq-BLOCK.true c.block_operand-inner.ensures c.pass_block.ensures).long
 
 pub pass_statement-returns-then-kind-eq-BLOCK : goal.pass_statement-returns-then-kind-eq-BLOCK
 pass_statement-returns-then-kind-eq-BLOCK t c =
@@ -568,15 +260,6 @@ pub pass_statement-pass_holder-requires : goal.pass_statement-pass_holder-requir
 pass_statement-pass_holder-requires t c =
     (omega (arith, c.decreases), (c.requires.course, (c.requires.b_in_bounds, ((row_in c.requires.statement_in c.statement-row.ensures), holding _ c.holds.ensures c.if-holds.true))))
 
-pub pass_statement-shape_of-cells-then-holds : goal.pass_statement-shape_of-cells-then-holds
-pass_statement-shape_of-cells-then-holds t c = c.pass_holder.ensures.walked.cells
-
-pub pass_statement-shape_of-roots-then-holds : goal.pass_statement-shape_of-roots-then-holds
-pass_statement-shape_of-roots-then-holds t c = c.pass_holder.ensures.walked.slots
-
-pub pass_statement-shape_of-path-then-holds : goal.pass_statement-shape_of-path-then-holds
-pass_statement-shape_of-path-then-holds t c = c.pass_holder.ensures.long
-
 pub pass_statement-returns-then-holds : goal.pass_statement-returns-then-holds
 pass_statement-returns-then-holds t c = c.pass_holder.ensures
 
@@ -584,43 +267,15 @@ pub pass_statement-pass_plain-requires : goal.pass_statement-pass_plain-requires
 pass_statement-pass_plain-requires t c =
     record { course = c.requires.course; n_in_bounds = omega (arith, c.requires.b_in_bounds); row_in = (row_in c.requires.statement_in c.statement-row.ensures); lt_kind = not_holding _ c.holds.ensures c.if-holds.false c.if-kind-eq-BLOCK.false }
 
-pub pass_statement-shape_of-cells : goal.pass_statement-shape_of-cells
-pass_statement-shape_of-cells t c = c.pass_plain.ensures.walked.cells
-
-pub pass_statement-shape_of-roots : goal.pass_statement-shape_of-roots
-pass_statement-shape_of-roots t c = c.pass_plain.ensures.walked.slots
-
-pub pass_statement-shape_of-path : goal.pass_statement-shape_of-path
-pass_statement-shape_of-path t c = c.pass_plain.ensures.long
-
 pub pass_statement-returns : goal.pass_statement-returns
 pass_statement-returns t c = c.pass_plain.ensures
-
-pub pass_switch-bounds-roots-n : goal.pass_switch-bounds-roots-n
-pass_switch-bounds-roots-n t c =
-    switch_write c.requires.course c.requires.row_in c.requires.kind_value c.args.marks.now c.requires.b_in_bounds
 
 pub pass_switch-in_switch-y-requires : goal.pass_switch-in_switch-y-requires
 pass_switch-in_switch-y-requires t c = omega (arith, c.requires.course.ready.high)
 
-pub pass_switch-overflow_add-n : goal.pass_switch-overflow_add-n
-pass_switch-overflow_add-n t c = omega (arith, c.requires.b_in_bounds, c.well_formed, c.ranges)
-
 pub pass_switch-pass_cases-q-requires : goal.pass_switch-pass_cases-q-requires
 pass_switch-pass_cases-q-requires t c =
     let z = cases_ask c.requires.course c.requires.row_in c.requires.kind_value c.args.marks.now c.requires.b_in_bounds refl c.in_switch-y.ensures in (omega (arith, c.decreases), (z.0, (z.1.0, (c.requires.row_in, (c.requires.kind_value, z.1.1)))))
-
-pub pass_switch-shape_of-cells-then-q : goal.pass_switch-shape_of-cells-then-q
-pass_switch-shape_of-cells-then-q t c =
-    (switch_passes c.requires.course c.requires.row_in c.requires.kind_value c.args.marks.now c.requires.b_in_bounds refl c.in_switch-y.ensures c.pass_cases-q.ensures c.if-q.true).walked.cells
-
-pub pass_switch-shape_of-roots-then-q : goal.pass_switch-shape_of-roots-then-q
-pass_switch-shape_of-roots-then-q t c =
-    (switch_passes c.requires.course c.requires.row_in c.requires.kind_value c.args.marks.now c.requires.b_in_bounds refl c.in_switch-y.ensures c.pass_cases-q.ensures c.if-q.true).walked.slots
-
-pub pass_switch-shape_of-path-then-q : goal.pass_switch-shape_of-path-then-q
-pass_switch-shape_of-path-then-q t c =
-    (switch_passes c.requires.course c.requires.row_in c.requires.kind_value c.args.marks.now c.requires.b_in_bounds refl c.in_switch-y.ensures c.pass_cases-q.ensures c.if-q.true).long
 
 pub pass_switch-returns-then-q : goal.pass_switch-returns-then-q
 pass_switch-returns-then-q t c =
@@ -630,33 +285,9 @@ pub pass_switch-end_switch-requires : goal.pass_switch-end_switch-requires
 pass_switch-end_switch-requires t c =
     switch_end_asks c.requires.course c.requires.row_in c.requires.kind_value c.args.marks.now c.requires.b_in_bounds refl c.in_switch-y.ensures c.pass_cases-q.ensures c.if-q.false c.expression_operand-selector.ensures
 
-pub pass_switch-shape_of-cells-then-end_switch : goal.pass_switch-shape_of-cells-then-end_switch
-pass_switch-shape_of-cells-then-end_switch t c =
-    (switch-ends c.requires.course c.requires.row_in c.requires.kind_value c.args.marks.now c.requires.b_in_bounds refl c.in_switch-y.ensures c.pass_cases-q.ensures c.if-q.false c.expression_operand-selector.ensures c.end_switch.ensures c.if-end_switch.true).walked.cells
-
-pub pass_switch-shape_of-roots-then-end_switch : goal.pass_switch-shape_of-roots-then-end_switch
-pass_switch-shape_of-roots-then-end_switch t c =
-    (switch-ends c.requires.course c.requires.row_in c.requires.kind_value c.args.marks.now c.requires.b_in_bounds refl c.in_switch-y.ensures c.pass_cases-q.ensures c.if-q.false c.expression_operand-selector.ensures c.end_switch.ensures c.if-end_switch.true).walked.slots
-
-pub pass_switch-shape_of-path-then-end_switch : goal.pass_switch-shape_of-path-then-end_switch
-pass_switch-shape_of-path-then-end_switch t c =
-    (switch-ends c.requires.course c.requires.row_in c.requires.kind_value c.args.marks.now c.requires.b_in_bounds refl c.in_switch-y.ensures c.pass_cases-q.ensures c.if-q.false c.expression_operand-selector.ensures c.end_switch.ensures c.if-end_switch.true).long
-
 pub pass_switch-returns-then-end_switch : goal.pass_switch-returns-then-end_switch
 pass_switch-returns-then-end_switch t c =
     switch-ends c.requires.course c.requires.row_in c.requires.kind_value c.args.marks.now c.requires.b_in_bounds refl c.in_switch-y.ensures c.pass_cases-q.ensures c.if-q.false c.expression_operand-selector.ensures c.end_switch.ensures c.if-end_switch.true
-
-pub pass_switch-shape_of-cells : goal.pass_switch-shape_of-cells
-pass_switch-shape_of-cells t c =
-    (switch_lengths c.requires.course c.requires.row_in c.requires.kind_value c.args.marks.now c.requires.b_in_bounds refl c.in_switch-y.ensures c.pass_cases-q.ensures c.if-q.false c.expression_operand-selector.ensures c.end_switch.ensures).0
-
-pub pass_switch-shape_of-roots : goal.pass_switch-shape_of-roots
-pass_switch-shape_of-roots t c =
-    (switch_lengths c.requires.course c.requires.row_in c.requires.kind_value c.args.marks.now c.requires.b_in_bounds refl c.in_switch-y.ensures c.pass_cases-q.ensures c.if-q.false c.expression_operand-selector.ensures c.end_switch.ensures).1.0
-
-pub pass_switch-shape_of-path : goal.pass_switch-shape_of-path
-pass_switch-shape_of-path t c =
-    (switch_lengths c.requires.course c.requires.row_in c.requires.kind_value c.args.marks.now c.requires.b_in_bounds refl c.in_switch-y.ensures c.pass_cases-q.ensures c.if-q.false c.expression_operand-selector.ensures c.end_switch.ensures).1.1
 
 pub pass_switch-returns : goal.pass_switch-returns
 pass_switch-returns t c =

@@ -19,9 +19,6 @@ pub returns-in-0 : goal.returns-in-0
 returns-in-0 c =
     passes_emit c.requires.course c.requires.row_in _ c.in-0.is c.expression_operand-first.ensures c.expression_operand-last.ensures c.pass_emits.ensures
 
-pub overflow_cast-begin-in-12 : goal.overflow_cast-begin-in-12
-overflow_cast-begin-in-12 c = omega (arith, c.type_inv.firsts c.args.s)
-
 pub overflow_cast-s-in-12 : goal.overflow_cast-s-in-12
 overflow_cast-s-in-12 c = omega (arith, statement_small c.requires.row_in.statement)
 
