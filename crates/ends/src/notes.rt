@@ -42,16 +42,16 @@ pub fn blame(l: u16, p: Passing) -> Passing
     requires { l < absent }
     ensures { Blames l p result }
 {
-    if l < p.fault {
-        return Passing {
-            full: p.full,
-            fault: l,
-            held: p.held,
-            deep: p.deep,
-            wide: p.wide,
-        };
+    match p.fault {
+        None => Passing {
+            fault: Some(l),
+            ..p
+        },
+        Some(m) => Passing {
+            fault: Some(m.min(l)),
+            ..p
+        },
     }
-    p
 }
 
 // Both of two tests.
