@@ -12,7 +12,6 @@ use access::function::body_block;
 use backward::blocks::pass_around;
 use checking::words::{REFUSAL, START, STATEMENT};
 use context_bytes::starts::context_covers;
-use field::limits::ABSENT;
 use module::handles::FunctionHandle;
 use standing::passing::{END, Exits, Passing, STACK};
 
@@ -43,7 +42,7 @@ fn round(
     };
     let p = Passing {
         full: false,
-        fault: ABSENT,
+        fault: None,
         held: true,
         deep: false,
         wide: false,
@@ -80,8 +79,8 @@ fn answer(cells: &[u32], n: u32, q: Passing, context: &[u8]) -> u64
     if q.wide {
         return 16 * REFUSAL;
     }
-    if q.fault != ABSENT {
-        return STATEMENT + q.fault as u64;
+    if let Some(s) = q.fault {
+        return STATEMENT + s as u64;
     }
     if context_covers(cells, n, context) {
         return 0;
