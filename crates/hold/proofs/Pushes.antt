@@ -4,15 +4,14 @@ use native.Mathlib.Omega.{arith}
 use native.Mathlib.Decide.{dec_lt}
 use mathlib.Core.Path.{◌≡◌, refl, sym, ap, ◌∙◌}
 use mathlib.Core.Bool.{Bool, true, false, not}
-use mathlib.Core.List.{List, ◌∷◌, ◌++◌}
+use mathlib.Core.List.{List, ◌∷◌}
 use lib.Dec.{ltb, leb}
-use lib.ListN.{length, get_or, take, drop, set, length-set, get_or-append}
-use lib.Seq.{length-take-le, length_front, get_or-take}
+use lib.ListN.{length, get_or, set, length-set}
 use borrow.Author.Tests.{leb-true, le-leb, lt-leb, lt-ltb, le-ltb}
 use Rattle.std.specs.Prelude.{Option, Some, None}
 use Rattle.part.specs.PartReq.{PartReq, add}
-use Rattle.part.specs.Store.{top, part, Good, Kept, Below}
-use Rattle.part.specs.Collect.{cells_of, Collected}
+use Rattle.part.specs.Store.{top, part, Good, Kept}
+use Rattle.part.specs.Collect.{cells_of}
 use Rattle.part.specs.Summed.{Summed}
 use Rattle.part.proofs.Distinct.{untrue}
 use Rattle.pass.specs.Pass.{work_bound}
@@ -21,8 +20,6 @@ use Rattle.hold.proofs.Reach.{reach_cells}
 use Rattle.hold.proofs.Count.{short_many}
 use Rattle.hold.proofs.Slots.{held_same, held_push, slot_set, slot_other, loose_stands, loose_cells, loose_kept, slot_kept, loose_push}
 
--- `clean`
-module _ {s rs : List ℕ} {n : ℕ} (l : Loose s rs n) where
 -- the test
 within_test : (x y : ℕ) → y ≡ 3 + x → leb y (3 + work_bound) ≡ not (ltb work_bound x)
 within_test x y e =
