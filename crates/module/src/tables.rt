@@ -63,10 +63,23 @@ impl Row {
     }
 }
 
+// How far a file has come: what the last record was of, and types before the first.
+#[derive(Clone, Copy, Debug, PartialEq, Eq, PartialOrd, Ord)]
+pub enum Stage {
+    Types,
+    Globals,
+    // a function's head or arguments
+    Arguments,
+    Locals,
+    Expressions,
+    // blocks and statements
+    Blocks,
+}
+
 // How far a file has come, how many of each there are, and the row of the open function.
 #[derive(Clone, Copy, Debug, PartialEq, Eq)]
 pub struct Counts {
-    pub stage: u32,
+    pub stage: Stage,
     pub types: u32,
     pub globals: u32,
     pub functions: u32,
