@@ -1,6 +1,7 @@
 // The tables by which a handle finds its record, in one lent slice of numbers: a row for each function, then the offsets of types,
 // globals and items (arguments, locals, expressions and statements, in the file's order), the first statement of each block, a
 // mark for each expression of the function that is read, and the counts of the whole.
+// Stays: one slice with regions, since the caller lends fixed memory and there is no heap.
 ghost use Rattle.std.specs.Prelude.{◌≡◌, get_or, set, ◌*◌, ◌+◌};
 ghost use Rattle.module.specs.Tables.{row_at, set_row, locals_from, expressions_from, statements_from, items_to};
 

@@ -1,9 +1,8 @@
 // One record more: where it stands goes into the tables, and the counts grow.
 ghost use Rattle.std.specs.Prelude.{◌≡◌, ◌+◌, ◌*◌, ◌≤◌};
-ghost use Rattle.field.specs.Limits.{max_types, max_globals};
 ghost use Rattle.module.specs.Record.{body_at};
 ghost use Rattle.module.specs.Tables.{items_to};
-ghost use Rattle.reading.specs.Progress.{Fits, mark_by, with_item, stage_by, row_with, types_by, globals_by, counts_with, table_with};
+ghost use Rattle.reading.specs.Progress.{Fits, mark_by, with_item, stage_by, row_with, counts_with, table_with};
 
 use module::record::{Mark, body};
 use module::tables::{BLOCKS, Counts, GLOBALS, ITEMS, MARKS, Row, Stage, TYPES, put};
@@ -111,39 +110,6 @@ fn row_with(at: u32, mark: Mark, row: Row) -> Row
     }
 }
 
-// How many types there are then, and how many globals.
-fn types_by(mark: Mark, n: u32) -> u32
-    requires { n ≤ max_types }
-    ensures { result ≡ types_by mark n }
-{
-    match mark {
-        Mark::TY => n + 1,
-        Mark::GV => n,
-        Mark::FN => n,
-        Mark::AR => n,
-        Mark::LV => n,
-        Mark::EX => n,
-        Mark::BK => n,
-        Mark::ST => n,
-    }
-}
-
-fn globals_by(mark: Mark, n: u32) -> u32
-    requires { n ≤ max_globals }
-    ensures { result ≡ globals_by mark n }
-{
-    match mark {
-        Mark::TY => n,
-        Mark::GV => n + 1,
-        Mark::FN => n,
-        Mark::AR => n,
-        Mark::LV => n,
-        Mark::EX => n,
-        Mark::BK => n,
-        Mark::ST => n,
-    }
-}
-
 // Adds a record to the tables and to the counts.
 pub fn add(bytes: &[u8], t: &mut [u32], at: u32, mark: Mark, c: Counts) -> Counts
     requires { Fits c at }
@@ -155,8 +121,8 @@ pub fn add(bytes: &[u8], t: &mut [u32], at: u32, mark: Mark, c: Counts) -> Count
     let next = row_with(at, mark, row);
     Counts {
         stage: stage_of(mark),
-        types: types_by(mark, c.types),
-        globals: globals_by(mark, c.globals),
+        types: c.types + (mark == Mark::TY) as u32,
+        globals: c.globals + (mark == Mark::GV) as u32,
         functions: c.functions,
         row: next,
     }
