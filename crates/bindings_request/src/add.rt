@@ -11,11 +11,12 @@ ghost use Rattle.bindings.specs.ContextBindings.{add_request};
 ghost use Rattle.bindings.specs.Outputs.{output_cells, request_context};
 ghost use Rattle.bindings_request.specs.Boundary.{Tables, Lent, written, add_bytes, Gave};
 
-use crate::answer::{Bytes, write_asking};
+use crate::answer::{Refused, write_asking};
 use access::function::result;
 use access::whole::{functions, globals};
 use bindings::outputs::add_binding;
 use bindings::set::BINDINGS;
+use field::refusal::Refusal;
 use module::handles::FunctionHandle;
 use part::store::init;
 use request::lists::{Optional, returned};
@@ -33,7 +34,7 @@ fn add_to(
     globals: u32,
     b: u32,
     out: &mut [u8],
-) -> Bytes
+) -> Result<usize, Refused>
     requires tables { Tables bytes.now t.now types.now }
     requires good { Good cells.old }
     requires parts_len { (length parts.old ≡ type_count types.now) × Room cells.old (1 + (output_cells parts.old + max_pieces)) }
@@ -66,20 +67,20 @@ pub fn add_binding_bytes(
     request: &[u8],
     b: u32,
     out: &mut [u8],
-) -> Bytes
+) -> Result<usize, Refused>
     requires tables { Tables bytes.now t.now types.now }
     requires parts_len { (length parts.old ≡ type_count types.now) × Lent cells.old parts.old request.now }
     ensures { Gave out.old out.new (add_bytes (module_of bytes.now t.now) (length out.old) b request.now) result }
 {
     if BINDINGS <= b {
-        return Bytes::Refused(12);
+        return Err(Refusal::Malformed.into());
     }
     init(cells);
     let a = read_request(cells, request, functions(t), globals(t), out.len());
     match a {
-        RequestAnswer::Malformed => Bytes::Refused(12),
-        RequestAnswer::NoSuch => Bytes::Refused(11),
-        RequestAnswer::ShortReport => Bytes::Refused(20),
+        RequestAnswer::Malformed => Err(Refusal::Malformed.into()),
+        RequestAnswer::NoSuch => Err(Refusal::NoSuch.into()),
+        RequestAnswer::ShortReport => Err(Refusal::AnswerTooShort.into()),
         RequestAnswer::Accepted(q) => {
             let f = q.function;
             let o = q.retval;

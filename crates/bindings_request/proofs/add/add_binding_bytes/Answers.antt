@@ -1,14 +1,10 @@
 -- `bindings_request::add::add_binding_bytes` meets its contract: 12 of the binding, then what reading the request answers.
-use native.Mathlib.Omega.{arith}
 use mathlib.Core.Path.{refl}
 use Rattle.bindings_request.proofs.Adding.{add-above, read_asks, add_malformed, add_no_such, add_short, add_to_asks, add_went}
 use Rattle.bindings_request.proofs.add.add_binding_bytes.Goals as goal
 
 pub returns-then-b-ge-BINDINGS : goal.returns-then-b-ge-BINDINGS
-returns-then-b-ge-BINDINGS c = add-above _ _ _ _ c.if-b-ge-BINDINGS.true
-
-pub init-requires : goal.init-requires
-init-requires c = (omega (arith, c.requires.parts_len.1.room), c.requires.parts_len.1.fits)
+returns-then-b-ge-BINDINGS c = rw c.into.ensures (add-above _ _ _ _ c.if-b-ge-BINDINGS.true)
 
 pub read_request-a-requires : goal.read_request-a-requires
 read_request-a-requires c =
@@ -22,15 +18,18 @@ add_to-requires c =
 
 pub returns-in-Malformed : goal.returns-in-Malformed
 returns-in-Malformed c =
-    add_malformed c.args.bytes.now c.args.t.now _ _ c.if-b-ge-BINDINGS.false (c.functions.ensures c.args.bytes.now) (c.globals.ensures c.args.bytes.now) c.read_request-a.ensures c.in-Malformed.is
+    rw c.into-in-Malformed.ensures
+    (add_malformed c.args.bytes.now c.args.t.now _ _ c.if-b-ge-BINDINGS.false (c.functions.ensures c.args.bytes.now) (c.globals.ensures c.args.bytes.now) c.read_request-a.ensures c.in-Malformed.is)
 
 pub returns-in-NoSuch : goal.returns-in-NoSuch
 returns-in-NoSuch c =
-    add_no_such c.args.bytes.now c.args.t.now _ _ c.if-b-ge-BINDINGS.false (c.functions.ensures c.args.bytes.now) (c.globals.ensures c.args.bytes.now) c.read_request-a.ensures c.in-NoSuch.is
+    rw c.into-in-NoSuch.ensures
+    (add_no_such c.args.bytes.now c.args.t.now _ _ c.if-b-ge-BINDINGS.false (c.functions.ensures c.args.bytes.now) (c.globals.ensures c.args.bytes.now) c.read_request-a.ensures c.in-NoSuch.is)
 
 pub returns-in-ShortReport : goal.returns-in-ShortReport
 returns-in-ShortReport c =
-    add_short c.args.bytes.now c.args.t.now _ _ c.if-b-ge-BINDINGS.false (c.functions.ensures c.args.bytes.now) (c.globals.ensures c.args.bytes.now) c.read_request-a.ensures c.in-ShortReport.is
+    rw c.into-in-ShortReport.ensures
+    (add_short c.args.bytes.now c.args.t.now _ _ c.if-b-ge-BINDINGS.false (c.functions.ensures c.args.bytes.now) (c.globals.ensures c.args.bytes.now) c.read_request-a.ensures c.in-ShortReport.is)
 
 pub returns-in-Accepted : goal.returns-in-Accepted
 returns-in-Accepted c =
