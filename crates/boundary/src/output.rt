@@ -9,9 +9,8 @@ ghost use Rattle.context.specs.Types.{type_words};
 ghost use Rattle.bindings_request.specs.Boundary.{Lent, output_bytes};
 ghost use Rattle.boundary.specs.Answers.{Answers, output_answer};
 
-use crate::answer::word_of;
+use crate::answer::{refused_word, word_of};
 use access::whole::types;
-use bindings_request::answer::Bytes;
 use bindings_request::output::output_from_bindings_bytes;
 use context::remove::TYPE_WORDS;
 use field::limits::{MAX_MEMBERS, MAX_PIECES, MAX_TYPES};
@@ -64,7 +63,7 @@ pub fn output_in(
 {
     let refusal = read(bytes, t, seen, held);
     if 0 < refusal {
-        return word_of(Bytes::Refused(refusal));
+        return refused_word(refusal);
     }
     let n = types(t) as usize;
     let e = TYPE_WORDS * n;

@@ -1,5 +1,7 @@
 -- `boundary::add::add_in` meets its contract: the file's refusal, 12 of a request that is too long, or what is answered of the module that was read.
+use Prim.Native.Nat.{ℕ, ◌*◌}
 use native.Mathlib.Omega.{arith}
+use mathlib.Core.Path.{ap, ◌∙◌}
 use lib.ListN.{length}
 use Rattle.boundary.proofs.Answers.{answers_refused, answers_read, answers_none, was_read}
 use Rattle.boundary.proofs.Lengths.{long_request}
@@ -8,11 +10,11 @@ use Rattle.boundary.proofs.add.add_in.Goals as goal
 
 pub returns-then-refusal-gt0 : goal.returns-then-refusal-gt0
 returns-then-refusal-gt0 c =
-    answers_refused _ _ c.read-refusal.ensures _ (omega (arith, c.if-refusal-gt0.true)) c.word_of.ensures
+    answers_refused _ _ c.read-refusal.ensures _ (omega (arith, c.if-refusal-gt0.true)) c.refused_word.ensures
 
 pub returns-then-get-request : goal.returns-then-get-request
 returns-then-get-request c =
-    answers_read _ _ c.read-refusal.ensures _ (omega (arith, c.if-refusal-gt0.false)) (answers_none (long_request _ (length c.args.out.now) c.args.b c.args.request.now (omega (arith, c.if-get-request.true, c.get.ensures))) c.word_of-then-get-request.ensures)
+    answers_read _ _ c.read-refusal.ensures _ (omega (arith, c.if-refusal-gt0.false)) (answers_none (long_request _ (length c.args.out.now) c.args.b c.args.request.now (omega (arith, c.if-get-request.true, c.get.ensures))) (c.refused_word-then-get-request.ensures ∙ ap (λ (n : ℕ). 4294967296 * n) c.from.ensures))
 
 pub slice_bounds-add_of-end : goal.slice_bounds-add_of-end
 slice_bounds-add_of-end c =

@@ -6,7 +6,7 @@ use Rattle.boundary.proofs.input.input_in.Goals as goal
 
 pub returns-then-refusal-gt0 : goal.returns-then-refusal-gt0
 returns-then-refusal-gt0 c =
-    answers_refused _ _ c.read-refusal.ensures _ (omega (arith, c.if-refusal-gt0.true)) c.word_of.ensures
+    answers_refused _ _ c.read-refusal.ensures _ (omega (arith, c.if-refusal-gt0.true)) c.refused_word.ensures
 
 pub slice_bounds-input_of-end : goal.slice_bounds-input_of-end
 slice_bounds-input_of-end c =
