@@ -9,6 +9,7 @@ use module::handles::{BlockHandle, ExpressionHandle, FunctionHandle, LocalHandle
 use module::record::body;
 use module::tables::{ITEMS, row_at, word};
 
+// Stays: a function for each count of a row. One over a choice of the field asks for that choice at each call, and is no plainer.
 pub fn arguments(t: &[u32], f: FunctionHandle) -> u32
     ensures { (bytes : List ℕ) → result ≡ length (function_of bytes t.now f.0).arguments }
 {

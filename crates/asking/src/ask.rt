@@ -71,16 +71,14 @@ pub fn ask_value(
     let source = source_of(bytes, t, f, v);
     let mut path: [u32; 2] = [0; 2];
     match source {
-        Source::Given => {
-            return true;
-        }
+        Source::Given => true,
         Source::Argument(i) => {
             argument_path(&mut path, i);
-            return ask_place(cells, roots, n, &path, a);
+            ask_place(cells, roots, n, &path, a)
         }
         Source::Evaluated => {
             evaluated_path(&mut path, v);
-            return ask_place(cells, roots, n, &path, a);
+            ask_place(cells, roots, n, &path, a)
         }
     }
 }

@@ -28,8 +28,14 @@ pub fn blame(l: u16, p: Passing) -> Passing
     requires { l < absent }
     ensures { Blames l p result }
 {
-    if l < p.fault {
-        return Passing { fault: l, ..p };
+    match p.fault {
+        None => Passing {
+            fault: Some(l),
+            ..p
+        },
+        Some(m) => Passing {
+            fault: Some(m.min(l)),
+            ..p
+        },
     }
-    p
 }

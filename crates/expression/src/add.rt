@@ -57,6 +57,7 @@ pub fn add_expression(
     let mut v = visits + 1;
     let mut m = sum;
     let mut j = 0;
+    // Stays: the arm's answer ends the loop, and no count, so that a `for` would need an end of its own.
     loop {
         let a = ask(bytes, t, cells, slots, f, e, w, j);
         let what = a.what;

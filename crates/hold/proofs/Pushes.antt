@@ -4,15 +4,14 @@ use native.Mathlib.Omega.{arith}
 use native.Mathlib.Decide.{dec_lt}
 use mathlib.Core.Path.{◌≡◌, refl, sym, ap, ◌∙◌}
 use mathlib.Core.Bool.{Bool, true, false, not}
-use mathlib.Core.List.{List, ◌∷◌, ◌++◌}
+use mathlib.Core.List.{List, ◌∷◌}
 use lib.Dec.{ltb, leb}
-use lib.ListN.{length, get_or, take, drop, set, length-set, get_or-append}
-use lib.Seq.{length-take-le, length_front, get_or-take}
+use lib.ListN.{length, get_or, set, length-set}
 use borrow.Author.Tests.{leb-true, le-leb, lt-leb, lt-ltb, le-ltb}
 use Rattle.std.specs.Prelude.{Option, Some, None}
 use Rattle.part.specs.PartReq.{PartReq, add}
-use Rattle.part.specs.Store.{top, part, Good, Kept, Below}
-use Rattle.part.specs.Collect.{cells_of, Collected}
+use Rattle.part.specs.Store.{top, part, Good, Kept}
+use Rattle.part.specs.Collect.{cells_of}
 use Rattle.part.specs.Summed.{Summed}
 use Rattle.part.proofs.Distinct.{untrue}
 use Rattle.pass.specs.Pass.{work_bound}
@@ -20,35 +19,6 @@ use Rattle.hold.specs.Hold.{held_by, in_slot, Loose, Live, Cleaned, Pushed}
 use Rattle.hold.proofs.Reach.{reach_cells}
 use Rattle.hold.proofs.Count.{short_many}
 use Rattle.hold.proofs.Slots.{held_same, held_push, slot_set, slot_other, loose_stands, loose_cells, loose_kept, slot_kept, loose_push}
-
--- `clean`
-module _ {s rs : List ℕ} {n : ℕ} (l : Loose s rs n) where
-  pub clean_asks : Good s × Below (take n rs) (top s)
-  clean_asks = (
-    l.good,
-    λ j h.
-        let a : j < n = rw (length-take-le n rs l.few) at h in
-        rw (get_or-take n rs j 0 a) (l.pieces j a),
-  )
-
-  pub cleaned : {t vs : List ℕ} → Collected s (take n rs) t vs → Cleaned s rs n t (vs ++ drop n rs)
-  cleaned {t} {vs} d =
-      let long : length vs ≡ n = d.roots ∙ length-take-le n rs l.few in
-      let at : (j : ℕ) → j < n → get_or (vs ++ drop n rs) j 0 ≡ get_or vs j 0 = λ j h. get_or-append vs (drop n rs) 0 j (omega arith) in
-      let got : (j : ℕ) → j < n → (get_or vs j 0 < top t) × (part t (get_or vs j 0) ≡ part s (get_or (take n rs) j 0)) =
-      λ j h. d.same j (rw (length-take-le n rs l.few) h) in
-      record {
-        cells = d.long;
-        slots = length_front rs vs n d.roots;
-        loose = record {
-          good = d.good;
-          few = omega (arith, l.few, length_front rs vs n d.roots);
-          pieces = λ j h. rw (at j h) (got j h).0;
-          long = omega (arith, l.long, d.long);
-        };
-        same = λ j h. rw (at j h) ((got j h).1 ∙ ap (part s) (get_or-take n rs j 0 h));
-        used = d.used;
-      }
 
 -- the test
 within_test : (x y : ℕ) → y ≡ 3 + x → leb y (3 + work_bound) ≡ not (ltb work_bound x)

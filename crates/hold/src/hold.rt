@@ -1,5 +1,6 @@
 // A need is put into the next slot. Whether the needs that are kept then pass the working bound is decided exactly, and mostly at once: each cell that
 // a slot reaches is in use, so that only where more are in use than the bound allows the store is collected.
+// Stays: slots in a lent slice and their count n, since memory is fixed and there is no heap.
 ghost use Rattle.std.specs.Prelude.{◌≡◌, ◌<◌, length, get_or, set};
 ghost use Rattle.part.specs.PartReq.{add};
 ghost use Rattle.part.specs.Store.{top, part};

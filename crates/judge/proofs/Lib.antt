@@ -14,3 +14,4 @@ pub mod IndexRows
 pub mod Components
 pub mod Blame
 pub mod StatementRows
+pub mod Lowest

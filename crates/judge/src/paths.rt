@@ -1,4 +1,5 @@
 // Expressions that are paths, by a table: 1 for each of them and 0 for the others.
+// Stays: 1 and 0 for yes and no, since the table is lent memory of words (no heap).
 ghost use Rattle.std.specs.Prelude.{◌≡◌, ◌<◌, eqb, length};
 ghost use Rattle.module.specs.File.{accepted, read_module};
 ghost use Rattle.module.specs.Tables.{function_of, module_of};

@@ -1,4 +1,5 @@
 // Types that hold an array of count 0 or a binding array, by a table: 1 for each of them and 0 for the others, pointers among them.
+// Stays: 1 and 0 for yes and no, since the table is lent memory of words (no heap).
 ghost use Rattle.std.specs.Prelude.{◌≡◌, false, not, ◌||◌, ◌≤◌, eqb, length, get_or};
 ghost use Rattle.field.specs.Limits.{max_types};
 ghost use Rattle.module.specs.Module.{Opaque};

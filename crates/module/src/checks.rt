@@ -4,41 +4,32 @@ ghost use Rattle.module.specs.Record.{body_at, even};
 ghost use Rattle.module.specs.Packed.{unpack, classes};
 ghost use Rattle.module.specs.File.{placed, count_over, over, fine};
 ghost use Rattle.module.specs.Scan.{Fresh, Stamped};
+ghost use Rattle.module.specs.Reading.{rank};
 ghost use Rattle.module.specs.Tables.{scope_in};
 ghost use Rattle.module.specs.Checks.{before_of, shape_in, typed_in};
 
 use crate::operands::operands;
 use crate::record::{Mark, body};
 use crate::shape::{T, TD, WY, expression_shape, statement_shape, type_shape};
-use crate::tables::Counts;
+use crate::tables::{Counts, Stage};
 use field::limits::{
     MAX_ARGUMENTS, MAX_COMPONENTS, MAX_EXPRESSIONS, MAX_FUNCTIONS, MAX_GLOBALS, MAX_LOCALS,
     MAX_MEMBERS, MAX_STATEMENTS, MAX_TYPES,
 };
 
 // 3: whether a mark may stand here.
-pub fn placed(mark: Mark, stage: u32) -> bool
-    ensures { result ≡ placed mark stage }
+pub fn placed(mark: Mark, stage: Stage) -> bool
+    ensures { result ≡ placed mark (rank stage) }
 {
     match mark {
-        Mark::TY => stage == 0,
-        Mark::GV => stage <= 1,
+        Mark::TY => stage == Stage::Types,
+        Mark::GV => stage <= Stage::Globals,
         Mark::FN => true,
-        Mark::AR => stage == 2,
-        Mark::LV => {
-            if stage < 2 {
-                return false;
-            }
-            stage <= 3
-        }
-        Mark::EX => {
-            if stage < 2 {
-                return false;
-            }
-            stage <= 4
-        }
-        Mark::BK => 2 <= stage,
-        Mark::ST => stage == 5,
+        Mark::AR => stage == Stage::Arguments,
+        Mark::LV => Stage::Arguments <= stage && stage <= Stage::Locals,
+        Mark::EX => Stage::Arguments <= stage && stage <= Stage::Expressions,
+        Mark::BK => Stage::Arguments <= stage,
+        Mark::ST => stage == Stage::Blocks,
     }
 }
 

@@ -1,4 +1,5 @@
 // One kind of number for each of naga's handles, so that none serves as another.
+// Stays: one type over a marker needs a marker type for each, and reads no plainer.
 #[derive(Clone, Copy, Debug, PartialEq, Eq, PartialOrd, Ord)]
 pub struct TypeHandle(pub u32);
 

@@ -100,6 +100,7 @@ pub fn many(bytes: &[u8], t: &[u32], end: usize, n: usize, test: Test, count: u1
 }
 
 // `count` pairs of fields.
+// Stays: one loop over a slice of tests would serve `many` too, but it is two loops, one in the other, and no plainer.
 pub fn pairs(
     bytes: &[u8],
     t: &[u32],

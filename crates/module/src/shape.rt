@@ -28,8 +28,8 @@ pub enum Class {
     Result,
 }
 
-// One class by its number: expression, optional, index, list, pattern, level, mode, argument, global, local, block, cases, function,
-// range, type, size, members, binding, flag, result, never.
+// The numbers of the packed tables; elsewhere a class is `Class`. In its order: expression, optional, index, list, pattern, level,
+// mode, argument, global, local, block, cases, function, range, type, size, members, binding, flag, result, never.
 pub const E: u32 = 1;
 
 pub const O: u32 = 2;

@@ -1,6 +1,7 @@
 // The tables by which a handle finds its record, in one lent slice of numbers: a row for each function, then the offsets of types,
 // globals and items (arguments, locals, expressions and statements, in the file's order), the first statement of each block, a
 // mark for each expression of the function that is read, and the counts of the whole.
+// Stays: one slice with regions, since the caller lends fixed memory and there is no heap.
 ghost use Rattle.std.specs.Prelude.{◌≡◌, get_or, set, ◌*◌, ◌+◌};
 ghost use Rattle.module.specs.Tables.{row_at, set_row, locals_from, expressions_from, statements_from, items_to};
 
@@ -63,10 +64,23 @@ impl Row {
     }
 }
 
+// How far a file has come: what the last record was of, and types before the first.
+#[derive(Clone, Copy, Debug, PartialEq, Eq, PartialOrd, Ord)]
+pub enum Stage {
+    Types,
+    Globals,
+    // a function's head or arguments
+    Arguments,
+    Locals,
+    Expressions,
+    // blocks and statements
+    Blocks,
+}
+
 // How far a file has come, how many of each there are, and the row of the open function.
 #[derive(Clone, Copy, Debug, PartialEq, Eq)]
 pub struct Counts {
-    pub stage: u32,
+    pub stage: Stage,
     pub types: u32,
     pub globals: u32,
     pub functions: u32,

@@ -1,5 +1,6 @@
 // The marks of a store, in the word that links its chains else: what some roots reach is marked, 2 where it is held as a part, and 1 where
 // it is only walked.
+// Stays: marks are numbers, since they stand in words of the lent store.
 ghost use Rattle.std.specs.Prelude.{◌<◌, length};
 ghost use Rattle.part.specs.Store.{top, Formed, Below};
 ghost use Rattle.part.specs.Collect.{Cleared, Rooted, Marking};

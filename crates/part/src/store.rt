@@ -1,6 +1,7 @@
 // A store of pieces: immutable cells in a lent slice, seven words to a cell: its index, the number of its child, that of its rest,
 // its entries, its depth, twice its width (and 1 more where it passes a limit), and a mark that only `collect` uses.
 // The number 0 is all, 1 is exist, 2 is the empty part, and n from 3 on is the cell at 7n. The slice's first word is the next free number.
+// Stays: cells by number in a lent slice, since memory is fixed and there is no heap.
 ghost use Rattle.std.specs.Prelude.{◌≡◌, ◌+◌, ◌*◌, ◌≤◌, ◌<◌, min, length, set};
 ghost use Rattle.part.specs.PartReq.{more, entries, depth, width, over};
 ghost use Rattle.part.specs.StoreLimits.{cell_words, store_words, entries_cap, buckets, table_words};

@@ -4,6 +4,7 @@
 use Rattle.std.specs.Prelude.{ℕ, ◌+◌, ◌≤◌, ◌≡◌, List, length, set, replicate, Result, Ok, Err}
 use Rattle.field.specs.declared.refusal.Refusal.{Refusal}
 use Rattle.field.specs.Refusal.{number}
+use Rattle.module.specs.declared.tables.Stage.TheVariants.{Types}
 use Rattle.module.specs.declared.tables.Counts.{Counts}
 use Rattle.module.specs.File.{Answer, accepted, refused, answer_of, ended, read_module}
 use Rattle.module.specs.Tables.{head_at, module_of, reading_of}
@@ -25,7 +26,7 @@ zeros n = replicate n 0
 abbrev pub no_counts : ℕ → Counts
 no_counts size =
     record {
-      stage = 0;
+      stage = Types;
       types = 0;
       globals = 0;
       functions = 0;

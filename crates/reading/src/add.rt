@@ -1,35 +1,21 @@
 // One record more: where it stands goes into the tables, and the counts grow.
 ghost use Rattle.std.specs.Prelude.{◌≡◌, ◌+◌, ◌*◌, ◌≤◌};
-ghost use Rattle.field.specs.Limits.{max_types, max_globals};
 ghost use Rattle.module.specs.Record.{body_at};
-ghost use Rattle.module.specs.Reading.{stage_of};
 ghost use Rattle.module.specs.Tables.{items_to};
-ghost use Rattle.reading.specs.Progress.{Fits, mark_by, with_item, row_with, types_by, globals_by, counts_with, table_with};
+ghost use Rattle.reading.specs.Progress.{Fits, mark_by, with_item, stage_by, row_with, counts_with, table_with};
 
 use module::record::{Mark, body};
-use module::tables::{BLOCKS, Counts, GLOBALS, ITEMS, MARKS, Row, TYPES, put};
-
-// The number of the open function's next item.
-fn items(row: Row) -> usize
-    ensures { result ≡ items_to row }
-{
-    (row.items as usize)
-        + (row.arguments as usize)
-        + (row.locals as usize)
-        + (row.expressions as usize)
-        + (row.statements as usize)
-}
+use module::tables::{BLOCKS, Counts, GLOBALS, ITEMS, MARKS, Row, Stage, TYPES, put};
 
 // Marks the expressions of an emit.
 fn emit(bytes: &[u8], t: &mut [u32], at: u32)
     ensures { t.new ≡ mark_by (body_at bytes.now at) t.old }
 {
     if body(bytes, at, 0) == 0 {
+        let first = body(bytes, at, 1) as usize;
         let last = body(bytes, at, 2) as usize;
-        let mut e = body(bytes, at, 1) as usize;
-        while e <= last {
+        for e in first..last + 1 {
             put(t, MARKS + e, 1);
-            e += 1;
         }
     }
 }
@@ -37,7 +23,7 @@ fn emit(bytes: &[u8], t: &mut [u32], at: u32)
 fn put_item(t: &mut [u32], at: u32, row: Row)
     ensures { t.new ≡ with_item t.old at row }
 {
-    put(t, ITEMS + items(row), at);
+    put(t, ITEMS + row.items_to(), at);
 }
 
 // What is written into the tables.
@@ -67,18 +53,18 @@ fn write(bytes: &[u8], t: &mut [u32], at: u32, mark: Mark, c: Counts)
     }
 }
 
-fn stage_of(mark: Mark) -> u32
-    ensures { result ≡ stage_of mark }
+fn stage_of(mark: Mark) -> Stage
+    ensures { result ≡ stage_by mark }
 {
     match mark {
-        Mark::TY => 0,
-        Mark::GV => 1,
-        Mark::FN => 2,
-        Mark::AR => 2,
-        Mark::LV => 3,
-        Mark::EX => 4,
-        Mark::BK => 5,
-        Mark::ST => 5,
+        Mark::TY => Stage::Types,
+        Mark::GV => Stage::Globals,
+        Mark::FN => Stage::Arguments,
+        Mark::AR => Stage::Arguments,
+        Mark::LV => Stage::Locals,
+        Mark::EX => Stage::Expressions,
+        Mark::BK => Stage::Blocks,
+        Mark::ST => Stage::Blocks,
     }
 }
 
@@ -93,7 +79,7 @@ fn row_with(at: u32, mark: Mark, row: Row) -> Row
         Mark::GV => row,
         Mark::FN => Row {
             offset: at,
-            items: items(row) as u32,
+            items: row.items_to() as u32,
             arguments: 0,
             locals: 0,
             expressions: 0,
@@ -124,39 +110,6 @@ fn row_with(at: u32, mark: Mark, row: Row) -> Row
     }
 }
 
-// How many types there are then, and how many globals.
-fn types_by(mark: Mark, n: u32) -> u32
-    requires { n ≤ max_types }
-    ensures { result ≡ types_by mark n }
-{
-    match mark {
-        Mark::TY => n + 1,
-        Mark::GV => n,
-        Mark::FN => n,
-        Mark::AR => n,
-        Mark::LV => n,
-        Mark::EX => n,
-        Mark::BK => n,
-        Mark::ST => n,
-    }
-}
-
-fn globals_by(mark: Mark, n: u32) -> u32
-    requires { n ≤ max_globals }
-    ensures { result ≡ globals_by mark n }
-{
-    match mark {
-        Mark::TY => n,
-        Mark::GV => n + 1,
-        Mark::FN => n,
-        Mark::AR => n,
-        Mark::LV => n,
-        Mark::EX => n,
-        Mark::BK => n,
-        Mark::ST => n,
-    }
-}
-
 // Adds a record to the tables and to the counts.
 pub fn add(bytes: &[u8], t: &mut [u32], at: u32, mark: Mark, c: Counts) -> Counts
     requires { Fits c at }
@@ -168,8 +121,8 @@ pub fn add(bytes: &[u8], t: &mut [u32], at: u32, mark: Mark, c: Counts) -> Count
     let next = row_with(at, mark, row);
     Counts {
         stage: stage_of(mark),
-        types: types_by(mark, c.types),
-        globals: globals_by(mark, c.globals),
+        types: c.types + (mark == Mark::TY) as u32,
+        globals: c.globals + (mark == Mark::GV) as u32,
         functions: c.functions,
         row: next,
     }

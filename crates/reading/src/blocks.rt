@@ -1,5 +1,5 @@
 // The block rule, at a function's end.
-ghost use Rattle.std.specs.Prelude.{◌≡◌, ◌&&◌, ◌<◌, ◌≤◌, length, get_or, set};
+ghost use Rattle.std.specs.Prelude.{◌≡◌, ◌<◌, ◌≤◌, length, get_or, set};
 ghost use Rattle.module.specs.Blocks.{all_below, holders_above, held_in_all, block_rule};
 ghost use Rattle.module.specs.Reading.{closed};
 ghost use Rattle.module.specs.Tables.{open_of};
@@ -10,7 +10,7 @@ use module::handles::BlockHandle;
 use module::tables::{Row, put, word};
 
 // The blocks that a statement holds: `count` of them, the first in the field `first`, the next ones `stride` fields on.
-#[derive(Clone, Copy)]
+#[derive(Clone, Copy, Debug, PartialEq, Eq)]
 pub struct Holding {
     pub count: u16,
     pub first: u32,
@@ -77,15 +77,6 @@ fn count(seen: &mut [u32], k: u16)
     put(seen, k as usize, times);
 }
 
-fn both(p: bool, q: bool) -> bool
-    ensures { result ≡ (p && q) }
-{
-    if p {
-        return q;
-    }
-    false
-}
-
 // Counts the blocks that the statement s holds; whether all of them are below b.
 fn hold(bytes: &[u8], t: &[u32], row: Row, s: u32, b: u32, seen: &mut [u32]) -> bool
     ensures { (result ≡ all_below b (held_at bytes.now t.now row s)) × (seen.new ≡ counted seen.old (held_at bytes.now t.now row s)) }
@@ -93,12 +84,10 @@ fn hold(bytes: &[u8], t: &[u32], row: Row, s: u32, b: u32, seen: &mut [u32]) -> 
     let kind = kind_of(bytes, t, row, s);
     let h = held_by(kind, statement_field(bytes, t, row, s, 2));
     let mut below = true;
-    let mut i: u16 = 0;
-    while i < h.count {
+    for i in 0..h.count {
         let k = statement_field(bytes, t, row, s, h.first + h.stride * (i as u32));
         count(seen, k);
-        below = both(below, (k as u32) < b);
-        i += 1;
+        below &= (k as u32) < b;
     }
     below
 }
@@ -120,18 +109,9 @@ fn hold_block(bytes: &[u8], t: &[u32], row: Row, b: u32, seen: &mut [u32]) -> bo
 {
     let range = block_range(t, row, BlockHandle(b));
     let mut below = true;
-    let mut i: u32 = 0;
-    while i < range.count {
-        let here = hold_at(
-            bytes,
-            t,
-            row,
-            (range.first as usize) + (i as usize),
-            b,
-            seen,
-        );
-        below = both(below, here);
-        i += 1;
+    for i in 0..range.count {
+        let s = (range.first as usize) + (i as usize);
+        below &= hold_at(bytes, t, row, s, b, seen);
     }
     below
 }
@@ -141,11 +121,8 @@ fn hold_all(bytes: &[u8], t: &[u32], row: Row, seen: &mut [u32]) -> bool
     ensures { (result ≡ holders_above (statements_of bytes.now t.now row) 0 (blocks_of t.now row)) × (seen.new ≡ counted seen.old (held_in_all (statements_of bytes.now t.now row) (blocks_of t.now row))) }
 {
     let mut below = true;
-    let mut b: u32 = 0;
-    while b < row.blocks {
-        let here = hold_block(bytes, t, row, b, seen);
-        below = both(below, here);
-        b += 1;
+    for b in 0..row.blocks {
+        below &= hold_block(bytes, t, row, b, seen);
     }
     below
 }
@@ -154,10 +131,8 @@ fn hold_all(bytes: &[u8], t: &[u32], row: Row, seen: &mut [u32]) -> bool
 fn clear(seen: &mut [u32], n: u32)
     ensures { seen.new ≡ cleared seen.old n }
 {
-    let mut i: u32 = 0;
-    while i < n {
+    for i in 0..n {
         put(seen, i as usize, 0);
-        i += 1;
     }
 }
 
@@ -165,9 +140,7 @@ fn clear(seen: &mut [u32], n: u32)
 fn each_once(seen: &[u32], n: u32) -> bool
     ensures { result ≡ ones n seen.now }
 {
-    let mut i = n;
-    while 0 < i {
-        i -= 1;
+    for i in (0..n).rev() {
         if word(seen, i as usize) != 1 {
             return false;
         }
@@ -186,5 +159,5 @@ pub fn block_rule(bytes: &[u8], t: &[u32], row: Row, seen: &mut [u32]) -> bool
     clear(seen, row.blocks);
     let below = hold_all(bytes, t, row, seen);
     let once = each_once(seen, row.blocks - 1);
-    both(below, once)
+    below & once
 }

@@ -5,7 +5,7 @@ ghost use Rattle.reading.specs.Ends.{step_ended, table_ended, step_at, table_at}
 use crate::blocks::block_rule;
 use field::refusal::Refusal;
 use module::record::Mark;
-use module::tables::{Counts, set_row};
+use module::tables::{Counts, Stage, set_row};
 
 // The one place for what is checked there.
 pub fn ended(bytes: &[u8], t: &mut [u32], held: &mut [u32], c: Counts) -> Result<Counts, Refusal>
@@ -14,7 +14,7 @@ pub fn ended(bytes: &[u8], t: &mut [u32], held: &mut [u32], c: Counts) -> Result
     ensures value { result ≡ step_ended bytes.now t.old c }
     ensures t_after { t.new ≡ table_ended bytes.now t.old c }
 {
-    if c.stage < 2 {
+    if c.stage < Stage::Arguments {
         return Ok(c);
     }
     let row = c.row;

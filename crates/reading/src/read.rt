@@ -12,7 +12,7 @@ use crate::ends::ended;
 use crate::record::record_next;
 use field::limits::MAX_BYTES;
 use field::refusal::Refusal;
-use module::tables::{Counts, HEAD, MAX_ITEMS, Row, put};
+use module::tables::{Counts, HEAD, MAX_ITEMS, Row, Stage, put};
 
 // The room that the caller lends: a mark for each value that a field may have, and a count for each block.
 pub const SEEN: usize = 65536;
@@ -24,7 +24,7 @@ fn no_counts(size: u32) -> Counts
     ensures { result ≡ no_counts size }
 {
     Counts {
-        stage: 0,
+        stage: Stage::Types,
         types: 0,
         globals: 0,
         functions: 0,

@@ -78,8 +78,16 @@ fn answer(
     open: &mut [u8; MIN_REPORT],
 ) -> io::Result<()> {
     if let Err(refusal) = read_front(input, t, cells, slots) {
-        let outcome = Outcome::Refused(u32::from(refusal));
-        return print(rt, input, t, places, cells, slots, open, outcome);
+        return print(
+            rt,
+            input,
+            t,
+            places,
+            cells,
+            slots,
+            open,
+            Outcome::Refused(u32::from(refusal)),
+        );
     }
     let outcome = walk_input(input, t, places, cells, slots, open);
     print(rt, input, t, places, cells, slots, open, outcome)

@@ -1,17 +1,16 @@
 -- The answer's number: 15 before 16, then the lowest fault, then the start.
-use Prim.Native.Nat.{ℕ, ◌+◌, ◌*◌}
+use Prim.Native.Nat.{ℕ}
 use mathlib.Core.Path.{◌≡◌, sym, ◌∙◌}
 use mathlib.Core.Bool.{Bool, true, false, cond}
 use mathlib.Core.List.{List}
 use mathlib.Core.Option.{Option, some}
-use borrow.Author.Tests.{eq-eqb, ne_eqb}
-use Rattle.field.specs.Limits.{absent}
+use Rattle.std.specs.Prelude.{Some, None}
 use Rattle.part.specs.PartReq.{PartReq}
 use Rattle.part.specs.Store.{part}
-use Rattle.module.specs.Decode.{option_of}
 use Rattle.context.specs.RequiredContext.{RequiredContext}
 use Rattle.request.specs.Context.{context_of}
 use Rattle.clearance.specs.Verdict.{Report, clear, at_start, at_statement, refused, verdict, starts}
+use Rattle.judge.specs.Blamed.{blamed}
 use Rattle.pass.specs.Checked.{answer_of}
 use Rattle.standing.specs.declared.passing.Passing.{Passing}
 use Rattle.context_bytes.specs.Covered.{CoversContext}
@@ -24,7 +23,7 @@ by_flags P m deep wide fault = check_word (cond deep (refused 15) (cond wide (re
 
 module _ {s : List ℕ} {n : ℕ} {q : Passing} {context : List ℕ} where
   by_flags-each : {r : ℕ} →
-      ((c : RequiredContext) (marks : List ℕ) → context_of context ≡ some c → r ≡ by_flags (reported marks c) (part s n) q.deep q.wide (option_of q.fault)) →
+      ((c : RequiredContext) (marks : List ℕ) → context_of context ≡ some c → r ≡ by_flags (reported marks c) (part s n) q.deep q.wide (blamed q.fault)) →
       Answers s n q context r
   unfolding answer_of
   by_flags-each h = record {
@@ -39,15 +38,15 @@ module _ {s : List ℕ} {n : ℕ} {q : Passing} {context : List ℕ} where
     answers_wide b = by_flags-each (λ c marks e. rw (a, b))
 
     module _ (b : q.wide ≡ false) where
-      pub answers_fault : (q.fault ≡ absent → ⊥) → Answers s n q context (check_word (at_statement q.fault))
-      unfolding option_of verdict
-      answers_fault f = by_flags-each (λ c marks e. rw (a, b, ne_eqb q.fault absent f))
+      pub answers_fault : {m : ℕ} → q.fault ≡ Some m → Answers s n q context (check_word (at_statement m))
+      unfolding verdict
+      answers_fault f = by_flags-each (λ c marks e. rw (a, b, f))
 
-      module _ (f : q.fault ≡ absent) {r : Bool} (w : CoversContext s n context r) where
+      module _ (f : q.fault ≡ None) {r : Bool} (w : CoversContext s n context r) where
         pub answers_clear : r ≡ true → Answers s n q context (check_word clear)
-        unfolding option_of verdict
-        answers_clear h = by_flags-each (λ c marks e. rw (a, b, eq-eqb q.fault absent f, sym (w.is c marks e) ∙ h))
+        unfolding verdict
+        answers_clear h = by_flags-each (λ c marks e. rw (a, b, f, sym (w.is c marks e) ∙ h))
 
         pub answers_start : r ≡ false → Answers s n q context (check_word at_start)
-        unfolding option_of verdict
-        answers_start h = by_flags-each (λ c marks e. rw (a, b, eq-eqb q.fault absent f, sym (w.is c marks e) ∙ h))
+        unfolding verdict
+        answers_start h = by_flags-each (λ c marks e. rw (a, b, f, sym (w.is c marks e) ∙ h))

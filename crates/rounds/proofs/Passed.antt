@@ -7,9 +7,8 @@ use mathlib.Core.Bool.{true, false}
 use mathlib.Core.List.{List, ◌∷◌}
 use lib.ListN.{length, get_or, get_or-eq_default}
 use borrow.Author.Tests.{lt-ltb, le-ltb}
-use Rattle.field.specs.Limits.{absent}
+use Rattle.std.specs.Prelude.{None}
 use Rattle.part.specs.PartReq.{PartReq, none}
-use Rattle.module.specs.Decode.{option_of}
 use Rattle.module.specs.Tables.{function_of}
 use Rattle.module.proofs.Tab.{get_d_tab, tab-past}
 use Rattle.clearance.specs.Scope.{Scope}
@@ -44,13 +43,13 @@ abbrev pub to_end : Exits
 to_end = record { broke = end_slot; continued = end_slot; returned = end_slot }
 
 abbrev pub anew : Passing
-anew = record { full = false; fault = absent; held = true; deep = false; wide = false }
+anew = record { full = false; fault = None; held = true; deep = false; wide = false }
 
 end_targets : Targets (stack_slot + 1) to_end
 end_targets = record { broke = (omega arith, omega arith); continued = (omega arith, omega arith); returned = (omega arith, omega arith) }
 
 anew-carries : (o : Table) → Carries anew (fresh o)
-unfolding fresh option_of
+unfolding fresh
 anew-carries o = record { fault = refl; held = refl; deep = refl; wide = refl }
 
 -- the old table's slots reach what the table does

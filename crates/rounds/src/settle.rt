@@ -13,7 +13,6 @@ use access::function::body_block;
 use backward::blocks::pass_around;
 use checking::words::Verdict;
 use context_bytes::starts::context_covers;
-use field::limits::ABSENT;
 use field::refusal::Refusal;
 use module::handles::FunctionHandle;
 use standing::passing::{END, Exits, Passing, STACK};
@@ -45,7 +44,7 @@ fn round(
     };
     let p = Passing {
         full: false,
-        fault: ABSENT,
+        fault: None,
         held: true,
         deep: false,
         wide: false,
@@ -82,8 +81,8 @@ fn answer(cells: &[u32], n: u32, q: Passing, context: &[u8]) -> Verdict
     if q.wide {
         return Verdict::Refused(Refusal::PiecesLimit);
     }
-    if q.fault != ABSENT {
-        return Verdict::Statement(q.fault as u32);
+    if let Some(s) = q.fault {
+        return Verdict::Statement(s as u32);
     }
     if context_covers(cells, n, context) {
         return Verdict::Clear;

@@ -3,12 +3,12 @@
 use Rattle.std.specs.Prelude.{ℕ, ◌+◌, ◌-◌, ◌<◌, ◌≤◌, ◌≡◌, Bool, true, false, not, ◌&&◌, ◌||◌, List, ◌∷◌, ◌++◌, length}
 use Rattle.std.proofs.Math.Option.{Option}
 use Rattle.part.specs.PartReq.{PartReq, add, contains, over}
-use Rattle.module.specs.Decode.{option_of}
 use Rattle.module.specs.Module.{ExpressionHandle}
 use Rattle.clearance.specs.Scope.{Scope}
 use Rattle.clearance.specs.Tree.{Tree}
 use Rattle.clearance.specs.Needs.{of_value, Exit, next, broke, continued, returned, upon, Setting, reentry}
 use Rattle.clearance.specs.Judged.{lower}
+use Rattle.judge.specs.Blamed.{blamed}
 use Rattle.pass.specs.Pass.{Carried, Passed, on, full, too_many, pointed, asking, turning_on, pass_cases, within, pass_inside}
 use Rattle.pass.specs.Checked.{asked_of}
 use Rattle.hold.specs.Hold.{held_by, in_slot, Reach}
@@ -22,7 +22,7 @@ setting_of S v = record { scope = S; asked = v }
 
 -- what is carried along, as the code has it
 pub record Carries (p : Passing) (c : Carried) : Type 0 where
-  pub fault : option_of p.fault ≡ c.fault
+  pub fault : blamed p.fault ≡ c.fault
   pub held : p.held ≡ c.held
   pub deep : p.deep ≡ c.deep
   pub wide : p.wide ≡ c.wide
@@ -125,7 +125,7 @@ pub record Closed (S : Scope) (f : List PartReq → PartReq → PartReq → Carr
 -- q is p with the statement l, which breaks its rule
 pub record Blames (l : ℕ) (p q : Passing) : Type 0 where
   pub full : q.full ≡ p.full
-  pub fault : option_of q.fault ≡ lower l (option_of p.fault)
+  pub fault : blamed q.fault ≡ lower l (blamed p.fault)
   pub held : q.held ≡ p.held
   pub deep : q.deep ≡ p.deep
   pub wide : q.wide ≡ p.wide

@@ -1,12 +1,12 @@
 // What a pass carries along, beside the new table, and where the needs stand at which a statement can be left.
 
 ghost use Rattle.std.specs.Prelude.{◌≡◌, true};
-// The bound was passed (then nothing else counts); the lowest statement so far that breaks its rule, or 65535; whether each loop's needs held; whether
+// The bound was passed (then nothing else counts); the lowest statement so far that breaks its rule; whether each loop's needs held; whether
 // the needs were past 15, and past 16, at some point.
 #[derive(Clone, Copy)]
 pub struct Passing {
     pub full: bool,
-    pub fault: u16,
+    pub fault: Option<u16>,
     pub held: bool,
     pub deep: bool,
     pub wide: bool,
@@ -34,7 +34,7 @@ pub fn filled() -> Passing
 {
     Passing {
         full: true,
-        fault: 65535,
+        fault: None,
         held: false,
         deep: false,
         wide: false,

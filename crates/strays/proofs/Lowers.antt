@@ -57,19 +57,6 @@ none_before nothing = refl
 none_before (some n) = unfold lower in refl
 
 -- what the code answers
-module _ (n : ℕ) (low : Option ℕ) where
-  pub lower-nothing : low ≡ None → some n ≡ lower n (blamed low)
-  unfolding lower
-  lower-nothing h = rw h
-
-  pub lower-least : (m : ℕ) {r : ℕ} → low ≡ Some m → r ≡ min m n → some r ≡ lower n (blamed low)
-  unfolding lower
-  lower-least m h e =
-      rw (h, e)
-      (cases (ltb m n)
-      (λ a. rw a (ap some (omega (arith, ltb-true m n a))))
-      (λ a. rw a (ap some (omega (arith, ltb-false m n a)))))
-
 module _ (a : Option ℕ) (b : Maybe ℕ) where
   pub of_nothing : a ≡ None → b ≡ lower_of (blamed a) b
   unfolding lower_of

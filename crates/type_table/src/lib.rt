@@ -16,12 +16,9 @@ pub fn fill(bytes: &[u8], t: &[u32], table: &mut [u32])
     requires all_sized { AllSized (module_of bytes.now t.now).types }
     ensures { types_of table.new ≡ (module_of bytes.now t.now).types }
 {
-    let mut i: usize = 0;
-    while i < table.len() {
+    for i in 0..table.len() {
         let row = (i / TYPE_WORDS) as u32;
         let word = (i % TYPE_WORDS) as u32;
-        let k = i + 1;
         table[i] = type_field(bytes, t, TypeHandle(row), word) as u32;
-        i = k;
     }
 }

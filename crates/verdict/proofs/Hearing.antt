@@ -24,50 +24,52 @@ use Rattle.request.specs.Fields.{refused, accepted}
 use Rattle.request.specs.Request.{Request, asking, request_of, known, judge}
 use Rattle.request.specs.Context.{context_of, known_context, judge_context, read_context}
 use Rattle.request.specs.Answers.{optional, RequestHeld, RequestWasRead}
-use Rattle.request.specs.declared.lists.Optional.{Optional}
-use Rattle.request.specs.declared.lists.Optional.TheVariants.{Nothing, Piece}
+use Rattle.std.specs.Prelude.{Option as Maybe, Some, None, Result, Ok, Err, unwrap_or}
+use Rattle.field.specs.Refusal.{number}
+use Rattle.field.specs.declared.refusal.Refusal.{Refusal}
+use Rattle.field.specs.declared.refusal.Refusal.TheVariants.{ModuleTooLong, RecordCut, MarkMisplaced, ModuleLimit, ValueNotAllowed, NoSuch, Malformed, Panic, Unsettled, PartLimit, PiecesLimit, VisitsLimit, ReportTooShort, PrunerUnfit, AnswerTooShort, MarksUnfit, CheckBound}
 use Rattle.request.specs.declared.requests.Request as declared
-use Rattle.request.specs.declared.requests.RequestAnswer.{RequestAnswer}
-use Rattle.request.specs.declared.requests.RequestAnswer.TheVariants as answer
 use Rattle.walk.specs.Resolve.{function_at}
 use Rattle.walk.specs.Marks.{stretch}
 use Rattle.marks.specs.Places.{start_of}
 use Rattle.sound.proofs.Asked as sound
 use Rattle.requests.proofs.Basing.{long_refused}
 use Rattle.requests.proofs.Few.{base_few}
-use Rattle.context_bytes.specs.Checked.{status_of}
+use Rattle.context_bytes.specs.Checked.{status_of, without_function}
 use Rattle.checking.specs.Check.{unread, scope_of, value_of, report_by, cut_short, on_buffer, meaning_of, meaning_by}
 use Rattle.checking.specs.Check as check
 use Rattle.valid.specs.There.{There}
 use Rattle.checking.proofs.Meaning as meaning
 use Rattle.rounds.specs.Settling.{asked_by}
-use Rattle.verdict.specs.Heard.{Store, Pieces, Loaded, ValuePiece, no_such, Accepted, Hears}
+use Rattle.verdict.specs.Heard.{Store, Pieces, Loaded, ValuePiece, refused_first, Accepted, Hears}
 use Rattle.verdict.specs.declared.heard.Heard.TheVariants as heard
 
 -- the piece of the value
-pub value_none : {o : Optional} → o ≡ Nothing → ValuePiece o 2
+pub value_piece : (o : Maybe ℕ) → ValuePiece o (unwrap_or o 2)
 unfolding value_of
-value_none e = rw e (record { there = λ s b h. omega arith; is = λ s. part-2 s })
+value_piece None = record { there = λ s b h. omega arith; is = λ s. part-2 s }
+value_piece (Some p) = record { there = λ s b h. h; is = λ s. refl }
 
-pub value_some : {o : Optional} {p : ℕ} → o ≡ Piece p → ValuePiece o p
-unfolding value_of
-value_some e = rw e (record { there = λ s b h. h; is = λ s. refl })
-
--- the context of a request for what is not there
-chosen_not_12 : (b : Bool) (c : RequiredContext) → status_of (cond b (accepted c) (refused 11)) ≡ 12 → ⊥
-unfolding status_of
-chosen_not_12 true c e = omega (arith, e)
-chosen_not_12 false c e = omega (arith, e)
-
-pub is_12 : (o : Option RequiredContext) (g a l : ℕ) {r : ℕ} → r ≡ status_of (judge_context g a l o) → r ≡ 12 → 12 ≡ no_such o
-unfolding judge_context no_such
-is_12 nothing g a l e h = refl
-is_12 (some c) g a l e h = absurd (chosen_not_12 (known_context g a l c) c (sym e ∙ h))
-
-pub is_11 : (o : Option RequiredContext) (g a l : ℕ) {r : ℕ} → r ≡ status_of (judge_context g a l o) → (r ≡ 12 → ⊥) → 11 ≡ no_such o
-unfolding judge_context no_such status_of
-is_11 nothing g a l e h = absurd (h e)
-is_11 (some c) g a l e h = refl
+-- what refuses the request otherwise refuses both
+pub first_other : (e : Refusal) (c : Option RequiredContext) → (e ≡ NoSuch → ⊥) → number e ≡ refused_first (number e) c
+unfolding refused_first
+first_other ModuleTooLong c h = refl
+first_other RecordCut c h = refl
+first_other MarkMisplaced c h = refl
+first_other ModuleLimit c h = refl
+first_other ValueNotAllowed c h = refl
+first_other NoSuch c h = absurd (h refl)
+first_other Malformed c h = refl
+first_other Panic c h = refl
+first_other Unsettled c h = refl
+first_other PartLimit c h = refl
+first_other PiecesLimit c h = refl
+first_other VisitsLimit c h = refl
+first_other ReportTooShort c h = refl
+first_other PrunerUnfit c h = refl
+first_other AnswerTooShort c h = refl
+first_other MarksUnfit c h = refl
+first_other CheckBound c h = refl
 
 -- the context of a function that is there
 pub status_is : {bytes t : List ℕ} {f : ℕ} (context : List ℕ) {g a l r : ℕ} → There bytes t f → g ≡ length (module_of bytes t).globals → a ≡ length (function_of bytes t f).arguments → l ≡ length (function_of bytes t f).locals →
@@ -77,19 +79,17 @@ status_is {bytes} {t} {f} context T hg ha hl e = rw (function_is bytes t f _ T.t
 
 -- The request
 
-pub loaded_long : {s : List ℕ} (functions globals : ℕ) (request : List ℕ) → Good s → 4 + field_at request 2 < length request → Loaded functions globals request s answer.Malformed
+pub loaded_long : {s : List ℕ} (functions globals : ℕ) (request : List ℕ) → Good s → 4 + field_at request 2 < length request → Loaded functions globals request s (Err Malformed)
 loaded_long functions globals request G h = record { good = G; is = sym (long_refused functions globals min_report request h); pieces = tt }
 
 pub reading_room : {s : List ℕ} (request : List ℕ) {k : ℕ} → k ≡ length s → Store s → length request ≤ 4 + absent → {n : ℕ} → n ≡ 3 → cell_words * n + table_words + 2 * length request ≤ k + 2 * 0
 reading_room request e S h z = omega (arith, S.long)
 
-held_pieces : (s t : List ℕ) (n : ℕ) (a : RequestAnswer) → top s ≡ 3 → n ≤ 4 + absent → RequestHeld s t n a → Pieces t n a
-held_pieces s t n answer.Malformed e l h = tt
-held_pieces s t n answer.NoSuch e l h = tt
-held_pieces s t n answer.ShortReport e l h = tt
-held_pieces s t n (answer.Accepted q) e l h = (h.0, h.1, omega (arith, h.2), l)
+held_pieces : (s t : List ℕ) (n : ℕ) (a : Result declared.Request Refusal) → top s ≡ 3 → n ≤ 4 + absent → RequestHeld s t n a → Pieces t n a
+held_pieces s t n (Err r) e l h = tt
+held_pieces s t n (Ok q) e l h = (h.0, h.1, omega (arith, h.2), l)
 
-pub loaded_read : {s t : List ℕ} {a : RequestAnswer} (functions globals : ℕ) (request : List ℕ) → top s ≡ 3 → length request ≤ 4 + absent →
+pub loaded_read : {s t : List ℕ} {a : Result declared.Request Refusal} (functions globals : ℕ) (request : List ℕ) → top s ≡ 3 → length request ≤ 4 + absent →
     RequestWasRead s t (length request) (judge functions globals min_report (request_of request)) a → Loaded functions globals request t a
 loaded_read {s} {t} {a} functions globals request e l W = record { good = W.kept.good; is = W.is; pieces = held_pieces s t (length request) a e l W.held }
 
@@ -109,20 +109,6 @@ module _ (functions globals : ℕ) where
   unfolding status_of
   numbers n true q e = never cc
   numbers n false q e = (ap (status_of {A = Request}) e, refl)
-
-  of_malformed : (o : Option Request) → refused 12 ≡ judge functions globals min_report o → o ≡ nothing
-  of_malformed nothing e = refl
-  of_malformed (some q) e = absurd (omega (arith, (numbers 12 (known functions globals q) q (e ∙ judged_is q)).0))
-
-  of_short : (o : Option Request) → refused 18 ≡ judge functions globals min_report o → ⊥
-  unfolding judge status_of
-  of_short nothing e = omega (arith, ap (status_of {A = Request}) e)
-  of_short (some q) e = omega (arith, (numbers 18 (known functions globals q) q (e ∙ judged_is q)).0)
-
-  of_no_such : (o : Option Request) → refused 11 ≡ judge functions globals min_report o → (q : Request) × Is o q false
-  unfolding judge status_of
-  of_no_such nothing e = absurd (omega (arith, ap (status_of {A = Request}) e))
-  of_no_such (some q) e = (q, record { is = refl; names = (numbers 11 (known functions globals q) q (e ∙ judged_is q)).1 })
 
   chosen : (b : Bool) (p q : Request) → accepted p ≡ cond b (accepted q) (refused 11) → (q ≡ p) × (b ≡ true)
   chosen true p q e = (cc, refl)
@@ -144,14 +130,11 @@ module _ (m : Module) where
   abbrev G : ℕ
   G = length m.globals
 
-  meant_malformed : {o : Option Request} (c : Option RequiredContext) → o ≡ nothing → (report : List ℕ) → meaning_by m report o c ≡ unread 12
-  unfolding meaning_by
-  meant_malformed c e report = rw e
-
-  meant_no_such : {o : Option Request} (c : Option RequiredContext) (q : Request) → Is F G o q false → (report : List ℕ) → meaning_by m report o c ≡ unread (no_such c)
-  unfolding meaning_by meaning_of no_such
-  meant_no_such nothing q I report = rw I.is
-  meant_no_such (some c) q I report = rw (I.is, I.names)
+  meant_first : (o : Option Request) (c : Option RequiredContext) {n : ℕ} → refused n ≡ judge F G min_report o → (report : List ℕ) → meaning_by m report o c ≡ unread (refused_first n c)
+  unfolding judge meaning_by meaning_of status_of without_function refused_first
+  meant_first nothing c e report = let z = ap (status_of {A = Request}) e in rw z
+  meant_first (some q) nothing e report = let z = numbers F G _ (known F G q) q (e ∙ judged_is F G q) in rw z.0
+  meant_first (some q) (some c) e report = let z = numbers F G _ (known F G q) q (e ∙ judged_is F G q) in rw (z.0, z.1)
 
   module _ {o : Option Request} {q : Request} (I : Is F G o q true) where
     -- the context's number
@@ -210,22 +193,13 @@ enough : (m : Module) (f : ℕ) → cut_short m f (replicate (start_of m f + str
 unfolding cut_short
 enough m f = let n = start_of m f + stretch m f in le-ltb (length (replicate n 0)) n (omega (arith, length-replicate {A = ℕ} n 0))
 
-module _ (m : Module) (request context : List ℕ) {n g : ℕ} (functions : n ≡ length m.functions) (globals : g ≡ length m.globals) {s : List ℕ} {a : RequestAnswer} (L : Loaded n g request s a) where
-  pub hears_malformed : a ≡ answer.Malformed → Hears m request context s (heard.Refused 12)
-  hears_malformed e = record { by = meant_malformed m (context_of context) (of_malformed n g (request_of request) (rw e at L.is)) }
-
-  pub hears_no_such : a ≡ answer.NoSuch → {r : ℕ} → r ≡ no_such (context_of context) → Hears m request context s (heard.Refused r)
-  hears_no_such e h =
-      let z = of_no_such n g (request_of request) (rw e at L.is) in
-      record { by = rw h (meant_no_such m (context_of context) z.0 (rw (← functions, ← globals) z.1)) }
-
-  -- a report that has room is never too short
-  pub never_short : {r : ℕ} → a ≡ answer.ShortReport → Hears m request context s (heard.Refused r)
-  never_short e = absurd (of_short n g (request_of request) (rw e at L.is))
+module _ (m : Module) (request context : List ℕ) {n g : ℕ} (functions : n ≡ length m.functions) (globals : g ≡ length m.globals) {s : List ℕ} {a : Result declared.Request Refusal} (L : Loaded n g request s a) where
+  pub hears_first : {e : Refusal} → a ≡ Err e → {r : ℕ} → r ≡ refused_first (number e) (context_of context) → Hears m request context s (heard.Refused r)
+  hears_first h z = record { by = rw z (meant_first m (request_of request) (context_of context) (rw (← functions, ← globals) (rw h at L.is))) }
 
 module _ (bytes : List ℕ) (m : Module) (R : file.read_module bytes ≡ file.accepted m) (request context : List ℕ) {n g : ℕ} (functions : n ≡ length m.functions) (globals : g ≡ length m.globals)
-    {s : List ℕ} {a : RequestAnswer} (loaded : Loaded n g request s a) {q : declared.Request} (told : a ≡ answer.Accepted q) where
-  L : Loaded (length m.functions) (length m.globals) request s (answer.Accepted q)
+    {s : List ℕ} {a : Result declared.Request Refusal} (loaded : Loaded n g request s a) {q : declared.Request} (told : a ≡ Ok q) where
+  L : Loaded (length m.functions) (length m.globals) request s (Ok q)
   L = rw (← functions, ← globals, ← told) loaded
 
   abbrev asked_for : Request

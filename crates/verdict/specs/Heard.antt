@@ -1,7 +1,8 @@
 -- What a request and a context ask together, as code answers it.
-use Rattle.std.specs.Prelude.{ℕ, ◌+◌, ◌*◌, ◌<◌, ◌≤◌, ◌≡◌, false, List, length}
-use Rattle.std.proofs.Math.Option.{Option, some, none as nothing}
+use Rattle.std.specs.Prelude.{ℕ, ◌+◌, ◌*◌, ◌<◌, ◌≤◌, ◌≡◌, false, cond, eqb, List, length, Option as Maybe, Result, Ok, Err}
+use Rattle.std.proofs.Math.Option.{Option, some}
 use Rattle.field.specs.Limits.{absent, min_report}
+use Rattle.field.specs.declared.refusal.Refusal.{Refusal}
 use Rattle.part.specs.PartReq.{is_all, entries}
 use Rattle.part.specs.StoreLimits.{cell_words, store_words, table_words}
 use Rattle.part.specs.Store.{top, part, Good}
@@ -10,9 +11,8 @@ use Rattle.context.specs.RequiredContext.{RequiredContext}
 use Rattle.request.specs.Request.{Request, asking, request_of, judge}
 use Rattle.request.specs.Context.{context_of}
 use Rattle.request.specs.Answers.{optional, Held, request_answer}
-use Rattle.request.specs.declared.lists.Optional.{Optional}
-use Rattle.request.specs.declared.requests.RequestAnswer.{RequestAnswer}
-use Rattle.request.specs.declared.requests.RequestAnswer.TheVariants as answer
+use Rattle.request.specs.declared.requests.Request.{Request as Read}
+use Rattle.context_bytes.specs.Checked.{without_function}
 use Rattle.clearance.specs.IsNeed.{AscendingRequest}
 use Rattle.pass.specs.Pass.{work_bound}
 use Rattle.hold.specs.Hold.{slack}
@@ -27,27 +27,24 @@ pub record Store (s : List ℕ) : Type 0 where
   pub fits : length s ≤ store_words
 
 -- the pieces of an accepted request, of which a cell was made for every four bytes at most
-abbrev pub Pieces : (s : List ℕ) → (long : ℕ) → RequestAnswer → Type 0
-Pieces s long answer.Malformed = Unit {0}
-Pieces s long answer.NoSuch = Unit {0}
-Pieces s long answer.ShortReport = Unit {0}
-Pieces s long (answer.Accepted q) = Held s q.retval × (q.globals < top s) × (4 * top s ≤ 12 + long) × (long ≤ 4 + absent)
+abbrev pub Pieces : (s : List ℕ) → (long : ℕ) → Result Read Refusal → Type 0
+Pieces s long (Err e) = Unit {0}
+Pieces s long (Ok q) = Held s q.retval × (q.globals < top s) × (4 * top s ≤ 12 + long) × (long ≤ 4 + absent)
 
 -- the request is read into the store s, with a report that has room
-pub record Loaded (functions globals : ℕ) (request s : List ℕ) (a : RequestAnswer) : Type 0 where
+pub record Loaded (functions globals : ℕ) (request s : List ℕ) (a : Result Read Refusal) : Type 0 where
   pub good : Good s
   pub is : request_answer s a ≡ judge functions globals min_report (request_of request)
   pub pieces : Pieces s (length request) a
 
 -- the piece r is what is asked of the value, in every store
-pub record ValuePiece (retval : Optional) (r : ℕ) : Type 0 where
+pub record ValuePiece (retval : Maybe ℕ) (r : ℕ) : Type 0 where
   pub there : (s : List ℕ) → 3 ≤ top s → Held s retval → r < top s
   pub is : (s : List ℕ) → part s r ≡ value_of (optional s retval)
 
--- the number of a request for what is not there
-unfoldable pub no_such : Option RequiredContext → ℕ
-no_such nothing = 12
-no_such (some c) = 11
+-- the number that refuses a request and a context, where n refuses the request: of what is not there, 12 of the context comes first
+unfoldable pub refused_first : ℕ → Option RequiredContext → ℕ
+refused_first n c = cond (eqb n 11) (without_function c) n
 
 -- the request that pieces of s mean: where nothing is asked of the value, none of it is
 abbrev pub asks_by : (s : List ℕ) → (f g v : ℕ) → Request

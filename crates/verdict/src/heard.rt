@@ -1,23 +1,24 @@
 // What a request and a context ask together: 12 of either comes before 11 of either.
 ghost use Rattle.std.specs.Prelude.{◌≡◌, ◌≤◌};
 ghost use Rattle.field.specs.Limits.{absent};
+ghost use Rattle.field.specs.Refusal.{number};
 ghost use Rattle.module.specs.Tables.{module_of};
 ghost use Rattle.request.specs.Context.{read_context, context_of};
 ghost use Rattle.walk.specs.Resolve.{function_at};
-ghost use Rattle.context_bytes.specs.Checked.{status_of};
+ghost use Rattle.context_bytes.specs.Checked.{status, status_of};
 ghost use Rattle.valid.specs.There.{There};
 ghost use Rattle.state.specs.Ready.{WasRead};
-ghost use Rattle.verdict.specs.Heard.{Store, Loaded, ValuePiece, no_such, Hears};
+ghost use Rattle.verdict.specs.Heard.{Store, Loaded, ValuePiece, refused_first, Hears};
 
 use access::function::{arguments, locals};
 use access::whole::{functions, globals};
-use context_bytes::check::check_context;
+use context_bytes::check::{check_context, without_function};
 use field::field::get;
 use field::limits::MIN_REPORT;
+use field::refusal::Refusal;
 use module::handles::FunctionHandle;
 use part::store::init;
-use request::lists::Optional;
-use request::requests::{RequestAnswer, read_request};
+use request::requests::{Request, read_request};
 
 // 01's number; or the asked function, and the pieces that are asked of the globals and of the value.
 #[derive(Clone, Copy)]
@@ -27,42 +28,44 @@ pub enum Heard {
 }
 
 // What the bytes of a request ask, in a store that has nothing else. A check has no report buffer that could be too short.
-fn load_request(cells: &mut [u32], request: &[u8], functions: u32, globals: u32) -> RequestAnswer
+fn load_request(
+    cells: &mut [u32],
+    request: &[u8],
+    functions: u32,
+    globals: u32,
+) -> Result<Request, Refusal>
     requires { Store cells.old × (globals ≤ absent) }
     ensures { Loaded functions globals request.now cells.new result }
 {
     init(cells);
     // a request that is longer than it says is none
     if 4 + (get(request, 2) as usize) < request.len() {
-        return RequestAnswer::Malformed;
+        return Err(Refusal::Malformed);
     }
     read_request(cells, request, functions, globals, MIN_REPORT)
 }
 
 // The piece that is asked of the value, the empty one where nothing is.
-fn value_piece(retval: Optional) -> u32
+fn value_piece(retval: Option<u32>) -> u32
     ensures { ValuePiece retval result }
 {
-    match retval {
-        Optional::Nothing => 2,
-        Optional::Piece(p) => p,
-    }
+    retval.unwrap_or(2)
 }
 
-// The number of a request for what is not there: 12 of the context comes first.
-fn no_such(context: &[u8]) -> u32
-    ensures { result ≡ no_such (context_of context.now) }
+// What refuses a request and a context, where e refuses the request: of what is not there, 12 of the context comes first.
+fn refused_first(e: Refusal, context: &[u8]) -> Refusal
+    ensures { number result ≡ refused_first (number e) (context_of context.now) }
 {
-    if check_context(context, 0, 0, 0) == 12 {
-        return 12;
+    match e {
+        Refusal::NoSuch => without_function(context),
+        _ => e,
     }
-    11
 }
 
-// The number of a context for the function f, or 0.
-fn context_status(bytes: &[u8], t: &[u32], f: FunctionHandle, context: &[u8]) -> u32
+// Whether a context is one for the function f.
+fn context_status(bytes: &[u8], t: &[u32], f: FunctionHandle, context: &[u8]) -> Result<(), Refusal>
     requires { There bytes.now t.now f.0 }
-    ensures { result ≡ status_of (read_context (module_of bytes.now t.now) (function_at (module_of bytes.now t.now) f.0) context.now) }
+    ensures { status result ≡ status_of (read_context (module_of bytes.now t.now) (function_at (module_of bytes.now t.now) f.0) context.now) }
 {
     let all = globals(t);
     let given = arguments(t, f);
@@ -76,14 +79,11 @@ pub fn hear(bytes: &[u8], t: &[u32], cells: &mut [u32], request: &[u8], context:
 {
     let n = functions(t);
     match load_request(cells, request, n, globals(t)) {
-        RequestAnswer::Malformed => Heard::Refused(12),
-        RequestAnswer::NoSuch => Heard::Refused(no_such(context)),
-        RequestAnswer::ShortReport => Heard::Refused(18),
-        RequestAnswer::Accepted(q) => {
+        Err(e) => Heard::Refused(u32::from(refused_first(e, context))),
+        Ok(q) => {
             let f = q.function;
-            let status = context_status(bytes, t, f, context);
-            if 0 < status {
-                return Heard::Refused(status);
+            if let Err(e) = context_status(bytes, t, f, context) {
+                return Heard::Refused(u32::from(e));
             }
             let retval = q.retval;
             Heard::Of(f, q.globals, value_piece(retval))

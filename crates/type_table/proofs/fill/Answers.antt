@@ -1,5 +1,4 @@
 -- `type_table::fill` meets its contract. The invariant: the words before i are filled.
-use Prim.Native.Nat.{◌-◌}
 use Rattle.type_table.proofs.Filled.{fill_none, fill_next, fill_all}
 use native.Mathlib.Omega.{arith}
 use Rattle.type_table.proofs.fill.Goals as goal
@@ -11,25 +10,9 @@ pub overflow_cast-row : goal.overflow_cast-row
 overflow_cast-row c =
     omega (arith, c.loop-i.invariant.long, c.loop-i-test.true, c.requires.table_len, c.requires.table_len_bound, c.requires.all_sized)
 
-pub overflow_cast-word : goal.overflow_cast-word
-overflow_cast-word c = omega arith
-
-pub overflow_add-k : goal.overflow_add-k
-overflow_add-k c =
-    omega (arith, c.loop-i.invariant.long, c.loop-i-test.true, c.requires.table_len, c.requires.table_len_bound, c.requires.all_sized)
-
-pub bounds-table-i : goal.bounds-table-i
-bounds-table-i c = c.loop-i-test.true
-
-pub loop-i-smaller : goal.loop-i-smaller
-loop-i-smaller c = omega (arith, c.loop-i.invariant.long, c.loop-i-test.true)
-
 pub loop-i-preserved : goal.loop-i-preserved
 loop-i-preserved c =
     fill_next _ _ _ _ _ _ c.loop-i.invariant (omega (arith, c.loop-i.invariant.long, c.loop-i-test.true)) c.type_field.ensures
-
-pub shape_of-table : goal.shape_of-table
-shape_of-table c = c.loop-i.invariant.long
 
 pub returns : goal.returns
 returns c =

@@ -1,11 +1,7 @@
 -- `type_table::fill` meets its contract. The invariant: the words before i are filled.
-use Prim.Native.Nat.{◌-◌}
 use lib.ListN.{length}
 use Rattle.type_table.proofs.Filled.{Filled}
 use Rattle.type_table.proofs.fill.Given as goal
 
 abbrev pub invariant-loop-i : goal.invariant-loop-i
 invariant-loop-i l = Filled l.bytes l.t l.table (length l.initial.table) l.i
-
-abbrev pub decreases-loop-i : goal.decreases-loop-i
-decreases-loop-i l = length l.initial.table - l.i

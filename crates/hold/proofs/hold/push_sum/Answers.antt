@@ -1,11 +1,6 @@
 -- `hold::hold::push_sum` meets its contract.
-use Rattle.hold.proofs.Pushes.{sum_asks, first_asks, first_pushed, clean_again, again_asks, second_asks, second_pushed, second_none}
+use Rattle.hold.proofs.Pushes.{first_asks, first_pushed, second_asks, second_pushed, second_none}
 use Rattle.hold.proofs.hold.push_sum.Goals as goal
-
-pub sum-requires : goal.sum-requires
-sum-requires c =
-    let q9 = sum_asks c.requires.live c.requires.n_in_bounds c.requires.i_lt_n in
-    record { good = q9.0; a_bound = q9.1 }
 
 pub push-requires : goal.push-requires
 push-requires c =
@@ -15,14 +10,6 @@ push-requires c =
 pub returns-in-Some : goal.returns-in-Some
 returns-in-Some c =
     first_pushed c.requires.live c.requires.n_in_bounds c.requires.i_lt_n c.sum.ensures c.in-Some.is c.push.ensures
-
-pub clean-requires : goal.clean-requires
-clean-requires c = clean_again c.requires.live c.requires.n_in_bounds c.requires.i_lt_n c.sum.ensures
-
-pub sum-requires-2 : goal.sum-requires-2
-sum-requires-2 c =
-    let q9 = again_asks c.requires.live c.requires.n_in_bounds c.requires.i_lt_n c.sum.ensures c.clean.ensures in
-    record { good = q9.0; a_bound = q9.1 }
 
 pub push-requires-in-Some-sum : goal.push-requires-in-Some-sum
 push-requires-in-Some-sum c =

@@ -1,13 +1,7 @@
 -- `needs::path::below` meets its contract. What is left of the path keeps the answer (`Going`).
 use mathlib.Core.Path.{refl}
-use Rattle.needs.proofs.Steps.{going_start, going_more, going_end}
+use Rattle.needs.proofs.Steps.{going_more, going_end}
 use Rattle.needs.proofs.path.below.Goals as goal
-
-pub loop-i-init : goal.loop-i-init
-loop-i-init c = going_start _ c.requires.n_bound
-
-pub get-f-requires : goal.get-f-requires
-get-f-requires c = record { good = c.requires.good; a_bound = c.loop-i.invariant.inside }
 
 pub loop-i-preserved : goal.loop-i-preserved
 loop-i-preserved c =

@@ -1,8 +1,14 @@
 -- `reading::add::add` meets its contract: what is written, and each count.
-use Rattle.reading.specs.Progress.{counts_with}
+use borrow.Author.Rules.{rules}
+use mathlib.Core.Path.{◌≡◌}
+use Prim.Native.Nat.{◌+◌}
+use mir.Val.{bool_byte}
+use Rattle.reading.specs.Progress.{counts_with, types_by, globals_by}
 use Rattle.reading.proofs.add.add.Goals as goal
 
-pub returns : goal.returns
-unfolding counts_with
-returns c =
-    record { t_after = c.write.ensures; value = rw (c.globals_by.ensures, c.types_by.ensures, c.stage_of.ensures, c.row_with-next.ensures) }
+pub returns-clause-value : goal.returns-clause-value
+unfolding counts_with types_by globals_by
+returns-clause-value c =
+    let types : c.args.c.types + bool_byte c.eq.result ≡ types_by c.args.mark c.args.c.types = search rules in
+    let globals : c.args.c.globals + bool_byte c.eq-2.result ≡ globals_by c.args.mark c.args.c.globals = search rules in
+    rw (c.stage_of.ensures, c.row_with-next.ensures, types, globals)

@@ -1,5 +1,4 @@
 -- `reading::add::emit` meets its contract: mark by mark, what is left to set gives the whole.
-use Prim.Native.Nat.{◌-◌}
 use mathlib.Core.Path.{refl, ◌∙◌}
 use Rattle.reading.proofs.Marking.{length-mark_from, mark_again, mark_done, is_emit, no_emit}
 use native.Mathlib.Omega.{arith}
@@ -8,18 +7,15 @@ use Rattle.reading.proofs.add.emit.Goals as goal
 pub loop-e-init : goal.loop-e-init
 loop-e-init c = refl
 
-pub loop-e-smaller : goal.loop-e-smaller
-loop-e-smaller c = omega (arith, c.loop-e-test.true)
-
 pub loop-e-preserved : goal.loop-e-preserved
-loop-e-preserved c = mark_again _ _ _ _ _ c.loop-e-test.true c.put.ensures c.loop-e.invariant
+loop-e-preserved c = mark_again _ _ _ _ _ (omega (arith, c.loop-e-test.true)) c.put.ensures c.loop-e.invariant
 
 pub shape_of-t : goal.shape_of-t
-shape_of-t c = rw (mark_done _ _ _ _ c.loop-e-test.false c.loop-e.invariant) (length-mark_from _ _ _)
+shape_of-t c = rw (mark_done _ _ _ _ (omega (arith, c.loop-e-test.false)) c.loop-e.invariant) (length-mark_from _ _ _)
 
 pub returns-after-loop-e : goal.returns-after-loop-e
 returns-after-loop-e c =
-    mark_done _ _ _ _ c.loop-e-test.false c.loop-e.invariant ∙ is_emit _ _ _ c.body.ensures _ _ c.if-body-eq0.true c.body-e.ensures c.body-last.ensures
+    mark_done _ _ _ _ (omega (arith, c.loop-e-test.false)) c.loop-e.invariant ∙ is_emit _ _ _ c.body.ensures _ _ c.if-body-eq0.true c.body-first.ensures c.body-last.ensures
 
 pub returns-else-body-eq0 : goal.returns-else-body-eq0
 returns-else-body-eq0 c = no_emit _ _ _ c.body.ensures c.if-body-eq0.false

@@ -5,7 +5,4 @@ use Rattle.reading.specs.Progress.{mark_from}
 use Rattle.reading.proofs.add.emit.Given as goal
 
 abbrev pub invariant-loop-e : goal.invariant-loop-e
-invariant-loop-e l = mark_from l.t l.e (suc l.last - l.e) ≡ mark_from l.initial.t l.initial.e (suc l.last - l.initial.e)
-
-abbrev pub decreases-loop-e : goal.decreases-loop-e
-decreases-loop-e l = suc l.last - l.e
+invariant-loop-e l = mark_from l.t l.e (suc l.last - l.e) ≡ mark_from l.initial.t l.first (suc l.last - l.first)

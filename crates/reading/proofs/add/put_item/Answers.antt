@@ -2,4 +2,4 @@
 use Rattle.reading.proofs.add.put_item.Goals as goal
 
 pub returns : goal.returns
-returns c = rw c.items.ensures at c.put.ensures
+returns c = rw c.items_to.ensures at c.put.ensures

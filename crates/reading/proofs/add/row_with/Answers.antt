@@ -12,7 +12,7 @@ returns-in-GV c = rw c.in-GV.is
 
 pub returns-in-FN : goal.returns-in-FN
 unfolding row_with
-returns-in-FN c = rw (c.in-FN.is, c.items.ensures)
+returns-in-FN c = rw (c.in-FN.is, c.items_to.ensures)
 
 pub returns-in-AR : goal.returns-in-AR
 unfolding row_with

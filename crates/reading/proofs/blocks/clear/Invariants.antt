@@ -1,11 +1,7 @@
 -- `reading::blocks::clear` meets its contract: word by word.
-use Prim.Native.Nat.{◌-◌, ◌≤◌}
 use mathlib.Core.Path.{◌≡◌}
 use Rattle.reading.specs.Holding.{cleared}
 use Rattle.reading.proofs.blocks.clear.Given as goal
 
 abbrev pub invariant-loop-i : goal.invariant-loop-i
-invariant-loop-i l = (l.seen ≡ cleared l.initial.seen l.i) × (l.i ≤ l.n)
-
-abbrev pub decreases-loop-i : goal.decreases-loop-i
-decreases-loop-i l = l.n - l.i
+invariant-loop-i l = l.seen ≡ cleared l.initial.seen l.i

@@ -1,5 +1,5 @@
 -- `reading::blocks::hold` meets its contract: block by block.
-use Prim.Native.Nat.{◌-◌}
+use mathlib.Core.Path.{refl}
 use native.Mathlib.Omega.{arith}
 use Rattle.module.specs.Decode.{tab}
 use Rattle.reading.proofs.Held.{held-at, fits_mul, fits_add}
@@ -9,7 +9,7 @@ use Rattle.reading.proofs.blocks.hold.Goals as goal
 
 pub loop-i-init : goal.loop-i-init
 unfolding tab
-loop-i-init c = (none_yet _ _, omega arith)
+loop-i-init c = none_yet _ _
 
 pub overflow_mul-h : goal.overflow_mul-h
 overflow_mul-h c =
@@ -19,16 +19,13 @@ pub overflow_add-h : goal.overflow_add-h
 overflow_add-h c =
     search (rules, fits_add _ _ _ c.loop-i.i c.held_by-h.ensures (omega (arith, c.loop-i-test.true)))
 
-pub loop-i-smaller : goal.loop-i-smaller
-loop-i-smaller c = omega (arith, c.loop-i-test.true)
-
 pub loop-i-preserved : goal.loop-i-preserved
 loop-i-preserved c =
-    (next_one _ _ c.statement_field-k.ensures c.loop-i.invariant.0 _ _ c.count.ensures c.both-below.ensures, omega (arith, c.loop-i-test.true))
+    next_one _ _ c.statement_field-k.ensures c.loop-i.invariant _ _ c.count.ensures refl
 
 pub shape_of-seen : goal.shape_of-seen
-shape_of-seen c = rw c.loop-i.invariant.0.words (length-counted _ _)
+shape_of-seen c = rw c.loop-i.invariant.words (length-counted _ _)
 
 pub returns : goal.returns
 returns c =
-    by_words (all_counted _ _ _ c.loop-i.invariant.0 c.loop-i.invariant.1 c.loop-i-test.false (held-at _ _ _ _ _ _ _ c.held_by-h.ensures c.kind_of-kind.ensures c.statement_field.ensures))
+    by_words (all_counted _ _ _ c.loop-i.invariant (omega (arith, c.loop-i.auto)) c.loop-i-test.false (held-at _ _ _ _ _ _ _ c.held_by-h.ensures c.kind_of-kind.ensures c.statement_field.ensures))

@@ -1,5 +1,4 @@
 -- `reading::blocks::hold` meets its contract: block by block.
-use Prim.Native.Nat.{◌-◌, ◌≤◌}
 use lib.ListN.{get_or}
 use Rattle.module.specs.Decode.{tab}
 use Rattle.reading.specs.Holding.{field_of, fields_of}
@@ -7,7 +6,4 @@ use Rattle.reading.proofs.Counting.{Counted}
 use Rattle.reading.proofs.blocks.hold.Given as goal
 
 abbrev pub invariant-loop-i : goal.invariant-loop-i
-invariant-loop-i l = Counted l.b l.initial.seen l.seen l.below (tab l.i (λ j. get_or (fields_of l.bytes l.t l.row l.s) (field_of l.h j) 0)) × (l.i ≤ l.h.count)
-
-abbrev pub decreases-loop-i : goal.decreases-loop-i
-decreases-loop-i l = l.h.count - l.i
+invariant-loop-i l = Counted l.b l.initial.seen l.seen l.below (tab l.i (λ j. get_or (fields_of l.bytes l.t l.row l.s) (field_of l.h j) 0))

@@ -1,5 +1,4 @@
 -- `reading::blocks::hold_all` meets its contract: block by block.
-use Prim.Native.Nat.{◌-◌, ◌≤◌}
 use Rattle.module.specs.Decode.{tab}
 use Rattle.module.specs.Reading.{range_of}
 use Rattle.module.specs.Tables.{starts_of}
@@ -8,7 +7,4 @@ use Rattle.reading.proofs.Holders.{Passed}
 use Rattle.reading.proofs.blocks.hold_all.Given as goal
 
 abbrev pub invariant-loop-b : goal.invariant-loop-b
-invariant-loop-b l = Passed (statements_of l.bytes l.t l.row) l.initial.seen l.seen l.below (tab l.b (range_of (starts_of l.t l.row) l.row.statements)) × (l.b ≤ l.row.blocks)
-
-abbrev pub decreases-loop-b : goal.decreases-loop-b
-decreases-loop-b l = l.row.blocks - l.b
+invariant-loop-b l = Passed (statements_of l.bytes l.t l.row) l.initial.seen l.seen l.below (tab l.b (range_of (starts_of l.t l.row) l.row.statements))

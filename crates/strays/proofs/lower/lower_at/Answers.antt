@@ -1,5 +1,5 @@
 -- `strays::lower::lower_at` meets its contract: by cases of what was found.
-use Rattle.strays.proofs.Lowers.{lower-nothing, lower-least}
+use Rattle.judge.proofs.Lowest.{lower-nothing, lower-least}
 use Rattle.strays.proofs.lower.lower_at.Goals as goal
 
 pub returns-in-None : goal.returns-in-None
