@@ -14,6 +14,6 @@ pub returns-in-None : goal.returns-in-None
 returns-in-None c =
     total_over _ _ c.if-totals-i-eq0.false c.first_ray-ray.result c.first_ray-ray.ensures c.later_total.result c.later_total.ensures c.in_default.is c.in-None.is
 
-pub returns-in-Some : goal.returns-in-Some
-returns-in-Some c =
-    total_later _ _ c.if-totals-i-eq0.false c.first_ray-ray.result c.first_ray-ray.ensures c.later_total.result c.later_total.ensures c.in_default.is c.in-Some.is
+pub returns-in-Some-later_total : goal.returns-in-Some-later_total
+returns-in-Some-later_total c =
+    total_later _ _ c.if-totals-i-eq0.false c.first_ray-ray.result c.first_ray-ray.ensures c.later_total.result c.later_total.ensures c.in_default.is c.in-Some-later_total.is
