@@ -31,8 +31,8 @@ returns-in_default-read_functions c =
 
 pub ends-requires : goal.ends-requires
 ends-requires c =
-    body_inside c.args.bytes.now c.args.t.now c.requires.has_totals.0.was_read (c.globals-n.ensures c.args.bytes.now) c.args.slots.now c.args.totals.now c.read_map.ensures c.in-Some.is c.entries-count.ensures (omega (arith, c.if-count-gt-MAX_PIECES.false)) c.requires.has_totals.0.memory c.read_functions.ensures c.in-Some-2.is
+    body_inside c.args.bytes.now c.args.t.now c.requires.has_totals.0.was_read (c.globals-n.ensures c.args.bytes.now) c.args.slots.now c.args.totals.now c.read_map.ensures c.in-Some.is c.entries-count.ensures (omega (arith, c.if-count-gt-MAX_PIECES.false)) c.requires.has_totals.0.memory c.read_functions.ensures c.in-Some-read_functions.is
 
 pub returns : goal.returns
 returns c =
-    body_ends c.args.bytes.now c.args.t.now c.requires.has_totals.0.was_read (c.globals-n.ensures c.args.bytes.now) c.args.slots.now c.args.totals.now c.read_map.ensures c.in-Some.is c.entries-count.ensures (omega (arith, c.if-count-gt-MAX_PIECES.false)) c.requires.has_totals.0.memory c.read_functions.ensures c.in-Some-2.is c.ends.ensures
+    body_ends c.args.bytes.now c.args.t.now c.requires.has_totals.0.was_read (c.globals-n.ensures c.args.bytes.now) c.args.slots.now c.args.totals.now c.read_map.ensures c.in-Some.is c.entries-count.ensures (omega (arith, c.if-count-gt-MAX_PIECES.false)) c.requires.has_totals.0.memory c.read_functions.ensures c.in-Some-read_functions.is c.ends.ensures
