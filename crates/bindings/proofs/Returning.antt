@@ -14,7 +14,7 @@ use Rattle.field.specs.Limits.{absent, max_pieces}
 use Rattle.field.specs.declared.refusal.Refusal.TheVariants.{PartLimit, PiecesLimit}
 use Rattle.part.specs.PartReq.{PartReq, none, more, add, entries, over}
 use Rattle.part.specs.StoreLimits.{entries_cap}
-use Rattle.part.specs.Store.{top, part, Good, Room, Made, Measures}
+use Rattle.part.specs.Store.{top, part, Good, Made, Measures}
 use Rattle.part.proofs.Pieces.{part-2}
 use Rattle.part.proofs.Making.{kept_trans}
 use Rattle.part.proofs.Write.{stay}
@@ -77,13 +77,6 @@ no_result tbl required {s} {ty} b k g e =
     stay s _ k 2 g (omega (arith, g.base)) (part-2 s ∙ (unfold return_entry result_from result_by in (rw (eq-eqb ty absent e))))
 
 module _ (tbl : List ℕ) (required : Bindings) {s t parts : List ℕ} {n ty b q k : ℕ} (F : Parts s t (types_of tbl) required parts k) (C : Chosen parts required n b ty q) (same : n ≡ length parts) where
-  pub entry-asks : Room s (k + 1) → Good t × (Room t 1 × ((q < top t) × (2 < top t)))
-  entry-asks room =
-      let g : Good t = F.kept.good in
-      let cost : top t ≤ top s + k = F.cost in
-      let long : length t ≡ length s = F.kept.long in
-      (g, (omega arith, (C.piece t g.base (rw same F.held), omega (arith, g.base))))
-
   module _ (h : ty ≡ absent → ⊥) (l : length parts ≡ type_count tbl) where
     is_entry : return_entry (unless_empty (part t q)) ≡ entry tbl required ty b
     is_entry = ap return_entry (result-is F (l ∙ sym (types_long tbl)) same h C)
@@ -186,9 +179,6 @@ module _ (types : List TypeInner) {b : ℕ} {required : Bindings} (w : required 
   added_is : (f : Function) → f.result ≡ result_by ty binding → add_binding types b f (request_context (part s globals) (part s retval)) ≡ added
   unfolding add_binding
   added_is f e = rw (new_is f e, m.kept.same retval held.1)
-
-  add-asks : Good t × ((retval < top t) × (n < top t))
-  add-asks = (m.kept.good, (omega (arith, m.kept.tops, held.1), m.piece))
 
   pub add_past : over (part t n) ≡ true → Asked s t ty binding (part s globals) adds (Err PartLimit)
   add_past h =

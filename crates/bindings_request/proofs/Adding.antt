@@ -8,6 +8,9 @@ use mathlib.Core.Option.{Option, some, none as nothing}
 use lib.Dec.{ltb}
 use lib.ListN.{length}
 use borrow.Author.Tests.{lt-ltb, le-ltb, ltb-true, ltb-false}
+use Rattle.std.specs.Prelude.{Result, Err}
+use Rattle.field.specs.declared.refusal.Refusal.{Refusal}
+use Rattle.field.specs.declared.refusal.Refusal.TheVariants as why
 use Rattle.field.specs.Limits.{absent, min_report, max_pieces}
 use Rattle.part.specs.StoreLimits.{cell_words, table_words}
 use Rattle.part.specs.Store.{top, part, Good, Room, Made}
@@ -30,11 +33,9 @@ use Rattle.request.specs.declared.requests.Request as declared
 use Rattle.bindings.specs.Bindings.{single}
 use Rattle.bindings.specs.Rows.{AllBound}
 use Rattle.bindings.specs.ContextBindings.{Answer, output_from_bindings, add_binding, as_request, add_request}
-use Rattle.bindings.specs.Outputs.{result_by, BoundResult, output_cells, request_context, asking_of, AskingHeld, Asked}
-use Rattle.bindings.specs.declared.outputs.Asking.{Asking}
-use Rattle.bindings_request.specs.Boundary.{Tables, Lent, own_number, on_read, written, add_bytes, Gave}
-use Rattle.bindings_request.specs.declared.answer.Bytes.{Bytes}
-use Rattle.bindings_request.specs.declared.answer.Bytes.TheVariants.{Refused}
+use Rattle.bindings.specs.Outputs.{result_by, BoundResult, output_cells, request_context, asking_of, Asked}
+use Rattle.bindings_request.specs.Boundary.{Tables, Lent, own_number, on_read, written, add_bytes, refused_by, Gave}
+use Rattle.bindings_request.specs.declared.answer.Refused.{Refused}
 use Rattle.bindings_request.proofs.Modules.{of_function-at, rows_sized, rows_bound, rows_few, result-bound, globals-few}
 use Rattle.bindings_request.proofs.Answers.{gave_refused}
 
@@ -61,12 +62,9 @@ module _ {bytes t types : List ℕ} (T : Tables bytes t types) {f b : ℕ} (low 
         let long : length u ≡ length s = m.kept.long in
         (m.kept.good, (rows_bound T, (rows_sized T, ((l, omega (arith, rows_few T)), ((rw (← result-is) (result-bound T f low), omega arith), (few, (omega (arith, m.kept.tops), m.piece)))))))
 
-    module _ {v : List ℕ} {a : Asking} (A : Asked u v x.ty.0 x.binding (part u globals) (λ y. as_request (output_from_bindings (types_of types) (single b) y) (add_binding (types_of types) b y (request_context (part u globals) (part u entry)))) a) where
+    module _ {v : List ℕ} {a : Result ℕ Refusal} (A : Asked u v x.ty.0 x.binding (part u globals) (λ y. as_request (output_from_bindings (types_of types) (single b) y) (add_binding (types_of types) b y (request_context (part u globals) (part u entry)))) a) where
       globals_same : part v globals ≡ part u globals
       globals_same = A.kept.same globals (omega (arith, m.kept.tops))
-
-      pub write_asks : {n l : ℕ} → n ≤ l → Good v × (((globals < top v) × AskingHeld v (part v globals) a) × (n ≤ l))
-      write_asks r = (A.kept.good, ((omega (arith, m.kept.tops, A.kept.tops), rw globals_same A.held), r))
 
       answer_is : asking_of v (part v globals) a ≡ add_request (module_of bytes t) f b (request_context (part s globals) (return_entry (optional s o)))
       answer_is =
@@ -74,7 +72,7 @@ module _ {bytes t types : List ℕ} (T : Tables bytes t types) {f b : ℕ} (low 
           (A.is (function_of bytes t f) result-is
           ∙ rw (m.kept.same globals held, m.is) (sym (add-request (request_context (part s globals) (return_entry (optional s o))))))
 
-      pub add_gave : {o₀ o₁ : List ℕ} {r : Bytes} → Gave o₀ o₁ (written f (asking_of v (part v globals) a)) r → Gave o₀ o₁ (written f (add_request (module_of bytes t) f b (request_context (part s globals) (return_entry (optional s o))))) r
+      pub add_gave : {o₀ o₁ : List ℕ} {r : Result ℕ Refused} → Gave o₀ o₁ (written f (asking_of v (part v globals) a)) r → Gave o₀ o₁ (written f (add_request (module_of bytes t) f b (request_context (part s globals) (return_entry (optional s o))))) r
       add_gave g = rw answer_is at g
 
 -- the number of what refuses the request
@@ -120,9 +118,9 @@ pub read_asks : {bytes t types cells parts request s : List ℕ} {globals : ℕ}
     → Good s → top s ≡ 3 → length s ≡ length cells → Good s × ((globals ≤ absent) × (cell_words * top s + table_words + 2 * length request ≤ length s + 2 * 0))
 read_asks T L e g h l = let big = L.room in (g, (omega (arith, globals-few T), omega arith))
 
-pub add-above : (m : Module) (room b : ℕ) (request : List ℕ) {o : List ℕ} → bindings ≤ b → Gave o o (add_bytes m room b request) (Refused 12)
+pub add-above : (m : Module) (room b : ℕ) (request : List ℕ) {o : List ℕ} → bindings ≤ b → Gave o o (add_bytes m room b request) (Err (refused_by why.Malformed))
 unfolding add_bytes
-add-above m room b request h = gave_refused (rw (le-ltb b bindings h))
+add-above m room b request h = gave_refused why.Malformed (rw (le-ltb b bindings h))
 
 module _ (bytes t request : List ℕ) (room : ℕ) {s u : List ℕ} {b functions globals n : ℕ} (few : b < bindings) (F : functions ≡ length (module_of bytes t).functions) (G : globals ≡ length (module_of bytes t).globals) {a : Result declared.Request Refusal} (A : RequestWasRead s u n (judge functions globals room (request_of request)) a) where
   abbrev next : Request → Answer (List ℕ)
@@ -132,9 +130,9 @@ module _ (bytes t request : List ℕ) (room : ℕ) {s u : List ℕ} {b functions
   unfolding add_bytes
   on_answer = rw (lt-ltb b bindings few, ← F, ← G, A.is)
 
-  pub add_refused : {o : List ℕ} {n : ℕ} (e : Refusal) → a ≡ Err e → n ≡ own_number (number e) → Gave o o (add_bytes (module_of bytes t) room b request) (Refused n)
+  pub add_refused : {o : List ℕ} (e r : Refusal) → a ≡ Err e → number r ≡ own_number (number e) → Gave o o (add_bytes (module_of bytes t) room b request) (Err (refused_by r))
   unfolding on_read
-  add_refused e h is = gave_refused (on_answer ∙ rw (h, is))
+  add_refused e r h is = gave_refused r (on_answer ∙ rw (h, is))
 
   module _ {q : declared.Request} (e : a ≡ Ok q) where
     was_held : Held u q.retval × (q.globals < top u) × (4 * top u ≤ 4 * top s + n)
@@ -155,6 +153,6 @@ module _ (bytes t request : List ℕ) (room : ℕ) {s u : List ℕ} {b functions
         let big = L.room in
         (T, (A.kept.good, ((len, omega arith), ((omega arith, (was_held.0, was_held.1)), (few, omega arith)))))
 
-    pub add_went : {o p : List ℕ} {r : Bytes} → Gave o p (written q.function.0 (add_request (module_of bytes t) q.function.0 b (request_context (part u q.globals) (return_entry (optional u q.retval))))) r → Gave o p (add_bytes (module_of bytes t) room b request) r
+    pub add_went : {o p : List ℕ} {r : Result ℕ Refused} → Gave o p (written q.function.0 (add_request (module_of bytes t) q.function.0 b (request_context (part u q.globals) (return_entry (optional u q.retval))))) r → Gave o p (add_bytes (module_of bytes t) room b request) r
     unfolding on_read
     add_went g = rw (on_answer, e) g

@@ -1,11 +1,13 @@
 -- What is needed of the arguments, as the code finds it: of one, by what is asked of it and whether it is bound; of all, from the last to the first.
-use Prim.Native.Nat.{ℕ, zero, suc, ◌+◌, ◌-◌, ◌*◌, ◌/◌, ◌<◌, ◌≤◌}
+use Prim.Native.Nat.{ℕ, suc, ◌+◌, ◌*◌, ◌/◌, ◌<◌, ◌≤◌}
 use native.Mathlib.Omega.{arith}
+use native.Mathlib.Numerals.{add-one}
 use mathlib.Core.Path.{◌≡◌, refl, sym, ap, ◌∙◌}
 use mathlib.Core.Bool.{true, false, false≢true}
 use mathlib.Core.List.{List}
 use mathlib.Core.Option.{some, none as nothing}
-use lib.Bits.{bit_or, or_zero_l}
+use lib.Arith.{bin_ind}
+use lib.Bits.{bit_or, or_step, or_shr, or_zero_l, or_zero_r}
 use lib.ListN.{length, get_or, drop, drop_of_length-le}
 use lib.Seq.{drop-cons}
 use Rattle.field.specs.Limits.{absent}
@@ -20,9 +22,7 @@ use Rattle.bindings.specs.TypeBindings.{step_bindings, get_type_bindings}
 use Rattle.bindings.specs.ContextBindings.{Needed as Answered, needed, asserts, bound_part, arg_bindings, both, args_bindings}
 use Rattle.bindings.specs.Linear.{all_table, walk_bindings}
 use Rattle.bindings.specs.Rows.{arg_of, args_of}
-use Rattle.bindings_request.specs.Walks.{lower, needed_of}
-use Rattle.bindings_request.specs.declared.needed.Needed.{Needed}
-use Rattle.bindings_request.specs.declared.needed.Needed.TheVariants.{Bindings as Got, Asserts}
+use Rattle.bindings_request.specs.Walks.{lower}
 use Rattle.bindings.proofs.Linear.{all-table_is, walk_is}
 use Rattle.bindings.proofs.Rows.{no_binding, present}
 use Rattle.bindings_request.proofs.Walking.{lower-step}
@@ -44,18 +44,23 @@ module _ (types : List TypeInner) {sets : List Bindings} (t : ℕ) (T : sets ≡
   found_step p e =
       lower-step types sets (suc t) t p (omega arith) e ∙ lower-walk types sets t p ∙ rw T (walk_is types p t)
 
--- both
-pub both-asserts : {a : Needed} (b : Answered) {i : ℕ} → a ≡ Asserts i → needed_of a ≡ both (needed_of a) b
-unfolding both
-both-asserts b e = rw e
+-- both, one after the other
+or_assoc : (c a b : ℕ) → bit_or (bit_or a b) c ≡ bit_or a (bit_or b c)
+or_assoc =
+    bin_ind (λ (c : ℕ). (a b : ℕ) → bit_or (bit_or a b) c ≡ bit_or a (bit_or b c)) (λ a b. or_zero_r (bit_or a b) ∙ sym (ap (bit_or a) (or_zero_r b)))
+    (λ c ih a b.
+    let p : bit_or (bit_or a b / 2) (c / 2) ≡ bit_or (a / 2) (bit_or b c / 2) = ap (λ x. bit_or x (c / 2)) (or_shr a b 1) ∙ ih (a / 2) (b / 2) ∙ sym (ap (bit_or (a / 2)) (or_shr b c 1)) in
+    omega (arith, or_step (bit_or a b) c, or_step a (bit_or b c), or_step a b, or_step b c))
 
-pub then_asserts : {a b : Needed} {s i : ℕ} → a ≡ Got s → b ≡ Asserts i → needed_of b ≡ both (needed_of a) (needed_of b)
+both_empty : (x : Answered) → x ≡ both (needed 0) x
 unfolding both
-then_asserts e f = rw (e, f)
+both_empty (needed t) = ap needed (sym (or_zero_l t))
+both_empty (asserts i) = refl
 
-pub both-got : {a b : Needed} {s t : ℕ} → a ≡ Got s → b ≡ Got t → needed (bit_or s t) ≡ both (needed_of a) (needed_of b)
+both-more : (s a : ℕ) (x : Answered) → both (needed s) (both (needed a) x) ≡ both (needed (bit_or s a)) x
 unfolding both
-both-got e f = rw (e, f)
+both-more s a (needed t) = ap needed (sym (or_assoc t s a))
+both-more s a (asserts i) = refl
 
 -- one argument
 module _ (types : List TypeInner) (i ty b : ℕ) where
@@ -105,10 +110,9 @@ module _ (types : List TypeInner) (i ty b : ℕ) {sub : Subpart} where
     pub arg_part : is_exist p ≡ false → (b ≡ absent → ⊥) → is_all p ≡ false → asserts i ≡ arg_bindings types i (arg_of ty b) sub
     arg_part h g l = rw e (bound types i ty b p h l (present b g))
 
--- the arguments from i on
-pub record ArgsLeft (types : List TypeInner) (args : PartReq) (arguments : List ℕ) (i : ℕ) (r : Needed) : Type 0 where
-  pub low : i ≤ length arguments / 2
-  pub is : needed_of r ≡ args_bindings types args i (drop i (args_of arguments))
+-- s is needed of the arguments below i, and the others are left
+pub record ArgsMet (types : List TypeInner) (args : PartReq) (arguments : List ℕ) (i s : ℕ) : Type 0 where
+  pub is : args_bindings types args 0 (args_of arguments) ≡ both (needed s) (args_bindings types args i (drop i (args_of arguments)))
 
 module _ (types : List TypeInner) (args : PartReq) (arguments : List ℕ) where
   arg_at : ℕ → FunctionArg
@@ -126,22 +130,20 @@ module _ (types : List TypeInner) (args : PartReq) (arguments : List ℕ) where
   args_cons i h =
       rw (drop-cons (args_of arguments) i (arg_at i) (rw args_long h), args_at i h) (unfold args_bindings in refl)
 
-  pub args_none : ArgsLeft types args arguments (length arguments / 2) (Got 0)
-  args_none =
-      record {
-        low = omega arith;
-        is = rw (drop_of_length-le (args_of arguments) {i = length arguments / 2} (rw args_long (omega arith))) (unfold args_bindings in refl);
-      }
+  pub args_none : ArgsMet types args arguments 0 0
+  args_none = record { is = both_empty (args_bindings types args 0 (args_of arguments)) }
 
-  pub args_more : {i : ℕ} {r : Needed} (a u : Needed) → 0 < i → ArgsLeft types args arguments i r → needed_of a ≡ arg_bindings types (i - 1) (arg_of (get_or arguments (2 * (i - 1)) 0) (get_or arguments (2 * (i - 1) + 1) 0)) (get_subpart args (variable (i - 1))) → needed_of u ≡ both (needed_of a) (needed_of r) → ArgsLeft types args arguments (i - 1) u
-  unfolding arg_at
-  args_more {i = zero} a u h L e f = absurd (omega arith)
-  args_more {i = suc i} a u h L e f =
-      let same : suc i - 1 ≡ i = omega arith in
-      let low : suc i ≤ length arguments / 2 = L.low in
-      let g : needed_of a ≡ arg_bindings types i (arg_at i) (get_subpart args (variable i)) = rw same at e in
-      rw same (record { low = omega arith; is = f ∙ rw (g, L.is) (sym (args_cons i low)) })
+  module _ {i s : ℕ} (M : ArgsMet types args arguments i s) where
+    module _ (h : i < length arguments / 2) where
+      pub args_more : {a : ℕ} → needed a ≡ arg_bindings types i (arg_of (get_or arguments (2 * i) 0) (get_or arguments (2 * i + 1) 0)) (get_subpart args (variable i)) → ArgsMet types args arguments (i + 1) (bit_or s a)
+      unfolding arg_at
+      args_more {a} e =
+          record { is = M.is ∙ rw (args_cons i h, ← e, add-one i) (both-more s a (args_bindings types args (suc i) (drop (suc i) (args_of arguments)))) }
 
-  pub args-all : {i : ℕ} {r : Needed} → i ≤ 0 → ArgsLeft types args arguments i r → needed_of r ≡ args_bindings types args 0 (args_of arguments)
-  args-all {i = zero} h L = L.is
-  args-all {i = suc i} h L = absurd (omega arith)
+      pub args_stop : {j : ℕ} → asserts j ≡ arg_bindings types i (arg_of (get_or arguments (2 * i) 0) (get_or arguments (2 * i + 1) 0)) (get_subpart args (variable i)) → asserts j ≡ args_bindings types args 0 (args_of arguments)
+      unfolding arg_at both
+      args_stop e = sym (M.is ∙ rw (args_cons i h, ← e))
+
+    pub args-all : length arguments / 2 ≤ i → needed s ≡ args_bindings types args 0 (args_of arguments)
+    unfolding both args_bindings
+    args-all h = sym (M.is ∙ rw (drop_of_length-le (args_of arguments) {i = i} (rw args_long h)) (ap needed (or_zero_r s)))

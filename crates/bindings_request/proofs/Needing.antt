@@ -8,6 +8,10 @@ use mathlib.Core.Option.{Option, some, none as nothing}
 use lib.ListN.{length, drop, length-append}
 use lib.Seq.{sets, sets-eq}
 use borrow.Author.Tests.{lt-ltb, le-ltb}
+use Rattle.std.specs.Prelude.{Result, Ok, Err}
+use Rattle.field.specs.Refusal.{number}
+use Rattle.field.specs.declared.refusal.Refusal.{Refusal}
+use Rattle.field.specs.declared.refusal.Refusal.TheVariants.{PiecesLimit, AnswerTooShort}
 use Rattle.field.specs.Limits.{max_pieces}
 use Rattle.module.specs.Module.{Function, Module}
 use Rattle.module.specs.Operands.{bindings}
@@ -25,13 +29,11 @@ use Rattle.context_bytes.proofs.Status.{Known, status_known, status_refused}
 use Rattle.bindings.specs.Bindings.{contains, list_below, list_of}
 use Rattle.bindings.specs.Rows.{args_of}
 use Rattle.bindings.specs.ContextBindings.{args_bindings, input_to_bindings, Answer, refused, accepted, listed, input_list}
-use Rattle.bindings_request.specs.declared.needed.Needed.{Needed}
-use Rattle.bindings_request.specs.declared.needed.Needed.TheVariants.{Bindings as Got, Asserts}
-use Rattle.bindings_request.specs.Boundary.{Tables, told, left, Gave}
+use Rattle.bindings_request.specs.declared.needed.Asserts.{Asserts}
+use Rattle.bindings_request.specs.Boundary.{Tables, refused_by, told, left, Gave}
 use Rattle.bindings_request.specs.Inputs.{within_pieces, inputs_of, input_for, input_bytes, Accepts, ListGiven}
-use Rattle.bindings_request.specs.Walks.{needed_of}
-use Rattle.bindings_request.specs.declared.answer.Bytes.{Bytes}
-use Rattle.bindings_request.specs.declared.answer.Bytes.TheVariants.{Refused, RefusedAt, Written}
+use Rattle.bindings_request.specs.Walks.{needed_of, asserted}
+use Rattle.bindings_request.specs.declared.answer.Refused.{Refused}
 use Rattle.bindings_request.proofs.Modules.{of_function-at, of_past}
 use Rattle.bindings_request.proofs.Answers.{gave_refused}
 
@@ -50,15 +52,15 @@ below_short (suc n) s = one_more (contains s n) (list_below n s) n n (below_shor
 
 -- the list, by how many pieces the context has
 module _ (b : List ℕ) (s : ℕ) {k : ℕ} (C : PiecesCounted b k) where
-  pub given_many : {o : List ℕ} → max_pieces < k → ListGiven b s o o (Refused 16)
+  pub given_many : {o : List ℕ} → max_pieces < k → ListGiven b s o o (Err (refused_by PiecesLimit))
   unfolding within_pieces
-  given_many h = record { is = λ c e. gave_refused (rw (← C.is c e, lt-ltb max_pieces k h)) }
+  given_many h = record { is = λ c e. gave_refused PiecesLimit (rw (← C.is c e, lt-ltb max_pieces k h)) }
 
   within_is : (c : RequiredContext) → context_of b ≡ some c → k ≤ max_pieces → within_pieces c (accepted (list_of s)) ≡ accepted (list_of s)
   unfolding within_pieces
   within_is c e h = rw (← C.is c e, le-ltb max_pieces k h)
 
-  pub given_list : {o p : List ℕ} {r : ℕ} → k ≤ max_pieces → bindings ≤ length o → (r ≡ length (list_of s)) × (p ≡ list_of s ++ drop (length (list_of s)) o) → ListGiven b s o p (Written r)
+  pub given_list : {o p : List ℕ} {r : ℕ} → k ≤ max_pieces → bindings ≤ length o → (r ≡ length (list_of s)) × (p ≡ list_of s ++ drop (length (list_of s)) o) → ListGiven b s o p (Ok r)
   unfolding told left
   given_list {o} {p} h fits w =
       record {
@@ -73,10 +75,10 @@ unfolding input_for without_function
 past_is m room f nothing h = refl
 past_is m room f (some c) h = of_past m.functions f _ h
 
-pub needing_past : (bytes t b : List ℕ) (room : ℕ) {o : List ℕ} {f functions n : ℕ} → functions ≡ length (module_of bytes t).functions → functions ≤ f → n ≡ without_function (context_of b) → Gave o o (input_bytes (module_of bytes t) room f b) (Refused n)
+pub needing_past : (bytes t b : List ℕ) (room : ℕ) {o : List ℕ} {f functions : ℕ} {n : Refusal} → functions ≡ length (module_of bytes t).functions → functions ≤ f → number n ≡ without_function (context_of b) → Gave o o (input_bytes (module_of bytes t) room f b) (Err (refused_by n))
 unfolding input_bytes
-needing_past bytes t b room {f = f} F h e =
-    gave_refused (past_is (module_of bytes t) room f (context_of b) (rw (← F) h) ∙ rw e)
+needing_past bytes t b room {f = f} {n = n} F h e =
+    gave_refused n (past_is (module_of bytes t) room f (context_of b) (rw (← F) h) ∙ rw e)
 
 -- a context of a function
 unfoldable on_context : reading.Answer RequiredContext → (RequiredContext → Answer (List ℕ)) → Answer (List ℕ)
@@ -108,9 +110,9 @@ module _ {bytes t types : List ℕ} (T : Tables bytes t types) (room : ℕ) {f :
       status_is : status ≡ status_of (read_context (module_of bytes t) fn b)
       status_is = S ∙ rw (G, N, L)
 
-      pub needing_refused : {o : List ℕ} → 0 < status → Gave o o (input_bytes (module_of bytes t) room f b) (Refused status)
+      pub needing_refused : {o : List ℕ} (r : Refusal) → status ≡ number r → 0 < status → Gave o o (input_bytes (module_of bytes t) room f b) (Err (refused_by r))
       unfolding input_bytes on_context
-      needing_refused h = gave_refused (there_is (context_of b) ∙ rw (status_refused (read_context (module_of bytes t) fn b) h status_is))
+      needing_refused r e h = gave_refused r (there_is (context_of b) ∙ rw (status_refused (read_context (module_of bytes t) fn b) h status_is, e))
 
       pub needing_accepts : 0 ≡ status → Accepts (module_of bytes t) fn b
       needing_accepts h = record { is = h ∙ status_is }
@@ -124,8 +126,8 @@ module _ {bytes t types : List ℕ} (T : Tables bytes t types) (room : ℕ) {f :
       unfolding input_bytes on_context
       inputs-of = there_is (context_of b) ∙ rw the_context.judged
 
-      pub needing_short : {o : List ℕ} → room < bindings → Gave o o (input_bytes (module_of bytes t) room f b) (Refused 20)
-      needing_short h = gave_refused (inputs-of ∙ (unfold inputs_of in (rw (lt-ltb _ bindings h))))
+      pub needing_short : {o : List ℕ} → room < bindings → Gave o o (input_bytes (module_of bytes t) room f b) (Err (refused_by AnswerTooShort))
+      needing_short h = gave_refused AnswerTooShort (inputs-of ∙ (unfold inputs_of in (rw (lt-ltb _ bindings h))))
 
       module _ {at : ℕ} (a : ArgsAt b at) where
         pub needing_args : ListAt b at (list_at b at)
@@ -134,17 +136,17 @@ module _ {bytes t types : List ℕ} (T : Tables bytes t types) (room : ℕ) {f :
         args_are : list_at b at ≡ the_context.context.args
         args_are = (list_there (a.is the_context.context the_context.is)).1
 
-        module _ (pairs : List ℕ) (P : args_of pairs ≡ fn.arguments) (n : Needed) (N : needed_of n ≡ args_bindings (types_of types) (list_at b at) 0 (args_of pairs)) (long : bindings ≤ room) where
+        module _ (pairs : List ℕ) (P : args_of pairs ≡ fn.arguments) (n : Result ℕ Asserts) (N : needed_of n ≡ args_bindings (types_of types) (list_at b at) 0 (args_of pairs)) (long : bindings ≤ room) where
           inputs_are : input_bytes (module_of bytes t) room f b ≡ within_pieces the_context.context (listed (needed_of n))
           unfolding inputs_of input_list input_to_bindings
           inputs_are =
               inputs-of
               ∙ rw (le-ltb room bindings long, of_function-at (module_of bytes t).functions f fn (λ x. listed (args_bindings (module_of bytes t).types the_context.context.args 0 x.arguments)) low, function_is bytes t f fn low, N, args_are, T.rows, P)
 
-          pub needing_asserts : {o : List ℕ} {i : ℕ} → n ≡ Asserts i → Gave o o (input_bytes (module_of bytes t) room f b) (RefusedAt 13 i)
+          pub needing_asserts : {o : List ℕ} {i : Asserts} → n ≡ Err i → Gave o o (input_bytes (module_of bytes t) room f b) (Err (asserted i))
           unfolding listed within_pieces told left
           needing_asserts e = rw (inputs_are, e) (record { is = refl; out = refl })
 
-          pub needing_given : {o p : List ℕ} {s : ℕ} {r : Bytes} → n ≡ Got s → ListGiven b s o p r → Gave o p (input_bytes (module_of bytes t) room f b) r
+          pub needing_given : {o p : List ℕ} {s : ℕ} {r : Result ℕ Refused} → n ≡ Ok s → ListGiven b s o p r → Gave o p (input_bytes (module_of bytes t) room f b) r
           unfolding listed
           needing_given e w = rw (inputs_are, e) (w.is the_context.context the_context.is)

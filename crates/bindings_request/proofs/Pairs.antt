@@ -1,19 +1,15 @@
 -- A function's arguments as pairs of numbers, filled from the first to the last.
-use Prim.Native.Nat.{ℕ, ◌+◌, ◌-◌, ◌*◌, ◌/◌, ◌<◌, ◌≤◌}
+use Prim.Native.Nat.{ℕ, ◌+◌, ◌*◌, ◌/◌, ◌<◌, ◌≤◌}
 use native.Mathlib.Omega.{arith}
-use native.Mathlib.Decide.{ℕ_discrete}
 use mathlib.Core.Path.{◌≡◌, refl, sym, ap, ◌∙◌}
 use mathlib.Core.List.{List}
-use lib.ListN.{length, get_or, take, set, length-set, length-take}
-use lib.Seq.{get_or-set_same, get_or-set_other}
-use Rattle.field.specs.Limits.{max_arguments}
+use lib.ListN.{length, get_or}
 use Rattle.module.specs.Module.{FunctionArg}
 use Rattle.module.specs.Decode.{tab, option_of}
 use Rattle.module.specs.Reading.{closed}
 use Rattle.module.specs.Tables.{row_at, open_of, function_of, module_of}
 use Rattle.module.proofs.Tab.{length-tab, get_d_tab, tab-same}
-use Rattle.access.specs.Access.{argument_at, arg_from}
-use Rattle.access.specs.declared.whole.Bound.{Bound as TypeBound}
+use Rattle.access.specs.Access.{argument_at}
 use Rattle.bindings.specs.Rows.{BoundArgs, arg_of, args_of}
 use Rattle.bindings_request.specs.Boundary.{Tables}
 use Rattle.bindings_request.proofs.Modules.{argument_bound, arguments-few}
@@ -26,37 +22,6 @@ pub record Filled (bytes t : List ℕ) (f : ℕ) (old pairs : List ℕ) (i : ℕ
   pub long : length pairs ≡ length old
   pub low : 2 * i ≤ length old
   pub is : (j : ℕ) → j < i → pair_at pairs j ≡ argument_at bytes t f j
-
-pub filled_none : (bytes t : List ℕ) (f : ℕ) (pairs : List ℕ) → Filled bytes t f pairs pairs 0
-filled_none bytes t f pairs = record { long = refl; low = omega arith; is = λ j h. absurd (omega arith) }
-
-module _ {bytes t : List ℕ} {f : ℕ} {old pairs : List ℕ} {i : ℕ} (n : ℕ) (F : Filled bytes t f old pairs i) (even : length old ≡ 2 * n) (h : 2 * i < length pairs) where
-  pub filled_second : 2 * i + 1 < length pairs
-  filled_second = omega (arith, F.long)
-
-  pub filled_more : (x : TypeBound) → arg_from x ≡ argument_at bytes t f i → Filled bytes t f old (set (set pairs (2 * i) x.ty.0) (2 * i + 1) x.binding) (i + 1)
-  filled_more x e =
-      let one : List ℕ = set pairs (2 * i) x.ty.0 in
-      let inside : 2 * i + 1 < length one = rw (length-set pairs (2 * i) x.ty.0) filled_second in
-      record {
-        long = length-set one (2 * i + 1) x.binding ∙ (length-set pairs (2 * i) x.ty.0 ∙ F.long);
-        low = omega (arith, F.long);
-        is = λ j l. elim (ℕ_discrete j i) [
-          | yes z ↦
-              let a : 2 * i ≡ 2 * i + 1 → ⊥ = omega arith in
-              rw (z, get_or-set_other one (2 * i + 1) (2 * i) x.binding 0 a, get_or-set_same pairs (2 * i) x.ty.0 0 h, get_or-set_same one (2 * i + 1) x.binding 0 inside) e
-          | no z ↦
-              let a : 2 * j ≡ 2 * i + 1 → ⊥ = omega arith in
-              let b : 2 * j + 1 ≡ 2 * i + 1 → ⊥ = λ q. z (omega arith) in
-              let c : 2 * j ≡ 2 * i → ⊥ = λ q. z (omega arith) in
-              let d : 2 * j + 1 ≡ 2 * i → ⊥ = omega arith in
-              rw (get_or-set_other one (2 * i + 1) (2 * j) x.binding 0 a, get_or-set_other one (2 * i + 1) (2 * j + 1) x.binding 0 b, get_or-set_other pairs (2 * i) (2 * j) x.ty.0 0 c, get_or-set_other pairs (2 * i) (2 * j + 1) x.ty.0 0 d)
-              (F.is j (next_less j i l z))
-        ];
-      }
-    where
-      next_less : (a b : ℕ) → a < b + 1 → (a ≡ b → ⊥) → a < b
-      next_less a b p q = omega arith
 
 arguments-tab : (bytes t : List ℕ) (f : ℕ) → (function_of bytes t f).arguments ≡ tab (row_at t f).arguments (argument_at bytes t f)
 unfolding function_of closed open_of argument_at
@@ -88,7 +53,3 @@ pairs-bound {f = f} {pairs} T h e l =
           let d = pair_at pairs i in
           rw (← pair_is pairs i d k, e) (argument_bound T f h i d (omega (arith, args_long pairs, ap length e)));
     }
-
--- the part of a slice that has a function's pairs
-pub part_long : (pairs : List ℕ) {n k : ℕ} → n ≡ k → k ≤ max_arguments → 2 * max_arguments ≤ length pairs → length (take (2 * n - 0) pairs) ≡ 2 * k
-part_long pairs e h l = simp length-take (omega arith)

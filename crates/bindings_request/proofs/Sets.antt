@@ -60,7 +60,3 @@ module _ (bs : List ℕ) {i after s : ℕ} (R : Reading bs i after s) (h : 0 < i
         next = rw here;
         few = omega arith;
       }
-
-pub reading_all : (bs : List ℕ) {i after s : ℕ} → Reading bs i after s → i ≤ 0 → (are_bindings bs ≡ true) × (s ≡ set_of bs)
-reading_all bs {i = zero} R h = (R.are, R.is)
-reading_all bs {i = suc i} R h = absurd (omega arith)

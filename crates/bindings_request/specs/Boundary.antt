@@ -1,7 +1,9 @@
 -- What the operations on bindings answer, from bytes to bytes. Of the numbers 20 is our own: the lent slice has fewer bytes than a report buffer.
-use Rattle.std.specs.Prelude.{ℕ, ◌+◌, ◌*◌, ◌≤◌, ◌≡◌, cond, List, eqb, ltb, length}
+use Rattle.std.specs.Prelude.{ℕ, ◌+◌, ◌*◌, ◌≤◌, ◌≡◌, cond, List, eqb, ltb, length, Option, Some, None, Result, Ok, Err}
 use Rattle.std.proofs.lemmas.List.Edits.{sets}
 use Rattle.field.specs.Limits.{max_pieces, min_report}
+use Rattle.field.specs.Refusal.{number}
+use Rattle.field.specs.declared.refusal.Refusal.{Refusal}
 use Rattle.part.specs.StoreLimits.{cell_words, store_words, table_words}
 use Rattle.module.specs.Module.{Binding, FunctionHandle, Module}
 use Rattle.module.specs.Operands.{bindings}
@@ -13,8 +15,7 @@ use Rattle.request.specs.Fields as reading
 use Rattle.request.specs.Request.{Request, read_request, write_request}
 use Rattle.bindings.specs.ContextBindings.{Answer, refused, refused_at, accepted, are_bindings, output_request, add_request}
 use Rattle.bindings.specs.Outputs.{output_cells, request_context}
-use Rattle.bindings_request.specs.declared.answer.Bytes.{Bytes}
-use Rattle.bindings_request.specs.declared.answer.Bytes.TheVariants.{Refused, RefusedAt, Written}
+use Rattle.bindings_request.specs.declared.answer.Refused.{Refused}
 
 -- the module was read: t has its tables, and `types` its types by row
 pub record Tables (bytes t types : List ℕ) : Type 0 where
@@ -56,11 +57,24 @@ output_bytes m room f bs =
     (refused 11))
     (refused 12)
 
+-- an error of a refusal alone
+abbrev pub refused_by : Refusal → Refused
+refused_by r = record { by = r; argument = None }
+
+-- what the code tells: how many bytes were written, or a refusal by its number, and its argument
+abbrev pub refusal_said : ℕ → Option ℕ → Answer ℕ
+refusal_said n None = refused n
+refusal_said n (Some i) = refused_at n i
+
+abbrev pub said : Result ℕ Refused → Answer ℕ
+said (Err e) = refusal_said (number e.by) e.argument
+said (Ok n) = accepted n
+
 -- what is told of an answer, and what is left of the slice o: what lies past the bytes stays
-unfoldable pub told : Answer (List ℕ) → Bytes
-told (refused n) = Refused n
-told (refused_at n i) = RefusedAt n i
-told (accepted s) = Written (length s)
+unfoldable pub told : Answer (List ℕ) → Answer ℕ
+told (refused n) = refused n
+told (refused_at n i) = refused_at n i
+told (accepted s) = accepted (length s)
 
 unfoldable pub left : List ℕ → Answer (List ℕ) → List ℕ
 left o (refused n) = o
@@ -68,6 +82,6 @@ left o (refused_at n i) = o
 left o (accepted s) = sets o 0 s
 
 -- from the slice o, p was left, and r tells the answer
-pub record Gave (o p : List ℕ) (answer : Answer (List ℕ)) (r : Bytes) : Type 0 where
-  pub is : r ≡ told answer
+pub record Gave (o p : List ℕ) (answer : Answer (List ℕ)) (r : Result ℕ Refused) : Type 0 where
+  pub is : said r ≡ told answer
   pub out : p ≡ left o answer

@@ -1,5 +1,5 @@
 -- `input_to_bindings` from a context's bytes to the bytes of the bindings list.
-use Rattle.std.specs.Prelude.{ℕ, ◌≡◌, cond, List, ltb, length}
+use Rattle.std.specs.Prelude.{ℕ, ◌≡◌, cond, List, ltb, length, Result}
 use Rattle.std.proofs.Math.Option.{Option, some, none as nothing}
 use Rattle.field.specs.Limits.{max_pieces}
 use Rattle.module.specs.Module.{FunctionHandle, Function, Module}
@@ -10,7 +10,7 @@ use Rattle.context_bytes.specs.Checked.{status_of}
 use Rattle.bindings.specs.Bindings.{Bindings, list_of}
 use Rattle.bindings.specs.ContextBindings.{Answer, refused, refused_at, accepted, of_function, input_list}
 use Rattle.bindings_request.specs.Boundary.{Gave}
-use Rattle.bindings_request.specs.declared.answer.Bytes.{Bytes}
+use Rattle.bindings_request.specs.declared.answer.Refused.{Refused}
 
 -- 16 of the context that is given, after 13
 unfoldable pub within_pieces : RequiredContext → Answer (List ℕ) → Answer (List ℕ)
@@ -37,5 +37,5 @@ pub record Accepts (m : Module) (x : Function) (b : List ℕ) : Type 0 where
   pub is : 0 ≡ status_of (read_context m x b)
 
 -- from the slice o, p was left, and a tells the list of s or 16, of the context that bytes mean
-pub record ListGiven (b : List ℕ) (s : Bindings) (o p : List ℕ) (a : Bytes) : Type 0 where
+pub record ListGiven (b : List ℕ) (s : Bindings) (o p : List ℕ) (a : Result ℕ Refused) : Type 0 where
   pub is : (c : RequiredContext) → context_of b ≡ some c → Gave o p (within_pieces c (accepted (list_of s))) a

@@ -12,7 +12,7 @@ ghost use Rattle.bindings.specs.ContextBindings.{add_request};
 ghost use Rattle.bindings.specs.Outputs.{output_cells, request_context};
 ghost use Rattle.bindings_request.specs.Boundary.{Tables, Lent, own_number, written, add_bytes, Gave};
 
-use crate::answer::{Bytes, write_asking};
+use crate::answer::{Refused, write_asking};
 use access::function::result;
 use access::whole::{functions, globals};
 use bindings::outputs::add_binding;
@@ -35,7 +35,7 @@ fn add_to(
     globals: u32,
     b: u32,
     out: &mut [u8],
-) -> Bytes
+) -> Result<usize, Refused>
     requires tables { Tables bytes.now t.now types.now }
     requires good { Good cells.old }
     requires parts_len { (length parts.old ≡ type_count types.now) × Room cells.old (1 + (output_cells parts.old + max_pieces)) }
@@ -78,18 +78,18 @@ pub fn add_binding_bytes(
     request: &[u8],
     b: u32,
     out: &mut [u8],
-) -> Bytes
+) -> Result<usize, Refused>
     requires tables { Tables bytes.now t.now types.now }
     requires parts_len { (length parts.old ≡ type_count types.now) × Lent cells.old parts.old request.now }
     ensures { Gave out.old out.new (add_bytes (module_of bytes.now t.now) (length out.old) b request.now) result }
 {
     if BINDINGS <= b {
-        return Bytes::Refused(12);
+        return Err(Refusal::Malformed.into());
     }
     init(cells);
     let a = read_request(cells, request, functions(t), globals(t), out.len());
     match a {
-        Err(e) => Bytes::Refused(u32::from(own_refusal(e))),
+        Err(e) => Err(own_refusal(e).into()),
         Ok(q) => {
             let f = q.function;
             let o = q.retval;

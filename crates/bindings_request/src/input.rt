@@ -1,6 +1,7 @@
 // `input_to_bindings` on a context's bytes: 12, 11, 20, 13, 16. The bindings list is written, a byte for each.
 ghost use Rattle.std.specs.Prelude.{◌≡◌, ◌*◌, ◌≤◌, ◌<◌, length};
 ghost use Rattle.field.specs.Limits.{max_arguments};
+ghost use Rattle.field.specs.Refusal.{number};
 ghost use Rattle.module.specs.Operands.{bindings};
 ghost use Rattle.module.specs.Tables.{function_of, module_of};
 ghost use Rattle.context.specs.Types.{type_count};
@@ -8,8 +9,8 @@ ghost use Rattle.bindings.specs.Rows.{args_of};
 ghost use Rattle.bindings_request.specs.Boundary.{Tables, Gave};
 ghost use Rattle.bindings_request.specs.Inputs.{Accepts, ListGiven, input_bytes};
 
-use crate::answer::Bytes;
-use crate::needed::{Needed, all_table, input_to_bindings};
+use crate::answer::Refused;
+use crate::needed::{all_table, input_to_bindings};
 use access::function::{argument, arguments, locals};
 use access::whole::{functions, globals};
 use bindings::set::{BINDINGS, list};
@@ -17,6 +18,7 @@ use context_bytes::check::{check_context, without_function};
 use context_bytes::count::count_context;
 use context_bytes::find::args_at;
 use field::limits::MAX_PIECES;
+use field::refusal::Refusal;
 use module::handles::FunctionHandle;
 
 // The arguments of the function f as pairs of type and binding.
@@ -25,25 +27,22 @@ fn fill(bytes: &[u8], t: &[u32], f: FunctionHandle, pairs: &mut [u32])
     requires pairs_len_bound { length pairs.old ≤ 2 * max_arguments }
     ensures { args_of pairs.new ≡ (function_of bytes.now t.now f.0).arguments }
 {
-    let mut i: usize = 0;
-    while 2 * i < pairs.len() {
-        let k = i + 1;
+    for i in 0..pairs.len() / 2 {
         let x = argument(bytes, t, f, i as u32);
         pairs[2 * i] = x.ty.0;
         pairs[2 * i + 1] = x.binding as u32;
-        i = k;
     }
 }
 
 // The list of the bindings s, which a context needs: 16, where it has too many pieces.
-fn write_list(s: u64, context: &[u8], out: &mut [u8]) -> Bytes
+fn write_list(s: u64, context: &[u8], out: &mut [u8]) -> Result<usize, Refused>
     requires { bindings ≤ length out.old }
     ensures { ListGiven context.now s out.old out.new result }
 {
     if MAX_PIECES < count_context(context) {
-        return Bytes::Refused(16);
+        return Err(Refusal::PiecesLimit.into());
     }
-    Bytes::Written(list(s, out))
+    Ok(list(s, out))
 }
 
 // What is needed of the function f by a context that is accepted, where there is a pair for each argument.
@@ -56,7 +55,7 @@ fn list_needed(
     f: FunctionHandle,
     context: &[u8],
     out: &mut [u8],
-) -> Bytes
+) -> Result<usize, Refused>
     requires tables { Tables bytes.now t.now types.now }
     requires sets_len { (length sets.old ≡ type_count types.now) × (f.0 < length (module_of bytes.now t.now).functions) }
     requires pairs_len { length pairs.old ≡ 2 * length (function_of bytes.now t.now f.0).arguments }
@@ -64,15 +63,12 @@ fn list_needed(
     ensures { Gave out.old out.new (input_bytes (module_of bytes.now t.now) (length out.old) f.0 context.now) result }
 {
     if out.len() < BINDINGS as usize {
-        return Bytes::Refused(20);
+        return Err(Refusal::AnswerTooShort.into());
     }
     fill(bytes, t, f, pairs);
     all_table(types, sets);
-    let n = input_to_bindings(context, args_at(context), types, sets, pairs);
-    match n {
-        Needed::Asserts(i) => Bytes::RefusedAt(13, i),
-        Needed::Bindings(s) => write_list(s, context, out),
-    }
+    let s = input_to_bindings(context, args_at(context), types, sets, pairs)?;
+    write_list(s, context, out)
 }
 
 // The bindings list of a context's bytes, written from the slice's first byte on.
@@ -85,19 +81,17 @@ pub fn input_to_bindings_bytes(
     f: u32,
     context: &[u8],
     out: &mut [u8],
-) -> Bytes
+) -> Result<usize, Refused>
     requires tables { Tables bytes.now t.now types.now }
     requires sets_len { (length sets.old ≡ type_count types.now) × (2 * max_arguments ≤ length pairs.old) }
     ensures { Gave out.old out.new (input_bytes (module_of bytes.now t.now) (length out.old) f context.now) result }
 {
     if functions(t) <= f {
-        return Bytes::Refused(u32::from(without_function(context)));
+        return Err(without_function(context).into());
     }
     let n = arguments(t, FunctionHandle(f));
     let l = locals(t, FunctionHandle(f));
-    if let Err(e) = check_context(context, globals(t), n, l) {
-        return Bytes::Refused(u32::from(e));
-    }
+    check_context(context, globals(t), n, l)?;
     let e = 2 * (n as usize);
     list_needed(
         bytes,

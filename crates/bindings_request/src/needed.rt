@@ -6,34 +6,40 @@ ghost use Rattle.module.specs.Decode.{option_of};
 ghost use Rattle.context.specs.RequiredContext.{variable};
 ghost use Rattle.context.specs.Types.{types_of, type_count};
 ghost use Rattle.bindings.specs.TypeBindings.{member_bindings, step_bindings, get_type_bindings};
-ghost use Rattle.bindings.specs.ContextBindings.{arg_bindings, both, args_bindings};
+ghost use Rattle.bindings.specs.ContextBindings.{arg_bindings, args_bindings};
 ghost use Rattle.bindings.specs.Linear.{all_table};
 ghost use Rattle.bindings.specs.Rows.{row_member, member_count, Bound, AllBound, arg_of, args_of, BoundArgs};
 ghost use Rattle.context_bytes.specs.Found.{part_at, Readable, list_at, ListAt};
-ghost use Rattle.bindings_request.specs.Walks.{lower, needed_of};
+ghost use Rattle.bindings_request.specs.Walks.{lower, needed_of, asserted};
 
+use crate::answer::Refused;
 use bindings::set::own_binding;
 use bindings::types::{first_word, is_base, member_at, member_count, type_kind};
 use context_bytes::find::{find_part, find_variable, is_all, is_exist};
 use field::limits::ABSENT;
+use field::refusal::Refusal;
 use module::handles::TypeHandle;
 
-// The bindings that are needed, or the argument at which the Rust asserts.
-#[derive(Clone, Copy)]
-pub enum Needed {
-    Bindings(u64),
-    Asserts(u32),
+// The argument at which the Rust asserts.
+#[derive(Clone, Copy, Debug, PartialEq, Eq)]
+pub struct Asserts(pub u32);
+
+impl From<Asserts> for Refused {
+    ghost from_gives = { λ a e. e ≡ asserted a };
+
+    fn from(a: Asserts) -> Refused {
+        Refused {
+            by: Refusal::Panic,
+            argument: Some(a.0),
+        }
+    }
 }
 
 // The bindings below the type t, where all is needed; none, where there is no such type.
 fn set_at(sets: &[u64], t: TypeHandle) -> u64
     ensures { result ≡ get_or sets.now t.0 0 }
 {
-    let at = t.0 as usize;
-    if at < sets.len() {
-        return sets[at];
-    }
-    0
+    sets.get(t.0 as usize).copied().unwrap_or(0)
 }
 
 // What the walk finds below the type u, which is named by the type t.
@@ -107,10 +113,8 @@ fn type_step(
         let base = first_word(types, t);
         return walk(context, at, depth, types, sets, TypeHandle(base), t);
     }
-    let mut i = member_count(types, t);
     let mut r: u64 = 0;
-    while 0 < i {
-        i -= 1;
+    for i in (0..member_count(types, t)).rev() {
         let m = member_bindings(context, at, depth, types, sets, t, i);
         r = m | r;
     }
@@ -133,12 +137,9 @@ pub fn all_table(types: &[u32], sets: &mut [u64])
     requires sets_len_bound { length sets.old ≤ 4294967295 }
     ensures { sets.new ≡ all_table (types_of types.now) }
 {
-    let mut t: u32 = 0;
-    while (t as usize) < sets.len() {
-        let r = type_all(types, sets, TypeHandle(t));
-        let at = t as usize;
-        sets[at] = r;
-        t += 1;
+    for t in 0..sets.len() {
+        let r = type_all(types, sets, TypeHandle(t as u32));
+        sets[t] = r;
     }
 }
 
@@ -162,19 +163,6 @@ fn type_bindings(
     type_step(context, at, depth, types, sets, t)
 }
 
-// Both; the first assertion is the one that is met.
-fn both(a: Needed, b: Needed) -> Needed
-    ensures { needed_of result ≡ both (needed_of a) (needed_of b) }
-{
-    let Needed::Bindings(s) = a else {
-        return a;
-    };
-    let Needed::Bindings(t) = b else {
-        return b;
-    };
-    Needed::Bindings(s | t)
-}
-
 // What is needed of the argument i, which has this type and this binding, where the list of arguments stands at the byte `args`.
 fn arg_bindings(
     context: &[u8],
@@ -184,7 +172,7 @@ fn arg_bindings(
     i: u32,
     ty: TypeHandle,
     binding: u32,
-) -> Needed
+) -> Result<u64, Asserts>
     requires list_at { ListAt context.now args (list_at context.now args) }
     requires all_bound { AllBound (types_of types.now) }
     requires sets_value { sets.now ≡ all_table (types_of types.now) }
@@ -192,20 +180,20 @@ fn arg_bindings(
     ensures { needed_of result ≡ arg_bindings (types_of types.now) i (arg_of ty.0 binding) (get_subpart (list_at context.now args) (variable i)) }
 {
     let Some((at, depth)) = find_variable(context, args, i) else {
-        return Needed::Bindings(0);
+        return Ok(0);
     };
     if is_exist(context, at, depth) {
-        return Needed::Bindings(0);
+        return Ok(0);
     }
     let below = type_bindings(context, at, depth, types, sets, ty);
     if binding == ABSENT as u32 {
-        return Needed::Bindings(below);
+        return Ok(below);
     }
     if is_all(context, at, depth) {
         let own = own_binding(binding);
-        return Needed::Bindings(own | below);
+        return Ok(own | below);
     }
-    Needed::Asserts(i)
+    Err(Asserts(i))
 }
 
 // `input_to_bindings`: the arguments are pairs of type and binding.
@@ -215,17 +203,15 @@ pub fn input_to_bindings(
     types: &[u32],
     sets: &[u64],
     arguments: &[u32],
-) -> Needed
+) -> Result<u64, Asserts>
     requires list_at { ListAt context.now args (list_at context.now args) }
     requires all_bound { AllBound (types_of types.now) }
     requires sets_value { sets.now ≡ all_table (types_of types.now) }
     requires bound_args { BoundArgs arguments.now }
     ensures { needed_of result ≡ args_bindings (types_of types.now) (list_at context.now args) 0 (args_of arguments.now) }
 {
-    let mut i = arguments.len() / 2;
-    let mut r = Needed::Bindings(0);
-    while 0 < i {
-        i -= 1;
+    let mut s: u64 = 0;
+    for i in 0..arguments.len() / 2 {
         let ty = arguments[2 * i];
         let binding = arguments[2 * i + 1];
         let a = arg_bindings(
@@ -236,8 +222,8 @@ pub fn input_to_bindings(
             i as u32,
             TypeHandle(ty),
             binding,
-        );
-        r = both(a, r);
+        )?;
+        s = s | a;
     }
-    r
+    Ok(s)
 }

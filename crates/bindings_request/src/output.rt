@@ -4,12 +4,13 @@ ghost use Rattle.module.specs.Tables.{module_of};
 ghost use Rattle.context.specs.Types.{type_count};
 ghost use Rattle.bindings_request.specs.Boundary.{Tables, Lent, output_bytes, Gave};
 
-use crate::answer::{Bytes, write_asking};
-use crate::listed::{Set, set_of};
+use crate::answer::{Refused, write_asking};
+use crate::listed::set_of;
 use access::function::result;
 use access::whole::functions;
 use bindings::outputs::output_from_bindings;
 use field::limits::MIN_REPORT;
+use field::refusal::Refusal;
 use module::handles::FunctionHandle;
 use part::store::init;
 
@@ -23,19 +24,19 @@ pub fn output_from_bindings_bytes(
     f: u32,
     list: &[u8],
     out: &mut [u8],
-) -> Bytes
+) -> Result<usize, Refused>
     requires tables { Tables bytes.now t.now types.now }
     requires parts_len { (length parts.old ≡ type_count types.now) × Lent cells.old parts.old [] }
     ensures { Gave out.old out.new (output_bytes (module_of bytes.now t.now) (length out.old) f list.now) result }
 {
-    let Set::Of(s) = set_of(list) else {
-        return Bytes::Refused(12);
+    let Some(s) = set_of(list) else {
+        return Err(Refusal::Malformed.into());
     };
     if functions(t) <= f {
-        return Bytes::Refused(11);
+        return Err(Refusal::NoSuch.into());
     }
     if out.len() < MIN_REPORT {
-        return Bytes::Refused(20);
+        return Err(Refusal::AnswerTooShort.into());
     }
     init(cells);
     let x = result(bytes, t, FunctionHandle(f));

@@ -1,12 +1,13 @@
 -- The numbers that a caller gets, and what is left of the slice that it lends.
-use Rattle.std.specs.Prelude.{ℕ, ◌+◌, ◌*◌, ◌≡◌, List, length}
+use Rattle.std.specs.Prelude.{ℕ, ◌+◌, ◌*◌, ◌≡◌, List, length, Result, Ok, Err}
+use Rattle.std.specs.Option.{unwrap_or}
+use Rattle.field.specs.Refusal.{number}
 use Rattle.module.specs.Module.{Binding, FunctionHandle, Module}
 use Rattle.module.specs.File.{Answer, accepted, refused, read_module}
 use Rattle.bindings.specs.ContextBindings as bindings
 use Rattle.bindings_request.specs.Boundary.{output_bytes, add_bytes, left}
 use Rattle.bindings_request.specs.Inputs.{input_bytes}
-use Rattle.bindings_request.specs.declared.answer.Bytes.{Bytes}
-use Rattle.bindings_request.specs.declared.answer.Bytes.TheVariants.{Refused, RefusedAt, Written}
+use Rattle.bindings_request.specs.declared.answer.Refused.{Refused}
 
 -- reading's answer: 0, or the refusal's number
 unfoldable pub answer_number : Answer → ℕ
@@ -24,10 +25,9 @@ answer_word (bindings.refused_at n i) = 4294967296 * n + i
 answer_word (bindings.accepted s) = length s
 
 -- the same of what the code tells
-unfoldable pub word_of : Bytes → ℕ
-word_of (Refused n) = 4294967296 * n
-word_of (RefusedAt n i) = 4294967296 * n + i
-word_of (Written n) = n
+unfoldable pub word_of : Result ℕ Refused → ℕ
+word_of (Err e) = 4294967296 * number e.by + unwrap_or e.argument 0
+word_of (Ok n) = n
 
 -- from the slice o, p was left, and the number r says the answer
 pub record Answers (o p : List ℕ) (answer : bindings.Answer (List ℕ)) (r : ℕ) : Type 0 where

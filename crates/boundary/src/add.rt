@@ -9,13 +9,13 @@ ghost use Rattle.context.specs.Types.{type_words};
 ghost use Rattle.bindings_request.specs.Boundary.{Lent, add_bytes};
 ghost use Rattle.boundary.specs.Answers.{Answers, add_answer};
 
-use crate::answer::word_of;
+use crate::answer::{refused_word, word_of};
 use crate::output::OUTPUT_WORDS;
 use access::whole::types;
 use bindings_request::add::add_binding_bytes;
-use bindings_request::answer::Bytes;
 use context::remove::TYPE_WORDS;
 use field::field::get;
+use field::refusal::Refusal;
 use reading::read::read;
 use type_table::fill;
 
@@ -62,11 +62,11 @@ pub fn add_in(
     ensures { Answers out.old out.new (add_answer bytes.now (length out.old) b request.now) result }
 {
     if let Err(refusal) = read(bytes, t, seen, held) {
-        return word_of(Bytes::Refused(u32::from(refusal)));
+        return refused_word(u32::from(refusal));
     }
     // a request that is longer than it says is none
     if 4 + (get(request, 2) as usize) < request.len() {
-        return word_of(Bytes::Refused(12));
+        return refused_word(u32::from(Refusal::Malformed));
     }
     let n = types(t) as usize;
     let e = TYPE_WORDS * n;

@@ -1,15 +1,24 @@
 // An answer as one number.
-ghost use Rattle.std.specs.Prelude.{◌≡◌};
+ghost use Rattle.std.specs.Prelude.{◌≡◌, ◌*◌};
 ghost use Rattle.boundary.specs.Answers.{word_of};
 
-use bindings_request::answer::Bytes;
+use bindings_request::answer::Refused;
 
-pub fn word_of(a: Bytes) -> u64
+// A refusal's number stands from here on.
+const REFUSAL: u64 = 4294967296;
+
+pub fn refused_word(n: u32) -> u64
+    ensures { result ≡ 4294967296 * n }
+{
+    REFUSAL * (n as u64)
+}
+
+#[tactic(auto, unfolding(crate::specs::Answers::word_of))]
+pub fn word_of(a: Result<usize, Refused>) -> u64
     ensures { result ≡ word_of a }
 {
     match a {
-        Bytes::Refused(n) => 4294967296 * (n as u64),
-        Bytes::RefusedAt(n, i) => 4294967296 * (n as u64) + (i as u64),
-        Bytes::Written(n) => n as u64,
+        Ok(n) => n as u64,
+        Err(e) => refused_word(u32::from(e.by)) + (e.argument.unwrap_or(0) as u64),
     }
 }

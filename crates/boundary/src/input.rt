@@ -8,9 +8,8 @@ ghost use Rattle.context.specs.Types.{type_words};
 ghost use Rattle.bindings_request.specs.Inputs.{input_bytes};
 ghost use Rattle.boundary.specs.Answers.{Answers, input_answer};
 
-use crate::answer::word_of;
+use crate::answer::{refused_word, word_of};
 use access::whole::types;
-use bindings_request::answer::Bytes;
 use bindings_request::input::input_to_bindings_bytes;
 use context::remove::TYPE_WORDS;
 use reading::read::read;
@@ -55,7 +54,7 @@ pub fn input_in(
     ensures { Answers out.old out.new (input_answer bytes.now (length out.old) f context.now) result }
 {
     if let Err(refusal) = read(bytes, t, seen, held) {
-        return word_of(Bytes::Refused(u32::from(refusal)));
+        return refused_word(u32::from(refusal));
     }
     let n = types(t) as usize;
     let e = TYPE_WORDS * n;

@@ -9,9 +9,8 @@ ghost use Rattle.context.specs.Types.{type_words};
 ghost use Rattle.bindings_request.specs.Boundary.{Lent, output_bytes};
 ghost use Rattle.boundary.specs.Answers.{Answers, output_answer};
 
-use crate::answer::word_of;
+use crate::answer::{refused_word, word_of};
 use access::whole::types;
-use bindings_request::answer::Bytes;
 use bindings_request::output::output_from_bindings_bytes;
 use context::remove::TYPE_WORDS;
 use field::limits::{MAX_MEMBERS, MAX_PIECES, MAX_TYPES};
@@ -63,7 +62,7 @@ pub fn output_in(
     ensures { Answers out.old out.new (output_answer bytes.now (length out.old) f list.now) result }
 {
     if let Err(refusal) = read(bytes, t, seen, held) {
-        return word_of(Bytes::Refused(u32::from(refusal)));
+        return refused_word(u32::from(refusal));
     }
     let n = types(t) as usize;
     let e = TYPE_WORDS * n;

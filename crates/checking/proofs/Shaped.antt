@@ -10,6 +10,8 @@ use lib.Dec.{ltb, eqb}
 use lib.ListN.{length, get_or, drop, length-drop}
 use lib.Seq.{drop-cons, drop-nil, take-nil, take_all}
 use borrow.Author.Tests.{lt-ltb, le-ltb, eq-eqb}
+use Rattle.std.specs.Prelude.{Some, None}
+use Rattle.std.specs.Borrow.{Bor}
 use Rattle.module.specs.Tables.{function_of, module_of}
 use Rattle.valid.specs.There.{There}
 use Rattle.walk.specs.Marks.{stretch}
@@ -56,70 +58,34 @@ module _ {marks : List ℕ} {k : ℕ} (so : BitsTo marks k) where
 
 -- The part
 
-module _ (report : List ℕ) (start count from to : ℕ) (a : from ≡ min start (length report)) (b : to ≡ min (start + count) (length report)) where
-  -- the buffer ends before the stretch begins
-  outside : length report < start → slice report from (to - from) ≡ slice report start count
-  outside l =
-      let z : to - from ≡ 0 = omega arith in
-      rw (z, none_left report start (omega arith), take-nil {A = ℕ} count)
-
-  -- it ends in the stretch
-  cut : start ≤ length report → length report < start + count → slice report from (to - from) ≡ slice report start count
-  cut l k =
-      let y : from ≡ start = omega arith in
-      let z : to - start ≡ length report - start = omega arith in
-      let w = length-drop start report in
-      rw (y, z) (take_all (length report - start) (drop start report) (omega arith) ∙ sym (take_all count (drop start report) (omega arith)))
-
-  within : start + count ≤ length report → slice report from (to - from) ≡ slice report start count
-  within l =
-      let y : from ≡ start = omega arith in
-      let z : to - start ≡ count = omega arith in
-      rw (y, z)
-
-  part_is : slice report from (to - from) ≡ slice report start count
-  part_is =
-      elim (dec_lt (length report) start) [
-        | yes l ↦ outside l
-        | no l ↦
-            elim (dec_lt (length report) (start + count)) [
-              | yes k ↦ cut (omega arith) k
-              | no k ↦ within (omega arith)
-            ]
-      ]
-
-  part_long : length (slice report from (to - from)) ≡ to - from
-  part_long = slice-long report from (to - from) (omega arith)
-
-module _ {bytes t : List ℕ} {f : ℕ} (h : There bytes t f) (report : List ℕ) {start count from to : ℕ} (s : start ≡ start_of (module_of bytes t) f) (n : count ≡ stretch (module_of bytes t) f)
-    (a : from ≡ min start (length report)) (b : to ≡ min (start + count) (length report)) where
-  own : slice report from (to - from) ≡ marks_in bytes t f report
-  own = part_is report start count from to a b ∙ rw (s, n)
-
-  shape_is : has_shape (function_of bytes t f) (marks_in bytes t f report) ≡ eqb (to - from) count && bits (slice report from (to - from))
-  unfolding has_shape
-  shape_is = rw (← own, part_long report start count from to a b, ← stretch-is h, ← n)
-
-  found : (fits : Bool) → fits ≡ not (cut_short (module_of bytes t) f report) && has_shape (function_of bytes t f) (marks_in bytes t f report) →
-      MarksFound bytes t f report (record { from = from; to = to; fits = fits })
-  found fits e =
-      record {
-        ascends = omega arith;
-        inside = omega arith;
-        is = own;
-        fits = e;
-        from_is = λ l. omega arith;
-        to_is = λ l. omega arith;
-      }
-
-  pub found_short : length report < start + count → MarksFound bytes t f report (record { from = from; to = to; fits = false })
+module _ {bytes t : List ℕ} {f : ℕ} (h : There bytes t f) (report : List ℕ) {start count : ℕ} (s : start ≡ start_of (module_of bytes t) f) (n : count ≡ stretch (module_of bytes t) f) where
+  pub found_short : length report < start + count → MarksFound bytes t f report None
   unfolding cut_short
-  found_short d = found false (rw (← s, ← n, lt-ltb (length report) (start + count) d))
+  found_short d = record { is = tt; fits = rw (← s, ← n, lt-ltb (length report) (start + count) d) }
 
-  pub found_whole : (r : Bool) → start + count ≤ length report → r ≡ every (λ b. ltb b 2) (slice report from (to - from)) → MarksFound bytes t f report (record { from = from; to = to; fits = r })
-  found_whole r d e =
-      let z : to - from ≡ count = omega arith in
-      found r (e ∙ sym (shape_is ∙ rw (eq-eqb (to - from) count z)) ∙ sym (ap (λ (q : Bool). not q && has_shape (function_of bytes t f) (marks_in bytes t f report)) not_cut))
-    where
-      not_cut : cut_short (module_of bytes t) f report ≡ false
-      not_cut = unfold cut_short in rw (← s, ← n, le-ltb (length report) (start + count) d)
+  module _ (d : start + count ≤ length report) where
+    own : slice report start count ≡ marks_in bytes t f report
+    own = rw (s, n)
+
+    part_long : length (slice report start count) ≡ count
+    part_long = slice-long report start count d
+
+    shape_is : has_shape (function_of bytes t f) (marks_in bytes t f report) ≡ bits (slice report start count)
+    unfolding has_shape
+    shape_is = rw (← own, part_long, ← stretch-is h, ← n, eq-eqb count count refl)
+
+    not_cut : cut_short (module_of bytes t) f report ≡ false
+    unfolding cut_short
+    not_cut = rw (← s, ← n, le-ltb (length report) (start + count) d)
+
+    shaped : (b : Bool) → b ≡ bits (slice report start count) → b ≡ not (cut_short (module_of bytes t) f report) && has_shape (function_of bytes t f) (marks_in bytes t f report)
+    shaped b e = e ∙ rw (not_cut, shape_is)
+
+    same : start + count - start ≡ count
+    same = omega arith
+
+    pub found_whole : {m : Bor (List ℕ)} → m.now ≡ slice report start (start + count - start) → true ≡ bits (slice report start (start + count - start)) → MarksFound bytes t f report (Some m)
+    found_whole w e = record { is = w ∙ rw same own; fits = shaped true (rw same at e) }
+
+    pub found_other : false ≡ bits (slice report start (start + count - start)) → MarksFound bytes t f report None
+    found_other e = record { is = tt; fits = shaped false (rw same at e) }

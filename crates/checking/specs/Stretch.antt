@@ -1,5 +1,6 @@
 -- Where the marks of a function and of its statements stand, as the code says it.
-use Rattle.std.specs.Prelude.{ℕ, ◌+◌, ◌-◌, ◌<◌, ◌≤◌, ◌≡◌, not, ◌&&◌, List, length, get_or}
+use Rattle.std.specs.Prelude.{ℕ, ◌<◌, ◌≤◌, ◌≡◌, not, ◌&&◌, List, length, get_or, Option, IfSome, is_some}
+use Rattle.std.specs.Borrow.{Bor}
 use Rattle.module.specs.Module.{Statement}
 use Rattle.module.specs.Marks.{marks_before}
 use Rattle.module.specs.Tables.{function_of, module_of}
@@ -7,7 +8,6 @@ use Rattle.walk.specs.Marks.{stretch}
 use Rattle.marks.specs.Places.{slice, start_of}
 use Rattle.clearance.specs.Verdict.{has_shape}
 use Rattle.checking.specs.Check.{cut_short}
-use Rattle.checking.specs.declared.shape.MarksAt.{MarksAt}
 
 -- each statement's first mark, in the function's stretch
 pub record Firsts (ss : List Statement) (firsts : List ℕ) : Type 0 where
@@ -18,12 +18,7 @@ pub record Firsts (ss : List Statement) (firsts : List ℕ) : Type 0 where
 abbrev pub marks_in : (bytes t : List ℕ) (f : ℕ) (report : List ℕ) → List ℕ
 marks_in bytes t f report = slice report (start_of (module_of bytes t) f) (stretch (module_of bytes t) f)
 
--- The answer's part of the buffer is what the function's stretch has in it, and it says whether the whole stretch is there and has the function's shape. Where the whole stretch lies in the buffer, it is the
--- stretch itself; else what is past the buffer's end is left out.
-pub record MarksFound (bytes t : List ℕ) (f : ℕ) (report : List ℕ) (r : MarksAt) : Type 0 where
-  pub ascends : r.from ≤ r.to
-  pub inside : r.to ≤ length report
-  pub is : slice report r.from (r.to - r.from) ≡ marks_in bytes t f report
-  pub fits : r.fits ≡ not (cut_short (module_of bytes t) f report) && has_shape (function_of bytes t f) (marks_in bytes t f report)
-  pub from_is : start_of (module_of bytes t) f ≤ length report → r.from ≡ start_of (module_of bytes t) f
-  pub to_is : start_of (module_of bytes t) f + stretch (module_of bytes t) f ≤ length report → r.to ≡ start_of (module_of bytes t) f + stretch (module_of bytes t) f
+-- What is found is the function's stretch, where the whole of it is there and has the function's shape; else nothing is.
+pub record MarksFound (bytes t : List ℕ) (f : ℕ) (report : List ℕ) (r : Option (Bor (List ℕ))) : Type 0 where
+  pub is : IfSome r (λ m. m.now ≡ marks_in bytes t f report)
+  pub fits : is_some r ≡ not (cut_short (module_of bytes t) f report) && has_shape (function_of bytes t f) (marks_in bytes t f report)

@@ -1,6 +1,9 @@
 -- An answer as one number of 64 bits, and back.
 use Rattle.std.specs.Prelude.{ℕ, ◌+◌, ◌-◌, ◌*◌, ◌/◌, ◌<◌, cond, ltb}
+use Rattle.field.specs.Refusal.{number}
 use Rattle.clearance.specs.Verdict.{Answer, clear, at_statement, at_start, unjudged_expression, unjudged_statement, refused}
+use Rattle.checking.specs.declared.words.Verdict.{Verdict}
+use Rattle.checking.specs.declared.words.Verdict.TheVariants.{Clear, Start, Statement, UnjudgedExpression, UnjudgedStatement, Refused}
 
 -- A refusal's number stands from 2^32 on. Below it: 0 is clear, 1 the start; else the bits from 2^16 on say what is named, 2 a statement, 3 an expression that is not judged, 4 a
 -- statement that is not, and those below them its number.
@@ -23,6 +26,18 @@ check_word (at_statement s) = statement_base + s
 check_word (unjudged_expression e) = unjudged_expression_base + e
 check_word (unjudged_statement s) = unjudged_statement_base + s
 check_word (refused n) = refusal_unit * n
+
+-- the answer that the code gives, and its number
+abbrev pub said : Verdict → Answer
+said Clear = clear
+said Start = at_start
+said (Statement s) = at_statement s
+said (UnjudgedExpression e) = unjudged_expression e
+said (UnjudgedStatement s) = unjudged_statement s
+said (Refused r) = refused (number r)
+
+abbrev pub word : Verdict → ℕ
+word v = check_word (said v)
 
 -- numbers for which there is room
 abbrev pub Roomy : Answer → Type 0

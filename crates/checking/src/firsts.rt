@@ -14,10 +14,8 @@ pub fn fill_firsts(bytes: &[u8], t: &[u32], f: FunctionHandle, firsts: &mut [u32
 {
     let n = statements(t, f);
     let mut at: u32 = 0;
-    let mut s: u32 = 0;
-    while s < n {
+    for s in 0..n {
         firsts[s as usize] = at;
         at += mark_count(bytes, t, f, s);
-        s += 1;
     }
 }

@@ -1,5 +1,5 @@
 -- The answer's number: 15 before 16, then the lowest fault, then the start.
-use Prim.Native.Nat.{ℕ, ◌+◌, ◌*◌}
+use Prim.Native.Nat.{ℕ}
 use mathlib.Core.Path.{◌≡◌, sym, ◌∙◌}
 use mathlib.Core.Bool.{Bool, true, false, cond}
 use mathlib.Core.List.{List}
@@ -9,12 +9,12 @@ use Rattle.part.specs.PartReq.{PartReq}
 use Rattle.part.specs.Store.{part}
 use Rattle.context.specs.RequiredContext.{RequiredContext}
 use Rattle.request.specs.Context.{context_of}
-use Rattle.clearance.specs.Verdict.{Report, refused, verdict, starts}
+use Rattle.clearance.specs.Verdict.{Report, clear, at_start, at_statement, refused, verdict, starts}
 use Rattle.judge.specs.Blamed.{blamed}
 use Rattle.pass.specs.Checked.{answer_of}
 use Rattle.standing.specs.declared.passing.Passing.{Passing}
 use Rattle.context_bytes.specs.Covered.{CoversContext}
-use Rattle.checking.specs.Word.{statement_base, refusal_unit, check_word}
+use Rattle.checking.specs.Word.{check_word}
 use Rattle.rounds.specs.Settling.{reported}
 use Rattle.rounds.specs.Rounds.{Answers}
 
@@ -30,25 +30,23 @@ module _ {s : List ℕ} {n : ℕ} {q : Passing} {context : List ℕ} where
     is = λ c marks d e z. h c marks e ∙ rw (z.deep, z.wide, z.fault);
   }
 
-  pub answers_deep : q.deep ≡ true → Answers s n q context (15 * refusal_unit)
-  unfolding check_word
+  pub answers_deep : q.deep ≡ true → Answers s n q context (check_word (refused 15))
   answers_deep a = by_flags-each (λ c marks e. rw a)
 
   module _ (a : q.deep ≡ false) where
-    pub answers_wide : q.wide ≡ true → Answers s n q context (16 * refusal_unit)
-    unfolding check_word
+    pub answers_wide : q.wide ≡ true → Answers s n q context (check_word (refused 16))
     answers_wide b = by_flags-each (λ c marks e. rw (a, b))
 
     module _ (b : q.wide ≡ false) where
-      pub answers_fault : {m : ℕ} → q.fault ≡ Some m → Answers s n q context (statement_base + m)
-      unfolding check_word verdict
+      pub answers_fault : {m : ℕ} → q.fault ≡ Some m → Answers s n q context (check_word (at_statement m))
+      unfolding verdict
       answers_fault f = by_flags-each (λ c marks e. rw (a, b, f))
 
       module _ (f : q.fault ≡ None) {r : Bool} (w : CoversContext s n context r) where
-        pub answers_clear : r ≡ true → Answers s n q context 0
-        unfolding check_word verdict
+        pub answers_clear : r ≡ true → Answers s n q context (check_word clear)
+        unfolding verdict
         answers_clear h = by_flags-each (λ c marks e. rw (a, b, f, sym (w.is c marks e) ∙ h))
 
-        pub answers_start : r ≡ false → Answers s n q context 1
-        unfolding check_word verdict
+        pub answers_start : r ≡ false → Answers s n q context (check_word at_start)
+        unfolding verdict
         answers_start h = by_flags-each (λ c marks e. rw (a, b, f, sym (w.is c marks e) ∙ h))

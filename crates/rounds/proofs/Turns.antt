@@ -14,7 +14,7 @@ use Rattle.request.specs.Context.{context_of}
 use Rattle.clearance.specs.Scope.{Scope}
 use Rattle.clearance.specs.Tree.{Tree, body_tree}
 use Rattle.clearance.specs.Needs.{Exit, Setting, Table}
-use Rattle.clearance.specs.Verdict.{Request, setting, ending}
+use Rattle.clearance.specs.Verdict.{Request, refused, setting, ending}
 use Rattle.pass.specs.Pass.{Carried, Passed, on, full}
 use Rattle.pass.specs.Checked.{pass_once, settled_by, settle_within, max_rounds, last_pass, answer_of}
 use Rattle.judge.specs.Given.{scope_at}
@@ -23,7 +23,7 @@ use Rattle.standing.specs.Slots.{table_size, asked_slot, end_slot, stack_slot, R
 use Rattle.standing.specs.Standing.{Carries, TableIn, Went, Keeps}
 use Rattle.standing.specs.declared.passing.Passing.{Passing}
 use Rattle.standing.proofs.Aside.{beside_high}
-use Rattle.checking.specs.Word.{refusal_unit, check_word}
+use Rattle.checking.specs.Word.{check_word}
 use Rattle.rounds.specs.Settling.{Settling, Settled, reported}
 use Rattle.rounds.specs.Rounds.{Between, Asked, Begins, Rounding, Rounded, Renewed, Answers, Settles}
 
@@ -167,12 +167,12 @@ module _ {S : Scope} {R : Request} {marks : List ℕ} (context : List ℕ) where
   unfolding last_pass
   settled-by e h = record { is = λ c z. h c z ∙ ap (λ o. check_word (answer_of (reported marks c) o)) (sym e) }
 
-  settled_full : settle_within (setting S R) (body_tree S.function marks) (ending S R) max_rounds [] ≡ some full → Settled S R marks context (26 * refusal_unit)
-  unfolding answer_of check_word
+  settled_full : settle_within (setting S R) (body_tree S.function marks) (ending S R) max_rounds [] ≡ some full → Settled S R marks context (check_word (refused 26))
+  unfolding answer_of
   settled_full e = settled-by e (λ c z. refl)
 
-  settled_past : settle_within (setting S R) (body_tree S.function marks) (ending S R) max_rounds [] ≡ nothing → Settled S R marks context (26 * refusal_unit)
-  unfolding answer_of check_word
+  settled_past : settle_within (setting S R) (body_tree S.function marks) (ending S R) max_rounds [] ≡ nothing → Settled S R marks context (check_word (refused 26))
+  unfolding answer_of
   settled_past e = settled-by e (λ c z. refl)
 
   settled_last : {t us : List ℕ} {q : Passing} {r : ℕ} → Last S R (body_tree S.function marks) t us q → Answers t (get_or us stack_slot 0) q context r → Settled S R marks context r
@@ -188,11 +188,11 @@ turning_first d = record { ready = d; turn = λ R b. record { table = []; betwee
 
 module _ {S : Scope} (marks : List ℕ) {s₀ rs₀ : List ℕ} {left : ℕ} {s rs : List ℕ} (u : Turning S (body_tree S.function marks) s₀ rs₀ left s rs) where
   -- no round is left
-  pub turning_none : (context : List ℕ) → left ≤ 0 → Settles S marks context s₀ rs₀ (26 * refusal_unit)
+  pub turning_none : (context : List ℕ) → left ≤ 0 → Settles S marks context s₀ rs₀ (check_word (refused 26))
   turning_none context h = record { is = λ R b. settled_past context (turn_none (u.turn R b) h) }
 
   module _ (more : 0 < left) {t us before after : List ℕ} {q : Passing} (w : Rounded S (body_tree S.function marks) s rs t us before after q) where
-    pub turning_full : (context : List ℕ) → q.full ≡ true → Settles S marks context s₀ rs₀ (26 * refusal_unit)
+    pub turning_full : (context : List ℕ) → q.full ≡ true → Settles S marks context s₀ rs₀ (check_word (refused 26))
     turning_full context h = record { is = λ R b. settled_full context (turn_full (u.turn R b) more w h) }
 
     pub turning_last : (context : List ℕ) → q.full ≡ false → q.held ≡ true → {r : ℕ} → Answers t (get_or us stack_slot 0) q context r → Settles S marks context s₀ rs₀ r

@@ -15,10 +15,8 @@ fn clear_tables(roots: &mut [u32])
     requires { asked_slot ≤ length roots.old }
     ensures { Cleared roots.old roots.new }
 {
-    let mut j: usize = 0;
-    while j < ASKED {
+    for j in 0..ASKED {
         roots[j] = 2;
-        j += 1;
     }
 }
 
@@ -49,10 +47,8 @@ pub fn renew(roots: &mut [u32])
     requires { stack_slot < length roots.old }
     ensures { Renewed roots.old roots.new }
 {
-    let mut j: usize = 0;
-    while j < TABLE {
+    for j in 0..TABLE {
         copy(roots, TABLE + j, j);
-        j += 1;
     }
     copy(roots, END, STACK);
 }

@@ -1,8 +1,9 @@
-// Rounds until each loop's needs hold, and the answer's number.
+// Rounds until each loop's needs hold, and the answer.
 ghost use Rattle.std.specs.Prelude.{◌<◌};
 ghost use Rattle.part.specs.Store.{top, Good};
 ghost use Rattle.module.specs.Tables.{function_of};
 ghost use Rattle.clearance.specs.Tree.{body_tree};
+ghost use Rattle.checking.specs.Word.{word};
 ghost use Rattle.judge.specs.Given.{scope_at};
 ghost use Rattle.rounds.specs.Settling.{Settling, Settled, asked_by};
 ghost use Rattle.rounds.specs.Rounds.{Rounding, Rounded, Answers, Settles};
@@ -10,8 +11,9 @@ ghost use Rattle.rounds.specs.Rounds.{Rounding, Rounded, Answers, Settles};
 use crate::begin::{begin, renew};
 use access::function::body_block;
 use backward::blocks::pass_around;
-use checking::words::{REFUSAL, START, STATEMENT};
+use checking::words::Verdict;
 use context_bytes::starts::context_covers;
+use field::refusal::Refusal;
 use module::handles::FunctionHandle;
 use standing::passing::{END, Exits, Passing, STACK};
 
@@ -67,25 +69,25 @@ fn round(
     )
 }
 
-// The number of the answer, by what the last pass carried and the need n before it.
-fn answer(cells: &[u32], n: u32, q: Passing, context: &[u8]) -> u64
+// The answer, by what the last pass carried and the need n before it.
+fn answer(cells: &[u32], n: u32, q: Passing, context: &[u8]) -> Verdict
     requires good { Good cells.now }
     requires n_bound { n < top cells.now }
-    ensures { Answers cells.now n q context.now result }
+    ensures { Answers cells.now n q context.now (word result) }
 {
     if q.deep {
-        return 15 * REFUSAL;
+        return Verdict::Refused(Refusal::PartLimit);
     }
     if q.wide {
-        return 16 * REFUSAL;
+        return Verdict::Refused(Refusal::PiecesLimit);
     }
     if let Some(s) = q.fault {
-        return STATEMENT + s as u64;
+        return Verdict::Statement(s as u32);
     }
     if context_covers(cells, n, context) {
-        return 0;
+        return Verdict::Clear;
     }
-    START
+    Verdict::Start
 }
 
 // Rounds until each loop's needs hold; past the most of them the answer is 26.
@@ -102,28 +104,26 @@ fn settle_rounds(
     roots: &mut [u32],
     path: &mut [u32],
     context: &[u8],
-) -> u64
+) -> Verdict
     requires { Rounding bytes.now t.now f.0 types.now alike.now paths.now firsts.now cells.old roots.old path.old }
-    ensures { Settles (scope_at bytes.now t.now f.0) marks.now context.now cells.old roots.old result }
+    ensures { Settles (scope_at bytes.now t.now f.0) marks.now context.now cells.old roots.old (word result) }
 {
-    let mut left = ROUNDS;
-    while 0 < left {
+    for _ in 0..ROUNDS {
         let q = round(
             bytes, t, f, types, alike, paths, marks, firsts, cells, roots, path,
         );
         if q.full {
-            return 26 * REFUSAL;
+            return Verdict::Refused(Refusal::CheckBound);
         }
         if q.held {
             return answer(cells, roots[STACK], q, context);
         }
         renew(roots);
-        left -= 1;
     }
-    26 * REFUSAL
+    Verdict::Refused(Refusal::CheckBound)
 }
 
-// The answer's number, of a judged function and what is asked of it.
+// The answer, of a judged function and what is asked of it.
 pub fn settle(
     bytes: &[u8],
     t: &[u32],
@@ -139,9 +139,9 @@ pub fn settle(
     globals: u32,
     value: u32,
     context: &[u8],
-) -> u64
+) -> Verdict
     requires { Settling bytes.now t.now f.0 types.now alike.now paths.now firsts.now cells.old roots.old path.old globals value }
-    ensures { Settled (scope_at bytes.now t.now f.0) (asked_by cells.old globals value) marks.now context.now result }
+    ensures { Settled (scope_at bytes.now t.now f.0) (asked_by cells.old globals value) marks.now context.now (word result) }
 {
     begin(bytes, t, f, types, cells, roots, globals, value);
     settle_rounds(

@@ -47,10 +47,10 @@ fn check_marks(
         return word;
     }
     fill_firsts(bytes, t, f, firsts);
-    settle(
+    u64::from(settle(
         bytes, t, f, types, alike, paths, marks, firsts, cells, roots, path, globals, value,
         context,
-    )
+    ))
 }
 
 // The marks of f in the report buffer.
@@ -74,12 +74,9 @@ fn check_report(
     requires { Asked bytes.now t.now f.0 rows.old alike.old held.old paths.old firsts.old cells.old roots.old path.old globals value }
     ensures { ReportChecked (module_of bytes.now t.now) cells.old f.0 globals value report.now context.now result }
 {
-    let at = marks_shape(bytes, t, f, report);
-    if !at.fits {
+    let Some(marks) = marks_shape(bytes, t, f, report) else {
         return REFUSAL * 21;
-    }
-    let from = at.from;
-    let to = at.to;
+    };
     let n = types(t) as usize;
     let e = expressions(t, f) as usize;
     check_marks(
@@ -96,7 +93,7 @@ fn check_report(
         path,
         globals,
         value,
-        &report[from..to],
+        marks,
         context,
     )
 }

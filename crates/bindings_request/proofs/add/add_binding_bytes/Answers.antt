@@ -1,14 +1,10 @@
 -- `bindings_request::add::add_binding_bytes` meets its contract: 12 of the binding, then what reading the request answers.
-use native.Mathlib.Omega.{arith}
-use mathlib.Core.Path.{refl, ◌∙◌}
+use mathlib.Core.Path.{refl}
 use Rattle.bindings_request.proofs.Adding.{add-above, read_asks, add_refused, add_to_asks, add_went}
 use Rattle.bindings_request.proofs.add.add_binding_bytes.Goals as goal
 
 pub returns-then-b-ge-BINDINGS : goal.returns-then-b-ge-BINDINGS
-returns-then-b-ge-BINDINGS c = add-above _ _ _ _ c.if-b-ge-BINDINGS.true
-
-pub init-requires : goal.init-requires
-init-requires c = (omega (arith, c.requires.parts_len.1.room), c.requires.parts_len.1.fits)
+returns-then-b-ge-BINDINGS c = rw c.into.ensures (add-above _ _ _ _ c.if-b-ge-BINDINGS.true)
 
 pub read_request-a-requires : goal.read_request-a-requires
 read_request-a-requires c =
@@ -22,7 +18,8 @@ add_to-requires c =
 
 pub returns-in-Err : goal.returns-in-Err
 returns-in-Err c =
-    add_refused c.args.bytes.now c.args.t.now _ _ c.if-b-ge-BINDINGS.false (c.functions.ensures c.args.bytes.now) (c.globals.ensures c.args.bytes.now) c.read_request-a.ensures c.in-Err.e c.in-Err.is (c.from.ensures ∙ c.own_refusal.ensures)
+    rw c.into-in-Err.ensures
+    (add_refused c.args.bytes.now c.args.t.now _ _ c.if-b-ge-BINDINGS.false (c.functions.ensures c.args.bytes.now) (c.globals.ensures c.args.bytes.now) c.read_request-a.ensures c.in-Err.e _ c.in-Err.is c.own_refusal.ensures)
 
 pub returns-in-Ok : goal.returns-in-Ok
 returns-in-Ok c =

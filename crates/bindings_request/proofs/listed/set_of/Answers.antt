@@ -2,31 +2,18 @@
 use native.Mathlib.Omega.{arith}
 use mathlib.Core.Path.{refl}
 use Rattle.bindings.proofs.Returning.{binding_bound}
-use Rattle.bindings_request.proofs.Sets.{reading_none, reading_inside, reading_malformed, reading_more, reading_all}
+use Rattle.bindings_request.proofs.Sets.{reading_none, reading_malformed, reading_more}
 use Rattle.bindings_request.proofs.listed.set_of.Goals as goal
 
 pub loop-i-init : goal.loop-i-init
 loop-i-init c = reading_none _ refl
 
-pub overflow_sub-i : goal.overflow_sub-i
-overflow_sub-i c = omega (arith, c.loop-i-test.true)
-
-pub bounds-list-i : goal.bounds-list-i
-bounds-list-i c = reading_inside _ c.loop-i.invariant c.loop-i-test.true
-
 pub returns-then-after-b : goal.returns-then-after-b
-returns-then-after-b c =
-    reading_malformed _ c.loop-i.invariant c.loop-i-test.true c.wide-b.ensures c.if-after-b.true
+returns-then-after-b c = reading_malformed _ c.loop-i.invariant c.loop-i-test.true c.from-b.ensures c.if-after-b.true
 
 pub own_binding-own-requires : goal.own_binding-own-requires
 own_binding-own-requires c = binding_bound _ (omega (arith, c.if-after-b.false, c.loop-i.invariant.few))
 
-pub loop-i-smaller : goal.loop-i-smaller
-loop-i-smaller c = omega (arith, c.loop-i-test.true)
-
 pub loop-i-preserved : goal.loop-i-preserved
 loop-i-preserved c =
-    reading_more _ c.loop-i.invariant c.loop-i-test.true c.wide-b.ensures c.if-after-b.false c.own_binding-own.ensures
-
-pub returns : goal.returns
-returns c = reading_all _ c.loop-i.invariant c.loop-i-test.false
+    reading_more _ c.loop-i.invariant c.loop-i-test.true c.from-b.ensures c.if-after-b.false c.own_binding-own.ensures

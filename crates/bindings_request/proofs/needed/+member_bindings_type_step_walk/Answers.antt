@@ -4,35 +4,16 @@ use mathlib.Core.Path.{sym, ◌∙◌}
 use Rattle.bindings_request.proofs.Walking.{lower-past, lower_all, lower-step, member_gone, member_exist, member_needed, left_none, left_more, left_all, base-found}
 use Rattle.bindings_request.proofs.needed.+member_bindings_type_step_walk.Goals as goal
 
-pub member_bindings-find_part-requires : goal.member_bindings-find_part-requires
-member_bindings-find_part-requires t c = c.requires.readable
-
 pub member_bindings-returns-in_default : goal.member_bindings-returns-in_default
 member_bindings-returns-in_default t c = member_gone _ _ c.in_default.ensures
-
-pub member_bindings-is_exist-requires : goal.member_bindings-is_exist-requires
-member_bindings-is_exist-requires t c = c.in-Some.ensures.0
 
 pub member_bindings-returns-then-is_exist : goal.member_bindings-returns-then-is_exist
 member_bindings-returns-then-is_exist t c =
     member_exist _ _ c.in-Some.ensures.1 (sym c.is_exist.ensures ∙ c.if-is_exist.true)
 
-pub member_bindings-member_at-m-requires : goal.member_bindings-member_at-m-requires
-member_bindings-member_at-m-requires t c = record { all_bound = c.requires.all_bound; i_bound = c.requires.i_bound }
-
-pub member_bindings-own_binding-own-requires : goal.member_bindings-own_binding-own-requires
-member_bindings-own_binding-own-requires t c = c.member_at-m.ensures.bound
-
-pub member_bindings-walk-below-requires : goal.member_bindings-walk-below-requires
-member_bindings-walk-below-requires t c =
-    (omega (arith, c.decreases), (c.in-Some.ensures.0, c.requires.all_bound))
-
 pub member_bindings-returns : goal.member_bindings-returns
 member_bindings-returns t c =
     member_needed _ c.in-Some.ensures.1 (sym c.is_exist.ensures ∙ c.if-is_exist.false) c.member_at-m.ensures c.own_binding-own.ensures c.walk-below.ensures
-
-pub type_step-walk-requires : goal.type_step-walk-requires
-type_step-walk-requires t c = (omega (arith, c.decreases), (c.requires.readable, c.requires.all_bound))
 
 pub type_step-returns-then-is_base : goal.type_step-returns-then-is_base
 type_step-returns-then-is_base t c =
@@ -40,13 +21,6 @@ type_step-returns-then-is_base t c =
 
 pub type_step-loop-i-init : goal.type_step-loop-i-init
 type_step-loop-i-init t c = left_none _ _ _ _ c.member_count-i.ensures
-
-pub type_step-member_bindings-m-requires : goal.type_step-member_bindings-m-requires
-type_step-member_bindings-m-requires t c =
-    (omega (arith, c.decreases), (c.requires.readable, (c.requires.all_bound, omega (arith, c.loop-i.invariant.low, c.loop-i-test.true))))
-
-pub type_step-loop-i-smaller : goal.type_step-loop-i-smaller
-type_step-loop-i-smaller t c = omega (arith, c.loop-i-test.true)
 
 pub type_step-loop-i-preserved : goal.type_step-loop-i-preserved
 type_step-loop-i-preserved t c = left_more _ _ _ _ c.loop-i-test.true c.loop-i.invariant c.member_bindings-m.ensures
@@ -58,15 +32,9 @@ type_step-returns t c =
 pub walk-returns-then-t-u : goal.walk-returns-then-t-u
 walk-returns-then-t-u t c = lower-past _ _ _ _ _ c.if-t-u.true
 
-pub walk-is_all-requires : goal.walk-is_all-requires
-walk-is_all-requires t c = c.requires.readable
-
 pub walk-returns-then-is_all : goal.walk-returns-then-is_all
 walk-returns-then-is_all t c =
     c.set_at.ensures ∙ lower_all _ _ _ _ _ (omega (arith, c.if-t-u.false)) (sym c.is_all.ensures ∙ c.if-is_all.true)
-
-pub walk-type_step-requires : goal.walk-type_step-requires
-walk-type_step-requires t c = (omega (arith, c.decreases, c.if-t-u.false), (c.requires.readable, c.requires.all_bound))
 
 pub walk-returns : goal.walk-returns
 walk-returns t c =

@@ -9,9 +9,6 @@ use Rattle.bindings_request.proofs.needed.+member_bindings_type_step_walk.Given 
 abbrev pub invariant-type_step-loop-i : goal.invariant-type_step-loop-i
 invariant-type_step-loop-i l = Left (lower (types_of l.types) l.sets l.t.0) l.types l.t.0 (part_at l.context l.at l.depth) l.i l.r
 
-abbrev pub decreases-type_step-loop-i : goal.decreases-type_step-loop-i
-decreases-type_step-loop-i l = l.i
-
 abbrev pub decreases-member_bindings : goal.decreases-member_bindings
 decreases-member_bindings l = 3 * l.t.0 + 1
 

@@ -1,13 +1,7 @@
 -- `bindings_request::needed::all_table` meets its contract: the table grows by one type a turn.
-use Prim.Native.Nat.{◌-◌}
-use mathlib.Core.Path.{◌≡◌}
-use lib.ListN.{length}
 use Rattle.context.specs.Types.{types_of}
 use Rattle.bindings_request.proofs.Walking.{Grown}
 use Rattle.bindings_request.proofs.needed.all_table.Given as goal
 
 abbrev pub invariant-loop-t : goal.invariant-loop-t
-invariant-loop-t l = Grown (types_of l.types) l.initial.sets l.sets l.t × (length l.sets ≡ length l.initial.sets)
-
-abbrev pub decreases-loop-t : goal.decreases-loop-t
-decreases-loop-t l = length l.initial.sets - l.t
+invariant-loop-t l = Grown (types_of l.types) l.initial.sets l.sets l.t

@@ -3,33 +3,17 @@ use mathlib.Core.Path.{sym, ◌∙◌}
 use Rattle.bindings_request.proofs.Arguments.{arg_gone, arg_exist, arg_free, arg_all, arg_part}
 use Rattle.bindings_request.proofs.needed.arg_bindings.Goals as goal
 
-pub find_variable-requires : goal.find_variable-requires
-find_variable-requires c = c.requires.list_at.inside
-
 pub returns-in_default : goal.returns-in_default
 returns-in_default c =
     arg_gone _ _ _ _ (c.in_default.ensures.is _ _ c.requires.list_at.is)
-
-pub is_exist-requires : goal.is_exist-requires
-is_exist-requires c = (c.in-Some.ensures.is _ _ c.requires.list_at.is).0
 
 pub returns-then-is_exist : goal.returns-then-is_exist
 returns-then-is_exist c =
     arg_exist _ _ _ _ _ (c.in-Some.ensures.is _ _ c.requires.list_at.is).1 (sym c.is_exist.ensures ∙ c.if-is_exist.true)
 
-pub type_bindings-below-requires : goal.type_bindings-below-requires
-type_bindings-below-requires c =
-    record { readable = (c.in-Some.ensures.is _ _ c.requires.list_at.is).0; all_bound = c.requires.all_bound; sets_value = c.requires.sets_value }
-
 pub returns-then-binding : goal.returns-then-binding
 returns-then-binding c =
     arg_free _ _ _ _ _ (c.in-Some.ensures.is _ _ c.requires.list_at.is).1 (sym c.is_exist.ensures ∙ c.if-is_exist.false) c.type_bindings-below.ensures c.if-binding.true
-
-pub is_all-requires : goal.is_all-requires
-is_all-requires c = (c.in-Some.ensures.is _ _ c.requires.list_at.is).0
-
-pub own_binding-own-requires : goal.own_binding-own-requires
-own_binding-own-requires c = c.requires.bound
 
 pub returns-then-is_all : goal.returns-then-is_all
 returns-then-is_all c =

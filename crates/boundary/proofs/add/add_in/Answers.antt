@@ -1,6 +1,7 @@
 -- `boundary::add::add_in` meets its contract: the file's refusal, 12 of a request that is too long, or what is answered of the module that was read.
-use mathlib.Core.Path.{refl}
+use Prim.Native.Nat.{ℕ, ◌*◌}
 use native.Mathlib.Omega.{arith}
+use mathlib.Core.Path.{ap, refl, ◌∙◌}
 use Rattle.field.proofs.Refusals.{some_number}
 use lib.ListN.{length}
 use Rattle.boundary.proofs.Answers.{answers_refused, answers_read, answers_none, was_read}
@@ -10,11 +11,11 @@ use Rattle.boundary.proofs.add.add_in.Goals as goal
 
 pub returns-in-Err : goal.returns-in-Err
 returns-in-Err c =
-    answers_refused _ _ c.in-Err.ensures _ (some_number _) (rw c.from.ensures at c.word_of.ensures)
+    answers_refused _ _ c.in-Err.ensures _ (some_number _) (c.refused_word.ensures ∙ ap (λ (n : ℕ). 4294967296 * n) c.from.ensures)
 
 pub returns-then-get-request : goal.returns-then-get-request
 returns-then-get-request c =
-    answers_read _ _ c.in_default.ensures _ refl (answers_none (long_request _ (length c.args.out.now) c.args.b c.args.request.now (omega (arith, c.if-get-request.true, c.get.ensures))) c.word_of-then-get-request.ensures)
+    answers_read _ _ c.in_default.ensures _ refl (answers_none (long_request _ (length c.args.out.now) c.args.b c.args.request.now (omega (arith, c.if-get-request.true, c.get.ensures))) (c.refused_word-then-get-request.ensures ∙ ap (λ (n : ℕ). 4294967296 * n) c.from-then-get-request.ensures))
 
 pub slice_bounds-add_of-end : goal.slice_bounds-add_of-end
 slice_bounds-add_of-end c =

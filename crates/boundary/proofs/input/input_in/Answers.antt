@@ -8,7 +8,7 @@ use Rattle.boundary.proofs.input.input_in.Goals as goal
 
 pub returns-in-Err : goal.returns-in-Err
 returns-in-Err c =
-    answers_refused _ _ c.in-Err.ensures _ (some_number _) (rw c.from.ensures at c.word_of.ensures)
+    answers_refused _ _ c.in-Err.ensures _ (some_number _) (c.refused_word.ensures ∙ ap (λ (n : ℕ). 4294967296 * n) c.from.ensures)
 
 pub slice_bounds-input_of-end : goal.slice_bounds-input_of-end
 slice_bounds-input_of-end c =

@@ -1,41 +1,19 @@
 -- `checking::firsts::fill_firsts` meets its contract. The invariant: `at` counts the marks of the first s statements, and their entries are right.
-use Prim.Native.Nat.{◌-◌}
-use mathlib.Core.Path.{refl}
-use lib.ListN.{length-set}
 use Rattle.checking.proofs.Counting.{counted_none, counted_small, counted_more, filled_none, filled_more, filled_all}
 use native.Mathlib.Omega.{arith}
 use Rattle.checking.proofs.firsts.fill_firsts.Goals as goal
 
-pub statements-n-requires : goal.statements-n-requires
-statements-n-requires c = tt
-
 pub loop-s-init : goal.loop-s-init
-loop-s-init c = (counted_none, filled_none, refl)
-
-pub bounds-firsts-s : goal.bounds-firsts-s
-bounds-firsts-s c =
-    omega (arith, c.loop-s-test.true, c.statements-n.ensures c.args.bytes.now, c.requires.1, c.loop-s.invariant.2)
-
-pub mark_count-at-requires : goal.mark_count-at-requires
-mark_count-at-requires c = tt
+loop-s-init c = (counted_none, filled_none)
 
 pub overflow_add-at : goal.overflow_add-at
 overflow_add-at c =
     omega (arith, counted_small c.requires.0 c.loop-s.invariant.0 (c.statements-n.ensures _) c.loop-s-test.true c.mark_count-at.ensures)
 
-pub overflow_add-s : goal.overflow_add-s
-overflow_add-s c = omega (arith, c.loop-s-test.true)
-
-pub loop-s-smaller : goal.loop-s-smaller
-loop-s-smaller c = omega (arith, c.loop-s-test.true)
-
 pub loop-s-preserved : goal.loop-s-preserved
 loop-s-preserved c =
-    (counted_more c.requires.0 c.loop-s.invariant.0 (c.statements-n.ensures _) c.loop-s-test.true c.mark_count-at.ensures, filled_more (omega (arith, c.loop-s-test.true, c.statements-n.ensures c.args.bytes.now, c.requires.1, c.loop-s.invariant.2)) c.loop-s.invariant.0.is c.loop-s.invariant.1, simp length-set c.loop-s.invariant.2)
-
-pub shape_of-firsts : goal.shape_of-firsts
-shape_of-firsts c = c.loop-s.invariant.2
+    (counted_more c.requires.0 c.loop-s.invariant.0 (c.statements-n.ensures _) c.loop-s-test.true c.mark_count-at.ensures, filled_more (omega (arith, c.loop-s-test.true, c.statements-n.ensures c.args.bytes.now, c.requires.1, c.loop-s.auto.firsts)) c.loop-s.invariant.0.is c.loop-s.invariant.1)
 
 pub returns : goal.returns
 returns c =
-    filled_all (omega (arith, c.requires.1, c.loop-s.invariant.2)) (omega (arith, c.loop-s-test.false, c.statements-n.ensures c.args.bytes.now)) c.loop-s.invariant.1
+    filled_all (omega (arith, c.requires.1, c.loop-s.auto.firsts)) (omega (arith, c.loop-s-test.false, c.statements-n.ensures c.args.bytes.now)) c.loop-s.invariant.1

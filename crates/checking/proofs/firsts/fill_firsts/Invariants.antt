@@ -1,13 +1,7 @@
 -- `checking::firsts::fill_firsts` meets its contract. The invariant: `at` counts the marks of the first s statements, and their entries are right.
-use Prim.Native.Nat.{◌-◌}
-use mathlib.Core.Path.{◌≡◌}
-use lib.ListN.{length}
 use Rattle.module.specs.Tables.{function_of}
 use Rattle.checking.proofs.Counting.{Counted, FilledTo}
 use Rattle.checking.proofs.firsts.fill_firsts.Given as goal
 
 abbrev pub invariant-loop-s : goal.invariant-loop-s
-invariant-loop-s l = Counted l.bytes l.t l.f.0 l.n l.at l.s × FilledTo (function_of l.bytes l.t l.f.0).statements l.firsts l.s × (length l.firsts ≡ length l.initial.firsts)
-
-abbrev pub decreases-loop-s : goal.decreases-loop-s
-decreases-loop-s l = l.n - l.s
+invariant-loop-s l = Counted l.bytes l.t l.f.0 l.n l.at l.s × FilledTo (function_of l.bytes l.t l.f.0).statements l.firsts l.s

@@ -1,10 +1,6 @@
 -- `checking::shape::mark_total` meets its contract. The invariant: `at` counts the marks of the first s statements.
-use Prim.Native.Nat.{◌-◌}
 use Rattle.checking.proofs.Counting.{Counted}
 use Rattle.checking.proofs.shape.mark_total.Given as goal
 
 abbrev pub invariant-loop-s : goal.invariant-loop-s
 invariant-loop-s l = Counted l.bytes l.t l.f.0 l.n l.at l.s
-
-abbrev pub decreases-loop-s : goal.decreases-loop-s
-decreases-loop-s l = l.n - l.s

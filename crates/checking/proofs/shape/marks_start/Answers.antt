@@ -1,5 +1,4 @@
 -- `checking::shape::marks_start` meets its contract. The invariant: `at` counts the marks of the functions before g.
-use Prim.Native.Nat.{◌-◌}
 use Rattle.checking.proofs.Counting.{there_below, started_none, started_small, started_more, started_all}
 use native.Mathlib.Omega.{arith}
 use Rattle.checking.proofs.shape.marks_start.Goals as goal
@@ -14,14 +13,8 @@ pub overflow_add-at : goal.overflow_add-at
 overflow_add-at c =
     omega (arith, started_small c.requires c.loop-g.invariant c.loop-g-test.true c.mark_total-at.ensures)
 
-pub overflow_add-g : goal.overflow_add-g
-overflow_add-g c = omega (arith, c.loop-g-test.true)
-
-pub loop-g-smaller : goal.loop-g-smaller
-loop-g-smaller c = omega (arith, c.loop-g-test.true)
-
 pub loop-g-preserved : goal.loop-g-preserved
 loop-g-preserved c = started_more c.requires c.loop-g.invariant c.loop-g-test.true c.mark_total-at.ensures
 
 pub returns : goal.returns
-returns c = started_all c.loop-g.invariant (omega (arith, c.loop-g-test.false))
+returns c = started_all c.loop-g.invariant c.loop-g-test.false

@@ -31,4 +31,4 @@ shape_of-held c = omega (arith, c.fill_tables.auto)
 
 pub returns : goal.returns
 returns c =
-    settled c.requires c.unjudged-word.ensures (omega arith) c.args.marks.now c.args.context.now c.settle.ensures
+    rw c.from.ensures (settled c.requires c.unjudged-word.ensures (omega arith) c.args.marks.now c.args.context.now c.settle.ensures)

@@ -1,15 +1,14 @@
 -- `verdict::verdict::check_report` meets its contract: 21, or what is answered of the marks.
 use Rattle.verdict.proofs.Checking.{asked_there, few_types, few_expressions, marked, refused_21, report-checked}
-use borrow.Author.Tests.{not-true, not-false}
 use native.Mathlib.Omega.{arith}
 use Rattle.verdict.proofs.verdict.check_report.Goals as goal
 
-pub marks_shape-at-requires : goal.marks_shape-at-requires
-marks_shape-at-requires c = asked_there c.requires
+pub marks_shape-requires : goal.marks_shape-requires
+marks_shape-requires c = asked_there c.requires
 
-pub returns-then-not-at : goal.returns-then-not-at
-returns-then-not-at c =
-    refused_21 c.requires c.args.report.now c.args.context.now c.marks_shape-at.ensures (not-true _ c.if-not-at.true)
+pub returns-in_default : goal.returns-in_default
+returns-in_default c =
+    refused_21 c.requires c.args.report.now c.args.context.now c.marks_shape.ensures c.in_default.is
 
 pub slice_bounds-check_marks-end : goal.slice_bounds-check_marks-end
 slice_bounds-check_marks-end c =
@@ -33,4 +32,4 @@ check_marks-requires c =
 
 pub returns : goal.returns
 returns c =
-    report-checked c.requires c.args.report.now c.args.context.now c.marks_shape-at.ensures (not-false _ c.if-not-at.false) c.check_marks.ensures
+    report-checked c.requires c.args.report.now c.args.context.now c.marks_shape.ensures c.in-Some.is c.check_marks.ensures
