@@ -1,14 +1,13 @@
 -- A function's part of a buffer, cut off at the buffer's end, is what the definition takes of it; and whether it has the function's shape, by its length and its bytes.
-use Prim.Native.Nat.{ℕ, zero, suc, ◌+◌, ◌-◌, ◌<◌, ◌≤◌, min}
+use Prim.Native.Nat.{ℕ, zero, suc, ◌+◌, ◌-◌, ◌<◌, ◌≤◌}
 use native.Mathlib.Numerals.{add-one}
 use native.Mathlib.Omega.{arith}
-use native.Mathlib.Decide.{dec_lt}
 use mathlib.Core.Path.{◌≡◌, refl, sym, ap, ◌∙◌}
 use mathlib.Core.Bool.{Bool, true, false, not, ◌&&◌}
 use mathlib.Core.List.{List, [], ◌∷◌}
-use lib.Dec.{ltb, eqb}
-use lib.ListN.{length, get_or, drop, length-drop}
-use lib.Seq.{drop-cons, drop-nil, take-nil, take_all}
+use lib.Dec.{ltb}
+use lib.ListN.{length, get_or, drop}
+use lib.Seq.{drop-cons, drop-nil}
 use borrow.Author.Tests.{lt-ltb, le-ltb, eq-eqb}
 use Rattle.std.specs.Prelude.{Some, None}
 use Rattle.std.specs.Borrow.{Bor}

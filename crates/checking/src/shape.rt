@@ -50,7 +50,12 @@ fn are_bits(marks: &[u8]) -> bool
 }
 
 // The function's part of the buffer, where the whole of it is there and the marks have the function's shape.
-pub fn marks_shape<'a>(bytes: &[u8], t: &[u32], f: FunctionHandle, report: &'a [u8]) -> Option<&'a [u8]>
+pub fn marks_shape<'a>(
+    bytes: &[u8],
+    t: &[u32],
+    f: FunctionHandle,
+    report: &'a [u8],
+) -> Option<&'a [u8]>
     requires { There bytes.now t.now f.0 }
     ensures { MarksFound bytes.now t.now f.0 report.now result }
 {

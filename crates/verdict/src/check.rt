@@ -1,4 +1,5 @@
 // The check of a module that was read, with tables of its own.
+// Stays: the arrays worked in are local and of fixed size, since there is no heap.
 ghost use Rattle.std.specs.Prelude.{◌≡◌};
 ghost use Rattle.module.specs.Tables.{module_of};
 ghost use Rattle.request.specs.Request.{request_of};
