@@ -15,7 +15,12 @@ use reading::read::{HELD, SEEN, read};
 use verdict::check::check_in;
 
 // The module is read in the memory of the rounds.
-fn read_file(bytes: &[u8], t: &mut [u32], cells: &mut [u32], slots: &mut [u32]) -> Result<(), Refusal>
+fn read_file(
+    bytes: &[u8],
+    t: &mut [u32],
+    cells: &mut [u32],
+    slots: &mut [u32],
+) -> Result<(), Refusal>
     requires { (words ≤ length t.old) × ((values ≤ length cells.old) × (max_items ≤ length slots.old)) }
     ensures { Reads bytes.now t.new (number_of result) }
 {

@@ -122,8 +122,8 @@ module _ (bytes t : List ℕ) (f e : ℕ) {n : ℕ} (count : n ≡ length (funct
           elim (ℕ_discrete row.kind 3) [
             | yes h ↦ rw path (sym (ap gives (arm_is 3 h) ∙ pointing-not (is_path S e) (access_index (o 0) (o 1)) refl))
             | no n ↦
-              let h : row.kind ≡ 4 = omega arith in
-              rw path (sym (ap gives (arm_is 4 h) ∙ pointing-not (is_path S e) (access (o 0) (o 1)) refl))
+                let h : row.kind ≡ 4 = omega arith in
+                rw path (sym (ap gives (arm_is 4 h) ∙ pointing-not (is_path S e) (access (o 0) (o 1)) refl))
           ]
 
     pub gives_other : {x : Bool} → x ≡ gives_kind row.kind → (row.kind ≡ 3 → ⊥) → (row.kind ≡ 4 → ⊥) → x ≡ gives (arm S e)

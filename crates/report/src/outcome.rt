@@ -139,7 +139,12 @@ fn walk_read(
 }
 
 // The module in front of the request. The walk's memory is room for its reading.
-pub fn read_front(input: &[u8], t: &mut [u32], cells: &mut [u32], slots: &mut [u32]) -> Result<(), Refusal>
+pub fn read_front(
+    input: &[u8],
+    t: &mut [u32],
+    cells: &mut [u32],
+    slots: &mut [u32],
+) -> Result<(), Refusal>
     requires words_in_bounds { words ≤ length t.old }
     requires values_in_bounds { (values ≤ length cells.old) × (max_items ≤ length slots.old) }
     ensures { Reads (module_in input.now) t.new (number_of result) }
