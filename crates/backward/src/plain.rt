@@ -7,10 +7,10 @@ ghost use Rattle.standing.specs.Standing.{inside};
 ghost use Rattle.backward.specs.Course.{Course, Passes, RowIn};
 
 use access::kinded::{Kinded, expression_operand};
+use access::kinds::{EMIT, STORE};
 use acts::emits::pass_emits;
 use acts::marks::mark_at;
 use acts::stores::pass_store;
-use judge::kinds::{EMIT, STORE};
 use leaving::leave::pass_leaving;
 use module::handles::{BlockHandle, FunctionHandle};
 use standing::passing::{Exits, Passing};

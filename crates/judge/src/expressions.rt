@@ -8,9 +8,6 @@ ghost use Rattle.judge.specs.Given.{scope_at, Given, Fits};
 ghost use Rattle.judge.specs.Blamed.{blamed};
 
 use crate::indexes::fits_index;
-use crate::kinds::{
-    ACCESS, ACCESS_INDEX, AS, COMPOSE, CONSTANT, FUNCTION_ARGUMENT, LITERAL, LOAD, SPLAT, UNARY,
-};
 use crate::made::fits_made;
 use crate::named::fits_named;
 use crate::operators::fits_operator;
@@ -18,6 +15,9 @@ use crate::unsized_types::holds_either;
 use crate::values::{is_value, type_of};
 use access::function::expressions;
 use access::kinded::expression;
+use access::kinds::{
+    ACCESS, ACCESS_INDEX, AS, COMPOSE, CONSTANT, FUNCTION_ARGUMENT, LITERAL, LOAD, SPLAT, UNARY,
+};
 use module::handles::{ExpressionHandle, FunctionHandle};
 
 // Whether the expression e fits, by the group of its kind. A kind past the last is a literal's.

@@ -6,10 +6,10 @@ ghost use Rattle.clearance.specs.Judged.{same_part};
 ghost use Rattle.judge.specs.Shapes.{InTypes, Shapes, indexed};
 ghost use Rattle.judge.specs.Given.{scope_at, Row, Fits, fits_base};
 
-use crate::kinds::ACCESS;
 use crate::shapes::{pointee, same_element, same_part};
 use crate::values::{both, is_path, is_value, type_of};
 use access::kinded::{Kinded, expression_operand, operand};
+use access::kinds::ACCESS;
 use module::handles::{ExpressionHandle, FunctionHandle, TypeHandle};
 
 // Whether an index of the type a is of b's shape: a dynamic one, or the constant i.

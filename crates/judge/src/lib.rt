@@ -4,7 +4,6 @@
 pub mod alike;
 pub mod expressions;
 pub mod indexes;
-pub mod kinds;
 pub mod made;
 pub mod named;
 pub mod operators;

@@ -9,11 +9,11 @@ ghost use Rattle.clearance.specs.Scope.{inner, inner_of, is_scalar, is_vector};
 ghost use Rattle.clearance.specs.Judged.{every, part_type, same_part, component_count, count_components};
 ghost use Rattle.judge.specs.Given.{scope_at, Row, Fits};
 
-use crate::kinds::{SPLAT, SWIZZLE};
 use crate::rows::{TypeKind, kind_at};
 use crate::shapes::{is_vector_of, part_count, same_part};
 use crate::values::{all_values, both, is_value, type_of};
 use access::kinded::{Kinded, expression_operand, operand};
+use access::kinds::{SPLAT, SWIZZLE};
 use bindings::types::first_word;
 use module::handles::{ExpressionHandle, FunctionHandle, TypeHandle};
 

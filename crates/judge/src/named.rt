@@ -7,12 +7,12 @@ ghost use Rattle.clearance.specs.Judged.{pointee, pointee_type, same};
 ghost use Rattle.judge.specs.Shapes.{InTypes, Shapes};
 ghost use Rattle.judge.specs.Given.{scope_at, Given, Row, Fits};
 
-use crate::kinds::{FUNCTION_ARGUMENT, GLOBAL_VARIABLE, LOCAL_VARIABLE};
 use crate::rows::{TypeKind, kind_at};
 use crate::shapes::{is_alike, pointee};
 use crate::values::{both, is_path, is_value, type_of};
 use access::function::{argument, local};
 use access::kinded::{Kinded, expression_operand, global_operand, local_operand, operand};
+use access::kinds::{FUNCTION_ARGUMENT, GLOBAL_VARIABLE, LOCAL_VARIABLE};
 use access::whole::global;
 use module::handles::{ExpressionHandle, FunctionHandle, TypeHandle};
 

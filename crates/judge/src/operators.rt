@@ -2,10 +2,10 @@
 ghost use Rattle.std.specs.Prelude.{◌≡◌, ◌≤◌};
 ghost use Rattle.judge.specs.Given.{Row, Fits};
 
-use crate::kinds::{AS, BINARY, MATH, RELATIONAL, SELECT, UNARY};
 use crate::shapes::is_alike;
 use crate::values::{both, is_value, maybe_value, type_of};
 use access::kinded::{Kinded, expression_operand};
+use access::kinds::{AS, BINARY, MATH, RELATIONAL, SELECT, UNARY};
 use module::handles::{ExpressionHandle, FunctionHandle};
 
 // A value of two, by a condition: both have the result's shape.

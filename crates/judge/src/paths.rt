@@ -7,8 +7,8 @@ ghost use Rattle.access.specs.Access.{typed_at};
 ghost use Rattle.judge.specs.Marked.{marked};
 ghost use Rattle.judge.specs.Paths.{path_by, PathTable};
 
-use crate::kinds::{ACCESS, ACCESS_INDEX, GLOBAL_VARIABLE, LOCAL_VARIABLE};
 use access::kinded::{expression, expression_operand};
+use access::kinds::{ACCESS, ACCESS_INDEX, GLOBAL_VARIABLE, LOCAL_VARIABLE};
 use bindings::types::word;
 use module::handles::{ExpressionHandle, FunctionHandle};
 

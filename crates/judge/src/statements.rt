@@ -7,12 +7,12 @@ ghost use Rattle.clearance.specs.Judged.{presently, is_value, fits_return, fits_
 ghost use Rattle.judge.specs.Given.{scope_at, Given, FitsStatement};
 ghost use Rattle.judge.specs.Blamed.{blamed};
 
-use crate::kinds::{IF, KILL, LAST, LOOP, RETURN, STORE, SWITCH};
 use crate::named::leads_to;
 use crate::shapes::is_alike;
 use crate::values::{both, is_value, maybe_value, type_of};
 use access::function::{result, statements};
 use access::kinded::{expression_operand, statement};
+use access::kinds::{IF, KILL, LAST, LOOP, RETURN, STORE, SWITCH};
 use module::handles::{ExpressionHandle, FunctionHandle, NO_HANDLE};
 
 // A returned value is of the result's shape; there may be none.

@@ -3,9 +3,9 @@ ghost use Rattle.std.specs.Prelude.{◌≡◌, ◌<◌};
 ghost use Rattle.leaving.specs.Leaves.{LeaveGiven, Leaves};
 
 use access::kinded::{Kinded, expression_operand};
+use access::kinds::{CONTINUE, LAST, RETURN};
 use asking::ask::ask_returned;
 use hold::hold::copy;
-use judge::kinds::{CONTINUE, LAST, RETURN};
 use module::handles::{FunctionHandle, NO_HANDLE};
 use standing::passing::{Exits, Passing, filled};
 

@@ -4,7 +4,6 @@ pub mod Checks
 pub mod Decode
 pub mod File
 pub mod Kinds
-pub mod KindNumbers
 pub mod Knot
 pub mod Marks
 pub mod Module

@@ -8,7 +8,7 @@ use crate::made::{ask_components, ask_joined, ask_letters};
 use crate::operators::{ask_both_same, ask_both_whole, ask_math, ask_same, ask_select, ask_whole};
 use crate::tests::{by_part, is_joined};
 use access::kinded::{Kinded, expression, expression_operand};
-use judge::kinds::{
+use access::kinds::{
     ACCESS, ACCESS_INDEX, BINARY, COMPOSE, MATH, RELATIONAL, SELECT, SPLAT, SWIZZLE, UNARY,
 };
 use module::handles::{ExpressionHandle, FunctionHandle};

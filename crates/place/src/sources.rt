@@ -7,7 +7,7 @@ ghost use Rattle.place.specs.Sources.{source_by, is_fixed, gives_kind};
 
 use access::function::expressions;
 use access::kinded::{expression, operand};
-use judge::kinds::{
+use access::kinds::{
     ACCESS, ACCESS_INDEX, AS, COMPOSE, CONSTANT, DERIVATIVE, FUNCTION_ARGUMENT, LITERAL, LOAD,
     SPLAT, UNARY,
 };

@@ -3,7 +3,7 @@ ghost use Rattle.place.specs.Target.{Pointer};
 ghost use Rattle.place.specs.Steps.{StepDown};
 
 use access::kinded::{expression, expression_operand};
-use judge::kinds::ACCESS;
+use access::kinds::ACCESS;
 use module::handles::{ExpressionHandle, FunctionHandle};
 
 // What a pointer is: a variable, a constant index of a base, a dynamic index of a base.

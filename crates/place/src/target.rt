@@ -6,7 +6,7 @@ ghost use Rattle.judge.specs.Given.{scope_at};
 ghost use Rattle.place.specs.Target.{Pointer, IndexesPassed, TargetFound};
 
 use access::kinded::{expression, expression_operand, operand};
-use judge::kinds::{ACCESS, LOCAL_VARIABLE};
+use access::kinds::{ACCESS, LOCAL_VARIABLE};
 use module::handles::{ExpressionHandle, FunctionHandle};
 use part::limits::SPINE;
 

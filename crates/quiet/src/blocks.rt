@@ -12,7 +12,7 @@ ghost use Rattle.quiet.specs.Places.{quiet_block, quiet_statement, quiet_cases, 
 use crate::plain::quiet_plain;
 use access::function::block;
 use access::kinded::{Kinded, block_operand, operand, statement};
-use judge::kinds::{BLOCK, IF, LOOP, SWITCH};
+use access::kinds::{BLOCK, IF, LOOP, SWITCH};
 use module::handles::{BlockHandle, FunctionHandle};
 use strays::exits::{Exits, in_body, in_case, none};
 

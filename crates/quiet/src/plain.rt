@@ -16,7 +16,7 @@ ghost use Rattle.quiet.specs.Places.{quiet_statement, Says};
 
 use crate::acts::{emit_idle, store_idle};
 use access::kinded::{Kinded, expression_operand};
-use judge::kinds::{CONTINUE, EMIT, KILL, LAST, RETURN, STORE};
+use access::kinds::{CONTINUE, EMIT, KILL, LAST, RETURN, STORE};
 use module::handles::{ExpressionHandle, FunctionHandle};
 use strays::exits::Exits;
 

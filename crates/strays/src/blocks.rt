@@ -16,7 +16,7 @@ use crate::exits::{Exits, at_top, in_body, in_case, none};
 use crate::lower::lower_unless;
 use access::function::{block, body_block};
 use access::kinded::{Kinded, block_operand, operand, statement};
-use judge::kinds::{BLOCK, CONTINUE, EMIT, IF, KILL, LAST, LOOP, RETURN, SWITCH};
+use access::kinds::{BLOCK, CONTINUE, EMIT, IF, KILL, LAST, LOOP, RETURN, SWITCH};
 use module::handles::{BlockHandle, FunctionHandle};
 
 // A statement that holds no blocks, of a kind past a loop's. A kind past the last is a break's.
