@@ -1,5 +1,6 @@
 -- `boundary::output::output_in` meets its contract: the file's refusal, or what is answered of the module that was read.
-use mathlib.Core.Path.{refl}
+use Prim.Native.Nat.{ℕ, ◌*◌}
+use mathlib.Core.Path.{ap, refl, ◌∙◌}
 use native.Mathlib.Omega.{arith}
 use Rattle.field.proofs.Refusals.{some_number}
 use Rattle.boundary.proofs.Answers.{answers_refused, answers_read, was_read}
