@@ -1,15 +1,16 @@
 -- A function's part of a buffer, cut off at the buffer's end, is what the definition takes of it; and whether it has the function's shape, by its length and its bytes.
-use Prim.Native.Nat.{ℕ, zero, suc, ◌+◌, ◌-◌, ◌<◌, ◌≤◌}
+use Prim.Native.Nat.{ℕ, zero, suc, ◌+◌, ◌-◌, ◌<◌, ◌≤◌, min}
 use native.Mathlib.Numerals.{add-one}
 use native.Mathlib.Omega.{arith}
+use native.Mathlib.Decide.{dec_lt}
 use mathlib.Core.Path.{◌≡◌, refl, sym, ap, ◌∙◌}
 use mathlib.Core.Bool.{Bool, true, false, not, ◌&&◌}
 use mathlib.Core.List.{List, [], ◌∷◌}
-use lib.Dec.{ltb}
-use lib.ListN.{length, get_or, drop}
-use lib.Seq.{drop-cons, drop-nil}
+use lib.Dec.{ltb, eqb}
+use lib.ListN.{length, get_or, drop, length-drop}
+use lib.Seq.{drop-cons, drop-nil, take-nil, take_all}
 use borrow.Author.Tests.{lt-ltb, le-ltb, eq-eqb}
-use Rattle.std.specs.Prelude.{Some, None}
+use Rattle.std.specs.Prelude.{Ok, Err}
 use Rattle.std.specs.Borrow.{Bor}
 use Rattle.module.specs.Tables.{function_of, module_of}
 use Rattle.valid.specs.There.{There}
@@ -57,34 +58,66 @@ module _ {marks : List ℕ} {k : ℕ} (so : BitsTo marks k) where
 
 -- The part
 
-module _ {bytes t : List ℕ} {f : ℕ} (h : There bytes t f) (report : List ℕ) {start count : ℕ} (s : start ≡ start_of (module_of bytes t) f) (n : count ≡ stretch (module_of bytes t) f) where
-  pub found_short : length report < start + count → MarksFound bytes t f report None
+module _ (report : List ℕ) (start count from to : ℕ) (a : from ≡ min start (length report)) (b : to ≡ min (start + count) (length report)) where
+  -- the buffer ends before the stretch begins
+  outside : length report < start → slice report from (to - from) ≡ slice report start count
+  outside l =
+      let z : to - from ≡ 0 = omega arith in
+      rw (z, none_left report start (omega arith), take-nil {A = ℕ} count)
+
+  -- it ends in the stretch
+  cut : start ≤ length report → length report < start + count → slice report from (to - from) ≡ slice report start count
+  cut l k =
+      let y : from ≡ start = omega arith in
+      let z : to - start ≡ length report - start = omega arith in
+      let w = length-drop start report in
+      rw (y, z) (take_all (length report - start) (drop start report) (omega arith) ∙ sym (take_all count (drop start report) (omega arith)))
+
+  within : start + count ≤ length report → slice report from (to - from) ≡ slice report start count
+  within l =
+      let y : from ≡ start = omega arith in
+      let z : to - start ≡ count = omega arith in
+      rw (y, z)
+
+  part_is : slice report from (to - from) ≡ slice report start count
+  part_is =
+      elim (dec_lt (length report) start) [
+        | yes l ↦ outside l
+        | no l ↦
+            elim (dec_lt (length report) (start + count)) [
+              | yes k ↦ cut (omega arith) k
+              | no k ↦ within (omega arith)
+            ]
+      ]
+
+  part_long : length (slice report from (to - from)) ≡ to - from
+  part_long = slice-long report from (to - from) (omega arith)
+
+module _ {bytes t : List ℕ} {f : ℕ} (h : There bytes t f) (report : List ℕ) {start count from to : ℕ} (s : start ≡ start_of (module_of bytes t) f) (n : count ≡ stretch (module_of bytes t) f)
+    (a : from ≡ min start (length report)) (b : to ≡ min (start + count) (length report)) where
+  own : slice report from (to - from) ≡ marks_in bytes t f report
+  own = part_is report start count from to a b ∙ rw (s, n)
+
+  shape_is : has_shape (function_of bytes t f) (marks_in bytes t f report) ≡ eqb (to - from) count && bits (slice report from (to - from))
+  unfolding has_shape
+  shape_is = rw (← own, part_long report start count from to a b, ← stretch-is h, ← n)
+
+  not_cut : start + count ≤ length report → cut_short (module_of bytes t) f report ≡ false
   unfolding cut_short
-  found_short d = record { is = tt; fits = rw (← s, ← n, lt-ltb (length report) (start + count) d) }
+  not_cut d = rw (← s, ← n, le-ltb (length report) (start + count) d)
 
-  module _ (d : start + count ≤ length report) where
-    own : slice report start count ≡ marks_in bytes t f report
-    own = rw (s, n)
+  shaped : (r : Bool) → start + count ≤ length report → r ≡ bits (slice report from (to - from)) → r ≡ not (cut_short (module_of bytes t) f report) && has_shape (function_of bytes t f) (marks_in bytes t f report)
+  shaped r d e =
+      let z : to - from ≡ count = omega arith in
+      e ∙ sym (shape_is ∙ rw (eq-eqb (to - from) count z)) ∙ sym (ap (λ (q : Bool). not q && has_shape (function_of bytes t f) (marks_in bytes t f report)) (not_cut d))
 
-    part_long : length (slice report start count) ≡ count
-    part_long = slice-long report start count d
-
-    shape_is : has_shape (function_of bytes t f) (marks_in bytes t f report) ≡ bits (slice report start count)
-    unfolding has_shape
-    shape_is = rw (← own, part_long, ← stretch-is h, ← n, eq-eqb count count refl)
-
-    not_cut : cut_short (module_of bytes t) f report ≡ false
+  module _ {m : Bor (List ℕ)} (w : m.now ≡ slice report from (to - from)) where
+    pub found_short : length report < start + count → MarksFound bytes t f report (Err m)
     unfolding cut_short
-    not_cut = rw (← s, ← n, le-ltb (length report) (start + count) d)
+    found_short d = record { is = w ∙ own; fits = rw (← s, ← n, lt-ltb (length report) (start + count) d) }
 
-    shaped : (b : Bool) → b ≡ bits (slice report start count) → b ≡ not (cut_short (module_of bytes t) f report) && has_shape (function_of bytes t f) (marks_in bytes t f report)
-    shaped b e = e ∙ rw (not_cut, shape_is)
+    pub found_whole : start + count ≤ length report → true ≡ bits (slice report from (to - from)) → MarksFound bytes t f report (Ok m)
+    found_whole d e = record { is = w ∙ own; fits = shaped true d e }
 
-    same : start + count - start ≡ count
-    same = omega arith
-
-    pub found_whole : {m : Bor (List ℕ)} → m.now ≡ slice report start (start + count - start) → true ≡ bits (slice report start (start + count - start)) → MarksFound bytes t f report (Some m)
-    found_whole w e = record { is = w ∙ rw same own; fits = shaped true (rw same at e) }
-
-    pub found_other : false ≡ bits (slice report start (start + count - start)) → MarksFound bytes t f report None
-    found_other e = record { is = tt; fits = shaped false (rw same at e) }
+    pub found_other : start + count ≤ length report → false ≡ bits (slice report from (to - from)) → MarksFound bytes t f report (Err m)
+    found_other d e = record { is = w ∙ own; fits = shaped false d e }

@@ -1,5 +1,5 @@
 -- Where the marks of a function and of its statements stand, as the code says it.
-use Rattle.std.specs.Prelude.{ℕ, ◌<◌, ◌≤◌, ◌≡◌, not, ◌&&◌, List, length, get_or, Option, IfSome, is_some}
+use Rattle.std.specs.Prelude.{ℕ, ◌<◌, ◌≤◌, ◌≡◌, not, ◌&&◌, List, length, get_or, Result, MatchResult, is_ok}
 use Rattle.std.specs.Borrow.{Bor}
 use Rattle.module.specs.Module.{Statement}
 use Rattle.module.specs.Marks.{marks_before}
@@ -18,7 +18,7 @@ pub record Firsts (ss : List Statement) (firsts : List ℕ) : Type 0 where
 abbrev pub marks_in : (bytes t : List ℕ) (f : ℕ) (report : List ℕ) → List ℕ
 marks_in bytes t f report = slice report (start_of (module_of bytes t) f) (stretch (module_of bytes t) f)
 
--- What is found is the function's stretch, where the whole of it is there and has the function's shape; else nothing is.
-pub record MarksFound (bytes t : List ℕ) (f : ℕ) (report : List ℕ) (r : Option (Bor (List ℕ))) : Type 0 where
-  pub is : IfSome r (λ m. m.now ≡ marks_in bytes t f report)
-  pub fits : is_some r ≡ not (cut_short (module_of bytes t) f report) && has_shape (function_of bytes t f) (marks_in bytes t f report)
+-- The answer is what the function's stretch has in the buffer, and it is well where the whole stretch is there and has the function's shape.
+pub record MarksFound (bytes t : List ℕ) (f : ℕ) (report : List ℕ) (r : Result (Bor (List ℕ)) (Bor (List ℕ))) : Type 0 where
+  pub is : MatchResult r (λ m. m.now ≡ marks_in bytes t f report) (λ m. m.now ≡ marks_in bytes t f report)
+  pub fits : is_ok r ≡ not (cut_short (module_of bytes t) f report) && has_shape (function_of bytes t f) (marks_in bytes t f report)

@@ -49,22 +49,27 @@ fn are_bits(marks: &[u8]) -> bool
     true
 }
 
-// The function's part of the buffer, where the whole of it is there and the marks have the function's shape.
+// The function's part of the buffer, as far as it is there: well where the whole of it is and the marks have the function's shape.
 pub fn marks_shape<'a>(
     bytes: &[u8],
     t: &[u32],
     f: FunctionHandle,
     report: &'a [u8],
-) -> Option<&'a [u8]>
+) -> Result<&'a [u8], &'a [u8]>
     requires { There bytes.now t.now f.0 }
     ensures { MarksFound bytes.now t.now f.0 report.now result }
 {
     let start = marks_start(bytes, t, f) as usize;
-    let count = mark_total(bytes, t, f) as usize;
-    let end = start + count;
+    let end = start + mark_total(bytes, t, f) as usize;
+    let from = start.min(report.len());
+    let to = end.min(report.len());
+    let marks = &report[from..to];
     if report.len() < end {
-        return None;
+        return Err(marks);
     }
-    let marks = &report[start..end];
-    if are_bits(marks) { Some(marks) } else { None }
+    if are_bits(marks) {
+        Ok(marks)
+    } else {
+        Err(marks)
+    }
 }

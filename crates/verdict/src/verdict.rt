@@ -74,7 +74,7 @@ fn check_report(
     requires { Asked bytes.now t.now f.0 rows.old alike.old held.old paths.old firsts.old cells.old roots.old path.old globals value }
     ensures { ReportChecked (module_of bytes.now t.now) cells.old f.0 globals value report.now context.now result }
 {
-    let Some(marks) = marks_shape(bytes, t, f, report) else {
+    let Ok(marks) = marks_shape(bytes, t, f, report) else {
         return REFUSAL * 21;
     };
     let n = types(t) as usize;
