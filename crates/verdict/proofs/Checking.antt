@@ -6,7 +6,7 @@ use mathlib.Core.Bool.{Bool, true, false, not, ◌&&◌}
 use mathlib.Core.List.{List, []}
 use mathlib.Core.Option.{Option, some, none as nothing}
 use lib.ListN.{length, take, length-take}
-use Rattle.std.specs.Prelude.{Option as Found, Some, None, IfSome, is_some}
+use Rattle.std.specs.Prelude.{Result, Ok, Err, MatchResult, is_ok}
 use Rattle.std.specs.Borrow.{Bor}
 use Rattle.field.specs.Limits.{max_types, max_expressions}
 use Rattle.part.proofs.Equations.{never}
@@ -162,7 +162,7 @@ module _ {bytes t : List ℕ} {f : ℕ} {rows alike held paths firsts s rs path 
     stored = A.stored;
   }
 
-  module _ (report context : List ℕ) {r : Found (Bor (List ℕ))} (D : MarksFound bytes t f report r) where
+  module _ (report context : List ℕ) {r : Result (Bor (List ℕ)) (Bor (List ℕ))} (D : MarksFound bytes t f report r) where
     abbrev marks : List ℕ
     marks = marks_in bytes t f report
 
@@ -172,9 +172,9 @@ module _ {bytes t : List ℕ} {f : ℕ} {rows alike held paths firsts s rs path 
     unshaped false true ha hb h c = never (sym h)
     unshaped false false ha hb h c = rw ha (rw same_scope (checked-unshaped (scope_at bytes t f) (asked_by s g v) (reported marks c) hb))
 
-    pub refused_21 : r ≡ None → ReportChecked (module_of bytes t) s f g v report context (refusal_unit * 21)
+    pub refused_21 : {x : Bor (List ℕ)} → r ≡ Err x → ReportChecked (module_of bytes t) s f g v report context (refusal_unit * 21)
     unfolding check_word
-    refused_21 h = record { is = λ c e. rw (unshaped _ _ refl refl (sym D.fits ∙ ap is_some h) c) }
+    refused_21 h = record { is = λ c e. rw (unshaped _ _ refl refl (sym D.fits ∙ ap is_ok h) c) }
 
     shaped : (a b : Bool) → cut_short (module_of bytes t) f report ≡ a → has_shape (function_of bytes t f) marks ≡ b → not a && b ≡ true → (c : RequiredContext) →
         answer_to (on_buffer (module_of bytes t) report (asks_by s f g v) c) ≡ judge_by (scope_at bytes t f) (asked_by s g v) (reported marks c) (blamed_expression (scope_at bytes t f)) (blamed_statement (scope_at bytes t f) (body (scope_at bytes t f) (reported marks c)))
@@ -183,10 +183,10 @@ module _ {bytes t : List ℕ} {f : ℕ} {rows alike held paths firsts s rs path 
     shaped false false ha hb h c = never h
     shaped false true ha hb h c = rw ha (rw same_scope (checked-shaped (scope_at bytes t f) (asked_by s g v) (reported marks c) hb))
 
-    pub report-checked : {w : ℕ} {x : Bor (List ℕ)} → r ≡ Some x → MarksChecked bytes t f s g v x.now context w → ReportChecked (module_of bytes t) s f g v report context w
+    pub report-checked : {w : ℕ} {x : Bor (List ℕ)} → r ≡ Ok x → MarksChecked bytes t f s g v x.now context w → ReportChecked (module_of bytes t) s f g v report context w
     report-checked {x = x} h C =
-        let same : x.now ≡ marks = subst (λ (o : Found (Bor (List ℕ))). IfSome o (λ m. m.now ≡ marks)) h D.is in
-        record { is = λ c e. rw same at (C.is c e) ∙ ap check_word (sym (shaped _ _ refl refl (sym D.fits ∙ ap is_some h) c)) }
+        let same : x.now ≡ marks = subst (λ (o : Result (Bor (List ℕ)) (Bor (List ℕ))). MatchResult o (λ m. m.now ≡ marks) (λ m. m.now ≡ marks)) h D.is in
+        record { is = λ c e. rw same at (C.is c e) ∙ ap check_word (sym (shaped _ _ refl refl (sym D.fits ∙ ap is_ok h) c)) }
 
 -- The whole
 

@@ -32,4 +32,4 @@ check_marks-requires c =
 
 pub returns : goal.returns
 returns c =
-    report-checked c.requires c.args.report.now c.args.context.now c.marks_shape.ensures c.in-Some.is c.check_marks.ensures
+    report-checked c.requires c.args.report.now c.args.context.now c.marks_shape.ensures c.in-Ok.is c.check_marks.ensures
