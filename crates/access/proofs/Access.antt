@@ -1,12 +1,9 @@
 -- What stands at a handle by the tables is what the module has there: its lists are given by number (`tab`), so that a number in
 -- range gives its element; then what each accessor has read, put together.
 use mathlib.Core.Path.{◌≡◌, sym, ap, ◌∙◌}
-use mathlib.Core.Bool.{cond}
 use mathlib.Core.List.{List}
 use mathlib.Core.Option.{Option, some, none as nothing}
-use Prim.Native.Nat.{ℕ, ◌+◌, ◌-◌, ◌<◌}
-use native.Mathlib.Numerals.{add-one}
-use lib.Dec.{eqb}
+use Prim.Native.Nat.{ℕ, ◌+◌, ◌<◌}
 use lib.ListN.{length, get_or}
 use Rattle.field.specs.Limits.{absent}
 use Rattle.module.specs.declared.tables.Row.{Row}
@@ -18,7 +15,11 @@ use Rattle.module.specs.Reading.{range_of, closed}
 use Rattle.module.specs.Tables.{word, row_at, head_at, items_at, starts_of, locals_from, expressions_from, open_of, function_of, module_of}
 use Rattle.module.proofs.Tab.{length-tab, get_d_tab}
 use Rattle.access.specs.declared.kinded.Kinded.{Kinded}
-use Rattle.access.specs.Access.{global_at, argument_at, local_at, typed_at, statement_at, range_at, operand_at, expression_row, statement_row}
+use Rattle.std.specs.Prelude.{Option as Optional}
+use Rattle.std.proofs.lemmas.Bool.{ne_eqb}
+use borrow.Author.Tests.{eq-eqb}
+use Rattle.access.specs.Access.{global_at, argument_at, local_at, typed_at, statement_at, range_at, operand_at, number_in, expression_row, statement_row}
+use Rattle.access.proofs.Optional.{absent_of, given_of}
 
 module _ (bytes t : List ℕ) where
   pub global_is : (g d : ℕ) → g < length (module_of bytes t).globals → get_or (module_of bytes t).globals g d ≡ global_at bytes t g
@@ -110,13 +111,19 @@ module _ (t : List ℕ) (f : ℕ) (r : Row) (h : r ≡ row_at t f) where
   unfolding range_at
   block_read b first count is = rw (is.is_first, is.is_count, h)
 
-  pub result_read : (bytes : List ℕ) (a b : ℕ) → a ≡ get_or (body_at bytes r.offset) 1 0 → b ≡ get_or (body_at bytes r.offset) 2 0 → ◌≡◌ {A = Option FunctionResult} (cond (eqb a absent) nothing (some (record { type = a; binding = option_of b }))) (function_of bytes t f).result
+  pub result_none : (bytes : List ℕ) (a : ℕ) → a ≡ get_or (body_at bytes r.offset) 1 0 → ◌≡◌ {A = Option ℕ} nothing (option_of a) → nothing ≡ (function_of bytes t f).result
   unfolding function_of closed open_of result_of
-  result_read bytes a b p q = rw (p, q, h)
+  result_none bytes a p e = let z : a ≡ absent = absent_of a e in rw (← h, ← p, eq-eqb a absent z)
 
-  pub argument_read : (bytes : List ℕ) (i o a b : ℕ) → o ≡ word t (items_at + (r.items + i)) → a ≡ get_or (body_at bytes o) 0 0 → b ≡ get_or (body_at bytes o) 1 0 → ◌≡◌ {A = FunctionArg} (record { type = a; binding = option_of b }) (argument_at bytes t f i)
+  pub result_some : (bytes : List ℕ) (a b : ℕ) (o : Optional ℕ) {k : ℕ} → a ≡ get_or (body_at bytes r.offset) 1 0 → ◌≡◌ {A = Option ℕ} (some k) (option_of a) → b ≡ get_or (body_at bytes r.offset) 2 0 → number_in o ≡ option_of b → ◌≡◌ {A = Option FunctionResult} (some (record { type = k; binding = number_in o })) (function_of bytes t f).result
+  unfolding function_of closed open_of result_of
+  result_some bytes a b o p e q n =
+      let z = given_of a e in
+      rw (← h, ← p, ne_eqb a absent z.1, z.0, n, q)
+
+  pub argument_read : (bytes : List ℕ) (i at a b : ℕ) (o : Optional ℕ) → at ≡ word t (items_at + (r.items + i)) → a ≡ get_or (body_at bytes at) 0 0 → b ≡ get_or (body_at bytes at) 1 0 → number_in o ≡ option_of b → ◌≡◌ {A = FunctionArg} (record { type = a; binding = number_in o }) (argument_at bytes t f i)
   unfolding argument_at arg_of
-  argument_read bytes i o a b p q s = rw (q, s, p, h)
+  argument_read bytes i at a b o p q s n = rw (n, q, s, p, h)
 
   pub local_read : (bytes : List ℕ) (l o a : ℕ) → o ≡ word t (items_at + (locals_from r + l)) → a ≡ get_or (body_at bytes o) 0 0 → a ≡ local_at bytes t f l
   unfolding local_at

@@ -1,2 +1,3 @@
 pub mod Access
 pub mod Laid
+pub mod Optional

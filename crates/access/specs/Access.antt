@@ -1,11 +1,12 @@
 -- What stands at each handle of a module that was read, by the file's bytes and the tables. That the module has it there, where
 -- it has one of that number, is proofs/Access.antt.
-use Rattle.std.specs.Prelude.{ℕ, ◌+◌, cond, List, eqb, get_or}
+use Rattle.std.specs.Prelude.{ℕ, ◌+◌, List, get_or}
 use Rattle.std.proofs.Math.Option.{Option, some, none as nothing}
-use Rattle.field.specs.Limits.{absent}
+use Rattle.std.specs.Prelude.{Option as Optional, Some, None}
+use Rattle.module.specs.declared.handles.ExpressionHandle.{ExpressionHandle as Handle}
 use Rattle.module.specs.Module.{TypeHandle, GlobalHandle, LocalHandle, FunctionHandle, ExpressionHandle, BlockHandle, Statement, Typed, BlockRange, FunctionArg, FunctionResult}
 use Rattle.module.specs.Record.{body_at}
-use Rattle.module.specs.Decode.{option_of, arg_of, typed_of, st_of}
+use Rattle.module.specs.Decode.{arg_of, typed_of, st_of}
 use Rattle.module.specs.Reading.{range_of}
 use Rattle.module.specs.Tables.{word, row_at, items_at, starts_of, locals_from, expressions_from, statements_from, global_body, item_body}
 use Rattle.access.specs.declared.kinded.Kinded.{Kinded}
@@ -41,6 +42,16 @@ range_at t f b = range_of (starts_of t (row_at t f)) (row_at t f).statements b
 abbrev pub operand_at : List ℕ → Kinded → ℕ → ℕ
 operand_at bytes r j = get_or (body_at bytes r.offset) (r.before + j) 0
 
+-- a number that may be left out
+abbrev pub number_in : Optional ℕ → Option ℕ
+number_in None = nothing
+number_in (Some n) = some n
+
+-- the number of an expression that may be left out
+unfoldable pub handle_in : Optional Handle → Option ExpressionHandle
+handle_in None = nothing
+handle_in (Some e) = some e.0
+
 -- a record whose field `before - 1` is its kind
 abbrev pub kinded_at : List ℕ → ℕ → ℕ → ℕ → Kinded
 kinded_at bytes offset j before = record { kind = get_or (body_at bytes offset) j 0; offset = offset; before = before }
@@ -53,10 +64,11 @@ statement_row bytes t f s = kinded_at bytes (word t (items_at + statement_number
 
 -- A type with its binding, as an argument and a result.
 abbrev pub arg_from : Bound → FunctionArg
-arg_from r = record { type = r.ty.0; binding = option_of r.binding }
+arg_from r = record { type = r.ty.0; binding = number_in r.binding }
 
-abbrev pub result_from : Bound → Option FunctionResult
-result_from r = cond (eqb r.ty.0 absent) nothing (some (record { type = r.ty.0; binding = option_of r.binding }))
+abbrev pub result_from : Optional Bound → Option FunctionResult
+result_from None = nothing
+result_from (Some r) = some (record { type = r.ty.0; binding = number_in r.binding })
 
 abbrev pub range_from : declared.BlockRange → BlockRange
 range_from r = record { first = r.first; count = r.count }

@@ -3,7 +3,7 @@ ghost use Rattle.std.specs.Prelude.{◌≡◌, List, ℕ, pred, length};
 ghost use Rattle.module.specs.Tables.{function_of};
 ghost use Rattle.access.specs.Access.{argument_at, local_at, typed_at, range_at, arg_from, result_from, range_from};
 
-use crate::whole::Bound;
+use crate::whole::{Bound, unless_absent};
 use module::access::{BlockRange, block_range};
 use module::handles::{BlockHandle, ExpressionHandle, FunctionHandle, LocalHandle, TypeHandle};
 use module::record::body;
@@ -52,15 +52,17 @@ pub fn body_block(t: &[u32], f: FunctionHandle) -> BlockHandle
     BlockHandle(blocks(t, f).saturating_sub(1))
 }
 
-// The result, whose type is absent where the function has none.
-pub fn result(bytes: &[u8], t: &[u32], f: FunctionHandle) -> Bound
+// The result, where the function has one.
+pub fn result(bytes: &[u8], t: &[u32], f: FunctionHandle) -> Option<Bound>
     ensures { result_from result ≡ (function_of bytes.now t.now f.0).result }
 {
     let row = row_at(t, f.0);
-    Bound {
-        ty: TypeHandle(body(bytes, row.offset, 1) as u32),
-        binding: body(bytes, row.offset, 2),
-    }
+    let ty = unless_absent(body(bytes, row.offset, 1) as u32)?;
+    let binding = unless_absent(body(bytes, row.offset, 2) as u32);
+    Some(Bound {
+        ty: TypeHandle(ty),
+        binding,
+    })
 }
 
 pub fn argument(bytes: &[u8], t: &[u32], f: FunctionHandle, i: u32) -> Bound
@@ -68,10 +70,9 @@ pub fn argument(bytes: &[u8], t: &[u32], f: FunctionHandle, i: u32) -> Bound
 {
     let row = row_at(t, f.0);
     let offset = word(t, ITEMS + ((row.items as usize) + (i as usize)));
-    Bound {
-        ty: TypeHandle(body(bytes, offset, 0) as u32),
-        binding: body(bytes, offset, 1),
-    }
+    let ty = TypeHandle(body(bytes, offset, 0) as u32);
+    let binding = unless_absent(body(bytes, offset, 1) as u32);
+    Bound { ty, binding }
 }
 
 pub fn local(bytes: &[u8], t: &[u32], f: FunctionHandle, l: LocalHandle) -> TypeHandle

@@ -1,7 +1,9 @@
 // Records that have a kind: expressions, statements. Their operands are asked for by number.
 ghost use Rattle.std.specs.Prelude.{◌≡◌, ◌<◌};
-ghost use Rattle.access.specs.Access.{operand_at, expression_number, expression_row, statement_row};
+ghost use Rattle.module.specs.Decode.{option_of};
+ghost use Rattle.access.specs.Access.{operand_at, handle_in, expression_number, expression_row, statement_row};
 
+use field::limits::ABSENT;
 use module::handles::{BlockHandle, ExpressionHandle, FunctionHandle, GlobalHandle, LocalHandle};
 use module::record::body;
 use module::tables::{ITEMS, row_at, word};
@@ -21,12 +23,23 @@ pub fn operand(bytes: &[u8], row: Kinded, j: u16) -> u16
     body(bytes, row.offset, (row.before as u32) + (j as u32))
 }
 
-// The same as the handle that it is. An operand that may be absent has the number 65535 then.
+// The same as the handle that it is.
 // Stays: a function for each handle. One over a type parameter asks for a From of each handle, which is longer, and says no more.
 pub fn expression_operand(bytes: &[u8], row: Kinded, j: u16) -> ExpressionHandle
     ensures { result.0 ≡ operand_at bytes.now row j }
 {
     ExpressionHandle(operand(bytes, row, j) as u32)
+}
+
+// An expression that a file may leave out.
+pub fn optional_expression(bytes: &[u8], row: Kinded, j: u16) -> Option<ExpressionHandle>
+    ensures { handle_in result ≡ option_of (operand_at bytes.now row j) }
+{
+    let number = operand(bytes, row, j);
+    if number == ABSENT {
+        return None;
+    }
+    Some(ExpressionHandle(number as u32))
 }
 
 pub fn global_operand(bytes: &[u8], row: Kinded, j: u16) -> GlobalHandle
@@ -70,7 +83,7 @@ pub fn expression(bytes: &[u8], t: &[u32], f: FunctionHandle, e: ExpressionHandl
     let offset = word(t, ITEMS + (row.expressions_from() + (e.0 as usize)));
     Kinded {
         kind: body(bytes, offset, 1),
-        offset: offset,
+        offset,
         before: 2,
     }
 }
@@ -82,7 +95,7 @@ pub fn statement(bytes: &[u8], t: &[u32], f: FunctionHandle, s: u32) -> Kinded
     let offset = word(t, ITEMS + (row.statements_from() + (s as usize)));
     Kinded {
         kind: body(bytes, offset, 0),
-        offset: offset,
+        offset,
         before: 1,
     }
 }

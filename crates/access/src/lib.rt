@@ -3,5 +3,4 @@
 
 pub mod function;
 pub mod kinded;
-pub mod kinds;
 pub mod whole;

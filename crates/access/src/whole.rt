@@ -1,17 +1,29 @@
 // The whole module: how many of each it has, and the types of globals.
 ghost use Rattle.std.specs.Prelude.{◌≡◌, List, ℕ, length};
+ghost use Rattle.module.specs.Decode.{option_of};
 ghost use Rattle.module.specs.Tables.{module_of};
-ghost use Rattle.access.specs.Access.{global_at};
+ghost use Rattle.access.specs.Access.{global_at, number_in};
 
+use field::limits::ABSENT;
 use module::access::global_type;
 use module::handles::{GlobalHandle, TypeHandle};
 use module::tables::{HEAD, word};
 
-// A type and a binding, 65535 where it is absent.
+// A type, and the binding of what has it, where that has one.
 #[derive(Clone, Copy, Debug, PartialEq, Eq)]
 pub struct Bound {
     pub ty: TypeHandle,
-    pub binding: u16,
+    pub binding: Option<u32>,
+}
+
+// A number that a file may leave out, by its field.
+pub fn unless_absent(number: u32) -> Option<u32>
+    ensures { number_in result ≡ option_of number }
+{
+    if number == ABSENT as u32 {
+        return None;
+    }
+    Some(number)
 }
 
 pub fn types(t: &[u32]) -> u32

@@ -18,7 +18,7 @@ use Rattle.hold.specs.Hold.{in_slot}
 use Rattle.standing.specs.Slots.{Ready}
 use Rattle.standing.specs.Standing.{setting_of, Targets, Walked, Noted, inside}
 use Rattle.standing.specs.declared.passing.Passing.{Passing}
-use Rattle.standing.specs.declared.passing.Exits.{Exits}
+use Rattle.standing.specs.Exits.{Exits}
 use Rattle.standing.proofs.Walks.{walked_full, walked_nop, walked_seq}
 use Rattle.judge.specs.Given.{scope_at}
 use Rattle.acts.specs.Marks.{PassGiven, ByMark, EmitsPassed}

@@ -17,7 +17,7 @@ use Rattle.quiet.specs.Acts.{Needing, Idle}
 use Rattle.standing.specs.Slots.{Ready}
 use Rattle.standing.specs.Standing.{Targets, Walked, Stepped, Blames, inside, step}
 use Rattle.standing.specs.declared.passing.Passing.{Passing}
-use Rattle.standing.specs.declared.passing.Exits.{Exits}
+use Rattle.standing.specs.Exits.{Exits}
 use Rattle.standing.proofs.Walks.{walked_step, step-full}
 use Rattle.standing.proofs.Taken.{walked_obeys, broken_full, walked_broken}
 use Rattle.ends.proofs.Merges.{act-closed}

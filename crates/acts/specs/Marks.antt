@@ -9,7 +9,7 @@ use Rattle.standing.specs.Slots.{Ready}
 use Rattle.standing.specs.Standing.{Targets, inside, Walked}
 use Rattle.standing.specs.World.{World}
 use Rattle.standing.specs.declared.passing.Passing.{Passing}
-use Rattle.standing.specs.declared.passing.Exits.{Exits}
+use Rattle.standing.specs.Exits.{Exits}
 
 -- the statement l; a copy of the needs at hand takes one slot more than an act
 pub record PassGiven (bytes t : List ℕ) (f : ℕ) (types alike paths s rs path : List ℕ) (n : ℕ) (p : Passing) (l : ℕ) : Type 0 where

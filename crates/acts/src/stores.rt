@@ -1,11 +1,10 @@
 // A store: what is needed of the place that it names for sure is taken out and asked of the value. With a dynamic index nothing is taken out, and value and indexes are asked whole.
-ghost use Rattle.std.specs.Prelude.{[], ◌∷◌, map, ◌-◌, ◌≤◌, length};
+ghost use Rattle.std.specs.Prelude.{[], ◌∷◌, map, ◌-◌};
 ghost use Rattle.clearance.specs.Shape.{below};
 ghost use Rattle.clearance.specs.Tree.{store};
 ghost use Rattle.clearance.specs.Needs.{of_value, ask_whole, without};
 ghost use Rattle.judge.specs.Given.{scope_at};
 ghost use Rattle.hold.specs.Hold.{in_slot};
-ghost use Rattle.place.specs.Target.{part};
 ghost use Rattle.place.specs.Steps.{indexes_of};
 ghost use Rattle.standing.specs.Standing.{Stepped};
 ghost use Rattle.acts.specs.Acts.{ActGiven, StoreOf, leaving, Acted, PlaceGiven, SomewhereGiven};
@@ -21,7 +20,7 @@ use place::target::find_target;
 use quiet::acts::{is_some, store_idle, store_overlap};
 use standing::passing::{Passing, filled};
 
-// A store to the place path[from..to], of which the piece a is needed.
+// A store to a place of which the piece a is needed.
 fn store_at(
     bytes: &[u8],
     t: &[u32],
@@ -30,19 +29,16 @@ fn store_at(
     cells: &mut [u32],
     roots: &mut [u32],
     n: usize,
-    path: &[u32],
-    from: usize,
-    to: usize,
+    place: &[u32],
     a: u32,
     v: ExpressionHandle,
 ) -> bool
-    requires place_given { PlaceGiven bytes.now t.now f.0 types.now cells.old roots.old n (part path.now from to) a v.0 }
-    requires from_le_to { (from ≤ to) × (to ≤ length path.now) }
-    ensures { Stepped (scope_at bytes.now t.now f.0) (leaving (scope_at bytes.now t.now f.0) (without (scope_at bytes.now t.now f.0) (part path.now from to) (in_slot cells.old roots.old (n - 1))) (of_value v.0 (below (in_slot cells.old roots.old (n - 1)) (part path.now from to)) ∷ [])) cells.old roots.old n cells.new roots.new result }
+    requires { PlaceGiven bytes.now t.now f.0 types.now cells.old roots.old n place.now a v.0 }
+    ensures { Stepped (scope_at bytes.now t.now f.0) (leaving (scope_at bytes.now t.now f.0) (without (scope_at bytes.now t.now f.0) place.now (in_slot cells.old roots.old (n - 1))) (of_value v.0 (below (in_slot cells.old roots.old (n - 1)) place.now) ∷ [])) cells.old roots.old n cells.new roots.new result }
 {
     let last = n - 1;
     let left = n + 1;
-    if !take_out(bytes, t, f, types, cells, roots, n, &path[from..to], a) {
+    if !take_out(bytes, t, f, types, cells, roots, n, place, a) {
         return false;
     }
     let part = roots[n];
@@ -107,20 +103,8 @@ pub fn act_store(
     if target.dynamic {
         return store_somewhere(bytes, t, f, cells, roots, n, p, v);
     }
-    store_at(
-        bytes,
-        t,
-        f,
-        types,
-        cells,
-        roots,
-        n,
-        path,
-        target.from,
-        target.to,
-        a,
-        v,
-    )
+    let place = &path[target.from..target.to];
+    store_at(bytes, t, f, types, cells, roots, n, place, a, v)
 }
 
 // The statement l, a store of the value v to the pointer a, in a pass.

@@ -2,8 +2,7 @@
 use mathlib.Core.Path.{◌≡◌, sym, ap, subst, ◌∙◌}
 use mathlib.Core.Bool.{Bool}
 use mathlib.Core.List.{List}
-use Prim.Native.Nat.{ℕ, ◌<◌, ◌≤◌}
-use native.Mathlib.Omega.{arith}
+use Prim.Native.Nat.{ℕ, ◌≤◌}
 use Rattle.std.specs.Prelude.{Result, Ok, Err}
 use Rattle.module.specs.Module.{Module, BlockHandle}
 use Rattle.module.specs.Decode.{tab, option_of, case_of, statement_of}
@@ -36,12 +35,6 @@ use Rattle.arms.specs.Emit.{EmitAsked, EmitEnds}
 use Rattle.arms.specs.Visit.{MarkAsked, MarkEnds}
 
 -- the kinds of those that hold blocks
-pub holder_kind : (k : ℕ) → (k ≡ 0 → ⊥) → k < 5 → (1 ≤ k) × (k ≤ 4)
-holder_kind k n l = (omega arith, omega arith)
-
-pub loop_kind : (k : ℕ) → (1 ≤ k) × (k ≤ 4) → (k ≡ 1 → ⊥) → (k ≡ 2 → ⊥) → (k ≡ 3 → ⊥) → k ≡ 4
-loop_kind k h one two three = omega (arith, h.0, h.1)
-
 module _ {bytes t types places s rs open_marks totals : List ℕ} {fr : Frame} {b : BlockHandle} {row : Kinded} {sum visits : ℕ} (A : Arms bytes t types places s rs open_marks totals fr b row sum visits) where
   abbrev m : Module
   m = module_of bytes t

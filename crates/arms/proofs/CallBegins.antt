@@ -136,7 +136,7 @@ module _ {bytes t places s rs open_marks : List ℕ} {fr : Frame} {row : Kinded}
   pub begin_held : fr.held + sum_from (read s rs) at 4 + own_in t s rs f ≤ max_pieces
   begin_held = omega (arith, context_pieces (read s rs) at, few, own-pieces, own_few)
 
-  module _ {n d : ℕ} (count : n ≡ operand_at bytes row 1) (field : d ≡ operand_at bytes row (2 + n)) where
+  module _ {n : ℕ} {d : Option ℕ} (count : n ≡ operand_at bytes row 1) (field : d ≡ option_of (operand_at bytes row (2 + n))) where
     pub begin_loads : Loading bytes t s rs fr d
     begin_loads = record {
       sum = sum;
@@ -144,7 +144,7 @@ module _ {bytes t places s rs open_marks : List ℕ} {fr : Frame} {row : Kinded}
       below = rw (field, count) (result_there (arm_row q.arms q.kind));
     }
 
-    module _ (found : Found ℕ) (got : Got s (record_of records (option_of d)) found) where
+    module _ (found : Found ℕ) (got : Got s (record_of records d) found) where
       pub begin_asks : Asking s found
       begin_asks = record { good = ready.memory.good; piece = got_piece s _ found got; roomy = omega (arith, q.arms.begins.begun.roomy) }
 

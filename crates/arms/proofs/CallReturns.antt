@@ -208,7 +208,7 @@ module _ {bytes t places s rs open_marks : List ℕ} {fr : Frame} {row : Kinded}
         by = sym (then_halt (λ ended req. went (with_marks (write_marks ended.marks (marks_before (function_at def f).statements fr.statement) (own_marks req)) ended) (required req)) (sym E.by));
       }
 
-    module _ {n d : ℕ} (count : n ≡ operand_at bytes row 1) (field : d ≡ operand_at bytes row (2 + n)) (found : Option ℕ) (got : Got s (record_of (records_in t exprs_slot f (read s rs)) (option_of d)) found)
+    module _ {n : ℕ} {d : _} (count : n ≡ operand_at bytes row 1) (field : d ≡ option_of (operand_at bytes row (2 + n))) (found : Option ℕ) (got : Got s (record_of (records_in t exprs_slot f (read s rs)) d) found)
         {vs : List ℕ} (slots : vs ≡ aside_slots rs result found) where
       need-is : found_part s found ≡ need
       need-is = sym (got_part s _ found got) ∙ rw (field, count)
@@ -251,7 +251,7 @@ module _ {bytes t places s rs open_marks : List ℕ} {fr : Frame} {row : Kinded}
                 (E.by (context_at (read s rs) fr.base) rest (S.totals-sum ∙ sym in_slot.totals_same)));
           })
 
-    pub return_loads : {n d : ℕ} → n ≡ operand_at bytes row 1 → d ≡ operand_at bytes row (2 + n) → Loading bytes t s rs fr d
+    pub return_loads : {n : ℕ} {d : _} → n ≡ operand_at bytes row 1 → d ≡ option_of (operand_at bytes row (2 + n)) → Loading bytes t s rs fr d
     return_loads count field = record {
       sum = sum;
       ready = ready;

@@ -8,7 +8,8 @@ use mathlib.Core.List.{List}
 use lib.ListN.{length}
 use Rattle.std.specs.Prelude.{Result, Ok, Err}
 use Rattle.field.specs.Limits.{max_pieces, max_turns}
-use Rattle.module.specs.Module.{Module, BlockHandle}
+use mathlib.Core.Option.{Option}
+use Rattle.module.specs.Module.{Module, ExpressionHandle, BlockHandle}
 use Rattle.module.specs.Decode.{option_of, statement_of}
 use Rattle.module.specs.Tables.{module_of}
 use Rattle.access.specs.Access.{operand_at}
@@ -188,20 +189,20 @@ module _ {bytes t types places s rs open_marks totals : List ℕ} {fr : Frame} {
               })
 
           -- required
-          module _ {z : ℕ} (break-if : z ≡ o 2) where
+          module _ {z : Option ExpressionHandle} (break-if : z ≡ option_of (o 2)) where
             pub loop_passing : Passing bytes t u us fr z tally.sum tally.visits
             loop_passing = record { types = types; places = places; open_marks = open-1; totals = totals-1; branched = branched; there = rw break-if breaks }
 
             module _ (required : c ≡ true) {q : Result Tally Halt} {v vs : List ℕ} (K : PassEnds bytes t u us fr z tally.sum tally.visits q v vs) where
               abbrev Pass : Out RequiredContext
-              Pass = end_pass m (frame_of u us fr) (option_of z) (context_at (read u us) fr.at) first continued
+              Pass = end_pass m (frame_of u us fr) z (context_at (read u us) fr.at) first continued
 
               pass_is : Pass ≡ end_pass m (frame_of s rs fr) (option_of (o 2)) before first continued
               pass_is =
-                  ap (λ (g : walk.Frame). end_pass m g (option_of z) (context_at (read u us) fr.at) first continued)
+                  ap (λ (g : walk.Frame). end_pass m g z (context_at (read u us) fr.at) first continued)
                   (frame_same fr A.begins.begun.base_low A.begins.begun.base_below (beside_fewer fr.at (omega arith) went_on.beside))
-                  ∙ ap (λ (d : RequiredContext). end_pass m (frame_of s rs fr) (option_of z) d first continued) outer_same
-                  ∙ ap (λ (k : ℕ). end_pass m (frame_of s rs fr) (option_of k) before first continued) break-if
+                  ∙ ap (λ (d : RequiredContext). end_pass m (frame_of s rs fr) z d first continued) outer_same
+                  ∙ ap (λ (k : Option ExpressionHandle). end_pass m (frame_of s rs fr) k before first continued) break-if
 
               passing : {p : Result Tally Halt} → q ≡ p → PassEnding bytes t types places u us open-1 totals-1 fr Pass p v vs
               passing e = subst (λ (p : Result Tally Halt). PassEnding bytes t types places u us open-1 totals-1 fr Pass p v vs) e (K.by types places open-1 totals-1 branched)

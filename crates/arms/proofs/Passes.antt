@@ -7,13 +7,14 @@ use mathlib.Core.Bool.{Bool, true, false}
 use mathlib.Core.List.{List}
 use lib.ListN.{length}
 use Rattle.std.specs.Prelude.{Result, Ok, Err}
-use Rattle.field.specs.Limits.{absent, max_pieces}
+use Rattle.field.specs.Limits.{max_pieces}
+use mathlib.Core.Option.{Option, some, none as nothing}
 use Rattle.field.specs.declared.refusal.Refusal.TheVariants.{PartLimit}
 use Rattle.part.specs.PartReq.{PartReq, all}
 use Rattle.part.specs.Store.{Room}
+use Rattle.valid.specs.Valid.{MaybeBelow}
 use Rattle.part.specs.StoreLimits.{entries_cap}
-use Rattle.module.specs.Module.{Module}
-use Rattle.module.specs.Decode.{option_of}
+use Rattle.module.specs.Module.{Module, ExpressionHandle}
 use Rattle.module.specs.Tables.{module_of}
 use Rattle.context.specs.RequiredContext.{RequiredContext, merge_context, over_context, pieces}
 use Rattle.walk.specs.State.{State, Out, went, with_context}
@@ -35,7 +36,7 @@ use Rattle.state.specs.declared.answer.Tally.{Tally}
 use Rattle.state.specs.declared.frame.Frame.{Frame}
 use Rattle.state.specs.declared.answer.Halt.{Halt}
 use Rattle.expression.specs.Walks.{Walks}
-use Rattle.statement.proofs.Asking.{slot_wants, below_there}
+use Rattle.statement.proofs.Asking.{slot_wants}
 use Rattle.block.specs.Standing.{rest_in, state_in, Standing}
 use Rattle.block.specs.Saved.{Joined}
 use Rattle.block.specs.Blocks.{context_in}
@@ -51,23 +52,23 @@ use Rattle.arms.proofs.Unrolled.{pass_halt, pass_over, pass_within, optional_abs
 went-same : {A : Type 0} {st lt : State} {a b : A} → st ≡ lt → a ≡ b → went st a ≡ went lt b
 went-same p q = rw (p, q)
 
-module _ {bytes t s rs : List ℕ} {fr : Frame} {e sum visits : ℕ} (P : Passing bytes t s rs fr e sum visits) where
+module _ {bytes t s rs : List ℕ} {fr : Frame} {break_if : Option ExpressionHandle} {sum visits : ℕ} (P : Passing bytes t s rs fr break_if sum visits) where
   abbrev m : Module
   m = module_of bytes t
 
   abbrev Asks : (open_marks totals : List ℕ) → Out (Unit {0})
   Asks open_marks totals =
-      ask_optional m (holding (context_in s rs (fr.at + 4) + context_in s rs (fr.at + 4 + 4)) (frame_of s rs fr)) (option_of e) all
+      ask_optional m (holding (context_in s rs (fr.at + 4) + context_in s rs (fr.at + 4 + 4)) (frame_of s rs fr)) break_if all
       (state_in bytes t s rs open_marks totals fr.function.0 fr.at visits)
 
   -- the context of the first block is weighed
   pub first_weighs : Memory s rs × ((fr.at + 4 + 4 ≤ length rs) × (sum_from (read s rs) (fr.at + 4) 4 ≤ entries_cap))
   first_weighs = let B = P.branched in (B.standing.ready.memory, (omega (arith, B.standing.ready.high), omega (arith, B.first_few, context_pieces (read s rs) (fr.at + 4))))
 
-  pub break_absent : e ≡ absent → BreakEnds bytes t s rs fr e sum visits (Ok (record { visits = visits; sum = sum })) s rs
+  pub break_absent : break_if ≡ nothing → BreakEnds bytes t s rs fr break_if sum visits (Ok (record { visits = visits; sum = sum })) s rs
   break_absent h = record {
     by = λ types places open_marks totals B.
-        rw (optional_absent m (holding (context_in s rs (fr.at + 4) + context_in s rs (fr.at + 4 + 4)) (frame_of s rs fr)) e all (state_in bytes t s rs open_marks totals fr.function.0 fr.at visits) h)
+        rw (optional_absent m (holding (context_in s rs (fr.at + 4) + context_in s rs (fr.at + 4 + 4)) (frame_of s rs fr)) all (state_in bytes t s rs open_marks totals fr.function.0 fr.at visits) h)
         (record { is = refl; branched = B; first = refl; second = refl; beside = beside_same refl refl });
   }
 
@@ -82,19 +83,19 @@ module _ {bytes t s rs : List ℕ} {fr : Frame} {e sum visits : ℕ} (P : Passin
     break_fits = let B = P.branched in (omega (arith, first_is, second_is, B.first_few, B.second_few), omega (arith, first_is, second_is, B.first_few, B.second_few, B.few))
 
     -- it is asked
-    pub break_asks : (e ≡ absent → ⊥) → {w : Want} → w ≡ want_of 0
+    pub break_asks : {e : ℕ} → break_if ≡ some e → {w : Want} → w ≡ want_of 0
         → Ready bytes t s rs fr.function.0 fr.at (fr.held + (a + b)) sum × ((e < length (function_at m fr.function.0).expressions) × Wants s rs w)
     break_asks h is =
         let B = P.branched in (
           rw (first_is, second_is) (holding_ready fr.at fr.held B.standing B.low),
-          (below_there (length (function_at m fr.function.0).expressions) e h P.there, rw is (slot_wants B.standing.ready.memory 0 (omega arith))),
+          (subst (MaybeBelow (length (function_at m fr.function.0).expressions)) h P.there, rw is (slot_wants B.standing.ready.memory 0 (omega arith))),
         )
 
-    ends : {types places open_marks totals : List ℕ} (B : Branched bytes t types places s rs open_marks totals fr sum visits) (r : Result Tally Halt) {u us : List ℕ}
+    ends : (e : ℕ) {types places open_marks totals : List ℕ} (B : Branched bytes t types places s rs open_marks totals fr sum visits) (r : Result Tally Halt) {u us : List ℕ}
         → Ends bytes t fr.function.0 fr.at (fr.held + (context_in s rs (fr.at + 4) + context_in s rs (fr.at + 4 + 4))) s rs
         (rest_in m t fr.function.0 (read s rs) open_marks totals) (HeldAsks fr.at fr.held B.standing B.low e all) r u us
         → BreakEnding bytes t types places s rs open_marks totals fr (HeldAsks fr.at fr.held B.standing B.low e all) r u us
-    ends B (Ok tally) x =
+    ends e B (Ok tally) x =
         let E = x.by in
         let S = B.standing in
         record {
@@ -113,26 +114,26 @@ module _ {bytes t s rs : List ℕ} {fr : Frame} {e sum visits : ℕ} (P : Passin
           second = held_second fr.at fr.held S B.low e all E;
           beside = held_beside fr.at fr.held S B.low e all E;
         }
-    ends B (Err stop) x = x.by
+    ends e B (Err stop) x = x.by
 
-    pub break_asked : (e ≡ absent → ⊥) → {w : Want} → w ≡ want_of 0 → {r : Result Tally Halt} {u us : List ℕ}
+    pub break_asked : {e : ℕ} → break_if ≡ some e → {w : Want} → w ≡ want_of 0 → {r : Result Tally Halt} {u us : List ℕ}
         → Walks bytes t fr.function.0 fr.at (fr.held + (a + b)) s rs (add_expression m fr.function.0 (fr.held + (a + b)) e (asked s rs w)) visits r u us
-        → BreakEnds bytes t s rs fr e sum visits r u us
-    break_asked h {w} is {r} {u} {us} W = record {
+        → BreakEnds bytes t s rs fr break_if sum visits r u us
+    break_asked {e} h {w} is {r} {u} {us} W = record {
       by = λ types places open_marks totals B.
           let p : asked s rs w ≡ all = ap (λ (x : Want). asked s rs x) is ∙ asked-slot s rs 0 ∙ B.standing.ready.memory.first in
           let W' : Walks bytes t fr.function.0 fr.at (fr.held + (context_in s rs (fr.at + 4) + context_in s rs (fr.at + 4 + 4))) s rs
           (add_expression m fr.function.0 (fr.held + (context_in s rs (fr.at + 4) + context_in s rs (fr.at + 4 + 4))) e all) visits r u us = rw (first_is, second_is, p) at W in
-          rw (optional_there m (holding (context_in s rs (fr.at + 4) + context_in s rs (fr.at + 4 + 4)) (frame_of s rs fr)) e all (state_in bytes t s rs open_marks totals fr.function.0 fr.at visits) h)
-          (ends B r (W'.by (rest_in m t fr.function.0 (read s rs) open_marks totals) B.standing.totals-sum));
+          rw (optional_there m (holding (context_in s rs (fr.at + 4) + context_in s rs (fr.at + 4 + 4)) (frame_of s rs fr)) all (state_in bytes t s rs open_marks totals fr.function.0 fr.at visits) h)
+          (ends e B r (W'.by (rest_in m t fr.function.0 (read s rs) open_marks totals) B.standing.totals-sum));
     }
 
   -- and then the join
-  module _ {r : Result Tally Halt} {u us : List ℕ} (E : BreakEnds bytes t s rs fr e sum visits r u us) where
-    pub pass_halts : {stop : Halt} → r ≡ Err stop → PassEnds bytes t s rs fr e sum visits (Err stop) u us
+  module _ {r : Result Tally Halt} {u us : List ℕ} (E : BreakEnds bytes t s rs fr break_if sum visits r u us) where
+    pub pass_halts : {stop : Halt} → r ≡ Err stop → PassEnds bytes t s rs fr break_if sum visits (Err stop) u us
     pass_halts is = record {
       by = λ types places open_marks totals B.
-          pass_halt m (frame_of s rs fr) (option_of e) (context_at (read s rs) fr.at) (context_at (read s rs) (fr.at + 4))
+          pass_halt m (frame_of s rs fr) break_if (context_at (read s rs) fr.at) (context_at (read s rs) (fr.at + 4))
           (state_in bytes t s rs open_marks totals fr.function.0 (fr.at + 4 + 4) visits)
           (subst (λ (x : Result Tally Halt). BreakEnding bytes t types places s rs open_marks totals fr (Asks open_marks totals) x u us) is (E.by types places open_marks totals B));
     }
@@ -154,11 +155,11 @@ module _ {bytes t s rs : List ℕ} {fr : Frame} {e sum visits : ℕ} (P : Passin
           )
 
       module _ {b : Bool} {x xs : List ℕ} (J : Joined u us (fr.at + 4) b x xs) where
-        pub pass_limit : b ≡ true → PassEnds bytes t s rs fr e sum visits (Err (record { refusal = PartLimit; place = place.Statement fr.function fr.statement })) x xs
+        pub pass_limit : b ≡ true → PassEnds bytes t s rs fr break_if sum visits (Err (record { refusal = PartLimit; place = place.Statement fr.function fr.statement })) x xs
         pass_limit o = record {
           by = λ types places open_marks totals B.
               let K = goes types places open_marks totals B in
-              pass_over m (frame_of s rs fr) (option_of e) (context_at (read s rs) fr.at) (context_at (read s rs) (fr.at + 4))
+              pass_over m (frame_of s rs fr) break_if (context_at (read s rs) fr.at) (context_at (read s rs) (fr.at + 4))
               (state_in bytes t s rs open_marks totals fr.function.0 (fr.at + 4 + 4) visits) K.is (sym o ∙ J.over ∙ ap over_context (rw (K.first, K.second)));
         }
 
@@ -182,7 +183,7 @@ module _ {bytes t s rs : List ℕ} {fr : Frame} {e sum visits : ℕ} (P : Passin
 
           ended : {types places open_marks totals : List ℕ} (B : Branched bytes t types places s rs open_marks totals fr sum visits) {v vs : List ℕ} → Tidied x xs v vs
               → PassEnded bytes t types places s rs open_marks totals fr
-              (end_pass m (frame_of s rs fr) (option_of e) (context_at (read s rs) fr.at) (context_at (read s rs) (fr.at + 4))
+              (end_pass m (frame_of s rs fr) break_if (context_at (read s rs) fr.at) (context_at (read s rs) (fr.at + 4))
               (state_in bytes t s rs open_marks totals fr.function.0 (fr.at + 4 + 4) visits))
               tally.visits tally.sum v vs
           ended {types} {places} {open_marks} {totals} B {v} {vs} T =
@@ -200,7 +201,7 @@ module _ {bytes t s rs : List ℕ} {fr : Frame} {e sum visits : ℕ} (P : Passin
                 is = went-same
                     (tidied_state S T tally.visits ∙ join_state L.standing low J ∙ ap (λ (c : RequiredContext). with_context c (state_in bytes t u us open_marks totals fr.function.0 fr.at tally.visits)) joint)
                     same
-                    ∙ pass_within m (frame_of s rs fr) (option_of e) (context_at (read s rs) fr.at) (context_at (read s rs) (fr.at + 4))
+                    ∙ pass_within m (frame_of s rs fr) break_if (context_at (read s rs) fr.at) (context_at (read s rs) (fr.at + 4))
                     (state_in bytes t s rs open_marks totals fr.function.0 (fr.at + 4 + 4) visits) K.is (sym o ∙ J.over ∙ ap over_context joint);
                 standing = subst (λ (k : ℕ). Standing bytes t types places v vs open_marks totals fr.function.0 (fr.at + 4) k tally.sum tally.visits) n (tidied_standing S T);
                 working_few = omega (arith, ap (λ (ps : List PartReq). pieces (context_at ps (fr.at + 4))) T.same, working L);
@@ -209,5 +210,5 @@ module _ {bytes t s rs : List ℕ} {fr : Frame} {e sum visits : ℕ} (P : Passin
                 beside = beside_then fr.at (beside_then (fr.at + 4) K.beside beside (omega arith)) (beside_same T.long T.same) (le_refl fr.at);
               }
 
-          pub pass_went : {v vs : List ℕ} → Tidied x xs v vs → PassEnds bytes t s rs fr e sum visits (Ok tally) v vs
+          pub pass_went : {v vs : List ℕ} → Tidied x xs v vs → PassEnds bytes t s rs fr break_if sum visits (Ok tally) v vs
           pass_went T = record { by = λ types places open_marks totals B. ended B T }

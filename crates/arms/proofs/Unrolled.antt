@@ -4,12 +4,10 @@ use Prim.Native.Nat.{ℕ, zero, suc, ◌+◌}
 use mathlib.Core.Path.{◌≡◌, refl, sym, ◌∙◌}
 use mathlib.Core.Bool.{Bool, true, false, ◌||◌}
 use mathlib.Core.List.{List}
-use mathlib.Core.Option.{Option}
-use Rattle.field.specs.Limits.{absent, max_turns}
-use borrow.Author.Tests.{eq-eqb, ne_eqb}
+use mathlib.Core.Option.{Option, some, none as nothing}
+use Rattle.field.specs.Limits.{max_turns}
 use Rattle.part.specs.PartReq.{PartReq, all}
 use Rattle.module.specs.Module.{Module, ExpressionHandle, FunctionHandle, BlockHandle}
-use Rattle.module.specs.Decode.{option_of}
 use Rattle.context.specs.RequiredContext.{RequiredContext, merge_context, contains_context, pieces}
 use Rattle.context.specs.RequiredContext as context
 use Rattle.walk.specs.State.{State, Place, Out, went, halt, ◌>>=◌, ◌>>◌, with_context}
@@ -132,14 +130,14 @@ module _ (m : Module) (fr : Frame) (break_if : Option ExpressionHandle) (before 
     end_turns e = end_is ∙ rw (← e)
 
 -- `break_if`, where there is one
-module _ (m : Module) (fr : Frame) (e : ℕ) (p : PartReq) (st : State) where
-  pub optional_absent : e ≡ absent → ask_optional m fr (option_of e) p st ≡ went st tt
-  unfolding option_of ask_optional
-  optional_absent h = rw (eq-eqb e absent h)
+module _ (m : Module) (fr : Frame) {break_if : Option ExpressionHandle} (p : PartReq) (st : State) where
+  pub optional_absent : break_if ≡ nothing → ask_optional m fr break_if p st ≡ went st tt
+  unfolding ask_optional
+  optional_absent h = rw h
 
-  pub optional_there : (e ≡ absent → ⊥) → ask_optional m fr (option_of e) p st ≡ add_expression m fr.function fr.held e p st
-  unfolding option_of ask_optional
-  optional_there h = rw (ne_eqb e absent h)
+  pub optional_there : {e : ExpressionHandle} → break_if ≡ some e → ask_optional m fr break_if p st ≡ add_expression m fr.function fr.held e p st
+  unfolding ask_optional
+  optional_there h = rw h
 
 -- the context before a turn is of no account
 module _ {bytes t : List ℕ} (w : WasRead bytes t) (f : FunctionHandle) where

@@ -6,7 +6,6 @@ use Rattle.field.specs.Refusal.{number}
 use Rattle.part.specs.PartReq.{all}
 use Rattle.part.specs.Store.{Room}
 use Rattle.module.specs.Module.{Module, ExpressionHandle, BlockHandle}
-use Rattle.module.specs.Decode.{option_of}
 use Rattle.module.specs.Tables.{row_at, module_of}
 use Rattle.context.specs.RequiredContext.{RequiredContext, merge_context, contains_context, pieces}
 use Rattle.valid.specs.Valid.{MaybeBelow}
@@ -37,13 +36,13 @@ end_pass m fr break_if before walked st =
     merged fr walked st.context asked >> λ joined. went joined asked.context
 
 -- what it asks of the memory, for some types, places, marks and totals
-pub record Passing (bytes t s rs : List ℕ) (fr : Frame) (break_if sum visits : ℕ) : Type 0 where
+pub record Passing (bytes t s rs : List ℕ) (fr : Frame) (break_if : Option ExpressionHandle) (sum visits : ℕ) : Type 0 where
   pub types : List ℕ
   pub places : List ℕ
   pub open_marks : List ℕ
   pub totals : List ℕ
   pub branched : Branched bytes t types places s rs open_marks totals fr sum visits
-  pub there : MaybeBelow (length (function_at (module_of bytes t) fr.function.0).expressions) (option_of break_if)
+  pub there : MaybeBelow (length (function_at (module_of bytes t) fr.function.0).expressions) break_if
 
 -- `break_if` was asked as `total` says: the contexts of both blocks are as they were
 pub record BreakEnded (bytes t types places s rs open_marks totals : List ℕ) (fr : Frame) (total : Out (Unit {0})) (visits sum : ℕ) (u us : List ℕ) : Type 0 where
@@ -58,10 +57,10 @@ BreakEnding bytes t types places s rs open_marks totals fr total (Ok tally) u us
     BreakEnded bytes t types places s rs open_marks totals fr total tally.visits tally.sum u us
 BreakEnding bytes t types places s rs open_marks totals fr total (Err h) u us = halt (number h.refusal) (place_of h.place) ≡ total
 
-pub record BreakEnds (bytes t s rs : List ℕ) (fr : Frame) (break_if sum visits : ℕ) (r : Result Tally Halt) (u us : List ℕ) : Type 0 where
+pub record BreakEnds (bytes t s rs : List ℕ) (fr : Frame) (break_if : Option ExpressionHandle) (sum visits : ℕ) (r : Result Tally Halt) (u us : List ℕ) : Type 0 where
   pub by : (types places open_marks totals : List ℕ) → Branched bytes t types places s rs open_marks totals fr sum visits
       → BreakEnding bytes t types places s rs open_marks totals fr
-      (ask_optional (module_of bytes t) (holding (context_in s rs (fr.at + 4) + context_in s rs (fr.at + 4 + 4)) (frame_of s rs fr)) (option_of break_if) all
+      (ask_optional (module_of bytes t) (holding (context_in s rs (fr.at + 4) + context_in s rs (fr.at + 4 + 4)) (frame_of s rs fr)) break_if all
       (state_in bytes t s rs open_marks totals fr.function.0 fr.at visits))
       r u us
 
@@ -79,10 +78,10 @@ PassEnding bytes t types places s rs open_marks totals fr total (Ok tally) u us 
     PassEnded bytes t types places s rs open_marks totals fr total tally.visits tally.sum u us
 PassEnding bytes t types places s rs open_marks totals fr total (Err h) u us = halt (number h.refusal) (place_of h.place) ≡ total
 
-pub record PassEnds (bytes t s rs : List ℕ) (fr : Frame) (break_if sum visits : ℕ) (r : Result Tally Halt) (u us : List ℕ) : Type 0 where
+pub record PassEnds (bytes t s rs : List ℕ) (fr : Frame) (break_if : Option ExpressionHandle) (sum visits : ℕ) (r : Result Tally Halt) (u us : List ℕ) : Type 0 where
   pub by : (types places open_marks totals : List ℕ) → Branched bytes t types places s rs open_marks totals fr sum visits
       → PassEnding bytes t types places s rs open_marks totals fr
-      (end_pass (module_of bytes t) (frame_of s rs fr) (option_of break_if) (context_at (read s rs) fr.at) (context_at (read s rs) (fr.at + 4))
+      (end_pass (module_of bytes t) (frame_of s rs fr) break_if (context_at (read s rs) fr.at) (context_at (read s rs) (fr.at + 4))
       (state_in bytes t s rs open_marks totals fr.function.0 (fr.at + 4 + 4) visits))
       r u us
 

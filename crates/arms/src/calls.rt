@@ -6,7 +6,7 @@ ghost use Rattle.memory.specs.Layout.{result as result_slot};
 ghost use Rattle.statement.specs.Aside.{aside_slots};
 ghost use Rattle.arms.specs.Calls.{found_part, was_found, Asking, CallBegins, CallBegan, LeavesCall, LeftCall, Returns, Returned, call_marks};
 
-use access::kinded::{Kinded, expression_operand, function_operand, operand};
+use access::kinded::{Kinded, function_operand, operand, optional_expression};
 use block::call::enter;
 use call::ends::end_call;
 use leave::leave::{leave, own_pieces};
@@ -58,17 +58,14 @@ pub fn begin_call(
     let at = fr.at;
     let g = function_operand(bytes, row, 0);
     let n = operand(bytes, row, 1);
-    let result = expression_operand(bytes, row, 2 + n);
+    let result = optional_expression(bytes, row, 2 + n);
     let own = own_pieces(t, cells, slots, f);
     let held = fr.held + weigh(cells, slots, at, 4) + own;
     let found = record_of(bytes, t, cells, slots, fr, result);
     let retval = asked_of(cells, found);
     enter(slots, open, places, g, at, retval);
     tidy(cells, slots);
-    Begun {
-        held: held,
-        own: own,
-    }
+    Begun { held, own }
 }
 
 // The called function g ends. Gives what records and totals count for without its records.
@@ -123,28 +120,24 @@ pub fn return_call(
     fr: Frame,
     row: Kinded,
     required: bool,
-    visits: usize,
-    sum: usize,
+    tally: Tally,
 ) -> Answered
-    requires { Returns bytes.now t.now places.now cells.old slots.old «open».old fr row visits sum }
-    ensures { Returned bytes.now t.now places.now cells.old slots.old «open».old fr row required visits sum result cells.new slots.new «open».new }
+    requires { Returns bytes.now t.now places.now cells.old slots.old «open».old fr row tally.visits tally.sum }
+    ensures { Returned bytes.now t.now places.now cells.old slots.old «open».old fr row required tally.visits tally.sum result cells.new slots.new «open».new }
 {
     let f = fr.function;
     let at = place(t, places, f, fr.statement);
     if !required {
         set_call(open, at, false, false);
         return Ok(Answer {
-            tally: Tally {
-                visits: visits,
-                sum: sum,
-            },
+            tally,
             required: false,
         });
     }
     let n = operand(bytes, row, 1);
-    let result = expression_operand(bytes, row, 2 + n);
+    let result = optional_expression(bytes, row, 2 + n);
     let found = record_of(bytes, t, cells, slots, fr, result);
     let there = hold_result(slots, found);
-    let r = end_call(bytes, t, cells, slots, fr, row, there, visits, sum);
+    let r = end_call(bytes, t, cells, slots, fr, row, there, tally);
     mark_call(open, at, there, r)
 }

@@ -18,11 +18,10 @@ pub fn add_emit(
     open: &mut [u8],
     fr: Frame,
     row: Kinded,
-    visits: usize,
-    sum: usize,
+    tally: Tally,
 ) -> Answered
-    requires { EmitAsked bytes.now t.now places.now cells.now slots.now «open».old fr row sum }
-    ensures { EmitEnds bytes.now t.now places.now cells.now slots.now «open».old fr row sum visits result «open».new }
+    requires { EmitAsked bytes.now t.now places.now cells.now slots.now «open».old fr row tally.sum }
+    ensures { EmitEnds bytes.now t.now places.now cells.now slots.now «open».old fr row tally.sum tally.visits result «open».new }
 {
     let f = fr.function;
     let first = expression_operand(bytes, row, 0);
@@ -32,10 +31,7 @@ pub fn add_emit(
     let at = place(t, places, f, fr.statement);
     let any = set_emit(open, at, slots, from, n);
     Ok(Answer {
-        tally: Tally {
-            visits: visits,
-            sum: sum,
-        },
+        tally,
         required: any,
     })
 }

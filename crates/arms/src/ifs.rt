@@ -23,22 +23,18 @@ pub fn end_if(
     fr: Frame,
     condition: ExpressionHandle,
     required: bool,
-    visits: usize,
-    sum: usize,
+    tally: Tally,
 ) -> Answered
-    requires if_asked { IfAsked bytes.now t.now cells.old slots.old fr sum visits }
+    requires if_asked { IfAsked bytes.now t.now cells.old slots.old fr tally.sum tally.visits }
     requires condition_in_bounds { condition.0 < length (function_at (module_of bytes.now t.now) fr.function.0).expressions }
-    ensures { IfEnds bytes.now t.now cells.old slots.old fr condition.0 required sum visits result cells.new slots.new }
+    ensures { IfEnds bytes.now t.now cells.old slots.old fr condition.0 required tally.sum tally.visits result cells.new slots.new }
 {
     let f = fr.function;
     let at = fr.at;
     if !required {
         drop_both(slots, at);
         return Ok(Answer {
-            tally: Tally {
-                visits: visits,
-                sum: sum,
-            },
+            tally,
             required: false,
         });
     }
@@ -46,8 +42,6 @@ pub fn end_if(
         return Err(fr.halt(Refusal::PartLimit));
     }
     let w = want_of(ALL);
-    let r = add_expression(
-        bytes, t, cells, slots, f, at, fr.held, condition, w, visits, sum,
-    );
+    let r = add_expression(bytes, t, cells, slots, f, at, fr.held, condition, w, tally);
     answer(r, true)
 }

@@ -1,4 +1,5 @@
 // A loop beside the walks of its blocks: how its first pass ends, and how a turn ends.
+ghost use Rattle.access.specs.Access.{handle_in};
 ghost use Rattle.arms.specs.Loops.{Passing, BreakEnds, PassEnds, TurnWalked, TurnEnds};
 
 use block::stack::{drop, join, lower, settled};
@@ -7,7 +8,7 @@ use field::refusal::Refusal;
 use memory::layout::ALL;
 use memory::memory::{tidy, weigh};
 use memory::want::want_of;
-use module::handles::{ExpressionHandle, NO_HANDLE};
+use module::handles::ExpressionHandle;
 use state::answer::{Tally, Walked};
 use state::frame::Frame;
 
@@ -26,19 +27,15 @@ fn ask_break_if(
     cells: &mut [u32],
     slots: &mut [u32],
     fr: Frame,
-    break_if: ExpressionHandle,
-    visits: usize,
-    sum: usize,
+    break_if: Option<ExpressionHandle>,
+    tally: Tally,
 ) -> Walked
-    requires { Passing bytes.now t.now cells.old slots.old fr break_if.0 sum visits }
-    ensures { BreakEnds bytes.now t.now cells.old slots.old fr break_if.0 sum visits result cells.new slots.new }
+    requires { Passing bytes.now t.now cells.old slots.old fr (handle_in break_if) tally.sum tally.visits }
+    ensures { BreakEnds bytes.now t.now cells.old slots.old fr (handle_in break_if) tally.sum tally.visits result cells.new slots.new }
 {
-    if break_if.0 == NO_HANDLE {
-        return Ok(Tally {
-            visits: visits,
-            sum: sum,
-        });
-    }
+    let Some(e) = break_if else {
+        return Ok(tally);
+    };
     let f = fr.function;
     let at = fr.at;
     let k = at + 4;
@@ -46,9 +43,7 @@ fn ask_break_if(
     let second = weigh(cells, slots, k + 4, 4);
     let held = fr.held + (first + second);
     let w = want_of(ALL);
-    add_expression(
-        bytes, t, cells, slots, f, at, held, break_if, w, visits, sum,
-    )
+    add_expression(bytes, t, cells, slots, f, at, held, e, w, tally)
 }
 
 // A first pass that is required ends: `break_if`, and the join of both blocks' contexts, which is the working context then.
@@ -58,15 +53,14 @@ pub fn end_pass(
     cells: &mut [u32],
     slots: &mut [u32],
     fr: Frame,
-    break_if: ExpressionHandle,
-    visits: usize,
-    sum: usize,
+    break_if: Option<ExpressionHandle>,
+    tally: Tally,
 ) -> Walked
-    requires { Passing bytes.now t.now cells.old slots.old fr break_if.0 sum visits }
-    ensures { PassEnds bytes.now t.now cells.old slots.old fr break_if.0 sum visits result cells.new slots.new }
+    requires { Passing bytes.now t.now cells.old slots.old fr (handle_in break_if) tally.sum tally.visits }
+    ensures { PassEnds bytes.now t.now cells.old slots.old fr (handle_in break_if) tally.sum tally.visits result cells.new slots.new }
 {
     let at = fr.at;
-    let tally = ask_break_if(bytes, t, cells, slots, fr, break_if, visits, sum)?;
+    let tally = ask_break_if(bytes, t, cells, slots, fr, break_if, tally)?;
     if join(cells, slots, at + 4) {
         return Err(fr.halt(Refusal::PartLimit));
     }

@@ -42,20 +42,16 @@ pub fn end_switch(
     fr: Frame,
     selector: ExpressionHandle,
     required: bool,
-    visits: usize,
-    sum: usize,
+    tally: Tally,
 ) -> Answered
-    requires { EndingSwitch bytes.now t.now cells.old slots.old fr selector.0 sum visits }
-    ensures { SwitchEnds bytes.now t.now cells.old slots.old fr selector.0 required sum visits result cells.new slots.new }
+    requires { EndingSwitch bytes.now t.now cells.old slots.old fr selector.0 tally.sum tally.visits }
+    ensures { SwitchEnds bytes.now t.now cells.old slots.old fr selector.0 required tally.sum tally.visits result cells.new slots.new }
 {
     let at = fr.at;
     if !required {
         drop(slots, at);
         return Ok(Answer {
-            tally: Tally {
-                visits: visits,
-                sum: sum,
-            },
+            tally,
             required: false,
         });
     }
@@ -63,12 +59,10 @@ pub fn end_switch(
     drop(slots, at);
     let f = fr.function;
     let w = want_of(ALL);
-    let tally = add_expression(
-        bytes, t, cells, slots, f, at, fr.held, selector, w, visits, sum,
-    )?;
+    let tally = add_expression(bytes, t, cells, slots, f, at, fr.held, selector, w, tally)?;
     take_back(cells, slots, at);
     Ok(Answer {
-        tally: tally,
+        tally,
         required: true,
     })
 }

@@ -6,11 +6,11 @@ ghost use Rattle.statement.specs.Leaf.{leaf_req};
 ghost use Rattle.arms.specs.Visit.{mark_when, MarkAsked, MarkEnds, LastAsked, LastEnds};
 
 use access::kinded::Kinded;
-use access::kinds::{CALL, EMIT, IF, KILL, STORE};
 use expression::visit::allowed;
 use field::refusal::Refusal;
 use marks::places::place;
 use marks::set::set_mark;
+use module::kinds::StatementKind;
 use state::answer::{Answer, Answered};
 use state::frame::Frame;
 
@@ -18,41 +18,37 @@ use state::frame::Frame;
 fn has_mark(kind: u16) -> bool
     ensures { (b : Bool) (o : ℕ → ℕ) → req.own_marks (leaf_req (statement_of kind o) b) ≡ mark_when result b }
 {
-    if kind < IF {
-        return false;
-    }
-    if kind == CALL {
-        return false;
-    }
-    if kind < KILL {
+    let Ok(kind) = StatementKind::try_from(kind) else {
         return true;
+    };
+    match kind {
+        StatementKind::Emit
+        | StatementKind::Block
+        | StatementKind::Kill
+        | StatementKind::ControlBarrier
+        | StatementKind::MemoryBarrier
+        | StatementKind::ImageAtomic
+        | StatementKind::Call => false,
+        _ => true,
     }
-    if kind < STORE {
-        return false;
-    }
-    true
 }
 
 // Whether one is required whose arm answers b.
 fn required(kind: u16, b: bool) -> bool
     ensures { (o : ℕ → ℕ) → result ≡ req.required (leaf_req (statement_of kind o) b) }
 {
-    if kind == KILL {
-        return true;
-    }
-    if kind == EMIT {
-        return false;
-    }
-    if kind == CALL {
-        return false;
-    }
-    if kind < KILL {
+    let Ok(kind) = StatementKind::try_from(kind) else {
         return b;
+    };
+    match kind {
+        StatementKind::Kill => true,
+        StatementKind::Emit
+        | StatementKind::ControlBarrier
+        | StatementKind::MemoryBarrier
+        | StatementKind::ImageAtomic
+        | StatementKind::Call => false,
+        _ => b,
     }
-    if kind < STORE {
-        return false;
-    }
-    b
 }
 
 // An arm's answer, once its mark is written: whether the statement is required.

@@ -21,29 +21,29 @@ use Rattle.walk.specs.Expression.{Ask, formed, constant_asks, swizzle_asks, comp
 use Rattle.valid.specs.Valid.{EachBelow, OperandsBelow, NamesBelow, ExpressionValid, FunctionValid, entries_below}
 use Rattle.valid.proofs.Accepted.{valid}
 use Rattle.memory.specs.declared.want.Want.{Want}
-use Rattle.memory.specs.Want.{asked, Wants}
-use Rattle.asks.specs.Asks.{said, only_of, Only, Told, There, Asks}
+use Rattle.memory.specs.Want.{asked}
+use Rattle.asks.specs.Asks.{said, HasWant, only_of, Only, Told, There, Asks}
 use Rattle.asks.specs.Ways.{field_asks, fields, ways_of, Plain}
-use Rattle.asks.specs.declared.what.What.{What}
-use Rattle.asks.specs.declared.what.What.TheVariants.{Argument, Global, Local, Refuse, End}
+use Rattle.std.specs.Prelude.{Option as Optional, Some, None}
 use Rattle.asks.specs.declared.what.Ask as declared
+use Rattle.asks.specs.declared.what.Ask.TheVariants.{Argument, Global, Local, Refuse}
 use Rattle.asks.proofs.ByKind.{by_fields}
 use Rattle.asks.proofs.Reach.{arm_within}
 
 -- an arm that does one thing
-pub only_first : (what : What) (w : Want) (j : ℕ) → j ≡ 0 → Only what w j (record { what = what; want = w })
-only_first what w j e = record { is = rw e }
+pub only_first : (what : declared.Ask) (j : ℕ) → j ≡ 0 → Only what j (Some what)
+only_first what j e = record { is = rw e }
 
-pub only_after : (what : What) (w : Want) (j : ℕ) → (j ≡ 0 → ⊥) → Only what w j (record { what = End; want = w })
-only_after what w zero ne = absurd (ne refl)
-only_after what w (suc j) ne = record { is = refl }
+pub only_after : (what : declared.Ask) (j : ℕ) → (j ≡ 0 → ⊥) → Only what j None
+only_after what zero ne = absurd (ne refl)
+only_after what (suc j) ne = record { is = refl }
 
-only_told : {s rs : List ℕ} {w : Want} {what : What} {a : Ask} {j : ℕ} {r : declared.Ask} → Wants s rs w → Only what w j r → some a ≡ said s rs what w → Told s rs (a ∷ []) j r
+only_told : {s rs : List ℕ} {w : Want} {what : declared.Ask} {a : Ask} {j : ℕ} {r : Optional declared.Ask} → HasWant s rs (Some what) → Only what j r → some a ≡ said s rs w (Some what) → Told s rs w (a ∷ []) j r
 only_told {s} {rs} {w} {what} {a} {j} q d e = rw d.is (go j)
   where
-    go : (j : ℕ) → Told s rs (a ∷ []) j (only_of what w j)
+    go : (j : ℕ) → Told s rs w (a ∷ []) j (only_of what j)
     go zero = record { wants = q; is = e }
-    go (suc j) = record { wants = q; is = refl }
+    go (suc j) = record { wants = tt; is = refl }
 
 module _ {bytes t : List ℕ} {f e : ℕ} (h : There bytes t f e) where
   same_function : function_at (module_of bytes t) f ≡ function_of bytes t f
@@ -76,10 +76,10 @@ module _ {bytes t : List ℕ} {f e : ℕ} (h : There bytes t f e) where
     unfolding expression_of
     letters-below q = (rw (arm_is 7 q) at operands_below).2
 
-    module _ {s rs : List ℕ} {w : Want} {j : ℕ} {a : declared.Ask} where
-      asks_by_arm : (k : ℕ) → row.kind ≡ k → Told s rs (arm_asks (expression_of k (operand_at bytes row)) (asked s rs w)) j a → Asks (module_of bytes t) f e s rs w j a
+    module _ {s rs : List ℕ} {w : Want} {j : ℕ} {a : Optional declared.Ask} where
+      asks_by_arm : (k : ℕ) → row.kind ≡ k → Told s rs w (arm_asks (expression_of k (operand_at bytes row)) (asked s rs w)) j a → Asks (module_of bytes t) f e s rs w j a
       asks_by_arm k q b =
-          let told : Told s rs (arm_asks (expression_at (module_of bytes t) f e) (asked s rs w)) j a = rw (arm_is k q) b in
+          let told : Told s rs w (arm_asks (expression_at (module_of bytes t) f e) (asked s rs w)) j a = rw (arm_is k q) b in
           record {
             told = told;
             within =
@@ -94,37 +94,37 @@ module _ {bytes t : List ℕ} {f e : ℕ} (h : There bytes t f e) where
                 told;
           }
 
-      pub asks_index : row.kind ≡ 3 → Told s rs (formed (operand_at bytes row 0) (more (operand_at bytes row 1) (asked s rs w) none)) j a → Asks (module_of bytes t) f e s rs w j a
+      pub asks_index : row.kind ≡ 3 → Told s rs w (formed (operand_at bytes row 0) (more (operand_at bytes row 1) (asked s rs w) none)) j a → Asks (module_of bytes t) f e s rs w j a
       unfolding expression_of arm_asks
       asks_index q b = asks_by_arm 3 q b
 
-      pub asks_constant : row.kind ≡ 5 → Told s rs (constant_asks (asked s rs w)) j a → Asks (module_of bytes t) f e s rs w j a
+      pub asks_constant : row.kind ≡ 5 → Told s rs w (constant_asks (asked s rs w)) j a → Asks (module_of bytes t) f e s rs w j a
       unfolding expression_of arm_asks
       asks_constant q b = asks_by_arm 5 q b
 
-      pub asks_swizzle : row.kind ≡ 7 → Told s rs (swizzle_asks (operand_at bytes row 0) (swizzled (tab (operand_at bytes row 1) (λ k. operand_at bytes row (2 + k))) (asked s rs w))) j a → Asks (module_of bytes t) f e s rs w j a
+      pub asks_swizzle : row.kind ≡ 7 → Told s rs w (swizzle_asks (operand_at bytes row 0) (swizzled (tab (operand_at bytes row 1) (λ k. operand_at bytes row (2 + k))) (asked s rs w))) j a → Asks (module_of bytes t) f e s rs w j a
       unfolding expression_of arm_asks
       asks_swizzle q b = asks_by_arm 7 q b
 
-      pub asks_compose : row.kind ≡ 8 → Told s rs (compose_asks (tab (operand_at bytes row 0) (λ k. operand_at bytes row (1 + k))) (asked s rs w)) j a → Asks (module_of bytes t) f e s rs w j a
+      pub asks_compose : row.kind ≡ 8 → Told s rs w (compose_asks (tab (operand_at bytes row 0) (λ k. operand_at bytes row (1 + k))) (asked s rs w)) j a → Asks (module_of bytes t) f e s rs w j a
       unfolding expression_of arm_asks
       asks_compose q b = asks_by_arm 8 q b
 
-      pub asks_argument : {x : ℕ} → row.kind ≡ 9 → x ≡ operand_at bytes row 0 → Wants s rs w → Only (Argument x) w j a → Asks (module_of bytes t) f e s rs w j a
+      pub asks_argument : {x : ℕ} → row.kind ≡ 9 → x ≡ operand_at bytes row 0 → Only (Argument x) j a → Asks (module_of bytes t) f e s rs w j a
       unfolding expression_of arm_asks
-      asks_argument q d v b = asks_by_arm 9 q (only_told v b (rw d))
+      asks_argument q d b = asks_by_arm 9 q (only_told tt b (rw d))
 
-      pub asks_global : {x : global-handles.GlobalHandle} → row.kind ≡ 10 → x.0 ≡ operand_at bytes row 0 → Wants s rs w → Only (Global x) w j a → Asks (module_of bytes t) f e s rs w j a
+      pub asks_global : {x : global-handles.GlobalHandle} → row.kind ≡ 10 → x.0 ≡ operand_at bytes row 0 → Only (Global x) j a → Asks (module_of bytes t) f e s rs w j a
       unfolding expression_of arm_asks
-      asks_global q d v b = asks_by_arm 10 q (only_told v b (rw d))
+      asks_global q d b = asks_by_arm 10 q (only_told tt b (rw d))
 
-      pub asks_local : {x : local-handles.LocalHandle} → row.kind ≡ 11 → x.0 ≡ operand_at bytes row 0 → Wants s rs w → Only (Local x) w j a → Asks (module_of bytes t) f e s rs w j a
+      pub asks_local : {x : local-handles.LocalHandle} → row.kind ≡ 11 → x.0 ≡ operand_at bytes row 0 → Only (Local x) j a → Asks (module_of bytes t) f e s rs w j a
       unfolding expression_of arm_asks
-      asks_local q d v b = asks_by_arm 11 q (only_told v b (rw d))
+      asks_local q d b = asks_by_arm 11 q (only_told tt b (rw d))
 
-      pub asks_positions : row.kind ≡ 31 → Wants s rs w → Only (Refuse Panic) w j a → Asks (module_of bytes t) f e s rs w j a
+      pub asks_positions : row.kind ≡ 31 → Only (Refuse Panic) j a → Asks (module_of bytes t) f e s rs w j a
       unfolding expression_of arm_asks
-      asks_positions q v b = asks_by_arm 31 q (only_told v b refl)
+      asks_positions q b = asks_by_arm 31 q (only_told tt b refl)
 
-      pub asks_fields : Plain row.kind → Told s rs (field_asks fields (ways_of row.kind (operand_at bytes row 4)) (operand_at bytes row) 0 (asked s rs w)) j a → Asks (module_of bytes t) f e s rs w j a
+      pub asks_fields : Plain row.kind → Told s rs w (field_asks fields (ways_of row.kind (operand_at bytes row 4)) (operand_at bytes row) 0 (asked s rs w)) j a → Asks (module_of bytes t) f e s rs w j a
       asks_fields p b = asks_by_arm row.kind refl (rw (by_fields (operand_at bytes row) (asked s rs w) row.kind p) b)

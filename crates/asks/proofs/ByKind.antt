@@ -25,7 +25,7 @@ maybe_is x rest = go (eqb x absent)
     go true = refl
     go false = refl
 
-no_kind : (k code : ℕ) → ways_of (past 32 k) code ≡ 0
+pub no_kind : (k code : ℕ) → ways_of (past 32 k) code ≡ 0
 unfolding ways_of kind_ways
 no_kind k code =
     let ne : past 32 k ≡ 13 → ⊥ = omega arith in

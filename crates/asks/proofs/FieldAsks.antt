@@ -1,77 +1,63 @@
--- The arms that follow their fields: what `ways`, `asks_by` and `want_by` say of a field, and a turn of the loop of `field_ask`, in which what is
--- skip of the fields gives the whole.
+-- The arms that follow their fields: what `ways` says of the kinds without ways and of a sample's codes, what is asked of a field, and a turn of the loop of
+-- `field_ask`, in which what is left of the fields gives the whole. A sum of ways ends with its first by division.
 use mathlib.Core.Path.{◌≡◌, refl, sym, ◌∙◌}
 use mathlib.Core.Bool.{Bool, true, false, cond, not}
 use mathlib.Core.List.{List, [], ◌∷◌}
-use mathlib.Core.Option.{some, none as nothing}
-use Prim.Native.Nat.{ℕ, zero, suc, ◌+◌, ◌-◌, ◌/◌, ◌%◌, ◌<◌, ◌≤◌}
+use mathlib.Core.Option.{Option, some, none as nothing, none-ne-some, some-ne-none, some-injective}
+use Prim.Native.Nat.{ℕ, zero, suc, ◌+◌, ◌-◌, ◌*◌, ◌/◌, ◌%◌, ◌<◌, ◌≤◌}
 use native.Mathlib.Omega.{arith}
 use native.Mathlib.Numerals.{add-one}
-use lib.Dec.{eqb, ltb}
-use lib.ListN.{get_or, get_elem?, get_or-eq_default}
-use borrow.Author.Tests.{ne_eqb, eq-eqb}
+use native.Mathlib.Decide.{ℕ_discrete}
+use lib.Dec.{eqb}
+use lib.ListN.{length, drop, get_or, get_elem?, drop_of_length-le}
+use lib.Seq.{drop-cons}
 use Rattle.field.specs.Limits.{absent}
 use Rattle.part.specs.PartReq.{PartReq, all, exist, over}
+use Rattle.module.specs.Decode.{option_of}
+use Rattle.module.proofs.Each.{each}
+use Rattle.asks.proofs.ByKind.{no_kind}
 use Rattle.walk.specs.Expression.{Ask, of_operand}
-use Rattle.valid.proofs.Lists.{in_range}
 use Rattle.memory.specs.Layout.{all_slot, exist_slot}
 use Rattle.memory.specs.Memory.{Memory}
-use Rattle.memory.specs.Want.{asked, Wants, want_of}
+use Rattle.memory.specs.Want.{want_of}
 use Rattle.memory.specs.declared.want.Want.{Want}
 use Rattle.memory.proofs.Slots.{asked-slot, want_slot}
-use Rattle.asks.specs.Ways.{asks_by, part_by, field_asks, fields, kind_ways, sample_ways, ways_of, Fields, By}
+use Rattle.asks.specs.declared.fields.Way.{Way}
+use Rattle.asks.specs.Ways.{asks_by, chosen, part_by, field_asks, fields, pack, kind_ways, sample_ways, ways_of, way_number, numbers, WaysOf, By}
 
--- `ways`
-module _ (kind code : ℕ) where
-  pub ways_past : 31 < kind → 0 ≡ ways_of kind code
-  unfolding ways_of kind_ways
-  ways_past h =
-      let ne : kind ≡ 13 → ⊥ = omega arith in
-      rw (ne_eqb kind 13 ne) (sym (get_or-eq_default kind_ways 0 h))
+-- a kind that is none of those whose arms follow their fields
+abbrev pub Unlisted : ℕ → Type 0
+Unlisted kind = (kind ≡ 4 → ⊥) × ((kind ≡ 6 → ⊥) × ((kind ≡ 12 → ⊥) × ((kind ≡ 13 → ⊥) × ((kind ≡ 14 → ⊥) × ((kind ≡ 15 → ⊥) × ((kind ≡ 16 → ⊥) × ((kind ≡ 17 → ⊥) × ((kind ≡ 18 → ⊥) × ((kind ≡ 19 → ⊥) × ((kind ≡ 20 → ⊥) × ((kind ≡ 21 → ⊥) × ((kind ≡ 22 → ⊥) × ((kind ≡ 25 → ⊥) × (kind ≡ 27 → ⊥))))))))))))))
 
-  pub ways_sample : {x : ℕ} → kind ≡ 13 → x ≡ code → x ≤ 4 → get_or sample_ways x 0 ≡ ways_of kind code
-  unfolding ways_of sample_ways
-  ways_sample {x} h e l = rw (eq-eqb kind 13 h, ← e) (in_range sample_ways x 0 (get_or sample_ways 0 0) (omega arith))
+no_way : (kind code : ℕ) → Unlisted kind → ways_of kind code ≡ 0
+unfolding ways_of kind_ways pack
+no_way kind code =
+    each (λ k. Unlisted k → ways_of k code ≡ 0) 32
+    (λ h. refl, (λ h. refl, (λ h. refl, (λ h. refl, (λ h. absurd (h.0 refl), (λ h. refl, (λ h. absurd (h.1.0 refl), (λ h. refl, (λ h. refl, (λ h. refl, (λ h. refl, (λ h. refl, (λ h. absurd (h.1.1.0 refl), (λ h. absurd (h.1.1.1.0 refl), (λ h. absurd (h.1.1.1.1.0 refl), (λ h. absurd (h.1.1.1.1.1.0 refl), (λ h. absurd (h.1.1.1.1.1.1.0 refl), (λ h. absurd (h.1.1.1.1.1.1.1.0 refl), (λ h. absurd (h.1.1.1.1.1.1.1.1.0 refl), (λ h. absurd (h.1.1.1.1.1.1.1.1.1.0 refl), (λ h. absurd (h.1.1.1.1.1.1.1.1.1.1.0 refl), (λ h. absurd (h.1.1.1.1.1.1.1.1.1.1.1.0 refl), (λ h. absurd (h.1.1.1.1.1.1.1.1.1.1.1.1.0 refl), (λ h. refl, (λ h. refl, (λ h. absurd (h.1.1.1.1.1.1.1.1.1.1.1.1.1.0 refl), (λ h. refl, (λ h. absurd (h.1.1.1.1.1.1.1.1.1.1.1.1.1.1 refl), (λ h. refl, (λ h. refl, (λ h. refl, (λ h. refl, tt))))))))))))))))))))))))))))))))
+    (λ k h. no_kind k code)
+    kind
 
-  pub ways_sample_past : {x : ℕ} → kind ≡ 13 → x ≡ code → 4 < x → get_or sample_ways 0 0 ≡ ways_of kind code
-  unfolding ways_of sample_ways
-  ways_sample_past h e l = rw (eq-eqb kind 13 h, ← e) (sym (get_or-eq_default sample_ways (get_or sample_ways 0 0) l))
+pub unlisted : (kind code : ℕ) → Unlisted kind → WaysOf kind code []
+unfolding pack numbers
+unlisted kind code h = record { is = sym (no_way kind code h); few = omega arith }
 
-  pub ways_kind : (kind ≡ 13 → ⊥) → get_or kind_ways kind 0 ≡ ways_of kind code
-  unfolding ways_of
-  ways_kind ne = rw (ne_eqb kind 13 ne)
+-- a sample by the code of its level
+pub sample_some : (code : ℕ) → 2 ≤ code → code ≤ 3 → WaysOf 13 code (Way.All ∷ Way.All ∷ Way.All ∷ Way.Maybe ∷ Way.Skip ∷ Way.All ∷ Way.Maybe ∷ [])
+unfolding ways_of sample_ways pack numbers
+sample_some code a b =
+    elim (ℕ_discrete code 2) [
+      | yes e ↦ rw e (record { is = refl; few = omega arith })
+      | no ne ↦ let e : code ≡ 3 = omega arith in rw e (record { is = refl; few = omega arith })
+    ]
 
--- `asks_by`
-module _ (way x : ℕ) where
-  pub asks_maybe : way ≡ 4 → not (eqb x absent) ≡ asks_by way x
-  unfolding asks_by
-  asks_maybe h = rw h
-
-  pub asks_past : 4 < way → false ≡ asks_by way x
-  unfolding asks_by
-  asks_past h = sym (get_or-eq_default (false ∷ true ∷ true ∷ true ∷ not (eqb x absent) ∷ []) false h)
-
-pub asks_low : (way x : ℕ) → (way ≡ 4 → ⊥) → way ≤ 4 → ltb 0 way ≡ asks_by way x
-unfolding asks_by
-asks_low zero x ne h = refl
-asks_low (suc zero) x ne h = refl
-asks_low (suc (suc zero)) x ne h = refl
-asks_low (suc (suc (suc zero))) x ne h = refl
-asks_low (suc (suc (suc (suc way)))) x ne h = absurd (omega arith)
-
--- `want_by`
-part_low : (way : ℕ) (p : PartReq) → (way ≡ 1 → ⊥) → (way ≡ 3 → ⊥) → all ≡ part_by way p
-unfolding part_by
-part_low zero p a b = refl
-part_low (suc zero) p a b = absurd (a refl)
-part_low (suc (suc zero)) p a b = refl
-part_low (suc (suc (suc zero))) p a b = absurd (b refl)
-part_low (suc (suc (suc (suc way)))) p a b = refl
-
-module _ {s rs : List ℕ} (way : ℕ) (w : Want) where
-  pub by_same : way ≡ 1 → Wants s rs w → By s rs (part_by way (asked s rs w)) w
-  unfolding part_by
-  by_same h q = record { wants = q; is = rw h }
+pub sample_else : (code : ℕ) → (code ≡ 2 → ⊥) → (code ≡ 3 → ⊥) → (code ≡ 4 → ⊥) → WaysOf 13 code (Way.All ∷ Way.All ∷ Way.All ∷ Way.Maybe ∷ Way.Skip ∷ Way.Maybe ∷ [])
+unfolding ways_of sample_ways pack numbers
+sample_else zero a b c = record { is = refl; few = omega arith }
+sample_else (suc zero) a b c = record { is = refl; few = omega arith }
+sample_else (suc (suc zero)) a b c = absurd (a refl)
+sample_else (suc (suc (suc zero))) a b c = absurd (b refl)
+sample_else (suc (suc (suc (suc zero)))) a b c = absurd (c refl)
+sample_else (suc (suc (suc (suc (suc code))))) a b c = record { is = refl; few = omega arith }
 
 -- the slots of all and of exist
 module _ {s rs : List ℕ} {u : Want} (m : Memory s rs) where
@@ -93,17 +79,6 @@ module _ {s rs : List ℕ} {u : Want} (m : Memory s rs) where
         is = asked-slot s rs exist_slot ∙ m.second;
       })
 
-  pub by_exist : (way : ℕ) (p : PartReq) → way ≡ 3 → u ≡ want_of exist_slot → By s rs (part_by way p) u
-  unfolding part_by
-  by_exist way p h e = rw h (wants_exist e)
-
-  pub by_all : (way : ℕ) (p : PartReq) → (way ≡ 1 → ⊥) → (way ≡ 3 → ⊥) → u ≡ want_of all_slot → By s rs (part_by way p) u
-  by_all way p a b e = rw (← part_low way p a b) (wants_all e)
-
--- the loop
-pub fields-first : (o : ℕ → ℕ) (p : PartReq) (j ways n : ℕ) → n ≡ ways → Fields o p (field_asks fields ways o 0 p) j n j 0
-fields-first o p j ways n e = record { few = omega arith; rest = rw e }
-
 no_ways : (o : ℕ → ℕ) (p : PartReq) (n k : ℕ) → field_asks n 0 o k p ≡ []
 unfolding field_asks asks_by
 no_ways o p zero k = refl
@@ -113,32 +88,68 @@ later : (a : Ask) (xs : List Ask) (n : ℕ) → (n ≡ 0 → ⊥) → get_elem? 
 later a xs zero ne = absurd (ne refl)
 later a xs (suc n) ne = let e : suc n - 1 ≡ n = omega arith in rw e
 
-module _ {o : ℕ → ℕ} {p : PartReq} {total : List Ask} {j ways skip k : ℕ} (h : Fields o p total j ways skip k) where
-  pub fields_none : ways ≡ 0 → get_elem? total j ≡ nothing
-  fields_none e = sym h.rest ∙ rw (e, no_ways o p (fields - k) k)
+-- an operand that may be left out
+pub maybe_is : (x : ℕ) → option_of x ≡ cond (not (eqb x absent)) (some x) nothing
+unfolding option_of
+maybe_is x = go (eqb x absent)
+  where
+    go : (b : Bool) → ◌≡◌ {A = Option ℕ} (cond b nothing (some x)) (cond (not b) (some x) nothing)
+    go true = refl
+    go false = refl
 
-  pub fields-end : fields ≤ k → get_elem? total j ≡ nothing
-  unfolding field_asks
-  fields-end l =
-      let z : fields - k ≡ 0 = omega arith in
-      sym h.rest ∙ rw z
+-- what an operand that was chosen, or was not, says of its way
+is_chosen : (b : Bool) {n x : ℕ} → ◌≡◌ {A = Option ℕ} (some n) (cond b (some x) nothing) → (b ≡ true) × (n ≡ x)
+is_chosen true h = (refl, some-injective _ _ h)
+is_chosen false h = absurd (some-ne-none _ h)
 
-  module _ (on : k < fields) {x way : ℕ} (e : x ≡ o k) (d : way ≡ ways % 8) where
+not_chosen : (b : Bool) (x : ℕ) → ◌≡◌ {A = Option ℕ} nothing (cond b (some x) nothing) → b ≡ false
+not_chosen true x h = absurd (none-ne-some _ h)
+not_chosen false x h = refl
+
+way_small : (way : Way) → way_number way < 8
+way_small Way.Skip = omega arith
+way_small Way.Part = omega arith
+way_small Way.All = omega arith
+way_small Way.Exist = omega arith
+way_small Way.Maybe = omega arith
+
+-- a turn of the loop: what is left of the ways, from the field k on, gives the whole
+pub record Fields (ways : List Way) (o : ℕ → ℕ) (p : PartReq) (total : List Ask) (j skip k : ℕ) : Type 0 where
+  pub few : length ways ≤ fields
+  pub rest : get_elem? (field_asks (fields - k) (pack (numbers (drop k ways))) o k p) skip ≡ get_elem? total j
+
+pub fields-first : {kind code : ℕ} {ways : List Way} (o : ℕ → ℕ) (p : PartReq) (j : ℕ) → WaysOf kind code ways → Fields ways o p (field_asks fields (ways_of kind code) o 0 p) j j 0
+fields-first o p j h = record { few = h.few; rest = rw h.is }
+
+module _ {ways : List Way} {o : ℕ → ℕ} {p : PartReq} {total : List Ask} {j skip k : ℕ} (h : Fields ways o p total j skip k) where
+  pub fields-end : length ways ≤ k → get_elem? total j ≡ nothing
+  unfolding numbers pack
+  fields-end l = sym h.rest ∙ rw (drop_of_length-le ways l, no_ways o p (fields - k) k)
+
+  module _ (on : k < length ways) (d : Way) where
+    abbrev way : Way
+    way = get_or ways k d
+
     abbrev rest_of : List Ask
-    rest_of = field_asks (fields - (k + 1)) (ways / 8) o (k + 1) p
+    rest_of = field_asks (fields - suc k) (pack (numbers (drop (suc k) ways))) o (suc k) p
 
-    step : field_asks (fields - k) ways o k p ≡ cond (asks_by way x) (of_operand x (part_by way p) ∷ rest_of) rest_of
-    unfolding field_asks
+    step : field_asks (fields - k) (pack (numbers (drop k ways))) o k p ≡ cond (asks_by (way_number way) (o k)) (of_operand (o k) (part_by (way_number way) p) ∷ rest_of) rest_of
+    unfolding field_asks numbers pack
     step =
-        let z : fields - k ≡ suc (fields - (k + 1)) = omega arith in
-        rw (z, e, d, add-one)
+        let z : fields - k ≡ suc (fields - suc k) = omega (arith, h.few) in
+        let small = way_small way in
+        let first : (way_number way + 8 * pack (numbers (drop (suc k) ways))) % 8 ≡ way_number way = omega (arith, small) in
+        let others : (way_number way + 8 * pack (numbers (drop (suc k) ways))) / 8 ≡ pack (numbers (drop (suc k) ways)) = omega (arith, small) in
+        rw (z, drop-cons ways k d on, first, others)
 
-    pub fields_found : {a : Bool} → a ≡ asks_by way x → a ≡ true → skip ≡ 0 → get_elem? total j ≡ some (of_operand x (part_by way p))
-    fields_found b t z = sym h.rest ∙ rw (step, ← b, t, z)
+    module _ {n : ℕ} (c : ◌≡◌ {A = Option ℕ} (some n) (chosen (way_number way) (o k))) where
+      pub fields_found : skip ≡ 0 → get_elem? total j ≡ some (of_operand n (part_by (way_number way) p))
+      fields_found z = let d = is_chosen _ c in sym h.rest ∙ rw (step, d.0, d.1, z)
 
-    pub fields_later : {a : Bool} {n : ℕ} → a ≡ asks_by way x → a ≡ true → (skip ≡ 0 → ⊥) → n ≡ skip - 1 → Fields o p total j (ways / 8) n (k + 1)
-    fields_later b t ne d =
-        record { few = omega arith; rest = rw d (sym (later (of_operand x (part_by way p)) rest_of skip ne) ∙ (sym (rw (step, ← b, t)) ∙ h.rest)) }
+      pub fields_later : {m : ℕ} → (skip ≡ 0 → ⊥) → m ≡ skip - 1 → Fields ways o p total j m (k + 1)
+      fields_later ne d =
+          let b = is_chosen _ c in
+          record { few = h.few; rest = rw (d, add-one) (sym (later (of_operand (o k) (part_by (way_number way) p)) rest_of skip ne) ∙ (sym (rw (step, b.0)) ∙ h.rest)) }
 
-    pub fields_skip : {a : Bool} {n : ℕ} → a ≡ asks_by way x → a ≡ false → n ≡ skip → Fields o p total j (ways / 8) n (k + 1)
-    fields_skip b f d = record { few = omega arith; rest = rw d (sym (rw (step, ← b, f)) ∙ h.rest) }
+    pub fields_skip : {m : ℕ} → ◌≡◌ {A = Option ℕ} nothing (chosen (way_number way) (o k)) → m ≡ skip → Fields ways o p total j m (k + 1)
+    fields_skip c d = record { few = h.few; rest = rw (d, add-one) (sym (rw (step, not_chosen _ _ c)) ∙ h.rest) }

@@ -12,9 +12,9 @@ use Rattle.walk.specs.Expression.{Ask, arm_asks}
 use Rattle.valid.specs.Valid.{OperandsBelow, NamesBelow}
 use Rattle.memory.specs.declared.want.Want.{Want}
 use Rattle.asks.specs.Asks.{said, Told, Within}
-use Rattle.asks.specs.declared.what.What.{What}
-use Rattle.asks.specs.declared.what.What.TheVariants.{Operand, Argument, Global, Local, Refuse, End}
+use Rattle.std.specs.Prelude.{Option as Optional, Some, None}
 use Rattle.asks.specs.declared.what.Ask as declared
+use Rattle.asks.specs.declared.what.Ask.TheVariants.{Operand, Argument, Global, Local, Refuse}
 use Rattle.walk.proofs.Reach.{Reaches, AllReach, arm_there}
 
 module _ (globals arguments locals e : ℕ) where
@@ -28,14 +28,14 @@ module _ (globals arguments locals e : ℕ) where
   at_there (a ∷ xs) (suc j) h = at_there xs j h.1
 
   module _ (few_globals : globals ≤ max_globals) (few_arguments : arguments ≤ max_arguments) (few_locals : locals ≤ max_locals) where
-    said-within : (s rs : List ℕ) (what : What) (w : Want) → MaybeReach (said s rs what w) → Within globals arguments locals e what
-    said-within s rs (Operand h) w b = b
-    said-within s rs (Argument i) w b = (b, omega arith)
-    said-within s rs (Global g) w b = (b, omega arith)
-    said-within s rs (Local l) w b = (b, omega arith)
-    said-within s rs (Refuse r) w b = tt
-    said-within s rs End w b = tt
+    said-within : (s rs : List ℕ) (w : Want) (r : Optional declared.Ask) → MaybeReach (said s rs w r) → Within globals arguments locals e r
+    said-within s rs w (Some (Operand h u)) b = b
+    said-within s rs w (Some (Argument i)) b = (b, omega arith)
+    said-within s rs w (Some (Global g)) b = (b, omega arith)
+    said-within s rs w (Some (Local l)) b = (b, omega arith)
+    said-within s rs w (Some (Refuse r)) b = tt
+    said-within s rs w None b = tt
 
-    pub arm_within : {s rs : List ℕ} (x : Expression) (p : PartReq) {j : ℕ} {r : declared.Ask} → OperandsBelow e x → NamesBelow globals arguments locals x → Told s rs (arm_asks x p) j r → Within globals arguments locals e r.what
-    arm_within {s} {rs} x p {j} {r} b n t =
-        said-within s rs r.what r.want (subst MaybeReach t.is (at_there (arm_asks x p) j (arm_there globals arguments locals e x p b n)))
+    pub arm_within : {s rs : List ℕ} {w : Want} (x : Expression) (p : PartReq) {j : ℕ} {r : Optional declared.Ask} → OperandsBelow e x → NamesBelow globals arguments locals x → Told s rs w (arm_asks x p) j r → Within globals arguments locals e r
+    arm_within {s} {rs} {w} x p {j} {r} b n t =
+        said-within s rs w r (subst MaybeReach t.is (at_there (arm_asks x p) j (arm_there globals arguments locals e x p b n)))

@@ -34,17 +34,17 @@ use Rattle.memory.proofs.Slots.{asked-slot, want_slot}
 use Rattle.memory.proofs.FlatParts.{swizzled-same}
 use Rattle.asks.specs.Asks.{Told, Lettered}
 use Rattle.asks.specs.Ways.{By}
-use Rattle.asks.specs.declared.what.What.TheVariants.{Operand, Refuse, End}
+use Rattle.asks.specs.declared.what.Ask.TheVariants.{Operand, Refuse}
 use Rattle.asks.proofs.FieldAsks.{wants_all}
 
-module _ {s rs : List ℕ} {xs : List Ask} {j : ℕ} where
-  pub told_end : {w : Want} → Wants s rs w → get_elem? xs j ≡ nothing → Told s rs xs j (record { what = End; want = w })
-  told_end q e = record { wants = q; is = e }
+module _ {s rs : List ℕ} {w : Want} {xs : List Ask} {j : ℕ} where
+  pub told_end : get_elem? xs j ≡ nothing → Told s rs w xs j None
+  told_end e = record { wants = tt; is = e }
 
-  pub told_refuse : {w : Want} {r : Refusal} → Wants s rs w → get_elem? xs j ≡ some (refuse (number r)) → Told s rs xs j (record { what = Refuse r; want = w })
-  told_refuse q e = record { wants = q; is = e }
+  pub told_refuse : {r : Refusal} → get_elem? xs j ≡ some (refuse (number r)) → Told s rs w xs j (Some (Refuse r))
+  told_refuse e = record { wants = tt; is = e }
 
-  pub told_operand : (h : handles.ExpressionHandle) {p : PartReq} {u : Want} → By s rs p u → get_elem? xs j ≡ some (of_operand h.0 p) → Told s rs xs j (record { what = Operand h; want = u })
+  pub told_operand : (h : handles.ExpressionHandle) {p : PartReq} {u : Want} → By s rs p u → get_elem? xs j ≡ some (of_operand h.0 p) → Told s rs w xs j (Some (Operand h u))
   told_operand h b e = record { wants = b.wants; is = e ∙ rw b.is }
 
 -- at most one thing
@@ -78,51 +78,51 @@ swizzle_few a panics = omega arith
 pub index_room : (s rs : List ℕ) {w : Want} → Wants s rs w → {i : ℕ} {b : Bool} → b ≡ over (more i (asked s rs w) none) → i < spine → b ≡ false → w.up < max_depth
 index_room s rs {w} q {i} o l f = wrap_low w (part s (get_or rs w.slot 0)) q i l (sym o ∙ f)
 
-module _ {s rs : List ℕ} {w : Want} (q : Wants s rs w) (j : ℕ) where
-  pub index_after : (a : ExpressionHandle) (p : PartReq) → 0 < j → Told s rs (formed a p) j (record { what = End; want = w })
-  index_after a p h = told_end q (none_after (formed a p) j (formed-few a p) h)
+module _ {s rs : List ℕ} {w : Want} (j : ℕ) where
+  pub index_after : (a : ExpressionHandle) (p : PartReq) → 0 < j → Told s rs w (formed a p) j None
+  index_after a p h = told_end (none_after (formed a p) j (formed-few a p) h)
 
   -- the index i is the field x, and b says whether {i: what w asks} passes a limit
   module _ (h : j ≤ 0) {i x : ℕ} {b : Bool} (d : i ≡ x) (o : b ≡ over (more i (asked s rs w) none)) where
-    pub index_over : (a : ExpressionHandle) → b ≡ true → Told s rs (formed a (more x (asked s rs w) none)) j (record { what = Refuse PartLimit; want = w })
+    pub index_over : (a : ExpressionHandle) → b ≡ true → Told s rs w (formed a (more x (asked s rs w) none)) j (Some (Refuse PartLimit))
     unfolding formed
-    index_over a t = let z : j ≡ 0 = omega arith in told_refuse q (rw (z, ← d, ← o, t))
+    index_over a t = let z : j ≡ 0 = omega arith in told_refuse (rw (z, ← d, ← o, t))
 
-    pub index_asked : {e : handles.ExpressionHandle} {a : ExpressionHandle} {u : Want} → i < spine → b ≡ false → e.0 ≡ a → u ≡ wrapped w i → Told s rs (formed a (more x (asked s rs w) none)) j (record { what = Operand e; want = u })
+    pub index_asked : Wants s rs w → {e : handles.ExpressionHandle} {a : ExpressionHandle} {u : Want} → i < spine → b ≡ false → e.0 ≡ a → u ≡ wrapped w i → Told s rs w (formed a (more x (asked s rs w) none)) j (Some (Operand e u))
     unfolding formed
-    index_asked {e} l f c g =
+    index_asked q {e} l f c g =
         let z : j ≡ 0 = omega arith in
         let p = part s (get_or rs w.slot 0) in
         rw g
         (told_operand e (record { wants = asking_wrapped w p q i l (sym o ∙ f); is = asks-wrapped w p q i (wrap_low w p q i l (sym o ∙ f)) })
         (rw (z, ← d, ← o, f, c)))
 
-  pub constant_after : (p : PartReq) → 0 < j → Told s rs (constant_asks p) j (record { what = End; want = w })
-  constant_after p h = told_end q (none_after (constant_asks p) j (constant_few p) h)
+  pub constant_after : (p : PartReq) → 0 < j → Told s rs w (constant_asks p) j None
+  constant_after p h = told_end (none_after (constant_asks p) j (constant_few p) h)
 
-  pub constant_all : (p : PartReq) → true ≡ is_all p → Told s rs (constant_asks p) j (record { what = End; want = w })
+  pub constant_all : (p : PartReq) → true ≡ is_all p → Told s rs w (constant_asks p) j None
   unfolding constant_asks
-  constant_all all h = told_end q refl
+  constant_all all h = told_end refl
   constant_all exist h = absurd (true≢false h)
   constant_all none h = absurd (true≢false h)
   constant_all (more i p r) h = absurd (true≢false h)
 
-  pub constant_exist : (p : PartReq) → true ≡ is_exist p → Told s rs (constant_asks p) j (record { what = End; want = w })
+  pub constant_exist : (p : PartReq) → true ≡ is_exist p → Told s rs w (constant_asks p) j None
   unfolding constant_asks
   constant_exist all h = absurd (true≢false h)
-  constant_exist exist h = told_end q refl
+  constant_exist exist h = told_end refl
   constant_exist none h = absurd (true≢false h)
   constant_exist (more i p r) h = absurd (true≢false h)
 
-  pub constant_refused : (p : PartReq) → j ≤ 0 → false ≡ is_all p → false ≡ is_exist p → Told s rs (constant_asks p) j (record { what = Refuse Panic; want = w })
+  pub constant_refused : (p : PartReq) → j ≤ 0 → false ≡ is_all p → false ≡ is_exist p → Told s rs w (constant_asks p) j (Some (Refuse Panic))
   unfolding constant_asks
   constant_refused all h a e = absurd (false≢true a)
   constant_refused exist h a e = absurd (false≢true e)
-  constant_refused none h a e = let z : j ≡ 0 = omega arith in told_refuse q (rw z)
-  constant_refused (more i p r) h a e = let z : j ≡ 0 = omega arith in told_refuse q (rw z)
+  constant_refused none h a e = let z : j ≡ 0 = omega arith in told_refuse (rw z)
+  constant_refused (more i p r) h a e = let z : j ≡ 0 = omega arith in told_refuse (rw z)
 
-  pub swizzle_after : (a : ExpressionHandle) (x : Swizzled) → 0 < j → Told s rs (swizzle_asks a x) j (record { what = End; want = w })
-  swizzle_after a x h = told_end q (none_after (swizzle_asks a x) j (swizzle_few a x) h)
+  pub swizzle_after : (a : ExpressionHandle) (x : Swizzled) → 0 < j → Told s rs w (swizzle_asks a x) j None
+  swizzle_after a x h = told_end (none_after (swizzle_asks a x) j (swizzle_few a x) h)
 
 -- the letters of a pattern
 pub letter_at : (n : ℕ) (f : ℕ → ℕ) (i : ℕ) {x : ℕ} → x ≡ f i → i < n → x ≡ get_or (tab n f) i 0
@@ -154,16 +154,16 @@ letters-low {pattern} {letters} b l = record { low = λ i h. rw (l.same i h) (lo
               rw (get_or-eq_default xs 0 l) (omega arith)
         ]
 
-module _ {s rs pattern letters : List ℕ} {w : Want} (q : Wants s rs w) (j : ℕ) (l : Lettered pattern letters) where
+module _ {s rs pattern letters : List ℕ} (w : Want) (j : ℕ) (l : Lettered pattern letters) where
   picked : {a : std.Option ℕ} → Picks s rs (swizzled letters (asked s rs w)) a → Picking s rs (swizzled pattern (asked s rs w)) a
   picked x = rw (← swizzled-same letters pattern l.same (asked s rs w)) x.by
 
-  pub swizzle_refused : (v : ExpressionHandle) → j ≤ 0 → Picks s rs (swizzled letters (asked s rs w)) None → Told s rs (swizzle_asks v (swizzled pattern (asked s rs w))) j (record { what = Refuse Panic; want = w })
+  pub swizzle_refused : (v : ExpressionHandle) → j ≤ 0 → Picks s rs (swizzled letters (asked s rs w)) None → Told s rs w (swizzle_asks v (swizzled pattern (asked s rs w))) j (Some (Refuse Panic))
   unfolding swizzle_asks
-  swizzle_refused v h x = let z : j ≡ 0 = omega arith in told_refuse q (rw (picked x, z))
+  swizzle_refused v h x = let z : j ≡ 0 = omega arith in told_refuse (rw (picked x, z))
 
   pub swizzle_asked : {h : handles.ExpressionHandle} {v : ExpressionHandle} {u : Want} {n : ℕ} → j ≤ 0 → Picks s rs (swizzled letters (asked s rs w)) (Some n) → h.0 ≡ v → u ≡ want_of n
-      → Told s rs (swizzle_asks v (swizzled pattern (asked s rs w))) j (record { what = Operand h; want = u })
+      → Told s rs w (swizzle_asks v (swizzled pattern (asked s rs w))) j (Some (Operand h u))
   unfolding swizzle_asks formed
   swizzle_asked {h} {n = n} z x c g =
       let i : j ≡ 0 = omega arith in
@@ -250,27 +250,27 @@ by_components cs exist h = absurd (true≢false h)
 by_components cs none h = absurd (true≢false h)
 by_components cs (more i p r) h = absurd (true≢false h)
 
-module _ {s rs : List ℕ} {w : Want} (q : Wants s rs w) (j : ℕ) (n : ℕ) (f : ℕ → ℕ) where
+module _ {s rs : List ℕ} {w : Want} (j : ℕ) (n : ℕ) (f : ℕ → ℕ) where
   module _ (h : true ≡ is_all (asked s rs w)) where
-    pub compose_all : (x : handles.ExpressionHandle) {u : Want} → Memory s rs → j < n → x.0 ≡ f j → u ≡ want_of all_slot → Told s rs (compose_asks (tab n f) (asked s rs w)) j (record { what = Operand x; want = u })
+    pub compose_all : (x : handles.ExpressionHandle) {u : Want} → Memory s rs → j < n → x.0 ≡ f j → u ≡ want_of all_slot → Told s rs w (compose_asks (tab n f) (asked s rs w)) j (Some (Operand x u))
     compose_all x m l e g =
         told_operand x (wants_all m g)
         (rw (by_components (tab n f) (asked s rs w) h, each_is (tab n f) j, component_at (tab n f) j (rw length-tab l), get_d_tab n f j 0 l, e))
 
-    pub compose_all_past : n ≤ j → Told s rs (compose_asks (tab n f) (asked s rs w)) j (record { what = End; want = w })
-    compose_all_past l = told_end q (rw (by_components (tab n f) (asked s rs w) h, each_is (tab n f) j, component_past (tab n f) j (rw length-tab l)))
+    pub compose_all_past : n ≤ j → Told s rs w (compose_asks (tab n f) (asked s rs w)) j None
+    compose_all_past l = told_end (rw (by_components (tab n f) (asked s rs w) h, each_is (tab n f) j, component_past (tab n f) j (rw length-tab l)))
 
   module _ (h : false ≡ is_all (asked s rs w)) where
-    pub compose_past : None ≡ first (tail (asked s rs w) j) → Told s rs (compose_asks (tab n f) (asked s rs w)) j (record { what = End; want = w })
-    compose_past e = told_end q (rw (by_entries (tab n f) (asked s rs w) h) (entries_past (tab n f) (asked s rs w) j e))
+    pub compose_past : None ≡ first (tail (asked s rs w) j) → Told s rs w (compose_asks (tab n f) (asked s rs w)) j None
+    compose_past e = told_end (rw (by_entries (tab n f) (asked s rs w) h) (entries_past (tab n f) (asked s rs w) j e))
 
     module _ {i : ℕ} (e : Some i ≡ first (tail (asked s rs w) j)) where
-      pub compose_entry : (x : handles.ExpressionHandle) {u : Want} → i < n → x.0 ≡ f i → Child s rs w j u → Told s rs (compose_asks (tab n f) (asked s rs w)) j (record { what = Operand x; want = u })
+      pub compose_entry : (x : handles.ExpressionHandle) {u : Want} → i < n → x.0 ≡ f i → Child s rs w j u → Told s rs w (compose_asks (tab n f) (asked s rs w)) j (Some (Operand x u))
       unfolding component_ask
       compose_entry x l d c =
           told_operand x (record { wants = c.wants; is = c.is })
           (entry_is (tab n f) (asked s rs w) j h e ∙ rw (component_at (tab n f) i (rw length-tab l), get_d_tab n f i 0 l, d))
 
-      pub compose_refused : n ≤ i → Told s rs (compose_asks (tab n f) (asked s rs w)) j (record { what = Refuse Panic; want = w })
+      pub compose_refused : n ≤ i → Told s rs w (compose_asks (tab n f) (asked s rs w)) j (Some (Refuse Panic))
       unfolding component_ask
-      compose_refused l = told_refuse q (entry_is (tab n f) (asked s rs w) j h e ∙ rw (component_past (tab n f) i (rw length-tab l)))
+      compose_refused l = told_refuse (entry_is (tab n f) (asked s rs w) j h e ∙ rw (component_past (tab n f) i (rw length-tab l)))

@@ -1,16 +1,21 @@
 -- The arms that ask their operands in the fields' order, each in its way: 0 not at all, 1 the part that is asked of the expression, 2 all, 3 exist,
 -- 4 all where the operand is there. What such an arm asks, by the ways of its fields.
-use Rattle.std.specs.Prelude.{ℕ, zero, suc, ◌+◌, ◌-◌, ◌*◌, ◌/◌, ◌%◌, ◌≤◌, ◌≡◌, Bool, true, false, cond, not, List, [], ◌∷◌, eqb, get_or}
-use Rattle.std.proofs.Math.ListN.{get_elem?}
+use Rattle.std.specs.Prelude.{ℕ, zero, suc, ◌+◌, ◌*◌, ◌/◌, ◌%◌, ◌≤◌, ◌≡◌, Bool, true, false, cond, not, List, [], ◌∷◌, eqb, length, get_or}
+use Rattle.std.proofs.Math.Option.{Option, some, none as nothing}
 use Rattle.field.specs.Limits.{absent}
 use Rattle.part.specs.PartReq.{PartReq, all, exist}
 use Rattle.walk.specs.Expression.{Ask, of_operand}
 use Rattle.memory.specs.declared.want.Want.{Want}
 use Rattle.memory.specs.Want.{asked, Wants}
+use Rattle.asks.specs.declared.fields.Way.{Way}
 
 -- whether the field x is asked, and what of it
 unfoldable pub asks_by : ℕ → ℕ → Bool
 asks_by way x = get_or (false ∷ true ∷ true ∷ true ∷ not (eqb x absent) ∷ []) way false
+
+-- the operand x, where it is asked in this way
+abbrev pub chosen : (way x : ℕ) → Option ℕ
+chosen way x = cond (asks_by way x) (some x) nothing
 
 unfoldable pub part_by : ℕ → PartReq → PartReq
 part_by way p = get_or (all ∷ p ∷ all ∷ exist ∷ []) way all
@@ -81,6 +86,23 @@ sample_ways =
 unfoldable pub ways_of : (kind code : ℕ) → ℕ
 ways_of kind code = cond (eqb kind 13) (get_or sample_ways code (get_or sample_ways 0 0)) (get_or kind_ways kind 0)
 
+-- the number of a way, and those of the ways of an arm's fields
+abbrev pub way_number : Way → ℕ
+way_number Way.Skip = 0
+way_number Way.Part = 1
+way_number Way.All = 2
+way_number Way.Exist = 3
+way_number Way.Maybe = 4
+
+unfoldable pub numbers : List Way → List ℕ
+numbers [] = []
+numbers (way ∷ ways) = way_number way ∷ numbers ways
+
+-- the ways of a kind's fields, no more than an arm has
+pub record WaysOf (kind code : ℕ) (ways : List Way) : Type 0 where
+  pub is : pack (numbers ways) ≡ ways_of kind code
+  pub few : length ways ≤ fields
+
 -- the kinds of another sort: what they ask, its index or its part decides, or they name a variable
 pub record Plain (kind : ℕ) : Type 0 where
   pub access_index : kind ≡ 3 → ⊥
@@ -91,11 +113,6 @@ pub record Plain (kind : ℕ) : Type 0 where
   pub global : kind ≡ 10 → ⊥
   pub local : kind ≡ 11 → ⊥
   pub positions : kind ≡ 31 → ⊥
-
--- what is left of the fields, from the field k on, gives the whole
-pub record Fields (o : ℕ → ℕ) (p : PartReq) (total : List Ask) (j : ℕ) (ways skip k : ℕ) : Type 0 where
-  pub few : k ≤ fields
-  pub rest : get_elem? (field_asks (fields - k) ways o k p) skip ≡ get_elem? total j
 
 -- u asks p
 pub record By (s rs : List ℕ) (p : PartReq) (u : Want) : Type 0 where

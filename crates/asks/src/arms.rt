@@ -10,60 +10,51 @@ ghost use Rattle.memory.specs.Memory.{Memory};
 ghost use Rattle.memory.specs.Want.{asked, Wants};
 ghost use Rattle.asks.specs.Asks.{Told, Lettered};
 
-use crate::what::{Ask, What};
+use crate::what::Ask;
 use access::kinded::{Kinded, expression_operand, operand};
 use field::refusal::Refusal;
 use memory::layout::ALL;
 use memory::want::{Want, child, entry, is_all, is_exist, swizzle, want_of, wrap_over};
 use module::handles::ExpressionHandle;
 
-pub fn access_index(bytes: &[u8], cells: &[u32], slots: &[u32], row: Kinded, w: Want, j: u32) -> Ask
+pub fn access_index(
+    bytes: &[u8],
+    cells: &[u32],
+    slots: &[u32],
+    row: Kinded,
+    w: Want,
+    j: u32,
+) -> Option<Ask>
     requires { Memory cells.now slots.now × Wants cells.now slots.now w }
-    ensures { Told cells.now slots.now (formed (operand_at bytes.now row 0) (more (operand_at bytes.now row 1) (asked cells.now slots.now w) none)) j result }
+    ensures { Told cells.now slots.now w (formed (operand_at bytes.now row 0) (more (operand_at bytes.now row 1) (asked cells.now slots.now w) none)) j result }
 {
     if 0 < j {
-        return Ask {
-            what: What::End,
-            want: w,
-        };
+        return None;
     }
     let i = operand(bytes, row, 1) as u32;
     if wrap_over(cells, slots, w, i) {
-        return Ask {
-            what: What::Refuse(Refusal::PartLimit),
-            want: w,
-        };
+        return Some(Ask::Refuse(Refusal::PartLimit));
     }
     let base = expression_operand(bytes, row, 0);
     let want = w.wrap(i);
-    Ask {
-        what: What::Operand(base),
-        want: want,
-    }
+    Some(Ask::Operand(base, want))
 }
 
 // The assertion of a constant.
-pub fn constant(cells: &[u32], slots: &[u32], w: Want, j: u32) -> Ask
+pub fn constant(cells: &[u32], slots: &[u32], w: Want, j: u32) -> Option<Ask>
     requires { Memory cells.now slots.now × Wants cells.now slots.now w }
-    ensures { Told cells.now slots.now (constant_asks (asked cells.now slots.now w)) j result }
+    ensures { Told cells.now slots.now w (constant_asks (asked cells.now slots.now w)) j result }
 {
-    let end = Ask {
-        what: What::End,
-        want: w,
-    };
     if 0 < j {
-        return end;
+        return None;
     }
     if is_all(cells, slots, w) {
-        return end;
+        return None;
     }
     if is_exist(cells, slots, w) {
-        return end;
+        return None;
     }
-    Ask {
-        what: What::Refuse(Refusal::Panic),
-        want: w,
-    }
+    Some(Ask::Refuse(Refusal::Panic))
 }
 
 // The letter i of a swizzle, 0 where its pattern has none.
@@ -88,30 +79,28 @@ fn letters(bytes: &[u8], row: Kinded) -> [u32; 4]
     [a, b, c, d]
 }
 
-pub fn swizzle_ask(bytes: &[u8], cells: &[u32], slots: &[u32], row: Kinded, w: Want, j: u32) -> Ask
+pub fn swizzle_ask(
+    bytes: &[u8],
+    cells: &[u32],
+    slots: &[u32],
+    row: Kinded,
+    w: Want,
+    j: u32,
+) -> Option<Ask>
     requires memory { Memory cells.now slots.now × Wants cells.now slots.now w }
     requires each_below { EachBelow 4 (tab (operand_at bytes.now row 1) (λ k. operand_at bytes.now row (2 + k))) }
-    ensures { Told cells.now slots.now (swizzle_asks (operand_at bytes.now row 0) (swizzled (tab (operand_at bytes.now row 1) (λ k. operand_at bytes.now row (2 + k))) (asked cells.now slots.now w))) j result }
+    ensures { Told cells.now slots.now w (swizzle_asks (operand_at bytes.now row 0) (swizzled (tab (operand_at bytes.now row 1) (λ k. operand_at bytes.now row (2 + k))) (asked cells.now slots.now w))) j result }
 {
     if 0 < j {
-        return Ask {
-            what: What::End,
-            want: w,
-        };
+        return None;
     }
     let pattern = letters(bytes, row);
     let Some(slot) = swizzle(cells, slots, w, pattern) else {
-        return Ask {
-            what: What::Refuse(Refusal::Panic),
-            want: w,
-        };
+        return Some(Ask::Refuse(Refusal::Panic));
     };
     let vector = expression_operand(bytes, row, 0);
     let want = want_of(slot);
-    Ask {
-        what: What::Operand(vector),
-        want: want,
-    }
+    Some(Ask::Operand(vector, want))
 }
 
 // The component i of a construction.
@@ -125,39 +114,31 @@ fn component(bytes: &[u8], row: Kinded, i: u32) -> ExpressionHandle
 }
 
 // All of each component; or what each entry has, of the component with its index.
-pub fn compose(bytes: &[u8], cells: &[u32], slots: &[u32], row: Kinded, w: Want, j: u32) -> Ask
+pub fn compose(
+    bytes: &[u8],
+    cells: &[u32],
+    slots: &[u32],
+    row: Kinded,
+    w: Want,
+    j: u32,
+) -> Option<Ask>
     requires { Memory cells.now slots.now × Wants cells.now slots.now w }
-    ensures { Told cells.now slots.now (compose_asks (tab (operand_at bytes.now row 0) (λ k. operand_at bytes.now row (1 + k))) (asked cells.now slots.now w)) j result }
+    ensures { Told cells.now slots.now w (compose_asks (tab (operand_at bytes.now row 0) (λ k. operand_at bytes.now row (1 + k))) (asked cells.now slots.now w)) j result }
 {
-    let end = Ask {
-        what: What::End,
-        want: w,
-    };
     let n = operand(bytes, row, 0) as u32;
     if is_all(cells, slots, w) {
         if n <= j {
-            return end;
+            return None;
         }
         let x = component(bytes, row, j);
         let all = want_of(ALL);
-        return Ask {
-            what: What::Operand(x),
-            want: all,
-        };
+        return Some(Ask::Operand(x, all));
     }
-    let Some(i) = entry(cells, slots, w, j) else {
-        return end;
-    };
+    let i = entry(cells, slots, w, j)?;
     if n <= i {
-        return Ask {
-            what: What::Refuse(Refusal::Panic),
-            want: w,
-        };
+        return Some(Ask::Refuse(Refusal::Panic));
     }
     let x = component(bytes, row, i);
     let u = child(cells, slots, w, j);
-    Ask {
-        what: What::Operand(x),
-        want: u,
-    }
+    Some(Ask::Operand(x, u))
 }

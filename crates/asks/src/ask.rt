@@ -6,29 +6,26 @@ ghost use Rattle.asks.specs.Asks.{Only, There, Asks};
 
 use crate::arms::{access_index, compose, constant, swizzle_ask};
 use crate::fields::field_ask;
-use crate::what::{Ask, What};
+use crate::what::Ask;
 use access::kinded::{expression, global_operand, local_operand, operand};
 use field::refusal::Refusal;
 use memory::want::Want;
 use module::handles::{ExpressionHandle, FunctionHandle};
+use module::kinds::ExpressionKind;
 
 // The j-th thing that an arm does, which does only `what`.
-fn only(what: What, w: Want, j: u32) -> Ask
-    ensures { Only what w j result }
+fn only(what: Ask, j: u32) -> Option<Ask>
+    ensures { Only what j result }
 {
     if j == 0 {
-        return Ask {
-            what: what,
-            want: w,
-        };
+        return Some(what);
     }
-    Ask {
-        what: What::End,
-        want: w,
-    }
+    None
 }
 
-// The j-th thing that the arm of e does, where w is asked of it.
+// The j-th thing that the arm of e does, where w is asked of it; none where it does no more. It is not inlined: the walk calls itself, and would hold
+// what this works with on every level.
+#[inline(never)]
 pub fn ask(
     bytes: &[u8],
     t: &[u32],
@@ -38,22 +35,23 @@ pub fn ask(
     e: ExpressionHandle,
     w: Want,
     j: u32,
-) -> Ask
+) -> Option<Ask>
     requires there { There bytes.now t.now f.0 e.0 }
     requires memory { Memory cells.now slots.now × Wants cells.now slots.now w }
     ensures { Asks (module_of bytes.now t.now) f.0 e.0 cells.now slots.now w j result }
 {
     let row = expression(bytes, t, f, e);
-    let kind = row.kind;
-    match kind {
-        3 => access_index(bytes, cells, slots, row, w, j),
-        5 => constant(cells, slots, w, j),
-        7 => swizzle_ask(bytes, cells, slots, row, w, j),
-        8 => compose(bytes, cells, slots, row, w, j),
-        9 => only(What::Argument(operand(bytes, row, 0) as u32), w, j),
-        10 => only(What::Global(global_operand(bytes, row, 0)), w, j),
-        11 => only(What::Local(local_operand(bytes, row, 0)), w, j),
-        31 => only(What::Refuse(Refusal::Panic), w, j),
+    match ExpressionKind::try_from(row.kind) {
+        Ok(ExpressionKind::AccessIndex) => access_index(bytes, cells, slots, row, w, j),
+        Ok(ExpressionKind::Constant) => constant(cells, slots, w, j),
+        Ok(ExpressionKind::Swizzle) => swizzle_ask(bytes, cells, slots, row, w, j),
+        Ok(ExpressionKind::Compose) => compose(bytes, cells, slots, row, w, j),
+        Ok(ExpressionKind::FunctionArgument) => {
+            only(Ask::Argument(operand(bytes, row, 0) as u32), j)
+        }
+        Ok(ExpressionKind::GlobalVariable) => only(Ask::Global(global_operand(bytes, row, 0)), j),
+        Ok(ExpressionKind::LocalVariable) => only(Ask::Local(local_operand(bytes, row, 0)), j),
+        Ok(ExpressionKind::RayQueryVertexPositions) => only(Ask::Refuse(Refusal::Panic), j),
         _ => field_ask(bytes, cells, slots, row, w, j),
     }
 }

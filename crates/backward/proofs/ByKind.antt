@@ -21,7 +21,7 @@ use Rattle.judge.proofs.PathSteps.{function_valid}
 use Rattle.strays.proofs.Found.{in_function, statement_small, decoded}
 use Rattle.standing.specs.Standing.{inside}
 use Rattle.standing.specs.declared.passing.Passing.{Passing}
-use Rattle.standing.specs.declared.passing.Exits.{Exits}
+use Rattle.standing.specs.Exits.{Exits}
 use Rattle.quiet.specs.Places.{statement_tree}
 use Rattle.acts.specs.Acts.{StoreOf}
 use Rattle.acts.specs.Marks.{PassGiven, ByMark, EmitsPassed}

@@ -15,7 +15,7 @@ use Rattle.strays.proofs.Found.{there}
 use Rattle.standing.specs.Slots.{Ready}
 use Rattle.standing.specs.Standing.{Targets}
 use Rattle.standing.specs.declared.passing.Passing.{Passing}
-use Rattle.standing.specs.declared.passing.Exits.{Exits}
+use Rattle.standing.specs.Exits.{Exits}
 use Rattle.backward.specs.Course.{Course, RowIn}
 
 module _ {bytes t : List ℕ} {f : ℕ} {types alike paths firsts s rs path : List ℕ} {n : ℕ} {x : Exits} {p : Passing} (g : Course bytes t f types alike paths firsts s rs path n x p) where

@@ -24,7 +24,7 @@ use Rattle.quiet.specs.Places.{statement_tree, Obeys}
 use Rattle.strays.proofs.Found.{in_function, statement_small}
 use Rattle.standing.specs.Standing.{Walked, Closed, Blames, inside}
 use Rattle.standing.specs.declared.passing.Passing.{Passing}
-use Rattle.standing.specs.declared.passing.Exits.{Exits}
+use Rattle.standing.specs.Exits.{Exits}
 use Rattle.standing.proofs.Arms.{copied_ready, targets_more}
 use Rattle.standing.proofs.Taken.{walked_obeys, broken_full, walked_broken, broken_end_full}
 use Rattle.ends.specs.Merged.{Merged}
@@ -132,9 +132,6 @@ module _ {bytes t : List ℕ} {f : ℕ} {types alike paths firsts s rs path : Li
                 module _ {k' : ℕ} (same : k' ≡ l) {q₂ : Passing} (y : Blames k' q₁ q₂) {t₂ us₂ : List ℕ} {z : Bool} (last : Merged t₁ us₁ n (n - 1) n t₂ us₂ z) where
                   kept-both : Closed S (λ aside m i c. within (m ∷ i ∷ aside) (kept bare m i) c) t₁ us₁ n t₂ us₂ z
                   kept-both = broken_closed (one.walked.ready g₁) g.ready.high bare (bare_kept w l row.kind o) last
-
-                  pub holder_lengths : (length t₂ ≡ length s) × ((length us₂ ≡ length rs) × (length path₁ ≡ length path))
-                  holder_lengths = (last.cells ∙ one.walked.cells, (last.slots ∙ one.walked.slots ∙ above_long, one.long ∙ q.long))
 
                   pub holder_ends_full : z ≡ false → {q₃ : Passing} → q₃.full ≡ true → Passes S (inside (statement_tree F marks b l)) s rs n x p t₂ us₂ path path₁ q₃
                   holder_ends_full a u = record {

@@ -18,7 +18,7 @@ use Rattle.strays.specs.Places.{BlockOf}
 use Rattle.strays.proofs.Found.{accept_low, reject_low}
 use Rattle.standing.specs.Standing.{Walked, Closed, inside, around}
 use Rattle.standing.specs.declared.passing.Passing.{Passing}
-use Rattle.standing.specs.declared.passing.Exits.{Exits}
+use Rattle.standing.specs.Exits.{Exits}
 use Rattle.standing.proofs.Arms.{ending, exchanged, copied_ready, targets_more, rejected_full, rejected_ready, accepted_full, walked_if, if_full}
 use Rattle.ends.specs.Merged.{EndGiven}
 use Rattle.backward.specs.Course.{Course, Passes, RowIn, blocks_under, if_tree}
@@ -116,9 +116,6 @@ module _ {bytes t : List ℕ} {f : ℕ} {types alike paths firsts s rs path : Li
                   walked = rw (same_a, same_b) (walked_if g.ready g.targets if_copy.1 (tree_of F marks z) (tree_of F marks y) (o 0) one g₁ two g₂ (rw j at last) m);
                   long = second.long ∙ first.long;
                 }
-
-                pub if_lengths : (length t₃ ≡ length s) × ((length us₃ ≡ length rs) × (length path₂ ≡ length path))
-                if_lengths = (last.cells ∙ second.walked.cells ∙ first.walked.cells, (last.slots ∙ second.walked.slots ∙ second_long, second.long ∙ first.long))
 
                 pub if_ends_full : k ≡ false → {q : Passing} → q.full ≡ true → Passes S (inside (if_tree w o)) s rs n x p t₃ us₃ path path₂ q
                 if_ends_full m u = record {

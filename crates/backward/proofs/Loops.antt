@@ -3,6 +3,7 @@ use Prim.Native.Nat.{ℕ, ◌+◌, ◌*◌, ◌<◌, ◌≤◌}
 use native.Mathlib.Omega.{arith}
 use mathlib.Core.Path.{◌≡◌, refl, ap, ◌∙◌}
 use mathlib.Core.Bool.{Bool, true, false}
+use mathlib.Core.Option.{Option}
 use mathlib.Core.List.{List}
 use lib.ListN.{length, get_or, set, length-set}
 use Rattle.module.specs.Module.{BlockHandle, Function}
@@ -21,7 +22,7 @@ use Rattle.strays.proofs.Found.{statement_small, body_low, continuing_low}
 use Rattle.standing.specs.Slots.{table_size, stack_slot}
 use Rattle.standing.specs.Standing.{Walked, Begun, Entered, inside, around}
 use Rattle.standing.specs.declared.passing.Passing.{Passing}
-use Rattle.standing.specs.declared.passing.Exits.{Exits}
+use Rattle.standing.specs.Exits.{Exits}
 use Rattle.standing.proofs.Cases.{case_exits}
 use Rattle.standing.proofs.Loops.{body_exits, begun_full, continuing_targets, continuing_full, body_ready, body_targets, body_full, loop_full, walked_loop}
 use Rattle.ends.specs.Merged.{LoopEnds, BeginGiven}
@@ -56,11 +57,11 @@ module _ {bytes t : List ℕ} {f : ℕ} {types alike paths firsts s rs path : Li
   unfolding statement_of
   test_there = uses_of r 4 h g.world.given.of.read g.world.given.of.there
 
-  module _ {v : ℕ} (j : v ≡ o 2) where
+  module _ {v : Option ℕ} (j : v ≡ option_of (o 2)) where
     pub begin_asks : BeginGiven S l s rs n v
     begin_asks = record { read = g.world.read; judged = g.world.judged; ready = g.ready; low = small; spare = omega arith; there = rw j test_there }
 
-    module _ {t₀ us₀ : List ℕ} {k : Bool} (begun : Begun S l (option_of v) s rs n t₀ us₀ k) where
+    module _ {t₀ us₀ : List ℕ} {k : Bool} (begun : Begun S l v s rs n t₀ us₀ k) where
       begun_is : Begun S l (option_of (o 2)) s rs n t₀ us₀ k
       begun_is = rw j at begun
 

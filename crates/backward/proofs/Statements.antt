@@ -1,19 +1,15 @@
 -- A block's statements, the last first, with a point before each; the points around a block; and a statement by its kind.
 use Prim.Native.Nat.{ℕ, zero, suc, ◌+◌, ◌-◌, ◌*◌, ◌<◌, ◌≤◌}
 use native.Mathlib.Omega.{arith}
-use mathlib.Core.Path.{◌≡◌, refl, sym, ap, ◌∙◌}
-use mathlib.Core.Bool.{Bool, true, false, ◌&&◌}
+use mathlib.Core.Path.{◌≡◌, refl, ap, ◌∙◌}
+use mathlib.Core.Bool.{true, false}
 use mathlib.Core.List.{List}
-use lib.Dec.{ltb}
 use lib.ListN.{length}
-use borrow.Author.Tests.{lt-ltb, ltb-true, ltb-false}
-use Rattle.part.proofs.Equations.{never}
 use Rattle.module.specs.Module.{BlockRange, Function}
 use Rattle.module.specs.Tables.{function_of}
 use Rattle.access.specs.declared.kinded.Kinded.{Kinded}
 use Rattle.access.specs.Access.{operand_at, statement_row, range_at}
 use Rattle.part.specs.PartReq.{PartReq}
-use Rattle.valid.proofs.Fits.{and_left, and_right}
 use Rattle.clearance.specs.Scope.{Scope}
 use Rattle.clearance.specs.Tree.{Tree}
 use Rattle.clearance.specs.Needs.{Exit, upon, Setting}
@@ -24,7 +20,7 @@ use Rattle.quiet.specs.Places.{tree_of, statement_tree}
 use Rattle.strays.specs.Places.{BlockOf, StatementIn}
 use Rattle.standing.specs.Standing.{setting_of, Noted, inside, around}
 use Rattle.standing.specs.declared.passing.Passing.{Passing}
-use Rattle.standing.specs.declared.passing.Exits.{Exits}
+use Rattle.standing.specs.Exits.{Exits}
 use Rattle.standing.proofs.Walks.{walked_full, walked_nop, walked_seq, walked_pointed, pointed_full}
 use Rattle.backward.specs.Course.{Course, Passes, RowIn}
 use Rattle.backward.proofs.Course.{course_on, point_asks}
@@ -117,20 +113,3 @@ pub inner_passes : {bytes t : List ℕ} {f b s : ℕ} {row : Kinded} (r : RowIn 
     {u rs path : List ℕ} {n : ℕ} {x : Exits} {p : Passing} {v us after : List ℕ} {q : Passing} → Passes (scope_at bytes t f) (inside (tree_of (function_of bytes t f) marks c)) u rs n x p v us path after q →
     Passes (scope_at bytes t f) (inside (statement_tree (function_of bytes t f) marks b s)) u rs n x p v us path after q
 inner_passes r marks h e w = rw (inner_is r marks h e) w
-
--- the kinds that hold blocks
-pub holding : (k : ℕ) {r : Bool} → r ≡ (ltb 1 k && ltb k 5) → r ≡ true → (1 < k) × (k < 5)
-holding k e h = (ltb-true 1 k (and_left _ _ (sym e ∙ h)), ltb-true k 5 (and_right (ltb 1 k) _ (sym e ∙ h)))
-
-pub not_holding : (k : ℕ) {r : Bool} → r ≡ (ltb 1 k && ltb k 5) → r ≡ false → (k ≡ 1 → ⊥) → (k ≡ 0 → ⊥) → 4 < k
-not_holding k e h a b = by_test (ltb k 5) refl
-  where
-    low : ltb 1 k ≡ true
-    low = lt-ltb 1 k (omega arith)
-
-    by_test : (v : Bool) → ltb k 5 ≡ v → 4 < k
-    by_test true i = never (sym h ∙ e ∙ rw (low, i))
-    by_test false i = let z = ltb-false k 5 i in omega arith
-
-pub is_loop : {k : ℕ} → (1 < k) × (k < 5) → (k ≡ 2 → ⊥) → (k ≡ 3 → ⊥) → k ≡ 4
-is_loop h a b = omega (arith, h.0, h.1)

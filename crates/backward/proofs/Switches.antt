@@ -24,15 +24,16 @@ use Rattle.strays.proofs.Found.{cases_in}
 use Rattle.framed.proofs.Kept.{kept_none}
 use Rattle.standing.specs.Standing.{setting_of, Walked, Closed, inside, around, cases}
 use Rattle.standing.specs.declared.passing.Passing.{Passing}
-use Rattle.standing.specs.declared.passing.Exits.{Exits}
+use Rattle.standing.specs.Exits.{Exits}
 use Rattle.standing.proofs.Walks.{came_is, walked_full}
 use Rattle.standing.proofs.Arms.{targets_more}
 use Rattle.standing.proofs.Cases.{case_exits, switch_ends, cases_start, case_ready, case_full, cases_more, cases-end_full, case_targets, union_ready, union_none, switch-full, walked_switch, switch-end_full}
 use Rattle.ends.specs.Merged.{Merged, EndGiven}
 use Rattle.ends.proofs.Merges.{case_closed}
+use Rattle.strays.proofs.Trees.{values_long}
 use Rattle.backward.specs.Course.{Course, Passes, RowIn, blocks_under, case_tree, case_block, switch_tree}
 use Rattle.backward.proofs.Course.{course_on, block_asks}
-use Rattle.backward.proofs.Trees.{case_is, case_count, uses_of}
+use Rattle.backward.proofs.Trees.{case_is, uses_of}
 
 -- where some cases pass the bound, more of them do
 more_full : (d j : ℕ) (f : ℕ → List PartReq → Carried → Passed) (aside : List PartReq) (c : Carried) → pass_cases j f aside c ≡ full → pass_cases (d + j) f aside c ≡ full
@@ -147,9 +148,6 @@ module _ {bytes t : List ℕ} {f : ℕ} {types alike paths firsts s rs path : Li
                   going = g₁;
                 }
 
-            pub case_lengths : (length t₂ ≡ length s) × ((length us₂ ≡ length rs) × (length path₁ ≡ length path))
-            case_lengths = (last.cells ∙ one.walked.cells ∙ so_far.cells, (last.slots ∙ slots_one, one.long ∙ before.passes.long))
-
             pub case_ends_full : k ≡ false → {q : Passing} → q.full ≡ true → Passes S (cases (o 1) (case_block F marks o)) s rs n x p t₂ us₂ path path₁ q
             case_ends_full m u = stays_full (suc i) (o 1) (omega arith) u record {
               walked =
@@ -184,7 +182,7 @@ module _ {bytes t : List ℕ} {f : ℕ} {types alike paths firsts s rs path : Li
 
       module _ {t₁ us₁ path₁ : List ℕ} {q₁ : Passing} (one : Passes S (cases (o 1) (case_block F marks o)) s us (n + 1) y p t₁ us₁ path path₁ q₁) where
         walked_cases : Walked S (cases (length (map (λ (c : SwitchCase). c.value) (tab (o 1) (case_of o)))) (case_tree w o)) s (set rs n 2) (n + 1) (case_exits n x) p t₁ us₁ q₁
-        walked_cases = rw (case_count r marks) (walked_same (o 1) (case_block F marks o) (case_tree w o) (λ i l. sym (case_is r marks h i l refl)) (rw (c, e) at one.walked))
+        walked_cases = rw (values_long o) (walked_same (o 1) (case_block F marks o) (case_tree w o) (λ i l. sym (case_is r marks h i l refl)) (rw (c, e) at one.walked))
 
         abbrev values : List ℕ
         values = map (λ (c : SwitchCase). c.value) (tab (o 1) (case_of o))
@@ -209,9 +207,6 @@ module _ {bytes t : List ℕ} {f : ℕ} {types alike paths firsts s rs path : Li
               walked = walked_switch g.ready g.targets switch_write (kept_none S) (o 0) values (case_tree w o) walked_cases g₁ (rw j at last) m;
               long = one.long;
             }
-
-            pub switch_lengths : (length t₂ ≡ length s) × ((length us₂ ≡ length rs) × (length path₁ ≡ length path))
-            switch_lengths = (last.cells ∙ one.walked.cells, (last.slots ∙ one.walked.slots ∙ first_long, one.long))
 
             pub switch_ends_full : k ≡ false → {q : Passing} → q.full ≡ true → Passes S (inside (switch_tree w o)) s rs n x p t₂ us₂ path path₁ q
             switch_ends_full m u = record {

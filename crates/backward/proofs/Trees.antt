@@ -3,24 +3,24 @@ use Prim.Native.Nat.{ℕ, suc, zero, ◌+◌, ◌-◌, ◌*◌, ◌<◌, ◌≤�
 use native.Mathlib.Omega.{arith}
 use mathlib.Core.Path.{◌≡◌, refl, sym, ap, subst, ◌∙◌}
 use mathlib.Core.Bool.{Bool, true, false}
-use mathlib.Core.List.{List, [], ◌∷◌, map}
+use mathlib.Core.List.{List}
 use lib.ListN.{length, get_or}
 use borrow.Author.Tests.{eq-eqb, ne_eqb}
-use Rattle.module.specs.Module.{BlockHandle, BlockRange, SwitchCase, Statement, Function, Kill}
-use Rattle.module.specs.Decode.{tab, case_of, statement_of}
+use Rattle.module.specs.Module.{BlockHandle, BlockRange, Statement, Function, Kill}
+use Rattle.module.specs.Decode.{statement_of}
 use Rattle.module.specs.Knot.{below}
 use Rattle.module.specs.Marks.{marks_before}
 use Rattle.module.specs.File.{accepted, read_module}
 use Rattle.module.specs.Tables.{function_of, module_of}
 use Rattle.module.proofs.Knot.{knot-is, below-lt}
-use Rattle.module.proofs.Tab.{length-tab, get_d_tab, map-tab}
 use Rattle.access.specs.declared.kinded.Kinded.{Kinded}
 use Rattle.access.specs.Access.{operand_at, range_at}
 use Rattle.access.proofs.Access.{range_is}
 use Rattle.valid.specs.Valid.{UsesBelow, entries_below}
 use Rattle.judge.proofs.PathSteps.{function_valid}
-use Rattle.clearance.specs.Tree.{Tree, nop, seq, unmarked, marked, mark_at, by_mark, case_at, statement, statements_from, no_block, block_tree}
+use Rattle.clearance.specs.Tree.{Tree, nop, seq, unmarked, marked, mark_at, by_mark, statement, statements_from, no_block, block_tree}
 use Rattle.strays.specs.Places.{BlockOf}
+use Rattle.strays.proofs.Trees.{case_is as cases-are}
 use Rattle.strays.proofs.Found.{in_function, decoded, block_low, cases_in}
 use Rattle.quiet.specs.Places.{tree_of, statement_tree}
 use Rattle.backward.specs.Course.{RowIn, blocks_under, if_tree, case_tree, switch_tree, loop_tree, bare_tree}
@@ -94,21 +94,8 @@ module _ {bytes t : List ℕ} {f b s : ℕ} {row : Kinded} (r : RowIn bytes t f 
   unfolding bare_tree
   loop_is h i = rw (ne_eqb row.kind 2 h, ne_eqb row.kind 3 i)
 
-  -- a switch's cases
-  pub case_count : length (map (λ (c : SwitchCase). c.value) (tab (o 1) (case_of o))) ≡ o 1
-  case_count = ap length (map-tab (λ (c : SwitchCase). c.value) (o 1) (case_of o)) ∙ length-tab (o 1) _
-
   pub case_is : row.kind ≡ 3 → (i : ℕ) → i < o 1 → {c : ℕ} → c ≡ o (3 + 2 * i) → case_tree w o i ≡ tree_of F marks c
-  unfolding case_of case_at
-  case_is h i l e =
-      case-at (tab (o 1) (case_of o)) i (case_of o i) (rw length-tab l)
-      ∙ ap (λ (c : SwitchCase). w c.body) (get_d_tab (o 1) (case_of o) i (case_of o i) l)
-      ∙ lower_is (3 + 2 * i) e ((cases_in r.statement r.is h).each i l)
-    where
-      case-at : (cs : List SwitchCase) (i : ℕ) (d : SwitchCase) → i < length cs → case_at w cs i ≡ w (get_or cs i d).body
-      case-at [] i d l = absurd (omega arith)
-      case-at (c ∷ cs) zero d l = refl
-      case-at (c ∷ cs) (suc i) d l = case-at cs i d (omega arith)
+  case_is h i l e = cases-are o w i l ∙ lower_is (3 + 2 * i) e ((cases_in r.statement r.is h).each i l)
 
 -- what has a mark that is set, and what has one that is not
 pub marked_is : (F : Function) (marks : List ℕ) (s : ℕ) (a : Tree) {i : ℕ} → i ≡ marks_before F.statements s → {m : Bool} → m ≡ mark_at marks i → m ≡ true → by_mark F marks s 0 a ≡ a

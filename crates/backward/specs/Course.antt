@@ -16,7 +16,7 @@ use Rattle.standing.specs.Slots.{Ready}
 use Rattle.standing.specs.Standing.{Targets, Stretch, Walked}
 use Rattle.standing.specs.World.{World}
 use Rattle.standing.specs.declared.passing.Passing.{Passing}
-use Rattle.standing.specs.declared.passing.Exits.{Exits}
+use Rattle.standing.specs.Exits.{Exits}
 
 -- the function, the needs in memory, where the exits lead, what is carried so far, and a path that every place fits
 pub record Course (bytes t : List ℕ) (f : ℕ) (types alike paths firsts s rs path : List ℕ) (n : ℕ) (x : Exits) (p : Passing) : Type 0 where

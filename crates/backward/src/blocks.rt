@@ -11,16 +11,18 @@ ghost use Rattle.standing.specs.Standing.{inside, around, cases};
 ghost use Rattle.backward.specs.Course.{Course, Passes, RowIn, blocks_under, case_block, if_tree, switch_tree, loop_tree, bare_tree};
 
 use crate::plain::pass_plain;
-use crate::slots::{exchange, holds, in_body, in_switch};
+use crate::slots::{exchange, in_body, in_switch};
 use access::function::block;
-use access::kinded::{Kinded, block_operand, expression_operand, operand, statement};
-use access::kinds::{BLOCK, IF, SWITCH};
+use access::kinded::{
+    Kinded, block_operand, expression_operand, operand, optional_expression, statement,
+};
 use acts::marks::mark_at;
 use ends::held::{begin_loop, end_if, end_switch};
 use ends::merge::{end_loop, merge};
 use ends::notes::{blame, note};
 use hold::hold::copy;
 use module::handles::{BlockHandle, FunctionHandle};
+use module::kinds::StatementKind;
 use quiet::blocks::obeys;
 use standing::passing::{Exits, Passing, filled};
 
@@ -246,7 +248,7 @@ fn pass_loop(
     ensures { Passes (scope_at bytes.now t.now f.0) (inside (loop_tree (blocks_under (function_of bytes.now t.now f.0) marks.now b.0) s (operand_at bytes.now row))) cells.old roots.old n x p cells.new roots.new path.old path.new result }
 {
     let l = s as usize;
-    let break_if = expression_operand(bytes, row, 2);
+    let break_if = optional_expression(bytes, row, 2);
     if !begin_loop(bytes, t, f, cells, roots, n, l, break_if) {
         return filled();
     }
@@ -326,11 +328,11 @@ fn pass_bare(
     requires lt_kind { (1 < row.kind) × (row.kind < 5) }
     ensures { Passes (scope_at bytes.now t.now f.0) (inside (bare_tree (blocks_under (function_of bytes.now t.now f.0) marks.now b.0) s row.kind (operand_at bytes.now row))) cells.old roots.old n x p cells.new roots.new path.old path.new result }
 {
-    match row.kind {
-        IF => pass_if(
+    match StatementKind::try_from(row.kind) {
+        Ok(StatementKind::If) => pass_if(
             bytes, t, f, types, alike, paths, marks, firsts, cells, roots, path, n, x, p, b, s, row,
         ),
-        SWITCH => pass_switch(
+        Ok(StatementKind::Switch) => pass_switch(
             bytes, t, f, types, alike, paths, marks, firsts, cells, roots, path, n, x, p, b, s, row,
         ),
         _ => pass_loop(
@@ -433,21 +435,20 @@ fn pass_statement(
     ensures { Passes (scope_at bytes.now t.now f.0) (inside (statement_tree (function_of bytes.now t.now f.0) marks.now b.0 s)) cells.old roots.old n x p cells.new roots.new path.old path.new result }
 {
     let row = statement(bytes, t, f, s);
-    let kind = row.kind;
-    if kind == BLOCK {
-        let inner = block_operand(bytes, row, 0);
-        return pass_block(
-            bytes, t, f, types, alike, paths, marks, firsts, cells, roots, path, n, x, p, inner,
-        );
-    }
-    if holds(kind) {
-        return pass_holder(
+    match StatementKind::try_from(row.kind) {
+        Ok(StatementKind::Block) => {
+            let inner = block_operand(bytes, row, 0);
+            pass_block(
+                bytes, t, f, types, alike, paths, marks, firsts, cells, roots, path, n, x, p, inner,
+            )
+        }
+        Ok(StatementKind::If | StatementKind::Switch | StatementKind::Loop) => pass_holder(
             bytes, t, f, types, alike, paths, marks, firsts, cells, roots, path, n, x, p, b, s, row,
-        );
+        ),
+        _ => pass_plain(
+            bytes, t, f, types, alike, paths, marks, firsts, cells, roots, path, n, x, p, b, s, row,
+        ),
     }
-    pass_plain(
-        bytes, t, f, types, alike, paths, marks, firsts, cells, roots, path, n, x, p, b, s, row,
-    )
 }
 
 #[cycle(blocks)]

@@ -7,12 +7,12 @@ ghost use Rattle.standing.specs.Standing.{inside};
 ghost use Rattle.backward.specs.Course.{Course, Passes, RowIn};
 
 use access::kinded::{Kinded, expression_operand};
-use access::kinds::{EMIT, STORE};
 use acts::emits::pass_emits;
 use acts::marks::mark_at;
 use acts::stores::pass_store;
 use leaving::leave::pass_leaving;
 use module::handles::{BlockHandle, FunctionHandle};
+use module::kinds::StatementKind;
 use standing::passing::{Exits, Passing};
 
 // The statement s of the block b, whose row is given.
@@ -42,8 +42,8 @@ pub fn pass_plain(
     ensures { Passes (scope_at bytes.now t.now f.0) (inside (statement_tree (function_of bytes.now t.now f.0) marks.now b.0 s)) cells.old roots.old n x p cells.new roots.new path.old path.new result }
 {
     let begin = firsts[s as usize];
-    match row.kind {
-        EMIT => {
+    match StatementKind::try_from(row.kind) {
+        Ok(StatementKind::Emit) => {
             let first = expression_operand(bytes, row, 0);
             let last = expression_operand(bytes, row, 1);
             pass_emits(
@@ -51,7 +51,7 @@ pub fn pass_plain(
                 first, last,
             )
         }
-        STORE => {
+        Ok(StatementKind::Store) => {
             let marked = mark_at(marks, begin as usize);
             let pointer = expression_operand(bytes, row, 0);
             let value = expression_operand(bytes, row, 1);

@@ -9,14 +9,15 @@ use mathlib.Core.Option.{Option, some, none as nothing}
 use lib.ListN.{length, get_or, drop, set, length-set, drop_of_length-le}
 use lib.Seq.{drop-cons, get_or-set_same, get_or-set_other}
 use borrow.Author.Tests.{lt-ltb, le-ltb}
-use Rattle.field.specs.Limits.{absent, max_members}
+use Rattle.field.specs.Limits.{max_members}
 use Rattle.part.specs.PartReq.{PartReq, all, more}
 use Rattle.part.specs.Store.{top, part, means, Good, Room, Kept, Made}
 use Rattle.part.proofs.Pieces.{part-0, part-2}
 use Rattle.part.proofs.Making.{kept_trans}
 use Rattle.part.proofs.Write.{kept_self}
 use Rattle.module.specs.Module.{TypeInner}
-use Rattle.module.specs.Decode.{option_of}
+use Rattle.std.specs.Prelude.{Option as Optional, Some, None}
+use Rattle.access.specs.Access.{number_in}
 use Rattle.module.specs.Knot.{below}
 use Rattle.module.proofs.Knot.{knot-is, below-lt}
 use Rattle.context.specs.Types.{types_of}
@@ -24,44 +25,46 @@ use Rattle.bindings.specs.Bindings.{Bindings, contains}
 use Rattle.bindings.specs.TypeBindings.{unless_empty, from_binding, with_entry, members_from, step_from, from_type_bindings}
 use Rattle.bindings.specs.Rows.{row_member, member_count, members_of, MemberIs}
 use Rattle.bindings.specs.Parts.{part_of, lower_part, Held, Chosen, From}
-use Rattle.bindings.proofs.Rows.{no_binding, present, members_long, members_at, from_step}
+use Rattle.bindings.proofs.Rows.{members_long, members_at, from_step}
 
 -- one member
 pub past_part : (parts : List ℕ) (t u : ℕ) → t ≤ u → (s : List ℕ) → lower_part s parts t u ≡ nothing
 unfolding below
 past_part parts t u h s = rw (le-ltb u t h)
 
-module _ (parts : List ℕ) (required : Bindings) (t b u : ℕ) where
-  bound_is : (c : Bool) → contains required b ≡ c → (b ≡ absent → ⊥) → (s : List ℕ) → cond c (some all) nothing ≡ from_binding (lower_part s parts t) required (option_of b) u
-  unfolding from_binding
-  bound_is c e n s = rw (present b n, e)
+module _ (parts : List ℕ) (required : Bindings) (t u : ℕ) {o : Optional ℕ} where
+  module _ {b : ℕ} (w : o ≡ Some b) where
+    bound_is : (c : Bool) → contains required b ≡ c → (s : List ℕ) → cond c (some all) nothing ≡ from_binding (lower_part s parts t) required (number_in o) u
+    unfolding from_binding
+    bound_is c e s = rw (w, e)
 
-  pub chosen_all : (b ≡ absent → ⊥) → contains required b ≡ true → Chosen parts required t b u 0
-  unfolding unless_empty
-  chosen_all n e = record { is = λ s. rw (part-0 s) (bound_is true e n s); piece = λ s h H. omega arith }
+    pub chosen_all : contains required b ≡ true → Chosen parts required t (number_in o) u 0
+    unfolding unless_empty
+    chosen_all e = record { is = λ s. rw (part-0 s) (bound_is true e s); piece = λ s h H. omega arith }
 
-  pub chosen_none : (b ≡ absent → ⊥) → contains required b ≡ false → Chosen parts required t b u 2
-  unfolding unless_empty
-  chosen_none n e = record { is = λ s. rw (part-2 s) (bound_is false e n s); piece = λ s h H. omega arith }
+    pub chosen_none : contains required b ≡ false → Chosen parts required t (number_in o) u 2
+    unfolding unless_empty
+    chosen_none e = record { is = λ s. rw (part-2 s) (bound_is false e s); piece = λ s h H. omega arith }
 
-  free_is : b ≡ absent → (s : List ℕ) → lower_part s parts t u ≡ from_binding (lower_part s parts t) required (option_of b) u
-  unfolding from_binding
-  free_is e s = rw (no_binding b e)
+  module _ (w : o ≡ None) where
+    free_is : (s : List ℕ) → lower_part s parts t u ≡ from_binding (lower_part s parts t) required (number_in o) u
+    unfolding from_binding
+    free_is s = rw w
 
-  pub chosen_past : b ≡ absent → t ≤ u → Chosen parts required t b u 2
-  unfolding unless_empty
-  chosen_past e h =
-      record {
-        is = λ s. rw (part-2 s) (sym (past_part parts t u h s) ∙ free_is e s);
-        piece = λ s l H. omega arith;
-      }
+    pub chosen_past : t ≤ u → Chosen parts required t (number_in o) u 2
+    unfolding unless_empty
+    chosen_past h =
+        record {
+          is = λ s. rw (part-2 s) (sym (past_part parts t u h s) ∙ free_is s);
+          piece = λ s l H. omega arith;
+        }
 
-  pub chosen_type : {r : ℕ} → b ≡ absent → u < t → r ≡ get_or parts u 0 → Chosen parts required t b u r
-  chosen_type e h f =
-      record {
-        is = λ s. rw f (sym (below-lt (part_of s parts) nothing t u h) ∙ free_is e s);
-        piece = λ s l H. rw f (H.each u h);
-      }
+    pub chosen_type : {r : ℕ} → u < t → r ≡ get_or parts u 0 → Chosen parts required t (number_in o) u r
+    chosen_type h f =
+        record {
+          is = λ s. rw f (sym (below-lt (part_of s parts) nothing t u h) ∙ free_is s);
+          piece = λ s l H. rw f (H.each u h);
+        }
 
 -- a piece that is not the empty part means something
 pub some-piece : (s : List ℕ) (n : ℕ) → (n ≡ 2 → ⊥) → unless_empty (part s n) ≡ some (part s n)
@@ -95,10 +98,10 @@ module _ (s tbl parts : List ℕ) (required : Bindings) (t : ℕ) where
       (unfold members_from in refl)
 
   -- what the member i comes to
-  chosen_member : {i ty b q : ℕ} → MemberIs tbl t i ty b → Chosen parts required t b ty q → unless_empty (part s q) ≡ from_binding (lower_part s parts t) required (row_member tbl t i).binding (row_member tbl t i).type
+  chosen_member : {i ty q : ℕ} {b : Option ℕ} → MemberIs tbl t i ty b → Chosen parts required t b ty q → unless_empty (part s q) ≡ from_binding (lower_part s parts t) required (row_member tbl t i).binding (row_member tbl t i).type
   chosen_member M C = C.is s ∙ rw (M.binding_is, M.type_is)
 
-  module _ {cells : List ℕ} {i r ty b q : ℕ} (o : 0 < i) (L : Making s cells tbl parts required t i r) (M : MemberIs tbl t (i - 1) ty b) (C : Chosen parts required t b ty q) where
+  module _ {cells : List ℕ} {i r ty q : ℕ} {b : Option ℕ} (o : 0 < i) (L : Making s cells tbl parts required t i r) (M : MemberIs tbl t (i - 1) ty b) (C : Chosen parts required t b ty q) where
     entries_here : members_from (lower_part s parts t) required (i - 1) (drop (i - 1) (members_of tbl t)) ≡ with_entry (i - 1) (unless_empty (part s q)) (part cells r)
     entries_here =
         let low : i ≤ member_count tbl t = L.low in

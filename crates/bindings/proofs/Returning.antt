@@ -4,13 +4,17 @@ use Prim.Native.Nat.{ℕ, ◌+◌, ◌<◌, ◌≤◌, min}
 use native.Mathlib.Omega.{arith}
 use native.Mathlib.Decide.{dec_lt}
 use mathlib.Core.Path.{◌≡◌, refl, sym, ap, ◌∙◌, fun_ext}
-use mathlib.Core.Bool.{Bool, true, false, ◌||◌}
+use mathlib.Core.Bool.{Bool, true, false, cond, ◌||◌}
+use lib.Dec.{ltb}
 use mathlib.Core.List.{List}
-use mathlib.Core.Option.{Option, none as nothing}
+use mathlib.Core.Option.{Option, some, none as nothing}
 use lib.ListN.{length, get_or-eq_default}
-use borrow.Author.Tests.{eq-eqb, ne_eqb, lt-ltb, le-ltb}
-use Rattle.std.specs.Prelude.{Ok, Err}
-use Rattle.field.specs.Limits.{absent, max_pieces}
+use borrow.Author.Tests.{lt-ltb, le-ltb}
+use Rattle.std.specs.Prelude.{Option as Optional, Some, None, ⊤, Result, Ok, Err}
+use Rattle.std.proofs.lemmas.Bool.{ltb-false}
+use Rattle.field.specs.Refusal.{number}
+use Rattle.field.specs.declared.refusal.Refusal.{Refusal}
+use Rattle.field.specs.Limits.{max_pieces}
 use Rattle.field.specs.declared.refusal.Refusal.TheVariants.{PartLimit, PiecesLimit}
 use Rattle.part.specs.PartReq.{PartReq, none, more, add, entries, over}
 use Rattle.part.specs.StoreLimits.{entries_cap}
@@ -18,9 +22,9 @@ use Rattle.part.specs.Store.{top, part, Good, Made, Measures}
 use Rattle.part.proofs.Pieces.{part-2}
 use Rattle.part.proofs.Making.{kept_trans}
 use Rattle.part.proofs.Write.{stay}
-use Rattle.module.specs.Module.{TypeInner, Opaque, Function}
-use Rattle.module.specs.Operands.{bindings}
-use Rattle.module.specs.Decode.{option_of}
+use Rattle.module.specs.Module.{TypeInner, Opaque, FunctionResult, Function}
+use Rattle.access.specs.Access.{number_in, result_from as result_in}
+use Rattle.access.specs.declared.whole.Bound.{Bound}
 use Rattle.module.proofs.Knot.{knot-is, below-lt}
 use Rattle.context.specs.Types.{types_of, type_count}
 use Rattle.context.specs.RequiredContext.{RequiredContext, variable, pieces, return_entry}
@@ -28,10 +32,9 @@ use Rattle.context.proofs.Types.{length-tab}
 use Rattle.bindings.specs.Bindings.{Bindings, single, own_binding}
 use Rattle.bindings.specs.TypeBindings.{unless_empty, from_binding, inner_from, step_from, from_type_bindings}
 use Rattle.bindings.specs.ContextBindings.{result_from, output_from_bindings, add_binding, Answer, refused, accepted, as_request}
-use Rattle.bindings.specs.Rows.{Bound}
+use Rattle.bindings.specs.Rows.{BindingFits}
 use Rattle.bindings.specs.Parts.{part_of, lower_part, Chosen, Parts}
-use Rattle.bindings.specs.Outputs.{result_by, BoundResult, request_context, Asked}
-use Rattle.bindings.proofs.Rows.{present}
+use Rattle.bindings.specs.Outputs.{BoundResult, request_context, within_limits, Asked}
 use Rattle.bindings.proofs.Members.{past_part, some-piece}
 
 pub types_long : (tbl : List ℕ) → length (types_of tbl) ≡ type_count tbl
@@ -55,33 +58,32 @@ module _ {s t : List ℕ} {types : List TypeInner} {required : Bindings} {parts 
       ]
 
   -- what the result comes to
-  pub result-is : {n ty b q : ℕ} → length parts ≡ length types → n ≡ length parts → (ty ≡ absent → ⊥) → Chosen parts required n b ty q → unless_empty (part t q) ≡ result_from types required (result_by ty b)
-  unfolding result_from result_by
-  result-is {ty = ty} {b} {q} e f h C =
-      C.is t ∙ rw (f, ne_eqb ty absent h) (ap (λ (w : ℕ → Option PartReq). from_binding w required (option_of b) ty) (fun_ext (table_is e)))
+  pub result-is : {n q : ℕ} (x : Bound) → length parts ≡ length types → n ≡ length parts → Chosen parts required n (number_in x.binding) x.ty.0 q → unless_empty (part t q) ≡ result_from types required (result_in (Some x))
+  unfolding result_from
+  result-is x e f C =
+      C.is t ∙ rw f (ap (λ (w : ℕ → Option PartReq). from_binding w required (number_in x.binding) x.ty.0) (fun_ext (table_is e)))
 
-pub bound_result : (ty b : ℕ) → (ty ≡ absent → ⊥) → BoundResult (result_by ty b) → Bound (option_of b)
-unfolding result_by
-bound_result ty b h g = rw (ne_eqb ty absent h) at g
+pub bound_result : {o : Optional Bound} (x : Bound) → o ≡ Some x → BoundResult (result_in o) → BindingFits (number_in x.binding)
+bound_result x e g = rw e at g
 
 none_returned : (t : List ℕ) (q : ℕ) → q ≡ 2 → none ≡ return_entry (unless_empty (part t q))
 unfolding return_entry unless_empty
 none_returned t q e = rw (e, part-2 t)
 
--- the returned value's entry, by the table of types and the result's two numbers
-abbrev entry : (tbl : List ℕ) (required : Bindings) (ty b : ℕ) → PartReq
-entry tbl required ty b = return_entry (result_from (types_of tbl) required (result_by ty b))
+-- the returned value's entry, by the table of types and the result that a function declares
+abbrev entry : (tbl : List ℕ) (required : Bindings) → Optional Bound → PartReq
+entry tbl required o = return_entry (result_from (types_of tbl) required (result_in o))
 
-pub no_result : (tbl : List ℕ) (required : Bindings) {s : List ℕ} {ty : ℕ} (b k : ℕ) → Good s → ty ≡ absent → Made s s (entry tbl required ty b) k 2
-no_result tbl required {s} {ty} b k g e =
-    stay s _ k 2 g (omega (arith, g.base)) (part-2 s ∙ (unfold return_entry result_from result_by in (rw (eq-eqb ty absent e))))
+pub no_result : (tbl : List ℕ) (required : Bindings) {s : List ℕ} {o : Optional Bound} (k : ℕ) → Good s → o ≡ None → Made s s (entry tbl required o) k 2
+no_result tbl required {s} k g e =
+    stay s _ k 2 g (omega (arith, g.base)) (part-2 s ∙ (unfold return_entry result_from in (rw e)))
 
-module _ (tbl : List ℕ) (required : Bindings) {s t parts : List ℕ} {n ty b q k : ℕ} (F : Parts s t (types_of tbl) required parts k) (C : Chosen parts required n b ty q) (same : n ≡ length parts) where
-  module _ (h : ty ≡ absent → ⊥) (l : length parts ≡ type_count tbl) where
-    is_entry : return_entry (unless_empty (part t q)) ≡ entry tbl required ty b
-    is_entry = ap return_entry (result-is F (l ∙ sym (types_long tbl)) same h C)
+module _ (tbl : List ℕ) (required : Bindings) {s t parts : List ℕ} {n q k : ℕ} {o : Optional Bound} (x : Bound) (F : Parts s t (types_of tbl) required parts k) (C : Chosen parts required n (number_in x.binding) x.ty.0 q) (same : n ≡ length parts) where
+  module _ (h : o ≡ Some x) (l : length parts ≡ type_count tbl) where
+    is_entry : return_entry (unless_empty (part t q)) ≡ entry tbl required o
+    is_entry = rw h (ap return_entry (result-is F x (l ∙ sym (types_long tbl)) same C))
 
-    pub entry_none : q ≡ 2 → Made s t (entry tbl required ty b) (k + 1) 2
+    pub entry_none : q ≡ 2 → Made s t (entry tbl required o) (k + 1) 2
     entry_none e =
         record {
           kept = F.kept;
@@ -90,7 +92,7 @@ module _ (tbl : List ℕ) (required : Bindings) {s t parts : List ℕ} {n ty b q
           cost = omega (arith, F.cost);
         }
 
-    pub entry_made : {u : List ℕ} {m : ℕ} → (q ≡ 2 → ⊥) → Made t u (more (variable 0) (part t q) (part t 2)) 1 m → Made s u (entry tbl required ty b) (k + 1) m
+    pub entry_made : {u : List ℕ} {m : ℕ} → (q ≡ 2 → ⊥) → Made t u (more (variable 0) (part t q) (part t 2)) 1 m → Made s u (entry tbl required o) (k + 1) m
     entry_made e a =
         record {
           kept = kept_trans F.kept a.kept;
@@ -99,122 +101,125 @@ module _ (tbl : List ℕ) (required : Bindings) {s t parts : List ℕ} {n ty b q
           cost = omega (arith, F.cost, a.cost);
         }
 
--- 15 and 16
-or-true : (x : Bool) → x || true ≡ true
-or-true true = refl
-or-true false = refl
+-- 15 and 16: what the code finds by sizes is what the request is answered
+unfoldable answered : RequiredContext → Result ⊤ Refusal → Answer RequiredContext
+answered c (Err r) = refused (number r)
+answered c (Ok u) = accepted c
 
 module _ (new c : RequiredContext) where
-  past_new : over new.retval ≡ true → refused 15 ≡ as_request new c
-  unfolding as_request
-  past_new h = rw h
+  by_tests : (b d : Bool) → answered c (cond b (Err PartLimit) (cond d (Err PiecesLimit) (Ok tt))) ≡ cond b (refused 15) (cond d (refused 16) (accepted c))
+  unfolding answered
+  by_tests true d = refl
+  by_tests false true = refl
+  by_tests false false = refl
 
-  past_sum : over c.retval ≡ true → refused 15 ≡ as_request new c
-  unfolding as_request
-  past_sum h = rw (h, or-true)
+  limits_say : answered c (within_limits (over new.retval) (over c.retval) (pieces c)) ≡ as_request new c
+  unfolding within_limits as_request
+  limits_say = by_tests (over new.retval || over c.retval) (ltb max_pieces (pieces c))
 
-  module _ (h : over new.retval ≡ false) (g : over c.retval ≡ false) where
-    past_pieces : max_pieces < pieces c → refused 16 ≡ as_request new c
-    unfolding as_request
-    past_pieces l = rw (h, g, lt-ltb _ _ l)
+few_by : (b d : Bool) {u : ⊤} → ◌≡◌ {A = Result ⊤ Refusal} (cond b (Err PartLimit) (cond d (Err PiecesLimit) (Ok tt))) (Ok u) → d ≡ false
+few_by true d e = cc
+few_by false true e = cc
+few_by false false e = refl
 
-    within : pieces c ≤ max_pieces → accepted c ≡ as_request new c
-    unfolding as_request
-    within l = rw (h, g, le-ltb _ _ l)
+few_in : (v w : Bool) (n : ℕ) {u : ⊤} → within_limits v w n ≡ Ok u → n ≤ max_pieces
+unfolding within_limits
+few_in v w n e = ltb-false max_pieces n (few_by (v || w) (ltb max_pieces n) e)
+
+-- a count up to a cap that is above the limit says as much
+same_limit : (v w : Bool) {n k : ℕ} → (max_pieces < n → max_pieces < k) → (n ≤ max_pieces → k ≤ max_pieces) → within_limits v w n ≡ within_limits v w k
+unfolding within_limits
+same_limit v w {n} {k} f g =
+    elim (dec_lt max_pieces n) [
+      | yes h ↦ rw (lt-ltb max_pieces n h, lt-ltb max_pieces k (f h))
+      | no h ↦ let l : n ≤ max_pieces = omega arith in rw (le-ltb max_pieces n l, le-ltb max_pieces k (g l))
+    ]
 
 pieces_are : (globals retval : PartReq) → pieces (request_context globals retval) ≡ entries globals + entries retval
 unfolding pieces entries
 pieces_are globals retval = omega arith
 
--- `output_from_bindings`
-module _ (types : List TypeInner) (required : Bindings) (ty b : ℕ) {s t : List ℕ} {k n : ℕ} (m : Made s t (return_entry (result_from types required (result_by ty b))) k n) where
-  abbrev out : Function → RequiredContext
-  out f = output_from_bindings types required f
-
-  abbrev answer : Function → Answer RequiredContext
-  answer f = as_request (out f) (out f)
-
-  out_is : (f : Function) → f.result ≡ result_by ty b → out f ≡ request_context none (part t n)
+module _ (types : List TypeInner) (required : Bindings) (declared : Option FunctionResult) {s t : List ℕ} {k n : ℕ} (m : Made s t (return_entry (result_from types required declared)) k n) where
+  new_is : (f : Function) → f.result ≡ declared → output_from_bindings types required f ≡ request_context none (part t n)
   unfolding output_from_bindings
-  out_is f e = rw (e, m.is)
+  new_is f e = rw (e, m.is)
 
-  pub output_past : over (part t n) ≡ true → Asked s t ty b none answer (Err PartLimit)
-  output_past h =
-      record { kept = m.kept; held = tt; is = λ f e. rw (out_is f e) (past_new _ _ h) }
+  -- `output_from_bindings`
+  abbrev answer : Function → Answer RequiredContext
+  answer f = as_request (output_from_bindings types required f) (output_from_bindings types required f)
 
-  module _ (h : over (part t n) ≡ false) {e : ℕ} (x : e ≡ min entries_cap (entries (part t n))) where
-    pub output_pieces : max_pieces < e → Asked s t ty b none answer (Err PiecesLimit)
-    output_pieces l =
-        let z : max_pieces < pieces (request_context none (part t n)) = rw pieces_are (unfold entries in (omega arith)) in
-        record { kept = m.kept; held = tt; is = λ f g. rw (out_is f g) (past_pieces _ _ h h z) }
+  module _ {e d w : ℕ} {o : Bool} (z : Measures (part t n) e d w o) {r : Result ⊤ Refusal} (R : r ≡ within_limits o o e) where
+    abbrev out : RequiredContext
+    out = request_context none (part t n)
 
-    pub output_within : e ≤ max_pieces → Asked s t ty b none answer (Ok n)
-    output_within l =
-        let z : pieces (request_context none (part t n)) ≤ max_pieces = rw pieces_are (unfold entries in (omega arith)) in
+    out_limits : r ≡ within_limits (over out.retval) (over out.retval) (pieces out)
+    out_limits =
+        let p = pieces_are none (part t n) in
+        R ∙ rw z.over_is (same_limit (over out.retval) (over out.retval) (λ h. unfold entries in (omega (arith, z.entries_is))) (λ h. unfold entries in (omega (arith, z.entries_is))))
+
+    pub output_refused : {x : Refusal} → r ≡ Err x → Asked s t declared none answer (Err x)
+    unfolding answered
+    output_refused {x} h =
         record {
           kept = m.kept;
-          held = (m.piece, omega (arith, pieces_are none (part t n)));
-          is = λ f g. rw (out_is f g) (within _ _ h h z);
+          held = tt;
+          is = λ f q. rw (new_is f q) (rw (← out_limits, h) at (limits_say out out));
+        }
+
+    pub output_within : {u : ⊤} → r ≡ Ok u → Asked s t declared none answer (Ok n)
+    unfolding answered
+    output_within h =
+        let few = few_in (over out.retval) (over out.retval) (pieces out) (sym out_limits ∙ h) in
+        record {
+          kept = m.kept;
+          held = (m.piece, omega (arith, pieces_are none (part t n), few));
+          is = λ f q. rw (new_is f q) (rw (← out_limits, h) at (limits_say out out));
         }
 
 -- `add_binding`
-pub own_single : (b : ℕ) → b < bindings → own_binding (option_of b) ≡ single b
-unfolding own_binding
-own_single b h = rw (present b (omega arith))
-
-pub binding_bound : (b : ℕ) → b < bindings → Bound (option_of b)
-binding_bound b h = let n : b ≡ absent → ⊥ = omega arith in rw (present b n) h
-
-module _ (types : List TypeInner) {b : ℕ} {required : Bindings} (w : required ≡ own_binding (option_of b)) (low : b < bindings) {s t : List ℕ} {k n : ℕ} (ty binding globals retval : ℕ) (m : Made s t (return_entry (result_from types required (result_by ty binding))) k n) (held : (globals < top s) × (retval < top s)) where
+module _ (types : List TypeInner) (b : ℕ) {required : Bindings} (w : required ≡ own_binding (some b)) {s t : List ℕ} {k n : ℕ} (declared : Option FunctionResult) (globals retval : ℕ) (m : Made s t (return_entry (result_from types required declared)) k n) (held : (globals < top s) × (retval < top s)) where
   abbrev adds : Function → Answer RequiredContext
   adds f = as_request (output_from_bindings types (single b) f) (add_binding types b f (request_context (part s globals) (part s retval)))
 
-  new_is : (f : Function) → f.result ≡ result_by ty binding → output_from_bindings types (single b) f ≡ request_context none (part t n)
-  unfolding output_from_bindings
-  new_is f e = rw (e, m.is, w, own_single b low)
+  single_is : (f : Function) → f.result ≡ declared → output_from_bindings types (single b) f ≡ request_context none (part t n)
+  unfolding own_binding
+  single_is f e = rw w at (new_is types required declared m f e)
 
   abbrev added : RequiredContext
   added = request_context (part s globals) (add (part t retval) (part t n))
 
-  added_is : (f : Function) → f.result ≡ result_by ty binding → add_binding types b f (request_context (part s globals) (part s retval)) ≡ added
+  added_is : (f : Function) → f.result ≡ declared → add_binding types b f (request_context (part s globals) (part s retval)) ≡ added
   unfolding add_binding
-  added_is f e = rw (new_is f e, m.kept.same retval held.1)
+  added_is f e = rw (single_is f e, m.kept.same retval held.1)
 
-  pub add_past : over (part t n) ≡ true → Asked s t ty binding (part s globals) adds (Err PartLimit)
-  add_past h =
-      record { kept = m.kept; held = tt; is = λ f e. rw (new_is f e, added_is f e) (past_new _ added h) }
+  module _ {e d v g : ℕ} {o x : Bool} (z : Measures (add (part t retval) (part t n)) e d v o) (y : x ≡ over (part t n)) (c : g ≡ min entries_cap (entries (part t globals))) {r : Result ⊤ Refusal} (R : r ≡ within_limits x o (g + e)) where
+    counted : entries (part t globals) ≡ entries (part s globals)
+    counted = ap entries (m.kept.same globals held.0)
 
-  module _ (h : over (part t n) ≡ false) {e d v : ℕ} {o : Bool} (z : Measures (add (part t retval) (part t n)) e d v o) where
-    pub add_past_sum : o ≡ true → Asked s t ty binding (part s globals) adds (Err PartLimit)
-    add_past_sum l =
+    sum_limits : r ≡ within_limits (over (part t n)) (over added.retval) (pieces added)
+    sum_limits =
+        let p = pieces_are (part s globals) (add (part t retval) (part t n)) in
+        let q = counted in
+        R ∙ rw (y, z.over_is) (same_limit (over (part t n)) (over added.retval) (λ h. omega (arith, z.entries_is)) (λ h. omega (arith, z.entries_is)))
+
+    pub add_refused : {i : Refusal} → r ≡ Err i → Asked s t declared (part s globals) adds (Err i)
+    unfolding answered
+    add_refused {i} h =
         record {
           kept = m.kept;
           held = tt;
-          is = λ f q. rw (new_is f q, added_is f q) (past_sum _ added (sym z.over_is ∙ l));
+          is = λ f q. rw (single_is f q, added_is f q) (rw (← sum_limits, h) at (limits_say (request_context none (part t n)) added));
         }
 
-    module _ (l : o ≡ false) {g : ℕ} (x : g ≡ min entries_cap (entries (part t globals))) where
-      fine : over (add (part t retval) (part t n)) ≡ false
-      fine = sym z.over_is ∙ l
+    pub add_few : {u : ⊤} → r ≡ Ok u → entries (part s globals) + entries (add (part t retval) (part t n)) ≤ max_pieces
+    add_few h =
+        omega (arith, pieces_are (part s globals) (add (part t retval) (part t n)), few_in (over (part t n)) (over added.retval) (pieces added) (sym sum_limits ∙ h))
 
-      counted : entries (part t globals) ≡ entries (part s globals)
-      counted = ap entries (m.kept.same globals held.0)
-
-      pub add_pieces : max_pieces < g + e → Asked s t ty binding (part s globals) adds (Err PiecesLimit)
-      add_pieces a =
-          let c = counted in
-          let many : max_pieces < pieces added = rw pieces_are (omega (arith, z.entries_is)) in
-          record { kept = m.kept; held = tt; is = λ f q. rw (new_is f q, added_is f q) (past_pieces _ added h fine many) }
-
-      module _ (a : g + e ≤ max_pieces) where
-        few : entries (part s globals) + entries (add (part t retval) (part t n)) ≤ max_pieces
-        few = let c = counted in omega (arith, z.entries_is)
-
-        pub add-within : {u : List ℕ} {i j : ℕ} → Made t u (add (part t retval) (part t n)) j i → Asked s u ty binding (part s globals) adds (Ok i)
-        add-within y =
-            let z : pieces added ≤ max_pieces = rw pieces_are few in
-            record {
-              kept = kept_trans m.kept y.kept;
-              held = (y.piece, rw y.is few);
-              is = λ f q. rw (y.is, new_is f q, added_is f q) (within _ added h fine z);
-            }
+    pub add_within : {u : ⊤} {l : List ℕ} {i j : ℕ} → r ≡ Ok u → Made t l (add (part t retval) (part t n)) j i → Asked s l declared (part s globals) adds (Ok i)
+    unfolding answered
+    add_within h a =
+        record {
+          kept = kept_trans m.kept a.kept;
+          held = (a.piece, rw a.is (add_few h));
+          is = λ f q. rw (a.is, single_is f q, added_is f q) (rw (← sum_limits, h) at (limits_say (request_context none (part t n)) added));
+        }

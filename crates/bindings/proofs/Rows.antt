@@ -6,43 +6,29 @@ use native.Mathlib.Decide.{ℕ_discrete}
 use mathlib.Core.Path.{◌≡◌, refl, sym, subst, ◌∙◌}
 use mathlib.Core.Bool.{true, false, cond, false≢true}
 use mathlib.Core.List.{List, [], ◌∷◌}
-use mathlib.Core.Option.{Option, some, none as nothing}
+use mathlib.Core.Option.{Option, some}
 use lib.Dec.{eqb}
 use lib.ListN.{length, get_or}
 use borrow.Author.Tests.{eq-eqb, ne_eqb}
-use Rattle.field.specs.Limits.{absent, max_members}
+use Rattle.field.specs.Limits.{max_members}
 use Rattle.part.specs.PartReq.{PartReq}
 use Rattle.module.specs.Module.{TypeHandle, Member, Opaque}
 use Rattle.module.specs.Operands.{bindings}
+use Rattle.std.specs.Prelude.{Option as Optional}
+use Rattle.access.specs.Access.{number_in}
 use Rattle.module.specs.Decode.{tab, option_of, member_of, type_inner_of}
 use Rattle.context.specs.Types.{type_words, type_word, type_kind, types_of, AllSized}
 use Rattle.context.proofs.Types.{length-tab, tab-at, type_is, struct_size}
 use Rattle.bindings.specs.Bindings.{Bindings, own_binding}
 use Rattle.bindings.specs.TypeBindings.{members_bindings, inner_bindings, step_bindings, members_from, unless_empty, inner_from, step_from}
-use Rattle.bindings.specs.Rows.{row_member, member_count, members_of, is_base, Bound, BoundMembers, BoundType, AllBound, MemberIs}
+use Rattle.bindings.specs.Rows.{row_member, member_count, members_of, is_base, BindingFits, BoundMembers, BoundType, AllBound, MemberIs}
 
--- a binding by its field
-pub no_binding : (b : ℕ) → b ≡ absent → option_of b ≡ nothing
-unfolding option_of
-no_binding b e = rw (eq-eqb b absent e)
-
-pub absent-own : (b : ℕ) → b ≡ absent → 0 ≡ own_binding (option_of b)
+-- the set of one binding
+pub single_fits : (b : ℕ) → b < bindings → (1 * 2 ^ b) % 2 ^ 64 ≡ own_binding (some b)
 unfolding own_binding
-absent-own b e = rw (no_binding b e)
-
-pub present : (b : ℕ) → (b ≡ absent → ⊥) → option_of b ≡ some b
-unfolding option_of
-present b n = rw (ne_eqb b absent n)
-
-pub bound_below : (b : ℕ) → (b ≡ absent → ⊥) → Bound (option_of b) → b < bindings
-bound_below b n h = rw (present b n) at h
-
-pub present_own : (b : ℕ) → (b ≡ absent → ⊥) → Bound (option_of b) → (1 * 2 ^ b) % 2 ^ 64 ≡ own_binding (option_of b)
-unfolding own_binding
-present_own b n h =
-    let low : b < bindings = bound_below b n h in
+single_fits b low =
     let fits : suc b ≤ 64 = omega arith in
-    rw (present b n, one-mul (2 ^ b))
+    rw (one-mul (2 ^ b))
     (mod-eq_of_lt (omega (arith, pow-le-pow_right {n = 2} (omega arith) {i = suc b} {j = 64} fits, two-pow-succ b, one-le-pow b 2 (omega arith))))
 
 -- the kinds
@@ -159,17 +145,17 @@ module _ (table : List ℕ) (t : ℕ) where
       struct_bound : BoundType (type_inner_of 6 (λ j. type_word table t (1 + j))) → BoundMembers (tab (type_word table t 1) (row_member table t))
       struct_bound = unfold type_inner_of in (λ h. h)
 
-  bound_at : (ms : List Member) (d : Member) (i : ℕ) → BoundMembers ms → i < length ms → Bound (get_or ms i d).binding
+  bound_at : (ms : List Member) (d : Member) (i : ℕ) → BoundMembers ms → i < length ms → BindingFits (get_or ms i d).binding
   bound_at [] d i b h = absurd (omega arith)
   bound_at (m ∷ ms) d zero b h = b.0
   bound_at (m ∷ ms) d (suc i) b h = bound_at ms d i b.1 (omega arith)
 
-  pub member_is : {i ty b : ℕ} → AllBound (types_of table) → i < member_count table t → ty ≡ get_or table (type_words * t + (2 + 2 * i)) 0 → b ≡ get_or table (type_words * t + (2 + 2 * i) + 1) 0 → MemberIs table t i ty b
-  member_is {i} {ty} {b} B h e f =
-      let bound : Bound (row_member table t i).binding =
-      subst (λ (m : Member). Bound m.binding) (members_at (row_member table t i) i h)
+  pub member_is : {i ty b : ℕ} (o : Optional ℕ) → AllBound (types_of table) → i < member_count table t → ty ≡ get_or table (type_words * t + (2 + 2 * i)) 0 → b ≡ get_or table (type_words * t + (2 + 2 * i) + 1) 0 → number_in o ≡ option_of b → MemberIs table t i ty (number_in o)
+  member_is {i} {ty} {b} o B h e f n =
+      let bound : BindingFits (row_member table t i).binding =
+      subst (λ (m : Member). BindingFits m.binding) (members_at (row_member table t i) i h)
       (bound_at (members_of table t) (row_member table t i) i (members_bound B) (rw members_long h)) in
-      let same : option_of b ≡ (row_member table t i).binding = rw f (unfold member_of in (rw place_2)) in
+      let same : number_in o ≡ (row_member table t i).binding = n ∙ rw f (unfold member_of in (rw place_2)) in
       record { type_is = e ∙ (unfold member_of in (rw place_1)); binding_is = same; bound = rw same bound }
     where
       place_1 : type_words * t + (2 + 2 * i) ≡ type_words * t + (1 + (1 + 2 * i))

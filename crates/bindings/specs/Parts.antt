@@ -3,8 +3,7 @@ use Rattle.std.specs.Prelude.{ℕ, ◌+◌, ◌<◌, ◌≤◌, ◌≡◌, List,
 use Rattle.std.proofs.Math.Option.{Option, none as nothing}
 use Rattle.part.specs.PartReq.{PartReq}
 use Rattle.part.specs.Store.{top, part, Kept}
-use Rattle.module.specs.Module.{TypeHandle, TypeInner}
-use Rattle.module.specs.Decode.{option_of}
+use Rattle.module.specs.Module.{TypeHandle, Binding, TypeInner}
 use Rattle.module.specs.Knot.{below}
 use Rattle.bindings.specs.Bindings.{Bindings}
 use Rattle.bindings.specs.TypeBindings.{unless_empty, from_binding, from_type_bindings}
@@ -23,8 +22,8 @@ pub record Held (s parts : List ℕ) (t : ℕ) : Type 0 where
   pub each : (u : ℕ) → u < t → get_or parts u 0 < top s
 
 -- r is the piece of what has the binding, or else the type u
-pub record Chosen (parts : List ℕ) (required : Bindings) (t binding u r : ℕ) : Type 0 where
-  pub is : (s : List ℕ) → unless_empty (part s r) ≡ from_binding (lower_part s parts t) required (option_of binding) u
+pub record Chosen (parts : List ℕ) (required : Bindings) (t : ℕ) (binding : Option Binding) (u r : ℕ) : Type 0 where
+  pub is : (s : List ℕ) → unless_empty (part s r) ≡ from_binding (lower_part s parts t) required binding u
   pub piece : (s : List ℕ) → 3 ≤ top s → Held s parts t → r < top s
 
 -- from s, t was left: the piece r means o there, and at most k cells more are used

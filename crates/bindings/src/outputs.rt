@@ -5,43 +5,47 @@ ghost use Rattle.field.specs.Limits.{max_members, max_pieces};
 ghost use Rattle.part.specs.PartReq.{none};
 ghost use Rattle.part.specs.Store.{top, part, Good, Room, Made};
 ghost use Rattle.module.specs.Operands.{bindings};
-ghost use Rattle.module.specs.Decode.{option_of};
+ghost use Rattle.access.specs.Access.{number_in, result_from as result_in};
 ghost use Rattle.context.specs.Types.{types_of, type_count, AllSized};
 ghost use Rattle.bindings.specs.Bindings.{single};
 ghost use Rattle.bindings.specs.TypeBindings.{step_from};
 ghost use Rattle.context.specs.RequiredContext.{return_entry};
 ghost use Rattle.bindings.specs.ContextBindings.{result_from, output_from_bindings, add_binding, as_request};
-ghost use Rattle.bindings.specs.Outputs.{result_by, BoundResult, output_cells, request_context, Asked};
-ghost use Rattle.bindings.specs.Rows.{Bound, AllBound};
+ghost use Rattle.bindings.specs.Outputs.{BoundResult, output_cells, request_context, within_limits, Asked};
+ghost use Rattle.bindings.specs.Rows.{BindingFits, AllBound};
 ghost use Rattle.bindings.specs.Parts.{lower_part, Held, From, Chosen, Parts};
 
 use crate::set::{contains, own_binding};
 use crate::sum::sum_sizes;
 use crate::types::{member_at, member_count};
-use field::limits::{ABSENT, MAX_PIECES};
+use access::whole::Bound;
+use field::limits::MAX_PIECES;
 use field::refusal::Refusal;
-use module::handles::{NO_HANDLE, TypeHandle};
+use module::handles::TypeHandle;
 use part::limits::SPINE;
 use part::req::join;
-use part::store::{entries, make, over};
+use part::store::{entries, make, measure, over};
 
 // The piece of what has this binding, or else this type, which is one of the first t types.
-pub fn from_binding(parts: &[u32], required: u64, binding: u32, u: TypeHandle, t: u32) -> u32
-    requires bound { Bound (option_of binding) }
+pub fn from_binding(parts: &[u32], required: u64, x: Bound, t: u32) -> u32
+    requires bound { BindingFits (number_in x.binding) }
     requires t_in_bounds { t ≤ length parts.now }
-    ensures { Chosen parts.now required t binding u.0 result }
+    ensures { Chosen parts.now required t (number_in x.binding) x.ty.0 result }
 {
-    if binding != ABSENT as u32 {
-        if contains(required, binding) {
-            return 0;
+    match x.binding {
+        Some(b) => {
+            if contains(required, b) {
+                return 0;
+            }
+            2
         }
-        return 2;
+        None => {
+            if t <= x.ty.0 {
+                return 2;
+            }
+            parts[x.ty.0 as usize]
+        }
     }
-    if t <= u.0 {
-        return 2;
-    }
-    let at = u.0 as usize;
-    parts[at]
 }
 
 // The piece of the type t, by those of lower types.
@@ -55,7 +59,7 @@ fn from_type(cells: &mut [u32], types: &[u32], parts: &[u32], required: u64, t: 
     let mut r: u32 = 2;
     for i in (0..member_count(types, t)).rev() {
         let m = member_at(types, t, i);
-        let q = from_binding(parts, required, m.binding, m.ty, t.0);
+        let q = from_binding(parts, required, m, t.0);
         if q != 2 {
             r = make(cells, i, q, r);
         }
@@ -78,31 +82,44 @@ pub fn from_table(cells: &mut [u32], types: &[u32], required: u64, parts: &mut [
     }
 }
 
-// The piece of the returned value's entry, by the result's type, which is absent where there is none, and its binding.
+// The piece of the returned value's entry, by the result that the function declares.
 fn returned_from(
     cells: &mut [u32],
     types: &[u32],
     required: u64,
-    ty: TypeHandle,
-    binding: u32,
+    declared: Option<Bound>,
     parts: &mut [u32],
 ) -> u32
     requires good { Good cells.old }
     requires all_bound { AllBound (types_of types.now) }
     requires all_sized { AllSized (types_of types.now) }
     requires parts_len { (length parts.old ≡ type_count types.now) × (length parts.old ≤ 4294967295) }
-    requires bound_result { BoundResult (result_by ty.0 binding) × Room cells.old (output_cells parts.old) }
-    ensures { Made cells.old cells.new (return_entry (result_from (types_of types.now) required (result_by ty.0 binding))) (output_cells parts.old) result }
+    requires bound_result { BoundResult (result_in declared) × Room cells.old (output_cells parts.old) }
+    ensures { Made cells.old cells.new (return_entry (result_from (types_of types.now) required (result_in declared))) (output_cells parts.old) result }
 {
-    if ty.0 == NO_HANDLE {
+    let Some(x) = declared else {
         return 2;
-    }
+    };
     from_table(cells, types, required, parts);
-    let q = from_binding(parts, required, binding, ty, parts.len() as u32);
+    let q = from_binding(parts, required, x, parts.len() as u32);
     if q == 2 {
         return 2;
     }
     make(cells, SPINE, q, 2)
+}
+
+// What refuses a request, by whether what is new passes a limit and whether the request does, and by the request's entries: 15, then 16.
+#[tactic(auto, unfolding(crate::specs::Outputs::within_limits))]
+fn within_limits(new_over: bool, over: bool, entries: u32) -> Result<(), Refusal>
+    ensures { result ≡ within_limits new_over over entries }
+{
+    if new_over || over {
+        return Err(Refusal::PartLimit);
+    }
+    if MAX_PIECES < entries as usize {
+        return Err(Refusal::PiecesLimit);
+    }
+    Ok(())
 }
 
 // `output_from_bindings`: refused by 15 and 16, or the piece of the returned value's entry.
@@ -110,24 +127,19 @@ pub fn output_from_bindings(
     cells: &mut [u32],
     types: &[u32],
     required: u64,
-    ty: TypeHandle,
-    binding: u32,
+    declared: Option<Bound>,
     parts: &mut [u32],
 ) -> Result<u32, Refusal>
     requires good { Good cells.old }
     requires all_bound { AllBound (types_of types.now) }
     requires all_sized { AllSized (types_of types.now) }
     requires parts_len { (length parts.old ≡ type_count types.now) × (length parts.old ≤ 4294967295) }
-    requires bound_result { BoundResult (result_by ty.0 binding) × Room cells.old (output_cells parts.old) }
-    ensures { Asked cells.old cells.new ty.0 binding none (λ f. as_request (output_from_bindings (types_of types.now) required f) (output_from_bindings (types_of types.now) required f)) result }
+    requires bound_result { BoundResult (result_in declared) × Room cells.old (output_cells parts.old) }
+    ensures { Asked cells.old cells.new (result_in declared) none (λ f. as_request (output_from_bindings (types_of types.now) required f) (output_from_bindings (types_of types.now) required f)) result }
 {
-    let new = returned_from(cells, types, required, ty, binding, parts);
-    if over(cells, new) {
-        return Err(Refusal::PartLimit);
-    }
-    if MAX_PIECES < entries(cells, new) as usize {
-        return Err(Refusal::PiecesLimit);
-    }
+    let new = returned_from(cells, types, required, declared, parts);
+    let m = measure(cells, new);
+    within_limits(m.over, m.over, m.entries)?;
     Ok(new)
 }
 
@@ -136,8 +148,7 @@ pub fn add_binding(
     cells: &mut [u32],
     types: &[u32],
     b: u32,
-    ty: TypeHandle,
-    binding: u32,
+    declared: Option<Bound>,
     parts: &mut [u32],
     globals: u32,
     retval: u32,
@@ -146,20 +157,13 @@ pub fn add_binding(
     requires all_bound { AllBound (types_of types.now) }
     requires all_sized { AllSized (types_of types.now) }
     requires parts_len { (length parts.old ≡ type_count types.now) × (length parts.old ≤ 4294967295) }
-    requires bound_result { BoundResult (result_by ty.0 binding) × Room cells.old (output_cells parts.old + max_pieces) }
+    requires bound_result { BoundResult (result_in declared) × Room cells.old (output_cells parts.old + max_pieces) }
     requires b_lt_bindings { (b < bindings) × ((globals < top cells.old) × (retval < top cells.old)) }
-    ensures { Asked cells.old cells.new ty.0 binding (part cells.old globals) (λ f. as_request (output_from_bindings (types_of types.now) (single b) f) (add_binding (types_of types.now) b f (request_context (part cells.old globals) (part cells.old retval)))) result }
+    ensures { Asked cells.old cells.new (result_in declared) (part cells.old globals) (λ f. as_request (output_from_bindings (types_of types.now) (single b) f) (add_binding (types_of types.now) b f (request_context (part cells.old globals) (part cells.old retval)))) result }
 {
-    let new = returned_from(cells, types, own_binding(b), ty, binding, parts);
-    if over(cells, new) {
-        return Err(Refusal::PartLimit);
-    }
+    let new = returned_from(cells, types, own_binding(Some(b)), declared, parts);
     let m = sum_sizes(cells, retval, new);
-    if m.over {
-        return Err(Refusal::PartLimit);
-    }
-    if MAX_PIECES < (entries(cells, globals) + m.entries) as usize {
-        return Err(Refusal::PiecesLimit);
-    }
+    let others = entries(cells, globals);
+    within_limits(over(cells, new), m.over, others + m.entries)?;
     Ok(join(cells, retval, new))
 }

@@ -1,24 +1,22 @@
 // Sets of bindings: a number, whose bit b says whether the binding b is in it.
 ghost use Rattle.std.specs.Prelude.{◌≡◌, ◌≤◌, ◌<◌, ◌++◌, length, drop};
 ghost use Rattle.module.specs.Operands.{bindings};
-ghost use Rattle.module.specs.Decode.{option_of};
+ghost use Rattle.access.specs.Access.{number_in};
 ghost use Rattle.bindings.specs.Bindings.{contains, own_binding, list_of};
-ghost use Rattle.bindings.specs.Rows.{Bound};
-
-use field::limits::ABSENT;
+ghost use Rattle.bindings.specs.Rows.{BindingFits};
 
 // A binding is below.
 pub const BINDINGS: u32 = 64;
 
-// The set of one binding, and of none where it is absent.
-pub fn own_binding(b: u32) -> u64
-    requires { Bound (option_of b) }
-    ensures { result ≡ own_binding (option_of b) }
+// The set of one binding, and of none where there is none.
+pub fn own_binding(binding: Option<u32>) -> u64
+    requires { BindingFits (number_in binding) }
+    ensures { result ≡ own_binding (number_in binding) }
 {
-    if b == ABSENT as u32 {
-        return 0;
+    match binding {
+        None => 0,
+        Some(b) => 1u64 << b,
     }
-    1u64 << b
 }
 
 // Whether the binding is in the set.

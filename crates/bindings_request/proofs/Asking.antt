@@ -21,13 +21,12 @@ use Rattle.context.specs.Types.{types_of, type_count, AllSized}
 use Rattle.bindings.specs.Bindings.{set_of}
 use Rattle.bindings.specs.Rows.{AllBound}
 use Rattle.bindings.specs.ContextBindings.{output_from_bindings, as_request, are_bindings, output_request}
-use Rattle.bindings.specs.Outputs.{result_by, BoundResult, output_cells, asking_of, AskingHeld, Asked}
+use Rattle.bindings.specs.Outputs.{BoundResult, output_cells, asking_of, AskingHeld, Asked}
 use Rattle.bindings_request.specs.Boundary.{Tables, Lent, written, output_bytes, refused_by, Gave}
 use Rattle.bindings_request.specs.Listed.{SetIs}
 use Rattle.bindings_request.specs.declared.answer.Refused.{Refused}
 use Rattle.bindings_request.proofs.Modules.{of_function-at, rows_sized, rows_bound, rows_few, result-bound}
 use Rattle.bindings_request.proofs.Answers.{gave_refused}
-use Rattle.bindings_request.proofs.Adding.{result-by}
 
 module _ (bytes t bs : List ℕ) (room f : ℕ) where
   pub output_malformed : {o : List ℕ} {r : Option ℕ} → SetIs bs r → r ≡ None → Gave o o (output_bytes (module_of bytes t) room f bs) (Err (refused_by Malformed))
@@ -50,12 +49,12 @@ module _ (bytes t bs : List ℕ) (room f : ℕ) where
       unfolding output_bytes
       output_short l = gave_refused AnswerTooShort (rw (set_is.0, lt-ltb f (length (module_of bytes t).functions) low, lt-ltb room min_report l))
 
-      module _ {types : List ℕ} (T : Tables bytes t types) (x : TypeBound) (R : result_from x ≡ (function_of bytes t f).result) where
-        result-is : (function_of bytes t f).result ≡ result_by x.ty.0 x.binding
-        result-is = sym R ∙ result-by x
+      module _ {types : List ℕ} (T : Tables bytes t types) (x : Option TypeBound) (R : result_from x ≡ (function_of bytes t f).result) where
+        result-is : (function_of bytes t f).result ≡ result_from x
+        result-is = sym R
 
         pub output_asks : {cells parts u : List ℕ} → length parts ≡ type_count types → Lent cells parts [] → Good u → top u ≡ 3 → length u ≡ length cells
-            → Good u × (AllBound (types_of types) × (AllSized (types_of types) × (((length parts ≡ type_count types) × (length parts ≤ 4294967295)) × (BoundResult (result_by x.ty.0 x.binding) × Room u (output_cells parts)))))
+            → Good u × (AllBound (types_of types) × (AllSized (types_of types) × (((length parts ≡ type_count types) × (length parts ≤ 4294967295)) × (BoundResult (result_from x) × Room u (output_cells parts)))))
         output_asks l L g th lh =
             let big = L.room in
             (g, (rows_bound T, (rows_sized T, ((l, omega (arith, rows_few T)), (rw (← result-is) (result-bound T f low), omega arith)))))
@@ -65,7 +64,7 @@ module _ (bytes t bs : List ℕ) (room f : ℕ) where
         output-request =
             rw (set_is.0, of_function-at (module_of bytes t).functions f (function_of bytes t f) (λ y. as_request (output_from_bindings (module_of bytes t).types (set_of bs) y) (output_from_bindings (module_of bytes t).types (set_of bs) y)) low, function_is bytes t f (function_of bytes t f) low, T.rows, set_is.1)
 
-        module _ {u v : List ℕ} {a : Result ℕ Refusal} (A : Asked u v x.ty.0 x.binding none (λ y. as_request (output_from_bindings (types_of types) s y) (output_from_bindings (types_of types) s y)) a) where
+        module _ {u v : List ℕ} {a : Result ℕ Refusal} (A : Asked u v (result_from x) none (λ y. as_request (output_from_bindings (types_of types) s y) (output_from_bindings (types_of types) s y)) a) where
           pub output_write_asks : {n l : ℕ} → n ≤ l → Good v × (((2 < top v) × AskingHeld v (part v 2) a) × (n ≤ l))
           output_write_asks r = (A.kept.good, ((omega (arith, A.kept.good.base), rw (part-2 v) A.held), r))
 

@@ -3,7 +3,7 @@ pub mod Answers
 pub mod Adding
 pub mod Sets
 pub mod Asking
-pub mod Pairs
+pub mod Filled
 pub mod Walking
 pub mod Arguments
 pub mod Needing

@@ -16,12 +16,12 @@ use Rattle.valid.proofs.Accepted.{valid}
 use Rattle.context.specs.Types.{types_of, type_count, AllSized}
 use Rattle.type_table.proofs.AllSized.{all_sized}
 use Rattle.bindings.specs.ContextBindings.{Answer, refused, of_function}
-use Rattle.bindings.specs.Rows.{Bound, BoundMembers, BoundType, AllBound}
+use Rattle.bindings.specs.Rows.{BindingFits, BoundMembers, BoundType, AllBound}
 use Rattle.bindings.specs.Outputs.{BoundResult}
 use Rattle.bindings.proofs.Returning.{types_long}
 use Rattle.bindings_request.specs.Boundary.{Tables}
 
-maybe_bound : (o : Option ℕ) → MaybeBelow bindings o → Bound o
+maybe_bound : (o : Option ℕ) → MaybeBelow bindings o → BindingFits o
 maybe_bound nothing h = tt
 maybe_bound (some b) h = h
 
@@ -94,5 +94,5 @@ module _ {bytes t types : List ℕ} (T : Tables bytes t types) where
   pub arguments-few : (f : ℕ) → f < length (module_of bytes t).functions → length (function_of bytes t f).arguments ≤ max_arguments
   arguments-few f h = (parts_valid f h).few_arguments
 
-  pub argument_bound : (f : ℕ) → f < length (module_of bytes t).functions → (i : ℕ) (d : FunctionArg) → i < length (function_of bytes t f).arguments → Bound (get_or (function_of bytes t f).arguments i d).binding
+  pub argument_bound : (f : ℕ) → f < length (module_of bytes t).functions → (i : ℕ) (d : FunctionArg) → i < length (function_of bytes t f).arguments → BindingFits (get_or (function_of bytes t f).arguments i d).binding
   argument_bound f h i d l = maybe_bound (get_or (function_of bytes t f).arguments i d).binding ((parts_valid f h).each_argument i d l).1

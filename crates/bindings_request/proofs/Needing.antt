@@ -27,6 +27,7 @@ use Rattle.context_bytes.specs.Found.{list_at, ListAt, ArgsAt}
 use Rattle.context_bytes.proofs.Found.{list_there}
 use Rattle.context_bytes.proofs.Status.{Known, status_known, status_refused}
 use Rattle.bindings.specs.Bindings.{contains, list_below, list_of}
+use Rattle.access.specs.declared.whole.Bound.{Bound}
 use Rattle.bindings.specs.Rows.{args_of}
 use Rattle.bindings.specs.ContextBindings.{args_bindings, input_to_bindings, Answer, refused, accepted, listed, input_list}
 use Rattle.bindings_request.specs.declared.needed.Asserts.{Asserts}
@@ -136,7 +137,7 @@ module _ {bytes t types : List ℕ} (T : Tables bytes t types) (room : ℕ) {f :
         args_are : list_at b at ≡ the_context.context.args
         args_are = (list_there (a.is the_context.context the_context.is)).1
 
-        module _ (pairs : List ℕ) (P : args_of pairs ≡ fn.arguments) (n : Result ℕ Asserts) (N : needed_of n ≡ args_bindings (types_of types) (list_at b at) 0 (args_of pairs)) (long : bindings ≤ room) where
+        module _ (read : List Bound) (P : args_of read ≡ fn.arguments) (n : Result ℕ Asserts) (N : needed_of n ≡ args_bindings (types_of types) (list_at b at) 0 (args_of read)) (long : bindings ≤ room) where
           inputs_are : input_bytes (module_of bytes t) room f b ≡ within_pieces the_context.context (listed (needed_of n))
           unfolding inputs_of input_list input_to_bindings
           inputs_are =

@@ -10,10 +10,9 @@ use lib.ListN.{length, get_or, drop, drop_of_length-le}
 use lib.Seq.{drop-cons}
 use borrow.Author.Tests.{lt-ltb, le-ltb}
 use Rattle.module.specs.Operands.{bindings}
-use Rattle.module.specs.Decode.{option_of}
+use Rattle.std.proofs.Math.Option.{some}
 use Rattle.bindings.specs.Bindings.{own_binding, set_of}
 use Rattle.bindings.specs.ContextBindings.{binding_after, are_bindings}
-use Rattle.bindings.proofs.Returning.{own_single}
 
 and-false : (x : Bool) → x && false ≡ false
 and-false true = refl
@@ -48,15 +47,15 @@ module _ (bs : List ℕ) {i after s : ℕ} (R : Reading bs i after s) (h : 0 < i
   pub reading_malformed : {b : ℕ} → b ≡ get_or bs (i - 1) 0 → after ≤ b → are_bindings bs ≡ false
   reading_malformed e l = not_below bs (i - 1) reading_inside e (rw (same, ← R.next) l)
 
-  pub reading_more : {b own : ℕ} → b ≡ get_or bs (i - 1) 0 → b < after → own ≡ own_binding (option_of b) → Reading bs (i - 1) b (bit_or own s)
-  unfolding are_bindings set_of binding_after
+  pub reading_more : {b own : ℕ} → b ≡ get_or bs (i - 1) 0 → b < after → own ≡ own_binding (some b) → Reading bs (i - 1) b (bit_or own s)
+  unfolding are_bindings set_of binding_after own_binding
   reading_more {b} {own} e l o =
       let here : drop (i - 1) bs ≡ b ∷ drop i bs = drop-cons bs (i - 1) 0 reading_inside ∙ rw (← e, same) in
       let low : b < bindings = omega (arith, R.few) in
       record {
         low = omega (arith, R.low);
         are = rw (here, ← R.next, lt-ltb b after l) R.are;
-        is = rw (here, o, own_single b low, R.is);
+        is = rw (here, o, R.is);
         next = rw here;
         few = omega arith;
       }

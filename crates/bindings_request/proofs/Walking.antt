@@ -5,16 +5,22 @@ use native.Mathlib.Omega.{arith}
 use native.Mathlib.Decide.{dec_lt}
 use native.Mathlib.Numerals.{add-one}
 use mathlib.Core.Path.{◌≡◌, refl, sym, ap, ◌∙◌, fun_ext}
-use mathlib.Core.Bool.{Bool, true, false, false≢true}
+use mathlib.Core.Bool.{true, false, false≢true}
 use mathlib.Core.List.{List, [], ◌∷◌, ◌++◌, append_assoc, append-nil}
 use lib.Bits.{bit_or}
 use lib.ListN.{length, get_or, drop, set, drop_of_length-le, get_or-append}
 use lib.Seq.{drop-cons, set_at}
-use borrow.Author.Tests.{le-ltb}
+use borrow.Author.Tests.{le-ltb, ne_eqb}
+use mathlib.Core.Logic.{◌⊎◌, inl, inr}
+use Prim.Native.Nat.{min}
+use Rattle.module.specs.KindNumbers.{type_number}
+use Rattle.module.specs.declared.kinds.TypeKind.{TypeKind}
+use Rattle.module.specs.declared.kinds.TypeKind.TheVariants.{Pointer, Array, BindingArray}
+use Rattle.context.proofs.TypeKinds.{kind_known, kind_other}
 use Rattle.part.specs.PartReq.{PartReq, all, exist, none, more, is_all, is_exist, Subpart, gone, there, get_subpart}
 use Rattle.module.specs.Module.{TypeHandle, Member, TypeInner, Opaque}
 use Rattle.module.specs.Knot.{below}
-use Rattle.module.specs.Decode.{option_of}
+use Rattle.std.proofs.Math.Option.{Option}
 use Rattle.module.proofs.Knot.{knot-is, below-lt}
 use Rattle.context.specs.Types.{type_kind, types_of, type_word, type_count, row_type}
 use Rattle.bindings.specs.Bindings.{Bindings, empty, own_binding}
@@ -80,9 +86,21 @@ module _ (get : TypeHandle → PartReq → Bindings) (m : Member) where
   needed_member none h = refl
   needed_member (more i p r) h = refl
 
-pub member_needed : (get : TypeHandle → PartReq → Bindings) {tbl : List ℕ} {t i ty b own found : ℕ} {p : PartReq} {sub : Subpart} → sub ≡ there p → is_exist p ≡ false → MemberIs tbl t i ty b → own ≡ own_binding (option_of b) → found ≡ get ty p → bit_or own found ≡ member_bindings get (row_member tbl t i) sub
+pub member_needed : (get : TypeHandle → PartReq → Bindings) {tbl : List ℕ} {t i ty own found : ℕ} {b : Option ℕ} {p : PartReq} {sub : Subpart} → sub ≡ there p → is_exist p ≡ false → MemberIs tbl t i ty b → own ≡ own_binding b → found ≡ get ty p → bit_or own found ≡ member_bindings get (row_member tbl t i) sub
 member_needed get {tbl} {t} {i} {p = p} e h M f g =
     rw (e, f, g, M.binding_is, M.type_is) (needed_member get (row_member tbl t i) p h)
+
+-- whether a kind is of what is made of one type
+pub base_by : (n : ℕ) {k : TypeKind} → type_number k ≡ min n 8 → (k ≡ Pointer) ⊎ ((k ≡ Array) ⊎ (k ≡ BindingArray)) → is_base n ≡ true
+unfolding is_base
+base_by n e (inl h) = rw (← kind_known e Pointer (omega arith) h) refl
+base_by n e (inr (inl h)) = rw (← kind_known e Array (omega arith) h) refl
+base_by n e (inr (inr h)) = rw (← kind_known e BindingArray (omega arith) h) refl
+
+pub base_not : (n : ℕ) {k : TypeKind} → type_number k ≡ min n 8 → (k ≡ Pointer → ⊥) → (k ≡ Array → ⊥) → (k ≡ BindingArray → ⊥) → is_base n ≡ false
+unfolding is_base
+base_not n e p a b =
+    rw (ne_eqb n 4 (kind_other e Pointer (omega arith) p), ne_eqb n 5 (kind_other e Array (omega arith) a), ne_eqb n 7 (kind_other e BindingArray (omega arith) b))
 
 -- in the members from the index i on
 pub record Left (get : TypeHandle → PartReq → Bindings) (tbl : List ℕ) (t : ℕ) (p : PartReq) (i r : ℕ) : Type 0 where
@@ -110,12 +128,12 @@ module _ (get : TypeHandle → PartReq → Bindings) (tbl : List ℕ) (t : ℕ) 
       let f : m ≡ member_bindings get (row_member tbl t i) (get_subpart p i) = rw same at e in
       rw same (record { low = omega arith; is = rw (f, L.is) (sym (members_cons i low)) })
 
-  pub left_all : {k i r : ℕ} → i ≤ 0 → Left get tbl t p i r → k ≡ type_kind tbl t → is_base k ≡ false → r ≡ step_bindings (types_of tbl) get t p
-  left_all {k} {i = zero} h L e b = L.is ∙ members_step tbl t get p e b
-  left_all {k} {i = suc i} h L e b = absurd (omega arith)
+  pub left_all : {i r : ℕ} → i ≤ 0 → Left get tbl t p i r → is_base (type_kind tbl t) ≡ false → r ≡ step_bindings (types_of tbl) get t p
+  left_all {i = zero} h L b = L.is ∙ members_step tbl t get p refl b
+  left_all {i = suc i} h L b = absurd (omega arith)
 
-  pub base-found : {k base r : ℕ} {b : Bool} → k ≡ type_kind tbl t → b ≡ is_base k → b ≡ true → base ≡ type_word tbl t 1 → r ≡ get base p → r ≡ step_bindings (types_of tbl) get t p
-  base-found e f h g found = found ∙ rw g (base_step tbl t get p e (sym f ∙ h))
+  pub base-found : {base r : ℕ} → is_base (type_kind tbl t) ≡ true → base ≡ type_word tbl t 1 → r ≡ get base p → r ≡ step_bindings (types_of tbl) get t p
+  base-found h g found = found ∙ rw g (base_step tbl t get p refl h)
 
 -- the table as far as the type t, and the rest as it was
 pub record Grown (types : List TypeInner) (old sets : List Bindings) (t : ℕ) : Type 0 where

@@ -44,17 +44,8 @@ fn add_to(
     ensures { Gave out.old out.new (written f.0 (add_request (module_of bytes.now t.now) f.0 b (request_context (part cells.old globals) (return_entry (optional cells.old retval))))) result }
 {
     let entry = returned(cells, retval);
-    let x = result(bytes, t, f);
-    let a = add_binding(
-        cells,
-        types,
-        b,
-        x.ty,
-        x.binding as u32,
-        parts,
-        globals,
-        entry,
-    );
+    let declared = result(bytes, t, f);
+    let a = add_binding(cells, types, b, declared, parts, globals, entry);
     write_asking(cells, f, globals, a, out)
 }
 

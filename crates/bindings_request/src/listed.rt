@@ -14,7 +14,7 @@ pub fn set_of(list: &[u8]) -> Option<u64>
         if after <= b {
             return None;
         }
-        let own = own_binding(b);
+        let own = own_binding(Some(b));
         s = own | s;
         after = b;
     }

@@ -2,23 +2,25 @@
 // read where it stands: a part of it is where its first byte is, and how deep it may be.
 ghost use Rattle.std.specs.Prelude.{◌≡◌, ◌+◌, ◌*◌, ◌≤◌, ◌<◌, length, get_or};
 ghost use Rattle.part.specs.PartReq.{all, get_subpart};
-ghost use Rattle.module.specs.Decode.{option_of};
+ghost use Rattle.access.specs.Access.{number_in, arg_from};
 ghost use Rattle.context.specs.RequiredContext.{variable};
 ghost use Rattle.context.specs.Types.{types_of, type_count};
 ghost use Rattle.bindings.specs.TypeBindings.{member_bindings, step_bindings, get_type_bindings};
 ghost use Rattle.bindings.specs.ContextBindings.{arg_bindings, args_bindings};
 ghost use Rattle.bindings.specs.Linear.{all_table};
-ghost use Rattle.bindings.specs.Rows.{row_member, member_count, Bound, AllBound, arg_of, args_of, BoundArgs};
+ghost use Rattle.bindings.specs.Rows.{row_member, member_count, BindingFits, AllBound, args_of, BoundArgs};
 ghost use Rattle.context_bytes.specs.Found.{part_at, Readable, list_at, ListAt};
 ghost use Rattle.bindings_request.specs.Walks.{lower, needed_of, asserted};
 
 use crate::answer::Refused;
+use access::whole::Bound;
 use bindings::set::own_binding;
-use bindings::types::{first_word, is_base, member_at, member_count, type_kind};
+use bindings::types::{first_word, member_at, member_count};
+use context::remove::type_kind;
 use context_bytes::find::{find_part, find_variable, is_all, is_exist};
-use field::limits::ABSENT;
 use field::refusal::Refusal;
 use module::handles::TypeHandle;
+use module::kinds::TypeKind;
 
 // The argument at which the Rust asserts.
 #[derive(Clone, Copy, Debug, PartialEq, Eq)]
@@ -108,10 +110,9 @@ fn type_step(
     requires all_bound { AllBound (types_of types.now) }
     ensures { result ≡ step_bindings (types_of types.now) (lower (types_of types.now) sets.now t.0) t.0 (part_at context.now at depth) }
 {
-    let kind = type_kind(types, t);
-    if is_base(kind) {
-        let base = first_word(types, t);
-        return walk(context, at, depth, types, sets, TypeHandle(base), t);
+    if let TypeKind::Pointer | TypeKind::Array | TypeKind::BindingArray = type_kind(types, t) {
+        let base = TypeHandle(first_word(types, t));
+        return walk(context, at, depth, types, sets, base, t);
     }
     let mut r: u64 = 0;
     for i in (0..member_count(types, t)).rev() {
@@ -163,21 +164,20 @@ fn type_bindings(
     type_step(context, at, depth, types, sets, t)
 }
 
-// What is needed of the argument i, which has this type and this binding, where the list of arguments stands at the byte `args`.
+// What is needed of the argument i, which is x, where the list of arguments stands at the byte `args`.
 fn arg_bindings(
     context: &[u8],
     args: usize,
     types: &[u32],
     sets: &[u64],
     i: u32,
-    ty: TypeHandle,
-    binding: u32,
+    x: Bound,
 ) -> Result<u64, Asserts>
     requires list_at { ListAt context.now args (list_at context.now args) }
     requires all_bound { AllBound (types_of types.now) }
     requires sets_value { sets.now ≡ all_table (types_of types.now) }
-    requires bound { Bound (option_of binding) }
-    ensures { needed_of result ≡ arg_bindings (types_of types.now) i (arg_of ty.0 binding) (get_subpart (list_at context.now args) (variable i)) }
+    requires bound { BindingFits (number_in x.binding) }
+    ensures { needed_of result ≡ arg_bindings (types_of types.now) i (arg_from x) (get_subpart (list_at context.now args) (variable i)) }
 {
     let Some((at, depth)) = find_variable(context, args, i) else {
         return Ok(0);
@@ -185,24 +185,21 @@ fn arg_bindings(
     if is_exist(context, at, depth) {
         return Ok(0);
     }
-    let below = type_bindings(context, at, depth, types, sets, ty);
-    if binding == ABSENT as u32 {
-        return Ok(below);
+    if x.binding.is_some() && !is_all(context, at, depth) {
+        return Err(Asserts(i));
     }
-    if is_all(context, at, depth) {
-        let own = own_binding(binding);
-        return Ok(own | below);
-    }
-    Err(Asserts(i))
+    let below = type_bindings(context, at, depth, types, sets, x.ty);
+    let own = own_binding(x.binding);
+    Ok(own | below)
 }
 
-// `input_to_bindings`: the arguments are pairs of type and binding.
+// `input_to_bindings` of these arguments.
 pub fn input_to_bindings(
     context: &[u8],
     args: usize,
     types: &[u32],
     sets: &[u64],
-    arguments: &[u32],
+    arguments: &[Bound],
 ) -> Result<u64, Asserts>
     requires list_at { ListAt context.now args (list_at context.now args) }
     requires all_bound { AllBound (types_of types.now) }
@@ -211,18 +208,8 @@ pub fn input_to_bindings(
     ensures { needed_of result ≡ args_bindings (types_of types.now) (list_at context.now args) 0 (args_of arguments.now) }
 {
     let mut s: u64 = 0;
-    for i in 0..arguments.len() / 2 {
-        let ty = arguments[2 * i];
-        let binding = arguments[2 * i + 1];
-        let a = arg_bindings(
-            context,
-            args,
-            types,
-            sets,
-            i as u32,
-            TypeHandle(ty),
-            binding,
-        )?;
+    for i in 0..arguments.len() {
+        let a = arg_bindings(context, args, types, sets, i as u32, arguments[i])?;
         s = s | a;
     }
     Ok(s)

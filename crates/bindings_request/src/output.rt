@@ -21,25 +21,25 @@ pub fn output_from_bindings_bytes(
     types: &[u32],
     cells: &mut [u32],
     parts: &mut [u32],
-    f: u32,
+    f: FunctionHandle,
     list: &[u8],
     out: &mut [u8],
 ) -> Result<usize, Refused>
     requires tables { Tables bytes.now t.now types.now }
     requires parts_len { (length parts.old ≡ type_count types.now) × Lent cells.old parts.old [] }
-    ensures { Gave out.old out.new (output_bytes (module_of bytes.now t.now) (length out.old) f list.now) result }
+    ensures { Gave out.old out.new (output_bytes (module_of bytes.now t.now) (length out.old) f.0 list.now) result }
 {
     let Some(s) = set_of(list) else {
         return Err(Refusal::Malformed.into());
     };
-    if functions(t) <= f {
+    if functions(t) <= f.0 {
         return Err(Refusal::NoSuch.into());
     }
     if out.len() < MIN_REPORT {
         return Err(Refusal::AnswerTooShort.into());
     }
     init(cells);
-    let x = result(bytes, t, FunctionHandle(f));
-    let a = output_from_bindings(cells, types, s, x.ty, x.binding as u32, parts);
-    write_asking(cells, FunctionHandle(f), 2, a, out)
+    let declared = result(bytes, t, f);
+    let a = output_from_bindings(cells, types, s, declared, parts);
+    write_asking(cells, f, 2, a, out)
 }

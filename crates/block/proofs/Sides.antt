@@ -1,13 +1,13 @@
 -- A context as one piece: its entries are its maps, so that what is taken back is what was put aside. Its cells are made one behind the other.
 use Prim.Native.Nat.{ℕ, ◌+◌, ◌<◌, ◌≤◌}
 use native.Mathlib.Omega.{arith}
-use mathlib.Core.Path.{◌≡◌, refl, ap, subst, ◌∙◌}
+use mathlib.Core.Path.{◌≡◌, refl, ap, ◌∙◌}
 use mathlib.Core.Bool.{Bool, true, false, ◌||◌}
 use mathlib.Core.List.{List}
 use lib.ListN.{length, get_or, set, length-set}
 use Rattle.std.specs.Prelude.{Option, Some, None, unwrap_or}
 use Rattle.field.specs.Limits.{max_pieces}
-use Rattle.part.specs.PartReq.{PartReq, none, more, Subpart, gone, there, get_subpart, entries, over}
+use Rattle.part.specs.PartReq.{PartReq, none, more, Subpart, get_subpart, entries, over}
 use Rattle.part.specs.Store.{top, part, Good, Room, Made}
 use Rattle.part.specs.Found.{Got}
 use Rattle.part.proofs.Pieces.{part-2}

@@ -19,18 +19,17 @@ pub fn add_total(
     f: FunctionHandle,
     at: usize,
     here: Place,
-    visits: usize,
-    sum: usize,
+    tally: Tally,
 ) -> Walked
-    requires { TotalAsked bytes.now t.now places.now cells.old slots.old «open».now totals.old f.0 at sum }
-    ensures { TotalEnds bytes.now t.now places.now cells.old slots.old «open».now totals.old f.0 at sum visits here result cells.new slots.new totals.new }
+    requires { TotalAsked bytes.now t.now places.now cells.old slots.old «open».now totals.old f.0 at tally.sum }
+    ensures { TotalEnds bytes.now t.now places.now cells.old slots.old «open».now totals.old f.0 at tally.sum tally.visits here result cells.new slots.new totals.new }
 {
     let i = f.0 as usize;
     if totals[i] == 0 {
-        let first = first_total(t, places, cells, slots, open, totals, f, at, sum);
+        let first = first_total(t, places, cells, slots, open, totals, f, at, tally.sum);
         return Ok(Tally {
-            visits: visits,
             sum: first,
+            ..tally
         });
     }
     let ray = first_ray(bytes, t, f);
@@ -40,14 +39,14 @@ pub fn add_total(
             place: Place::Statement(f, s),
         });
     }
-    match later_total(t, places, cells, slots, open, totals, f, at, sum) {
+    match later_total(t, places, cells, slots, open, totals, f, at, tally.sum) {
         None => Err(Halt {
             refusal: Refusal::PartLimit,
             place: here,
         }),
         Some(later) => Ok(Tally {
-            visits: visits,
             sum: later,
+            ..tally
         }),
     }
 }

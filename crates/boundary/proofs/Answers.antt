@@ -1,18 +1,20 @@
 -- What reading ensures is the number that the caller gets, and what an operation tells is its answer as a number.
 use mathlib.Core.Path.{◌≡◌, refl, ◌∙◌}
 use mathlib.Core.List.{List}
-use Prim.Native.Nat.{ℕ, zero, suc, ◌+◌, ◌*◌, ◌≤◌}
+use Prim.Native.Nat.{ℕ, zero, suc, ◌+◌, ◌*◌}
 use native.Mathlib.Omega.{arith}
 use Rattle.std.specs.Prelude.{Option, Some, None, Result, Ok, Err}
 use Rattle.std.specs.Option.{unwrap_or}
 use Rattle.field.specs.Refusal.{number}
 use Rattle.module.specs.Module.{Module}
-use Rattle.module.specs.File.{accepted, read_module}
+use Rattle.module.specs.File.{accepted, refused, read_module}
 use Rattle.module.specs.Tables.{module_of}
 use Rattle.reading.specs.Reads.{Reads}
 use Rattle.bindings.specs.ContextBindings as bindings
-use Rattle.bindings_request.specs.Boundary.{refusal_said, said, told, left, Gave}
+use Rattle.bindings_request.specs.Boundary.{Tables, refused_by, refusal_said, said, told, Gave}
 use Rattle.bindings_request.specs.declared.answer.Refused.{Refused}
+use Rattle.field.specs.declared.refusal.Refusal.{Refusal}
+use Rattle.bindings_request.proofs.Answers.{gave_refused}
 use Rattle.boundary.specs.Answers.{answer_number, read_number, answer_word, word_of, Answers, of_module}
 
 pub read_is : (bytes t : List ℕ) (n : ℕ) → Reads bytes t n → n ≡ read_number bytes
@@ -50,16 +52,11 @@ pub was_read : (bytes t : List ℕ) {n : ℕ} → Reads bytes t n → n ≡ 0 �
 was_read bytes t R z = (R.accepts z).0
 
 -- a file that is refused, and one that is read
-module _ (bytes t : List ℕ) {n : ℕ} (R : Reads bytes t n) (k : Module → bindings.Answer (List ℕ)) {o : List ℕ} where
-  pub answers_refused : {w : ℕ} → 1 ≤ n → w ≡ 4294967296 * n → Answers o o (of_module (read_module bytes) k) w
-  unfolding of_module left answer_word
-  answers_refused h e = rw (R.refuses h) (record { is = e; out = refl })
-
-  pub answers_read : {p : List ℕ} {w : ℕ} → n ≡ 0 → Answers o p (k (module_of bytes t)) w → Answers o p (of_module (read_module bytes) k) w
+module _ (bytes : List ℕ) (k : Module → bindings.Answer (List ℕ)) {o : List ℕ} where
+  pub file_refused : {n : Refusal} → read_module bytes ≡ refused (number n) → Gave o o (of_module (read_module bytes) k) (Err (refused_by n))
   unfolding of_module
-  answers_read z A = rw (R.accepts z).0 A
+  file_refused {n} h = gave_refused n (rw h)
 
--- a refusal leaves the slice
-pub answers_none : {o : List ℕ} {a : bindings.Answer (List ℕ)} {n w : ℕ} → a ≡ bindings.refused n → w ≡ 4294967296 * n → Answers o o a w
-unfolding left answer_word
-answers_none e h = rw e (record { is = h; out = refl })
+  pub file_read : {t types p : List ℕ} {r : Result ℕ Refused} → Tables bytes t types → Gave o p (k (module_of bytes t)) r → Gave o p (of_module (read_module bytes) k) r
+  unfolding of_module
+  file_read T G = rw T.read G

@@ -5,16 +5,19 @@ use mathlib.Core.Path.{◌≡◌, ap, ◌∙◌}
 use mathlib.Core.List.{List}
 use Rattle.module.specs.declared.handles.ExpressionHandle.{ExpressionHandle as Expression}
 use Rattle.module.specs.declared.handles.FunctionHandle.{FunctionHandle as Handle}
+use Rattle.std.specs.Prelude.{Result, Ok, Err}
+use Rattle.field.specs.Refusal.{number}
+use Rattle.field.specs.declared.refusal.Refusal.{Refusal}
+use Rattle.field.proofs.Refusals.{some_number}
 use Rattle.reading.specs.Reads.{Reads}
 use Rattle.state.specs.State.{place_of}
 use Rattle.state.specs.Ready.{WasRead}
+use Rattle.state.specs.declared.answer.Halt.{Halt}
 use Rattle.state.specs.declared.answer.Place.{Place}
 use Rattle.state.specs.declared.answer.Place.TheVariants as place
 use Rattle.requests.specs.Serve.{Lent, Reply, on_module, serve, place_word, reply_word}
-use Rattle.requests.specs.Finish.{reply_of}
+use Rattle.requests.specs.Finish.{nowhere, reply_of}
 use Rattle.requests.specs.Served.{Served}
-use Rattle.requests.specs.declared.finish.Reply as declared
-use Rattle.requests.specs.declared.finish.Reply.TheVariants as reply
 use Rattle.requests.proofs.Numbers.{place_small}
 use Rattle.boundary.specs.Requests.{RequestsRead, Requests}
 
@@ -35,16 +38,16 @@ unfolding place_word
 at_nowhere {p} h = word_small p (rw h)
 
 -- the number of a reply
-pub word_visits : {r : declared.Reply} {n : ℕ} → r ≡ reply.Visits n → n ≡ reply_word (reply_of r)
+pub word_visits : {r : Result ℕ Halt} {n : ℕ} → r ≡ Ok n → n ≡ reply_word (reply_of r)
 unfolding reply_word
 word_visits e = rw e
 
-pub word_refused : {r : declared.Reply} {n w : ℕ} {p : Place} → r ≡ reply.Refused n p → w ≡ place_word (place_of p) → 4294967296 * (n % 65536) + w ≡ reply_word (reply_of r)
+pub word_refused : {r : Result ℕ Halt} {h : Halt} {n w : ℕ} → r ≡ Err h → n ≡ number h.refusal → w ≡ place_word (place_of h.place) → 4294967296 * (n % 65536) + w ≡ reply_word (reply_of r)
 unfolding reply_word
-word_refused e h = rw (e, h)
+word_refused e i h = rw (e, i, h)
 
 -- of a module that was read
-pub requests_read : {bytes t asked pruner report answer pruner-after report-after answer-after : List ℕ} {r : declared.Reply} {w : ℕ}
+pub requests_read : {bytes t asked pruner report answer pruner-after report-after answer-after : List ℕ} {r : Result ℕ Halt} {w : ℕ}
     → Served bytes t asked pruner report answer r pruner-after report-after answer-after → w ≡ reply_word (reply_of r)
     → RequestsRead bytes t asked pruner report answer w pruner-after report-after answer-after
 requests_read S e = record {
@@ -57,9 +60,9 @@ module _ {bytes t : List ℕ} {n : ℕ} (R : Reads bytes t n) where
   file_read z = record { module_is = (R.accepts z).0; laid = (R.accepts z).1 }
 
   -- the file is refused, and one that is read
-  pub requests_refused : {asked pruner report answer : List ℕ} {w : ℕ} → 1 ≤ n → w ≡ reply_word (reply_of (reply.Refused n place.Nowhere)) → Requests bytes asked pruner report answer w pruner report answer
+  pub requests_refused : {asked pruner report answer : List ℕ} (e : Refusal) {w : ℕ} → n ≡ number e → w ≡ reply_word (reply_of (Err (nowhere e))) → Requests bytes asked pruner report answer w pruner report answer
   unfolding serve on_module
-  requests_refused h e = record { number = e ∙ rw (R.refuses h); left = rw (R.refuses h) }
+  requests_refused r same e = let h : 1 ≤ n = rw same (some_number r) in record { number = e ∙ rw (R.refuses h, same); left = rw (R.refuses h) }
 
   pub requests_of : {asked pruner report answer pruner-after report-after answer-after : List ℕ} {w : ℕ} → n ≡ 0
       → RequestsRead bytes t asked pruner report answer w pruner-after report-after answer-after → Requests bytes asked pruner report answer w pruner-after report-after answer-after

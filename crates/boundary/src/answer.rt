@@ -3,14 +3,13 @@ ghost use Rattle.std.specs.Prelude.{◌≡◌, ◌*◌};
 ghost use Rattle.boundary.specs.Answers.{word_of};
 
 use bindings_request::answer::Refused;
+use field::refusal::REFUSAL_UNIT;
 
-// A refusal's number stands from here on.
-const REFUSAL: u64 = 4294967296;
-
+// A refusal by its number.
 pub fn refused_word(n: u32) -> u64
     ensures { result ≡ 4294967296 * n }
 {
-    REFUSAL * (n as u64)
+    REFUSAL_UNIT * (n as u64)
 }
 
 #[tactic(auto, unfolding(crate::specs::Answers::word_of))]

@@ -5,4 +5,5 @@ pub mod add;
 pub mod answer;
 pub mod input;
 pub mod output;
+pub mod rows;
 pub mod serve;

@@ -8,13 +8,14 @@ ghost use Rattle.requests.specs.Serve.{place_word, reply_word};
 ghost use Rattle.requests.specs.Finish.{reply_of};
 ghost use Rattle.boundary.specs.Requests.{RequestsRead, Requests};
 
+use crate::answer::refused_word;
 use access::whole::types;
 use context::remove::TYPE_WORDS;
 use field::limits::MAX_TYPES;
 use marks::places::{PLACES, place_marks};
 use module::tables::WORDS;
 use reading::read::read_module;
-use requests::finish::Reply;
+use requests::finish::{Reply, nowhere};
 use requests::serve::serve_read;
 use state::answer::Place;
 use type_table::fill;
@@ -37,8 +38,8 @@ fn reply_word(r: Reply) -> u64
     ensures { result ≡ reply_word (reply_of r) }
 {
     match r {
-        Reply::Visits(n) => n as u64,
-        Reply::Refused(n, place) => 4294967296 * ((n % 65536) as u64) + place_word(place),
+        Ok(n) => n as u64,
+        Err(h) => refused_word(u32::from(h.refusal) % 65536) + place_word(h.place),
     }
 }
 
@@ -101,7 +102,7 @@ pub fn request_any(
     ensures { Requests bytes.now request.now pruner.old report.old answer.old result pruner.new report.new answer.new }
 {
     if let Err(refusal) = read_module(bytes, t) {
-        return reply_word(Reply::Refused(u32::from(refusal), Place::Nowhere));
+        return reply_word(Err(nowhere(refusal)));
     }
     request_in(bytes, t, request, pruner, report, answer)
 }

@@ -1,13 +1,13 @@
-// From the bytes of a module, a request, a report and a context to the check's number. Nothing of theirs is written.
+// From the bytes of a module, a request, a report and a context to the check's answer. Nothing of theirs is written.
 ghost use Rattle.std.specs.Prelude.{◌≡◌, ◌≤◌, length};
 ghost use Rattle.field.specs.Refusal.{number_of};
 ghost use Rattle.module.specs.Scan.{values};
 ghost use Rattle.module.specs.Tables.{words, max_items};
 ghost use Rattle.reading.specs.Reads.{Reads};
 ghost use Rattle.checking.specs.Check.{check};
-ghost use Rattle.checking.specs.Word.{check_word};
+ghost use Rattle.checking.specs.Word.{said};
 
-use checking::words::REFUSAL;
+use checking::words::Verdict;
 use field::refusal::Refusal;
 use memory::layout::{CELLS, SLOTS};
 use module::tables::WORDS;
@@ -27,7 +27,7 @@ fn read_file(
     read(bytes, t, &mut cells[0..SEEN], &mut slots[0..HELD])
 }
 
-// Of any bytes: the number is the definition's. Where it is 0, what is claimed of them holds (`word_claims` of crate `checking`).
+// Of any bytes: the answer is the definition's. Where it is clear, what is claimed of them holds (`checked_claims` of crate `checking`).
 pub fn check_any(
     bytes: &[u8],
     t: &mut [u32; WORDS],
@@ -36,11 +36,11 @@ pub fn check_any(
     request: &[u8],
     report: &[u8],
     context: &[u8],
-) -> u64
-    ensures { result ≡ check_word (check bytes.now request.now report.now context.now) }
+) -> Verdict
+    ensures { said result ≡ check bytes.now request.now report.now context.now }
 {
     if let Err(refusal) = read_file(bytes, t, cells, slots) {
-        return REFUSAL * (u32::from(refusal) as u64);
+        return Verdict::Refused(refusal);
     }
     check_in(bytes, t, cells, slots, request, report, context)
 }

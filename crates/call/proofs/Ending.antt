@@ -29,9 +29,9 @@ use Rattle.state.specs.declared.answer.Halt.{Halt}
 use Rattle.state.specs.declared.answer.Tally.{Tally}
 use Rattle.state.specs.declared.answer.Answer.{Answer}
 use Rattle.state.proofs.Others.{ready_fits, apart_totals}
-use Rattle.statement.specs.Asks.{Open, Asked, maybe_ask, answer_of}
+use Rattle.statement.specs.Asks.{Asked, maybe_ask, answer_of}
 use Rattle.statement.proofs.Asking.{began}
-use Rattle.call.specs.Calls.{frame_over, arguments_of, Calling, Passable, Passes, AskedArguments, EndsCall}
+use Rattle.call.specs.Calls.{frame_over, arguments_of, Calling, Passes, AskedArguments, EndsCall}
 use Rattle.call.proofs.Passing.{beside_self, goes_passes}
 
 -- the definition
@@ -54,10 +54,6 @@ next_same (went st a) v w k h = rw (h st)
 next_same (halt n at) v w k h = refl
 
 module _ {bytes t : List ℕ} {fr : Frame} where
-  pub passable_open : {s rs : List ℕ} (r : Result Tally Halt) → Passable bytes t s rs fr r → Open bytes t s rs fr r
-  passable_open (Ok tally) p = record { by = p.by.0 }
-  passable_open (Err stop) p = record { by = tt }
-
   -- one ask more
   passes_next : {s rs z zs u us : List ℕ} {rest : Rest} {total : Out (Unit {0})} {r : Result Tally Halt} (walk : PartReq → Walk (Unit {0})) (before : Result Tally Halt)
       → stack_slot ≤ fr.at → Memory s rs → total_pieces rest.functions ≡ totals_sum (read s rs)
@@ -101,8 +97,8 @@ module _ {bytes t s rs : List ℕ} {fr : Frame} {row : Kinded} {sum visits : ℕ
             (x.by c rest counts);
       })
 
-  pub end_asked : {req : Bool} {d : ℕ} {b : Result Answer Halt} {r : Result Tally Halt} {u us : List ℕ} → req ≡ true → d ≡ operand_at bytes row (2 + operand_at bytes row 1)
-      → Asked bytes t z zs fr passed (maybe_ask (module_of bytes t) fr.function.0 fr.held (option_of d)) result r u us
+  pub end_asked : {req : Bool} {d : Option ℕ} {b : Result Answer Halt} {r : Result Tally Halt} {u us : List ℕ} → req ≡ true → d ≡ asked
+      → Asked bytes t z zs fr passed (maybe_ask (module_of bytes t) fr.function.0 fr.held d) result r u us
       → b ≡ answer_of r true → EndsCall bytes t s rs fr row req visits b u us
   unfolding end_call
   end_asked {req} {d} {b} {r} {u} {us} h is y e =
@@ -111,7 +107,7 @@ module _ {bytes t s rs : List ℕ} {fr : Frame} {row : Kinded} {sum visits : ℕ
       (record {
         by = λ c rest counts.
             passes_ends (λ b. StatementReq.Call b (is_there (there p))) true r
-            (next_same (arguments c rest) (maybe_ask (module_of bytes t) fr.function.0 fr.held (option_of d) p) (ask_result (module_of bytes t) (frame_over fr c) asked (there p)) (λ left. went left (StatementReq.Call true (is_there (there p))))
+            (next_same (arguments c rest) (maybe_ask (module_of bytes t) fr.function.0 fr.held d p) (ask_result (module_of bytes t) (frame_over fr c) asked (there p)) (λ left. went left (StatementReq.Call true (is_there (there p))))
             (λ st. rw is (result_some (module_of bytes t) (frame_over fr c) asked p st)))
-            (passes_next (maybe_ask (module_of bytes t) fr.function.0 fr.held (option_of d)) passed a.ready.low a.ready.memory counts (x.by c rest counts) y);
+            (passes_next (maybe_ask (module_of bytes t) fr.function.0 fr.held d) passed a.ready.low a.ready.memory counts (x.by c rest counts) y);
       })

@@ -7,7 +7,7 @@ use lib.ListN.{length, get_or, set}
 use lib.Seq.{get_or-set_other}
 use Rattle.std.specs.Prelude.{Result, Ok, Err}
 use Rattle.part.specs.PartReq.{PartReq, entries, Subpart, gone, there, get_subpart, spine}
-use Rattle.part.specs.Store.{top, part, Good}
+use Rattle.part.specs.Store.{top, part}
 use Rattle.module.specs.Module.{Module}
 use Rattle.module.specs.Decode.{tab}
 use Rattle.module.specs.Tables.{module_of}
@@ -113,12 +113,6 @@ module _ {bytes t s rs : List ℕ} {fr : Frame} {before : Result Tally Halt} (e 
   module _ {tally : Tally} (is : before ≡ Ok tally) (o : Passable bytes t s rs fr before) where
     opened : Ready bytes t s rs fr.function.0 fr.at fr.held tally.sum × Needed (part s (get_or rs returned 0))
     opened = subst (λ (r : Result Tally Halt). PassableAs bytes t s rs fr r) is o.by
-
-    pub argue_get : (returned < length rs) × (Good s × (get_or rs returned 0 < top s))
-    argue_get =
-        let m = opened.0.memory in
-        let inside : returned < length rs = omega (arith, m.slots) in
-        (inside, (m.good, m.below returned inside))
 
     -- nothing is needed of it
     pub argue_none : get_subpart (part s (get_or rs returned 0)) (variable i) ≡ gone → Argued bytes t s rs fr before e i (Ok tally) s rs

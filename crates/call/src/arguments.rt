@@ -47,17 +47,13 @@ pub fn ask_arguments(
     slots: &mut [u32],
     fr: Frame,
     row: Kinded,
-    visits: usize,
-    sum: usize,
+    began: Tally,
 ) -> Walked
-    requires { Calling bytes.now t.now cells.old slots.old fr row sum }
-    ensures { AskedArguments bytes.now t.now cells.old slots.old fr row visits (operand_at bytes.now row 1) result cells.new slots.new }
+    requires { Calling bytes.now t.now cells.old slots.old fr row began.sum }
+    ensures { AskedArguments bytes.now t.now cells.old slots.old fr row began.visits (operand_at bytes.now row 1) result cells.new slots.new }
 {
     let n = operand(bytes, row, 1);
-    let mut tally = Tally {
-        visits: visits,
-        sum: sum,
-    };
+    let mut tally = began;
     for i in 0..n {
         let e = expression_operand(bytes, row, 2 + i);
         tally = then_argument(bytes, t, cells, slots, fr, tally, e, i)?;

@@ -2,9 +2,9 @@
 ghost use Rattle.call.specs.Calls.{Calling, EndsCall};
 
 use crate::arguments::ask_arguments;
-use access::kinded::{Kinded, expression_operand, operand};
+use access::kinded::{Kinded, operand, optional_expression};
 use memory::layout::RESULT;
-use state::answer::Answered;
+use state::answer::{Answered, Tally};
 use state::frame::Frame;
 use statement::ask::{answer, then_maybe};
 
@@ -17,16 +17,15 @@ pub fn end_call(
     fr: Frame,
     row: Kinded,
     there: bool,
-    visits: usize,
-    sum: usize,
+    tally: Tally,
 ) -> Answered
-    requires { Calling bytes.now t.now cells.old slots.old fr row sum }
-    ensures { EndsCall bytes.now t.now cells.old slots.old fr row there visits result cells.new slots.new }
+    requires { Calling bytes.now t.now cells.old slots.old fr row tally.sum }
+    ensures { EndsCall bytes.now t.now cells.old slots.old fr row there tally.visits result cells.new slots.new }
 {
-    let passed = ask_arguments(bytes, t, cells, slots, fr, row, visits, sum);
+    let passed = ask_arguments(bytes, t, cells, slots, fr, row, tally);
     if there {
         let n = operand(bytes, row, 1);
-        let result = expression_operand(bytes, row, 2 + n);
+        let result = optional_expression(bytes, row, 2 + n);
         let r = then_maybe(bytes, t, cells, slots, fr, passed, result, RESULT);
         return answer(r, true);
     }

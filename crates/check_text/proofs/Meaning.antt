@@ -27,7 +27,8 @@ use Rattle.pruner.proofs.Fine.{context_filed, context_known}
 use Rattle.lines.specs.Reported.{report_in}
 use Rattle.clearance.specs.Verdict as verdict
 use Rattle.checking.specs.Check.{cut_short, on_buffer, meaning_of, meaning_by, on_module, meaning, answer_to, check}
-use Rattle.checking.specs.Word.{check_word}
+use Rattle.checking.specs.Word.{said}
+use Rattle.checking.specs.declared.words.Verdict.{Verdict}
 use Rattle.checking.proofs.Counting.{end_small}
 use Rattle.checking.proofs.Numbers.{check-roomy}
 use Rattle.report_text.specs.Input.{check_of}
@@ -79,8 +80,10 @@ module _ {bytes t s rs open_marks request : List ℕ} {k : ℕ} (J : Judging byt
     same_check = rw J.was_read.module_is
 
     -- by a front of the buffer
-    pub checks : {word : ℕ} → word ≡ check_word (answer_to (meaning_by m open_marks (request_of request) (context_of (take (n - 0) out)))) → Checks bytes t s rs open_marks k request word
-    checks e = record {
-      numbered = record { answer = found; roomy = rw same_check at (check-roomy bytes request open_marks (take n out)); is = rw (sub-zero n) at e };
-      is = λ q read required. let same : J.q ≡ q = cc in rw same at (means required);
-    }
+    pub checks : {v : Verdict} → said v ≡ answer_to (meaning_by m open_marks (request_of request) (context_of (take (n - 0) out))) → Checks bytes t s rs open_marks k request v
+    checks {v} e =
+        let says : said v ≡ found = rw (sub-zero n) at e in
+        record {
+          roomy = rw says (rw same_check at (check-roomy bytes request open_marks (take n out)));
+          is = λ q read required. let same : J.q ≡ q = cc in says ∙ rw same at (means required);
+        }

@@ -3,15 +3,15 @@ use Prim.Native.Nat.{ℕ, ◌+◌, ◌*◌, ◌<◌, ◌≤◌, ◌^◌}
 use native.Mathlib.Omega.{arith}
 use mathlib.Core.Path.{◌≡◌, ◌∙◌, ap}
 use mathlib.Core.List.{List}
-use lib.ListN.{length, get_or, take, drop}
+use lib.ListN.{length, take, drop}
 use lib.Seq.{sets, sets-eq, length-sets, take-append_seam}
 use Rattle.field.specs.Limits.{max_pieces}
 use Rattle.context.specs.RequiredContext.{RequiredContext, pieces}
 use Rattle.context.specs.Contexts.{context_of, HasContext}
-use Rattle.context.specs.declared.required_context.RequiredContext.{RequiredContext as Pieces}
 use Rattle.request.specs.Context.{write_context}
 use Rattle.request.proofs.Room.{context_long}
 use Rattle.memory.specs.Memory.{read, context_at, Memory}
+use Rattle.memory.specs.Stretches.{pieces_at}
 use Rattle.lines.proofs.ReportText.{context_there}
 use Rattle.check_text.specs.Checked.{max_record, Recorded}
 
@@ -31,13 +31,10 @@ recorded c o {p} {n} room is long =
 
 -- in the four slots from k on
 module _ {s rs : List ℕ} (M : Memory s rs) (k : ℕ) (high : k + 4 ≤ length rs) where
-  abbrev in_slots : Pieces
-  in_slots = record { globals = get_or rs k 0; locals = get_or rs (k + 1) 0; args = get_or rs (k + 2) 0; retval = get_or rs (k + 3) 0 }
-
-  same_context : context_at (read s rs) k ≡ context_of s in_slots
+  same_context : context_at (read s rs) k ≡ context_of s (pieces_at rs k)
   same_context = context_there s rs k high
 
-  pub has_record : HasContext s in_slots
+  pub has_record : HasContext s (pieces_at rs k)
   has_record = record {
     globals = M.below k (omega arith);
     locals = M.below (k + 1) (omega arith);
@@ -46,8 +43,8 @@ module _ {s rs : List ℕ} (M : Memory s rs) (k : ℕ) (high : k + 4 ≤ length 
   }
 
   module _ (few : pieces (context_at (read s rs) k) ≤ 2 * max_pieces) where
-    pub record_fits : {n : ℕ} → max_record ≤ n → (length (write_context (context_of s in_slots)) ≤ n) × (length (write_context (context_of s in_slots)) < 2 ^ 32)
+    pub record_fits : {n : ℕ} → max_record ≤ n → (length (write_context (context_of s (pieces_at rs k))) ≤ n) × (length (write_context (context_of s (pieces_at rs k))) < 2 ^ 32)
     record_fits room = rw same_context at (fits (context_at (read s rs) k) few room)
 
-    pub record_written : (o : List ℕ) {p : List ℕ} {n : ℕ} → max_record ≤ length o → (p ≡ sets o 0 (write_context (context_of s in_slots))) × (n ≡ length (write_context (context_of s in_slots))) → Recorded p n (context_at (read s rs) k)
-    record_written o room w = rw same_context (recorded (context_of s in_slots) o (record_fits room).0 w.0 w.1)
+    pub record_written : (o : List ℕ) {p : List ℕ} {n : ℕ} → max_record ≤ length o → (p ≡ sets o 0 (write_context (context_of s (pieces_at rs k)))) × (n ≡ length (write_context (context_of s (pieces_at rs k)))) → Recorded p n (context_at (read s rs) k)
+    record_written o room w = rw same_context (recorded (context_of s (pieces_at rs k)) o (record_fits room).0 w.0 w.1)

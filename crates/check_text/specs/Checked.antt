@@ -1,4 +1,4 @@
--- The check of the report that a walk has left in memory: what it finds, the record of the context, and the answer's number.
+-- The check of the report that a walk has left in memory: what it finds, the record of the context, and the answer.
 use Rattle.std.specs.Prelude.{ℕ, ◌+◌, ◌*◌, ◌≤◌, ◌≡◌, Bool, List, length, take}
 use Rattle.field.specs.Limits.{max_pieces, min_report}
 use Rattle.module.specs.Tables.{module_of}
@@ -10,8 +10,8 @@ use Rattle.walk.specs.Proper.{FineContext}
 use Rattle.memory.specs.Memory.{read, context_at, Memory}
 use Rattle.state.specs.Ready.{WasRead}
 use Rattle.lines.specs.Reported.{report_in}
-use Rattle.clearance.specs.Verdict.{Answer}
-use Rattle.checking.specs.Word.{check_word, Roomy}
+use Rattle.checking.specs.Word.{said, Roomy}
+use Rattle.checking.specs.declared.words.Verdict.{Verdict}
 use Rattle.report_text.specs.Input.{check_of}
 
 -- the most bytes of the line: `check unjudged expr ` and ten digits
@@ -38,14 +38,8 @@ pub record Judging (bytes t s rs open_marks : List ℕ) (k : ℕ) (request : Lis
   pub few : pieces (context_at (read s rs) k) ≤ 2 * max_pieces
   pub long : min_report ≤ length open_marks
 
--- a number of an answer for which there is room
-pub record Numbered (word : ℕ) : Type 0 where
-  pub answer : Answer
-  pub roomy : Roomy answer
-  pub is : word ≡ check_word answer
-
--- the number of the check of that report, required or not
-pub record Checks (bytes t s rs open_marks : List ℕ) (k : ℕ) (request : List ℕ) (word : ℕ) : Type 0 where
-  pub numbered : Numbered word
+-- the answer of the check of that report, required or not; there is room for it in a number
+pub record Checks (bytes t s rs open_marks : List ℕ) (k : ℕ) (request : List ℕ) (v : Verdict) : Type 0 where
+  pub roomy : Roomy (said v)
   pub is : (q : Request) → read_request (module_of bytes t) min_report request ≡ accepted q → (required : Bool)
-      → numbered.answer ≡ check_of (module_of bytes t) q (report_in bytes t s rs open_marks q.function k required)
+      → said v ≡ check_of (module_of bytes t) q (report_in bytes t s rs open_marks q.function k required)

@@ -2,10 +2,11 @@
 ghost use Rattle.check_text.specs.Checked.{Judging, Checks};
 
 use crate::record::{MAX_RECORD, write_record};
+use checking::words::Verdict;
 use memory::layout::{CELLS, SLOTS};
 use verdict::check::check_in;
 
-// The number of the check of the request's report, whose context stands in the four slots from k on.
+// The check of the request's report, whose context stands in the four slots from k on.
 pub fn check_report(
     bytes: &[u8],
     t: &[u32],
@@ -14,7 +15,7 @@ pub fn check_report(
     open: &[u8],
     k: usize,
     request: &[u8],
-) -> u64
+) -> Verdict
     requires { Judging bytes.now t.now cells.old slots.old «open».now k request.now }
     ensures { Checks bytes.now t.now cells.old slots.old «open».now k request.now result }
 {

@@ -1,12 +1,12 @@
-// The last line of what `report` prints, from the number of the check.
+// The last line of what `report` prints, from the check's answer.
 ghost use Rattle.std.specs.Prelude.{◌++◌, ◌+◌, ◌<◌};
 ghost use Rattle.lines.specs.Text.{number};
 ghost use Rattle.lines.specs.Wrote.{longest, Fits, Wrote};
-ghost use Rattle.checking.specs.Word.{word_answer};
+ghost use Rattle.checking.specs.Word.{said, Roomy};
 ghost use Rattle.checking.specs.Line.{answer_text, check_line};
-ghost use Rattle.check_text.specs.Checked.{max_line, Numbered};
+ghost use Rattle.check_text.specs.Checked.{max_line};
 
-use checking::words::{REFUSAL, STATEMENT, UNJUDGED_EXPRESSION, UNJUDGED_STATEMENT};
+use checking::words::Verdict;
 use lines::text::{write_byte, write_number, write_word};
 
 // The most bytes of the line.
@@ -21,43 +21,25 @@ fn write_named(out: &mut [u8], at: usize, name: &[u8], n: u32) -> usize
 }
 
 // What stands behind `check`.
-fn write_answer(out: &mut [u8], at: usize, word: u64) -> usize
-    requires { Numbered word × Fits at (answer_text (word_answer word)) }
-    ensures { Wrote out.old out.new at (answer_text (word_answer word)) result }
+fn write_answer(out: &mut [u8], at: usize, verdict: Verdict) -> usize
+    requires { Fits at (answer_text (said verdict)) }
+    ensures { Wrote out.old out.new at (answer_text (said verdict)) result }
 {
-    if word < 1 {
-        return write_word(out, at, b"clear");
+    match verdict {
+        Verdict::Clear => write_word(out, at, b"clear"),
+        Verdict::Start => write_word(out, at, b"start"),
+        Verdict::Statement(s) => write_named(out, at, b"stmt ", s),
+        Verdict::UnjudgedExpression(e) => write_named(out, at, b"unjudged expr ", e),
+        Verdict::UnjudgedStatement(s) => write_named(out, at, b"unjudged stmt ", s),
+        Verdict::Refused(r) => write_named(out, at, b"refused ", u32::from(r)),
     }
-    if word < 2 {
-        return write_word(out, at, b"start");
-    }
-    if word < UNJUDGED_EXPRESSION {
-        return write_named(out, at, b"stmt ", (word - STATEMENT) as u32);
-    }
-    if word < UNJUDGED_STATEMENT {
-        return write_named(
-            out,
-            at,
-            b"unjudged expr ",
-            (word - UNJUDGED_EXPRESSION) as u32,
-        );
-    }
-    if word < REFUSAL {
-        return write_named(
-            out,
-            at,
-            b"unjudged stmt ",
-            (word - UNJUDGED_STATEMENT) as u32,
-        );
-    }
-    write_named(out, at, b"refused ", (word / REFUSAL) as u32)
 }
 
-pub fn write_check(out: &mut [u8], at: usize, word: u64) -> usize
-    requires { Numbered word × (at + max_line < longest) }
-    ensures { Wrote out.old out.new at (check_line (word_answer word)) result }
+pub fn write_check(out: &mut [u8], at: usize, verdict: Verdict) -> usize
+    requires { Roomy (said verdict) × (at + max_line < longest) }
+    ensures { Wrote out.old out.new at (check_line (said verdict)) result }
 {
     let answer = write_word(out, at, b"check ");
-    let end = write_answer(out, answer, word);
+    let end = write_answer(out, answer, verdict);
     write_byte(out, end, b'\n')
 }

@@ -5,8 +5,8 @@ ghost use Rattle.context.specs.RequiredContext.{pieces};
 ghost use Rattle.memory.specs.Memory.{read, context_at, Memory};
 ghost use Rattle.check_text.specs.Checked.{max_record, Recorded};
 
-use context::required_context::RequiredContext;
 use field::limits::MAX_PIECES;
+use memory::stretches::load_context;
 use request::write::write_context;
 
 // The most bytes of the record.
@@ -18,15 +18,6 @@ pub fn write_record(cells: &[u32], slots: &[u32], k: usize, out: &mut [u8]) -> u
     requires k_bound { (pieces (context_at (read cells.now slots.now) k) ≤ 2 * max_pieces) × (max_record ≤ length out.old) }
     ensures { Recorded out.new result (context_at (read cells.now slots.now) k) }
 {
-    let globals = slots[k];
-    let locals = slots[k + 1];
-    let args = slots[k + 2];
-    let retval = slots[k + 3];
-    let c = RequiredContext {
-        globals: globals,
-        locals: locals,
-        args: args,
-        retval: retval,
-    };
+    let c = load_context(slots, k);
     write_context(cells, c, out)
 }

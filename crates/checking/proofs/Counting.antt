@@ -21,7 +21,6 @@ use Rattle.walk.specs.Marks.{stretch}
 use Rattle.marks.specs.Places.{start_of}
 use Rattle.marks.proofs.Fit.{marks_fit, start_suc}
 use Rattle.marks.proofs.Placed.{marks_suc, marks_within, start_within}
-use Rattle.checking.specs.Stretch.{Firsts}
 
 -- the marks of the first s of n statements
 pub record Counted (bytes t : List ℕ) (f n at s : ℕ) : Type 0 where
@@ -89,9 +88,6 @@ module _ {bytes t : List ℕ} {f at g k : ℕ} (h : There bytes t f) (so : Start
   pub started_more : Started bytes t f (at + k) (g + 1)
   started_more = record { few = omega arith; is = omega (arith, so.is, start_suc (module_of bytes t) g) }
 
-pub started_all : {bytes t : List ℕ} {f at g : ℕ} → Started bytes t f at g → f ≤ g → at ≡ start_of (module_of bytes t) f
-started_all {bytes} {t} {f} {at} {g} so l = let z : g ≡ f = omega (arith, so.few) in so.is ∙ ap (start_of (module_of bytes t)) z
-
 -- Table
 
 -- the entries of the statements below s are right
@@ -109,6 +105,3 @@ filled_more {ss} {firsts} {s} {at} i e so =
           ⊎_elim (λ z. rw z (get_or-set_same firsts s at 0 i ∙ e))
           (λ b. let ne : k ≡ s → ⊥ = omega arith in get_or-set_other firsts s k at 0 ne ∙ so.each k b) (eq-or-lt_of_le j);
     }
-
-pub filled_all : {ss : List Statement} {firsts : List ℕ} {s : ℕ} → length ss ≤ length firsts → length ss ≤ s → FilledTo ss firsts s → Firsts ss firsts
-filled_all i l so = record { long = i; each = λ k b. so.each k (omega arith) }

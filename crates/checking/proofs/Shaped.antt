@@ -1,16 +1,16 @@
 -- A function's part of a buffer, cut off at the buffer's end, is what the definition takes of it; and whether it has the function's shape, by its length and its bytes.
 use Prim.Native.Nat.{ℕ, zero, suc, ◌+◌, ◌-◌, ◌<◌, ◌≤◌, min}
-use native.Mathlib.Numerals.{add-one}
 use native.Mathlib.Omega.{arith}
 use native.Mathlib.Decide.{dec_lt}
 use mathlib.Core.Path.{◌≡◌, refl, sym, ap, ◌∙◌}
 use mathlib.Core.Bool.{Bool, true, false, not, ◌&&◌}
 use mathlib.Core.List.{List, [], ◌∷◌}
 use lib.Dec.{ltb, eqb}
-use lib.ListN.{length, get_or, drop, length-drop}
-use lib.Seq.{drop-cons, drop-nil, take-nil, take_all}
+use lib.ListN.{length, drop, length-drop}
+use lib.Seq.{drop-nil, take-nil, take_all}
 use borrow.Author.Tests.{lt-ltb, le-ltb, eq-eqb}
 use Rattle.std.specs.Prelude.{Ok, Err}
+use Rattle.std.specs.List.{list_all}
 use Rattle.std.specs.Borrow.{Bor}
 use Rattle.module.specs.Tables.{function_of, module_of}
 use Rattle.valid.specs.There.{There}
@@ -33,28 +33,11 @@ none_left (x ∷ xs) (suc n) l = none_left xs n (omega arith)
 abbrev bits : List ℕ → Bool
 bits = every (λ b. ltb b 2)
 
--- what is left from k on decides
-pub record BitsTo (marks : List ℕ) (k : ℕ) : Type 0 where
-  pub few : k ≤ length marks
-  pub rest : bits (drop k marks) ≡ bits marks
-
-pub bits_none : {marks : List ℕ} → BitsTo marks 0
-bits_none = record { few = omega arith; rest = refl }
-
-module _ {marks : List ℕ} {k : ℕ} (so : BitsTo marks k) where
-  first_left : k < length marks → ltb (get_or marks k 0) 2 && bits (drop (suc k) marks) ≡ bits marks
-  unfolding every
-  first_left l = sym (ap bits (drop-cons marks k 0 l)) ∙ so.rest
-
-  pub bits_not : k < length marks → 2 ≤ get_or marks k 0 → false ≡ every (λ b. ltb b 2) marks
-  bits_not l h = rw (le-ltb (get_or marks k 0) 2 h) at (first_left l)
-
-  pub bits_more : k < length marks → get_or marks k 0 < 2 → BitsTo marks (k + 1)
-  bits_more l h = record { few = omega arith; rest = rw (add-one k) (rw (lt-ltb (get_or marks k 0) 2 h) at (first_left l)) }
-
-  pub bits_all : length marks ≤ k → true ≡ every (λ b. ltb b 2) marks
-  unfolding every
-  bits_all l = sym (ap bits (none_left marks k l)) ∙ so.rest
+-- the code's test of all bytes is the definition's
+pub bits_is : (xs : List ℕ) → list_all (λ b. ltb b 2) xs ≡ bits xs
+unfolding every
+bits_is [] = refl
+bits_is (x ∷ xs) = ap (λ b. ltb x 2 && b) (bits_is xs)
 
 -- The part
 

@@ -1,4 +1,5 @@
 // The place of each statement's first mark in its function's stretch, by a table.
+// Stays: a loop of its own beside the sum of the same counts in `mark_total`, which has no table; a walk for both takes a closure that writes, and a contract of its calls.
 ghost use Rattle.std.specs.Prelude.{◌≤◌, length};
 ghost use Rattle.module.specs.Tables.{function_of};
 ghost use Rattle.valid.specs.There.{There};

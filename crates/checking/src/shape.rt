@@ -1,10 +1,10 @@
 // Where the marks of a function stand in a buffer that has those of all functions, and whether they have its shape.
 ghost use Rattle.std.specs.Prelude.{◌≡◌, ltb};
+ghost use Rattle.std.specs.List.{list_all};
 ghost use Rattle.module.specs.Tables.{module_of};
 ghost use Rattle.valid.specs.There.{There};
 ghost use Rattle.walk.specs.Marks.{stretch};
 ghost use Rattle.marks.specs.Places.{start_of};
-ghost use Rattle.clearance.specs.Judged.{every};
 ghost use Rattle.checking.specs.Stretch.{MarksFound};
 
 use access::function::statements;
@@ -39,14 +39,9 @@ fn marks_start(bytes: &[u8], t: &[u32], f: FunctionHandle) -> u32
 
 // Whether each mark is 0 or 1.
 fn are_bits(marks: &[u8]) -> bool
-    ensures { result ≡ every (λ b. ltb b 2) marks.now }
+    ensures { result ≡ list_all (λ b. ltb b 2) marks.now }
 {
-    for mark in marks {
-        if *mark >= 2 {
-            return false;
-        }
-    }
-    true
+    marks.iter().all(|mark| *mark < 2)
 }
 
 // The function's part of the buffer, as far as it is there: well where the whole of it is and the marks have the function's shape.

@@ -2,19 +2,16 @@
 ghost use Rattle.std.specs.Prelude.{◌≡◌};
 ghost use Rattle.checking.specs.Word.{word};
 
-use field::refusal::Refusal;
+use field::refusal::{REFUSAL_UNIT, Refusal};
 
-pub const START: u64 = 1;
+const START: u64 = 1;
 
 // From these on a statement, an expression or a statement that is not judged is named.
-pub const STATEMENT: u64 = 131072;
+const STATEMENT: u64 = 131072;
 
-pub const UNJUDGED_EXPRESSION: u64 = 196608;
+const UNJUDGED_EXPRESSION: u64 = 196608;
 
-pub const UNJUDGED_STATEMENT: u64 = 262144;
-
-// A refusal's number stands from here on.
-pub const REFUSAL: u64 = 4294967296;
+const UNJUDGED_STATEMENT: u64 = 262144;
 
 #[derive(Clone, Copy, Debug, PartialEq, Eq)]
 pub enum Verdict {
@@ -37,7 +34,7 @@ impl From<Verdict> for u64 {
             Verdict::Statement(s) => STATEMENT + (s as u64),
             Verdict::UnjudgedExpression(e) => UNJUDGED_EXPRESSION + (e as u64),
             Verdict::UnjudgedStatement(s) => UNJUDGED_STATEMENT + (s as u64),
-            Verdict::Refused(r) => REFUSAL * (u32::from(r) as u64),
+            Verdict::Refused(r) => REFUSAL_UNIT * (u32::from(r) as u64),
         }
     }
 }

@@ -1,8 +1,9 @@
-pub mod Removal
-pub mod Wgsl
-pub mod Swizzle
-pub mod Types
-pub mod Taking
-pub mod Cycle
 pub mod Alter
 pub mod Contexts
+pub mod Cycle
+pub mod TypeKinds
+pub mod Removal
+pub mod Swizzle
+pub mod Taking
+pub mod Types
+pub mod Wgsl

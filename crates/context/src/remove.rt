@@ -1,7 +1,8 @@
 // `type_to_parts` and `remove` of PartReq, on pieces and a table of types (specs/Types.antt).
 // Stays: pieces are numbers in lent words, for there is no heap.
-ghost use Rattle.std.specs.Prelude.{◌≡◌, ◌+◌, ◌*◌, ◌<◌, get_or};
+ghost use Rattle.std.specs.Prelude.{◌≡◌, ◌+◌, ◌*◌, ◌<◌, get_or, min};
 ghost use Rattle.part.specs.Store.{top, part, Good, Room, Made};
+ghost use Rattle.module.specs.KindNumbers.{type_number};
 ghost use Rattle.module.specs.Module.{Opaque};
 ghost use Rattle.context.specs.Remove.{each, type_to_parts, split, subtypes_of, take_entries, remove};
 ghost use Rattle.context.specs.Types.{type_words, type_word, type_count, type_kind, types_of, AllSized, split_most};
@@ -9,19 +10,11 @@ ghost use Rattle.context.specs.Reduced.{typed, subtype_at, subtyped, Took, entri
 
 use field::limits::MAX_MEMBERS;
 use module::handles::TypeHandle;
+use module::kinds::TypeKind;
 use part::store::{look, make, remake};
 
 // The words of a type's row.
 pub const TYPE_WORDS: usize = 2 + 2 * MAX_MEMBERS;
-
-// The kinds of types whose rows say what a part is split into, and that of a type that is not there.
-const VECTOR: u32 = 1;
-
-const MATRIX: u32 = 2;
-
-const STRUCT: u32 = 6;
-
-const OPAQUE: u32 = 8;
 
 // The word k of the row t.
 fn type_word(types: &[u32], t: TypeHandle, k: usize) -> u32
@@ -33,13 +26,13 @@ fn type_word(types: &[u32], t: TypeHandle, k: usize) -> u32
 }
 
 // The kind of the type t; opaque, where there is none.
-fn type_kind(types: &[u32], t: TypeHandle) -> u32
-    ensures { result ≡ type_kind types.now t.0 }
+pub fn type_kind(types: &[u32], t: TypeHandle) -> TypeKind
+    ensures { type_number result ≡ min (type_kind types.now t.0) 8 }
 {
     if types.len() / TYPE_WORDS <= t.0 as usize {
-        return OPAQUE;
+        return TypeKind::Opaque;
     }
-    type_word(types, t, 0)
+    TypeKind::from(type_word(types, t, 0))
 }
 
 // The part of n entries, each with this child.
@@ -63,17 +56,17 @@ fn type_to_parts(cells: &mut [u32], types: &[u32], t: TypeHandle) -> u32
     ensures { Made cells.old cells.new (type_to_parts (get_or (types_of types.now) t.0 Opaque)) split_most result }
 {
     match type_kind(types, t) {
-        VECTOR => {
+        TypeKind::Vector => {
             let size = type_word(types, t, 1);
             each(cells, size, 0)
         }
-        MATRIX => {
+        TypeKind::Matrix => {
             let columns = type_word(types, t, 1);
             let rows = type_word(types, t, 2);
             let column = each(cells, rows, 0);
             each(cells, columns, column)
         }
-        STRUCT => {
+        TypeKind::Struct => {
             let members = type_word(types, t, 1);
             each(cells, members, 0)
         }
@@ -105,14 +98,16 @@ fn subtype_at(types: &[u32], t: Option<TypeHandle>, i: u32) -> Option<Option<Typ
     let Some(h) = t else {
         return Some(None);
     };
-    if type_kind(types, h) != STRUCT {
-        return Some(None);
+    match type_kind(types, h) {
+        TypeKind::Struct => {
+            if type_word(types, h, 1) <= i {
+                return None;
+            }
+            let member = type_word(types, h, 2 + 2 * (i as usize));
+            Some(Some(TypeHandle(member)))
+        }
+        _ => Some(None),
     }
-    if type_word(types, h, 1) <= i {
-        return None;
-    }
-    let member = type_word(types, h, 2 + 2 * (i as usize));
-    Some(Some(TypeHandle(member)))
 }
 
 // The entries of q taken out of those of p, which is of the type t and not to be split; or the panic at a struct member that is not there.

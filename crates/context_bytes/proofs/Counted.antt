@@ -20,7 +20,7 @@ use Rattle.request.proofs.Bytes.{from_cons, from_end}
 use Rattle.request.proofs.Entries.{Index, index_no_part, entries_none}
 use Rattle.request.proofs.Variables.{return_end}
 use Rattle.std.specs.Prelude.{Option as Maybe, Some, None}
-use Rattle.request.specs.declared.codes.Code.TheVariants.{All, Exist, Entries}
+use Rattle.request.specs.declared.codes.Code.TheVariants.{All, Exist}
 use Rattle.request.specs.Codes.{CodeWasRead}
 use Rattle.context_bytes.specs.Counted.{counted, counted_return, CountPlaced, Counts, EntriesCounted, PiecesCounted}
 use Rattle.context_bytes.proofs.Accepted.{Accepted, accepted}
@@ -60,11 +60,6 @@ module _ {b : List ℕ} {at d : ℕ} where
   pub count_exist : CodeWasRead b at d (Some Exist) → Counts b (at + 2) (counted (read_part d (from b at))) (Some (0, at + 2))
   unfolding counted entries
   count_exist was = record { is = sym (ap counted was.is); placed = (omega arith, was.placed) }
-
-  pub count_level : {n : ℕ} {a : Maybe (ℕ × ℕ)} → CodeWasRead b at d (Some (Entries n)) → EntriesCounted b (at + 2 + 2) (d - 1) n a → Counts b (at + 2) (counted (read_part d (from b at))) a
-  count_level {n} {a} was h =
-      let k = h.counts 0 in
-      record { is = k.is ∙ sym (ap counted was.is); placed = sooner b (at + 2) a k.placed }
 
 -- entries
 unfoldable pub plus : ℕ → Read ℕ → Read ℕ
@@ -119,10 +114,6 @@ module _ {b : List ℕ} {at d n next low left sum : ℕ} (so : Counting b at d n
     counting_no_part was = counting_stop (λ base. index_no_part x base d (untold (read_part d (from b (next + 2))) (sym was.is)))
 
     module _ {m end : ℕ} (was : Counts b (next + 2 + 2) (counted (read_part d (from b (next + 2)))) (Some (m, end))) where
-      -- what is counted stays below the number of bytes
-      pub counting_fits : 4 * (sum + 1 + m) + at ≤ length b
-      counting_fits = let w = was.placed in omega (arith, w.0, w.1, so.further)
-
       pub counting_again : Counting b at d n end (i + 1) k (sum + 1 + m)
       counting_again =
           let w = was.placed in
@@ -282,14 +273,6 @@ module _ (b : List ℕ) where
             }
 
         module _ {o w : ℕ} (fourth : Counts b z (counted (read_variables (from b z))) (Some (o, w))) where
-          pub pieces_fit : 4 * (m + o + n + r) + 4 ≤ length b
-          pieces_fit =
-              let u = first.placed in
-              let v = second.placed in
-              let s = third.placed in
-              let t = fourth.placed in
-              omega (arith, u.0, v.0, s.0, t.0, t.1)
-
           pub pieces_are : PiecesCounted b (m + o + n + r)
           unfolding pieces
           pieces_are =

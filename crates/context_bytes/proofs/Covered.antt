@@ -1,9 +1,9 @@
 -- Comparing a need with a part or a list in its bytes: one law for each way through the code. The loop's invariant says that what is left of both
 -- gives the whole.
-use Prim.Native.Nat.{ℕ, ◌+◌, ◌-◌, ◌≤◌, ◌<◌}
+use Prim.Native.Nat.{ℕ, ◌+◌, ◌≤◌, ◌<◌}
 use native.Mathlib.Omega.{arith}
 use native.Mathlib.Decide.{dec_lt}
-use mathlib.Core.Path.{◌≡◌, refl, ap, sym, ◌∙◌}
+use mathlib.Core.Path.{◌≡◌, ap, sym, ◌∙◌}
 use mathlib.Core.Bool.{cond}
 use mathlib.Core.List.{List}
 use mathlib.Core.Option.{Option, some, none as nothing}
@@ -21,7 +21,7 @@ use Rattle.request.specs.Answers.{from, Field}
 use Rattle.request.proofs.Bytes.{from_end}
 use Rattle.request.proofs.Entries.{Index, index_next, entries_none}
 use Rattle.std.specs.Prelude.{Option as Maybe, Some, None}
-use Rattle.request.specs.declared.codes.Code.TheVariants.{All, Exist, Entries}
+use Rattle.request.specs.declared.codes.Code.TheVariants.{All, Exist}
 use Rattle.request.specs.Codes.{CodeWasRead}
 use Rattle.context_bytes.specs.Covered.{covers, each, asks, AsksPieces, CoverPlaced, Covers}
 use Rattle.context_bytes.proofs.Lists.{variables_are}
@@ -98,21 +98,12 @@ module _ (s : List ℕ) (n : ℕ) {b : List ℕ} {at d : ℕ} where
     pub part_more : (n ≡ 1 → ⊥) → Covers b at (covers (part s n) (read_part d (from b at))) None
     part_more h = record { is = sym (exist_covers ∙ rw (ne_eqb n 1 h)); placed = tt }
 
-  pub part-entries : {k : ℕ} {a : Maybe ℕ} → CodeWasRead b at d (Some (Entries k))
-      → Covers b (at + 2 + 2) (covers (part s n) (read_entries (read_part (d - 1)) 0 0 k (from b (at + 2 + 2)))) a
-      → Covers b at (covers (part s n) (read_part d (from b at))) a
-  part-entries {k} {a} was h =
-      record { is = h.is ∙ sym (ap (covers (part s n)) was.is); placed = sooner b at (at + 2 + 2) a (omega arith) h.placed }
-
 -- entries
 pub record Covering (s b : List ℕ) (n at d base k next low left m : ℕ) : Type 0 where
   pub piece : m < top s
   pub further : at ≤ next
   pub inside : next ≤ length b
   pub rest : covers (part s m) (read_entries (read_part d) base low left (from b next)) ≡ covers (part s n) (read_entries (read_part d) base 0 k (from b at))
-
-pub cover_first : {s b : List ℕ} {n at : ℕ} (d base k : ℕ) → n < top s → at ≤ length b → Covering s b n at d base k at 0 k n
-cover_first d base k h l = record { piece = h; further = omega arith; inside = l; rest = refl }
 
 module _ {s b : List ℕ} {n at d base k next low left m : ℕ} (so : Covering s b n at d base k next low left m) where
   abbrev total : Option (List ℕ)

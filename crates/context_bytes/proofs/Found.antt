@@ -1,7 +1,7 @@
 -- Finding an entry: one law for each way through the code. The loop's invariant says that the entries that are left have the same one.
 use Prim.Native.Nat.{ℕ, ◌+◌, ◌-◌, ◌≤◌, ◌<◌}
 use native.Mathlib.Omega.{arith}
-use mathlib.Core.Path.{◌≡◌, refl, ap, sym, subst, ◌∙◌}
+use mathlib.Core.Path.{◌≡◌, refl, ap, sym, ◌∙◌}
 use mathlib.Core.Bool.{Bool, true, false}
 use mathlib.Core.List.{List}
 use lib.ListN.{length}
@@ -191,11 +191,6 @@ module _ {b : List ℕ} {at d : ℕ} (R : Readable b at d) where
   found_exist was i = rw (← it_is_exist was)
 
   module _ {n : ℕ} (was : CodeWasRead b at d (Some (Entries n))) where
-    pub found_entry : (i : ℕ) {a : Maybe (ℕ × ℕ)} → EntryFound b (at + 2 + 2) (d - 1) n i a → SubpartAt b (get_subpart (part_at b at d) i) a
-    found_entry i {a} was' =
-        let z : 0 + i ≡ i = omega arith in
-        subst (λ x. SubpartAt b (get_subpart (part_at b at d) x) a) z (was'.is 0 (part_at b at d) R.rest (coded was))
-
     listed_not_all : is_all (part_at b at d) ≡ false
     listed_not_all = (read_list (read_part (d - 1)) 0 0 n (from b (at + 2 + 2)) (coded was)).0
 

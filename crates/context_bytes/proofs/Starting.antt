@@ -30,9 +30,6 @@ pub record Expressed (s : List ℕ) (n m : ℕ) : Type 0 where
   pub piece : m < top s
   pub rest : needs_expression (part s m) ≡ needs_expression (part s n)
 
-pub expressed_first : {s : List ℕ} {n : ℕ} → n < top s → Expressed s n n
-expressed_first h = record { piece = h; rest = refl }
-
 module _ {s : List ℕ} {n m : ℕ} (so : Expressed s n m) where
   module _ {i c r : ℕ} (seen : Seen s m i c r) where
     pub expressed_yes : variable 3 < i → true ≡ needs_expression (part s n)

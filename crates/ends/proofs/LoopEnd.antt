@@ -8,7 +8,6 @@ use mathlib.Core.List.{List, ◌∷◌, ◌++◌}
 use lib.Dec.{ltb}
 use lib.ListN.{length, get_or, set, length-set}
 use Rattle.part.specs.PartReq.{PartReq, add, contains}
-use Rattle.part.specs.Store.{top, Good}
 use Rattle.part.specs.Summed.{Covered}
 use Rattle.part.proofs.Equations.{never}
 use Rattle.clearance.specs.Scope.{Scope}
@@ -29,12 +28,6 @@ use Rattle.ends.proofs.Merges.{by_test}
 module _ {s rs : List ℕ} {n l : ℕ} (d : Live s rs (n + 1 + 1)) (high : stack_slot < n) (low : l < table_size) {rs₁ : List ℕ} (e : rs₁ ≡ set rs (n - 1) (get_or rs (n + 1) 0)) where
   first_long : length rs₁ ≡ length rs
   first_long = ap length e ∙ length-set rs (n - 1) _
-
-  pub sum_asks : Live s rs₁ n × ((n < length rs₁) × ((n - 1 < n) × (table_size + l < n)))
-  sum_asks =
-      let f = d.loose.few in
-      let g = first_long in
-      (rw e (live_set {n = n} (live_less d (omega arith)) (n - 1) (d.loose.pieces (n + 1) (omega arith))), (omega arith, (omega arith, omega arith)))
 
   pub first_last : in_slot s rs₁ (n - 1) ≡ in_slot s rs (n + 1)
   first_last = rw e (slot_set s rs (n - 1) (get_or rs (n + 1) 0) (omega (arith, d.loose.few)))
@@ -84,9 +77,6 @@ module _ {s rs : List ℕ} {n l : ℕ} (d : Live s rs (n + 1 + 1)) (high : stack
 
       second_live : Live t ws₁ n
       second_live = rw e₁ (live_set {n = n} (live_less (w.live i) (omega arith)) (table_size + l) ((w.live i).loose.pieces n (omega arith)))
-
-      pub covers_asks : Good t × ((get_or ws₁ l 0 < top t) × (get_or ws₁ (n - 1) 0 < top t))
-      covers_asks = (second_live.loose.good, (second_live.loose.pieces l (omega arith), second_live.loose.pieces (n - 1) (omega arith)))
 
       second_new : in_slot t ws₁ (table_size + l) ≡ add (in_slot s rs (n + 1)) (in_slot s rs (table_size + l))
       second_new = rw e₁ (slot_set t ws (table_size + l) (get_or ws n 0) (omega (arith, (w.live i).loose.few)) ∙ w.here i ∙ sum_is)

@@ -19,7 +19,7 @@ use Rattle.clearance.specs.Needs.{kept}
 use Rattle.pass.specs.Pass.{work_bound, Carried, Passed, on, full, ◌>>=◌, within, too_large, joining}
 use Rattle.framed.specs.Kept.{Kept}
 use Rattle.framed.proofs.Kept.{kept_add}
-use Rattle.hold.specs.Hold.{held_by, in_slot, Live, Pushed, Reach}
+use Rattle.hold.specs.Hold.{held_by, in_slot, Live, Reach}
 use Rattle.hold.proofs.Reach.{reach_is, reach_sym, reach_cons, reach_trans, reach_exchange, reach_cells, reach_among}
 use Rattle.hold.proofs.Slots.{held_reach, held_same, live_less, live_set, slot_set, slot_other}
 use Rattle.standing.specs.Slots.{asked_slot, stack_slot, Ready}
@@ -27,29 +27,6 @@ use Rattle.standing.specs.Standing.{passed_by, Stepped, Closed}
 use Rattle.standing.proofs.Cases.{case_ends}
 use Rattle.standing.proofs.Taken.{within-fits}
 use Rattle.ends.specs.Merged.{Merged}
-
-module _ {s rs t ws : List ℕ} {n : ℕ} (i j : ℕ) {b : Bool} (pos : 0 < n) (w : Pushed s rs (n + 1) (add (in_slot s rs i) (in_slot s rs j)) t ws b) where
-  pub merged_full : b ≡ false → Merged s rs n i j t ws false
-  merged_full e = record {
-    cells = w.cells;
-    slots = w.slots;
-    live = λ g. never g;
-    kept = λ g. never g;
-    hand = λ g. never g;
-    is = sym e ∙ w.is;
-  }
-
-  pub merged : b ≡ true → n + 1 < length rs → Merged s rs n i j t (set ws (n - 1) (get_or ws (n + 1) 0)) true
-  merged e h =
-      let v = w.live e in
-      record {
-        cells = w.cells;
-        slots = length-set ws (n - 1) _ ∙ w.slots;
-        live = λ g. live_set (live_less v (omega arith)) (n - 1) (v.loose.pieces (n + 1) (omega arith));
-        kept = λ g l m. slot_other t ws (n - 1) (get_or ws (n + 1) 0) l (λ z. omega arith) ∙ w.kept e l (omega arith);
-        hand = λ g. slot_set t ws (n - 1) (get_or ws (n + 1) 0) (omega (arith, w.slots)) ∙ w.here e;
-        is = sym e ∙ w.is;
-      }
 
 -- the test of a bound decides what goes on
 pub by_test : (l : List PartReq) (x : PartReq) (c : Carried) {b : Bool} → b ≡ not (ltb work_bound (cells_of (x ∷ (l ++ c.table)))) → within l x c ≡ passed_by b c x

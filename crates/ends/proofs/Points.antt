@@ -9,7 +9,7 @@ use lib.Dec.{ltb}
 use lib.ListN.{get_or}
 use borrow.Author.Tests.{lt-ltb}
 use Rattle.field.specs.Limits.{max_pieces}
-use Rattle.part.specs.PartReq.{PartReq, entries, width, over}
+use Rattle.part.specs.PartReq.{PartReq, entries, width}
 use Rattle.part.specs.StoreLimits.{entries_cap}
 use Rattle.part.specs.Store.{Measures}
 use Rattle.part.proofs.Pieces.{part-low_sizes}

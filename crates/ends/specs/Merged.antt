@@ -1,8 +1,8 @@
 -- The last two of n + 1 slots become one, which has the sum of the slots i and j; or the bound was passed. And the end of a loop, in every scope.
 use Rattle.std.specs.Prelude.{ℕ, ◌+◌, ◌-◌, ◌<◌, ◌≤◌, ◌≡◌, Bool, true, not, List, ◌∷◌, ltb, length}
+use Rattle.std.proofs.Math.Option.{Option}
 use Rattle.part.specs.PartReq.{add}
 use Rattle.part.specs.Collect.{cells_of}
-use Rattle.module.specs.Decode.{option_of}
 use Rattle.valid.specs.Valid.{MaybeBelow}
 use Rattle.clearance.specs.Scope.{Scope, expressions_of}
 use Rattle.framed.specs.Given.{Read, Judged}
@@ -32,11 +32,11 @@ pub record EndGiven (S : Scope) (s rs : List ℕ) (n e : ℕ) : Type 0 where
   pub spare : n + 2 ≤ length rs
   pub there : e < length (expressions_of S)
 
--- what the beginning of the loop l is given
-pub record BeginGiven (S : Scope) (l : ℕ) (s rs : List ℕ) (n e : ℕ) : Type 0 where
+-- what the beginning of the loop l is given, with the number of its `break_if`
+pub record BeginGiven (S : Scope) (l : ℕ) (s rs : List ℕ) (n : ℕ) (e : Option ℕ) : Type 0 where
   pub read : Read S
   pub judged : Judged S
   pub ready : Ready S s rs n
   pub low : l < table_size
   pub spare : n + 3 ≤ length rs
-  pub there : MaybeBelow (length (expressions_of S)) (option_of e)
+  pub there : MaybeBelow (length (expressions_of S)) e

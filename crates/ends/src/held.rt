@@ -1,6 +1,6 @@
 // How an if and a switch end, and how a loop begins: what is asked of the condition, the selector and `break_if`.
 ghost use Rattle.std.specs.Prelude.{◌+◌};
-ghost use Rattle.module.specs.Decode.{option_of};
+ghost use Rattle.access.specs.Access.{handle_in};
 ghost use Rattle.judge.specs.Given.{scope_at};
 ghost use Rattle.standing.specs.Standing.{Closed, Begun};
 ghost use Rattle.standing.proofs.Arms.{ending};
@@ -10,7 +10,7 @@ ghost use Rattle.ends.specs.Merged.{EndGiven, BeginGiven};
 use crate::merge::merge;
 use asking::ask::ask_whole;
 use hold::hold::{copy, push_sum};
-use module::handles::{ExpressionHandle, FunctionHandle, NO_HANDLE};
+use module::handles::{ExpressionHandle, FunctionHandle};
 
 // The needs of both blocks are joined, and the condition is needed.
 pub fn end_if(
@@ -57,17 +57,17 @@ pub fn begin_loop(
     roots: &mut [u32],
     n: usize,
     l: usize,
-    e: ExpressionHandle,
+    break_if: Option<ExpressionHandle>,
 ) -> bool
-    requires { BeginGiven (scope_at bytes.now t.now f.0) l cells.old roots.old n e.0 }
-    ensures { Begun (scope_at bytes.now t.now f.0) l (option_of e.0) cells.old roots.old n cells.new roots.new result }
+    requires { BeginGiven (scope_at bytes.now t.now f.0) l cells.old roots.old n (handle_in break_if) }
+    ensures { Begun (scope_at bytes.now t.now f.0) l (handle_in break_if) cells.old roots.old n cells.new roots.new result }
 {
-    if e.0 == NO_HANDLE {
+    let Some(condition) = break_if else {
         copy(roots, l, n);
         return true;
-    }
+    };
     if !push_sum(cells, roots, n, n - 1, l) {
         return false;
     }
-    ask_whole(bytes, t, f, cells, roots, n + 1, e)
+    ask_whole(bytes, t, f, cells, roots, n + 1, condition)
 }

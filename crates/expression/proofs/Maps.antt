@@ -9,7 +9,7 @@ use lib.ListN.{length, get_or, set, length-set}
 use Rattle.std.specs.Prelude.{Result, Err}
 use Rattle.field.specs.Limits.{max_pieces, max_depth}
 use Rattle.field.specs.declared.refusal.Refusal.TheVariants.{PartLimit}
-use Rattle.part.specs.PartReq.{PartReq, none, more, there, entries, over, spine}
+use Rattle.part.specs.PartReq.{PartReq, none, more, entries, over, spine}
 use Rattle.part.specs.Store.{part, Made}
 use Rattle.part.proofs.Sizes.{sum_small}
 use Rattle.module.specs.declared.handles.ExpressionHandle.{ExpressionHandle}

@@ -8,7 +8,7 @@ use mathlib.Core.Bool.{Bool, true, false}
 use mathlib.Core.List.{List, []}
 use mathlib.Core.Option.{none as nothing}
 use lib.ListN.{length, get_elem?}
-use Rattle.std.specs.Prelude.{Result, Ok, Err}
+use Rattle.std.specs.Prelude.{Result, Ok, Err, Option as Optional, Some, None}
 use Rattle.field.specs.Limits.{max_pieces, max_visits, max_depth, max_components}
 use Rattle.field.specs.Refusal.{number}
 use Rattle.field.specs.declared.refusal.Refusal.{Refusal}
@@ -43,10 +43,9 @@ use Rattle.state.specs.declared.answer.Halt.{Halt}
 use Rattle.state.proofs.Others.{others_same, others_still, others_totals, count_is, ready_fits, ready_tidied}
 use Rattle.state.proofs.Rests.{some_rest, rest_counts}
 use Rattle.state.proofs.Ends.{ends_went, ends_halt, halts, ends_after}
-use Rattle.asks.specs.Asks.{said, Within, There, Asks}
-use Rattle.asks.specs.declared.what.What.{What}
-use Rattle.asks.specs.declared.what.What.TheVariants.{Operand, Argument, Global, Local, Refuse, End}
+use Rattle.asks.specs.Asks.{said, HasWant, Within, There, Asks}
 use Rattle.asks.specs.declared.what.Ask as declared
+use Rattle.asks.specs.declared.what.Ask.TheVariants.{Operand, Argument, Global, Local, Refuse}
 use Rattle.expression.specs.Walks.{Walks, closing, ending_argument, ending_local, ending_global, asks_from, Left}
 use Rattle.expression.specs.Visits.{Counting, Allowed, Closing, Visiting}
 use Rattle.expression.proofs.Arms.{arm, there_inside}
@@ -194,56 +193,59 @@ module _ {bytes t : List ℕ} {f e at held : ℕ} {s rs : List ℕ} {w : Want} {
           → Walks bytes t f at held s rs whole visits r y ys
       ended_by x = ended (walks_as (left j) is (rw asked-now at (x bytes l.ready)))
 
-    module _ {a : declared.Ask} (x : Asks (module_of bytes t) f e z zs w j a) where
-      said-is : {y : What} → a.what ≡ y → get_elem? asks j ≡ said z zs y a.want
-      said-is g = (rw asked-now at x.told.is) ∙ ap (λ (y : What). said z zs y a.want) g
+    module _ {a : Optional declared.Ask} (x : Asks (module_of bytes t) f e z zs w j a) where
+      said-is : {y : Optional declared.Ask} → a ≡ y → get_elem? asks j ≡ said z zs w y
+      said-is g = (rw asked-now at x.told.is) ∙ ap (λ (y : Optional declared.Ask). said z zs w y) g
 
-      within_is : {y : What} → a.what ≡ y → Within (length (module_of bytes t).globals) (length (function_at (module_of bytes t) f).arguments) (length (function_at (module_of bytes t) f).locals) e y
-      within_is g = subst (λ (y : What). Within (length (module_of bytes t).globals) (length (function_at (module_of bytes t) f).arguments) (length (function_at (module_of bytes t) f).locals) e y) g x.within
+      wants_is : {y : Optional declared.Ask} → a ≡ y → HasWant z zs y
+      wants_is g = subst (λ (y : Optional declared.Ask). HasWant z zs y) g x.told.wants
+
+      within_is : {y : Optional declared.Ask} → a ≡ y → Within (length (module_of bytes t).globals) (length (function_at (module_of bytes t) f).arguments) (length (function_at (module_of bytes t) f).locals) e y
+      within_is g = subst (λ (y : Optional declared.Ask). Within (length (module_of bytes t).globals) (length (function_at (module_of bytes t) f).arguments) (length (function_at (module_of bytes t) f).locals) e y) g x.within
 
       -- nothing more, or a refusal
-      pub left_end : a.what ≡ End → {r : Result Tally Halt} {y ys : List ℕ}
+      pub left_end : a ≡ None → {r : Result Tally Halt} {y ys : List ℕ}
           → ((bytes : List ℕ) → Ready bytes t z zs f at held m → Walks bytes t f at held z zs (closing f held e (asked z zs w)) v r y ys)
           → Walks bytes t f at held s rs whole visits r y ys
       left_end g = ended_by (closing f held e) (λ st. turn_end (module_of bytes t) f held e (asked u us w) j st (said-is g))
 
-      pub left_refuse : {r : Refusal} {fh : FunctionHandle} {eh : ExpressionHandle} → a.what ≡ Refuse r → fh.0 ≡ f → eh.0 ≡ e
+      pub left_refuse : {r : Refusal} {fh : FunctionHandle} {eh : ExpressionHandle} → a ≡ Some (Refuse r) → fh.0 ≡ f → eh.0 ≡ e
           → Walks bytes t f at held s rs whole visits (Err (record { refusal = r; place = place.Expression fh eh })) z zs
       left_refuse {r} g ef ee =
           ended (record { by = λ rest h. halts (rw (ef, ee) (turn_refuse (module_of bytes t) f held e (asked u us w) j (state_of t f at (read z zs) rest v) (number r) (said-is g))) })
 
       -- a variable
-      pub argument_low : {i : ℕ} → a.what ≡ Argument i → i < spine
+      pub argument_low : {i : ℕ} → a ≡ Some (Argument i) → i < spine
       argument_low g = (within_is g).1
 
-      pub local_low : {i : LocalHandle} → a.what ≡ Local i → i.0 < spine
+      pub local_low : {i : LocalHandle} → a ≡ Some (Local i) → i.0 < spine
       local_low g = (within_is g).1
 
-      pub global_low : {i : GlobalHandle} → a.what ≡ Global i → i.0 < spine
+      pub global_low : {i : GlobalHandle} → a ≡ Some (Global i) → i.0 < spine
       global_low g = (within_is g).1
 
-      pub left_argument : {i : ℕ} → a.what ≡ Argument i → {r : Result Tally Halt} {y ys : List ℕ}
+      pub left_argument : {i : ℕ} → a ≡ Some (Argument i) → {r : Result Tally Halt} {y ys : List ℕ}
           → ((bytes : List ℕ) → Ready bytes t z zs f at held m → Walks bytes t f at held z zs (ending_argument f held e i (asked z zs w)) v r y ys)
           → Walks bytes t f at held s rs whole visits r y ys
       left_argument {i} g = ended_by (ending_argument f held e i) (λ st. turn_argument (module_of bytes t) f held e (asked u us w) j st components_now i _ (said-is g))
 
-      pub left_local : {i : LocalHandle} → a.what ≡ Local i → {r : Result Tally Halt} {y ys : List ℕ}
+      pub left_local : {i : LocalHandle} → a ≡ Some (Local i) → {r : Result Tally Halt} {y ys : List ℕ}
           → ((bytes : List ℕ) → Ready bytes t z zs f at held m → Walks bytes t f at held z zs (ending_local f held e i.0 (asked z zs w)) v r y ys)
           → Walks bytes t f at held s rs whole visits r y ys
       left_local {i} g = ended_by (ending_local f held e i.0) (λ st. turn_local (module_of bytes t) f held e (asked u us w) j st components_now i.0 _ (said-is g))
 
-      pub left_global : {i : GlobalHandle} → a.what ≡ Global i → {r : Result Tally Halt} {y ys : List ℕ}
+      pub left_global : {i : GlobalHandle} → a ≡ Some (Global i) → {r : Result Tally Halt} {y ys : List ℕ}
           → ((bytes : List ℕ) → Ready bytes t z zs f at held m → Walks bytes t f at held z zs (ending_global f held e i.0 (asked z zs w)) v r y ys)
           → Walks bytes t f at held s rs whole visits r y ys
       left_global {i} g = ended_by (ending_global f held e i.0) (λ st. turn_global (module_of bytes t) f held e (asked u us w) j st components_now i.0 _ (said-is g))
 
       -- an operand
-      module _ {h : ExpressionHandle} (g : a.what ≡ Operand h) where
+      module _ {h : ExpressionHandle} {want : Want} (g : a ≡ Some (Operand h want)) where
         pub operand_low : h.0 < e
         operand_low = within_is g
 
-        pub operand_asks : Ready bytes t z zs f at held m × ((h.0 < length (function_at (module_of bytes t) f).expressions) × Wants z zs a.want)
-        operand_asks = (l.ready, (omega (arith, operand_low, b.there), x.told.wants))
+        pub operand_asks : Ready bytes t z zs f at held m × ((h.0 < length (function_at (module_of bytes t) f).expressions) × Wants z zs want)
+        operand_asks = (l.ready, (omega (arith, operand_low, b.there), wants_is g))
 
         pub operand_inside : j < length asks
         operand_inside = there_inside asks j _ (said-is g)
@@ -258,16 +260,16 @@ module _ {bytes t : List ℕ} {f e at held : ℕ} {s rs : List ℕ} {w : Want} {
               asked-small l.ready.memory w wants_now,
             )
 
-        module _ {r : Result Tally Halt} {y ys : List ℕ} (c : Walks bytes t f at held z zs (add_expression (module_of bytes t) f held h.0 (asked z zs a.want)) v r y ys) where
-          turn_is : (st : State) → left j st ≡ (add_expression (module_of bytes t) f held h.0 (asked z zs a.want) st >> left (suc j))
-          turn_is st = turn_operand (module_of bytes t) f held e (asked u us w) j st h.0 (asked z zs a.want) (said-is g)
+        module _ {r : Result Tally Halt} {y ys : List ℕ} (c : Walks bytes t f at held z zs (add_expression (module_of bytes t) f held h.0 (asked z zs want)) v r y ys) where
+          turn_is : (st : State) → left j st ≡ (add_expression (module_of bytes t) f held h.0 (asked z zs want) st >> left (suc j))
+          turn_is st = turn_operand (module_of bytes t) f held e (asked u us w) j st h.0 (asked z zs want) (said-is g)
 
           pub left_halt : {stop : Halt} → r ≡ Err stop → Walks bytes t f at held s rs whole visits (Err stop) y ys
           left_halt is =
               ended (record { by = λ rest k. halts (sym (turn_is (state_of t f at (read z zs) rest v) ∙ next_halt (left (suc j)) (sym (ends_halt (c.by rest k) is)))) })
 
           module _ {tally : Tally} (is : r ≡ Ok tally) where
-            some_end : Ended bytes t f at held z zs (some_rest (totals_sum (read z zs))) (add_expression (module_of bytes t) f held h.0 (asked z zs a.want) (state_of t f at (read z zs) (some_rest (totals_sum (read z zs))) v)) tally.visits tally.sum y ys
+            some_end : Ended bytes t f at held z zs (some_rest (totals_sum (read z zs))) (add_expression (module_of bytes t) f held h.0 (asked z zs want) (state_of t f at (read z zs) (some_rest (totals_sum (read z zs))) v)) tally.visits tally.sum y ys
             some_end = ends_went (c.by (some_rest (totals_sum (read z zs))) (rest_counts (totals_sum (read z zs)))) is
 
             pub left_next : length y ≡ length z → Left bytes t f e at held u us w (visits + 1) (j + 1) tally.visits tally.sum y ys

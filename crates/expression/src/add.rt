@@ -10,12 +10,12 @@ ghost use Rattle.expression.specs.Walks.{Walks};
 use crate::variables::{entry, global};
 use crate::visit::{allowed, close};
 use asks::ask::ask;
-use asks::what::What;
+use asks::what::Ask;
 use field::limits::MAX_VISITS;
 use field::refusal::Refusal;
 use memory::want::Want;
 use module::handles::{ExpressionHandle, FunctionHandle};
-use state::answer::{Halt, Place, Walked};
+use state::answer::{Halt, Place, Tally, Walked};
 
 // The places of a context's maps.
 const LOCALS: usize = 1;
@@ -33,54 +33,50 @@ pub fn add_expression(
     held: usize,
     e: ExpressionHandle,
     w: Want,
-    visits: usize,
-    sum: usize,
+    began: Tally,
 ) -> Walked
-    requires ready { Ready bytes.now t.now cells.old slots.old f.0 at held sum }
+    requires ready { Ready bytes.now t.now cells.old slots.old f.0 at held began.sum }
     requires e_in_bounds { e.0 < length (function_at (module_of bytes.now t.now) f.0).expressions }
     requires wants { Wants cells.old slots.old w }
-    ensures { Walks bytes.now t.now f.0 at held cells.old slots.old (add_expression (module_of bytes.now t.now) f.0 held e.0 (asked cells.old slots.old w)) visits result cells.new slots.new }
+    ensures { Walks bytes.now t.now f.0 at held cells.old slots.old (add_expression (module_of bytes.now t.now) f.0 held e.0 (asked cells.old slots.old w)) began.visits result cells.new slots.new }
 {
     let here = Place::Expression(f, e);
-    if MAX_VISITS <= visits {
+    if MAX_VISITS <= began.visits {
         return Err(Halt {
             refusal: Refusal::VisitsLimit,
             place: here,
         });
     }
-    if !allowed(cells, slots, at, held, sum) {
+    if !allowed(cells, slots, at, held, began.sum) {
         return Err(Halt {
             refusal: Refusal::PiecesLimit,
             place: here,
         });
     }
-    let mut v = visits + 1;
-    let mut m = sum;
+    let mut tally = Tally {
+        visits: began.visits + 1,
+        ..began
+    };
     let mut j = 0;
-    // Stays: the arm's answer ends the loop, and no count, so that a `for` would need an end of its own.
-    loop {
-        let a = ask(bytes, t, cells, slots, f, e, w, j);
-        let what = a.what;
-        let want = a.want;
-        match what {
-            What::Operand(h) => {
-                let tally = add_expression(bytes, t, cells, slots, f, at, held, h, want, v, m)?;
-                v = tally.visits;
-                m = tally.sum;
+    // Stays: the arm's answers end the loop, and no count; a `for` would need an end of its own.
+    while let Some(a) = ask(bytes, t, cells, slots, f, e, w, j) {
+        match a {
+            Ask::Operand(h, want) => {
+                tally = add_expression(bytes, t, cells, slots, f, at, held, h, want, tally)?;
             }
-            What::Argument(i) => {
-                return entry(t, cells, slots, f, at, held, e, ARGUMENTS, i, w, v, m);
+            Ask::Argument(i) => {
+                return entry(t, cells, slots, f, at, held, e, ARGUMENTS, i, w, tally);
             }
-            What::Global(g) => return global(t, cells, slots, f, at, held, e, g, w, v, m),
-            What::Local(l) => return entry(t, cells, slots, f, at, held, e, LOCALS, l.0, w, v, m),
-            What::Refuse(refusal) => {
+            Ask::Global(g) => return global(t, cells, slots, f, at, held, e, g, w, tally),
+            Ask::Local(l) => return entry(t, cells, slots, f, at, held, e, LOCALS, l.0, w, tally),
+            Ask::Refuse(refusal) => {
                 return Err(Halt {
-                    refusal: refusal,
+                    refusal,
                     place: here,
                 });
             }
-            What::End => return close(t, cells, slots, f, at, held, e, w, v, m),
         }
         j += 1;
     }
+    close(t, cells, slots, f, at, held, e, w, tally)
 }

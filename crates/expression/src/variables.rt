@@ -17,7 +17,7 @@ use module::handles::{ExpressionHandle, FunctionHandle, GlobalHandle};
 use part::limits::SPINE;
 use part::req::get;
 use part::store::over;
-use state::answer::{Halt, Place, Walked};
+use state::answer::{Halt, Place, Tally, Walked};
 
 // Joins what w asks to the entry of the variable i in the map of the slot k, where that passes no limit. Whether it does.
 fn join(cells: &mut [u32], slots: &mut [u32], k: usize, i: u32, w: Want) -> bool
@@ -45,12 +45,11 @@ pub fn entry(
     map: usize,
     i: u32,
     w: Want,
-    visits: usize,
-    sum: usize,
+    tally: Tally,
 ) -> Walked
-    requires visiting { Visiting t.now f.0 e.0 at held cells.old slots.old w sum }
+    requires visiting { Visiting t.now f.0 e.0 at held cells.old slots.old w tally.sum }
     requires in_bounds { (map < 4) × (i < spine) }
-    ensures { (bytes : List ℕ) → Ready bytes t.now cells.old slots.old f.0 at held sum → EntryWalks bytes t.now f.0 at held cells.old slots.old map e.0 i (asked cells.old slots.old w) visits result cells.new slots.new }
+    ensures { (bytes : List ℕ) → Ready bytes t.now cells.old slots.old f.0 at held tally.sum → EntryWalks bytes t.now f.0 at held cells.old slots.old map e.0 i (asked cells.old slots.old w) tally.visits result cells.new slots.new }
 {
     if join(cells, slots, at + map, i, w) {
         return Err(Halt {
@@ -58,7 +57,7 @@ pub fn entry(
             place: Place::Expression(f, e),
         });
     }
-    close(t, cells, slots, f, at, held, e, w, visits, sum)
+    close(t, cells, slots, f, at, held, e, w, tally)
 }
 
 // The global g is asked w, and the visit ends. 15 is asked of the total, where it was joined.
@@ -72,20 +71,23 @@ pub fn global(
     e: ExpressionHandle,
     g: GlobalHandle,
     w: Want,
-    visits: usize,
-    sum: usize,
+    tally: Tally,
 ) -> Walked
-    requires visiting { Visiting t.now f.0 e.0 at held cells.old slots.old w sum }
+    requires visiting { Visiting t.now f.0 e.0 at held cells.old slots.old w tally.sum }
     requires g_lt_spine { g.0 < spine }
-    ensures { (bytes : List ℕ) → Ready bytes t.now cells.old slots.old f.0 at held sum → Walks bytes t.now f.0 at held cells.old slots.old (ending_global f.0 held e.0 g.0 (asked cells.old slots.old w)) visits result cells.new slots.new }
+    ensures { (bytes : List ℕ) → Ready bytes t.now cells.old slots.old f.0 at held tally.sum → Walks bytes t.now f.0 at held cells.old slots.old (ending_global f.0 held e.0 g.0 (asked cells.old slots.old w)) tally.visits result cells.new slots.new }
 {
     let seen = get(cells, slots[GLOBALS], SPINE + g.0);
     let n = slots[at];
-    let r = ask_global(cells, slots, n, g, w, sum);
+    let r = ask_global(cells, slots, n, g, w, tally.sum);
+    let counted = Tally {
+        sum: r.sum,
+        ..tally
+    };
     match seen {
         None => {
             slots[at] = r.globals;
-            close(t, cells, slots, f, at, held, e, w, visits, r.sum)
+            close(t, cells, slots, f, at, held, e, w, counted)
         }
         Some(_) => {
             if over(cells, slots[GLOBALS]) {
@@ -94,7 +96,7 @@ pub fn global(
                     place: Place::Expression(f, e),
                 });
             }
-            close(t, cells, slots, f, at, held, e, w, visits, r.sum)
+            close(t, cells, slots, f, at, held, e, w, counted)
         }
     }
 }

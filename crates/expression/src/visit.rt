@@ -37,20 +37,15 @@ pub fn close(
     held: usize,
     e: ExpressionHandle,
     w: Want,
-    visits: usize,
-    sum: usize,
+    tally: Tally,
 ) -> Walked
-    requires { Closing t.now f.0 e.0 at held cells.old slots.old w sum }
-    ensures { (bytes : List ℕ) → Ready bytes t.now cells.old slots.old f.0 at held sum → Walks bytes t.now f.0 at held cells.old slots.old (closing f.0 held e.0 (asked cells.old slots.old w)) visits result cells.new slots.new }
+    requires { Closing t.now f.0 e.0 at held cells.old slots.old w tally.sum }
+    ensures { (bytes : List ℕ) → Ready bytes t.now cells.old slots.old f.0 at held tally.sum → Walks bytes t.now f.0 at held cells.old slots.old (closing f.0 held e.0 (asked cells.old slots.old w)) tally.visits result cells.new slots.new }
 {
     let number = expression_number(t, f, e);
-    let m = note(cells, slots, EXPRS + number, w, sum);
-    if allowed(cells, slots, at, held, m) {
-        let tally = Tally {
-            visits: visits,
-            sum: m,
-        };
-        return Ok(tally);
+    let sum = note(cells, slots, EXPRS + number, w, tally.sum);
+    if allowed(cells, slots, at, held, sum) {
+        return Ok(Tally { sum, ..tally });
     }
     Err(Halt {
         refusal: Refusal::PiecesLimit,

@@ -2,6 +2,9 @@
 ghost use Rattle.std.specs.Prelude.{◌≡◌};
 ghost use Rattle.field.specs.Refusal.{number};
 
+// In an answer as one number a refusal's stands from here on.
+pub const REFUSAL_UNIT: u64 = 4294967296;
+
 #[derive(Clone, Copy, Debug, PartialEq, Eq)]
 pub enum Refusal {
     // Of a module.

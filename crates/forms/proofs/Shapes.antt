@@ -2,7 +2,8 @@
 use Prim.Native.Nat.{ℕ, zero, suc, ◌+◌, ◌<◌, ◌≤◌}
 use native.Mathlib.Omega.{arith}
 use mathlib.Core.Path.{◌≡◌, refl, sym, ap, ◌∙◌}
-use mathlib.Core.Bool.{Bool, true, false}
+use mathlib.Core.Logic.{◌⊎◌, inl, inr}
+use mathlib.Core.Bool.{true, false}
 use mathlib.Core.List.{List, [], ◌∷◌, map}
 use lib.Dec.{eqb}
 use lib.ListN.{length, get_or}
@@ -23,7 +24,7 @@ use Rattle.judge.proofs.TypeRows.{number as kind_of, row_is}
 use Rattle.forms.specs.ShapeBy.{shape_in, shape_by, Parted}
 use Rattle.forms.specs.declared.form.Form.{Form}
 use Rattle.forms.specs.declared.form.Form.TheVariants.{Void, Number, Vector as VectorForm, Of}
-use Rattle.std.specs.Prelude.{Option, Some, None}
+use Rattle.std.specs.Prelude.{Some, None}
 
 -- in every scope with these types it is the clearance's shape
 pub shape_is : (types : List ℕ) (S : Scope) → S.program.types ≡ types_of types → (t : TypeHandle) → shape_of S t ≡ shape_in (types_of types) t
@@ -292,56 +293,28 @@ module _ (types : List ℕ) (t : ℕ) where
               let l : b < t = omega (arith, L.each t 0 (element_there u v z)) in
               rw step_is (sym (below-lt (shape_in (types_of types)) number t b l) ∙ ap lower w ∙ (part_element lower type i (λ q. u (e ∙ q)) (λ q. v (e ∙ q)) (λ q. z (e ∙ q)) (there h)).1)
 
+-- other forms: a type's shape is never void, and only a type's is whole
+pub void_other : (types : List ℕ) (f : Form) → (f ≡ Void → ⊥) → false ≡ is_void (shape_by types f)
+void_other types Void h = absurd (h refl)
+void_other types Number h = refl
+void_other types (VectorForm n) h = unfold vector_shape in refl
+void_other types (Of t) h = type_void types t.0
+
+pub whole_none : (types : List ℕ) (f : Form) → ((t : Handle) → f ≡ Of t → ⊥) → false ≡ is_whole (shape_by types f)
+whole_none types Void h = refl
+whole_none types Number h = refl
+whole_none types (VectorForm n) h = unfold vector_shape in refl
+whole_none types (Of t) h = absurd (h t refl)
+
 -- a form by its variant
 module _ (types : List ℕ) (f : Form) where
-  module _ (e : f ≡ Void) where
-    pub void-member : (i : ℕ) → void ≡ member (shape_by types f) i
-    void-member i = rw e (unfold member in refl)
+  module _ (e : (f ≡ Void) ⊎ (f ≡ Number)) where
+    pub bare_member : (i : ℕ) → void ≡ member (shape_by types f) i
+    bare_member i = elim e [ inl h ↦ rw h (unfold member in refl) | inr h ↦ rw h (unfold member in refl) ]
 
-    pub void_void : true ≡ is_void (shape_by types f)
-    void_void = rw e refl
-
-    pub void_whole : false ≡ is_whole (shape_by types f)
-    void_whole = rw e refl
-
-    pub void_split : Parted (shape_by types f) None
-    void_split = rw e (unfold split in refl)
-
-  module _ (e : f ≡ Number) where
-    pub number_member : (i : ℕ) → void ≡ member (shape_by types f) i
-    number_member i = rw e (unfold member in refl)
-
-    pub number_void : false ≡ is_void (shape_by types f)
-    number_void = rw e refl
-
-    pub number_whole : false ≡ is_whole (shape_by types f)
-    number_whole = rw e refl
-
-    pub number_split : Parted (shape_by types f) None
-    number_split = rw e (unfold split in refl)
+    pub bare_split : Parted (shape_by types f) None
+    bare_split = elim e [ inl h ↦ rw h (unfold split in refl) | inr h ↦ rw h (unfold split in refl) ]
 
   module _ {n : ℕ} (e : f ≡ VectorForm n) where
-    pub vector_member : (i : ℕ) (r : Form) → ((rows : List ℕ) → shape_by rows r ≡ member (vector_shape n) i) → shape_by types r ≡ member (shape_by types f) i
-    vector_member i r h = rw e (h types)
-
-    pub vector_void : false ≡ is_void (shape_by types f)
-    vector_void = rw e (unfold vector_shape in refl)
-
-    pub vector_whole : false ≡ is_whole (shape_by types f)
-    vector_whole = rw e (unfold vector_shape in refl)
-
     pub vector_split : Parted (shape_by types f) (Some n)
     vector_split = rw e (record { part = λ j. number; is = unfold vector_shape in refl })
-
-  module _ {t : Handle} (e : f ≡ Of t) where
-    pub type-member : (i : ℕ) (r : Form) → shape_by types r ≡ member (shape_in (types_of types) t.0) i → shape_by types r ≡ member (shape_by types f) i
-    type-member i r h = rw e h
-
-    pub of_void : false ≡ is_void (shape_by types f)
-    of_void = rw e (type_void types t.0)
-
-    pub type_whole : {b : Bool} → b ≡ is_whole (shape_in (types_of types) t.0) → b ≡ is_whole (shape_by types f)
-    type_whole h = rw e h
-
-    pub type-split : (r : Option ℕ) → Parted (shape_in (types_of types) t.0) r → Parted (shape_by types f) r
-    type-split r h = rw e h

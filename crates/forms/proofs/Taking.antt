@@ -2,12 +2,11 @@
 -- without the part at a path. Each call has room: a level makes no more cells than its shape has parts.
 use Prim.Native.Nat.{ℕ, zero, suc, ◌+◌, ◌-◌, ◌*◌, ◌<◌, ◌≤◌}
 use native.Mathlib.Omega.{arith}
-use native.Mathlib.Numerals.{add-one}
 use mathlib.Core.Path.{◌≡◌, refl, sym, ap, ◌∙◌}
 use mathlib.Core.Bool.{Bool, true, false}
-use mathlib.Core.List.{List, ◌∷◌}
-use lib.ListN.{length, get_or, drop}
-use lib.Seq.{drop-cons, drop-length}
+use mathlib.Core.Logic.{◌⊎◌, inl, inr}
+use mathlib.Core.List.{List, [], ◌∷◌}
+use lib.ListN.{length}
 use borrow.Author.Tests.{lt-ltb, eq-eqb, ne_eqb}
 use Rattle.std.specs.Prelude.{Option, Some, None}
 use Rattle.part.specs.PartReq.{PartReq, all, more, gone, there, get_subpart, width}
@@ -36,13 +35,10 @@ keep-piece s (suc (suc zero)) i r a b = absurd (b refl)
 keep-piece s (suc (suc (suc c))) i r a b = let z : 2 < suc (suc (suc c)) = omega arith in simp (lt-ltb _ _ z)
 
 module _ {s : List ℕ} {c r : ℕ} (P : MakeAsked s c r) (i : ℕ) where
-  pub kept_exist : c ≡ 1 → Made s s (keep i (part s c) (part s r)) 1 r
+  pub kept_less : (c ≡ 1) ⊎ (c ≡ 2) → Made s s (keep i (part s c) (part s r)) 1 r
   unfolding keep
-  kept_exist e = stay s _ 1 r P.0 P.1.1.1 (rw (e, part-1))
-
-  pub kept_none : c ≡ 2 → Made s s (keep i (part s c) (part s r)) 1 r
-  unfolding keep
-  kept_none e = stay s _ 1 r P.0 P.1.1.1 (rw (e, part-2))
+  kept_less (inl e) = stay s _ 1 r P.0 P.1.1.1 (rw (e, part-1))
+  kept_less (inr e) = stay s _ 1 r P.0 P.1.1.1 (rw (e, part-2))
 
   pub kept_more : {t : List ℕ} {n : ℕ} → (c ≡ 1 → ⊥) → (c ≡ 2 → ⊥) → Made s t (more i (part s c) (part s r)) 1 n → Made s t (keep i (part s c) (part s r)) 1 n
   kept_more a b m = as_made m (sym (keep-piece s c i (part s r) a b)) (omega arith)
@@ -113,10 +109,6 @@ placed_start {s} n i d g =
     record { along = omega arith; made = stay s _ _ 2 g (omega (arith, g.base)) (rw (z, part-2)) }
 
 module _ {s t : List ℕ} {n i d k r : ℕ} (b : Placed s t n i d k r) (l : 0 < k) (h : Room s n × (d < top s)) where
-  pub placed_asks : MakeAsked t d r
-  placed_asks =
-      (b.made.kept.good, (omega (arith, b.made.cost, b.made.kept.long, b.along), (omega (arith, b.made.kept.tops), b.made.piece)))
-
   pub placed_more : {u : List ℕ} {j o : ℕ} → suc j ≡ k → Made t u (or_all j i (part t d) (part t r)) 1 o → Placed s u n i d j o
   placed_more {u} {j} {o} e m =
       let z : n - j ≡ suc (n - k) = omega (arith, b.along) in
@@ -130,63 +122,50 @@ module _ {s t : List ℕ} {n i d k r : ℕ} (b : Placed s t n i d k r) (l : 0 < 
         };
       }
 
-pub placed_end : {s t : List ℕ} {n i d k r : ℕ} → Placed s t n i d k r → k ≤ 0 → Made s t (change i (λ c. part s d) (members 0 n)) n r
-placed_end {n = n} {k = k} b h =
-    let z : k ≡ 0 = omega arith in
-    let y : n - k ≡ n = omega arith in
-    as_made b.made (rw (y, z)) (omega arith)
-
 -- what is left without the part at a path
 abbrev pub Left : List ℕ → List ℕ → Shape → PartReq → List ℕ → ℕ → Type 0
 Left s t v p q n = Made s t (leaves v p q) (level_cells * length q) n
 
-left_end : {s : List ℕ} (v : Shape) (p : PartReq) (path : List ℕ) {k : ℕ} → Good s → k ≤ length path → length path ≤ k → Left s s v p (drop k path) 2
-left_end {s} v p path {k} g l h =
-    let e : k ≡ length path = omega arith in
-    stay s _ _ 2 g (omega (arith, g.base)) (rw (part-2, e, drop-length path) (sym (leaves_none v p)))
+left_end : {s : List ℕ} (v : Shape) (p : PartReq) → Good s → Left s s v p [] 2
+left_end {s} v p g = stay s _ _ 2 g (omega (arith, g.base)) (rw part-2 (sym (leaves_none v p)))
 
--- the path from k on, by its first index
-first_index : (path : List ℕ) {k i : ℕ} → k < length path → i ≡ get_or path k 0 → drop k path ≡ i ∷ drop (k + 1) path
-first_index path {k} h e = rw (add-one, drop-cons path k 0 h, e)
+abbrev AllAsked : List ℕ → List ℕ → Shape → List ℕ → Type 0
+AllAsked types s v path = Good s × ((Lower (types_of types) × Narrow v) × Room s (level_cells * length path))
 
-abbrev AllAsked : List ℕ → List ℕ → Shape → List ℕ → ℕ → Type 0
-AllAsked types s v path k = Good s × ((Lower (types_of types) × Narrow v) × ((k ≤ length path) × Room s (level_cells * length (drop k path))))
+module _ (types : List ℕ) {s : List ℕ} (v : Shape) (path : List ℕ) (P : AllAsked types s v path) where
+  pub all_end : path ≡ [] → Left s s v all path 2
+  all_end h = rw h (left_end v all P.0)
 
-module _ (types : List ℕ) {s : List ℕ} (v : Shape) (path : List ℕ) {k : ℕ} (P : AllAsked types s v path k) where
-  pub all_end : length path ≤ k → Left s s v all (drop k path) 2
-  all_end h = left_end v all path P.0 P.1.1.0 h
+  module _ {i : ℕ} {q : List ℕ} (h : path ≡ i ∷ q) where
+    pub all_one : split v all ≡ all → Left s s v all path 0
+    all_one e = stay s _ _ 0 P.0 (omega (arith, P.0.base)) (rw (part-0, h) (sym (leaves-one v _ _ e)))
 
-  module _ (h : k < length path) where
-    pub all_one : split v all ≡ all → Left s s v all (drop k path) 0
-    all_one e = stay s _ _ 0 P.0 (omega (arith, P.0.base)) (rw (part-0, first_index path h refl) (sym (leaves-one v _ _ e)))
+    module _ (m : Shape) (w : m ≡ member v i) where
+      all_long : level_cells * length path ≡ level_cells + level_cells * length q
+      all_long = rw h (omega arith)
 
-    module _ {i : ℕ} (e : i ≡ get_or path k 0) (m : Shape) (w : m ≡ member v i) where
-      all_long : level_cells * length (drop k path) ≡ level_cells + level_cells * length (drop (k + 1) path)
-      all_long = rw (first_index path h e) (omega arith)
+      pub all_call : {z : ℕ} → length path ≡ z → (length q < z) × AllAsked types s m q
+      all_call z =
+          (omega (arith, all_long), (P.0, ((P.1.0.0, rw w (narrow_member v i P.1.0.1)), omega (arith, all_long, P.1.1))))
 
-      pub all_call : {z : ℕ} → length path - k ≡ z → (length path - (k + 1) < z) × AllAsked types s m path (k + 1)
-      all_call q =
-          (omega arith, (P.0, ((P.1.0.0, rw w (narrow_member v i P.1.0.1)), (omega arith, omega (arith, all_long, P.1.1.1)))))
-
-      module _ {t : List ℕ} {n d : ℕ} (M : Members v n) (a : Left s t m all (drop (k + 1) path) d) where
+      module _ {t : List ℕ} {n d : ℕ} (M : Members v n) (a : Left s t m all q d) where
         pub around_asks : Good t × (Room t n × (d < top t))
         around_asks =
             let l = narrow_members M P.1.0.1 in
-            (a.kept.good, (omega (arith, all_long, P.1.1.1, a.cost, a.kept.long), a.piece))
+            (a.kept.good, (omega (arith, all_long, P.1.1, a.cost, a.kept.long), a.piece))
 
-        pub all_left : {u : List ℕ} {r : ℕ} → Made t u (change i (λ c. part t d) (members 0 n)) n r → Left s u v all (drop k path) r
+        pub all_left : {u : List ℕ} {r : ℕ} → Made t u (change i (λ c. part t d) (members 0 n)) n r → Left s u v all path r
         all_left b =
             let l = narrow_members M P.1.0.1 in
             record {
               kept = kept_trans a.kept b.kept;
               piece = b.piece;
-              is = b.is ∙ rw (a.is, w, first_index path h e) (sym (leaves-members v i n (drop (k + 1) path) M));
+              is = b.is ∙ rw (a.is, w, h) (sym (leaves-members v i n q M));
               cost = omega (arith, all_long, a.cost, b.cost);
             }
 
-abbrev pub OutAsked : List ℕ → List ℕ → Shape → ℕ → List ℕ → ℕ → Type 0
-OutAsked types s v p path k =
-    Good s × ((Lower (types_of types) × Narrow v) × (((p < top s) × IsNeed v (part s p)) × ((k ≤ length path) × Room s (level_cells * length (drop k path)))))
+abbrev pub OutAsked : List ℕ → List ℕ → Shape → ℕ → List ℕ → Type 0
+OutAsked types s v p path = Good s × ((Lower (types_of types) × Narrow v) × (((p < top s) × IsNeed v (part s p)) × Room s (level_cells * length path)))
 
 -- what `split_of` and `get` found
 pub parted_one : (v : Shape) (r : Option ℕ) → r ≡ None → Parted v r → split v all ≡ all
@@ -201,59 +180,59 @@ got_gone s p i f e h = rw e at h
 pub got_there : (s : List ℕ) (p : PartReq) (i : ℕ) (f : Option ℕ) {c : ℕ} → f ≡ Some c → Got s (get_subpart p i) f → (c < top s) × (get_subpart p i ≡ there (part s c))
 got_there s p i f e h = rw e at h
 
-module _ (types : List ℕ) {s : List ℕ} (v : Shape) {p : ℕ} (path : List ℕ) {k : ℕ} (P : OutAsked types s v p path k) where
-  pub out_end : length path ≤ k → Left s s v (part s p) (drop k path) 2
-  out_end h = left_end v (part s p) path P.0 P.1.1.1.0 h
+module _ (types : List ℕ) {s : List ℕ} (v : Shape) {p : ℕ} (path : List ℕ) (P : OutAsked types s v p path) where
+  pub out_end : path ≡ [] → Left s s v (part s p) path 2
+  out_end h = rw h (left_end v (part s p) P.0)
 
-  pub all_asks : AllAsked types s v path k
+  pub all_asks : AllAsked types s v path
   all_asks = (P.0, (P.1.0, P.1.1.1))
 
-  pub out_all : {t : List ℕ} {n : ℕ} → p ≡ 0 → Left s t v all (drop k path) n → Left s t v (part s p) (drop k path) n
+  pub out_all : {t : List ℕ} {n : ℕ} → p ≡ 0 → Left s t v all path n → Left s t v (part s p) path n
   out_all e m = as_made m (rw (e, part-0)) (omega arith)
 
-  module _ (h : k < length path) where
-    pub out_whole : {b : Bool} → b ≡ is_whole v → b ≡ true → Left s s v (part s p) (drop k path) p
-    out_whole w b = stay s _ _ p P.0 P.1.1.0.0 (rw (first_index path h refl) (sym (leaves-whole v _ _ (part s p) (sym w ∙ b))))
+  module _ {i : ℕ} {q : List ℕ} (h : path ≡ i ∷ q) where
+    pub out_whole : {b : Bool} → b ≡ is_whole v → b ≡ true → Left s s v (part s p) path p
+    out_whole w b = stay s _ _ p P.0 P.1.1.0.0 (rw h (sym (leaves-whole v _ _ (part s p) (sym w ∙ b))))
 
-    module _ {i : ℕ} (e : i ≡ get_or path k 0) {b : Bool} (w : b ≡ is_whole v) (no : b ≡ false) (z : p ≡ 0 → ⊥) where
-      pub out_gone : (f : Option ℕ) → f ≡ None → Got s (get_subpart (part s p) i) f → Left s s v (part s p) (drop k path) p
+    module _ {b : Bool} (w : b ≡ is_whole v) (no : b ≡ false) (z : p ≡ 0 → ⊥) where
+      pub out_gone : (f : Option ℕ) → f ≡ None → Got s (get_subpart (part s p) i) f → Left s s v (part s p) path p
       out_gone f a g =
           stay s _ _ p P.0 P.1.1.0.0
-          (rw (first_index path h e) (sym (leaves-gone v i _ (part s p) (sym w ∙ no) (not_all s p z) (got_gone s (part s p) i f a g))))
+          (rw h (sym (leaves-gone v i _ (part s p) (sym w ∙ no) (not_all s p z) (got_gone s (part s p) i f a g))))
 
-      out_long : level_cells * length (drop k path) ≡ level_cells + level_cells * length (drop (k + 1) path)
-      out_long = rw (first_index path h e) (omega arith)
+      out_long : level_cells * length path ≡ level_cells + level_cells * length q
+      out_long = rw h (omega arith)
 
       module _ (m : Shape) (o : m ≡ member v i) (f : Option ℕ) {c : ℕ} (a : f ≡ Some c) (g : Got s (get_subpart (part s p) i) f) where
-        pub out_call : {y : ℕ} → length path - k ≡ y → (length path - (k + 1) < y) × OutAsked types s m c path (k + 1)
-        out_call q =
+        pub out_call : {y : ℕ} → length path ≡ y → (length q < y) × OutAsked types s m c q
+        out_call y =
             let x = got_there s (part s p) i f a g in (
-              omega arith,
+              omega (arith, out_long),
               (
                 P.0,
                 (
                   (P.1.0.0, rw o (narrow_member v i P.1.0.1)),
                   (
                     (x.0, rw o (need_entry v (part s p) i (part s c) P.1.1.0.1 (not_all s p z) x.1).1),
-                    (omega arith, omega (arith, out_long, P.1.1.1.1)),
+                    omega (arith, out_long, P.1.1.1),
                   ),
                 ),
               ),
             )
 
-        module _ {t : List ℕ} {d : ℕ} (l : Left s t m (part s c) (drop (k + 1) path) d) where
+        module _ {t : List ℕ} {d : ℕ} (l : Left s t m (part s c) q d) where
           out_wide : width (part t p) ≤ level_cells
           out_wide = rw (l.kept.same p P.1.1.0.0) (need_width v (part s p) P.1.1.0.1 P.1.0.1 (sym w ∙ no))
 
           pub entry-asks : EntryAsked t p d
           entry-asks =
-              (l.kept.good, ((omega (arith, l.kept.tops, P.1.1.0.0), l.piece), omega (arith, out_wide, out_long, P.1.1.1.1, l.cost, l.kept.long)))
+              (l.kept.good, ((omega (arith, l.kept.tops, P.1.1.0.0), l.piece), omega (arith, out_wide, out_long, P.1.1.1, l.cost, l.kept.long)))
 
-          pub out_left : {u : List ℕ} {r : ℕ} → Changed t u p i d r → Left s u v (part s p) (drop k path) r
+          pub out_left : {u : List ℕ} {r : ℕ} → Changed t u p i d r → Left s u v (part s p) path r
           out_left n = record {
             kept = kept_trans l.kept n.kept;
             piece = n.piece;
-            is = n.is ∙ rw (l.kept.same p P.1.1.0.0, l.is, o, first_index path h e)
-                (sym (leaves-there v i (drop (k + 1) path) (part s p) (sym w ∙ no) (not_all s p z) (part s c) (got_there s (part s p) i f a g).1));
+            is = n.is ∙ rw (l.kept.same p P.1.1.0.0, l.is, o, h)
+                (sym (leaves-there v i q (part s p) (sym w ∙ no) (not_all s p z) (part s c) (got_there s (part s p) i f a g).1));
             cost = omega (arith, out_wide, out_long, l.cost, n.cost);
           }

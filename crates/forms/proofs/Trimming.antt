@@ -6,15 +6,14 @@ use mathlib.Core.Bool.{Bool, true, false}
 use mathlib.Core.List.{List, [], ◌∷◌}
 use mathlib.Core.Option.{Option}
 use lib.ListN.{length}
-use borrow.Author.Tests.{eq-eqb, ne_eqb}
-use Rattle.field.specs.Limits.{absent}
 use Rattle.part.specs.PartReq.{PartReq, none, more, entries, spine}
 use Rattle.part.specs.Store.{top, part, Good, Room, Made, Seen}
 use Rattle.part.proofs.Pieces.{part-0, part-1, part-2}
 use Rattle.part.proofs.Write.{stay}
-use Rattle.part.proofs.Making.{kept_trans, MakeAsked, as_made}
+use Rattle.part.proofs.Making.{kept_trans, MakeAsked}
 use Rattle.module.specs.Module.{FunctionResult}
 use Rattle.module.specs.Tables.{module_of}
+use Rattle.std.specs.Prelude.{Option as Optional, Some, None}
 use Rattle.access.specs.Access.{global_at, result_from}
 use Rattle.access.specs.declared.whole.Bound.{Bound}
 use Rattle.access.proofs.Access.{global_is}
@@ -124,13 +123,7 @@ module _ (bytes t types : List ℕ) where
 
   -- what is left of p, of the globals
   module _ {s : List ℕ} {p : ℕ} (P : Good s × (Lower (types_of types) × ((p < top s) × Room s (1 + entries (part s p))))) where
-    pub map_asks : TrimAsked types s p
-    map_asks = (P.0, (P.1.0, (P.1.1.0, omega (arith, P.1.1.1))))
-
     module _ {u : List ℕ} {m : ℕ} (a : Trimmed s u p (globals_shape bytes t types) m) where
-      pub globals_asks : MakeAsked u m 2
-      globals_asks = (a.kept.good, (omega (arith, P.1.1.1, a.cost, a.kept.long), (a.piece, omega (arith, a.kept.good.base))))
-
       pub globals_trimmed : {w : List ℕ} {n : ℕ} → Made u w (keep (variable 0) (part u m) (part u 2)) 1 n → Made s w (trim_globals bytes t types (part s p)) (1 + entries (part s p)) n
       unfolding trim_globals
       globals_trimmed k = record {
@@ -154,14 +147,11 @@ unfolding trim under trim_globals
 ending_is bytes t types f e p = ap (λ v. keep (variable 0) (trim p v) none) (first_map (scope_at bytes t f) ∙ globals_are bytes t types f e)
 
 -- a function's result
-module _ (S : Scope) (b : Bound) {r : Option FunctionResult} (w : result_from b ≡ r) where
-  pub result_void : b.ty.0 ≡ absent → void ≡ result_shape S r
+module _ (S : Scope) {o : Optional Bound} {r : Option FunctionResult} (w : result_from o ≡ r) where
+  pub result_void : o ≡ None → void ≡ result_shape S r
   unfolding result_shape
-  result_void h = rw (← w, eq-eqb b.ty.0 absent h)
+  result_void h = rw (← w, h)
 
-  pub result_type : (types : List ℕ) → S.program.types ≡ types_of types → (b.ty.0 ≡ absent → ⊥) → shape_in (types_of types) b.ty.0 ≡ result_shape S r
+  pub result_type : (types : List ℕ) (b : Bound) → S.program.types ≡ types_of types → o ≡ Some b → shape_in (types_of types) b.ty.0 ≡ result_shape S r
   unfolding result_shape
-  result_type types e h = rw (← w, ne_eqb b.ty.0 absent h) (sym (shape_is types S e b.ty.0))
-
-pub value_trimmed : {s u : List ℕ} (p : ℕ) {n : ℕ} (v w : Shape) → v ≡ w → Made s u (trim (part s p) v) (entries (part s p)) n → Made s u (trim (part s p) w) (entries (part s p)) n
-value_trimmed {s} p v w e m = as_made m (ap (trim (part s p)) e) (omega arith)
+  result_type types b e h = rw (← w, h) (sym (shape_is types S e b.ty.0))

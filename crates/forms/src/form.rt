@@ -7,9 +7,10 @@ ghost use Rattle.judge.specs.Alike.{Lower};
 ghost use Rattle.forms.specs.ShapeBy.{shape_in, shape_by, Parted};
 
 use bindings::types::first_word;
-use judge::rows::{TypeKind, base_at, kind_at, second_word};
+use judge::rows::{base_at, kind_at, second_word};
 use judge::shapes::part_count;
 use module::handles::TypeHandle;
+use module::kinds::TypeKind;
 use part::limits::SPINE;
 
 // Nothing, a number, a vector of so many components, or what a type has.
@@ -28,12 +29,7 @@ fn type_extent(types: &[u32], t: TypeHandle) -> u32
     let n = part_count(types, t);
     match kind_at(types, t) {
         TypeKind::BindingArray => SPINE,
-        TypeKind::Array => {
-            if n == 0 {
-                return SPINE;
-            }
-            n
-        }
+        TypeKind::Array => if n == 0 { SPINE } else { n },
         _ => n,
     }
 }
@@ -67,8 +63,7 @@ pub fn member_form(types: &[u32], form: Form, i: u32) -> Form
     ensures { shape_by types.now result ≡ member (shape_by types.now form) i }
 {
     match form {
-        Form::Void => Form::Void,
-        Form::Number => Form::Void,
+        Form::Void | Form::Number => Form::Void,
         Form::Vector(n) => component(n, i),
         Form::Of(t) => type_member(types, t, i),
     }
@@ -77,22 +72,14 @@ pub fn member_form(types: &[u32], form: Form, i: u32) -> Form
 pub fn is_void(types: &[u32], form: Form) -> bool
     ensures { result ≡ is_void (shape_by types.now form) }
 {
-    match form {
-        Form::Void => true,
-        Form::Number => false,
-        Form::Vector(_) => false,
-        Form::Of(_) => false,
-    }
+    matches!(form, Form::Void)
 }
 
 // Whether the type t is an array's.
 fn whole_type(types: &[u32], t: TypeHandle) -> bool
     ensures { result ≡ is_whole (shape_in (types_of types.now) t.0) }
 {
-    match kind_at(types, t) {
-        TypeKind::Array | TypeKind::BindingArray => true,
-        _ => false,
-    }
+    matches!(kind_at(types, t), TypeKind::Array | TypeKind::BindingArray)
 }
 
 // Whether it is taken out whole or not at all.
@@ -100,10 +87,8 @@ pub fn is_whole(types: &[u32], form: Form) -> bool
     ensures { result ≡ is_whole (shape_by types.now form) }
 {
     match form {
-        Form::Void => false,
-        Form::Number => false,
-        Form::Vector(_) => false,
         Form::Of(t) => whole_type(types, t),
+        _ => false,
     }
 }
 
@@ -122,8 +107,7 @@ pub fn split_of(types: &[u32], form: Form) -> Option<u32>
     ensures { Parted (shape_by types.now form) result }
 {
     match form {
-        Form::Void => None,
-        Form::Number => None,
+        Form::Void | Form::Number => None,
         Form::Vector(n) => Some(n),
         Form::Of(t) => type_split(types, t),
     }

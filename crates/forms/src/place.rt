@@ -26,16 +26,11 @@ fn place_form(bytes: &[u8], t: &[u32], f: FunctionHandle, types: &[u32], k: u32,
     requires k_bound { (k ≤ 64) × (v < extent (kind_shape (scope_at bytes.now t.now f.0) k)) }
     ensures { shape_by types.now result ≡ member (kind_shape (scope_at bytes.now t.now f.0) k) (variable v) }
 {
-    if k == 0 {
-        let h = global(bytes, t, GlobalHandle(v));
-        return Form::Of(h);
+    match k {
+        0 => Form::Of(global(bytes, t, GlobalHandle(v))),
+        1 => Form::Of(local(bytes, t, f, LocalHandle(v))),
+        _ => Form::Of(type_of(bytes, t, f, ExpressionHandle(32 * (k - 4) + v))),
     }
-    if k == 1 {
-        let h = local(bytes, t, f, LocalHandle(v));
-        return Form::Of(h);
-    }
-    let h = type_of(bytes, t, f, ExpressionHandle(32 * (k - 4) + v));
-    Form::Of(h)
 }
 
 // The needs n without the part at the path, whose first two indexes say where its variable is.
@@ -64,7 +59,7 @@ pub fn take_place(
         return n;
     };
     let form = place_form(bytes, t, f, types, x - SPINE, y - SPINE);
-    let d = take_out(cells, types, form, c, path, 2);
+    let d = take_out(cells, types, form, c, &path[2..]);
     let e = change_entry(cells, m, y, d);
     change_entry(cells, n, x, e)
 }

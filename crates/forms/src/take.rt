@@ -1,5 +1,5 @@
 // A need without the part at a path, with what that empties.
-ghost use Rattle.std.specs.Prelude.{◌+◌, ◌*◌, ◌≤◌, ◌<◌, length, drop};
+ghost use Rattle.std.specs.Prelude.{◌+◌, ◌*◌, ◌<◌, length};
 ghost use Rattle.part.specs.PartReq.{all, width};
 ghost use Rattle.part.specs.Store.{top, part, Good, Room, Made};
 ghost use Rattle.context.specs.Types.{types_of};
@@ -21,13 +21,10 @@ pub fn keep(cells: &mut [u32], index: u32, child: u32, rest: u32) -> u32
     requires child_bound { (child < top cells.old) × (rest < top cells.old) }
     ensures { Made cells.old cells.new (keep index (part cells.old child) (part cells.old rest)) 1 result }
 {
-    if child == 1 {
-        return rest;
+    match child {
+        1 | 2 => rest,
+        _ => make(cells, index, child, rest),
     }
-    if child == 2 {
-        return rest;
-    }
-    make(cells, index, child, rest)
 }
 
 // The entries of p with d for the entry i, dropped where d needs nothing.
@@ -77,54 +74,45 @@ fn members_around(cells: &mut [u32], n: u32, i: u32, d: u32) -> u32
     r
 }
 
-// What is left of all, without the part at the path from `at` on.
-fn take_all(cells: &mut [u32], types: &[u32], form: Form, path: &[u32], at: usize) -> u32
+// What is left of all, without the part at the path.
+fn take_all(cells: &mut [u32], types: &[u32], form: Form, path: &[u32]) -> u32
     requires good { Good cells.old }
     requires lower { Lower (types_of types.now) × Narrow (shape_by types.now form) }
-    requires at_in_bounds { (at ≤ length path.now) × Room cells.old (level_cells * length (drop at path.now)) }
-    ensures { Made cells.old cells.new (leaves (shape_by types.now form) all (drop at path.now)) (level_cells * length (drop at path.now)) result }
+    requires room { Room cells.old (level_cells * length path.now) }
+    ensures { Made cells.old cells.new (leaves (shape_by types.now form) all path.now) (level_cells * length path.now) result }
 {
-    if path.len() <= at {
+    let Some((i, rest)) = path.split_first() else {
         return 2;
-    }
+    };
     let Some(n) = split_of(types, form) else {
         return 0;
     };
-    let i = path[at];
-    let m = member_form(types, form, i);
-    let d = take_all(cells, types, m, path, at + 1);
-    members_around(cells, n, i, d)
+    let m = member_form(types, form, *i);
+    let d = take_all(cells, types, m, rest);
+    members_around(cells, n, *i, d)
 }
 
-// What is left of p, without the part at the path from `at` on.
-pub fn take_out(
-    cells: &mut [u32],
-    types: &[u32],
-    form: Form,
-    p: u32,
-    path: &[u32],
-    at: usize,
-) -> u32
+// What is left of p, without the part at the path.
+pub fn take_out(cells: &mut [u32], types: &[u32], form: Form, p: u32, path: &[u32]) -> u32
     requires good { Good cells.old }
     requires lower { Lower (types_of types.now) × Narrow (shape_by types.now form) }
     requires p_bound { (p < top cells.old) × IsNeed (shape_by types.now form) (part cells.old p) }
-    requires at_in_bounds { (at ≤ length path.now) × Room cells.old (level_cells * length (drop at path.now)) }
-    ensures { Made cells.old cells.new (leaves (shape_by types.now form) (part cells.old p) (drop at path.now)) (level_cells * length (drop at path.now)) result }
+    requires room { Room cells.old (level_cells * length path.now) }
+    ensures { Made cells.old cells.new (leaves (shape_by types.now form) (part cells.old p) path.now) (level_cells * length path.now) result }
 {
-    if path.len() <= at {
+    let Some((i, rest)) = path.split_first() else {
         return 2;
-    }
+    };
     if p == 0 {
-        return take_all(cells, types, form, path, at);
+        return take_all(cells, types, form, path);
     }
     if is_whole(types, form) {
         return p;
     }
-    let i = path[at];
-    let Some(c) = get(cells, p, i) else {
+    let Some(c) = get(cells, p, *i) else {
         return p;
     };
-    let m = member_form(types, form, i);
-    let d = take_out(cells, types, m, c, path, at + 1);
-    change_entry(cells, p, i, d)
+    let m = member_form(types, form, *i);
+    let d = take_out(cells, types, m, c, rest);
+    change_entry(cells, p, *i, d)
 }

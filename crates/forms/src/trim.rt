@@ -15,7 +15,7 @@ use crate::form::{Form, is_void, member_form};
 use crate::take::keep;
 use access::function::result;
 use access::whole::{global, globals};
-use module::handles::{FunctionHandle, GlobalHandle, NO_HANDLE};
+use module::handles::{FunctionHandle, GlobalHandle};
 use part::limits::SPINE;
 use part::store::look;
 
@@ -53,8 +53,7 @@ fn global_form(bytes: &[u8], t: &[u32], types: &[u32], i: u32) -> Form
     if globals(t) <= g {
         return Form::Void;
     }
-    let h = global(bytes, t, GlobalHandle(g));
-    Form::Of(h)
+    Form::Of(global(bytes, t, GlobalHandle(g)))
 }
 
 // What is left of p, a map of globals.
@@ -93,12 +92,10 @@ fn result_form(bytes: &[u8], t: &[u32], f: FunctionHandle, types: &[u32]) -> For
     requires { (module_of bytes.now t.now).types ≡ types_of types.now }
     ensures { shape_by types.now result ≡ result_shape (scope_at bytes.now t.now f.0) (function_of bytes.now t.now f.0).result }
 {
-    let b = result(bytes, t, f);
-    let ty = b.ty;
-    if ty.0 == NO_HANDLE {
-        return Form::Void;
+    match result(bytes, t, f) {
+        Some(x) => Form::Of(x.ty),
+        None => Form::Void,
     }
-    Form::Of(ty)
 }
 
 // What is left of p, asked of a function's result.

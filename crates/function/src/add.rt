@@ -21,9 +21,9 @@ ghost use Rattle.arms.specs.Loops.{Turning};
 
 use access::function::{block, body_block};
 use access::kinded::{
-    Kinded, block_operand, expression_operand, function_operand, operand, statement,
+    Kinded, block_operand, expression_operand, function_operand, operand, optional_expression,
+    statement,
 };
-use access::kinds::{BLOCK, BREAK, CALL, EMIT, IF, SWITCH};
 use arms::calls::{begin_call, leave_call, return_call};
 use arms::emit::add_emit;
 use arms::ifs::end_if;
@@ -38,11 +38,11 @@ use field::limits::{MAX_TURNS, MAX_VISITS, MIN_REPORT};
 use field::refusal::Refusal;
 use marks::places::PLACES;
 use marks::report::TOTALS_SIZE;
-use marks::set::or;
 use memory::layout::{CELLS, SLOTS};
 use memory::memory::weigh;
 use memory::stretches::copy_context;
 use module::handles::{BlockHandle, FunctionHandle};
+use module::kinds::StatementKind;
 use module::tables::WORDS;
 use state::answer::{Answer, Answered, Place, Tally};
 use state::frame::Frame;
@@ -63,35 +63,22 @@ pub fn add_function(
     base: usize,
     here: Place,
     held: usize,
-    visits: usize,
-    sum: usize,
+    tally: Tally,
 ) -> Answered
-    requires function_entered { FunctionEntered bytes.now t.now types.now places.now cells.old slots.old «open».old totals.old f.0 base held sum visits }
+    requires function_entered { FunctionEntered bytes.now t.now types.now places.now cells.old slots.old «open».old totals.old f.0 base held tally.sum tally.visits }
     requires base_bound { base + 4 ≤ slot_count }
-    ensures { FunctionEnds bytes.now t.now types.now places.now cells.old slots.old «open».old totals.old f.0 base held (add_function (module_of bytes.now t.now) f.0 (place_of here) held (get_or (read cells.old slots.old) base none) (get_or (read cells.old slots.old) (base + 3) none) (state_in bytes.now t.now cells.old slots.old «open».old totals.old f.0 base visits)) result cells.new slots.new «open».new totals.new }
+    ensures { FunctionEnds bytes.now t.now types.now places.now cells.old slots.old «open».old totals.old f.0 base held (add_function (module_of bytes.now t.now) f.0 (place_of here) held (get_or (read cells.old slots.old) base none) (get_or (read cells.old slots.old) (base + 3) none) (state_in bytes.now t.now cells.old slots.old «open».old totals.old f.0 base tally.visits)) result cells.new slots.new «open».new totals.new }
 {
     let b = body_block(t, f);
     let at = base + 4;
     let a = add_block(
-        bytes, t, types, places, cells, slots, open, totals, f, b, base, at, held, false, visits,
-        sum,
+        bytes, t, types, places, cells, slots, open, totals, f, b, base, at, held, false, tally,
     )?;
     let tally = add_total(
-        bytes,
-        t,
-        places,
-        cells,
-        slots,
-        open,
-        totals,
-        f,
-        at,
-        here,
-        a.tally.visits,
-        a.tally.sum,
+        bytes, t, places, cells, slots, open, totals, f, at, here, a.tally,
     )?;
     Ok(Answer {
-        tally: tally,
+        tally,
         required: a.required,
     })
 }
@@ -113,41 +100,35 @@ pub fn add_block(
     at: usize,
     held: usize,
     break_required: bool,
-    visits: usize,
-    sum: usize,
+    began: Tally,
 ) -> Answered
-    requires { Entered bytes.now t.now types.now places.now cells.old slots.old «open».old totals.old f.0 b.0 base at held (held + context_in cells.old slots.old base) sum visits }
-    ensures { BlockEnds bytes.now t.now types.now places.now cells.old slots.old «open».old totals.old f.0 base at held (held + context_in cells.old slots.old base) sum (block_in bytes.now t.now f.0 b.0 held (context_at (read cells.old slots.old) base) break_required (state_in bytes.now t.now cells.old slots.old «open».old totals.old f.0 at visits)) result cells.new slots.new «open».new totals.new }
+    requires { Entered bytes.now t.now types.now places.now cells.old slots.old «open».old totals.old f.0 b.0 base at held (held + context_in cells.old slots.old base) began.sum began.visits }
+    ensures { BlockEnds bytes.now t.now types.now places.now cells.old slots.old «open».old totals.old f.0 base at held (held + context_in cells.old slots.old base) began.sum (block_in bytes.now t.now f.0 b.0 held (context_at (read cells.old slots.old) base) break_required (state_in bytes.now t.now cells.old slots.old «open».old totals.old f.0 at began.visits)) result cells.new slots.new «open».new totals.new }
 {
     let range = block(t, f, b);
     let first = range.first;
     let inner = held + weigh(cells, slots, base, 4);
     copy_context(slots, base, at);
-    let mut v = visits;
-    let mut m = sum;
+    let mut tally = began;
     let mut behind = break_required;
     let mut required = false;
     for k in (0..range.count).rev() {
         let fr = Frame {
             function: f,
             statement: first + k,
-            base: base,
-            at: at,
+            base,
+            at,
             held: inner,
             break_required: behind,
         };
         let a = add_statement(
-            bytes, t, types, places, cells, slots, open, totals, fr, b, v, m,
+            bytes, t, types, places, cells, slots, open, totals, fr, b, tally,
         )?;
-        v = a.tally.visits;
-        m = a.tally.sum;
-        behind = or(behind, a.required);
-        required = or(required, a.required);
+        tally = a.tally;
+        behind |= a.required;
+        required |= a.required;
     }
-    Ok(Answer {
-        tally: Tally { visits: v, sum: m },
-        required: required,
-    })
+    Ok(Answer { tally, required })
 }
 
 // `add_statement`, as a visit: 17, 16, the arm with its marks, and 16 again. The statement stands in the block b.
@@ -163,34 +144,25 @@ pub fn add_statement(
     totals: &mut [u8; TOTALS_SIZE],
     fr: Frame,
     b: BlockHandle,
-    visits: usize,
-    sum: usize,
+    tally: Tally,
 ) -> Answered
-    requires { Visits bytes.now t.now types.now places.now cells.old slots.old «open».old totals.old fr b.0 sum visits }
-    ensures { VisitEnds bytes.now t.now types.now places.now cells.old slots.old «open».old totals.old fr (visit_statement (module_of bytes.now t.now) (add_function (module_of bytes.now t.now)) (block_in bytes.now t.now fr.function.0) (frame_of cells.old slots.old fr) (state_in bytes.now t.now cells.old slots.old «open».old totals.old fr.function.0 fr.at visits)) result cells.new slots.new «open».new totals.new }
+    requires { Visits bytes.now t.now types.now places.now cells.old slots.old «open».old totals.old fr b.0 tally.sum tally.visits }
+    ensures { VisitEnds bytes.now t.now types.now places.now cells.old slots.old «open».old totals.old fr (visit_statement (module_of bytes.now t.now) (add_function (module_of bytes.now t.now)) (block_in bytes.now t.now fr.function.0) (frame_of cells.old slots.old fr) (state_in bytes.now t.now cells.old slots.old «open».old totals.old fr.function.0 fr.at tally.visits)) result cells.new slots.new «open».new totals.new }
 {
     let f = fr.function;
-    if MAX_VISITS <= visits {
+    if MAX_VISITS <= tally.visits {
         return Err(fr.halt(Refusal::VisitsLimit));
     }
-    if !allowed(cells, slots, fr.at, fr.held, sum) {
+    if !allowed(cells, slots, fr.at, fr.held, tally.sum) {
         return Err(fr.halt(Refusal::PiecesLimit));
     }
     let row = statement(bytes, t, f, fr.statement);
+    let counted = Tally {
+        visits: tally.visits + 1,
+        ..tally
+    };
     let r = add_arm(
-        bytes,
-        t,
-        types,
-        places,
-        cells,
-        slots,
-        open,
-        totals,
-        fr,
-        b,
-        row,
-        visits + 1,
-        sum,
+        bytes, t, types, places, cells, slots, open, totals, fr, b, row, counted,
     );
     end_statement(cells, slots, fr, r)
 }
@@ -209,28 +181,28 @@ fn add_arm(
     fr: Frame,
     b: BlockHandle,
     row: Kinded,
-    visits: usize,
-    sum: usize,
+    tally: Tally,
 ) -> Answered
-    requires { Arms bytes.now t.now types.now places.now cells.old slots.old «open».old totals.old fr b.0 row sum visits }
-    ensures { StatementEnds bytes.now t.now types.now places.now cells.old slots.old «open».old totals.old fr (marked (module_of bytes.now t.now) (frame_of cells.old slots.old fr) (add_statement (module_of bytes.now t.now) (add_function (module_of bytes.now t.now)) (block_in bytes.now t.now fr.function.0) (frame_of cells.old slots.old fr) (statement_of row.kind (operand_at bytes.now row)) (state_in bytes.now t.now cells.old slots.old «open».old totals.old fr.function.0 fr.at visits))) (λ b. b) result cells.new slots.new «open».new totals.new }
+    requires { Arms bytes.now t.now types.now places.now cells.old slots.old «open».old totals.old fr b.0 row tally.sum tally.visits }
+    ensures { StatementEnds bytes.now t.now types.now places.now cells.old slots.old «open».old totals.old fr (marked (module_of bytes.now t.now) (frame_of cells.old slots.old fr) (add_statement (module_of bytes.now t.now) (add_function (module_of bytes.now t.now)) (block_in bytes.now t.now fr.function.0) (frame_of cells.old slots.old fr) (statement_of row.kind (operand_at bytes.now row)) (state_in bytes.now t.now cells.old slots.old «open».old totals.old fr.function.0 fr.at tally.visits))) (λ b. b) result cells.new slots.new «open».new totals.new }
 {
-    let kind = row.kind;
-    if kind == EMIT {
-        return add_emit(bytes, t, places, cells, slots, open, fr, row, visits, sum);
+    match StatementKind::try_from(row.kind) {
+        Ok(StatementKind::Emit) => {
+            add_emit(bytes, t, places, cells, slots, open, fr, row, tally)
+        }
+        Ok(StatementKind::Call) => add_call(
+            bytes, t, types, places, cells, slots, open, totals, fr, b, row, tally,
+        ),
+        Ok(
+            StatementKind::Block | StatementKind::If | StatementKind::Switch | StatementKind::Loop,
+        ) => add_holder(
+            bytes, t, types, places, cells, slots, open, totals, fr, b, row, tally,
+        ),
+        _ => {
+            let r = add_leaf(bytes, t, types, cells, slots, fr, row, tally);
+            mark_statement(t, places, open, fr, row, r)
+        }
     }
-    if kind == CALL {
-        return add_call(
-            bytes, t, types, places, cells, slots, open, totals, fr, b, row, visits, sum,
-        );
-    }
-    if kind < BREAK {
-        return add_holder(
-            bytes, t, types, places, cells, slots, open, totals, fr, b, row, visits, sum,
-        );
-    }
-    let r = add_leaf(bytes, t, types, cells, slots, fr, row, visits, sum);
-    mark_statement(t, places, open, fr, row, r)
 }
 
 // The arm of a statement that holds blocks, with its marks: each takes them by itself, so that no answer of a walk waits beside those of the others.
@@ -247,36 +219,38 @@ fn add_holder(
     fr: Frame,
     b: BlockHandle,
     row: Kinded,
-    visits: usize,
-    sum: usize,
+    tally: Tally,
 ) -> Answered
-    requires arms { Arms bytes.now t.now types.now places.now cells.old slots.old «open».old totals.old fr b.0 row sum visits }
+    requires arms { Arms bytes.now t.now types.now places.now cells.old slots.old «open».old totals.old fr b.0 row tally.sum tally.visits }
     requires le_kind { (1 ≤ row.kind) × (row.kind ≤ 4) }
-    ensures { StatementEnds bytes.now t.now types.now places.now cells.old slots.old «open».old totals.old fr (marked (module_of bytes.now t.now) (frame_of cells.old slots.old fr) (add_statement (module_of bytes.now t.now) (add_function (module_of bytes.now t.now)) (block_in bytes.now t.now fr.function.0) (frame_of cells.old slots.old fr) (statement_of row.kind (operand_at bytes.now row)) (state_in bytes.now t.now cells.old slots.old «open».old totals.old fr.function.0 fr.at visits))) (λ b. b) result cells.new slots.new «open».new totals.new }
+    ensures { StatementEnds bytes.now t.now types.now places.now cells.old slots.old «open».old totals.old fr (marked (module_of bytes.now t.now) (frame_of cells.old slots.old fr) (add_statement (module_of bytes.now t.now) (add_function (module_of bytes.now t.now)) (block_in bytes.now t.now fr.function.0) (frame_of cells.old slots.old fr) (statement_of row.kind (operand_at bytes.now row)) (state_in bytes.now t.now cells.old slots.old «open».old totals.old fr.function.0 fr.at tally.visits))) (λ b. b) result cells.new slots.new «open».new totals.new }
 {
-    let kind = row.kind;
-    if kind == BLOCK {
-        let r = add_nested(
-            bytes, t, types, places, cells, slots, open, totals, fr, b, row, visits, sum,
-        );
-        return mark_statement(t, places, open, fr, row, r);
+    match StatementKind::try_from(row.kind) {
+        Ok(StatementKind::Block) => {
+            let r = add_nested(
+                bytes, t, types, places, cells, slots, open, totals, fr, b, row, tally,
+            );
+            mark_statement(t, places, open, fr, row, r)
+        }
+        Ok(StatementKind::If) => {
+            let r = add_if(
+                bytes, t, types, places, cells, slots, open, totals, fr, b, row, tally,
+            );
+            mark_statement(t, places, open, fr, row, r)
+        }
+        Ok(StatementKind::Switch) => {
+            let r = add_switch(
+                bytes, t, types, places, cells, slots, open, totals, fr, b, row, tally,
+            );
+            mark_statement(t, places, open, fr, row, r)
+        }
+        _ => {
+            let r = add_loop(
+                bytes, t, types, places, cells, slots, open, totals, fr, b, row, tally,
+            );
+            mark_statement(t, places, open, fr, row, r)
+        }
     }
-    if kind == IF {
-        let r = add_if(
-            bytes, t, types, places, cells, slots, open, totals, fr, b, row, visits, sum,
-        );
-        return mark_statement(t, places, open, fr, row, r);
-    }
-    if kind == SWITCH {
-        let r = add_switch(
-            bytes, t, types, places, cells, slots, open, totals, fr, b, row, visits, sum,
-        );
-        return mark_statement(t, places, open, fr, row, r);
-    }
-    let r = add_loop(
-        bytes, t, types, places, cells, slots, open, totals, fr, b, row, visits, sum,
-    );
-    mark_statement(t, places, open, fr, row, r)
 }
 
 // Two blocks one after the other, both from the base in the slots from `base` on. Their contexts are left in the slots from `at` on, and behind them. A statement of the block b holds them.
@@ -298,11 +272,10 @@ pub fn add_pair(
     at: usize,
     held: usize,
     break_required: bool,
-    visits: usize,
-    sum: usize,
+    tally: Tally,
 ) -> Answered
-    requires { Paired bytes.now t.now types.now places.now cells.old slots.old «open».old totals.old f.0 b.0 first.0 second.0 base at held sum visits }
-    ensures { PairEnds bytes.now t.now types.now places.now cells.old slots.old «open».old totals.old f.0 base at held (add_pair (block_in bytes.now t.now f.0) first.0 second.0 held (context_at (read cells.old slots.old) base) break_required (state_in bytes.now t.now cells.old slots.old «open».old totals.old f.0 at visits)) result cells.new slots.new «open».new totals.new }
+    requires { Paired bytes.now t.now types.now places.now cells.old slots.old «open».old totals.old f.0 b.0 first.0 second.0 base at held tally.sum tally.visits }
+    ensures { PairEnds bytes.now t.now types.now places.now cells.old slots.old «open».old totals.old f.0 base at held (add_pair (block_in bytes.now t.now f.0) first.0 second.0 held (context_at (read cells.old slots.old) base) break_required (state_in bytes.now t.now cells.old slots.old «open».old totals.old f.0 at tally.visits)) result cells.new slots.new «open».new totals.new }
 {
     let a = add_block(
         bytes,
@@ -319,8 +292,7 @@ pub fn add_pair(
         at,
         held,
         break_required,
-        visits,
-        sum,
+        tally,
     )?;
     let more = held + weigh(cells, slots, at, 4);
     let c = add_block(
@@ -338,12 +310,11 @@ pub fn add_pair(
         at + 4,
         more,
         break_required,
-        a.tally.visits,
-        a.tally.sum,
+        a.tally,
     )?;
     Ok(Answer {
         tally: c.tally,
-        required: or(a.required, c.required),
+        required: a.required | c.required,
     })
 }
 
@@ -361,12 +332,11 @@ pub fn add_nested(
     fr: Frame,
     b: BlockHandle,
     row: Kinded,
-    visits: usize,
-    sum: usize,
+    tally: Tally,
 ) -> Answered
-    requires arms { Arms bytes.now t.now types.now places.now cells.old slots.old «open».old totals.old fr b.0 row sum visits }
+    requires arms { Arms bytes.now t.now types.now places.now cells.old slots.old «open».old totals.old fr b.0 row tally.sum tally.visits }
     requires kind_value { row.kind ≡ 1 }
-    ensures { StatementEnds bytes.now t.now types.now places.now cells.old slots.old «open».old totals.old fr (add_nested (block_in bytes.now t.now fr.function.0) (frame_of cells.old slots.old fr) (operand_at bytes.now row 0) (state_in bytes.now t.now cells.old slots.old «open».old totals.old fr.function.0 fr.at visits)) StatementReq.BlockStmt result cells.new slots.new «open».new totals.new }
+    ensures { StatementEnds bytes.now t.now types.now places.now cells.old slots.old «open».old totals.old fr (add_nested (block_in bytes.now t.now fr.function.0) (frame_of cells.old slots.old fr) (operand_at bytes.now row 0) (state_in bytes.now t.now cells.old slots.old «open».old totals.old fr.function.0 fr.at tally.visits)) StatementReq.BlockStmt result cells.new slots.new «open».new totals.new }
 {
     let f = fr.function;
     let at = fr.at;
@@ -387,8 +357,7 @@ pub fn add_nested(
         at + 4,
         held,
         fr.break_required,
-        visits,
-        sum,
+        tally,
     )?;
     lower(slots, at);
     Ok(a)
@@ -408,12 +377,11 @@ pub fn add_if(
     fr: Frame,
     b: BlockHandle,
     row: Kinded,
-    visits: usize,
-    sum: usize,
+    tally: Tally,
 ) -> Answered
-    requires arms { Arms bytes.now t.now types.now places.now cells.old slots.old «open».old totals.old fr b.0 row sum visits }
+    requires arms { Arms bytes.now t.now types.now places.now cells.old slots.old «open».old totals.old fr b.0 row tally.sum tally.visits }
     requires kind_value { row.kind ≡ 2 }
-    ensures { StatementEnds bytes.now t.now types.now places.now cells.old slots.old «open».old totals.old fr (add_if (module_of bytes.now t.now) (block_in bytes.now t.now fr.function.0) (frame_of cells.old slots.old fr) (operand_at bytes.now row 0) (operand_at bytes.now row 1) (operand_at bytes.now row 2) (state_in bytes.now t.now cells.old slots.old «open».old totals.old fr.function.0 fr.at visits)) StatementReq.If result cells.new slots.new «open».new totals.new }
+    ensures { StatementEnds bytes.now t.now types.now places.now cells.old slots.old «open».old totals.old fr (add_if (module_of bytes.now t.now) (block_in bytes.now t.now fr.function.0) (frame_of cells.old slots.old fr) (operand_at bytes.now row 0) (operand_at bytes.now row 1) (operand_at bytes.now row 2) (state_in bytes.now t.now cells.old slots.old «open».old totals.old fr.function.0 fr.at tally.visits)) StatementReq.If result cells.new slots.new «open».new totals.new }
 {
     let f = fr.function;
     let at = fr.at;
@@ -437,21 +405,10 @@ pub fn add_if(
         at + 4,
         held,
         fr.break_required,
-        visits,
-        sum,
+        tally,
     )?;
     let condition = expression_operand(bytes, row, 0);
-    end_if(
-        bytes,
-        t,
-        cells,
-        slots,
-        fr,
-        condition,
-        a.required,
-        a.tally.visits,
-        a.tally.sum,
-    )
+    end_if(bytes, t, cells, slots, fr, condition, a.required, a.tally)
 }
 
 // `Switch`: the cases, the last first, joined behind the current context.
@@ -468,19 +425,17 @@ pub fn add_switch(
     fr: Frame,
     b: BlockHandle,
     row: Kinded,
-    visits: usize,
-    sum: usize,
+    began: Tally,
 ) -> Answered
-    requires arms { Arms bytes.now t.now types.now places.now cells.old slots.old «open».old totals.old fr b.0 row sum visits }
+    requires arms { Arms bytes.now t.now types.now places.now cells.old slots.old «open».old totals.old fr b.0 row began.sum began.visits }
     requires kind_value { row.kind ≡ 3 }
-    ensures { StatementEnds bytes.now t.now types.now places.now cells.old slots.old «open».old totals.old fr (add_switch (module_of bytes.now t.now) (block_in bytes.now t.now fr.function.0) (frame_of cells.old slots.old fr) (operand_at bytes.now row 0) (tab (operand_at bytes.now row 1) (case_of (operand_at bytes.now row))) (state_in bytes.now t.now cells.old slots.old «open».old totals.old fr.function.0 fr.at visits)) StatementReq.Switch result cells.new slots.new «open».new totals.new }
+    ensures { StatementEnds bytes.now t.now types.now places.now cells.old slots.old «open».old totals.old fr (add_switch (module_of bytes.now t.now) (block_in bytes.now t.now fr.function.0) (frame_of cells.old slots.old fr) (operand_at bytes.now row 0) (tab (operand_at bytes.now row 1) (case_of (operand_at bytes.now row))) (state_in bytes.now t.now cells.old slots.old «open».old totals.old fr.function.0 fr.at began.visits)) StatementReq.Switch result cells.new slots.new «open».new totals.new }
 {
     let f = fr.function;
     let at = fr.at;
     let outside = fr.held + weigh(cells, slots, at, 4);
     copy_context(slots, at, at + 4);
-    let mut v = visits;
-    let mut m = sum;
+    let mut tally = began;
     let mut any = false;
     for k in (0..operand(bytes, row, 1)).rev() {
         let body = case_body(bytes, row, k);
@@ -500,18 +455,16 @@ pub fn add_switch(
             at + 8,
             held,
             false,
-            v,
-            m,
+            tally,
         )?;
         if end_case(cells, slots, at + 4) {
             return Err(fr.halt(Refusal::PartLimit));
         }
-        v = a.tally.visits;
-        m = a.tally.sum;
-        any = or(any, a.required);
+        tally = a.tally;
+        any |= a.required;
     }
     let selector = expression_operand(bytes, row, 0);
-    end_switch(bytes, t, cells, slots, fr, selector, any, v, m)
+    end_switch(bytes, t, cells, slots, fr, selector, any, tally)
 }
 
 // `Loop`: the first pass, and the turns where it is required.
@@ -528,12 +481,11 @@ pub fn add_loop(
     fr: Frame,
     b: BlockHandle,
     row: Kinded,
-    visits: usize,
-    sum: usize,
+    tally: Tally,
 ) -> Answered
-    requires arms { Arms bytes.now t.now types.now places.now cells.old slots.old «open».old totals.old fr b.0 row sum visits }
+    requires arms { Arms bytes.now t.now types.now places.now cells.old slots.old «open».old totals.old fr b.0 row tally.sum tally.visits }
     requires kind_value { row.kind ≡ 4 }
-    ensures { StatementEnds bytes.now t.now types.now places.now cells.old slots.old «open».old totals.old fr (add_loop (module_of bytes.now t.now) (block_in bytes.now t.now fr.function.0) (frame_of cells.old slots.old fr) (operand_at bytes.now row 0) (operand_at bytes.now row 1) (option_of (operand_at bytes.now row 2)) (state_in bytes.now t.now cells.old slots.old «open».old totals.old fr.function.0 fr.at visits)) StatementReq.Loop result cells.new slots.new «open».new totals.new }
+    ensures { StatementEnds bytes.now t.now types.now places.now cells.old slots.old «open».old totals.old fr (add_loop (module_of bytes.now t.now) (block_in bytes.now t.now fr.function.0) (frame_of cells.old slots.old fr) (operand_at bytes.now row 0) (operand_at bytes.now row 1) (option_of (operand_at bytes.now row 2)) (state_in bytes.now t.now cells.old slots.old «open».old totals.old fr.function.0 fr.at tally.visits)) StatementReq.Loop result cells.new slots.new «open».new totals.new }
 {
     let f = fr.function;
     let at = fr.at;
@@ -557,39 +509,16 @@ pub fn add_loop(
         at + 4,
         held,
         false,
-        visits,
-        sum,
+        tally,
     )?;
     if !a.required {
         drop_both(slots, at);
         return Ok(a);
     }
-    let break_if = expression_operand(bytes, row, 2);
-    let left = end_pass(
-        bytes,
-        t,
-        cells,
-        slots,
-        fr,
-        break_if,
-        a.tally.visits,
-        a.tally.sum,
-    )?;
+    let break_if = optional_expression(bytes, row, 2);
+    let left = end_pass(bytes, t, cells, slots, fr, break_if, a.tally)?;
     add_turns(
-        bytes,
-        t,
-        types,
-        places,
-        cells,
-        slots,
-        open,
-        totals,
-        fr,
-        b,
-        body,
-        continuing,
-        left.visits,
-        left.sum,
+        bytes, t, types, places, cells, slots, open, totals, fr, b, body, continuing, left,
     )
 }
 
@@ -608,17 +537,15 @@ fn add_turns(
     b: BlockHandle,
     body: BlockHandle,
     continuing: BlockHandle,
-    visits: usize,
-    sum: usize,
+    began: Tally,
 ) -> Answered
-    requires { Turning bytes.now t.now types.now places.now cells.old slots.old «open».old totals.old fr b.0 body.0 continuing.0 sum visits }
-    ensures { StatementEnds bytes.now t.now types.now places.now cells.old slots.old «open».old totals.old fr (turns (block_in bytes.now t.now fr.function.0) (frame_of cells.old slots.old fr) (fr.held + context_in cells.old slots.old fr.at + context_in cells.old slots.old (fr.at + 4)) body.0 continuing.0 (context_at (read cells.old slots.old) (fr.at + 4)) max_turns (state_in bytes.now t.now cells.old slots.old «open».old totals.old fr.function.0 (fr.at + 4) visits)) StatementReq.Loop result cells.new slots.new «open».new totals.new }
+    requires { Turning bytes.now t.now types.now places.now cells.old slots.old «open».old totals.old fr b.0 body.0 continuing.0 began.sum began.visits }
+    ensures { StatementEnds bytes.now t.now types.now places.now cells.old slots.old «open».old totals.old fr (turns (block_in bytes.now t.now fr.function.0) (frame_of cells.old slots.old fr) (fr.held + context_in cells.old slots.old fr.at + context_in cells.old slots.old (fr.at + 4)) body.0 continuing.0 (context_at (read cells.old slots.old) (fr.at + 4)) max_turns (state_in bytes.now t.now cells.old slots.old «open».old totals.old fr.function.0 (fr.at + 4) began.visits)) StatementReq.Loop result cells.new slots.new «open».new totals.new }
 {
     let f = fr.function;
     let at = fr.at;
     let held = fr.held + weigh(cells, slots, at, 4) + weigh(cells, slots, at + 4, 4);
-    let mut v = visits;
-    let mut m = sum;
+    let mut tally = began;
     for left in (0..MAX_TURNS).rev() {
         let a = add_pair(
             bytes,
@@ -637,16 +564,14 @@ fn add_turns(
             at + 8,
             held,
             true,
-            v,
-            m,
+            tally,
         )?;
-        v = a.tally.visits;
-        m = a.tally.sum;
+        tally = a.tally;
         match end_turn(cells, slots, at) {
             Turn::Over => return Err(fr.halt(Refusal::PartLimit)),
             Turn::Settled => {
                 return Ok(Answer {
-                    tally: a.tally,
+                    tally,
                     required: true,
                 });
             }
@@ -670,18 +595,21 @@ pub fn add_call(
     fr: Frame,
     b: BlockHandle,
     row: Kinded,
-    visits: usize,
-    sum: usize,
+    tally: Tally,
 ) -> Answered
-    requires arms { Arms bytes.now t.now types.now places.now cells.old slots.old «open».old totals.old fr b.0 row sum visits }
+    requires arms { Arms bytes.now t.now types.now places.now cells.old slots.old «open».old totals.old fr b.0 row tally.sum tally.visits }
     requires kind_value { row.kind ≡ 14 }
-    ensures { StatementEnds bytes.now t.now types.now places.now cells.old slots.old «open».old totals.old fr (marked (module_of bytes.now t.now) (frame_of cells.old slots.old fr) (add_statement (module_of bytes.now t.now) (add_function (module_of bytes.now t.now)) (block_in bytes.now t.now fr.function.0) (frame_of cells.old slots.old fr) (statement_of row.kind (operand_at bytes.now row)) (state_in bytes.now t.now cells.old slots.old «open».old totals.old fr.function.0 fr.at visits))) (λ b. b) result cells.new slots.new «open».new totals.new }
+    ensures { StatementEnds bytes.now t.now types.now places.now cells.old slots.old «open».old totals.old fr (marked (module_of bytes.now t.now) (frame_of cells.old slots.old fr) (add_statement (module_of bytes.now t.now) (add_function (module_of bytes.now t.now)) (block_in bytes.now t.now fr.function.0) (frame_of cells.old slots.old fr) (statement_of row.kind (operand_at bytes.now row)) (state_in bytes.now t.now cells.old slots.old «open».old totals.old fr.function.0 fr.at tally.visits))) (λ b. b) result cells.new slots.new «open».new totals.new }
 {
     let f = fr.function;
     let at = fr.at;
     let g = function_operand(bytes, row, 0);
-    let begun = begin_call(bytes, t, places, cells, slots, open, fr, row, sum);
+    let begun = begin_call(bytes, t, places, cells, slots, open, fr, row, tally.sum);
     let own = begun.own;
+    let others = Tally {
+        sum: tally.sum - own,
+        ..tally
+    };
     let a = add_function(
         bytes,
         t,
@@ -695,10 +623,9 @@ pub fn add_call(
         at + 4,
         Place::Statement(f, fr.statement),
         begun.held,
-        visits,
-        sum - own,
+        others,
     )?;
-    let left = leave_call(t, cells, slots, g, at, a.tally.sum + own);
+    let sum = leave_call(t, cells, slots, g, at, a.tally.sum + own);
     return_call(
         bytes,
         t,
@@ -709,7 +636,6 @@ pub fn add_call(
         fr,
         row,
         a.required,
-        a.tally.visits,
-        left,
+        Tally { sum, ..a.tally },
     )
 }

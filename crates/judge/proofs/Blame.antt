@@ -1,8 +1,9 @@
 -- Each expression by its kind's group, and the lowest expression and statement that fail.
 use Prim.Native.Nat.{ℕ, zero, suc, ◌+◌, ◌-◌, ◌<◌, ◌≤◌}
 use native.Mathlib.Omega.{arith}
-use native.Mathlib.Decide.{ℕ_discrete}
+use native.Mathlib.Decide.{ℕ_discrete, dec_lt}
 use mathlib.Core.Path.{◌≡◌, refl, sym, ap, ◌∙◌}
+use mathlib.Core.Logic.{◌⊎◌, inl, inr}
 use mathlib.Core.Bool.{Bool, true, false, ◌||◌, and-true, and-false}
 use mathlib.Core.List.{List, [], ◌∷◌}
 use mathlib.Core.Option.{Option, some, none as nothing}
@@ -26,9 +27,22 @@ use Rattle.judge.proofs.ValueRows.{Each}
 use Rattle.judge.proofs.Unsized.{held_either}
 use Rattle.judge.proofs.Operands.{S, type_low, G, o, by-kind}
 
--- kinds that need no operand
-module _ (S : Scope) (e : ℕ) (o : ℕ → ℕ) where
-  late_kinds : (j : ℕ) → j ≤ 8 → false ≡ fits_expression S e (expression_of (past 23 j) o)
+module _ {bytes t : List ℕ} {f : ℕ} {types alike paths : List ℕ} {e : ℕ} {row : Kinded} (R : Row bytes t f types alike paths e row) where
+  -- a literal, a zero value or a constant
+  pub fits_fixed : {v : Bool} → (row.kind ≡ 0) ⊎ ((row.kind ≡ 1) ⊎ (row.kind ≡ 5)) → v ≡ is_value (S (G R)) e → Fits bytes t f e v
+  unfolding expression_of fits_expression
+  fits_fixed (inl h) q = by-kind R 0 h q
+  fits_fixed (inr (inl h)) q = by-kind R 1 h q
+  fits_fixed (inr (inr h)) q = by-kind R 5 h q
+
+  last_kind : (j : ℕ) → is_value (S (G R)) e ≡ fits_expression (S (G R)) e (expression_of (past 32 j) (o R))
+  unfolding expression_of fits_expression
+  last_kind j = refl
+
+  pub fits_last : {v : Bool} → 31 < row.kind → v ≡ is_value (S (G R)) e → Fits bytes t f e v
+  fits_last h q = by-kind R (past 32 (row.kind - 32)) (omega arith) (q ∙ last_kind (row.kind - 32))
+
+  late_kinds : (j : ℕ) → j ≤ 8 → false ≡ fits_expression (S (G R)) e (expression_of (past 23 j) (o R))
   unfolding expression_of fits_expression
   late_kinds zero l = refl
   late_kinds (suc zero) l = refl
@@ -41,43 +55,29 @@ module _ (S : Scope) (e : ℕ) (o : ℕ → ℕ) where
   late_kinds (suc (suc (suc (suc (suc (suc (suc (suc zero)))))))) l = refl
   late_kinds (suc (suc (suc (suc (suc (suc (suc (suc (suc j))))))))) l = absurd (omega arith)
 
-  image_kinds : (j : ℕ) → j ≤ 2 → false ≡ fits_expression S e (expression_of (past 13 j) o)
+  image_kinds : (j : ℕ) → j ≤ 2 → false ≡ fits_expression (S (G R)) e (expression_of (past 13 j) (o R))
   unfolding expression_of fits_expression
   image_kinds zero l = refl
   image_kinds (suc zero) l = refl
   image_kinds (suc (suc zero)) l = refl
   image_kinds (suc (suc (suc j))) l = absurd (omega arith)
 
-  last_kinds : (j : ℕ) → is_value S e ≡ fits_expression S e (expression_of (past 32 j) o)
+  uniform_kind : row.kind ≡ 2 → Fits bytes t f e false
   unfolding expression_of fits_expression
-  last_kinds j = refl
+  uniform_kind h = by-kind R 2 h refl
 
-  first_kinds : (j : ℕ) → j ≤ 1 → is_value S e ≡ fits_expression S e (expression_of j o)
-  unfolding expression_of fits_expression
-  first_kinds zero l = refl
-  first_kinds (suc zero) l = refl
-  first_kinds (suc (suc j)) l = absurd (omega arith)
-
-module _ {bytes t : List ℕ} {f : ℕ} {types alike paths : List ℕ} {e : ℕ} {row : Kinded} (R : Row bytes t f types alike paths e row) {v : Bool} (value : v ≡ is_value (S (G R)) e) where
-  pub fits_last : 31 < row.kind → Fits bytes t f e v
-  fits_last h = by-kind R (past 32 (row.kind - 32)) (omega arith) (value ∙ last_kinds (S (G R)) e (o R) (row.kind - 32))
-
-  pub fits_late : 22 < row.kind → row.kind ≤ 31 → Fits bytes t f e false
-  fits_late h l = by-kind R (past 23 (row.kind - 23)) (omega arith) (late_kinds (S (G R)) e (o R) (row.kind - 23) (omega arith))
-
-  pub fits_image : 12 < row.kind → row.kind ≤ 15 → Fits bytes t f e false
-  fits_image h l = by-kind R (past 13 (row.kind - 13)) (omega arith) (image_kinds (S (G R)) e (o R) (row.kind - 13) (omega arith))
-
-  pub fits_constant : row.kind ≡ 5 → Fits bytes t f e v
-  unfolding expression_of fits_expression
-  fits_constant h = by-kind R 5 h value
-
-  pub fits_uniform : row.kind ≡ 2 → Fits bytes t f e false
-  unfolding expression_of fits_expression
-  fits_uniform h = by-kind R 2 h refl
-
-  pub fits_first : row.kind ≤ 2 → (row.kind ≡ 2 → ⊥) → Fits bytes t f e v
-  fits_first h n = by-kind R row.kind refl (value ∙ first_kinds (S (G R)) e (o R) row.kind (omega arith))
+  -- what no group has: the result of a uniform load, images, and the last kinds
+  pub fits_unjudged : 1 < row.kind → (2 < row.kind → 12 < row.kind) → (15 < row.kind → 22 < row.kind) → row.kind ≤ 31 → Fits bytes t f e false
+  fits_unjudged a b c d =
+      elim (ℕ_discrete row.kind 2) [
+        | yes h ↦ uniform_kind h
+        | no n ↦
+            let past_named : 12 < row.kind = b (omega arith) in
+            elim (dec_lt 15 row.kind) [
+              | yes l ↦ let past_operators : 22 < row.kind = c l in by-kind R (past 23 (row.kind - 23)) (omega arith) (late_kinds (row.kind - 23) (omega arith))
+              | no l ↦ by-kind R (past 13 (row.kind - 13)) (omega arith) (image_kinds (row.kind - 13) (omega arith))
+            ]
+      ]
 
 -- judged: it fits, and neither its type nor its pointee holds an unsized array
 module _ {bytes t : List ℕ} {f : ℕ} {types alike paths : List ℕ} (given : Given bytes t f types alike paths) {held : List ℕ} (U : UnsizedTable (types_of types) held) (e : ℕ) (there : e < length (function_of bytes t f).expressions) {a : ℕ} {w : Bool} (own : a ≡ type_of (S given) e) (entry : w ≡ marked held a || pointee_holds (marked held) (get_or (types_of types) a Opaque)) where

@@ -1,8 +1,10 @@
 -- Splat, Swizzle and Compose: letters, components, and the parts that they stand for.
 use Prim.Native.Nat.{ℕ, zero, suc, ◌+◌, ◌*◌, ◌<◌, ◌≤◌}
 use native.Mathlib.Omega.{arith}
+use native.Mathlib.Decide.{ℕ_discrete}
 use native.Mathlib.Numerals.{add-one}
 use mathlib.Core.Path.{◌≡◌, refl, sym, ap, ◌∙◌}
+use mathlib.Core.Logic.{◌⊎◌, inl, inr}
 use mathlib.Core.Bool.{Bool, true, false, ◌&&◌, ◌||◌, and-false}
 use mathlib.Core.List.{List, [], ◌∷◌, ◌++◌}
 use lib.Dec.{ltb, eqb}
@@ -22,7 +24,7 @@ use Rattle.judge.specs.Given.{Row, Fits}
 use Rattle.judge.proofs.TypeRows.{number, row_is}
 use Rattle.judge.proofs.ShapeRows.{alike_same, inner_is, lower_in, number_is, vector_is, other}
 use Rattle.judge.proofs.ValueRows.{Each, each_next, each_fails, each_all, every-last}
-use Rattle.judge.proofs.Operands.{S, n, type_low, G, o, operands, by-kind, step, between}
+use Rattle.judge.proofs.Operands.{S, n, type_low, G, o, operands, by-kind}
 
 -- letters
 module _ (p : ℕ → ℕ) (n : ℕ) where
@@ -234,10 +236,10 @@ module _ {bytes t : List ℕ} {f : ℕ} {types alike paths : List ℕ} {e : ℕ}
   p = R.given.values.same
 
   -- Splat
-  pub fits_splat : {x a b k l : ℕ} {v m r : Bool} → row.kind ≡ 6 → x ≡ o R 0 → a ≡ type_of T x → b ≡ type_of T e → k ≡ number (get_or (types_of types) a Opaque) → l ≡ number (get_or (types_of types) b Opaque) → m ≡ eqb k 0 && eqb l 1 → v ≡ is_value T x → r ≡ v && m → Fits bytes t f e r
+  pub fits_splat : {r : Bool} → row.kind ≡ 6 → r ≡ is_value T (o R 0) && (eqb (number (get_or (types_of types) (type_of T (o R 0)) Opaque)) 0 && eqb (number (get_or (types_of types) (type_of T e) Opaque)) 1) → Fits bytes t f e r
   unfolding expression_of fits_expression inner_of is_kind
-  fits_splat {a = a} {b = b} h at ta tb k l m v q =
-      by-kind R 6 h (q ∙ rw (m, v, number_is types T p a k, number_is types T p b l, ta, tb, at))
+  fits_splat h q =
+      by-kind R 6 h (q ∙ rw (number_is types T p (type_of T (o R 0)) refl, number_is types T p (type_of T e) refl))
 
   -- Swizzle
   pub few_letters : row.kind ≡ 7 → o R 1 ≤ 4
@@ -250,10 +252,10 @@ module _ {bytes t : List ℕ} {f : ℕ} {types alike paths : List ℕ} {e : ℕ}
     swizzle_other d =
         by-kind R 7 h (sym (rw (← at, ← ta, no_size (inner T a) (λ size. every (λ i. ltb i size) (tab (o R 1) (λ i. o R (2 + i))) && fits T (Vector (length (tab (o R 1) (λ i. o R (2 + i))))) (type_of T e)) (other types T p a e1 d)) (and-false (is_value T x))))
 
-    pub fits-swizzle : {w c b : ℕ} {s u v m r : Bool} → k ≡ 1 → w ≡ type_word types a 1 → s ≡ every (λ i. ltb i w) (tab (o R 1) (λ i. o R (2 + i))) → c ≡ o R 1 → b ≡ type_of T e → u ≡ same T (Vector c) (inner T b) → v ≡ is_value T x → m ≡ s && u → r ≡ v && m → Fits bytes t f e r
+    pub fits-swizzle : {r : Bool} → k ≡ 1 → r ≡ is_value T x && (every (λ i. ltb i (type_word types a 1)) (tab (o R 1) (λ i. o R (2 + i))) && same T (Vector (o R 1)) (inner T (type_of T e))) → Fits bytes t f e r
     unfolding expression_of fits_expression inner_of fits same has_vector_size
-    fits-swizzle d w s c b u v m q =
-        by-kind R 7 h (q ∙ rw (m, v, s, u, b, c, ← at, ← ta, vector_is types T p a e1 d, ← w, length-tab (o R 1) (λ i. o R (2 + i))))
+    fits-swizzle d q =
+        by-kind R 7 h (q ∙ rw (← at, ← ta, vector_is types T p a e1 d, length-tab (o R 1) (λ i. o R (2 + i))))
 
   -- Compose
   module _ (h : row.kind ≡ 8) {v : Bool} (values : v ≡ every (is_value T) (tab (o R 0) (λ i. o R (1 + i)))) {a k : ℕ} (ta : a ≡ type_of T e) (e1 : k ≡ number (get_or (types_of types) a Opaque)) where
@@ -267,25 +269,32 @@ module _ {bytes t : List ℕ} {f : ℕ} {types alike paths : List ℕ} {e : ℕ}
     unfolding expression_of fits_expression inner_of
     composed s q = by-kind R 8 h (q ∙ rw (values, s, ta))
 
-    pub compose_vector : {w : ℕ} {s r : Bool} → k ≡ 1 → w ≡ type_word types a 1 → s ≡ every (λ c. is_scalar (inner_of T c) || is_vector (inner_of T c)) (tab (o R 0) g) && eqb (count_components T (tab (o R 0) g)) w → r ≡ v && s → Fits bytes t f e r
+    pub compose_vector : {r : Bool} → k ≡ 1 → r ≡ v && (every (λ c. is_scalar (inner_of T c) || is_vector (inner_of T c)) (tab (o R 0) g) && eqb (count_components T (tab (o R 0) g)) (type_word types a 1)) → Fits bytes t f e r
     unfolding fits_compose
-    compose_vector d w s q = composed (s ∙ rw (vector_is types T p a e1 d, w)) q
-
-    pub compose_wrong : {c m : ℕ} → c ≡ part_count (get_or (types_of types) a Opaque) → m ≡ o R 0 → (c ≡ m → ⊥) → (k ≡ 1 → ⊥) → Fits bytes t f e false
-    compose_wrong c m d n =
-        composed (compose_differs T L (o R 0) g (inner T a) (λ q. d (c ∙ (ap part_count (sym (inner_is types T p a)) ∙ (q ∙ sym m)))) (other types T p a e1 n))
-        (sym (and-false v))
+    compose_vector d q = composed (rw (vector_is types T p a e1 d)) q
 
     pub compose_none : (k ≡ 1 → ⊥) → (k ≡ 2 → ⊥) → (k ≡ 5 → ⊥) → (k ≡ 6 → ⊥) → Fits bytes t f e false
     compose_none x y z u =
         composed (compose_other T L (o R 0) g (inner T a) (other types T p a e1 x) (other types T p a e1 y) (other types T p a e1 z) (other types T p a e1 u))
         (sym (and-false v))
 
-    -- a matrix (2), an array (5) or a struct (6)
-    pub compose_as : {c m : ℕ} {s r : Bool} (x : ℕ) → c ≡ part_count (get_or (types_of types) a Opaque) → m ≡ o R 0 → c ≡ m → s ≡ every (λ i. same_part T (part_type T (inner T a) i) (inner_of T (g i))) (tab (o R 0) (λ i. i)) → r ≡ v && s → k ≡ x → (x ≡ 0 → ⊥) → (x ≡ 1 → ⊥) → (x ≡ 3 → ⊥) → (x ≡ 4 → ⊥) → (x ≡ 7 → ⊥) → (x ≡ 8 → ⊥) → Fits bytes t f e r
-    compose_as x c m d s q i x0 x1 x3 x4 x7 x8 =
+    -- a matrix, an array or a struct: as many parts as components, each of its component's shape
+    abbrev parts_agree : ℕ → Bool
+    parts_agree c = eqb c (o R 0) && every (λ i. same_part T (part_type T (inner T a) i) (inner_of T (g i))) (tab (o R 0) (λ i. i))
+
+    compose_of : {r : Bool} (x : ℕ) → k ≡ x → (x ≡ 0 → ⊥) → (x ≡ 1 → ⊥) → (x ≡ 3 → ⊥) → (x ≡ 4 → ⊥) → (x ≡ 7 → ⊥) → (x ≡ 8 → ⊥) → r ≡ v && parts_agree (part_count (get_or (types_of types) a Opaque)) → Fits bytes t f e r
+    compose_of x i x0 x1 x3 x4 x7 x8 q =
         let z = sym i ∙ number_is types T p a e1 in
-        composed (s ∙ compose_parts T L (o R 0) g (inner T a) (sym (c ∙ ap part_count (sym (inner_is types T p a))) ∙ (d ∙ m)) (λ j. x0 (z ∙ j)) (λ j. x1 (z ∙ j)) (λ j. x3 (z ∙ j)) (λ j. x4 (z ∙ j)) (λ j. x7 (z ∙ j)) (λ j. x8 (z ∙ j))) q
+        let c = ap part_count (sym (inner_is types T p a)) in
+        elim (ℕ_discrete (part_count (get_or (types_of types) a Opaque)) (o R 0)) [
+          | yes d ↦ composed (compose_parts T L (o R 0) g (inner T a) (sym c ∙ d) (λ j. x0 (z ∙ j)) (λ j. x1 (z ∙ j)) (λ j. x3 (z ∙ j)) (λ j. x4 (z ∙ j)) (λ j. x7 (z ∙ j)) (λ j. x8 (z ∙ j))) (q ∙ rw (eq-eqb (part_count (get_or (types_of types) a Opaque)) (o R 0) d))
+          | no d ↦ composed (compose_differs T L (o R 0) g (inner T a) (λ j. d (c ∙ j)) (other types T p a e1 (λ j. x1 (sym i ∙ j)))) (q ∙ rw (ne_eqb (part_count (get_or (types_of types) a Opaque)) (o R 0) d))
+        ]
+
+    pub compose_as : {r : Bool} → (k ≡ 2) ⊎ ((k ≡ 5) ⊎ (k ≡ 6)) → r ≡ v && parts_agree (part_count (get_or (types_of types) a Opaque)) → Fits bytes t f e r
+    compose_as (inl h) q = compose_of 2 h (λ j. omega arith) (λ j. omega arith) (λ j. omega arith) (λ j. omega arith) (λ j. omega arith) (λ j. omega arith) q
+    compose_as (inr (inl h)) q = compose_of 5 h (λ j. omega arith) (λ j. omega arith) (λ j. omega arith) (λ j. omega arith) (λ j. omega arith) (λ j. omega arith) q
+    compose_as (inr (inr h)) q = compose_of 6 h (λ j. omega arith) (λ j. omega arith) (λ j. omega arith) (λ j. omega arith) (λ j. omega arith) (λ j. omega arith) q
 
     pub own_low : a < length (types_of types)
     own_low = omega (arith, ta, type_low (G R) e R.there)
@@ -301,6 +310,3 @@ module _ {bytes t : List ℕ} {f : ℕ} {types alike paths : List ℕ} {e : ℕ}
       let below = operands R 8 h i (omega (arith, length-tab (o R 0) (λ i. o R (1 + i)))) in
       let low : c < n (G R) = omega (arith, R.there, at, get_d_tab (o R 0) (λ i. o R (1 + i)) i 0 (omega arith)) in
       omega (arith, tb, type_low (G R) c low)
-
-pub compose_left : {k : ℕ} → 6 ≤ k → k ≤ 8 → (k ≡ 7 → ⊥) → (k ≡ 6 → ⊥) → k ≡ 8
-compose_left l m a b = between 8 (step 7 (step 6 l b) a) m

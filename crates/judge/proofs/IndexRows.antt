@@ -2,7 +2,7 @@
 use Prim.Native.Nat.{ℕ, ◌<◌, ◌≤◌}
 use native.Mathlib.Omega.{arith}
 use native.Mathlib.Decide.{ℕ_discrete}
-use mathlib.Core.Path.{◌≡◌, refl, ◌∙◌}
+use mathlib.Core.Path.{◌≡◌, ◌∙◌}
 use mathlib.Core.Bool.{Bool, true, false, ◌&&◌}
 use mathlib.Core.List.{List}
 use lib.ListN.{length}
@@ -25,10 +25,6 @@ module _ (S : Scope) (kind i : ℕ) (x y : TypeInner) {r : Bool} where
   pub index_constant : (kind ≡ 4 → ⊥) → r ≡ same_part S (part_type S x i) y → r ≡ same_part S (indexed S kind i x) y
   unfolding indexed
   index_constant h q = rw (ne_eqb kind 4 h) q
-
-and_assoc : (a b c : Bool) → (a && b) && c ≡ a && (b && c)
-and_assoc true b c = refl
-and_assoc false b c = refl
 
 module _ {bytes t : List ℕ} {f : ℕ} {types alike paths : List ℕ} {e : ℕ} {row : Kinded} (R : Row bytes t f types alike paths e row) (low : 3 ≤ row.kind) (high : row.kind ≤ 4) where
   base_below : o R 0 < e
@@ -54,14 +50,13 @@ module _ {bytes t : List ℕ} {f : ℕ} {types alike paths : List ℕ} {e : ℕ}
           let p = R.given.values.same in
           q ∙ rw (P.is (S (G R)) p, Q.is (S (G R)) p, ta, tb, ← at, ← by, ← path, h)
 
-      pub base_value : {v u m s r : Bool} → w ≡ false → v ≡ is_value (S (G R)) x → u ≡ is_value (S (G R)) e → m ≡ v && u → s ≡ same_part (S (G R)) (indexed (S (G R)) row.kind i (inner (S (G R)) a)) (inner (S (G R)) b) → r ≡ m && s → r ≡ fits_base (S (G R)) bytes row e
+      pub base_value : {r : Bool} → w ≡ false → r ≡ is_value (S (G R)) x && (is_value (S (G R)) e && same_part (S (G R)) (indexed (S (G R)) row.kind i (inner (S (G R)) a)) (inner (S (G R)) b)) → r ≡ fits_base (S (G R)) bytes row e
       unfolding fits_index inner_of
-      base_value {v} {u} {m} {s} h e1 e2 e3 e4 q =
-          q ∙ rw (e3, and_assoc v u s, e4, ta, tb, e1, e2, ← at, ← by, ← path, h)
+      base_value h q = q ∙ rw (ta, tb, ← at, ← by, ← path, h)
 
-  pub fits_access : {x : ℕ} {v s r : Bool} → row.kind ≡ 4 → s ≡ fits_base (S (G R)) bytes row e → x ≡ o R 1 → v ≡ is_value (S (G R)) x → r ≡ v && s → Fits bytes t f e r
+  pub fits_access : {s r : Bool} → row.kind ≡ 4 → s ≡ fits_base (S (G R)) bytes row e → r ≡ is_value (S (G R)) (o R 1) && s → Fits bytes t f e r
   unfolding expression_of fits_expression indexed
-  fits_access h s at v q = by-kind R 4 h (q ∙ rw (s, v, at, h))
+  fits_access h s q = by-kind R 4 h (q ∙ rw (s, h))
 
   pub fits_constant : {r : Bool} → (row.kind ≡ 4 → ⊥) → r ≡ fits_base (S (G R)) bytes row e → Fits bytes t f e r
   unfolding expression_of fits_expression indexed

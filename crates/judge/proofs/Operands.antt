@@ -2,12 +2,13 @@
 use Prim.Native.Nat.{ℕ, zero, suc, ◌+◌, ◌<◌, ◌≤◌}
 use native.Mathlib.Omega.{arith}
 use mathlib.Core.Path.{◌≡◌, refl, sym, ap, subst, ◌∙◌}
-use mathlib.Core.Bool.{Bool, false, not, ◌&&◌, and-true}
+use mathlib.Core.Logic.{◌⊎◌, inl, inr}
+use mathlib.Core.Bool.{Bool, false, not, ◌&&◌}
 use mathlib.Core.List.{List, [], ◌∷◌}
 use lib.ListN.{length, get_or}
 use borrow.Author.Tests.{ne_eqb}
 use Rattle.module.specs.Module.{Typed, FunctionArg, Function, Opaque}
-use Rattle.module.specs.Decode.{option_of, expression_of}
+use Rattle.module.specs.Decode.{expression_of}
 use Rattle.module.specs.Tables.{function_of, module_of}
 use Rattle.access.specs.declared.kinded.Kinded.{Kinded}
 use Rattle.access.specs.declared.whole.Bound.{Bound}
@@ -17,7 +18,7 @@ use Rattle.valid.specs.Valid.{OperandsBelow, NamesBelow, ExpressionValid}
 use Rattle.valid.proofs.Accepted.{valid}
 use Rattle.context.specs.Types.{types_of}
 use Rattle.clearance.specs.Scope.{Scope, inner, is_kind, is_pointer, alike as alike_in, no_expression, typed, type_of, inner_of, argument_type, is_path}
-use Rattle.clearance.specs.Judged.{every, presently, pointee_type, pointee, same, is_value, fits_variable, fits_expression}
+use Rattle.clearance.specs.Judged.{pointee_type, pointee, same, is_value, fits_variable, fits_expression}
 use Rattle.judge.specs.Alike.{by_table}
 use Rattle.judge.specs.Shapes.{Shapes, Pointee}
 use Rattle.judge.specs.Given.{scope_at, Given, Row, Fits}
@@ -64,6 +65,9 @@ module _ {bytes t : List ℕ} {f : ℕ} {types alike paths : List ℕ} (G : Give
   alike-types x y l m h k q =
       q ∙ (rw (h, k) (G.shapes.table.is S G.values.same (type_of S x) (type_of S y) (type_low x l) (type_low y m)))
 
+  pub alike_of : (x y : ℕ) → x < n → y < n → by_table alike (type_of S x) (type_of S y) ≡ alike_in S (type_of S x) (type_of S y)
+  alike_of x y l m = alike-types x y l m refl refl refl
+
   -- a path and what it leads to
   pub leads : (p v : ℕ) {a b c : ℕ} {w s r : Bool} → p < n → v < n → a ≡ type_of S p → Pointee types a c → w ≡ is_path S p → b ≡ type_of S v → s ≡ by_table alike c b → r ≡ w && s → r ≡ is_path S p && same S (pointee S p) (inner_of S v)
   unfolding pointee inner_of
@@ -98,50 +102,18 @@ module _ {bytes t : List ℕ} {f : ℕ} {types alike paths : List ℕ} {e : ℕ}
   pub by-kind : {r : Bool} (k : ℕ) → row.kind ≡ k → r ≡ fits_expression (S G) e (expression_of k o) → Fits bytes t f e r
   by-kind k h q = q ∙ ap (fits_expression (S G) e) (sym (expression-of bytes t f e k row R.is h))
 
-  -- operators
-  module _ {v : Bool} (own : v ≡ is_value (S G) e) {x : ℕ} (at : x ≡ o 0) {w : Bool} (first : w ≡ is_value (S G) x) where
-    pub fits_relational : {r : Bool} → row.kind ≡ 20 → r ≡ v && w → Fits bytes t f e r
-    unfolding expression_of fits_expression
-    fits_relational h q = by-kind 20 h (q ∙ rw (own, first, at))
-
-    pub fits_binary : {y : ℕ} {u m r : Bool} → row.kind ≡ 17 → y ≡ o 1 → u ≡ is_value (S G) y → m ≡ w && u → r ≡ v && m → Fits bytes t f e r
-    unfolding expression_of fits_expression
-    fits_binary h z u m q = by-kind 17 h (q ∙ rw (own, m, first, at, u, z))
-
-    module _ {a b : ℕ} {u m r : Bool} (ta : a ≡ type_of (S G) x) (tb : b ≡ type_of (S G) e) (s : u ≡ by_table alike a b) (both : m ≡ w && u) (all : r ≡ v && m) where
-      same_operand : o 0 < e → r ≡ is_value (S G) e && (is_value (S G) (o 0) && alike_in (S G) (type_of (S G) (o 0)) (type_of (S G) e))
-      same_operand l =
-          let z = alike-types G x e (omega (arith, R.there)) R.there ta tb s in
-          all ∙ rw (both, own, first, z, at)
-
-      pub fits_unary : row.kind ≡ 16 → Fits bytes t f e r
-      unfolding expression_of fits_expression
-      fits_unary h = by-kind 16 h (same_operand (operands 16 h))
-
-      pub fits_as : row.kind ≡ 22 → Fits bytes t f e r
-      unfolding expression_of fits_expression
-      fits_as h = by-kind 22 h (same_operand (operands 22 h))
-
-  pub fits_derivative : row.kind ≡ 19 → Fits bytes t f e false
+  -- a unary operator or a conversion: what is compared by the table
+  pub unary_fits : {r : Bool} → (row.kind ≡ 16) ⊎ (row.kind ≡ 22) → (by_table alike (type_of (S G) (o 0)) (type_of (S G) e) ≡ alike_in (S G) (type_of (S G) (o 0)) (type_of (S G) e) → r ≡ is_value (S G) e && (is_value (S G) (o 0) && alike_in (S G) (type_of (S G) (o 0)) (type_of (S G) e))) → Fits bytes t f e r
   unfolding expression_of fits_expression
-  fits_derivative h = by-kind 19 h refl
+  unary_fits (inl h) q = by-kind 16 h (q (alike_of G (o 0) e (omega (arith, R.there, operands 16 h)) R.there))
+  unary_fits (inr h) q = by-kind 22 h (q (alike_of G (o 0) e (omega (arith, R.there, operands 22 h)) R.there))
 
-  pub fits-math : {x x1 x2 x3 : ℕ} {v w w1 w2 w3 m1 m2 m3 r : Bool} → row.kind ≡ 21 → x ≡ o 0 → x1 ≡ o 1 → x2 ≡ o 2 → x3 ≡ o 3
-      → w1 ≡ presently (is_value (S G)) (option_of x1) → w2 ≡ presently (is_value (S G)) (option_of x2) → w3 ≡ presently (is_value (S G)) (option_of x3)
-      → w ≡ is_value (S G) x → v ≡ is_value (S G) e → m1 ≡ w2 && w3 → m2 ≡ w1 && m1 → m3 ≡ w && m2 → r ≡ v && m3 → Fits bytes t f e r
-  unfolding expression_of fits_expression
-  fits-math h a b c d p q s u v k l m n = by-kind 21 h (n ∙ rw (m, l, k, v, u, p, q, s, a, b, c, d))
-
-  pub fits-select : {x y z a b c : ℕ} {v w w1 w2 s1 s2 m1 m2 m3 m4 r : Bool} → row.kind ≡ 18 → x ≡ o 0 → y ≡ o 1 → z ≡ o 2
-      → c ≡ type_of (S G) e → a ≡ type_of (S G) y → s1 ≡ by_table alike a c → b ≡ type_of (S G) z → s2 ≡ by_table alike b c
-      → w ≡ is_value (S G) x → w1 ≡ is_value (S G) y → w2 ≡ is_value (S G) z → m1 ≡ w1 && w2 → v ≡ is_value (S G) e → m2 ≡ w && m1 → m3 ≡ s1 && s2 → m4 ≡ m2 && m3 → r ≡ v && m4
-      → Fits bytes t f e r
-  unfolding expression_of fits_expression every
-  fits-select {x} {y} {z} h ax ay az tc ta s1 tb s2 w w1 w2 m1 v m2 m3 m4 q =
+  -- of a select both values, by the table, and of an operator the one
+  pub select_likes : row.kind ≡ 18 → (by_table alike (type_of (S G) (o 1)) (type_of (S G) e) ≡ alike_in (S G) (type_of (S G) (o 1)) (type_of (S G) e)) × (by_table alike (type_of (S G) (o 2)) (type_of (S G) e) ≡ alike_in (S G) (type_of (S G) (o 2)) (type_of (S G) e))
+  unfolding expression_of
+  select_likes h =
       let below = operands 18 h in
-      let first = alike-types G y e (omega (arith, R.there, below.1)) R.there ta tc s1 in
-      let second = alike-types G z e (omega (arith, R.there, below.2)) R.there tb tc s2 in
-      by-kind 18 h (q ∙ rw (m4, m3, m2, m1, v, first, second, w, w1, w2, ax, ay, az, and-true (is_value (S G) (o 2))))
+      (alike_of G (o 1) e (omega (arith, R.there, below.1)) R.there, alike_of G (o 2) e (omega (arith, R.there, below.2)) R.there)
 
   -- what is named
   module _ {a : ℕ} (own : a ≡ type_of (S G) e) {x : ℕ} (at : x ≡ o 0) where
@@ -172,37 +144,28 @@ module _ {bytes t : List ℕ} {f : ℕ} {types alike paths : List ℕ} {e : ℕ}
       unfolding expression_of fits_expression fits_variable pointee inner_of
       fits_local p = by-kind 11 h (p ∙ rw (q, at, own, local_is bytes t f (o 0) 0 there_local))
 
-    pub fits_argument : (b : Bound) {v s r : Bool} → row.kind ≡ 9 → v ≡ is_value (S G) e → arg_from b ≡ argument_at bytes t f x → s ≡ by_table alike b.ty.0 a → r ≡ v && s → Fits bytes t f e r
+    pub fits_argument : (b : Bound) {r : Bool} → row.kind ≡ 9 → arg_from b ≡ argument_at bytes t f x → r ≡ is_value (S G) e && by_table alike b.ty.0 a → Fits bytes t f e r
     unfolding expression_of fits_expression
-    fits_argument b h v p s q =
+    fits_argument b h p q =
         let there : o 0 < length (F G).arguments = names 9 h in
         let d = arg_from b in
         let is : get_or (F G).arguments (o 0) d ≡ d = argument_is bytes t f (o 0) d there ∙ sym (p ∙ ap (argument_at bytes t f) at) in
         let ty : argument_type (F G).arguments (o 0) ≡ b.ty.0 = argument-type (F G).arguments d (o 0) there ∙ ap (λ (y : FunctionArg). y.type) is in
         let low : b.ty.0 < length (types_of types) =
         rw (← ap (λ (y : FunctionArg). y.type) is, ← G.values.same) ((function_valid bytes t f G.of.read G.of.there).parts.each_argument (o 0) d there).0 in
-        by-kind 9 h (q ∙ rw (v, s, G.shapes.table.is (S G) G.values.same b.ty.0 a low own_low, ty, own))
+        by-kind 9 h (q ∙ rw (G.shapes.table.is (S G) G.values.same b.ty.0 a low own_low, ty, own))
 
     pub load_low : row.kind ≡ 12 → (x < n G) × (e < n G)
     unfolding expression_of
     load_low h = (omega (arith, at, operands 12 h, R.there), R.there)
 
-    pub fits_load : {v s r : Bool} → row.kind ≡ 12 → v ≡ is_value (S G) e → s ≡ is_path (S G) x && same (S G) (pointee (S G) x) (inner_of (S G) e) → r ≡ v && s → Fits bytes t f e r
+    pub fits_load : {r : Bool} → row.kind ≡ 12 → r ≡ is_value (S G) e && (is_path (S G) x && same (S G) (pointee (S G) x) (inner_of (S G) e)) → Fits bytes t f e r
     unfolding expression_of fits_expression
-    fits_load h v s q = by-kind 12 h (q ∙ rw (v, s, at))
+    fits_load h q = by-kind 12 h (q ∙ rw at)
 
 -- the last kind of a group
 pub step : {k : ℕ} (n : ℕ) → n ≤ k → (k ≡ n → ⊥) → n + 1 ≤ k
 step n l h = omega arith
 
-back : {k : ℕ} (n : ℕ) → k ≤ n + 1 → (k ≡ n + 1 → ⊥) → k ≤ n
-back n l h = omega arith
-
 pub between : {k : ℕ} (n : ℕ) → n ≤ k → k ≤ n → k ≡ n
 between n l m = omega arith
-
-pub derivative_left : {k : ℕ} → 16 ≤ k → k ≤ 22 → (k ≡ 18 → ⊥) → (k ≡ 21 → ⊥) → (k ≡ 20 → ⊥) → (k ≡ 17 → ⊥) → (k ≡ 16 → ⊥) → (k ≡ 22 → ⊥) → k ≡ 19
-derivative_left l m a b c d e f = between 19 (step 18 (step 17 (step 16 l e) d) a) (back 19 (back 20 (back 21 m f) b) c)
-
-pub load_left : {k : ℕ} → 9 ≤ k → k ≤ 12 → (k ≡ 10 → ⊥) → (k ≡ 11 → ⊥) → (k ≡ 9 → ⊥) → k ≡ 12
-load_left l m a b c = between 12 (step 11 (step 10 (step 9 l c) a) b) m

@@ -2,7 +2,8 @@
 -- expressions gives the next entry.
 use Prim.Native.Nat.{ℕ, ◌<◌, ◌≤◌}
 use native.Mathlib.Omega.{arith}
-use native.Mathlib.Decide.{dec_lt, ℕ_discrete}
+use native.Mathlib.Decide.{dec_lt}
+use mathlib.Core.Logic.{◌⊎◌, inl, inr}
 use mathlib.Core.Path.{◌≡◌, refl, sym, ap, subst, ◌∙◌}
 use mathlib.Core.Bool.{Bool, true, false}
 use mathlib.Core.List.{List}
@@ -104,28 +105,22 @@ module _ (bytes t : List ℕ) (f e : ℕ) (table : List ℕ) {r : Kinded} (row :
   said-by : {k : ℕ} → r.kind ≡ k → path_by (marked table) (expression_of k (operand_at bytes r)) ≡ said
   said-by {k} h = ap (path_by (marked table)) (sym (expression-of bytes t f e k r row h))
 
-  -- a variable's is 10 or 11
-  pub entry_variable : 10 ≤ r.kind → r.kind ≤ 11 → true ≡ said
+  -- a global variable or a local
+  pub entry_variable : (r.kind ≡ 10) ⊎ (r.kind ≡ 11) → true ≡ said
   unfolding expression_of path_by
-  entry_variable l m =
-      elim (ℕ_discrete r.kind 10) [
-        | yes h ↦ said-by h
-        | no n ↦ let h : r.kind ≡ 11 = omega arith in said-by h
-      ]
+  entry_variable (inl h) = said-by h
+  entry_variable (inr h) = said-by h
 
   module _ {b u : ℕ} (o : b ≡ operand_at bytes r 0) (w : u ≡ get_or table b 0) where
     base_marked : eqb u 1 ≡ marked table (operand_at bytes r 0)
     unfolding marked
     base_marked = ap (λ (v : ℕ). eqb v 1) (w ∙ ap (λ (z : ℕ). get_or table z 0) o)
 
-    -- an index' is 3 or 4
-    pub entry-index : 3 ≤ r.kind → r.kind ≤ 4 → eqb u 1 ≡ said
+    -- an index, constant or dynamic
+    pub entry-index : (r.kind ≡ 3) ⊎ (r.kind ≡ 4) → eqb u 1 ≡ said
     unfolding expression_of path_by
-    entry-index l m =
-        elim (ℕ_discrete r.kind 3) [
-          | yes h ↦ base_marked ∙ said-by h
-          | no n ↦ let h : r.kind ≡ 4 = omega arith in base_marked ∙ said-by h
-        ]
+    entry-index (inl h) = base_marked ∙ said-by h
+    entry-index (inr h) = base_marked ∙ said-by h
 
   pub entry_other : (r.kind ≡ 3 → ⊥) → (r.kind ≡ 4 → ⊥) → (r.kind ≡ 10 → ⊥) → (r.kind ≡ 11 → ⊥) → false ≡ said
   entry_other a b c d =

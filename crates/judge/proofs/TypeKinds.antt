@@ -10,11 +10,10 @@ use lib.ListN.{get_or}
 use borrow.Author.Tests.{eqb-true, eqb-false, not-true, not-false}
 use denote.Enum.Bare.{sameb}
 use denote.Enum.Declared.{tag_of}
-use Rattle.bindings.specs.Rows.{is_base}
-use Rattle.judge.specs.contracts.rows.TypeKind.{the_type}
-use Rattle.judge.specs.declared.rows.TypeKind.{TypeKind}
-use Rattle.judge.specs.declared.rows.TypeKind.TheVariants.{Scalar, Vector, Matrix, Atomic, Pointer, Array, Struct, BindingArray, Opaque}
-use Rattle.judge.specs.TypeKind.{type_number}
+use Rattle.module.specs.contracts.kinds.TypeKind.{the_type}
+use Rattle.module.specs.declared.kinds.TypeKind.{TypeKind}
+use Rattle.module.specs.declared.kinds.TypeKind.TheVariants.{Scalar, Vector, Matrix, Atomic, Pointer, Array, Struct, BindingArray, Opaque}
+use Rattle.module.specs.KindNumbers.{type_number}
 
 kind_back : ℕ → TypeKind
 kind_back n = get_or (Scalar ∷ Vector ∷ Matrix ∷ Atomic ∷ Pointer ∷ Array ∷ Struct ∷ BindingArray ∷ []) n Opaque
@@ -64,25 +63,7 @@ module _ (k l : TypeKind) {r : Bool} (h : r ≡ not (sameb the_type k l)) where
   pub agrees : r ≡ false → type_number k ≡ type_number l
   agrees e = equal k l refl (not-false _ (sym h ∙ e))
 
--- groups of kinds
-pub with_base : {k : TypeKind} → (k ≡ Pointer) ⊎ ((k ≡ Array) ⊎ (k ≡ BindingArray)) → is_base (type_number k) ≡ true
-unfolding is_base
-with_base (inl e) = rw e
-with_base (inr (inl e)) = rw e
-with_base (inr (inr e)) = rw e
-
-pub without_base : (k : TypeKind) → (k ≡ Pointer → ⊥) → (k ≡ Array → ⊥) → (k ≡ BindingArray → ⊥) → is_base (type_number k) ≡ false
-unfolding is_base
-without_base Scalar a b c = refl
-without_base Vector a b c = refl
-without_base Matrix a b c = refl
-without_base Atomic a b c = refl
-without_base Pointer a b c = absurd (a refl)
-without_base Array a b c = absurd (b refl)
-without_base Struct a b c = refl
-without_base BindingArray a b c = absurd (c refl)
-without_base Opaque a b c = refl
-
+-- a scalar or a vector
 pub simple : {k : TypeKind} → (k ≡ Scalar) ⊎ (k ≡ Vector) → type_number k ≤ 1
 simple (inl e) = rw e (omega arith)
 simple (inr e) = rw e (omega arith)

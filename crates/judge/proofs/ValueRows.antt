@@ -8,17 +8,15 @@ use mathlib.Core.List.{List, [], ◌∷◌, ◌++◌}
 use lib.Dec.{eqb}
 use lib.ListN.{length, get_or, get_or-eq_default}
 use borrow.Author.Count.{below_more}
-use borrow.Author.Tests.{eq-eqb, ne_eqb}
-use Rattle.field.specs.Limits.{absent}
 use Rattle.module.specs.Module.{Typed, Opaque}
-use Rattle.module.specs.Decode.{tab, option_of}
+use Rattle.module.specs.Decode.{tab}
 use Rattle.module.specs.Tables.{function_of}
 use Rattle.module.proofs.Knot.{knot-is}
 use Rattle.access.specs.Access.{typed_at}
 use Rattle.access.proofs.Access.{typed_is}
 use Rattle.context.specs.Types.{types_of}
 use Rattle.clearance.specs.Scope.{Scope, nowhere, step_from, no_expression, typed, type_of, inner_of, is_kind, path_of, is_path}
-use Rattle.clearance.specs.Judged.{every, presently, is_value}
+use Rattle.clearance.specs.Judged.{every, is_value}
 use Rattle.judge.specs.Marked.{marked}
 use Rattle.judge.specs.Given.{scope_at, Values}
 use Rattle.judge.proofs.TypeRows.{number}
@@ -110,12 +108,3 @@ module _ (bytes t : List ℕ) (f : ℕ) where
     pub value_kind : {b : Bool} {a k : ℕ} → b ≡ is_path S e → b ≡ false → a ≡ type_of S e → k ≡ number (get_or (types_of types) a Opaque) → not (eqb k 4) ≡ is_value S e
     unfolding is_value inner_of is_kind
     value_kind {b} {a} {k} q h u w = rw (← q, h, ← u, ← number_is types S G.same a w)
-
--- an operand that may be absent
-pub maybe_absent : (p : ℕ → Bool) (v : ℕ) → v ≡ absent → true ≡ presently p (option_of v)
-unfolding presently option_of
-maybe_absent p v h = rw (eq-eqb v absent h)
-
-pub maybe_there : (p : ℕ → Bool) (v : ℕ) {r : Bool} → (v ≡ absent → ⊥) → r ≡ p v → r ≡ presently p (option_of v)
-unfolding presently option_of
-maybe_there p v h q = rw (ne_eqb v absent h) q

@@ -5,4 +5,3 @@ pub mod Paths
 pub mod Shapes
 pub mod Given
 pub mod Blamed
-pub mod TypeKind

@@ -6,9 +6,10 @@ ghost use Rattle.context.specs.Types.{type_count, types_of};
 ghost use Rattle.clearance.specs.Scope.{kind, bases, pairwise, alike_inner};
 ghost use Rattle.judge.specs.Alike.{by_table, Lower, Lowest, Upto, AlikeTable};
 
-use crate::rows::{TypeKind, base_at, base_count, kind_at, second_word};
+use crate::rows::{base_at, base_count, kind_at, second_word};
 use bindings::types::{first_word, word};
 use module::handles::TypeHandle;
+use module::kinds::TypeKind;
 
 // Whether two types are of one kind and have the same sizes.
 fn same_kind(types: &[u32], a: TypeHandle, b: TypeHandle) -> bool
@@ -22,10 +23,8 @@ fn same_kind(types: &[u32], a: TypeHandle, b: TypeHandle) -> bool
     match k {
         TypeKind::Vector => first_word(types, a) == first_word(types, b),
         TypeKind::Matrix => {
-            if first_word(types, a) != first_word(types, b) {
-                return false;
-            }
-            second_word(types, a) == second_word(types, b)
+            first_word(types, a) == first_word(types, b)
+                && second_word(types, a) == second_word(types, b)
         }
         TypeKind::Array => second_word(types, a) == second_word(types, b),
         _ => true,
@@ -54,10 +53,7 @@ fn same_bases(types: &[u32], table: &[u32], a: TypeHandle, b: TypeHandle) -> boo
 fn same_inner(types: &[u32], table: &[u32], a: TypeHandle, b: TypeHandle) -> bool
     ensures { result ≡ alike_inner (by_table table.now) (get_or (types_of types.now) a.0 Opaque) (get_or (types_of types.now) b.0 Opaque) }
 {
-    if same_kind(types, a, b) {
-        return same_bases(types, table, a, b);
-    }
-    false
+    same_kind(types, a, b) && same_bases(types, table, a, b)
 }
 
 // The lowest type that is alike to the type k, where the table has the types below it.

@@ -15,10 +15,8 @@ use crate::unsized_types::holds_either;
 use crate::values::{is_value, type_of};
 use access::function::expressions;
 use access::kinded::expression;
-use access::kinds::{
-    ACCESS, ACCESS_INDEX, AS, COMPOSE, CONSTANT, FUNCTION_ARGUMENT, LITERAL, LOAD, SPLAT, UNARY,
-};
 use module::handles::{ExpressionHandle, FunctionHandle};
+use module::kinds::ExpressionKind;
 
 // Whether the expression e fits, by the group of its kind. A kind past the last is a literal's.
 pub fn fits_expression(
@@ -35,15 +33,33 @@ pub fn fits_expression(
     ensures { Fits bytes.now t.now f.0 e.0 result }
 {
     let row = expression(bytes, t, f, e);
-    let value = is_value(bytes, t, f, types, paths, e);
-    match row.kind {
-        0 | 1 | CONSTANT => value,
-        ACCESS_INDEX | ACCESS => fits_index(bytes, t, f, types, alike, paths, row, e),
-        SPLAT..=COMPOSE => fits_made(bytes, t, f, types, alike, paths, row, e),
-        FUNCTION_ARGUMENT..=LOAD => fits_named(bytes, t, f, types, alike, paths, row, e),
-        UNARY..=AS => fits_operator(bytes, t, f, types, alike, paths, row, e),
-        LITERAL.. => value,
-        _ => false,
+    match ExpressionKind::try_from(row.kind) {
+        Ok(ExpressionKind::Literal | ExpressionKind::ZeroValue | ExpressionKind::Constant) => {
+            is_value(bytes, t, f, types, paths, e)
+        }
+        Ok(ExpressionKind::AccessIndex | ExpressionKind::Access) => {
+            fits_index(bytes, t, f, types, alike, paths, row, e)
+        }
+        Ok(ExpressionKind::Splat | ExpressionKind::Swizzle | ExpressionKind::Compose) => {
+            fits_made(bytes, t, f, types, alike, paths, row, e)
+        }
+        Ok(
+            ExpressionKind::FunctionArgument
+            | ExpressionKind::GlobalVariable
+            | ExpressionKind::LocalVariable
+            | ExpressionKind::Load,
+        ) => fits_named(bytes, t, f, types, alike, paths, row, e),
+        Ok(
+            ExpressionKind::Unary
+            | ExpressionKind::Binary
+            | ExpressionKind::Select
+            | ExpressionKind::Derivative
+            | ExpressionKind::Relational
+            | ExpressionKind::Math
+            | ExpressionKind::As,
+        ) => fits_operator(bytes, t, f, types, alike, paths, row, e),
+        Ok(_) => false,
+        Err(_) => is_value(bytes, t, f, types, paths, e),
     }
 }
 

@@ -7,10 +7,10 @@ ghost use Rattle.judge.specs.Shapes.{InTypes, Shapes, indexed};
 ghost use Rattle.judge.specs.Given.{scope_at, Row, Fits, fits_base};
 
 use crate::shapes::{pointee, same_element, same_part};
-use crate::values::{both, is_path, is_value, type_of};
+use crate::values::{is_path, is_value, type_of};
 use access::kinded::{Kinded, expression_operand, operand};
-use access::kinds::ACCESS;
 use module::handles::{ExpressionHandle, FunctionHandle, TypeHandle};
+use module::kinds::ExpressionKind;
 
 // Whether an index of the type a is of b's shape: a dynamic one, or the constant i.
 fn same_index(types: &[u32], alike: &[u32], kind: u16, a: TypeHandle, i: u32, b: TypeHandle) -> bool
@@ -19,10 +19,10 @@ fn same_index(types: &[u32], alike: &[u32], kind: u16, a: TypeHandle, i: u32, b:
     requires b_in_bounds { b.0 < length (types_of types.now) }
     ensures { InTypes types.now (λ S. same_part S (indexed S kind i (inner S a.0)) (inner S b.0)) result }
 {
-    if kind == ACCESS {
-        return same_element(types, alike, a, b);
+    match ExpressionKind::try_from(kind) {
+        Ok(ExpressionKind::Access) => same_element(types, alike, a, b),
+        _ => same_part(types, alike, a, i, b),
     }
-    same_part(types, alike, a, i, b)
 }
 
 // Whether the index e of its base fits, by the kind of its row.
@@ -55,11 +55,9 @@ fn fits_base(
             pointee(types, b),
         );
     }
-    let values = both(
-        is_value(bytes, t, f, types, paths, base),
-        is_value(bytes, t, f, types, paths, e),
-    );
-    both(values, same_index(types, alike, row.kind, a, i, b))
+    is_value(bytes, t, f, types, paths, base)
+        && is_value(bytes, t, f, types, paths, e)
+        && same_index(types, alike, row.kind, a, i, b)
 }
 
 // A constant index, or one by an expression, which is a value.
@@ -79,9 +77,11 @@ pub fn fits_index(
     ensures { Fits bytes.now t.now f.0 e.0 result }
 {
     let fits = fits_base(bytes, t, f, types, alike, paths, row, e);
-    if row.kind == ACCESS {
-        let index = expression_operand(bytes, row, 1);
-        return both(is_value(bytes, t, f, types, paths, index), fits);
+    match ExpressionKind::try_from(row.kind) {
+        Ok(ExpressionKind::Access) => {
+            let index = expression_operand(bytes, row, 1);
+            is_value(bytes, t, f, types, paths, index) && fits
+        }
+        _ => fits,
     }
-    fits
 }

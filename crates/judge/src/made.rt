@@ -9,13 +9,13 @@ ghost use Rattle.clearance.specs.Scope.{inner, inner_of, is_scalar, is_vector};
 ghost use Rattle.clearance.specs.Judged.{every, part_type, same_part, component_count, count_components};
 ghost use Rattle.judge.specs.Given.{scope_at, Row, Fits};
 
-use crate::rows::{TypeKind, kind_at};
+use crate::rows::kind_at;
 use crate::shapes::{is_vector_of, part_count, same_part};
-use crate::values::{all_values, both, is_value, type_of};
+use crate::values::{all_values, is_value, type_of};
 use access::kinded::{Kinded, expression_operand, operand};
-use access::kinds::{SPLAT, SWIZZLE};
 use bindings::types::first_word;
 use module::handles::{ExpressionHandle, FunctionHandle, TypeHandle};
+use module::kinds::{ExpressionKind, TypeKind};
 
 // Whether each letter of a pattern is below n.
 fn letters_below(bytes: &[u8], row: Kinded, n: u32) -> bool
@@ -52,16 +52,10 @@ fn fits_swizzle(
     if kind_at(types, a) != TypeKind::Vector {
         return false;
     }
-    let within = letters_below(bytes, row, first_word(types, a));
-    let sized = is_vector_of(
-        types,
-        operand(bytes, row, 1) as u32,
-        type_of(bytes, t, f, e),
-    );
-    both(
-        is_value(bytes, t, f, types, paths, vector),
-        both(within, sized),
-    )
+    let letters = operand(bytes, row, 1) as u32;
+    is_value(bytes, t, f, types, paths, vector)
+        && letters_below(bytes, row, first_word(types, a))
+        && is_vector_of(types, letters, type_of(bytes, t, f, e))
 }
 
 // How many components the type a gives: a scalar or a vector.
@@ -137,19 +131,13 @@ fn fits_compose(
 {
     let values = all_values(bytes, t, f, types, paths, row);
     let a = type_of(bytes, t, f, e);
-    let k = kind_at(types, a);
-    if k == TypeKind::Vector {
-        return both(values, joins(bytes, t, f, types, row, first_word(types, a)));
-    }
-    if part_count(types, a) != operand(bytes, row, 0) as u32 {
-        return false;
-    }
-    let fit = both(
-        values,
-        parts_fit(bytes, t, f, types, alike, paths, row, e, a),
-    );
-    match k {
-        TypeKind::Matrix | TypeKind::Array | TypeKind::Struct => fit,
+    match kind_at(types, a) {
+        TypeKind::Vector => values && joins(bytes, t, f, types, row, first_word(types, a)),
+        TypeKind::Matrix | TypeKind::Array | TypeKind::Struct => {
+            values
+                && part_count(types, a) == operand(bytes, row, 0) as u32
+                && parts_fit(bytes, t, f, types, alike, paths, row, e, a)
+        }
         _ => false,
     }
 }
@@ -170,17 +158,15 @@ pub fn fits_made(
     requires kind_bound { row.kind ≤ 8 }
     ensures { Fits bytes.now t.now f.0 e.0 result }
 {
-    match row.kind {
-        SWIZZLE => fits_swizzle(bytes, t, f, types, alike, paths, row, e),
-        SPLAT => {
+    match ExpressionKind::try_from(row.kind) {
+        Ok(ExpressionKind::Swizzle) => fits_swizzle(bytes, t, f, types, alike, paths, row, e),
+        Ok(ExpressionKind::Splat) => {
             let value = expression_operand(bytes, row, 0);
             let a = type_of(bytes, t, f, value);
             let b = type_of(bytes, t, f, e);
-            let sized = both(
-                kind_at(types, a) == TypeKind::Scalar,
-                kind_at(types, b) == TypeKind::Vector,
-            );
-            both(is_value(bytes, t, f, types, paths, value), sized)
+            is_value(bytes, t, f, types, paths, value)
+                && kind_at(types, a) == TypeKind::Scalar
+                && kind_at(types, b) == TypeKind::Vector
         }
         _ => fits_compose(bytes, t, f, types, alike, paths, row, e),
     }

@@ -7,14 +7,14 @@ ghost use Rattle.clearance.specs.Judged.{pointee, pointee_type, same};
 ghost use Rattle.judge.specs.Shapes.{InTypes, Shapes};
 ghost use Rattle.judge.specs.Given.{scope_at, Given, Row, Fits};
 
-use crate::rows::{TypeKind, kind_at};
+use crate::rows::kind_at;
 use crate::shapes::{is_alike, pointee};
-use crate::values::{both, is_path, is_value, type_of};
+use crate::values::{is_path, is_value, type_of};
 use access::function::{argument, local};
 use access::kinded::{Kinded, expression_operand, global_operand, local_operand, operand};
-use access::kinds::{FUNCTION_ARGUMENT, GLOBAL_VARIABLE, LOCAL_VARIABLE};
 use access::whole::global;
 use module::handles::{ExpressionHandle, FunctionHandle, TypeHandle};
+use module::kinds::{ExpressionKind, TypeKind};
 
 // Whether a variable of the type a, which is no pointer, is of the shape that the type b leads to.
 fn fits_variable(types: &[u32], alike: &[u32], a: TypeHandle, b: TypeHandle) -> bool
@@ -23,10 +23,7 @@ fn fits_variable(types: &[u32], alike: &[u32], a: TypeHandle, b: TypeHandle) -> 
     requires b_in_bounds { b.0 < length (types_of types.now) }
     ensures { InTypes types.now (λ S. not (is_pointer (inner S a.0)) && same S (inner S a.0) (pointee_type S (inner S b.0))) result }
 {
-    if kind_at(types, a) == TypeKind::Pointer {
-        return false;
-    }
-    is_alike(alike, a, pointee(types, b))
+    kind_at(types, a) != TypeKind::Pointer && is_alike(alike, a, pointee(types, b))
 }
 
 // Whether p is a path that leads to what has v's shape.
@@ -46,10 +43,7 @@ pub fn leads_to(
     ensures { result ≡ (is_path (scope_at bytes.now t.now f.0) p.0 && same (scope_at bytes.now t.now f.0) (pointee (scope_at bytes.now t.now f.0) p.0) (inner_of (scope_at bytes.now t.now f.0) v.0)) }
 {
     let led = pointee(types, type_of(bytes, t, f, p));
-    both(
-        is_path(bytes, t, f, types, paths, p),
-        is_alike(alike, led, type_of(bytes, t, f, v)),
-    )
+    is_path(bytes, t, f, types, paths, p) && is_alike(alike, led, type_of(bytes, t, f, v))
 }
 
 // An argument, a global, a local or a load.
@@ -69,25 +63,23 @@ pub fn fits_named(
     ensures { Fits bytes.now t.now f.0 e.0 result }
 {
     let own = type_of(bytes, t, f, e);
-    match row.kind {
-        GLOBAL_VARIABLE => {
+    match ExpressionKind::try_from(row.kind) {
+        Ok(ExpressionKind::GlobalVariable) => {
             let a = global(bytes, t, global_operand(bytes, row, 0));
             fits_variable(types, alike, a, own)
         }
-        LOCAL_VARIABLE => {
+        Ok(ExpressionKind::LocalVariable) => {
             let a = local(bytes, t, f, local_operand(bytes, row, 0));
             fits_variable(types, alike, a, own)
         }
-        FUNCTION_ARGUMENT => {
-            let value = is_value(bytes, t, f, types, paths, e);
+        Ok(ExpressionKind::FunctionArgument) => {
             let a = argument(bytes, t, f, operand(bytes, row, 0) as u32);
-            both(value, is_alike(alike, a.ty, own))
+            is_value(bytes, t, f, types, paths, e) && is_alike(alike, a.ty, own)
         }
         _ => {
-            let value = is_value(bytes, t, f, types, paths, e);
             let pointer = expression_operand(bytes, row, 0);
-            let led = leads_to(bytes, t, f, types, alike, paths, pointer, e);
-            both(value, led)
+            is_value(bytes, t, f, types, paths, e)
+                && leads_to(bytes, t, f, types, alike, paths, pointer, e)
         }
     }
 }

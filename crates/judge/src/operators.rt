@@ -3,10 +3,10 @@ ghost use Rattle.std.specs.Prelude.{◌≡◌, ◌≤◌};
 ghost use Rattle.judge.specs.Given.{Row, Fits};
 
 use crate::shapes::is_alike;
-use crate::values::{both, is_value, maybe_value, type_of};
-use access::kinded::{Kinded, expression_operand};
-use access::kinds::{AS, BINARY, MATH, RELATIONAL, SELECT, UNARY};
+use crate::values::{is_value, maybe_value, type_of};
+use access::kinded::{Kinded, expression_operand, optional_expression};
 use module::handles::{ExpressionHandle, FunctionHandle};
+use module::kinds::ExpressionKind;
 
 // A value of two, by a condition: both have the result's shape.
 fn fits_select(
@@ -27,17 +27,12 @@ fn fits_select(
     let accept = expression_operand(bytes, row, 1);
     let reject = expression_operand(bytes, row, 2);
     let own = type_of(bytes, t, f, e);
-    let first = is_alike(alike, type_of(bytes, t, f, accept), own);
-    let second = is_alike(alike, type_of(bytes, t, f, reject), own);
-    let tested = is_value(bytes, t, f, types, paths, condition);
-    let chosen = both(
-        is_value(bytes, t, f, types, paths, accept),
-        is_value(bytes, t, f, types, paths, reject),
-    );
-    both(
-        is_value(bytes, t, f, types, paths, e),
-        both(both(tested, chosen), both(first, second)),
-    )
+    is_value(bytes, t, f, types, paths, e)
+        && is_value(bytes, t, f, types, paths, condition)
+        && is_value(bytes, t, f, types, paths, accept)
+        && is_value(bytes, t, f, types, paths, reject)
+        && is_alike(alike, type_of(bytes, t, f, accept), own)
+        && is_alike(alike, type_of(bytes, t, f, reject), own)
 }
 
 // One value to four.
@@ -56,17 +51,14 @@ fn fits_math(
     ensures { Fits bytes.now t.now f.0 e.0 result }
 {
     let x = expression_operand(bytes, row, 0);
-    let y = expression_operand(bytes, row, 1);
-    let z = expression_operand(bytes, row, 2);
-    let w = expression_operand(bytes, row, 3);
-    let second = maybe_value(bytes, t, f, types, paths, y);
-    let third = maybe_value(bytes, t, f, types, paths, z);
-    let fourth = maybe_value(bytes, t, f, types, paths, w);
-    let first = is_value(bytes, t, f, types, paths, x);
-    both(
-        is_value(bytes, t, f, types, paths, e),
-        both(first, both(second, both(third, fourth))),
-    )
+    let y = optional_expression(bytes, row, 1);
+    let z = optional_expression(bytes, row, 2);
+    let w = optional_expression(bytes, row, 3);
+    is_value(bytes, t, f, types, paths, e)
+        && is_value(bytes, t, f, types, paths, x)
+        && maybe_value(bytes, t, f, types, paths, y)
+        && maybe_value(bytes, t, f, types, paths, z)
+        && maybe_value(bytes, t, f, types, paths, w)
 }
 
 // An operator; a derivative is never judged.
@@ -85,24 +77,23 @@ pub fn fits_operator(
     requires kind_bound { row.kind ≤ 22 }
     ensures { Fits bytes.now t.now f.0 e.0 result }
 {
-    if row.kind == SELECT {
-        return fits_select(bytes, t, f, types, alike, paths, row, e);
-    }
-    if row.kind == MATH {
-        return fits_math(bytes, t, f, types, alike, paths, row, e);
-    }
-    let own = is_value(bytes, t, f, types, paths, e);
     let x = expression_operand(bytes, row, 0);
-    let first = is_value(bytes, t, f, types, paths, x);
-    match row.kind {
-        RELATIONAL => both(own, first),
-        BINARY => {
-            let y = expression_operand(bytes, row, 1);
-            both(own, both(first, is_value(bytes, t, f, types, paths, y)))
+    match ExpressionKind::try_from(row.kind) {
+        Ok(ExpressionKind::Select) => fits_select(bytes, t, f, types, alike, paths, row, e),
+        Ok(ExpressionKind::Math) => fits_math(bytes, t, f, types, alike, paths, row, e),
+        Ok(ExpressionKind::Relational) => {
+            is_value(bytes, t, f, types, paths, e) && is_value(bytes, t, f, types, paths, x)
         }
-        UNARY | AS => {
-            let same = is_alike(alike, type_of(bytes, t, f, x), type_of(bytes, t, f, e));
-            both(own, both(first, same))
+        Ok(ExpressionKind::Binary) => {
+            let y = expression_operand(bytes, row, 1);
+            is_value(bytes, t, f, types, paths, e)
+                && is_value(bytes, t, f, types, paths, x)
+                && is_value(bytes, t, f, types, paths, y)
+        }
+        Ok(ExpressionKind::Unary | ExpressionKind::As) => {
+            is_value(bytes, t, f, types, paths, e)
+                && is_value(bytes, t, f, types, paths, x)
+                && is_alike(alike, type_of(bytes, t, f, x), type_of(bytes, t, f, e))
         }
         _ => false,
     }

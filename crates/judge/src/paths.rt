@@ -8,18 +8,18 @@ ghost use Rattle.judge.specs.Marked.{marked};
 ghost use Rattle.judge.specs.Paths.{path_by, PathTable};
 
 use access::kinded::{expression, expression_operand};
-use access::kinds::{ACCESS, ACCESS_INDEX, GLOBAL_VARIABLE, LOCAL_VARIABLE};
 use bindings::types::word;
 use module::handles::{ExpressionHandle, FunctionHandle};
+use module::kinds::ExpressionKind;
 
 // The expression e's entry: a variable is a path, and of an index it is its base's.
 fn path_entry(bytes: &[u8], t: &[u32], f: FunctionHandle, table: &[u32], e: ExpressionHandle) -> u32
     ensures { eqb result 1 ≡ path_by (marked table.now) (typed_at bytes.now t.now f.0 e.0).expression }
 {
     let row = expression(bytes, t, f, e);
-    match row.kind {
-        GLOBAL_VARIABLE | LOCAL_VARIABLE => 1,
-        ACCESS_INDEX | ACCESS => {
+    match ExpressionKind::try_from(row.kind) {
+        Ok(ExpressionKind::GlobalVariable | ExpressionKind::LocalVariable) => 1,
+        Ok(ExpressionKind::AccessIndex | ExpressionKind::Access) => {
             let base = expression_operand(bytes, row, 0);
             word(table, base.0 as usize)
         }

@@ -3,49 +3,18 @@ ghost use Rattle.std.specs.Prelude.{◌≡◌, ◌<◌, length, get_or, min};
 ghost use Rattle.module.specs.Module.{Opaque};
 ghost use Rattle.context.specs.Types.{type_word, types_of};
 ghost use Rattle.clearance.specs.Scope.{kind, bases};
-ghost use Rattle.judge.specs.TypeKind.{type_number};
+ghost use Rattle.module.specs.KindNumbers.{type_number};
 
-use bindings::types::{first_word, type_kind, word};
-use context::remove::TYPE_WORDS;
+use bindings::types::{first_word, word};
+use context::remove::{TYPE_WORDS, type_kind};
 use module::handles::TypeHandle;
-
-#[derive(Clone, Copy, Debug, PartialEq, Eq)]
-pub enum TypeKind {
-    Scalar,
-    Vector,
-    Matrix,
-    Atomic,
-    Pointer,
-    Array,
-    Struct,
-    BindingArray,
-    Opaque,
-}
-
-// A number that is no other kind's is an opaque type's.
-impl From<u32> for TypeKind {
-    ghost from_gives = { λ n k. type_number k ≡ min n 8 };
-
-    fn from(n: u32) -> TypeKind {
-        match n {
-            0 => TypeKind::Scalar,
-            1 => TypeKind::Vector,
-            2 => TypeKind::Matrix,
-            3 => TypeKind::Atomic,
-            4 => TypeKind::Pointer,
-            5 => TypeKind::Array,
-            6 => TypeKind::Struct,
-            7 => TypeKind::BindingArray,
-            _ => TypeKind::Opaque,
-        }
-    }
-}
+use module::kinds::TypeKind;
 
 // The kind of the type t.
 pub fn kind_at(types: &[u32], t: TypeHandle) -> TypeKind
     ensures { type_number result ≡ get_or (kind (get_or (types_of types.now) t.0 Opaque)) 0 0 }
 {
-    TypeKind::from(type_kind(types, t))
+    type_kind(types, t)
 }
 
 // The second word after the kind: a matrix' rows, or an array's count.

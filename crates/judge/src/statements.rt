@@ -1,6 +1,6 @@
 // A function's statements: whether each fits.
 ghost use Rattle.std.specs.Prelude.{◌≡◌, ◌&&◌, ◌<◌, length};
-ghost use Rattle.module.specs.Decode.{option_of};
+ghost use Rattle.access.specs.Access.{handle_in};
 ghost use Rattle.module.specs.Tables.{function_of};
 ghost use Rattle.valid.specs.Valid.{MaybeBelow};
 ghost use Rattle.clearance.specs.Judged.{presently, is_value, fits_return, fits_statement, failing, lowest};
@@ -9,11 +9,11 @@ ghost use Rattle.judge.specs.Blamed.{blamed};
 
 use crate::named::leads_to;
 use crate::shapes::is_alike;
-use crate::values::{both, is_value, maybe_value, type_of};
+use crate::values::{is_value, maybe_value, type_of};
 use access::function::{result, statements};
-use access::kinded::{expression_operand, statement};
-use access::kinds::{IF, KILL, LAST, LOOP, RETURN, STORE, SWITCH};
-use module::handles::{ExpressionHandle, FunctionHandle, NO_HANDLE};
+use access::kinded::{expression_operand, optional_expression, statement};
+use module::handles::{ExpressionHandle, FunctionHandle};
+use module::kinds::StatementKind;
 
 // A returned value is of the result's shape; there may be none.
 fn fits_return(
@@ -23,21 +23,19 @@ fn fits_return(
     types: &[u32],
     alike: &[u32],
     paths: &[u32],
-    v: ExpressionHandle,
+    v: Option<ExpressionHandle>,
 ) -> bool
     requires given { Given bytes.now t.now f.0 types.now alike.now paths.now }
-    requires maybe_below { MaybeBelow (length (function_of bytes.now t.now f.0).expressions) (option_of v.0) }
-    ensures { result ≡ presently (λ v. is_value (scope_at bytes.now t.now f.0) v && fits_return (scope_at bytes.now t.now f.0) (function_of bytes.now t.now f.0).result v) (option_of v.0) }
+    requires maybe_below { MaybeBelow (length (function_of bytes.now t.now f.0).expressions) (handle_in v) }
+    ensures { result ≡ presently (λ v. is_value (scope_at bytes.now t.now f.0) v && fits_return (scope_at bytes.now t.now f.0) (function_of bytes.now t.now f.0).result v) (handle_in v) }
 {
-    if v.0 == NO_HANDLE {
+    let Some(v) = v else {
         return true;
-    }
-    let declared = result(bytes, t, f);
-    if declared.ty.0 == NO_HANDLE {
+    };
+    let Some(declared) = result(bytes, t, f) else {
         return false;
-    }
-    let same = is_alike(alike, declared.ty, type_of(bytes, t, f, v));
-    both(is_value(bytes, t, f, types, paths, v), same)
+    };
+    is_value(bytes, t, f, types, paths, v) && is_alike(alike, declared.ty, type_of(bytes, t, f, v))
 }
 
 // Whether the statement s fits, by its kind. A kind past the last is a break's.
@@ -55,27 +53,33 @@ pub fn fits_statement(
     ensures { FitsStatement bytes.now t.now f.0 s result }
 {
     let row = statement(bytes, t, f, s);
-    match row.kind {
-        IF | SWITCH => {
+    match StatementKind::try_from(row.kind) {
+        Ok(StatementKind::If | StatementKind::Switch) => {
             let condition = expression_operand(bytes, row, 0);
             is_value(bytes, t, f, types, paths, condition)
         }
-        LOOP => {
-            let break_if = expression_operand(bytes, row, 2);
+        Ok(StatementKind::Loop) => {
+            let break_if = optional_expression(bytes, row, 2);
             maybe_value(bytes, t, f, types, paths, break_if)
         }
-        RETURN => {
-            let v = expression_operand(bytes, row, 0);
+        Ok(StatementKind::Return) => {
+            let v = optional_expression(bytes, row, 0);
             fits_return(bytes, t, f, types, alike, paths, v)
         }
-        STORE => {
+        Ok(StatementKind::Store) => {
             let pointer = expression_operand(bytes, row, 0);
             let value = expression_operand(bytes, row, 1);
-            let led = leads_to(bytes, t, f, types, alike, paths, pointer, value);
-            both(is_value(bytes, t, f, types, paths, value), led)
+            is_value(bytes, t, f, types, paths, value)
+                && leads_to(bytes, t, f, types, alike, paths, pointer, value)
         }
-        KILL..=LAST => false,
-        _ => true,
+        Ok(
+            StatementKind::Emit
+            | StatementKind::Block
+            | StatementKind::Break
+            | StatementKind::Continue,
+        ) => true,
+        Ok(_) => false,
+        Err(_) => true,
     }
 }
 

@@ -10,9 +10,10 @@ ghost use Rattle.judge.specs.Alike.{Lower};
 ghost use Rattle.judge.specs.Marked.{marked};
 ghost use Rattle.judge.specs.Unsized.{UnsizedTable};
 
-use crate::rows::{TypeKind, base_at, base_count, kind_at, second_word};
+use crate::rows::{base_at, base_count, kind_at, second_word};
 use bindings::types::{first_word, word};
 use module::handles::TypeHandle;
+use module::kinds::TypeKind;
 
 // Whether the type t is itself an array of count 0 or a binding array.
 fn is_unsized(types: &[u32], t: TypeHandle) -> bool
@@ -72,11 +73,7 @@ pub fn fill_unsized(types: &[u32], table: &mut [u32])
 pub fn holds_either(types: &[u32], table: &[u32], t: TypeHandle) -> bool
     ensures { result ≡ marked table.now t.0 || pointee_holds (marked table.now) (get_or (types_of types.now) t.0 Opaque) }
 {
-    if word(table, t.0 as usize) == 1 {
-        return true;
-    }
-    if kind_at(types, t) == TypeKind::Pointer {
-        return word(table, first_word(types, t) as usize) == 1;
-    }
-    false
+    word(table, t.0 as usize) == 1
+        || (kind_at(types, t) == TypeKind::Pointer
+            && word(table, first_word(types, t) as usize) == 1)
 }

@@ -1,26 +1,17 @@
 // An expression's type, and whether it is a path or a value.
-ghost use Rattle.std.specs.Prelude.{◌≡◌, ◌&&◌, ◌+◌};
-ghost use Rattle.module.specs.Decode.{tab, option_of};
-ghost use Rattle.access.specs.Access.{operand_at};
+ghost use Rattle.std.specs.Prelude.{◌≡◌, ◌+◌};
+ghost use Rattle.module.specs.Decode.{tab};
+ghost use Rattle.access.specs.Access.{operand_at, handle_in};
 ghost use Rattle.clearance.specs.Scope.{type_of, is_path};
 ghost use Rattle.clearance.specs.Judged.{every, presently, is_value};
 ghost use Rattle.judge.specs.Given.{scope_at, Values};
 
-use crate::rows::{TypeKind, kind_at};
+use crate::rows::kind_at;
 use access::function::{expression_type, expressions};
 use access::kinded::{Kinded, expression_operand, operand};
 use bindings::types::word;
-use module::handles::{ExpressionHandle, FunctionHandle, NO_HANDLE, TypeHandle};
-
-// Both tests, where neither costs much.
-pub fn both(a: bool, b: bool) -> bool
-    ensures { result ≡ (a && b) }
-{
-    if a {
-        return b;
-    }
-    false
-}
+use module::handles::{ExpressionHandle, FunctionHandle, TypeHandle};
+use module::kinds::TypeKind;
 
 // The type of the expression e; 0, where there is none.
 pub fn type_of(bytes: &[u8], t: &[u32], f: FunctionHandle, e: ExpressionHandle) -> TypeHandle
@@ -59,11 +50,8 @@ pub fn is_value(
     requires { Values bytes.now t.now f.0 types.now paths.now }
     ensures { result ≡ is_value (scope_at bytes.now t.now f.0) e.0 }
 {
-    if is_path(bytes, t, f, types, paths, e) {
-        return false;
-    }
-    let own = type_of(bytes, t, f, e);
-    kind_at(types, own) != TypeKind::Pointer
+    !is_path(bytes, t, f, types, paths, e)
+        && kind_at(types, type_of(bytes, t, f, e)) != TypeKind::Pointer
 }
 
 // Whether the operand v is absent or a value.
@@ -73,15 +61,15 @@ pub fn maybe_value(
     f: FunctionHandle,
     types: &[u32],
     paths: &[u32],
-    v: ExpressionHandle,
+    v: Option<ExpressionHandle>,
 ) -> bool
     requires { Values bytes.now t.now f.0 types.now paths.now }
-    ensures { result ≡ presently (is_value (scope_at bytes.now t.now f.0)) (option_of v.0) }
+    ensures { result ≡ presently (is_value (scope_at bytes.now t.now f.0)) (handle_in v) }
 {
-    if v.0 == NO_HANDLE {
-        return true;
+    match v {
+        None => true,
+        Some(e) => is_value(bytes, t, f, types, paths, e),
     }
-    is_value(bytes, t, f, types, paths, v)
 }
 
 // Whether the operands after the first, which is their count, are values.

@@ -23,9 +23,8 @@ pub fn records_of(t: &[u32], f: FunctionHandle) -> Stretch
     ensures { RecordsAt t.now f.0 result }
 {
     let row = row_at(t, f.0);
-    let from = (row.items as usize) + (row.arguments as usize) + (row.locals as usize);
     Stretch {
-        from: from,
+        from: row.expressions_from(),
         n: row.expressions as usize,
     }
 }

@@ -1,19 +1,19 @@
 -- What a statement's tree is by its kind, and that taking an exit's slot for the needs at hand is its pass (standing's laws).
 use Prim.Native.Nat.{ℕ, zero, suc, ◌+◌, ◌-◌, ◌<◌, ◌≤◌}
 use native.Mathlib.Omega.{arith}
-use native.Mathlib.Decide.{ℕ_discrete}
 use mathlib.Core.Path.{◌≡◌, refl, sym, ap, subst, ◌∙◌}
 use mathlib.Core.Bool.{Bool, true, false}
 use mathlib.Core.List.{List}
+use mathlib.Core.Logic.{◌⊎◌, inl, inr}
 use mathlib.Core.Option.{Option, some as present, none as nothing}
 use lib.ListN.{length, get_or, set, length-set}
-use borrow.Author.Tests.{eq-eqb, ne_eqb}
-use Rattle.field.specs.Limits.{absent}
+use Rattle.std.proofs.Common.{None, Some}
 use Rattle.module.specs.Module.{BlockHandle, Statement, Return, Function, Kill}
 use Rattle.module.specs.Decode.{option_of, statement_of}
 use Rattle.module.specs.Tables.{function_of, module_of}
 use Rattle.access.specs.declared.kinded.Kinded.{Kinded}
-use Rattle.access.specs.Access.{operand_at}
+use Rattle.access.specs.Access.{operand_at, handle_in}
+use Rattle.module.specs.declared.handles.ExpressionHandle.{ExpressionHandle}
 use Rattle.access.proofs.Access.{statement_is, statement-of}
 use Rattle.valid.specs.Valid.{UsesBelow, entries_below}
 use Rattle.clearance.specs.Scope.{Scope}
@@ -25,7 +25,7 @@ use Rattle.judge.proofs.PathSteps.{function_valid}
 use Rattle.asking.specs.Asks.{StepGiven}
 use Rattle.standing.specs.Standing.{Valued, inside, Walked}
 use Rattle.standing.specs.declared.passing.Passing.{Passing}
-use Rattle.standing.specs.declared.passing.Exits.{Exits}
+use Rattle.standing.specs.Exits.{Exits}
 use Rattle.standing.proofs.Walks.{walked_nop}
 use Rattle.standing.proofs.Taken.{taken_ready, walked_break, walked_continue, walked_return, walked_value, value_full}
 use Rattle.leaving.specs.Leaves.{LeaveGiven, Leaves}
@@ -83,9 +83,6 @@ module _ {bytes t : List ℕ} {f : ℕ} {types alike paths s rs : List ℕ} {n :
       Walked S (inside a) s rs n x p u ws q → Leaves bytes t f s rs n x p l u ws q
   by_tree a e w = record { is = λ marks block. rw (e marks block) w }
 
-  pub copy_asks : (y : ℕ) → y + 1 < n → (y < length rs) × (n - 1 < length rs)
-  copy_asks y h = (omega (arith, g.spare), omega (arith, g.spare))
-
   leaves_break : {ws : List ℕ} → row.kind ≡ 5 → ws ≡ set rs (n - 1) (get_or rs x.broke 0) → Leaves bytes t f s rs n x p l s ws p
   leaves_break h e = rw e (by_tree (break l) (λ marks block. rw (decoded 5 h) (break_of (function_of bytes t f) marks block l o)) (walked_break g.ready g.targets l g.going))
 
@@ -95,8 +92,9 @@ module _ {bytes t : List ℕ} {f : ℕ} {types alike paths s rs : List ℕ} {n :
       rw e (by_tree (break l) (λ marks block. rw (decoded (past 21 (row.kind - 21)) z) (past_of (function_of bytes t f) marks block l o (row.kind - 21))) (walked_break g.ready g.targets l g.going))
 
   -- a break, or a kind past the last
-  pub leaves_broke : {ws : List ℕ} → ((row.kind ≡ 5 → ⊥) → 20 < row.kind) → ws ≡ set rs (n - 1) (get_or rs x.broke 0) → Leaves bytes t f s rs n x p l s ws p
-  leaves_broke h e = elim (ℕ_discrete row.kind 5) [ yes z ↦ leaves_break z e | no ne ↦ leaves_past (h ne) e ]
+  pub leaves_broke : {ws : List ℕ} → (row.kind ≡ 5) ⊎ (20 < row.kind) → ws ≡ set rs (n - 1) (get_or rs x.broke 0) → Leaves bytes t f s rs n x p l s ws p
+  leaves_broke (inl h) e = leaves_break h e
+  leaves_broke (inr h) e = leaves_past h e
 
   pub leaves_continue : {ws : List ℕ} → row.kind ≡ 6 → ws ≡ set rs (n - 1) (get_or rs x.continued 0) → Leaves bytes t f s rs n x p l s ws p
   leaves_continue h e = rw e (by_tree (continue l) (λ marks block. rw (decoded 6 h) (continue_of (function_of bytes t f) marks block l o)) (walked_continue g.ready g.targets l g.going))
@@ -108,21 +106,19 @@ module _ {bytes t : List ℕ} {f : ℕ} {types alike paths s rs : List ℕ} {n :
       (walked_nop g.ready g.going)
 
   -- a return
-  module _ (h : row.kind ≡ 7) {v : ℕ} (e : v ≡ o 0) {ws : List ℕ} (d : ws ≡ set rs (n - 1) (get_or rs x.returned 0)) where
-    return-tree : (w : Option ℕ) → option_of v ≡ w → (marks : List ℕ) (block : BlockHandle → Tree) →
+  module _ (h : row.kind ≡ 7) {ws : List ℕ} (d : ws ≡ set rs (n - 1) (get_or rs x.returned 0)) where
+    return-tree : (w : Option ℕ) → w ≡ option_of (o 0) → (marks : List ℕ) (block : BlockHandle → Tree) →
         statement (function_of bytes t f) marks block l (get_or (function_of bytes t f).statements l Kill) ≡ return l w
-    return-tree w i marks block = rw (decoded 7 h) (return_of (function_of bytes t f) marks block l o ∙ ap (return l) (ap option_of (sym e) ∙ i))
+    return-tree w i marks block = rw (decoded 7 h) (return_of (function_of bytes t f) marks block l o ∙ ap (return l) (sym i))
 
-    pub leaves_return : v ≡ absent → Leaves bytes t f s rs n x p l s ws p
-    leaves_return i = rw d (by_tree (return l nothing) (return-tree nothing (absent_is v i)) (walked_return g.ready g.targets l g.going))
-      where
-        absent_is : (v : ℕ) → v ≡ absent → option_of v ≡ nothing
-        absent_is v i = unfold option_of in rw (eq-eqb v absent i)
+    pub leaves_return : handle_in None ≡ option_of (o 0) → Leaves bytes t f s rs n x p l s ws p
+    unfolding handle_in
+    leaves_return i = rw d (by_tree (return l nothing) (return-tree nothing i) (walked_return g.ready g.targets l g.going))
 
-    module _ (i : v ≡ absent → ⊥) where
-      present-is : option_of v ≡ present v
-      unfolding option_of
-      present-is = rw (ne_eqb v absent i)
+    module _ (v : ExpressionHandle) (i : handle_in (Some v) ≡ option_of (o 0)) where
+      present-is : present v.0 ≡ option_of (o 0)
+      unfolding handle_in
+      present-is = i
 
       -- the value is an expression of the function, and fits
       uses : UsesBelow (length (function_of bytes t f).expressions) (entries_below f (module_of bytes t).functions) (statement_of 7 o)
@@ -130,26 +126,26 @@ module _ {bytes t : List ℕ} {f : ℕ} {types alike paths s rs : List ℕ} {n :
           subst (λ (z : Statement). UsesBelow (length (function_of bytes t f).expressions) (entries_below f (module_of bytes t).functions) z) (decoded 7 h)
           ((function_valid bytes t f g.world.given.of.read g.world.given.of.there).parts.each_statement l Kill g.there).uses
 
-      pub value_fits : fits_statement S (Return (present v)) ≡ true
+      pub value_fits : fits_statement S (Return (present v.0)) ≡ true
       unfolding statement_of
       value_fits =
-          subst (λ (z : Statement). fits_statement S z ≡ true) (statement-of bytes t f l 7 row g.is h ∙ ap Return (ap option_of (sym e) ∙ present-is)) (g.world.fit l g.there)
+          subst (λ (z : Statement). fits_statement S z ≡ true) (statement-of bytes t f l 7 row g.is h ∙ ap Return (sym present-is)) (g.world.fit l g.there)
 
-      pub value_given : StepGiven S s ws n v
+      pub value_given : StepGiven S s ws n v.0
       unfolding statement_of
       value_given = record {
         read = g.world.read;
         judged = g.world.judged;
         ready = rw d (taken_ready g.ready g.targets x.returned g.targets.returned.0 g.targets.returned.1);
         spare = omega (arith, g.spare, long);
-        there = rw (ap option_of (sym e) ∙ present-is) at uses;
+        there = rw (← present-is) at uses;
       }
         where
           long : length ws ≡ length rs
           long = ap length d ∙ length-set rs (n - 1) _
 
-      pub leaves_value : {u vs : List ℕ} {b : Bool} → Valued S v s ws n u vs b → b ≡ true → Leaves bytes t f s rs n x p l u vs p
-      leaves_value w z = by_tree (return l (present v)) (return-tree (present v) present-is) (walked_value g.ready g.targets l v (rw d at w) g.going z)
+      pub leaves_value : {u vs : List ℕ} {b : Bool} → Valued S v.0 s ws n u vs b → b ≡ true → Leaves bytes t f s rs n x p l u vs p
+      leaves_value w z = by_tree (return l (present v.0)) (return-tree (present v.0) present-is) (walked_value g.ready g.targets l v.0 (rw d at w) g.going z)
 
-      pub leaves_full : {u vs : List ℕ} {b : Bool} {q : Passing} → Valued S v s ws n u vs b → b ≡ false → q.full ≡ true → Leaves bytes t f s rs n x p l u vs q
-      leaves_full w z k = by_tree (return l (present v)) (return-tree (present v) present-is) (value_full g.ready g.targets l v (rw d at w) k z)
+      pub leaves_full : {u vs : List ℕ} {b : Bool} {q : Passing} → Valued S v.0 s ws n u vs b → b ≡ false → q.full ≡ true → Leaves bytes t f s rs n x p l u vs q
+      leaves_full w z k = by_tree (return l (present v.0)) (return-tree (present v.0) present-is) (value_full g.ready g.targets l v.0 (rw d at w) k z)

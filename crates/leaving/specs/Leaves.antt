@@ -10,7 +10,7 @@ use Rattle.standing.specs.Slots.{Ready}
 use Rattle.standing.specs.Standing.{Targets, inside, Walked}
 use Rattle.standing.specs.World.{World}
 use Rattle.standing.specs.declared.passing.Passing.{Passing}
-use Rattle.standing.specs.declared.passing.Exits.{Exits}
+use Rattle.standing.specs.Exits.{Exits}
 
 pub record LeaveGiven (bytes t : List ℕ) (f : ℕ) (types alike paths s rs : List ℕ) (n : ℕ) (x : Exits) (p : Passing) (l : ℕ) (row : Kinded) : Type 0 where
   pub world : World bytes t f types alike paths

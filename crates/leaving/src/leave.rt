@@ -2,11 +2,11 @@
 ghost use Rattle.std.specs.Prelude.{◌≡◌, ◌<◌};
 ghost use Rattle.leaving.specs.Leaves.{LeaveGiven, Leaves};
 
-use access::kinded::{Kinded, expression_operand};
-use access::kinds::{CONTINUE, LAST, RETURN};
+use access::kinded::{Kinded, optional_expression};
 use asking::ask::ask_returned;
 use hold::hold::copy;
-use module::handles::{FunctionHandle, NO_HANDLE};
+use module::handles::FunctionHandle;
+use module::kinds::StatementKind;
 use standing::passing::{Exits, Passing, filled};
 
 // A return.
@@ -31,10 +31,9 @@ fn pass_return(
 {
     let last = n - 1;
     copy(roots, x.returned, last);
-    let value = expression_operand(bytes, row, 0);
-    if value.0 == NO_HANDLE {
+    let Some(value) = optional_expression(bytes, row, 0) else {
         return p;
-    }
+    };
     if ask_returned(bytes, t, f, cells, roots, n, value) {
         return p;
     }
@@ -62,18 +61,18 @@ pub fn pass_leaving(
     ensures { Leaves bytes.now t.now f.0 cells.old roots.old n x p l cells.new roots.new result }
 {
     let last = n - 1;
-    match row.kind {
-        RETURN => pass_return(
+    match StatementKind::try_from(row.kind) {
+        Ok(StatementKind::Return) => pass_return(
             bytes, t, f, types, alike, paths, cells, roots, n, x, p, l, row,
         ),
-        CONTINUE => {
+        Ok(StatementKind::Continue) => {
             copy(roots, x.continued, last);
             p
         }
-        8..=LAST => p,
-        _ => {
+        Ok(StatementKind::Break) | Err(_) => {
             copy(roots, x.broke, last);
             p
         }
+        Ok(_) => p,
     }
 }

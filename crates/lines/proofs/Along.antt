@@ -5,7 +5,7 @@ use mathlib.Core.List.{List, [], ◌++◌, append_assoc, append-nil}
 use native.Mathlib.Omega.{arith}
 use lib.ListN.{length, length-append}
 use Rattle.lines.specs.Wrote.{Fits, Wrote}
-use Rattle.lines.proofs.Writing.{wrote_then, wrote_as, wrote_long}
+use Rattle.lines.proofs.Writing.{wrote_then, wrote_as}
 
 pub record Along (xs ys : List ℕ) (from next : ℕ) (total rest : List ℕ) : Type 0 where
   pub done : List ℕ
@@ -37,6 +37,3 @@ along_more {xs} {ys} {zs} {total} {rest} {t} {u} {from} {next} {k} w e v =
 pub along_done : {xs ys total rest : List ℕ} {from next : ℕ} → Along xs ys from next total rest → rest ≡ [] → Wrote xs ys from total next
 along_done {xs} {ys} {total} {rest} {from} {next} w e =
     wrote_as (sym (w.whole ∙ ap (λ (r : List ℕ). w.done ++ r) e ∙ append-nil w.done)) w.wrote
-
-pub along_long : {xs ys total rest : List ℕ} {from next : ℕ} → Along xs ys from next total rest → length ys ≡ length xs
-along_long w = wrote_long w.wrote

@@ -31,9 +31,3 @@ marks_next ms from n k long h =
 pub marks_none : (ms : List ℕ) (from n k : ℕ) → n ≤ k → marks_left ms from n k ≡ []
 unfolding marks_text
 marks_none ms from n k h = let e : n - k ≡ 0 = omega arith in rw e
-
-pub marks_all : (ms : List ℕ) (from n : ℕ) → marks_text (take n (drop from ms)) ≡ marks_left ms from n 0
-marks_all ms from n =
-    let b : from + 0 ≡ from = omega arith in
-    let e : n - 0 ≡ n = omega arith in
-    rw (b, e)

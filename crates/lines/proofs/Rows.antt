@@ -71,12 +71,6 @@ pub records_none : (s rs : List ℕ) (base n k : ℕ) → n ≤ k → records_le
 unfolding records_text records_of
 records_none s rs base n k h = let e : n - k ≡ 0 = omega arith in rw e
 
-pub records_all : (s rs : List ℕ) (base n : ℕ) → records_text 0 (records_of (read s rs) base n) ≡ records_left s rs base n 0
-records_all s rs base n =
-    let b : base + 0 ≡ base = omega arith in
-    let e : n - 0 ≡ n = omega arith in
-    rw (b, e)
-
 -- nothing is written
 pub wrote_none : {xs text : List ℕ} {at : ℕ} → text ≡ [] → Wrote xs xs at text at
 wrote_none {xs} {text} {at} e = wrote_as (sym e) (record { is = refl; behind = omega arith })

@@ -5,7 +5,7 @@ use mathlib.Core.List.{List, [], ◌∷◌, ◌++◌}
 use native.Mathlib.Omega.{arith}
 use native.Mathlib.Numerals.{add-one}
 use lib.ListN.{length, get_or, take, drop, set, length-append}
-use lib.Seq.{sets, sets-eq, length-sets, take-suc, take_all, length-take-le}
+use lib.Seq.{sets, sets-eq, take-suc}
 use Rattle.lines.specs.Wrote.{longest, Fits, Wrote, Front}
 
 -- behind the end nothing is set
@@ -19,9 +19,6 @@ sets-append xs at [] zs = let z : at + 0 ≡ at = omega arith in rw z
 sets-append xs at (y ∷ ys) zs =
     let z : at + suc (length ys) ≡ suc at + length ys = omega arith in
     rw z (sets-append (set xs at y) (suc at) ys zs)
-
-pub wrote_long : {xs ys t : List ℕ} {at n : ℕ} → Wrote xs ys at t n → length ys ≡ length xs
-wrote_long {xs} {ys} {t} {at} w = ap length w.is ∙ length-sets xs at t
 
 pub wrote_past : (xs : List ℕ) (at b : ℕ) → length xs ≤ at → Wrote xs xs at (b ∷ []) (at + 1)
 wrote_past xs at b h = record { is = sym (set_past xs at b h); behind = refl }
@@ -61,17 +58,8 @@ pub wrote_as : {xs ys t u : List ℕ} {from n : ℕ} → t ≡ u → Wrote xs ys
 wrote_as {xs} {ys} {t} {u} {from} {n} e w = rw e at w
 
 -- a loop over the bytes of a word
-pub word_none : (xs : List ℕ) (at : ℕ) → Wrote xs xs at [] at
-word_none xs at = record { is = refl; behind = omega arith }
-
-pub word_fits : (word : List ℕ) {xs ys : List ℕ} {at k n b : ℕ} → k < length word → Fits at word → Wrote xs ys at (take k word) n → Fits n (b ∷ [])
-word_fits word {xs} {ys} {at} {k} h f a = record { room = omega (arith, f.room, a.behind, length-take-le k word (omega arith)) }
-
 pub word_more : (word : List ℕ) {xs ys zs : List ℕ} {at k n m : ℕ} → k < length word → Wrote xs ys at (take k word) n → Wrote ys zs n (get_or word k 0 ∷ []) m → Wrote xs zs at (take (k + 1) word) m
 word_more word {k = k} h a b = rw (add-one k, take-suc word k 0 h) (wrote_then a b)
-
-pub word-done : (word : List ℕ) {xs ys : List ℕ} {at k n : ℕ} → length word ≤ k → Wrote xs ys at (take k word) n → Wrote xs ys at word n
-word-done word {k = k} h a = rw (take_all k word h) at a
 
 -- a text from byte 0 on, in a buffer that is long enough
 from_zero : (n : ℕ) → 0 + n ≡ n

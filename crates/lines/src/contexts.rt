@@ -40,6 +40,7 @@ pub fn write_variables(out: &mut [u8], at: usize, cells: &[u32], word: &[u8], ma
 {
     let mut n = map;
     let mut next = at;
+    // Stays: an entry names the next.
     while 2 < n {
         let x = look(cells, n);
         let k = variable_of(x.index);

@@ -4,28 +4,35 @@ ghost use Rattle.lines.specs.Text.{kind_name};
 ghost use Rattle.lines.specs.Wrote.{Fits, Wrote};
 
 use crate::text::write_word;
+use module::kinds::StatementKind;
 
 // An ImageAtomic has none.
 fn name(kind: u16) -> &'static [u8]
     ensures { result.now ≡ kind_name kind }
 {
-    match kind {
-        0 => b"emit",
-        1 => b"blockstmt",
-        2 => b"if",
-        3 => b"switch",
-        4 => b"loop",
-        6 => b"continue",
-        7 => b"return",
-        8 => b"kill",
-        9..=10 => b"barrier",
-        11 => b"",
-        12 => b"store",
-        13 => b"atomic",
-        14 => b"call",
-        15 => b"imagestore",
-        16..=20 => b"rayquery",
-        _ => b"break",
+    match StatementKind::try_from(kind) {
+        Ok(StatementKind::Emit) => b"emit",
+        Ok(StatementKind::Block) => b"blockstmt",
+        Ok(StatementKind::If) => b"if",
+        Ok(StatementKind::Switch) => b"switch",
+        Ok(StatementKind::Loop) => b"loop",
+        Ok(StatementKind::Continue) => b"continue",
+        Ok(StatementKind::Return) => b"return",
+        Ok(StatementKind::Kill) => b"kill",
+        Ok(StatementKind::ControlBarrier) => b"barrier",
+        Ok(StatementKind::MemoryBarrier) => b"barrier",
+        Ok(StatementKind::ImageAtomic) => b"",
+        Ok(StatementKind::Store) => b"store",
+        Ok(StatementKind::Atomic) => b"atomic",
+        Ok(StatementKind::Call) => b"call",
+        Ok(StatementKind::ImageStore) => b"imagestore",
+        Ok(StatementKind::RayQuery) => b"rayquery",
+        Ok(StatementKind::WorkGroupUniformLoad) => b"rayquery",
+        Ok(StatementKind::SubgroupBallot) => b"rayquery",
+        Ok(StatementKind::SubgroupGather) => b"rayquery",
+        Ok(StatementKind::SubgroupCollectiveOperation) => b"rayquery",
+        Ok(StatementKind::Break) => b"break",
+        Err(_) => b"break",
     }
 }
 

@@ -20,13 +20,11 @@ fn write_whole(out: &mut [u8], at: usize, n: u32) -> usize
     requires { Fits at (whole_text n) }
     ensures { Wrote out.old out.new at (whole_text n) result }
 {
-    if n == 0 {
-        return write_word(out, at, b"all");
+    match n {
+        0 => write_word(out, at, b"all"),
+        1 => write_word(out, at, b"exist"),
+        _ => write_word(out, at, b"{}"),
     }
-    if n == 1 {
-        return write_word(out, at, b"exist");
-    }
-    write_word(out, at, b"{}")
 }
 
 fn write_plain(out: &mut [u8], at: usize, n: u32, whole: bool) -> usize

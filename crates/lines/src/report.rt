@@ -47,15 +47,8 @@ fn write_records_of(
     ensures { Wrote out.old out.new at (records_text 0 (records_in t.now exprs_slot f.0 (read cells.now slots.now))) result }
 {
     let row = row_at(t, f.0);
-    let first = (row.items as usize) + (row.arguments as usize) + (row.locals as usize);
-    write_records(
-        out,
-        at,
-        cells,
-        slots,
-        EXPRS + first,
-        row.expressions as usize,
-    )
+    let first = EXPRS + row.expressions_from();
+    write_records(out, at, cells, slots, first, row.expressions as usize)
 }
 
 // The lines of the report on f, whose context stands in the slots from `at` on; they begin at byte 0, and the answer is their length.

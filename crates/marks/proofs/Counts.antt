@@ -2,8 +2,7 @@
 use mathlib.Core.Path.{◌≡◌, refl, sym, ap, ◌∙◌}
 use mathlib.Core.List.{List}
 use native.Mathlib.Omega.{arith}
-use native.Mathlib.Decide.{ℕ_discrete}
-use Prim.Native.Nat.{ℕ, zero, suc, ◌-◌, ◌≤◌}
+use Prim.Native.Nat.{◌<◌, ℕ, zero, suc, ◌-◌, ◌≤◌}
 use Rattle.module.specs.Decode.{statement_of}
 use Rattle.module.specs.Marks.{mark_count}
 use Rattle.access.specs.declared.kinded.Kinded.{Kinded}
@@ -36,18 +35,13 @@ mark_one k o =
     (λ h. absurd (h.emit refl), (λ h. absurd (h.block refl), (λ h. refl, (λ h. refl, (λ h. refl, (λ h. refl, (λ h. refl, (λ h. refl, (λ h. absurd (h.kill refl), (λ h. absurd (h.control refl), (λ h. absurd (h.memory refl), (λ h. refl, (λ h. refl, (λ h. refl, (λ h. absurd (h.call refl), (λ h. refl, (λ h. refl, (λ h. refl, (λ h. refl, (λ h. refl, (λ h. refl, λ k h. refl)))))))))))))))))))))
     k
 
--- those from a kill to a memory barrier have none
-pub mark_none : (k : ℕ) (o : ℕ → ℕ) → 8 ≤ k → k ≤ 10 → 0 ≡ mark_count (statement_of k o)
+-- a block, and those from a kill to a memory barrier have none
+pub mark_none : (k : ℕ) (o : ℕ → ℕ) → (k ≡ 0 → ⊥) → k ≤ 10 → (1 < k → 7 < k) → 0 ≡ mark_count (statement_of k o)
 unfolding mark_count statement_of
-mark_none k o a b =
-    elim (ℕ_discrete k 8) [
-      | yes e ↦ rw e
-      | no d ↦
-          elim (ℕ_discrete k 9) [
-            | yes e ↦ rw e
-            | no c ↦ let e : k ≡ 10 = omega arith in rw e
-          ]
-    ]
+mark_none k o =
+    by-kind 11 (λ k. (k ≡ 0 → ⊥) → k ≤ 10 → (1 < k → 7 < k) → 0 ≡ mark_count (statement_of k o))
+    (λ z m h. absurd (z refl), (λ z m h. refl, (λ z m h. absurd (omega (arith, h (omega arith))), (λ z m h. absurd (omega (arith, h (omega arith))), (λ z m h. absurd (omega (arith, h (omega arith))), (λ z m h. absurd (omega (arith, h (omega arith))), (λ z m h. absurd (omega (arith, h (omega arith))), (λ z m h. absurd (omega (arith, h (omega arith))), (λ z m h. refl, (λ z m h. refl, (λ z m h. refl, λ k z m h. absurd (omega arith))))))))))))
+    k
 
 mark_emit : (k : ℕ) (o : ℕ → ℕ) → k ≡ 0 → mark_count (statement_of k o) ≡ suc (o 1) - o 0
 unfolding mark_count statement_of

@@ -11,6 +11,9 @@ use lib.ListN.{length, get_or}
 use Rattle.field.specs.Limits.{max_statements}
 use Rattle.module.specs.Module.{BlockRange, SwitchCase, Statement, Break, Kill, Function, Module}
 use Rattle.module.specs.Knot.{below}
+use Rattle.module.specs.KindNumbers.{statement_code}
+use Rattle.module.specs.declared.kinds.StatementKind.{StatementKind}
+use Rattle.module.specs.declared.kinds.StatementKind.TheVariants.{If, Loop}
 use Rattle.module.specs.Decode.{tab, case_of, statement_of}
 use Rattle.module.specs.Blocks.{held}
 use Rattle.module.specs.Tables.{function_of, module_of}
@@ -58,27 +61,20 @@ cases_down w o (suc n) =
     cases_last w (tab n (case_of o)) (case_of o n) ∙ ap (λ (r : Option ℕ). or_else (w (o (3 + 2 * n))) r) (cases_down w o n)
 
 -- a statement by its kind: one that holds blocks, or none
-pub held_ray : (k : ℕ) (w : ℕ → Option ℕ) (s : ℕ) (o : ℕ → ℕ) → k < 16 → ray_down w (held_number k o) (held_count k o) ≡ ray_of w s (statement_of k o)
+pub held_ray : (k : ℕ) (w : ℕ → Option ℕ) (s : ℕ) (o : ℕ → ℕ) → (16 ≤ k → 20 < k) → ray_down w (held_number k o) (held_count k o) ≡ ray_of w s (statement_of k o)
 unfolding statement_of ray_of ray_down held_number held_count
 held_ray k w s o =
-    by-kind 16 (λ k. k < 16 → ray_down w (held_number k o) (held_count k o) ≡ ray_of w s (statement_of k o))
-    (λ h. refl, (λ h. or_end (w (o 0)), (λ h. ap (or_else (w (o 1))) (or_end (w (o 2))), (λ h. sym (cases_down w o (o 1)), (λ h. ap (or_else (w (o 0))) (or_end (w (o 1))), (λ h. refl, (λ h. refl, (λ h. refl, (λ h. refl, (λ h. refl, (λ h. refl, (λ h. refl, (λ h. refl, (λ h. refl, (λ h. refl, (λ h. refl, λ k h. absurd (omega arith)))))))))))))))))
+    by-kind 21 (λ k. (16 ≤ k → 20 < k) → ray_down w (held_number k o) (held_count k o) ≡ ray_of w s (statement_of k o))
+    (λ h. refl, (λ h. or_end (w (o 0)), (λ h. ap (or_else (w (o 1))) (or_end (w (o 2))), (λ h. sym (cases_down w o (o 1)), (λ h. ap (or_else (w (o 0))) (or_end (w (o 1))), (λ h. refl, (λ h. refl, (λ h. refl, (λ h. refl, (λ h. refl, (λ h. refl, (λ h. refl, (λ h. refl, (λ h. refl, (λ h. refl, (λ h. refl, (λ h. absurd (omega (arith, h (omega arith))), (λ h. absurd (omega (arith, h (omega arith))), (λ h. absurd (omega (arith, h (omega arith))), (λ h. absurd (omega (arith, h (omega arith))), (λ h. absurd (omega (arith, h (omega arith))), λ k h. refl)))))))))))))))))))))
     k
 
 -- or one that is joined as a RayQuery
 module _ (w : ℕ → Option ℕ) (s : ℕ) (o : ℕ → ℕ) where
-  later : ℕ → Type 0
-  later k = 16 ≤ k → (k ≤ 20 → some s ≡ ray_of w s (statement_of k o)) × (20 < k → nothing ≡ ray_of w s (statement_of k o))
-
-  early : (k : ℕ) → k < 16 → later k
-  unfolding later
-  early k l h = absurd (omega arith)
-
-  pub ray_kind : (k : ℕ) → 16 ≤ k → (k ≤ 20 → some s ≡ ray_of w s (statement_of k o)) × (20 < k → nothing ≡ ray_of w s (statement_of k o))
-  unfolding later statement_of ray_of
+  pub ray_kind : (k : ℕ) → 16 ≤ k → k ≤ 20 → some s ≡ ray_of w s (statement_of k o)
+  unfolding statement_of ray_of
   ray_kind =
-      by-kind 21 (λ k. 16 ≤ k → (k ≤ 20 → some s ≡ ray_of w s (statement_of k o)) × (20 < k → nothing ≡ ray_of w s (statement_of k o)))
-      (early 0 (omega arith), (early 1 (omega arith), (early 2 (omega arith), (early 3 (omega arith), (early 4 (omega arith), (early 5 (omega arith), (early 6 (omega arith), (early 7 (omega arith), (early 8 (omega arith), (early 9 (omega arith), (early 10 (omega arith), (early 11 (omega arith), (early 12 (omega arith), (early 13 (omega arith), (early 14 (omega arith), (early 15 (omega arith), (λ h. (λ l. refl, λ l. absurd (omega arith)), (λ h. (λ l. refl, λ l. absurd (omega arith)), (λ h. (λ l. refl, λ l. absurd (omega arith)), (λ h. (λ l. refl, λ l. absurd (omega arith)), (λ h. (λ l. refl, λ l. absurd (omega arith)), λ k h. (λ l. absurd (omega arith), λ l. refl))))))))))))))))))))))
+      by-kind 21 (λ k. 16 ≤ k → k ≤ 20 → some s ≡ ray_of w s (statement_of k o))
+      (λ l h. absurd (omega arith), (λ l h. absurd (omega arith), (λ l h. absurd (omega arith), (λ l h. absurd (omega arith), (λ l h. absurd (omega arith), (λ l h. absurd (omega arith), (λ l h. absurd (omega arith), (λ l h. absurd (omega arith), (λ l h. absurd (omega arith), (λ l h. absurd (omega arith), (λ l h. absurd (omega arith), (λ l h. absurd (omega arith), (λ l h. absurd (omega arith), (λ l h. absurd (omega arith), (λ l h. absurd (omega arith), (λ l h. absurd (omega arith), (λ l h. refl, (λ l h. refl, (λ l h. refl, (λ l h. refl, (λ l h. refl, λ k l h. absurd (omega arith))))))))))))))))))))))
 
 -- the blocks that a statement holds are below b
 two : (P : ℕ → Type 0) → P 0 → P 1 → (j : ℕ) → j < 2 → P j
@@ -109,10 +105,10 @@ count_none k o =
     (λ a b c d. refl, (λ a b c d. absurd (a refl), (λ a b c d. absurd (b refl), (λ a b c d. absurd (c refl), (λ a b c d. absurd (d refl), λ k a b c d. refl)))))
     k
 
-pub count_two : (k : ℕ) (o : ℕ → ℕ) → (k ≡ 2) ⊎ (k ≡ 4) → 2 ≡ held_count k o
+pub count_two : {k : StatementKind} (o : ℕ → ℕ) → (k ≡ If) ⊎ (k ≡ Loop) → 2 ≡ held_count (statement_code k) o
 unfolding held_count
-count_two k o (inl e) = rw e
-count_two k o (inr e) = rw e
+count_two o (inl e) = rw e
+count_two o (inr e) = rw e
 
 pub count_last : (k : ℕ) (o : ℕ → ℕ) (j : ℕ) → (k ≡ 1 → ⊥) → (k ≡ 2 → ⊥) → (k ≡ 3 → ⊥) → j < held_count k o → (k ≡ 4) × (j < 2)
 count_last k o j a b c h =
@@ -258,7 +254,7 @@ module _ (bytes t : List ℕ) (f b s : ℕ) (p : StatementIn bytes t f b s) (r :
       (l, record { was = of.was; function = of.function; block = omega arith })
 
   -- what the blocks that the statement holds give
-  pub statement_ray : r.kind < 16 → ray_down (first_ray (module_of bytes t) f) (held_number r.kind (operand_at bytes r)) (held_count r.kind (operand_at bytes r)) ≡ ray_of (below (first_ray (module_of bytes t) f) nothing b) s (statement_at (module_of bytes t) f s)
+  pub statement_ray : (16 ≤ r.kind → 20 < r.kind) → ray_down (first_ray (module_of bytes t) f) (held_number r.kind (operand_at bytes r)) (held_count r.kind (operand_at bytes r)) ≡ ray_of (below (first_ray (module_of bytes t) f) nothing b) s (statement_at (module_of bytes t) f s)
   statement_ray h =
       down_same (first_ray (module_of bytes t) f) (below (first_ray (module_of bytes t) f) nothing b) (held_number r.kind (operand_at bytes r)) (held_count r.kind (operand_at bytes r))
       (λ j l. sym (below-lt (first_ray (module_of bytes t) f) nothing b (held_number r.kind (operand_at bytes r) j) (held_block j l).0))

@@ -13,6 +13,7 @@ use access::kinded::{operand, statement};
 use access::whole::functions;
 use field::limits::MAX_FUNCTIONS;
 use module::handles::FunctionHandle;
+use module::kinds::StatementKind;
 use module::tables::{MAX_ITEMS, put, row_at, word};
 
 // By function, behind the places by item.
@@ -47,19 +48,6 @@ pub fn place(t: &[u32], places: &[u32], f: FunctionHandle, s: u32) -> usize
     word(places, statement_number(t, f, s)) as usize
 }
 
-// How many marks a statement of a kind other than an emit has.
-fn count_by_kind(kind: u16) -> u32
-    requires { kind ≡ 0 → ⊥ }
-    ensures { (o : ℕ → ℕ) → result ≡ mark_count (statement_of kind o) }
-{
-    match kind {
-        14 => 2,
-        1 => 0,
-        8..=10 => 0,
-        _ => 1,
-    }
-}
-
 // How many numbers there are from first to last.
 fn range_count(first: u16, last: u16) -> u32
     ensures { result ≡ suc last - first }
@@ -73,11 +61,17 @@ pub fn mark_count(bytes: &[u8], t: &[u32], f: FunctionHandle, s: u32) -> u32
     ensures { result ≡ mark_count (statement_at bytes.now t.now f.0 s) }
 {
     let row = statement(bytes, t, f, s);
-    let kind = row.kind;
-    if kind == 0 {
-        return range_count(operand(bytes, row, 0), operand(bytes, row, 1));
+    match StatementKind::try_from(row.kind) {
+        Ok(StatementKind::Emit) => range_count(operand(bytes, row, 0), operand(bytes, row, 1)),
+        Ok(StatementKind::Call) => 2,
+        Ok(
+            StatementKind::Block
+            | StatementKind::Kill
+            | StatementKind::ControlBarrier
+            | StatementKind::MemoryBarrier,
+        ) => 0,
+        _ => 1,
     }
-    count_by_kind(kind)
 }
 
 // The places of the statements of f, whose marks begin at `first`. The answer is where they end.

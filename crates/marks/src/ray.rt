@@ -12,14 +12,18 @@ ghost use Rattle.marks.specs.Ray.{held_count, held_number, ray_in, BlockOf, Stat
 use access::function::{block, body_block};
 use access::kinded::{Kinded, block_operand, operand, statement};
 use module::handles::{BlockHandle, FunctionHandle};
+use module::kinds::StatementKind;
 
 fn held_count(bytes: &[u8], row: Kinded) -> u32
     ensures { (result ≡ held_count row.kind (operand_at bytes.now row)) × (result < 65536) }
 {
-    match row.kind {
-        1 => 1,
-        2 | 4 => 2,
-        3 => operand(bytes, row, 1) as u32,
+    let Ok(kind) = StatementKind::try_from(row.kind) else {
+        return 0;
+    };
+    match kind {
+        StatementKind::Block => 1,
+        StatementKind::If | StatementKind::Loop => 2,
+        StatementKind::Switch => operand(bytes, row, 1) as u32,
         _ => 0,
     }
 }
@@ -28,23 +32,12 @@ fn held_number(bytes: &[u8], row: Kinded, j: u32) -> BlockHandle
     requires { (j < held_count row.kind (operand_at bytes.now row)) × (j < 65536) }
     ensures { result.0 ≡ held_number row.kind (operand_at bytes.now row) j }
 {
-    match row.kind {
-        1 => block_operand(bytes, row, 0),
-        2 => block_operand(bytes, row, 2 - j),
-        3 => block_operand(bytes, row, 3 + 2 * j),
+    match StatementKind::try_from(row.kind) {
+        Ok(StatementKind::Block) => block_operand(bytes, row, 0),
+        Ok(StatementKind::If) => block_operand(bytes, row, 2 - j),
+        Ok(StatementKind::Switch) => block_operand(bytes, row, 3 + 2 * j),
         _ => block_operand(bytes, row, 1 - j),
     }
-}
-
-// Of the kinds from 16 on, those up to 20 are joined as a RayQuery.
-fn ray_of(kind: u16, s: u32) -> Option<u32>
-    requires { 16 ≤ kind }
-    ensures { (w : ℕ → Option ℕ) (o : ℕ → ℕ) → ray_in result ≡ ray_of w s (statement_of kind o) }
-{
-    if kind <= 20 {
-        return Some(s);
-    }
-    None
 }
 
 // The first in a statement of the block b.
@@ -54,9 +47,16 @@ fn ray_statement(bytes: &[u8], t: &[u32], f: FunctionHandle, b: BlockHandle, s: 
     ensures { ray_in result ≡ ray_of (below (first_ray (module_of bytes.now t.now) f.0) none b.0) s (statement_at (module_of bytes.now t.now) f.0 s) }
 {
     let row = statement(bytes, t, f, s);
-    let kind = row.kind;
-    if kind >= 16 {
-        return ray_of(kind, s);
+    // these kinds' marks are joined as a RayQuery's are
+    if let Ok(
+        StatementKind::RayQuery
+        | StatementKind::WorkGroupUniformLoad
+        | StatementKind::SubgroupBallot
+        | StatementKind::SubgroupGather
+        | StatementKind::SubgroupCollectiveOperation,
+    ) = StatementKind::try_from(row.kind)
+    {
+        return Some(s);
     }
     let n = held_count(bytes, row);
     for j in (0..n).rev() {

@@ -27,12 +27,6 @@ pub fn set_call(marks: &mut [u8], at: usize, call_required: bool, result_require
     set_mark(marks, at + 1, result_required);
 }
 
-pub fn or(a: bool, b: bool) -> bool
-    ensures { result ≡ (a || b) }
-{
-    a || b
-}
-
 // Those of an emit: which of the n expressions have a record, whose slots begin at `from`. The answer says whether any has.
 pub fn set_emit(marks: &mut [u8], at: usize, slots: &[u32], from: usize, n: usize) -> bool
     requires { (at + n ≤ length marks.old) × (from + n ≤ length slots.now) }
@@ -42,7 +36,7 @@ pub fn set_emit(marks: &mut [u8], at: usize, slots: &[u32], from: usize, n: usiz
     for k in 0..n {
         let recorded = slots[from + k] != 2;
         set_mark(marks, at + k, recorded);
-        found = or(found, recorded);
+        found |= recorded;
     }
     found
 }

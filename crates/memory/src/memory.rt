@@ -12,14 +12,14 @@ ghost use Rattle.memory.specs.Flat.{flat_from};
 ghost use Rattle.memory.specs.Want.{asked};
 ghost use Rattle.memory.specs.Memory.{read, sum_from, counted, Recorded, Memory, Tidied, Flats, Empty, Putting, Noting, Noted, join_room, Joining, Totalling, Totalled};
 
-use crate::layout::{FLAT, FLATS, GLOBALS, LIVE};
+use crate::layout::{ALL, EXIST, FLAT, FLATS, GLOBALS, LIVE};
 use crate::want::{Want, piece};
 use module::handles::GlobalHandle;
 use part::collect::collect;
 use part::entry::add_entry;
 use part::limits::SPINE;
 use part::req::{get, insert};
-use part::store::{entries, init, look, make};
+use part::store::{ALL_PIECE, EMPTY_PIECE, EXIST_PIECE, entries, init, look, make};
 
 // The flat part of n digits of the code c, from the component k on.
 fn flat(cells: &mut [u32], k: u32, n: u32, c: u32) -> u32
@@ -28,7 +28,7 @@ fn flat(cells: &mut [u32], k: u32, n: u32, c: u32) -> u32
     ensures { Made cells.old cells.new (flat_from k n c) n result }
 {
     if n == 0 {
-        return 2;
+        return EMPTY_PIECE;
     }
     let r = flat(cells, k + 1, n - 1, c / 3);
     let d = c % 3;
@@ -57,9 +57,9 @@ pub fn init_memory(cells: &mut [u32], slots: &mut [u32])
     ensures { Empty cells.new slots.new }
 {
     init(cells);
-    slots.fill(2);
-    slots[0] = 0;
-    slots[1] = 1;
+    slots.fill(EMPTY_PIECE);
+    slots[ALL] = ALL_PIECE;
+    slots[EXIST] = EXIST_PIECE;
     flats(cells, slots);
 }
 
@@ -106,7 +106,7 @@ fn is_record(cells: &[u32], n: u32, p: u32) -> bool
     requires n_bound { ((n < top cells.now) × (p < top cells.now)) × Recorded (part cells.now n) }
     ensures { result ≡ same (part cells.now n) (more 0 (part cells.now p) none) }
 {
-    if n < 3 {
+    if n <= EMPTY_PIECE {
         return false;
     }
     let x = look(cells, n);
@@ -123,7 +123,7 @@ pub fn note(cells: &mut [u32], slots: &mut [u32], at: usize, w: Want, sum: usize
     if is_record(cells, slots[at], p) {
         return sum;
     }
-    let r = make(cells, 0, p, 2);
+    let r = make(cells, 0, p, EMPTY_PIECE);
     put(cells, slots, at, r, sum)
 }
 

@@ -3,6 +3,7 @@ ghost use Rattle.std.specs.Prelude.{◌≡◌, ◌+◌, ◌≤◌, ◌<◌, leng
 ghost use Rattle.memory.specs.Stretches.{four_set, pieces_at, copied, forgotten};
 
 use context::required_context::RequiredContext;
+use part::store::EMPTY_PIECE;
 
 // The context in the four slots from `at` on.
 pub fn load_context(slots: &[u32], at: usize) -> RequiredContext
@@ -43,10 +44,10 @@ pub fn clear_context(slots: &mut [u32], at: usize)
     ensures { slots.new ≡ four_set slots.old at 2 2 2 2 }
 {
     let empty = RequiredContext {
-        globals: 2,
-        locals: 2,
-        args: 2,
-        retval: 2,
+        globals: EMPTY_PIECE,
+        locals: EMPTY_PIECE,
+        args: EMPTY_PIECE,
+        retval: EMPTY_PIECE,
     };
     save_context(slots, at, empty);
 }
@@ -58,7 +59,7 @@ pub fn extend(slots: &mut [u32], from: usize, to: usize, n: usize)
 {
     for k in 0..n {
         let r = slots[from + k];
-        if r != 2 {
+        if r != EMPTY_PIECE {
             slots[to + k] = r;
         }
     }
@@ -69,5 +70,5 @@ pub fn forget(slots: &mut [u32], from: usize, n: usize)
     requires { from + n ≤ length slots.old }
     ensures { slots.new ≡ forgotten slots.old from n }
 {
-    slots[from..from + n].fill(2);
+    slots[from..from + n].fill(EMPTY_PIECE);
 }

@@ -11,7 +11,7 @@ ghost use Rattle.context.specs.Swizzle.{swizzled};
 
 use crate::layout::{ALL, EXIST, FLAT, PATH};
 use field::limits::{MAX_DEPTH, MAX_ENTRIES};
-use part::store::{depth, look, make};
+use part::store::{ALL_PIECE, EMPTY_PIECE, EXIST_PIECE, depth, look, make};
 
 // The part of a slot, `down` positions of entries on the way into it, and `up` indexes wrapped around, from path[MAX_DEPTH] on.
 // Stays: with no heap both stand in one array with their lengths beside it.
@@ -84,11 +84,11 @@ pub fn kid(cells: &[u32], n: u32) -> u32
     requires n_bound { n < top cells.now }
     ensures { (result < top cells.now) × (part cells.now result ≡ kid (part cells.now n)) }
 {
-    if 2 < n {
+    if EMPTY_PIECE < n {
         let x = look(cells, n);
         return x.child;
     }
-    2
+    EMPTY_PIECE
 }
 
 // The entries of n after the first k.
@@ -99,11 +99,11 @@ pub fn tail(cells: &[u32], n: u32, k: u32) -> u32
 {
     let mut m = n;
     for j in 0..k {
-        if 2 < m {
+        if EMPTY_PIECE < m {
             let x = look(cells, m);
             m = x.rest;
         } else {
-            m = 2;
+            m = EMPTY_PIECE;
         }
     }
     m
@@ -136,7 +136,7 @@ pub fn piece(cells: &mut [u32], w: Want, n: u32) -> u32
     let up = w.up;
     let mut m = reach(cells, w, n);
     for k in 0..up {
-        m = make(cells, path[MAX_DEPTH + k], m, 2);
+        m = make(cells, path[MAX_DEPTH + k], m, EMPTY_PIECE);
     }
     m
 }
@@ -173,7 +173,7 @@ pub fn is_all(cells: &[u32], slots: &[u32], w: Want) -> bool
     requires { Memory cells.now slots.now × Wants cells.now slots.now w }
     ensures { result ≡ is_all (asked cells.now slots.now w) }
 {
-    is_plain(cells, slots, w, 0)
+    is_plain(cells, slots, w, ALL_PIECE)
 }
 
 // Whether w asks only that it is there.
@@ -181,7 +181,7 @@ pub fn is_exist(cells: &[u32], slots: &[u32], w: Want) -> bool
     requires { Memory cells.now slots.now × Wants cells.now slots.now w }
     ensures { result ≡ is_exist (asked cells.now slots.now w) }
 {
-    is_plain(cells, slots, w, 1)
+    is_plain(cells, slots, w, EXIST_PIECE)
 }
 
 // The index of the entry k of what w asks, if there is one.
@@ -200,7 +200,7 @@ pub fn entry(cells: &[u32], slots: &[u32], w: Want, k: u32) -> Option<u32>
     let slot = w.slot;
     let m = reach(cells, w, slots[slot]);
     let t = tail(cells, m, k);
-    if t < 3 {
+    if t <= EMPTY_PIECE {
         return None;
     }
     let x = look(cells, t);
@@ -267,6 +267,7 @@ pub fn swizzle(cells: &[u32], slots: &[u32], w: Want, pattern: [u32; 4]) -> Opti
     }
     let mut digits: [usize; 4] = [0; 4];
     let mut k = 0;
+    // Stays: the entries end where one is missing; a `for` would need a count of them, which nothing else asks for, and a way out beside.
     while let Some(i) = entry(cells, slots, w, k) {
         if 4 <= i {
             return None;

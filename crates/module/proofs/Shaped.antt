@@ -2,12 +2,11 @@
 use mathlib.Core.Path.{◌≡◌, refl, sym, ap, ◌∙◌}
 use mathlib.Core.Bool.{Bool, true, false}
 use mathlib.Core.List.{List}
-use mathlib.Core.Option.{some}
 use Prim.Native.Nat.{ℕ, zero, suc, ◌+◌, ◌*◌, ◌-◌, ◌/◌, ◌%◌, ◌<◌, ◌≤◌}
 use native.Mathlib.Omega.{arith}
 use lib.Dec.{eqb}
 use lib.ListN.{length}
-use borrow.Author.Tests.{eq-eqb, ne_eqb}
+use borrow.Author.Tests.{ne_eqb}
 use Rattle.std.specs.Prelude as rattle
 use Rattle.std.specs.Prelude.{Some, None, option_map}
 use Rattle.std.proofs.lemmas.Option.{none-some, same_Some}
@@ -15,7 +14,7 @@ use Rattle.module.specs.declared.shape.Class.{Class}
 use Rattle.module.specs.Record.{fields_to}
 use Rattle.module.specs.Shape.{Operand}
 use Rattle.module.specs.Packed.{meant, class_at, class_then, unpack}
-use Rattle.module.specs.Operands.{Scope, taken, operands, on_left, is_nil}
+use Rattle.module.specs.Operands.{Scope, operands, on_left, is_nil}
 use Rattle.module.specs.Scan.{Took, Fresh, Stamped, class_taken, left_of}
 use Rattle.module.proofs.Scanning.{became}
 

@@ -4,6 +4,7 @@ pub mod Checks
 pub mod Decode
 pub mod File
 pub mod Kinds
+pub mod KindNumbers
 pub mod Knot
 pub mod Marks
 pub mod Module

@@ -8,6 +8,7 @@ ghost use Rattle.module.specs.Reading.{rank};
 ghost use Rattle.module.specs.Tables.{scope_in};
 ghost use Rattle.module.specs.Checks.{before_of, shape_in, typed_in};
 
+use crate::kinds::{ExpressionKind, StatementKind, TypeKind};
 use crate::operands::operands;
 use crate::record::{Mark, body};
 use crate::shape::{T, TD, WY, expression_shape, statement_shape, type_shape};
@@ -53,7 +54,7 @@ pub fn over(bytes: &[u8], at: u32, mark: Mark, c: Counts) -> bool
             if MAX_TYPES <= (c.types as usize) {
                 return true;
             }
-            count_over(bytes, at, 0, 6, 1, MAX_MEMBERS)
+            count_over(bytes, at, 0, TypeKind::Struct as u16, 1, MAX_MEMBERS)
         }
         Mark::GV => MAX_GLOBALS <= (c.globals as usize),
         Mark::FN => MAX_FUNCTIONS <= (c.functions as usize),
@@ -63,14 +64,21 @@ pub fn over(bytes: &[u8], at: u32, mark: Mark, c: Counts) -> bool
             if MAX_EXPRESSIONS <= (row.expressions as usize) {
                 return true;
             }
-            count_over(bytes, at, 1, 8, 2, MAX_COMPONENTS)
+            count_over(
+                bytes,
+                at,
+                1,
+                ExpressionKind::Compose as u16,
+                2,
+                MAX_COMPONENTS,
+            )
         }
         Mark::BK => false,
         Mark::ST => {
             if MAX_STATEMENTS <= (row.statements as usize) {
                 return true;
             }
-            count_over(bytes, at, 0, 14, 2, MAX_ARGUMENTS)
+            count_over(bytes, at, 0, StatementKind::Call as u16, 2, MAX_ARGUMENTS)
         }
     }
 }

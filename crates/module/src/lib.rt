@@ -4,6 +4,7 @@
 pub mod access;
 pub mod checks;
 pub mod handles;
+pub mod kinds;
 pub mod operands;
 pub mod record;
 pub mod shape;

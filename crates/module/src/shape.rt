@@ -168,26 +168,29 @@ pub fn class_of(bits: u32) -> Option<Class>
 pub fn type_shape(kind: u16) -> u32
     ensures { unpack classes result ≡ type_shape kind }
 {
-    if 8 < kind {
+    let i = kind as usize;
+    if TYPES.len() <= i {
         return NEVER;
     }
-    TYPES[kind as usize]
+    TYPES[i]
 }
 
 pub fn expression_shape(kind: u16) -> u32
     ensures { unpack classes result ≡ expression_shape kind }
 {
-    if 31 < kind {
+    let i = kind as usize;
+    if EXPRESSIONS.len() <= i {
         return NEVER;
     }
-    EXPRESSIONS[kind as usize]
+    EXPRESSIONS[i]
 }
 
 pub fn statement_shape(kind: u16) -> u32
     ensures { unpack classes result ≡ statement_shape kind }
 {
-    if 20 < kind {
+    let i = kind as usize;
+    if STATEMENTS.len() <= i {
         return NEVER;
     }
-    STATEMENTS[kind as usize]
+    STATEMENTS[i]
 }

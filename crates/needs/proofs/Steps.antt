@@ -22,9 +22,6 @@ pub record Going (s : List ℕ) (n : ℕ) (path : List ℕ) (m k : ℕ) : Type 0
   pub along : k ≤ length path
   pub is : below (part s m) (drop k path) ≡ below (part s n) path
 
-pub going_start : {s : List ℕ} {n : ℕ} (path : List ℕ) → n < top s → Going s n path n 0
-going_start path h = record { inside = h; along = omega arith; is = refl }
-
 next_index : (p : PartReq) (path : List ℕ) (k : ℕ) → k < length path → below p (drop k path) ≡ below (or_none (get_subpart p (get_or path k 0))) (drop (k + 1) path)
 unfolding below
 next_index p path k h = rw (drop-cons path k 0 h, add-one)
@@ -75,8 +72,3 @@ module _ {s t path : List ℕ} {a m k j : ℕ} (b : Around s t path a m k) (e : 
           cost = omega (arith, b.made.cost, d.cost, b.along);
         };
       }
-
-pub around_end : {s t path : List ℕ} {a m k : ℕ} → Around s t path a m k → k ≤ 0 → Made s t (under path (part s a)) (length path) m
-around_end {k = k} b h =
-    let z : k ≡ 0 = omega arith in
-    record { kept = b.made.kept; piece = b.made.piece; is = b.made.is ∙ rw z; cost = omega (arith, b.made.cost) }

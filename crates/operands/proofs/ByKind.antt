@@ -1,11 +1,12 @@
 -- What an expression asks of its operands, kind by kind: its row gives its arm, and that its list of asks. That each lies within its type, and keeps what needs are,
 -- follows of all of them at once from the function's being judged.
-use Prim.Native.Nat.{ℕ, ◌<◌, ◌≤◌}
+use Prim.Native.Nat.{ℕ, ◌≤◌}
 use native.Mathlib.Omega.{arith}
 use native.Mathlib.Decide.{ℕ_discrete, dec_lt}
 use mathlib.Core.Path.{◌≡◌, refl, sym, ap, subst, ◌∙◌}
 use mathlib.Core.Bool.{Bool, true, false, cond, ◌&&◌}
 use mathlib.Core.List.{List, [], ◌∷◌, ◌++◌, map, map-append}
+use mathlib.Core.Logic.{◌⊎◌, inl, inr}
 use mathlib.Core.Option.{some, none as nothing}
 use lib.Dec.{eqb, ltb}
 use borrow.Author.Tests.{lt-ltb, le-ltb, ltb-true, eq-eqb, ne_eqb}
@@ -23,7 +24,7 @@ use Rattle.clearance.specs.IsJudged.{JudgedExpression}
 use Rattle.clearance.proofs.Relations.{path_exactly}
 use Rattle.clearance.proofs.JudgedExpressions.{expression_exactly}
 use Rattle.judge.specs.Given.{scope_at, Row}
-use Rattle.judge.proofs.Operands.{operands, step, between}
+use Rattle.judge.proofs.Operands.{operands}
 use Rattle.judge.proofs.Components.{few_letters}
 use Rattle.asked.proofs.Acts.{emit_within}
 use Rattle.framed.proofs.Kept.{asks-fine}
@@ -69,24 +70,25 @@ unfolding gives
 not_path true x e = untrue e
 not_path false x e = refl
 
-last_operator : (k : ℕ) → 16 ≤ k → gives_kind k ≡ true → (k ≡ 17 → ⊥) → (k ≡ 18 → ⊥) → (k ≡ 20 → ⊥) → (k ≡ 21 → ⊥) → (k ≡ 16 → ⊥) → k ≡ 22
-last_operator k l e a b c d h =
-    let z : cond (eqb k 19) false (ltb k 23) ≡ true = rw (le-ltb k 9 (omega arith), ne_eqb k 12 (λ i. omega arith), le-ltb k 16 l) at e in
-    elim (ℕ_discrete k 19) [
-      | yes i ↦ untrue (rw (eq-eqb k 19 i) at z)
-      | no i ↦
-          let y = ltb-true k 23 (rw (ne_eqb k 19 i) at z) in
-          between 22 (step 21 (step 20 (step 19 (step 18 (step 17 (step 16 l h) a) b) i) c) d) (omega (arith, y))
-    ]
+-- the numbers of the kinds that the code gives no arm of their own
+abbrev pub Other : ℕ → Type 0
+Other k =
+    (k ≡ 3 → ⊥) × (k ≡ 4 → ⊥) × (k ≡ 6 → ⊥) × (k ≡ 7 → ⊥) × (k ≡ 8 → ⊥) × (k ≡ 12 → ⊥) × (k ≡ 17 → ⊥) × (k ≡ 18 → ⊥) × (k ≡ 20 → ⊥) × (k ≡ 21 → ⊥)
 
-last_made : (k : ℕ) → k < 16 → gives_kind k ≡ true → (k ≡ 6 → ⊥) → (k ≡ 7 → ⊥) → (k ≡ 8 → ⊥) → k ≡ 12
-last_made k l e a b c =
+-- of those an emit gives the value of Unary and As alone
+last_other : (k : ℕ) → gives_kind k ≡ true → Other k → (k ≡ 16 → ⊥) → k ≡ 22
+last_other k e d h =
     elim (dec_lt k 9) [
-      | yes h ↦ let y = ltb-true 5 k (rw (lt-ltb k 9 h) at e) in absurd (omega (arith, step 8 (step 7 (step 6 y a) b) c))
-      | no h ↦
-          elim (ℕ_discrete k 12) [
-            | yes i ↦ i
-            | no i ↦ untrue (rw (le-ltb k 9 (omega arith), ne_eqb k 12 i, lt-ltb k 16 l) at e)
+      | yes l ↦ let y = ltb-true 5 k (rw (lt-ltb k 9 l) at e) in absurd (omega (arith, d))
+      | no l ↦
+          elim (dec_lt k 16) [
+            | yes m ↦ untrue (rw (le-ltb k 9 (omega arith), ne_eqb k 12 (omega (arith, d)), lt-ltb k 16 m) at e)
+            | no m ↦
+                let z : cond (eqb k 19) false (ltb k 23) ≡ true = rw (le-ltb k 9 (omega arith), ne_eqb k 12 (omega arith), le-ltb k 16 (omega arith)) at e in
+                elim (ℕ_discrete k 19) [
+                  | yes i ↦ untrue (rw (eq-eqb k 19 i) at z)
+                  | no i ↦ let y = ltb-true k 23 (rw (ne_eqb k 19 i) at z) in omega (arith, d)
+                ]
           ]
     ]
 
@@ -129,10 +131,6 @@ module _ {bytes t : List ℕ} {f : ℕ} {types alike paths : List ℕ} {e : ℕ}
   unfolding asks arm_of expression_of ask_operand
   select_list h = asks-as 18 h
 
-  pub relational_list : row.kind ≡ 20 → asks_of S e a ≡ whole_of o 0
-  unfolding asks arm_of expression_of ask_operand
-  relational_list h = asks-as 20 h
-
   pub math_list : row.kind ≡ 21 → asks_of S e a ≡ math_of o
   unfolding asks arm_of expression_of ask_operand
   math_list h =
@@ -150,11 +148,11 @@ module _ {bytes t : List ℕ} {f : ℕ} {types alike paths : List ℕ} {e : ℕ}
   cast_list h = asks-as 22 h
 
   -- the kinds that are left
-  pub same_list : 16 ≤ row.kind → (row.kind ≡ 17 → ⊥) → (row.kind ≡ 18 → ⊥) → (row.kind ≡ 20 → ⊥) → (row.kind ≡ 21 → ⊥) → asks_of S e a ≡ same_of o 0 a
-  same_list l p q x y =
+  pub same_list : Other row.kind → asks_of S e a ≡ same_of o 0 a
+  same_list d =
       elim (ℕ_discrete row.kind 16) [
         | yes h ↦ unary_list h
-        | no h ↦ cast_list (last_operator row.kind l (gives_as (omega arith) (omega arith)) p q x y h)
+        | no h ↦ cast_list (last_other row.kind (gives_as (omega (arith, d)) (omega (arith, d))) d h)
       ]
 
   module _ (h : row.kind ≡ 17) {r : Bool} (q : r ≡ by_part S e (o 0) (o 1)) where
@@ -176,9 +174,10 @@ module _ {bytes t : List ℕ} {f : ℕ} {types alike paths : List ℕ} {e : ℕ}
   access_list h = asks-as 4 h ∙ rw (not_path (is_path S e) (access (o 0) (o 1)) (sym (ap gives (arm-as 4 h)) ∙ g.gives))
 
   -- what is made of parts
-  pub splat_list : row.kind ≡ 6 → asks_of S e a ≡ whole_of o 0
+  pub wholes_list : (row.kind ≡ 6) ⊎ (row.kind ≡ 20) → asks_of S e a ≡ whole_of o 0
   unfolding asks arm_of expression_of ask_operand
-  splat_list h = asks-as 6 h
+  wholes_list (inl h) = asks-as 6 h
+  wholes_list (inr h) = asks-as 20 h
 
   pub letters-list : row.kind ≡ 7 → asks_of S e a ≡ ask_picked (o 0) (letters o) 0 a
   unfolding asks arm_of expression_of
@@ -197,9 +196,6 @@ module _ {bytes t : List ℕ} {f : ℕ} {types alike paths : List ℕ} {e : ℕ}
     components-list i = asks-as 8 h ∙ rw (sym q ∙ i)
 
   -- a load
-  pub load_kind : row.kind < 16 → (row.kind ≡ 3 → ⊥) → (row.kind ≡ 4 → ⊥) → (row.kind ≡ 6 → ⊥) → (row.kind ≡ 7 → ⊥) → (row.kind ≡ 8 → ⊥) → row.kind ≡ 12
-  load_kind l p q x y z = last_made row.kind l (gives_as p q) x y z
-
   module _ (h : row.kind ≡ 12) {p : ℕ} (q : p ≡ o 0) where
     pub load_list : asks_of S e a ≡ load_of S p a
     unfolding asks arm_of expression_of

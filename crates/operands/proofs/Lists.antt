@@ -158,9 +158,6 @@ module _ {S : Scope} {s rs : List ℕ} {n : ℕ} where
       list_then {ys = ys} g b = all_then (λ p. ys) g.two (omega (arith, g.spare)) b
 
       -- one ask of that part
-      pub same_next : (zs : List Ask) {x : ℕ} → ListGiven S (zs ++ (of_value x (wanted_in s rs n) ∷ xs)) s rs n → ListGiven S (of_value x (wanted_in t us n) ∷ []) t us n
-      same_next zs {x} g = given_next (λ p. of_value x p ∷ []) zs g
-
       pub same_then : {zs : List Ask} {x : ℕ} {v vs : List ℕ} {q : Bool} → ListGiven S zs s rs n → AsksAll S (of_value x (wanted_in t us n) ∷ []) t us n v vs q →
           AsksAll S (of_value x (wanted_in s rs n) ∷ xs) s rs n v vs q
       same_then {x = x} g b = all_then (λ p. of_value x p ∷ []) g.two (omega (arith, g.spare)) b

@@ -1,12 +1,12 @@
 -- A load: the dynamic indexes from last to first, as they are found from the pointer down (`Left`), and then what stands at its place.
-use Prim.Native.Nat.{ℕ, ◌-◌, ◌<◌, ◌≤◌}
+use Prim.Native.Nat.{ℕ, ◌-◌}
 use native.Mathlib.Omega.{arith}
 use mathlib.Core.Path.{◌≡◌, refl, sym, ap, subst, ◌∙◌}
 use mathlib.Core.Bool.{Bool, true, false, cond}
 use mathlib.Core.List.{List, [], ◌∷◌, ◌++◌, map, append-nil, append_assoc, map-append}
-use lib.ListN.{length, get_or, length-take, length-drop}
+use lib.ListN.{get_or}
 use Rattle.part.specs.PartReq.{PartReq, all}
-use Rattle.part.specs.Store.{top, part as meaning}
+use Rattle.part.specs.Store.{part as meaning}
 use Rattle.part.proofs.Pieces.{part-0}
 use Rattle.module.specs.declared.handles.ExpressionHandle.{ExpressionHandle}
 use Rattle.clearance.specs.Scope.{Scope, Path, path_of, indexes, target}
@@ -14,14 +14,14 @@ use Rattle.clearance.specs.Needs.{Ask, of_place, ask_whole, ask_steps}
 use Rattle.judge.specs.Given.{scope_at}
 use Rattle.place.specs.declared.target.Target.{Target}
 use Rattle.place.specs.declared.steps.Step.{Step}
-use Rattle.place.specs.declared.steps.Step.TheVariants.{Variable, Constant, Dynamic}
+use Rattle.place.specs.declared.steps.Step.TheVariants.{Constant, Dynamic}
 use Rattle.place.specs.Target.{Pointer, any, part, TargetFound}
 use Rattle.place.specs.Steps.{indexes_of, StepDown}
-use Rattle.asking.specs.Asks.{AskGiven, AsksAt}
+use Rattle.asking.specs.Asks.{AsksAt}
 use Rattle.asking.proofs.Values.{place_adds}
 use Rattle.operands.specs.AsksAll.{wanted_in, ListGiven, AsksAll}
 use Rattle.operands.specs.Lists.{load_of}
-use Rattle.operands.proofs.Lists.{given_right, given_next, list_next, list_then, all_none, all_one, all_full, all_then, wanted_piece, all_piece}
+use Rattle.operands.proofs.Lists.{given_right, given_next, list_next, list_then, all_none, all_one, all_full, all_then}
 
 -- Of the pointer p the indexes after those of h are asked.
 pub record Left (bytes t : List ℕ) (f p h : ℕ) (s rs : List ℕ) (n : ℕ) (u us : List ℕ) : Type 0 where
@@ -41,23 +41,12 @@ module _ {bytes t : List ℕ} {f p : ℕ} (from : Pointer bytes t f p) {s rs : L
   left_start = record { pointer = from; done = []; is = sym (append-nil (ix p)); asked = all_none g }
 
   module _ {h : ℕ} {u us : List ℕ} (l : Left bytes t f p h s rs n u us) {x : Step} (d : StepDown bytes t f h x) where
-    pub left_done : x ≡ Variable → AsksAll S (map ask_whole (ix p)) s rs n u us true
-    left_done e =
-        let z : ix p ≡ l.done = l.is ∙ ap (λ (xs : List ℕ). xs ++ l.done) (rw e at d).indexes in
-        rw z l.asked
-
-    pub constant_less : {base : ExpressionHandle} → x ≡ Constant base → base.0 < h
-    constant_less e = (rw e at d).lower
-
     pub left_constant : {base : ExpressionHandle} → x ≡ Constant base → Left bytes t f p base.0 s rs n u us
     left_constant e =
         let z = rw e at d in
         record { pointer = z.pointer; done = l.done; is = l.is ∙ ap (λ (xs : List ℕ). xs ++ l.done) z.indexes; asked = l.asked }
 
     module _ {base index : ExpressionHandle} (e : x ≡ Dynamic base index) where
-      pub dynamic_less : base.0 < h
-      dynamic_less = (rw e at d).lower
-
       one_more : ix p ≡ ix base.0 ++ (index.0 ∷ l.done)
       one_more = l.is ∙ ap (λ (xs : List ℕ). xs ++ l.done) (rw e at d).indexes ∙ append_assoc (ix base.0) (index.0 ∷ []) l.done
 
@@ -86,9 +75,6 @@ steps_are p (i ∷ is) a = refl
 
 -- one place
 module _ {S : Scope} {s rs : List ℕ} {n : ℕ} {q : List ℕ} {o : PartReq} (g : ListGiven S (of_place q o ∷ []) s rs n) {path : List ℕ} (is : path ≡ q) where
-  place_asks : {a : ℕ} → a < top s → length path ≤ 1026 → AskGiven s rs n path a
-  place_asks l m = record { live = g.live; hand = omega (arith, g.two); spare = g.spare; piece = l; short = m }
-
   place_all : {t us : List ℕ} {r : Bool} → AsksAt path o s rs n t us r → AsksAll S (of_place q o ∷ []) s rs n t us r
   place_all d =
       all_one g
@@ -128,11 +114,6 @@ module _ {S : Scope} (p : ℕ) {s rs : List ℕ} {n : ℕ} (g : ListGiven S (loa
 
         means : meaning t k ≡ cond (any is) all (wanted_in t us n)
         means = rw (← d.dynamic) (by_dynamic (λ b k. meaning t k ≡ cond b all (wanted_in t us n)) (part-0 t) refl)
-
-        pub load_asks : length before ≤ 1026 → AskGiven t us n (part after found.from found.to) k
-        load_asks l =
-            place_asks given_here d.is (by_dynamic (λ b k. k < top t) (all_piece given_here) (wanted_piece given_here))
-            (simp (length-take, length-drop) (omega (arith, d.high, d.long)))
 
         pub load_all : {v vs : List ℕ} {q : Bool} → AsksAt (part after found.from found.to) (meaning t k) t us n v vs q → AsksAll S (load_of S p (wanted_in s rs n)) s rs n v vs q
         load_all {v} {vs} {q} h =

@@ -28,10 +28,6 @@ module _ {S : Scope} {xs : List Ask} {f : ℕ → PartReq → Ask} {m : ℕ} {s 
   pub loop_start : {k : ℕ} → k ≡ m → AsksAll S (drop k xs) s rs n s rs true
   loop_start {k} e = rw (drop_past xs k (E.long ∙ sym e)) (all_none g)
 
-  -- all is done
-  pub loop_done : {k : ℕ} {t us : List ℕ} → k ≤ 0 → AsksAll S (drop k xs) s rs n t us true → AsksAll S xs s rs n t us true
-  loop_done {k} l a = let z : k ≡ 0 = omega arith in rw z at a
-
   -- a turn
   module _ (i : ℕ) {k : ℕ} (next : i + 1 ≡ k) (low : k ≤ m) {t us : List ℕ} (a : AsksAll S (drop k xs) s rs n t us true) where
     here : drop i xs ≡ f i (wanted_in s rs n) ∷ drop k xs

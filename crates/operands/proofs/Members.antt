@@ -1,12 +1,11 @@
 -- A part of a value's part, asked at a path that is one index longer: it adds the same, since what lies within the value's type is trimmed nowhere.
-use Prim.Native.Nat.{ℕ, ◌<◌}
+use Prim.Native.Nat.{ℕ}
 use native.Mathlib.Omega.{arith}
 use mathlib.Core.Path.{◌≡◌, refl, sym, ap, ◌∙◌}
 use mathlib.Core.Bool.{Bool, true, false}
 use mathlib.Core.List.{List, [], ◌∷◌, ◌++◌}
-use lib.ListN.{length, drop, take-append-drop}
+use lib.ListN.{drop, take-append-drop}
 use Rattle.part.specs.PartReq.{PartReq, all, exist, none, more}
-use Rattle.part.specs.Store.{top}
 use Rattle.part.proofs.Distinct.{untrue}
 use Rattle.clearance.specs.Shape.{Shape, member, some, under}
 use Rattle.clearance.specs.Scope.{Scope, Source, given, from, source}
@@ -17,7 +16,7 @@ use Rattle.asked.proofs.Plain.{tidy_wanted, part_plain}
 use Rattle.place.specs.declared.sources.Source as answer
 use Rattle.place.specs.Sources.{source_by}
 use Rattle.place.specs.Slots.{Written}
-use Rattle.asking.specs.Asks.{AskGiven, Adds, AsksAt}
+use Rattle.asking.specs.Asks.{Adds, AsksAt}
 use Rattle.asking.proofs.Steps.{asks_idle}
 use Rattle.operands.specs.AsksAll.{ListGiven, AsksAll}
 use Rattle.operands.proofs.Lists.{all_one}
@@ -67,16 +66,5 @@ module _ {S : Scope} {s rs : List ℕ} {n v i : ℕ} {p : PartReq} (g : ListGive
         }
 
     module _ {before after : List ℕ} (w : Written q before after) where
-      pub member_asks : {a : ℕ} → a < top s → length before ≡ 3 → AskGiven s rs n after a
-      member_asks l three = record { live = g.live; hand = omega (arith, g.two); spare = g.spare; piece = l; short = omega (arith, w.long, three) }
-
       pub member_all : {t us : List ℕ} {r : Bool} → drop 2 before ≡ i ∷ [] → AsksAt after p s rs n t us r → AsksAll S (ask ∷ []) s rs n t us r
       member_all d h = all_one g ((rw (longer w d) at h).each S ask member_adds g.need)
-
--- the same value, index and part by other names
-module _ {S : Scope} {s rs : List ℕ} {n v w i j : ℕ} {p q : PartReq} (a : w ≡ v) (b : j ≡ i) (c : q ≡ p) where
-  pub member_as : ListGiven S (of_value v (more i p none) ∷ []) s rs n → ListGiven S (of_value w (more j q none) ∷ []) s rs n
-  member_as g = rw (a, b, c) g
-
-  pub member_is : {t us : List ℕ} {r : Bool} → AsksAll S (of_value w (more j q none) ∷ []) s rs n t us r → AsksAll S (of_value v (more i p none) ∷ []) s rs n t us r
-  member_is d = rw (a, b, c) at d

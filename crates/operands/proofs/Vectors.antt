@@ -80,9 +80,6 @@ pub record NoVector (S : Scope) (o : ℕ → ℕ) (i : ℕ) : Type 0 where
   pub each : (j : ℕ) → j < i → is_vector (inner_of S (o (1 + j))) ≡ false
 
 module _ (S : Scope) (o : ℕ → ℕ) where
-  pub no_vector_start : NoVector S o 0
-  no_vector_start = record { each = λ j l. absurd (omega arith) }
-
   at_component : (j : ℕ) → j < o 0 → get_or (components o) j 0 ≡ o (1 + j)
   at_component j l = get_d_tab (o 0) (λ i. o (1 + i)) j 0 l
 

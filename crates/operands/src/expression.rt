@@ -1,5 +1,5 @@
 // What the need of an emitted expression asks of its operands, by the expression's kind.
-ghost use Rattle.std.specs.Prelude.{◌≡◌, ◌<◌, ◌≤◌};
+ghost use Rattle.std.specs.Prelude.{◌≡◌};
 ghost use Rattle.operands.specs.Arms.{OperandsGiven, ArmGiven, AsksOperands, PathRoom};
 
 use crate::indexes::ask_index;
@@ -8,10 +8,8 @@ use crate::made::{ask_components, ask_joined, ask_letters};
 use crate::operators::{ask_both_same, ask_both_whole, ask_math, ask_same, ask_select, ask_whole};
 use crate::tests::{by_part, is_joined};
 use access::kinded::{Kinded, expression, expression_operand};
-use access::kinds::{
-    ACCESS, ACCESS_INDEX, BINARY, COMPOSE, MATH, RELATIONAL, SELECT, SPLAT, SWIZZLE, UNARY,
-};
 use module::handles::{ExpressionHandle, FunctionHandle};
+use module::kinds::ExpressionKind;
 
 // Both operands, by part or whole.
 fn ask_binary(
@@ -61,66 +59,6 @@ fn ask_compose(
     ask_components(bytes, t, f, cells, roots, n, row)
 }
 
-// An operator: the last two kinds that are left are Unary and As.
-fn ask_operator(
-    bytes: &[u8],
-    t: &[u32],
-    f: FunctionHandle,
-    types: &[u32],
-    alike: &[u32],
-    paths: &[u32],
-    cells: &mut [u32],
-    roots: &mut [u32],
-    n: usize,
-    row: Kinded,
-    e: ExpressionHandle,
-) -> bool
-    requires arm_given { ArmGiven bytes.now t.now f.0 types.now alike.now paths.now e.0 row cells.old roots.old n }
-    requires le_kind { 16 ≤ row.kind }
-    ensures { AsksOperands bytes.now t.now f.0 e.0 cells.old roots.old n cells.new roots.new result }
-{
-    match row.kind {
-        BINARY => ask_binary(bytes, t, f, types, alike, paths, cells, roots, n, row, e),
-        SELECT => ask_select(bytes, t, f, cells, roots, n, row),
-        RELATIONAL => ask_whole(bytes, t, f, cells, roots, n, row, 0),
-        MATH => ask_math(bytes, t, f, cells, roots, n, row),
-        _ => ask_same(bytes, t, f, cells, roots, n, row, 0),
-    }
-}
-
-// An index, what is made of parts, or a load, the kind that is left.
-fn ask_made(
-    bytes: &[u8],
-    t: &[u32],
-    f: FunctionHandle,
-    types: &[u32],
-    alike: &[u32],
-    paths: &[u32],
-    cells: &mut [u32],
-    roots: &mut [u32],
-    path: &mut [u32],
-    n: usize,
-    row: Kinded,
-    e: ExpressionHandle,
-) -> bool
-    requires arm_given { ArmGiven bytes.now t.now f.0 types.now alike.now paths.now e.0 row cells.old roots.old n }
-    requires kind_bound { row.kind < 16 }
-    requires path_room { PathRoom bytes.now t.now f.0 path.old }
-    ensures { AsksOperands bytes.now t.now f.0 e.0 cells.old roots.old n cells.new roots.new result }
-{
-    match row.kind {
-        ACCESS_INDEX => ask_index(bytes, t, f, cells, roots, n, row),
-        ACCESS => ask_both_whole(bytes, t, f, cells, roots, n, row),
-        SPLAT => ask_whole(bytes, t, f, cells, roots, n, row, 0),
-        SWIZZLE => ask_letters(bytes, t, f, cells, roots, n, row),
-        COMPOSE => ask_compose(bytes, t, f, types, alike, paths, cells, roots, n, row, e),
-        _ => {
-            let p = expression_operand(bytes, row, 0);
-            ask_load(bytes, t, f, cells, roots, path, n, p)
-        }
-    }
-}
-
 // What the need of the expression e asks of its operands. Says whether the needs are within the bound.
 pub fn ask_operands(
     bytes: &[u8],
@@ -140,10 +78,26 @@ pub fn ask_operands(
     ensures { AsksOperands bytes.now t.now f.0 e.0 cells.old roots.old n cells.new roots.new result }
 {
     let row = expression(bytes, t, f, e);
-    if row.kind < UNARY {
-        return ask_made(
-            bytes, t, f, types, alike, paths, cells, roots, path, n, row, e,
-        );
+    match ExpressionKind::try_from(row.kind) {
+        Ok(ExpressionKind::AccessIndex) => ask_index(bytes, t, f, cells, roots, n, row),
+        Ok(ExpressionKind::Access) => ask_both_whole(bytes, t, f, cells, roots, n, row),
+        Ok(ExpressionKind::Splat | ExpressionKind::Relational) => {
+            ask_whole(bytes, t, f, cells, roots, n, row, 0)
+        }
+        Ok(ExpressionKind::Swizzle) => ask_letters(bytes, t, f, cells, roots, n, row),
+        Ok(ExpressionKind::Compose) => {
+            ask_compose(bytes, t, f, types, alike, paths, cells, roots, n, row, e)
+        }
+        Ok(ExpressionKind::Load) => {
+            let p = expression_operand(bytes, row, 0);
+            ask_load(bytes, t, f, cells, roots, path, n, p)
+        }
+        Ok(ExpressionKind::Binary) => {
+            ask_binary(bytes, t, f, types, alike, paths, cells, roots, n, row, e)
+        }
+        Ok(ExpressionKind::Select) => ask_select(bytes, t, f, cells, roots, n, row),
+        Ok(ExpressionKind::Math) => ask_math(bytes, t, f, cells, roots, n, row),
+        // The two kinds that are left, Unary and As.
+        _ => ask_same(bytes, t, f, cells, roots, n, row, 0),
     }
-    ask_operator(bytes, t, f, types, alike, paths, cells, roots, n, row, e)
 }

@@ -30,22 +30,13 @@ pub fn ask_member(
     requires a_bound { a < top cells.old }
     ensures { AsksAll (scope_at bytes.now t.now f.0) (of_value v.0 (more i (part cells.old a) none) ∷ []) cells.old roots.old n cells.new roots.new result }
 {
-    let source = source_of(bytes, t, f, v);
-    let mut path: [u32; 3] = [0; 3];
-    path[2] = i;
-    match source {
-        Source::Given => {
-            return true;
-        }
-        Source::Argument(k) => {
-            argument_path(&mut path, k);
-            return ask_place(cells, roots, n, &path, a);
-        }
-        Source::Evaluated => {
-            evaluated_path(&mut path, v);
-            return ask_place(cells, roots, n, &path, a);
-        }
+    let mut path = [0, 0, i];
+    match source_of(bytes, t, f, v) {
+        Source::Given => return true,
+        Source::Argument(k) => argument_path(&mut path, k),
+        Source::Evaluated => evaluated_path(&mut path, v),
     }
+    ask_place(cells, roots, n, &path, a)
 }
 
 // Of what a constant index names, the part that is needed.

@@ -29,21 +29,14 @@ pub fn ask_indexes(
 {
     let mut h = p;
     loop {
-        let step = step_down(bytes, t, f, h);
-        match step {
-            Step::Variable => {
-                return true;
-            }
-            Step::Constant(base) => {
-                h = base;
-                continue;
-            }
+        match step_down(bytes, t, f, h) {
+            Step::Variable => return true,
+            Step::Constant(base) => h = base,
             Step::Dynamic(base, index) => {
                 if !ask_value(bytes, t, f, cells, roots, n, index, 0) {
                     return false;
                 }
                 h = base;
-                continue;
             }
         }
     }
@@ -53,10 +46,7 @@ pub fn ask_indexes(
 fn loaded(a: u32, dynamic: bool) -> u32
     ensures { result ≡ cond dynamic 0 a }
 {
-    if dynamic {
-        return 0;
-    }
-    a
+    if dynamic { 0 } else { a }
 }
 
 // What stands where the pointer p leads.
@@ -79,8 +69,6 @@ pub fn ask_load(
         return false;
     }
     let target = find_target(bytes, t, f, path, p);
-    let from = target.from;
-    let to = target.to;
     let a = loaded(roots[n - 2], target.dynamic);
-    ask_place(cells, roots, n, &path[from..to], a)
+    ask_place(cells, roots, n, &path[target.from..target.to], a)
 }

@@ -20,8 +20,7 @@ fn subpart(cells: &[u32], a: u32, k: u32) -> u32
     requires a_bound { a < top cells.now }
     ensures { SubpartOf cells.now a k result }
 {
-    let found = get(cells, a, k);
-    found.unwrap_or(2)
+    get(cells, a, k).unwrap_or(2)
 }
 
 // The part k of the result, of the component that the letter k names.

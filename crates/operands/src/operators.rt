@@ -5,9 +5,9 @@ ghost use Rattle.judge.specs.Given.{scope_at};
 ghost use Rattle.operands.specs.AsksAll.{ListGiven, AsksAll, wanted_in};
 ghost use Rattle.operands.specs.Lists.{same_of, whole_of, present_of, both_same, both_whole, select_of, math_of};
 
-use access::kinded::{Kinded, expression_operand};
+use access::kinded::{Kinded, expression_operand, optional_expression};
 use asking::ask::ask_value;
-use module::handles::{FunctionHandle, NO_HANDLE};
+use module::handles::FunctionHandle;
 
 // Of the operand j the same part.
 pub fn ask_same(
@@ -60,11 +60,10 @@ fn ask_present(
     requires { ListGiven (scope_at bytes.now t.now f.0) (present_of (operand_at bytes.now row) j) cells.old roots.old n }
     ensures { AsksAll (scope_at bytes.now t.now f.0) (present_of (operand_at bytes.now row) j) cells.old roots.old n cells.new roots.new result }
 {
-    let v = expression_operand(bytes, row, j);
-    if v.0 == NO_HANDLE {
-        return true;
+    match optional_expression(bytes, row, j) {
+        None => true,
+        Some(v) => ask_value(bytes, t, f, cells, roots, n, v, 0),
     }
-    ask_whole(bytes, t, f, cells, roots, n, row, j)
 }
 
 // Of both operands the same part.
@@ -80,10 +79,7 @@ pub fn ask_both_same(
     requires { ListGiven (scope_at bytes.now t.now f.0) (both_same (operand_at bytes.now row) (wanted_in cells.old roots.old n)) cells.old roots.old n }
     ensures { AsksAll (scope_at bytes.now t.now f.0) (both_same (operand_at bytes.now row) (wanted_in cells.old roots.old n)) cells.old roots.old n cells.new roots.new result }
 {
-    if !ask_same(bytes, t, f, cells, roots, n, row, 1) {
-        return false;
-    }
-    ask_same(bytes, t, f, cells, roots, n, row, 0)
+    ask_same(bytes, t, f, cells, roots, n, row, 1) && ask_same(bytes, t, f, cells, roots, n, row, 0)
 }
 
 // Both operands whole.
@@ -99,10 +95,8 @@ pub fn ask_both_whole(
     requires { ListGiven (scope_at bytes.now t.now f.0) (both_whole (operand_at bytes.now row)) cells.old roots.old n }
     ensures { AsksAll (scope_at bytes.now t.now f.0) (both_whole (operand_at bytes.now row)) cells.old roots.old n cells.new roots.new result }
 {
-    if !ask_whole(bytes, t, f, cells, roots, n, row, 1) {
-        return false;
-    }
-    ask_whole(bytes, t, f, cells, roots, n, row, 0)
+    ask_whole(bytes, t, f, cells, roots, n, row, 1)
+        && ask_whole(bytes, t, f, cells, roots, n, row, 0)
 }
 
 // Of a value of two the same part of both, and the condition whole.

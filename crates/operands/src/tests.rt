@@ -8,10 +8,11 @@ ghost use Rattle.judge.specs.Given.{scope_at, Row};
 ghost use Rattle.operands.specs.Lists.{components};
 
 use access::kinded::{Kinded, expression_operand, operand};
-use judge::rows::{TypeKind, kind_at};
+use judge::rows::kind_at;
 use judge::shapes::is_alike;
 use judge::values::type_of;
 use module::handles::{ExpressionHandle, FunctionHandle};
+use module::kinds::TypeKind;
 
 // Whether a binary operator is by part: both operands have the result's type, a scalar or a vector.
 pub fn by_part(
@@ -67,8 +68,5 @@ pub fn is_joined(
     ensures { result ≡ (is_vector (inner_of (scope_at bytes.now t.now f.0) e.0) && any_vector (scope_at bytes.now t.now f.0) (components (operand_at bytes.now row))) }
 {
     let own = type_of(bytes, t, f, e);
-    if kind_at(types, own) != TypeKind::Vector {
-        return false;
-    }
-    any_vector(bytes, t, f, types, row)
+    kind_at(types, own) == TypeKind::Vector && any_vector(bytes, t, f, types, row)
 }

@@ -10,6 +10,13 @@ ghost use Rattle.part.specs.Store.{word, top, part, Measures, Passes, SizesOf, F
 use crate::limits::{CELL_WORDS, ENTRIES_CAP, SPINE, TABLE_WORDS};
 use field::limits::{MAX_DEPTH, MAX_ENTRIES};
 
+// The pieces that are no cells: all, exist, and the empty part. Each number above is a cell's.
+pub const ALL_PIECE: u32 = 0;
+
+pub const EXIST_PIECE: u32 = 1;
+
+pub const EMPTY_PIECE: u32 = 2;
+
 // An entry and those after it.
 #[derive(Clone, Copy, PartialEq, Eq)]
 pub struct Cell {

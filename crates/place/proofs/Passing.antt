@@ -4,6 +4,7 @@ use Prim.Native.Nat.{ℕ, suc, ◌+◌, ◌-◌, ◌<◌, ◌≤◌}
 use native.Mathlib.Omega.{arith}
 use native.Mathlib.Decide.{ℕ_discrete}
 use mathlib.Core.Path.{◌≡◌, refl, sym, ap, ◌∙◌}
+use mathlib.Core.Logic.{◌⊎◌, inl, inr}
 use mathlib.Core.Bool.{Bool, true, false, cond, ◌||◌}
 use mathlib.Core.List.{List, [], ◌∷◌, ◌++◌}
 use lib.Dec.{eqb}
@@ -12,7 +13,7 @@ use lib.Seq.{drop-cons, get_or-set_same, drop-set-lt}
 use Rattle.access.specs.declared.kinded.Kinded.{Kinded}
 use Rattle.clearance.specs.Scope.{Scope, Step, at, by, Path, further, slot, variable, path_of, front, indexes, target, is_path}
 use Rattle.place.specs.Target.{At, any, part, TargetFound, front_then, Passed}
-use Rattle.place.proofs.Paths.{S, o, indexes-constant, indexes-dynamic, constant_lower, dynamic_lower, path_constant, path_dynamic, path_global, path_local, no_other, base_constant, base_dynamic, is_constant}
+use Rattle.place.proofs.Paths.{S, o, indexes-constant, indexes-dynamic, constant_lower, dynamic_lower, path_constant, path_dynamic, path_global, path_local, no_other, base_constant, base_dynamic}
 
 -- one step more
 then_constant : (xs : List Step) (i : ℕ) (ys : List ℕ) → front_then (xs ++ (at i ∷ [])) ys ≡ front_then xs (i ∷ ys)
@@ -102,20 +103,19 @@ module _ (U : Scope) where
         }
 
 module _ {bytes t : List ℕ} {f h : ℕ} {row : Kinded} (R : At bytes t f h row) {e from to : ℕ} {path : List ℕ} {d : Bool} (P : Passed (S R) e path h from to d) where
-  module _ (index : row.kind ≤ 4) {b : ℕ} (base : b ≡ o R 0) where
+  module _ (index : (row.kind ≡ 3) ⊎ (row.kind ≡ 4)) {b : ℕ} (base : b ≡ o R 0) where
     pub passed_lower : b < h
     passed_lower =
-        elim (ℕ_discrete row.kind 4) [
-          | yes k ↦ omega (arith, (dynamic_lower R k).0)
-          | no k ↦ omega (arith, constant_lower R (is_constant R P.pointer index k))
+        elim index [
+          | inl k ↦ omega (arith, constant_lower R k)
+          | inr k ↦ omega (arith, (dynamic_lower R k).0)
         ]
 
     pub passed_next : {w next last : ℕ} {dyn : Bool} → w ≡ o R 1 → next ≡ from - 1 → last ≡ cond (eqb row.kind 4) next to → dyn ≡ eqb row.kind 4 || d → Passed (S R) e (set path next w) b next last dyn
     passed_next {w} i n l s =
-        elim (ℕ_discrete row.kind 4) [
-          | yes k ↦ rw (l, s, k) (dynamic_passed (S R) P w passed_lower (rw base (base_dynamic R k)) n (o R 1) (rw base (path_dynamic R k)))
-          | no k ↦
-              let m : row.kind ≡ 3 = is_constant R P.pointer index k in
+        elim index [
+          | inr k ↦ rw (l, s, k) (dynamic_passed (S R) P w passed_lower (rw base (base_dynamic R k)) n (o R 1) (rw base (path_dynamic R k)))
+          | inl m ↦
               rw (l, s, m) (constant_passed (S R) P w passed_lower (rw base (base_constant R m)) n (rw (base, i) (path_constant R m)))
         ]
 

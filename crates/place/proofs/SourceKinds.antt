@@ -1,10 +1,11 @@
 -- The source of an expression's value, and whether an emit gives one, kind by kind.
 use Prim.Native.Nat.{ℕ, ◌+◌, ◌<◌, ◌≤◌}
 use native.Mathlib.Omega.{arith}
-use native.Mathlib.Decide.{ℕ_discrete}
 use mathlib.Core.Path.{◌≡◌, refl, sym, ap, ◌∙◌}
+use mathlib.Core.Logic.{◌⊎◌, inl, inr}
 use mathlib.Core.Bool.{Bool, true, false, cond, not, ◌&&◌}
 use mathlib.Core.List.{List}
+use lib.Dec.{ltb, eqb}
 use lib.ListN.{length, get_or-eq_default}
 use borrow.Author.Tests.{lt-ltb, le-ltb, ne_eqb}
 use Rattle.module.specs.Module.{Typed}
@@ -18,7 +19,7 @@ use Rattle.clearance.specs.Scope.{Scope, no_expression, typed, inner_of, is_vect
 use Rattle.clearance.specs.Scope.{Source, given, from, slot, argument, evaluated, source_of, source}
 use Rattle.clearance.specs.Needs.{gives}
 use Rattle.judge.specs.Given.{scope_at}
-use Rattle.place.specs.Sources.{is_fixed, gives_kind}
+use Rattle.place.specs.Sources.{gives_kind}
 
 module _ (S : Scope) (e : ℕ) (o : ℕ → ℕ) where
   abbrev by_kind : ℕ → Arm
@@ -36,8 +37,12 @@ module _ (S : Scope) (e : ℕ) (o : ℕ → ℕ) where
   gives-either true x y p q = p
   gives-either false x y p q = q
 
+  -- literals, zero values and constants
+  abbrev fixed : ℕ → Bool
+  fixed k = cond (ltb k 2) true (cond (eqb k 5) true (ltb 31 k))
+
   abbrev said : ℕ → Source
-  said k = cond (is_fixed k) given (from (slot (evaluated e)))
+  said k = cond (fixed k) given (from (slot (evaluated e)))
 
   said-last : (k : ℕ) → given ≡ said (past 32 k)
   said-last k = rw (le-ltb (past 32 k) 2 (omega arith), ne_eqb (past 32 k) 5 (omega arith), lt-ltb 31 (past 32 k) (omega arith))
@@ -103,28 +108,28 @@ module _ (bytes t : List ℕ) (f e : ℕ) {n : ℕ} (count : n ≡ length (funct
     unfolding source source_of arm_of expression_of
     source-argument q h = rw q (sym (ap (source_of e) (arm_is 9 h)))
 
-    module _ {x : Bool} (fixed : x ≡ is_fixed row.kind) (other : row.kind ≡ 9 → ⊥) where
-      source_is : source S e ≡ cond x given (from (slot (evaluated e)))
-      unfolding source
-      source_is = rw fixed (ap (source_of e) (arm_is row.kind refl) ∙ sources S e o row.kind other)
+    source_is : (row.kind ≡ 9 → ⊥) → said S e o row.kind ≡ source S e
+    unfolding source
+    source_is other = sym (ap (source_of e) (arm_is row.kind refl) ∙ sources S e o row.kind other)
 
-      pub source-fixed : x ≡ true → given ≡ source S e
-      source-fixed h = sym (rw h at source_is)
+    pub source-fixed : (row.kind ≡ 0) ⊎ ((row.kind ≡ 1) ⊎ (row.kind ≡ 5)) → given ≡ source S e
+    source-fixed (inl h) = rw h at source_is (λ q. omega arith)
+    source-fixed (inr (inl h)) = rw h at source_is (λ q. omega arith)
+    source-fixed (inr (inr h)) = rw h at source_is (λ q. omega arith)
 
-      pub source-evaluated : x ≡ false → from (slot (evaluated e)) ≡ source S e
-      source-evaluated h = sym (rw h at source_is)
+    pub source-last : 31 < row.kind → given ≡ source S e
+    source-last h =
+        rw (le-ltb row.kind 2 (omega arith), ne_eqb row.kind 5 (omega arith), lt-ltb 31 row.kind h) at source_is (λ q. omega arith)
+
+    pub source-evaluated : (row.kind ≡ 9 → ⊥) → 1 < row.kind → (row.kind ≡ 5 → ⊥) → row.kind ≤ 31 → from (slot (evaluated e)) ≡ source S e
+    source-evaluated other a b c = rw (le-ltb row.kind 2 (omega arith), ne_eqb row.kind 5 b, le-ltb 31 row.kind c) at source_is other
 
     module _ {x : Bool} (path : x ≡ is_path S e) where
-      -- an index' is 3 or 4
-      pub gives-index : 3 ≤ row.kind → row.kind ≤ 4 → not x ≡ gives (arm S e)
+      -- an index, constant or dynamic
+      pub gives-index : (row.kind ≡ 3) ⊎ (row.kind ≡ 4) → not x ≡ gives (arm S e)
       unfolding arm_of expression_of gives
-      gives-index l m =
-          elim (ℕ_discrete row.kind 3) [
-            | yes h ↦ rw path (sym (ap gives (arm_is 3 h) ∙ pointing-not (is_path S e) (access_index (o 0) (o 1)) refl))
-            | no n ↦
-                let h : row.kind ≡ 4 = omega arith in
-                rw path (sym (ap gives (arm_is 4 h) ∙ pointing-not (is_path S e) (access (o 0) (o 1)) refl))
-          ]
+      gives-index (inl h) = rw path (sym (ap gives (arm_is 3 h) ∙ pointing-not (is_path S e) (access_index (o 0) (o 1)) refl))
+      gives-index (inr h) = rw path (sym (ap gives (arm_is 4 h) ∙ pointing-not (is_path S e) (access (o 0) (o 1)) refl))
 
     pub gives_other : {x : Bool} → x ≡ gives_kind row.kind → (row.kind ≡ 3 → ⊥) → (row.kind ≡ 4 → ⊥) → x ≡ gives (arm S e)
     gives_other q a b = q ∙ sym (ap gives (arm_is row.kind refl) ∙ gives-by S e o row.kind a b)

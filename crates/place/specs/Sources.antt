@@ -10,10 +10,6 @@ source_by Given e = given
 source_by (Argument a) e = from (slot (argument a))
 source_by Evaluated e = from (slot (evaluated e))
 
--- literals, zero values and constants, by kind
-abbrev pub is_fixed : ℕ → Bool
-is_fixed k = cond (ltb k 2) true (cond (eqb k 5) true (ltb 31 k))
-
 -- the kinds of which an emit gives the value, but for indexes
 abbrev pub gives_kind : ℕ → Bool
 gives_kind k = cond (ltb k 9) (ltb 5 k) (cond (eqb k 12) true (cond (ltb k 16) false (cond (eqb k 19) false (ltb k 23))))

@@ -3,16 +3,13 @@ ghost use Rattle.std.specs.Prelude.{◌≡◌};
 ghost use Rattle.clearance.specs.Scope.{arm, source};
 ghost use Rattle.clearance.specs.Needs.{gives};
 ghost use Rattle.judge.specs.Given.{scope_at, Values};
-ghost use Rattle.place.specs.Sources.{source_by, is_fixed, gives_kind};
+ghost use Rattle.place.specs.Sources.{source_by, gives_kind};
 
 use access::function::expressions;
 use access::kinded::{expression, operand};
-use access::kinds::{
-    ACCESS, ACCESS_INDEX, AS, COMPOSE, CONSTANT, DERIVATIVE, FUNCTION_ARGUMENT, LITERAL, LOAD,
-    SPLAT, UNARY,
-};
 use judge::values::is_path;
 use module::handles::{ExpressionHandle, FunctionHandle};
+use module::kinds::ExpressionKind;
 
 // A value that is fixed, an argument, what the expression's own emit leaves.
 #[derive(Clone, Copy)]
@@ -22,14 +19,7 @@ pub enum Source {
     Evaluated,
 }
 
-// Whether an expression of this kind is fixed: a literal, a zero value, a constant. A kind past the last is a literal's.
-fn is_fixed(kind: u16) -> bool
-    ensures { result ≡ is_fixed kind }
-{
-    matches!(kind, 0 | 1 | CONSTANT | LITERAL..)
-}
-
-// Where the value of the expression e is; one that is not there is a literal.
+// Where the value of the expression e is; one that is not there is a literal, and so is a kind past the last.
 pub fn source_of(bytes: &[u8], t: &[u32], f: FunctionHandle, e: ExpressionHandle) -> Source
     ensures { source_by result e.0 ≡ source (scope_at bytes.now t.now f.0) e.0 }
 {
@@ -37,24 +27,35 @@ pub fn source_of(bytes: &[u8], t: &[u32], f: FunctionHandle, e: ExpressionHandle
         return Source::Given;
     }
     let row = expression(bytes, t, f, e);
-    if row.kind == FUNCTION_ARGUMENT {
-        return Source::Argument(operand(bytes, row, 0));
+    match ExpressionKind::try_from(row.kind) {
+        Ok(ExpressionKind::FunctionArgument) => Source::Argument(operand(bytes, row, 0)),
+        Ok(ExpressionKind::Literal | ExpressionKind::ZeroValue | ExpressionKind::Constant) => {
+            Source::Given
+        }
+        Ok(_) => Source::Evaluated,
+        Err(_) => Source::Given,
     }
-    if is_fixed(row.kind) {
-        return Source::Given;
-    }
-    Source::Evaluated
 }
 
 // Whether an emit gives an expression of this kind its value, where it is no index.
 fn gives_kind(kind: u16) -> bool
     ensures { result ≡ gives_kind kind }
 {
-    match kind {
-        DERIVATIVE => false,
-        SPLAT..=COMPOSE | LOAD | UNARY..=AS => true,
-        _ => false,
-    }
+    matches!(
+        ExpressionKind::try_from(kind),
+        Ok(
+            ExpressionKind::Splat
+                | ExpressionKind::Swizzle
+                | ExpressionKind::Compose
+                | ExpressionKind::Load
+                | ExpressionKind::Unary
+                | ExpressionKind::Binary
+                | ExpressionKind::Select
+                | ExpressionKind::Relational
+                | ExpressionKind::Math
+                | ExpressionKind::As
+        )
+    )
 }
 
 // Whether an emit gives the expression e its value.
@@ -73,8 +74,10 @@ pub fn gives_value(
         return false;
     }
     let row = expression(bytes, t, f, e);
-    match row.kind {
-        ACCESS_INDEX | ACCESS => !is_path(bytes, t, f, types, paths, e),
+    match ExpressionKind::try_from(row.kind) {
+        Ok(ExpressionKind::AccessIndex | ExpressionKind::Access) => {
+            !is_path(bytes, t, f, types, paths, e)
+        }
         _ => gives_kind(row.kind),
     }
 }

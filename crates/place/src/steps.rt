@@ -3,8 +3,8 @@ ghost use Rattle.place.specs.Target.{Pointer};
 ghost use Rattle.place.specs.Steps.{StepDown};
 
 use access::kinded::{expression, expression_operand};
-use access::kinds::ACCESS;
 use module::handles::{ExpressionHandle, FunctionHandle};
+use module::kinds::ExpressionKind;
 
 // What a pointer is: a variable, a constant index of a base, a dynamic index of a base.
 #[derive(Clone, Copy)]
@@ -19,12 +19,10 @@ pub fn step_down(bytes: &[u8], t: &[u32], f: FunctionHandle, e: ExpressionHandle
     ensures { StepDown bytes.now t.now f.0 e.0 result }
 {
     let row = expression(bytes, t, f, e);
-    if ACCESS < row.kind {
-        return Step::Variable;
-    }
     let base = expression_operand(bytes, row, 0);
-    if row.kind == ACCESS {
-        return Step::Dynamic(base, expression_operand(bytes, row, 1));
+    match ExpressionKind::try_from(row.kind) {
+        Ok(ExpressionKind::AccessIndex) => Step::Constant(base),
+        Ok(ExpressionKind::Access) => Step::Dynamic(base, expression_operand(bytes, row, 1)),
+        _ => Step::Variable,
     }
-    Step::Constant(base)
 }

@@ -6,8 +6,8 @@ ghost use Rattle.judge.specs.Given.{scope_at};
 ghost use Rattle.place.specs.Target.{Pointer, IndexesPassed, TargetFound};
 
 use access::kinded::{expression, expression_operand, operand};
-use access::kinds::{ACCESS, LOCAL_VARIABLE};
 use module::handles::{ExpressionHandle, FunctionHandle};
+use module::kinds::ExpressionKind;
 use part::limits::SPINE;
 
 // What counts of a lent path, path[from..to], and whether an index on the way is dynamic.
@@ -25,36 +25,47 @@ pub struct Reached {
     pub passed: Target,
 }
 
+// Whether a kind is that of an index, constant or dynamic.
+fn is_index(kind: u16) -> bool
+    ensures { result ≡ (eqb kind 3 || eqb kind 4) }
+{
+    matches!(
+        ExpressionKind::try_from(kind),
+        Ok(ExpressionKind::AccessIndex | ExpressionKind::Access)
+    )
+}
+
 // Where the path ends: nothing counts from a dynamic index on.
 fn end_after(kind: u16, from: usize, to: usize) -> usize
     ensures { result ≡ cond (eqb kind 4) from to }
 {
-    if kind == ACCESS {
-        return from;
+    match ExpressionKind::try_from(kind) {
+        Ok(ExpressionKind::Access) => from,
+        _ => to,
     }
-    to
 }
 
 fn dynamic_after(kind: u16, dynamic: bool) -> bool
     ensures { result ≡ (eqb kind 4 || dynamic) }
 {
-    if kind == ACCESS {
-        return true;
+    match ExpressionKind::try_from(kind) {
+        Ok(ExpressionKind::Access) => true,
+        _ => dynamic,
     }
-    dynamic
 }
 
 // The index of the locals' map or of the globals'.
 fn variable_kind(kind: u16) -> u32
     ensures { result ≡ cond (eqb kind 11) (variable 1) (variable 0) }
 {
-    if kind == LOCAL_VARIABLE {
-        return SPINE + 1;
+    match ExpressionKind::try_from(kind) {
+        Ok(ExpressionKind::LocalVariable) => SPINE + 1,
+        _ => SPINE,
     }
-    SPINE
 }
 
 // The indexes from the pointer e down to its variable, each one word lower.
+// Stays: a loop by hand, since the next row is that of the operand which this one names; nothing is counted.
 fn pass_indexes(
     bytes: &[u8],
     t: &[u32],
@@ -71,7 +82,7 @@ fn pass_indexes(
     let mut dynamic = false;
     let mut h = e;
     let mut row = expression(bytes, t, f, e);
-    while row.kind <= ACCESS {
+    while is_index(row.kind) {
         let next = from - 1;
         path[next] = operand(bytes, row, 1) as u32;
         to = end_after(row.kind, next, to);

@@ -21,7 +21,6 @@ use Rattle.request.proofs.Judged.{listed, unlisted, not_some, is_some}
 use Rattle.request.proofs.Variables.{held_piece}
 use Rattle.pruner.specs.Form.{only}
 use Rattle.pruner.specs.Reading.{single, mapped, RoomBeside, SpentBeside, PiecePlaced, PieceWasRead, ListsWereRead}
-use Rattle.pruner.specs.declared.reader.ReadLists.TheVariants as lists
 
 -- what a call answered
 module _ {s t b : List ℕ} {at n : ℕ} {r : Read PartReq} {a : Maybe (ℕ × ℕ)} (was : PieceWasRead s t b at n r a) where
@@ -242,7 +241,7 @@ module _ (globals args locals : ℕ) {s t b : List ℕ} {at : ℕ} {a : Maybe (�
   abbrev wanted : Read RequiredContext
   wanted = only (known_context globals args locals) (read_context_body (from b at))
 
-  pub lists-no_retval : a ≡ None → ListsWereRead s t b at wanted lists.Malformed
+  pub lists-no_retval : a ≡ None → ListsWereRead s t b at wanted None
   lists-no_retval e = record { kept = first.kept; is = sym (no_retval globals args locals (from b at) (no_piece first e)); placed = tt }
 
   module _ {p x : ℕ} (e : a ≡ Some (p, x)) where
@@ -250,7 +249,7 @@ module _ (globals args locals : ℕ) {s t b : List ℕ} {at : ℕ} {a : Maybe (�
     globals_room r = let h = (piece_placed first e).1 in (h.inside, omega (arith, h, first.kept.long))
 
     module _ {u : List ℕ} {c : Maybe (ℕ × ℕ)} (second : PieceWasRead t u b x 0 (only (all_below (variable globals)) (read_variables (from b x))) c) where
-      pub lists-no_globals : c ≡ None → ListsWereRead s u b at wanted lists.Malformed
+      pub lists-no_globals : c ≡ None → ListsWereRead s u b at wanted None
       lists-no_globals f = record {
         kept = kept_on first.kept second.kept;
         is = sym (no_globals globals args locals (from b at) (piece_read first e) (no_piece second f));
@@ -265,7 +264,7 @@ module _ (globals args locals : ℕ) {s t b : List ℕ} {at : ℕ} {a : Maybe (�
             (i.inside, omega (arith, h, i, first.kept.long, second.kept.long))
 
         module _ {v : List ℕ} {d : Maybe (ℕ × ℕ)} (third : PieceWasRead u v b y 0 (only (all_below (variable args)) (read_variables (from b y))) d) where
-          pub lists-no_args : d ≡ None → ListsWereRead s v b at wanted lists.Malformed
+          pub lists-no_args : d ≡ None → ListsWereRead s v b at wanted None
           lists-no_args j = record {
             kept = kept_on first.kept (kept_on second.kept third.kept);
             is = sym (no_args globals args locals (from b at) (piece_read first e) (piece_read second f) (no_piece third j));
@@ -281,14 +280,14 @@ module _ (globals args locals : ℕ) {s t b : List ℕ} {at : ℕ} {a : Maybe (�
                 (o.inside, omega (arith, h, i, o, first.kept.long, second.kept.long, third.kept.long))
 
             module _ {w : List ℕ} {q : Maybe (ℕ × ℕ)} (fourth : PieceWasRead v w b z 0 (only (all_below (variable locals)) (read_variables (from b z))) q) where
-              pub lists-no_locals : q ≡ None → ListsWereRead s w b at wanted lists.Malformed
+              pub lists-no_locals : q ≡ None → ListsWereRead s w b at wanted None
               lists-no_locals i = record {
                 kept = kept_on first.kept (kept_on second.kept (kept_on third.kept fourth.kept));
                 is = sym (no_locals globals args locals (from b at) (piece_read first e) (piece_read second f) (piece_read third j) (no_piece fourth i));
                 placed = tt;
               }
 
-              pub lists-got : {l next : ℕ} → q ≡ Some (l, next) → ListsWereRead s w b at wanted (lists.Got (record { globals = g; locals = l; args = k; retval = p }) next)
+              pub lists-got : {l next : ℕ} → q ≡ Some (l, next) → ListsWereRead s w b at wanted (Some (record { globals = g; locals = l; args = k; retval = p }, next))
               lists-got {l} {next} i =
                   let one = piece_placed first e in
                   let two = piece_placed second f in

@@ -27,8 +27,6 @@ use Rattle.memory.proofs.Records.{records_outside}
 use Rattle.memory.proofs.Runs.{four_outside, context_put, four_read, four_memory}
 use Rattle.pruner.specs.Form.{read_records}
 use Rattle.pruner.specs.Reading.{single, mapped, RoomBeside, SpentBeside, PieceWasRead, lists_read, ListsPlaced, ListsWereRead, TooMany, RecordsWereRead, ContextWasStored}
-use Rattle.pruner.specs.declared.reader.ReadLists.{ReadLists}
-use Rattle.pruner.specs.declared.reader.ReadLists.TheVariants as lists
 use Rattle.std.specs.Prelude.{Some, None}
 use Rattle.pruner.proofs.Pieces.{no_piece, piece_read, piece_placed, Mapped, mapped_from, unmapped}
 use Rattle.pruner.proofs.Marking.{after, after_none, after_more}
@@ -211,13 +209,13 @@ module _ {s rs b : List ℕ} {at base n sum : ℕ} {t us : List ℕ} {k next cou
           last_of es = unfold read_records in rw (append-nil es) refl
 
 -- the context
-module _ (wanted : Read RequiredContext) {s t b : List ℕ} (rs : List ℕ) {at : ℕ} (slot sum : ℕ) {a : ReadLists} (was : ListsWereRead s t b at wanted a) where
-  pub context_refused : a ≡ lists.Malformed → ContextWasStored s rs b at slot sum wanted t rs None
+module _ (wanted : Read RequiredContext) {s t b : List ℕ} (rs : List ℕ) {at : ℕ} (slot sum : ℕ) {a : Maybe (Pieces × ℕ)} (was : ListsWereRead s t b at wanted a) where
+  pub context_refused : a ≡ None → ContextWasStored s rs b at slot sum wanted t rs None
   context_refused e =
       let none-such : wanted ≡ malformed = sym was.is ∙ ap (lists_read t b) e in
       record { kept = was.kept; long = refl; by = rw none-such tt }
 
-  module _ {c : Pieces} {next : ℕ} (e : a ≡ lists.Got c next) where
+  module _ {c : Pieces} {next : ℕ} (e : a ≡ Some (c, next)) where
     pub context_has : HasContext t c
     context_has = (subst (ListsPlaced s t b at) e was.placed).0
 

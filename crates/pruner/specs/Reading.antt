@@ -24,8 +24,7 @@ use Rattle.block.specs.Standing.{total_in, functions_in}
 use Rattle.block.specs.Total.{total_count}
 use Rattle.pruner.specs.Form.{read_marks, read_records, read_kept, read_total, read_totals, read_body, min_pruner, is_pruner, answered, read_pruner}
 use Rattle.pruner.specs.Stored.{pruner_in}
-use Rattle.pruner.specs.declared.reader.ReadLists.{ReadLists}
-use Rattle.pruner.specs.declared.reader.ReadLists.TheVariants.{Malformed, Got}
+use Rattle.context.specs.declared.required_context.RequiredContext.{RequiredContext as Pieces}
 
 -- {i: part}, or the empty part for none
 unfoldable pub single : ℕ → Option PartReq → PartReq
@@ -58,15 +57,15 @@ pub record PieceWasRead (s t b : List ℕ) (at n : ℕ) (r : Read PartReq) (a : 
   pub placed : PiecePlaced s t b at n a
 
 -- the lists of a context
-abbrev pub lists_read : (t b : List ℕ) → ReadLists → Read RequiredContext
-lists_read t b Malformed = malformed
-lists_read t b (Got c next) = got (context_of t c) (from b next)
+abbrev pub lists_read : (t b : List ℕ) → Maybe (Pieces × ℕ) → Read RequiredContext
+lists_read t b None = malformed
+lists_read t b (Some (c, next)) = got (context_of t c) (from b next)
 
-abbrev pub ListsPlaced : (s t b : List ℕ) → (at : ℕ) → ReadLists → Type 0
-ListsPlaced s t b at Malformed = Unit {0}
-ListsPlaced s t b at (Got c next) = HasContext t c × SpentBeside s t b at next 1
+abbrev pub ListsPlaced : (s t b : List ℕ) → (at : ℕ) → Maybe (Pieces × ℕ) → Type 0
+ListsPlaced s t b at None = Unit {0}
+ListsPlaced s t b at (Some (c, next)) = HasContext t c × SpentBeside s t b at next 1
 
-pub record ListsWereRead (s t b : List ℕ) (at : ℕ) (r : Read RequiredContext) (a : ReadLists) : Type 0 where
+pub record ListsWereRead (s t b : List ℕ) (at : ℕ) (r : Read RequiredContext) (a : Maybe (Pieces × ℕ)) : Type 0 where
   pub kept : Kept s t
   pub is : lists_read t b a ≡ r
   pub placed : ListsPlaced s t b at a

@@ -8,7 +8,7 @@ ghost use Rattle.memory.specs.Memory.{Memory};
 ghost use Rattle.pruner.specs.Form.{only};
 ghost use Rattle.pruner.specs.Reading.{RoomBeside, RecordsWereRead, ContextWasStored};
 
-use crate::reader::{ReadLists, read_lists, read_single};
+use crate::reader::{read_lists, read_single};
 use field::limits::MAX_PIECES;
 use memory::stretches::save_context;
 use part::store::entries;
@@ -30,9 +30,7 @@ pub fn read_records(
     let mut next = at;
     let mut count = sum;
     for k in 0..n {
-        let Some((p, end)) = read_single(cells, pruner, next, 0) else {
-            return None;
-        };
+        let (p, end) = read_single(cells, pruner, next, 0)?;
         count += entries(cells, p) as usize;
         if MAX_PIECES < count {
             return None;
@@ -60,9 +58,7 @@ pub fn read_context(
     requires limits { Limits globals args locals }
     ensures { ContextWasStored cells.old slots.old pruner.now at slot sum (only (known_context globals args locals) (read_context_body (from pruner.now at))) cells.new slots.new result }
 {
-    let ReadLists::Got(c, next) = read_lists(cells, pruner, at, globals, args, locals) else {
-        return None;
-    };
+    let (c, next) = read_lists(cells, pruner, at, globals, args, locals)?;
     let g = entries(cells, c.globals) as usize;
     let l = entries(cells, c.locals) as usize;
     let a = entries(cells, c.args) as usize;

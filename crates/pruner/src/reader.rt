@@ -17,13 +17,6 @@ use part::store::make;
 use request::lists::{read_return, read_variables};
 use request::record::ends;
 
-// The pieces of a context, and where the next field stands.
-#[derive(Clone, Copy)]
-pub enum ReadLists {
-    Malformed,
-    Got(RequiredContext, usize),
-}
-
 // A return part or a record as {index: part}, or the empty part for none.
 pub fn read_single(cells: &mut [u32], pruner: &[u8], at: usize, index: u32) -> Option<(u32, usize)>
     requires good { Good cells.old }
@@ -45,13 +38,11 @@ pub fn read_map(cells: &mut [u32], pruner: &[u8], at: usize, limit: u32) -> Opti
     ensures { PieceWasRead cells.old cells.new pruner.now at 0 (only (all_below (variable limit)) (read_variables (from pruner.now at))) result }
 {
     let (o, next) = read_variables(cells, pruner, at, limit)?;
-    let Some(p) = o else {
-        return None;
-    };
+    let p = o?;
     Some((p, next))
 }
 
-// The lists of a context whose variables are there.
+// The lists of a context whose variables are there, and where the next field stands.
 pub fn read_lists(
     cells: &mut [u32],
     pruner: &[u8],
@@ -59,33 +50,23 @@ pub fn read_lists(
     globals: u32,
     args: u32,
     locals: u32,
-) -> ReadLists
+) -> Option<(RequiredContext, usize)>
     requires good { Good cells.old }
     requires at_in_bounds { (at ≤ length pruner.now) × RoomBeside cells.old pruner.now at 1 }
     requires limits { Limits globals args locals }
     ensures { ListsWereRead cells.old cells.new pruner.now at (only (known_context globals args locals) (read_context_body (from pruner.now at))) result }
 {
-    let Some((p, a)) = read_single(cells, pruner, at, SPINE) else {
-        return ReadLists::Malformed;
+    let (p, a) = read_single(cells, pruner, at, SPINE)?;
+    let (g, b) = read_map(cells, pruner, a, globals)?;
+    let (x, c) = read_map(cells, pruner, b, args)?;
+    let (l, d) = read_map(cells, pruner, c, locals)?;
+    let context = RequiredContext {
+        globals: g,
+        locals: l,
+        args: x,
+        retval: p,
     };
-    let Some((g, b)) = read_map(cells, pruner, a, globals) else {
-        return ReadLists::Malformed;
-    };
-    let Some((x, c)) = read_map(cells, pruner, b, args) else {
-        return ReadLists::Malformed;
-    };
-    let Some((l, d)) = read_map(cells, pruner, c, locals) else {
-        return ReadLists::Malformed;
-    };
-    ReadLists::Got(
-        RequiredContext {
-            globals: g,
-            locals: l,
-            args: x,
-            retval: p,
-        },
-        d,
-    )
+    Some((context, d))
 }
 
 // The n marks of a total, one field each, into the bytes from `first` on. Whether they are marks.

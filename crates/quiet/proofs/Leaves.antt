@@ -6,7 +6,7 @@ use mathlib.Core.Bool.{Bool, true, false, ◌&&◌}
 use mathlib.Core.List.{List}
 use lib.ListN.{length, get_or}
 use Rattle.part.specs.PartReq.{PartReq}
-use Rattle.module.specs.Module.{BlockHandle, Statement, Function, Kill}
+use Rattle.module.specs.Module.{BlockHandle, Statement, Kill}
 use Rattle.module.specs.Decode.{statement_of}
 use Rattle.module.specs.Tables.{function_of, module_of}
 use Rattle.access.specs.declared.kinded.Kinded.{Kinded}
@@ -19,7 +19,6 @@ use Rattle.clearance.specs.Needs.{idle, quiet}
 use Rattle.clearance.specs.Judged.{is_value, fits_statement}
 use Rattle.clearance.proofs.Small.{both_true}
 use Rattle.judge.specs.Given.{scope_at}
-use Rattle.module.proofs.Each.{past}
 use Rattle.judge.proofs.PathSteps.{function_valid}
 use Rattle.standing.specs.World.{World}
 use Rattle.place.specs.Target.{Pointer}
@@ -27,7 +26,7 @@ use Rattle.strays.specs.declared.exits.Exits.{Exits}
 use Rattle.strays.specs.Exits.{exits_of}
 use Rattle.quiet.specs.Acts.{Idle, idle_from, IdleFrom}
 use Rattle.quiet.specs.Places.{quiet_statement, Says}
-use Rattle.quiet.proofs.Trees.{emit_of, store_of, break_of, continue_of, return_of, other_of, past_of}
+use Rattle.quiet.proofs.Trees.{emit_of, store_of, break_of, continue_of, return_of, other_of}
 
 -- An emit's expressions
 
@@ -39,9 +38,6 @@ pub record Passed (S : Scope) (n : PartReq) (first k e left : ℕ) (before after
 module _ (S : Scope) (n : PartReq) (first last : ℕ) where
   abbrev count : ℕ
   count = (last + 1) - first
-
-  pub emits_start : (path : List ℕ) → Passed S n first count first count path path
-  emits_start path = record { is = refl; long = refl }
 
   module _ {e : ℕ} (l : e ≤ last) {before now after : List ℕ} (p : Passed S n first count e ((last + 1) - e) before now) {r : Bool} (i : Idle S (emit e) n now after r) where
     first_of : idle_from S n e ((last + 1) - e) ≡ idle S (emit e) n && idle_from S n (suc e) ((last + 1) - suc e)
@@ -64,35 +60,6 @@ module _ (S : Scope) (n : PartReq) (first last : ℕ) where
   emits_end {e} l p =
       let z : (last + 1) - e ≡ 0 = omega arith in
       record { is = sym (p.is ∙ rw z); long = p.long }
-
--- What leaves
-module _ (k : ℕ) (e : Exits) where
-  -- whatever else the function has
-  abbrev Leaving : Bool → Type 0
-  Leaving r = (S : Scope) (n : PartReq) (f : Function) (marks : List ℕ) (block : BlockHandle → Tree) (s : ℕ) (o : ℕ → ℕ) → r ≡ quiet S n (statement f marks block s (statement_of k o)) (exits_of e)
-
-  pub leaves_past : 20 < k → Leaving e.broke
-  unfolding exits_of
-  leaves_past l S n f marks block s o =
-      let z : k ≡ past 21 (k - 21) = omega arith in
-      rw z (sym (past_of S n f marks block s (exits_of e) o (k - 21)))
-
-  pub leaves_return : k ≡ 7 → Leaving e.returned
-  unfolding exits_of
-  leaves_return z S n f marks block s o = rw z (sym (return_of S n f marks block s (exits_of e) o))
-
-  pub leaves_continue : k ≡ 6 → Leaving e.continued
-  unfolding exits_of
-  leaves_continue z S n f marks block s o = rw z (sym (continue_of S n f marks block s (exits_of e) o))
-
-  pub leaves_break : k ≡ 5 → Leaving e.broke
-  unfolding exits_of
-  leaves_break z S n f marks block s o = rw z (sym (break_of S n f marks block s (exits_of e) o))
-
-  pub leaves_not : 7 < k → k ≤ 20 → (k ≡ 12 → ⊥) → Leaving true
-  leaves_not l u d S n f marks block s o =
-      let z : k ≡ past 8 (k - 8) = omega arith in
-      rw z (sym (other_of S n f marks block s (exits_of e) o (k - 8) (omega arith) (λ q. d (omega arith))))
 
 -- A statement, by its row
 module _ {bytes t : List ℕ} {f : ℕ} {types alike paths : List ℕ} (w : World bytes t f types alike paths) {s : ℕ} (l : s < length (function_of bytes t f).statements) {row : Kinded} (is : row ≡ statement_row bytes t f s) where
@@ -127,7 +94,7 @@ module _ {bytes t : List ℕ} {f : ℕ} {types alike paths : List ℕ} (w : Worl
         path = (both_true (is_path S (o 0)) _ (both_true (is_value S (o 1)) _ fits).1).0;
       }
 
-  module _ (n : PartReq) (e : Exits) {before after : List ℕ} {r : Bool} where
+  module _ (n : PartReq) (e : Exits Bool) {before after : List ℕ} {r : Bool} where
     pub quiet_emit : {first last : ℕ} → row.kind ≡ 0 → first ≡ o 0 → last ≡ o 1 → IdleFrom S n first ((last + 1) - first) before after r → (b : ℕ) →
         Says (quiet_statement S n b s (exits_of e)) before after r
     quiet_emit h x y i b =
@@ -143,5 +110,23 @@ module _ {bytes t : List ℕ} {f : ℕ} {types alike paths : List ℕ} (w : Worl
           long = (i 0).long;
         }
 
-  pub quiet-leaving : (n : PartReq) (e : Exits) (path : List ℕ) {r : Bool} → Leaving row.kind e r → (b : ℕ) → Says (quiet_statement S n b s (exits_of e)) path path r
-  quiet-leaving n e path h b = record { is = λ marks. rw (decoded row.kind refl) (h S n (function_of bytes t f) marks _ s o); long = refl }
+  -- what has no act: the lent path is as it was
+  module _ (n : PartReq) (e : Exits Bool) (path : List ℕ) where
+    by-kind : (k : ℕ) → row.kind ≡ k → {r : Bool} → ((marks : List ℕ) (block : BlockHandle → Tree) → quiet S n (statement (function_of bytes t f) marks block s (statement_of k o)) (exits_of e) ≡ r) → (b : ℕ) →
+        Says (quiet_statement S n b s (exits_of e)) path path r
+    by-kind k h z b = record { is = λ marks. sym (rw (decoded k h) (z marks _)); long = refl }
+
+    pub quiet_break : (row.kind ≤ 20 → row.kind ≡ 5) → (b : ℕ) → Says (quiet_statement S n b s (exits_of e)) path path e.broke
+    unfolding exits_of
+    quiet_break h = by-kind row.kind refl (λ marks block. break_of S n (function_of bytes t f) marks block s (exits_of e) o row.kind h)
+
+    pub quiet_continue : row.kind ≡ 6 → (b : ℕ) → Says (quiet_statement S n b s (exits_of e)) path path e.continued
+    unfolding exits_of
+    quiet_continue h = by-kind 6 h (λ marks block. continue_of S n (function_of bytes t f) marks block s (exits_of e) o)
+
+    pub quiet_return : row.kind ≡ 7 → (b : ℕ) → Says (quiet_statement S n b s (exits_of e)) path path e.returned
+    unfolding exits_of
+    quiet_return h = by-kind 7 h (λ marks block. return_of S n (function_of bytes t f) marks block s (exits_of e) o)
+
+    pub quiet_other : 7 < row.kind → row.kind ≤ 20 → (row.kind ≡ 12 → ⊥) → (b : ℕ) → Says (quiet_statement S n b s (exits_of e)) path path true
+    quiet_other l u d = by-kind row.kind refl (λ marks block. other_of S n (function_of bytes t f) marks block s (exits_of e) o row.kind l u d)

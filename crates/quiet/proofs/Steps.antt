@@ -110,7 +110,7 @@ all_statements {bytes} {t} {f} {b} p n e path {g} q =
     }
 
 -- A statement, by its kind
-module _ {bytes t : List ℕ} {f b s : ℕ} (p : StatementIn bytes t f b s) {row : Kinded} (is : row ≡ statement_row bytes t f s) (n : PartReq) (E : Exits) where
+module _ {bytes t : List ℕ} {f b s : ℕ} (p : StatementIn bytes t f b s) {row : Kinded} (is : row ≡ statement_row bytes t f s) (n : PartReq) (E : Exits Bool) where
   abbrev S : Scope
   S = scope_at bytes t f
 
@@ -160,10 +160,6 @@ module _ {bytes t : List ℕ} {f b s : ℕ} (p : StatementIn bytes t f b s) {row
       by-kind 3 h
       (λ marks. switch_of S n S.function marks (w marks) s e o end_allowed
       ∙ rw a (each_same (o 1) _ _ (λ i l. held_is (3 + 2 * i) refl ((cases_in p is h).each i l) (in_case e) marks)))
-
--- the kinds that are left hold no blocks
-pub plain_kind : {k : ℕ} → (k ≡ 1 → ⊥) → (k ≡ 2 → ⊥) → (k ≡ 3 → ⊥) → (k ≡ 4 → ⊥) → (k ≡ 0 → ⊥) → 4 < k
-plain_kind a b c d e = omega arith
 
 -- The rule
 pub obeys_by : {S : Scope} {n : PartReq} {b s : ℕ} {e : Exit → Bool} {before after : List ℕ} {r : Bool} → e ≡ only_next → Says (quiet_statement S n b s e) before after r → Obeys S n b s before after r

@@ -4,17 +4,19 @@ use native.Mathlib.Numerals.{add-one}
 use native.Mathlib.Omega.{arith}
 use mathlib.Core.Path.{◌≡◌, refl, ap, fun_ext, ◌∙◌}
 use mathlib.Core.Bool.{Bool, true, false, ◌&&◌}
-use mathlib.Core.List.{List, [], ◌∷◌, map}
-use lib.ListN.{length, get_or}
+use mathlib.Core.List.{List}
+use lib.Dec.{ltb}
+use borrow.Author.Tests.{ltb-true, ltb-false}
+use Rattle.clearance.proofs.Small.{cases as by_test}
 use Rattle.part.specs.PartReq.{PartReq}
-use Rattle.module.specs.Module.{BlockHandle, SwitchCase, Function}
-use Rattle.module.specs.Decode.{tab, case_of, statement_of}
-use Rattle.module.proofs.Tab.{length-tab, get_d_tab, map-tab}
+use Rattle.module.specs.Module.{BlockHandle, Function}
+use Rattle.module.specs.Decode.{statement_of}
 use Rattle.clearance.specs.Scope.{Scope}
 use Rattle.clearance.specs.Tree.{Tree, store, marked, by_mark, emits, case_at, statement}
 use Rattle.clearance.specs.Needs.{Exit, next, broke, continued, returned, upon, out_break, out_continue, of_case, of_continuing, of_body, each, idle, quiet}
 use Rattle.clearance.specs.Judged.{in_case, in_body}
 use Rattle.module.proofs.Each.{past}
+use Rattle.strays.proofs.Trees.{cases_of, values_long, case_is}
 use Rattle.quiet.specs.Acts.{idle_from}
 
 -- Exits: where the end is allowed, a case and a continuing block allow what has a target in a case, a loop's body what has one there
@@ -44,12 +46,6 @@ pub each_same : (k : ℕ) (f g : ℕ → Bool) → ((i : ℕ) → i < k → f i 
 unfolding each
 each_same zero f g h = refl
 each_same (suc k) f g h = rw (h k (omega arith), each_same k f g (λ i l. h i (omega arith)))
-
-case-at : (block : BlockHandle → Tree) (cs : List SwitchCase) (i : ℕ) (d : SwitchCase) → i < length cs → case_at block cs i ≡ block (get_or cs i d).body
-unfolding case_at
-case-at block [] i d l = absurd (omega arith)
-case-at block (c ∷ cs) zero d l = refl
-case-at block (c ∷ cs) (suc i) d l = case-at block cs i d (omega arith)
 
 module _ (S : Scope) (n : PartReq) (f : Function) (marks : List ℕ) (block : BlockHandle → Tree) (s : ℕ) (e : Exit → Bool) where
   marked-quiet : (m : ℕ) (q : Bool) (a : Tree) → quiet S n (marked s m q a) e ≡ quiet S n a e
@@ -86,31 +82,16 @@ module _ (S : Scope) (n : PartReq) (f : Function) (marks : List ℕ) (block : Bl
     unfolding statement_of statement quiet
     if_of = by_quiet 0 _
 
-    abbrev cases : List SwitchCase
-    cases = tab (o 1) (case_of o)
-
-    values_long : length (map (λ (c : SwitchCase). c.value) cases) ≡ o 1
-    values_long = ap length (map-tab (λ (c : SwitchCase). c.value) (o 1) (case_of o)) ∙ length-tab (o 1) _
-
-    case_is : (i : ℕ) → i < o 1 → case_at block cases i ≡ block (o (3 + 2 * i))
-    unfolding case_of
-    case_is i l =
-        case-at block cases i (case_of o i) (rw length-tab l) ∙ ap (λ (c : SwitchCase). block c.body) (get_d_tab (o 1) (case_of o) i (case_of o i) l)
-
     pub switch_of : e next ≡ true → of 3 ≡ each (o 1) (λ i. quiet S n (block (o (3 + 2 * i))) (in_case e))
     unfolding statement_of statement quiet
     switch_of h =
         by_quiet 0 _
-        ∙ ap (λ (k : ℕ). each k (λ i. quiet S n (case_at block cases i) (of_case e))) values_long
-        ∙ each_same (o 1) _ _ (λ i l. rw (case_is i l, fun_ext (case_allows e h)))
+        ∙ ap (λ (k : ℕ). each k (λ i. quiet S n (case_at block (cases_of o) i) (of_case e))) (values_long o)
+        ∙ each_same (o 1) _ _ (λ i l. rw (case_is o block i l, fun_ext (case_allows e h)))
 
     pub loop_of : e next ≡ true → of 4 ≡ quiet S n (block (o 0)) (in_body e) && quiet S n (block (o 1)) (in_case e)
     unfolding statement_of statement quiet
     loop_of h = by_quiet 0 _ ∙ rw (fun_ext (body_allows e h), fun_ext (continuing_allows e h))
-
-    pub break_of : of 5 ≡ e broke
-    unfolding statement_of statement quiet
-    break_of = refl
 
     pub continue_of : of 6 ≡ e continued
     unfolding statement_of statement quiet
@@ -125,23 +106,39 @@ module _ (S : Scope) (n : PartReq) (f : Function) (marks : List ℕ) (block : Bl
     store_of = by_quiet 0 _
 
     -- kinds that are not judged
-    pub other_of : (j : ℕ) → j ≤ 12 → (j ≡ 4 → ⊥) → of (past 8 j) ≡ true
+    others : (j : ℕ) → j ≤ 12 → (j ≡ 4 → ⊥) → of (past 8 j) ≡ true
     unfolding statement_of statement quiet
-    other_of zero l d = refl
-    other_of (suc zero) l d = refl
-    other_of (suc (suc zero)) l d = refl
-    other_of (suc (suc (suc zero))) l d = refl
-    other_of (suc (suc (suc (suc zero)))) l d = absurd (d refl)
-    other_of (suc (suc (suc (suc (suc zero))))) l d = refl
-    other_of (suc (suc (suc (suc (suc (suc zero)))))) l d = refl
-    other_of (suc (suc (suc (suc (suc (suc (suc zero))))))) l d = refl
-    other_of (suc (suc (suc (suc (suc (suc (suc (suc zero)))))))) l d = refl
-    other_of (suc (suc (suc (suc (suc (suc (suc (suc (suc zero))))))))) l d = refl
-    other_of (suc (suc (suc (suc (suc (suc (suc (suc (suc (suc zero)))))))))) l d = refl
-    other_of (suc (suc (suc (suc (suc (suc (suc (suc (suc (suc (suc zero))))))))))) l d = refl
-    other_of (suc (suc (suc (suc (suc (suc (suc (suc (suc (suc (suc (suc zero)))))))))))) l d = refl
-    other_of (suc (suc (suc (suc (suc (suc (suc (suc (suc (suc (suc (suc (suc j))))))))))))) l d = absurd (omega arith)
+    others zero l d = refl
+    others (suc zero) l d = refl
+    others (suc (suc zero)) l d = refl
+    others (suc (suc (suc zero))) l d = refl
+    others (suc (suc (suc (suc zero)))) l d = absurd (d refl)
+    others (suc (suc (suc (suc (suc zero))))) l d = refl
+    others (suc (suc (suc (suc (suc (suc zero)))))) l d = refl
+    others (suc (suc (suc (suc (suc (suc (suc zero))))))) l d = refl
+    others (suc (suc (suc (suc (suc (suc (suc (suc zero)))))))) l d = refl
+    others (suc (suc (suc (suc (suc (suc (suc (suc (suc zero))))))))) l d = refl
+    others (suc (suc (suc (suc (suc (suc (suc (suc (suc (suc zero)))))))))) l d = refl
+    others (suc (suc (suc (suc (suc (suc (suc (suc (suc (suc (suc zero))))))))))) l d = refl
+    others (suc (suc (suc (suc (suc (suc (suc (suc (suc (suc (suc (suc zero)))))))))))) l d = refl
+    others (suc (suc (suc (suc (suc (suc (suc (suc (suc (suc (suc (suc (suc j))))))))))))) l d = absurd (omega arith)
 
-    pub past_of : (j : ℕ) → of (past 21 j) ≡ e broke
+    pub other_of : (k : ℕ) → 7 < k → k ≤ 20 → (k ≡ 12 → ⊥) → of k ≡ true
+    other_of k l u d =
+        let z : k ≡ past 8 (k - 8) = omega arith in
+        rw z (others (k - 8) (omega arith) (λ q. d (omega arith)))
+
+    past_of : (j : ℕ) → of (past 21 j) ≡ e broke
     unfolding statement_of statement quiet
     past_of j = refl
+
+    breaks : of 5 ≡ e broke
+    unfolding statement_of statement quiet
+    breaks = refl
+
+    -- a kind past the last is a break's
+    pub break_of : (k : ℕ) → (k ≤ 20 → k ≡ 5) → of k ≡ e broke
+    break_of k h =
+        by_test (ltb 20 k)
+        (λ a. let z : k ≡ past 21 (k - 21) = omega (arith, ltb-true 20 k a) in rw z (past_of (k - 21)))
+        (λ a. rw (h (ltb-false 20 k a)) breaks)

@@ -12,8 +12,8 @@ ghost use Rattle.quiet.specs.Places.{quiet_block, quiet_statement, quiet_cases, 
 use crate::plain::quiet_plain;
 use access::function::block;
 use access::kinded::{Kinded, block_operand, operand, statement};
-use access::kinds::{BLOCK, IF, LOOP, SWITCH};
 use module::handles::{BlockHandle, FunctionHandle};
+use module::kinds::StatementKind;
 use strays::exits::{Exits, in_body, in_case, none};
 
 #[cycle(quiet_block_quiet_cases_quiet_statement)]
@@ -29,7 +29,7 @@ fn quiet_cases(
     m: u32,
     b: BlockHandle,
     row: Kinded,
-    e: Exits,
+    e: Exits<bool>,
 ) -> bool
     requires needing { Needing bytes.now t.now f.0 types.now alike.now paths.now cells.now m }
     requires f_in_bounds { length (function_of bytes.now t.now f.0).expressions + 2 ≤ length path.old }
@@ -60,7 +60,7 @@ fn quiet_statement(
     m: u32,
     b: BlockHandle,
     s: u32,
-    e: Exits,
+    e: Exits<bool>,
 ) -> bool
     requires needing { Needing bytes.now t.now f.0 types.now alike.now paths.now cells.now m }
     requires f_in_bounds { length (function_of bytes.now t.now f.0).expressions + 2 ≤ length path.old }
@@ -68,35 +68,32 @@ fn quiet_statement(
     ensures { Says (quiet_statement (scope_at bytes.now t.now f.0) (part cells.now m) b.0 s (exits_of e)) path.old path.new result }
 {
     let row = statement(bytes, t, f, s);
-    let kind = row.kind;
-    if kind == BLOCK {
-        let inner = block_operand(bytes, row, 0);
-        return quiet_block(bytes, t, f, types, alike, paths, cells, path, m, inner, e);
-    }
-    if kind == IF {
-        let accept = block_operand(bytes, row, 1);
-        if !quiet_block(bytes, t, f, types, alike, paths, cells, path, m, accept, e) {
-            return false;
+    match StatementKind::try_from(row.kind) {
+        Ok(StatementKind::Block) => {
+            let inner = block_operand(bytes, row, 0);
+            quiet_block(bytes, t, f, types, alike, paths, cells, path, m, inner, e)
         }
-        let reject = block_operand(bytes, row, 2);
-        return quiet_block(bytes, t, f, types, alike, paths, cells, path, m, reject, e);
-    }
-    if kind == SWITCH {
-        let x = in_case(e);
-        return quiet_cases(bytes, t, f, types, alike, paths, cells, path, m, b, row, x);
-    }
-    if kind == LOOP {
-        let body = block_operand(bytes, row, 0);
-        let x = in_body(e);
-        if !quiet_block(bytes, t, f, types, alike, paths, cells, path, m, body, x) {
-            return false;
+        Ok(StatementKind::If) => {
+            let accept = block_operand(bytes, row, 1);
+            let reject = block_operand(bytes, row, 2);
+            quiet_block(bytes, t, f, types, alike, paths, cells, path, m, accept, e)
+                && quiet_block(bytes, t, f, types, alike, paths, cells, path, m, reject, e)
         }
-        // a continue that leaves a continuing block is one of the loop around
-        let last = block_operand(bytes, row, 1);
-        let y = in_case(e);
-        return quiet_block(bytes, t, f, types, alike, paths, cells, path, m, last, y);
+        Ok(StatementKind::Switch) => {
+            let x = in_case(e);
+            quiet_cases(bytes, t, f, types, alike, paths, cells, path, m, b, row, x)
+        }
+        Ok(StatementKind::Loop) => {
+            let body = block_operand(bytes, row, 0);
+            let x = in_body(e);
+            // a continue that leaves a continuing block is one of the loop around
+            let last = block_operand(bytes, row, 1);
+            let y = in_case(e);
+            quiet_block(bytes, t, f, types, alike, paths, cells, path, m, body, x)
+                && quiet_block(bytes, t, f, types, alike, paths, cells, path, m, last, y)
+        }
+        _ => quiet_plain(bytes, t, f, types, alike, paths, cells, path, m, s, row, e),
     }
-    quiet_plain(bytes, t, f, types, alike, paths, cells, path, m, s, row, e)
 }
 
 #[cycle(quiet_block_quiet_cases_quiet_statement)]
@@ -111,7 +108,7 @@ pub fn quiet_block(
     path: &mut [u32],
     m: u32,
     b: BlockHandle,
-    e: Exits,
+    e: Exits<bool>,
 ) -> bool
     requires needing { Needing bytes.now t.now f.0 types.now alike.now paths.now cells.now m }
     requires f_in_bounds { length (function_of bytes.now t.now f.0).expressions + 2 ≤ length path.old }

@@ -1,14 +1,8 @@
 // Statements that hold no blocks.
-ghost use Rattle.std.specs.Prelude.{◌≡◌, List, ℕ, ◌+◌, ◌-◌, ◌<◌, ◌≤◌, length};
-ghost use Rattle.part.specs.PartReq.{PartReq};
+ghost use Rattle.std.specs.Prelude.{◌≡◌, ℕ, ◌+◌, ◌-◌, ◌<◌, ◌≤◌, length};
 ghost use Rattle.part.specs.Store.{part};
-ghost use Rattle.module.specs.Module.{BlockHandle as Handle, Function};
-ghost use Rattle.module.specs.Decode.{statement_of};
 ghost use Rattle.module.specs.Tables.{function_of};
 ghost use Rattle.access.specs.Access.{statement_row};
-ghost use Rattle.clearance.specs.Scope.{Scope};
-ghost use Rattle.clearance.specs.Tree.{Tree, statement as treeOfOne};
-ghost use Rattle.clearance.specs.Needs.{quiet};
 ghost use Rattle.judge.specs.Given.{scope_at};
 ghost use Rattle.strays.specs.Exits.{exits_of};
 ghost use Rattle.quiet.specs.Acts.{Needing, IdleFrom};
@@ -16,8 +10,8 @@ ghost use Rattle.quiet.specs.Places.{quiet_statement, Says};
 
 use crate::acts::{emit_idle, store_idle};
 use access::kinded::{Kinded, expression_operand};
-use access::kinds::{CONTINUE, EMIT, KILL, LAST, RETURN, STORE};
 use module::handles::{ExpressionHandle, FunctionHandle};
+use module::kinds::{NoKind, StatementKind};
 use strays::exits::Exits;
 
 // Whether none of the emitted expressions, from the first to the last, gives anything that is needed.
@@ -58,20 +52,6 @@ fn quiet_emits(
     true
 }
 
-// A statement that is no act, of a kind past a loop's. A kind past the last is a break's.
-fn quiet_leaving(kind: u16, e: Exits) -> bool
-    requires lt_kind { 4 < kind }
-    requires fact { kind ≡ 12 → ⊥ }
-    ensures { (S : Scope) (n : PartReq) (f : Function) (marks : List ℕ) (block : Handle → Tree) (s : ℕ) (o : ℕ → ℕ) → result ≡ quiet S n (treeOfOne f marks block s (statement_of kind o)) (exits_of e) }
-{
-    match kind {
-        CONTINUE => e.continued,
-        RETURN => e.returned,
-        KILL..=LAST => true,
-        _ => e.broke,
-    }
-}
-
 // The statement s, by its row, whatever block it is in.
 pub fn quiet_plain(
     bytes: &[u8],
@@ -85,7 +65,7 @@ pub fn quiet_plain(
     m: u32,
     s: u32,
     row: Kinded,
-    e: Exits,
+    e: Exits<bool>,
 ) -> bool
     requires needing { Needing bytes.now t.now f.0 types.now alike.now paths.now cells.now m }
     requires f_in_bounds { length (function_of bytes.now t.now f.0).expressions + 2 ≤ length path.old }
@@ -94,17 +74,22 @@ pub fn quiet_plain(
     requires lt_kind { (row.kind ≡ 0 → ⊥) → 4 < row.kind }
     ensures { (b : ℕ) → Says (quiet_statement (scope_at bytes.now t.now f.0) (part cells.now m) b s (exits_of e)) path.old path.new result }
 {
-    let kind = row.kind;
-    if kind == EMIT {
-        let first = expression_operand(bytes, row, 0);
-        let last = expression_operand(bytes, row, 1);
-        return quiet_emits(
-            bytes, t, f, types, alike, paths, cells, path, m, first, last,
-        );
+    match StatementKind::try_from(row.kind) {
+        Ok(StatementKind::Emit) => {
+            let first = expression_operand(bytes, row, 0);
+            let last = expression_operand(bytes, row, 1);
+            quiet_emits(
+                bytes, t, f, types, alike, paths, cells, path, m, first, last,
+            )
+        }
+        Ok(StatementKind::Store) => {
+            let p = expression_operand(bytes, row, 0);
+            store_idle(bytes, t, f, types, alike, paths, cells, path, m, p)
+        }
+        Ok(StatementKind::Continue) => e.continued,
+        Ok(StatementKind::Return) => e.returned,
+        // a kind past the last is a break's
+        Ok(StatementKind::Break) | Err(NoKind) => e.broke,
+        Ok(_) => true,
     }
-    if kind == STORE {
-        let p = expression_operand(bytes, row, 0);
-        return store_idle(bytes, t, f, types, alike, paths, cells, path, m, p);
-    }
-    quiet_leaving(kind, e)
 }

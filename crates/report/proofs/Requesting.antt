@@ -4,7 +4,10 @@ use native.Mathlib.Omega.{arith}
 use mathlib.Core.Path.{◌≡◌, ap}
 use mathlib.Core.List.{List, [], ◌∷◌}
 use lib.ListN.{length, take, length-take}
+use Rattle.std.specs.Prelude.{Result, Ok, Err}
 use Rattle.field.specs.Limits.{max_types, min_report}
+use Rattle.field.specs.Refusal.{number}
+use Rattle.field.specs.declared.refusal.Refusal.{Refusal}
 use Rattle.module.specs.Module.{Module}
 use Rattle.module.specs.Tables.{module_of}
 use Rattle.module.specs.declared.handles.FunctionHandle.{FunctionHandle as Handle}
@@ -20,13 +23,11 @@ use Rattle.pruner.proofs.Back.{read_pruner-zero}
 use Rattle.requests.specs.Loaded.{Loaded}
 use Rattle.requests.specs.Begin.{with_totals, after_request, Begins, Ready}
 use Rattle.requests.specs.declared.begin.Begun.{Begun}
-use Rattle.requests.specs.declared.begin.Begun.TheVariants as begun
 use Rattle.requests.proofs.Serving.{both_read}
 use Rattle.lines.specs.Text.{refused_text}
 use Rattle.report_text.specs.Input.{request_text}
 use Rattle.report.specs.Outcome.{TextIs, Asked, Walked}
-use Rattle.report.specs.declared.outcome.Outcome.{Outcome}
-use Rattle.report.specs.declared.outcome.Outcome.TheVariants.{Refused}
+use Rattle.report.specs.declared.outcome.Reported.{Reported}
 
 -- a pruner of which nothing was asked yet
 abbrev none_yet : List ℕ
@@ -60,11 +61,11 @@ unfolding after_request request_text
 asked_refused m (reading.refused k) e = ap refused_text (cc)
 asked_refused m (reading.accepted q) e = absurd (with_refused q (read_pruner m none_yet) (fresh m) (read_pruner-zero m []) e)
 
-module _ {bytes t places s rs open_marks totals asked-bytes : List ℕ} {b : Begun} (B : Begins bytes t places min_report asked-bytes none_yet s rs open_marks totals b) where
-  pub request_refused : {n : ℕ} → b ≡ begun.Refused n → TextIs (request_text (module_of bytes t) (read_request (module_of bytes t) min_report asked-bytes)) bytes t asked-bytes places s rs open_marks (Refused n)
-  request_refused e = record { by = asked_refused (module_of bytes t) (read_request (module_of bytes t) min_report asked-bytes) (rw e at B.by) }
+module _ {bytes t places s rs open_marks totals asked-bytes : List ℕ} {b : Result Begun Refusal} (B : Begins bytes t places min_report asked-bytes none_yet s rs open_marks totals b) where
+  pub request_refused : {e : Refusal} → b ≡ Err e → TextIs (request_text (module_of bytes t) (read_request (module_of bytes t) min_report asked-bytes)) bytes t asked-bytes places s rs open_marks (Err e)
+  request_refused z = record { by = asked_refused (module_of bytes t) (read_request (module_of bytes t) min_report asked-bytes) (rw z at B.by) }
 
-  module _ {f : Handle} {sum : ℕ} (e : b ≡ begun.Ready f sum) where
+  module _ {f : Handle} {sum : ℕ} (e : b ≡ Ok (record { function = f; sum = sum })) where
     ready : Ready bytes t places min_report asked-bytes none_yet s rs open_marks totals f.0 sum
     ready = rw e at B.by
 
@@ -81,7 +82,7 @@ module _ {bytes t places s rs open_marks totals asked-bytes : List ℕ} {b : Beg
       pub request_asked : Asked bytes t types places s rs open_marks totals f.0 sum
       request_asked = record { q = ready.q; function_is = ready.function_is; sum_is = rw (← old-fresh) ready.sum_is; loaded = loaded }
 
-      pub request_walked : {u us open_after : List ℕ} {r : Outcome} → Walked bytes t types places s rs open_marks totals f.0 u us open_after r
+      pub request_walked : {u us open_after : List ℕ} {r : Result Reported Refusal} → Walked bytes t types places s rs open_marks totals f.0 u us open_after r
           → TextIs (request_text (module_of bytes t) (read_request (module_of bytes t) min_report asked-bytes)) bytes t asked-bytes places u us open_after r
       unfolding request_text
       request_walked W = rw read_both.0 (W.by asked-bytes ready.q read_both.0 ready.function_is loaded)

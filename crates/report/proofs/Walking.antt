@@ -6,6 +6,7 @@ use mathlib.Core.Bool.{Bool}
 use mathlib.Core.List.{List, ◌++◌}
 use Rattle.std.specs.Prelude.{Result, Ok, Err}
 use Rattle.field.specs.Refusal.{number}
+use Rattle.field.specs.declared.refusal.Refusal.TheVariants.{PiecesLimit}
 use Rattle.field.specs.Limits.{max_pieces, min_report}
 use Rattle.part.specs.PartReq.{none}
 use Rattle.part.specs.StoreLimits.{entries_cap}
@@ -35,7 +36,6 @@ use Rattle.lines.proofs.ReportText.{text_of}
 use Rattle.checking.specs.Line.{check_line}
 use Rattle.report_text.specs.Input.{check_of, answer_text}
 use Rattle.report.specs.Outcome.{Shows, Asked, Walked}
-use Rattle.report.specs.declared.outcome.Outcome.TheVariants.{Refused, Reported}
 use Rattle.report.proofs.Shown.{shows as shown, fresh-shows}
 
 -- the walk of the request q has ended
@@ -83,7 +83,7 @@ module _ {bytes t types places s rs open_marks totals : List ℕ} {h : Handle} {
 
   module _ {a : Result walked.Answer Halt} {u us open_after totals-after : List ℕ}
       (E : FunctionEnds bytes t types places s rs open_marks totals h.0 stack_slot 0 (walk_in bytes t s rs open_marks totals h.0) a u us open_after totals-after) where
-    pub walk_halted : {stop : Halt} → a ≡ Err stop → Walked bytes t types places s rs open_marks totals h.0 u us open_after (Refused (number stop.refusal))
+    pub walk_halted : {stop : Halt} → a ≡ Err stop → Walked bytes t types places s rs open_marks totals h.0 u us open_after (Err stop.refusal)
     unfolding answer_text
     walk_halted e = record {
       by = λ asked-bytes q asks named L. record {
@@ -98,10 +98,10 @@ module _ {bytes t types places s rs open_marks totals : List ℕ} {h : Handle} {
       pub walk_own : (Memory u us × Placed t us h.0) × (own_in t u us h.0 ≤ entries_cap)
       walk_own = own_asks went.standing (omega (arith, went.sum_few))
 
-      module _ {own : ℕ} (o : own ≡ own_in t u us h.0) where
-        pub walk_sub : own ≤ tally.sum
-        walk_sub = omega (arith, own_few went.standing)
+      pub walk_sub : own_in t u us h.0 ≤ tally.sum
+      walk_sub = own_few went.standing
 
+      module _ {own : ℕ} (o : own ≡ own_in t u us h.0) where
         module _ (q : Request) (named : q.function ≡ h.0) (L : Loaded bytes t types places s rs open_marks totals q (fresh (module_of bytes t))) where
           asked_went : FunctionEnded bytes t types places s rs open_marks totals q.function stack_slot 0 (walks bytes t (fresh (module_of bytes t)) q) tally.visits tally.sum required u us open_after totals-after
           asked_went = rw (← walk_is L named, named) went
@@ -112,7 +112,7 @@ module _ {bytes t types places s rs open_marks totals : List ℕ} {h : Handle} {
               let equal = ap (own_in t u us) named in
               omega (arith, own-pieces asked_went.standing)
 
-        pub walk_over : max_pieces < tally.sum - own → Walked bytes t types places s rs open_marks totals h.0 u us open_after (Refused 16)
+        pub walk_over : max_pieces < tally.sum - own → Walked bytes t types places s rs open_marks totals h.0 u us open_after (Err PiecesLimit)
         unfolding answer_text
         walk_over l = record {
           by = λ asked-bytes q asks named L. record {
@@ -122,7 +122,7 @@ module _ {bytes t types places s rs open_marks totals : List ℕ} {h : Handle} {
           };
         }
 
-        pub walk_went : tally.sum - own ≤ max_pieces → Walked bytes t types places s rs open_marks totals h.0 u us open_after (Reported h required)
+        pub walk_went : tally.sum - own ≤ max_pieces → Walked bytes t types places s rs open_marks totals h.0 u us open_after (Ok (record { function = h; required = required }))
         walk_went l = record {
           by = λ asked-bytes q asks named L. record {
             by = let counts = left q named L in rw (← named) (shows L (asked_went q named L) asked-bytes asks (omega arith));

@@ -7,7 +7,10 @@ use mathlib.Core.Bool.{Bool}
 use mathlib.Core.List.{List, ◌++◌}
 use lib.ListN.{length, take, drop, length-append, length-drop, length-take}
 use lib.Seq.{sets-eq, take_all}
+use Rattle.std.specs.Prelude.{Result, Ok, Err}
 use Rattle.field.specs.Limits.{min_report}
+use Rattle.field.specs.Refusal.{number}
+use Rattle.field.specs.declared.refusal.Refusal.{Refusal}
 use Rattle.module.specs.Tables.{module_of}
 use Rattle.module.specs.declared.handles.FunctionHandle.{FunctionHandle as Handle}
 use Rattle.request.specs.Request.{read_request}
@@ -19,16 +22,17 @@ use Rattle.lines.specs.Reported.{report_in, text_in, max_text}
 use Rattle.lines.specs.Wrote.{longest, Wrote, Front}
 use Rattle.lines.proofs.Writing.{wrote_then, wrote_front}
 use Rattle.lines.proofs.ReportText.{text_long}
-use Rattle.checking.specs.Word.{word_answer}
+use Rattle.checking.specs.Word.{said, Roomy}
+use Rattle.checking.specs.declared.words.Verdict.{Verdict}
 use Rattle.checking.specs.Line.{check_line}
 use Rattle.report_text.specs.Split.{module_bytes, module_in, request_in}
 use Rattle.report_text.specs.Input.{check_of, request_text, module_text, report_input}
-use Rattle.check_text.specs.Checked.{max_line, Judging, Numbered, Checks}
-use Rattle.check_text.proofs.Saying.{numbers, line_long}
+use Rattle.check_text.specs.Checked.{max_line, Judging, Checks}
+use Rattle.check_text.proofs.Saying.{line_long}
 use Rattle.report.specs.Outcome.{Shows, TextIs}
-use Rattle.report.specs.declared.outcome.Outcome.{Outcome}
-use Rattle.report.specs.declared.outcome.Outcome.TheVariants.{Refused, Reported}
+use Rattle.report.specs.declared.outcome.Reported.{Reported}
 use Rattle.report_text.proofs.Cut.{within}
+use Rattle.field.proofs.Refusals.{some_number}
 
 module _ (input : List ℕ) {at : ℕ} (e : at ≡ module_bytes input 0) where
   pub split_inside : at ≤ length input
@@ -47,7 +51,7 @@ module _ (input : List ℕ) {at : ℕ} (e : at ≡ module_bytes input 0) where
     pub input-read : WasRead (take (at - 0) input) t
     input-read = rw front w
 
-    pub input-walked : {places s rs open_marks : List ℕ} {r : Outcome}
+    pub input-walked : {places s rs open_marks : List ℕ} {r : Result Reported Refusal}
         → TextIs (request_text (module_of (take (at - 0) input) t) (read_request (module_of (take (at - 0) input) t) min_report (take (length input - at) (drop at input)))) (take (at - 0) input) t (take (length input - at) (drop at input)) places s rs open_marks r
         → TextIs (report_input input) (module_in input) t (request_in input) places s rs open_marks r
     unfolding report_input module_text
@@ -57,20 +61,20 @@ module _ (input : List ℕ) {at : ℕ} (e : at ≡ module_bytes input 0) where
 pub front_long : (xs : List ℕ) (n : ℕ) → n ≤ length xs → n ≤ length (take (n - 0) xs)
 front_long xs n l = rw (sub-zero n, length-take n xs) (omega (arith, l))
 
-module _ (input : List ℕ) {t : List ℕ} {n : ℕ} (R : Reads (module_in input) t n) where
-  pub input-refused : {places s rs open_marks : List ℕ} → 1 ≤ n → TextIs (report_input input) (module_in input) t (request_in input) places s rs open_marks (Refused n)
-  unfolding report_input module_text
-  input-refused h = record { by = rw (R.refuses h) }
+pub input-refused : (input : List ℕ) {t places s rs open_marks : List ℕ} {e : Refusal} → Reads (module_in input) t (number e)
+    → TextIs (report_input input) (module_in input) t (request_in input) places s rs open_marks (Err e)
+unfolding report_input module_text
+input-refused input {e = e} R = record { by = rw (R.refuses (some_number e)) }
 
-  pub was_read : n ≡ 0 → WasRead (module_in input) t
-  was_read z = record { module_is = (R.accepts z).0; laid = (R.accepts z).1 }
+pub was_read : (input : List ℕ) {t : List ℕ} {n : ℕ} → Reads (module_in input) t n → n ≡ 0 → WasRead (module_in input) t
+was_read input R z = record { module_is = (R.accepts z).0; laid = (R.accepts z).1 }
 
 -- the text is written
-module _ {text bytes t asked-bytes places s rs open_marks : List ℕ} {a : Outcome} (T : TextIs text bytes t asked-bytes places s rs open_marks a) where
-  pub wrote_refused : {before after : List ℕ} {n r : ℕ} → a ≡ Refused n → Front before after (refused_text n) r → Front before after text r
-  wrote_refused {n} e F = let is : text ≡ refused_text n = rw e at T.by in rw is F
+module _ {text bytes t asked-bytes places s rs open_marks : List ℕ} {a : Result Reported Refusal} (T : TextIs text bytes t asked-bytes places s rs open_marks a) where
+  pub wrote_refused : {before after : List ℕ} {e : Refusal} {r : ℕ} → a ≡ Err e → Front before after (refused_text (number e)) r → Front before after text r
+  wrote_refused {e = e} z F = let is : text ≡ refused_text (number e) = rw z at T.by in rw is F
 
-  reported : {f : Handle} {required : Bool} → a ≡ Reported f required → Shows text bytes t asked-bytes places s rs open_marks f.0 required
+  reported : {f : Handle} {required : Bool} → a ≡ Ok (record { function = f; required = required }) → Shows text bytes t asked-bytes places s rs open_marks f.0 required
   reported e = rw e at T.by
 
 -- a text behind a text
@@ -96,26 +100,26 @@ module _ {text bytes t asked-bytes places s rs open_marks : List ℕ} {f : ℕ} 
         long = h.marked.long;
       }
 
-  module _ {word : ℕ} (C : Checks bytes t s rs open_marks (stack_slot + 4) asked-bytes word) where
-    answers : word_answer word ≡ check_of (module_of bytes t) S.q (report_in bytes t s rs open_marks f (stack_slot + 4) required)
+  module _ {v : Verdict} (C : Checks bytes t s rs open_marks (stack_slot + 4) asked-bytes v) where
+    answers : said v ≡ check_of (module_of bytes t) S.q (report_in bytes t s rs open_marks f (stack_slot + 4) required)
     answers =
-        numbers C.numbered ∙ C.is S.q S.asks required
+        C.is S.q S.asks required
         ∙ ap (λ (g : ℕ). check_of (module_of bytes t) S.q (report_in bytes t s rs open_marks g (stack_slot + 4) required)) S.function_is
 
-    whole : text ≡ text_in bytes t s rs open_marks f (stack_slot + 4) required ++ check_line (word_answer word)
+    whole : text ≡ text_in bytes t s rs open_marks f (stack_slot + 4) required ++ check_line (said v)
     whole = S.is ∙ rw answers
 
     module _ {before between : List ℕ} {n : ℕ} (F : Front before between (text_in bytes t s rs open_marks f (stack_slot + 4) required) n) where
       short : n ≤ max_text
       short = omega (arith, F.behind, text_long S.reporting required)
 
-      pub line_asks : Numbered word × (n + max_line < longest)
-      line_asks = (C.numbered, omega (arith, short))
+      pub line_asks : Roomy (said v) × (n + max_line < longest)
+      line_asks = (C.roomy, omega (arith, short))
 
-      pub wrote_whole : {after : List ℕ} {r : ℕ} → max_text + max_line ≤ length before → Wrote between after n (check_line (word_answer word)) r → Front before after text r
-      wrote_whole room W = rw whole (front-then F W (omega (arith, line_long C.numbered, text_long S.reporting required)))
+      pub wrote_whole : {after : List ℕ} {r : ℕ} → max_text + max_line ≤ length before → Wrote between after n (check_line (said v)) r → Front before after text r
+      wrote_whole room W = rw whole (front-then F W (omega (arith, line_long (said v) C.roomy, text_long S.reporting required)))
 
-module _ (input : List ℕ) {at : ℕ} (split : at ≡ module_bytes input 0) {text t places s rs open_marks : List ℕ} {a : Outcome} (T : TextIs text (module_in input) t (request_in input) places s rs open_marks a)
-    {f : Handle} {required : Bool} (e : a ≡ Reported f required) where
+module _ (input : List ℕ) {at : ℕ} (split : at ≡ module_bytes input 0) {text t places s rs open_marks : List ℕ} {a : Result Reported Refusal} (T : TextIs text (module_in input) t (request_in input) places s rs open_marks a)
+    {f : Handle} {required : Bool} (e : a ≡ Ok (record { function = f; required = required })) where
   pub text-shows : Shows text (take (at - 0) input) t (take (length input - at) (drop at input)) places s rs open_marks f.0 required
   text-shows = rw (front input split, back input split) (reported T e)

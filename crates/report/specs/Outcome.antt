@@ -1,6 +1,8 @@
 -- What the walk of an input's request comes to, and what stands in memory then: a text, or a report that has it.
-use Rattle.std.specs.Prelude.{◌≡◌, Bool, List, ◌++◌, ℕ, ◌+◌}
+use Rattle.std.specs.Prelude.{◌≡◌, Bool, List, ◌++◌, ℕ, ◌+◌, Result, Ok, Err}
 use Rattle.field.specs.Limits.{min_report}
+use Rattle.field.specs.Refusal.{number}
+use Rattle.field.specs.declared.refusal.Refusal.{Refusal}
 use Rattle.module.specs.Tables.{module_of}
 use Rattle.request.specs.Fields.{accepted}
 use Rattle.request.specs.Request.{Request, read_request}
@@ -12,8 +14,7 @@ use Rattle.lines.specs.Text.{refused_text}
 use Rattle.lines.specs.Reported.{Reporting, report_in, text_in}
 use Rattle.checking.specs.Line.{check_line}
 use Rattle.report_text.specs.Input.{check_of, answer_text}
-use Rattle.report.specs.declared.outcome.Outcome.{Outcome}
-use Rattle.report.specs.declared.outcome.Outcome.TheVariants.{Refused, Reported}
+use Rattle.report.specs.declared.outcome.Reported.{Reported}
 
 -- Memory has the report on the function f that the request asks for, its context behind the base. The text is the report's lines and that of its check.
 pub record Shows (text bytes t asked-bytes places s rs open_marks : List ℕ) (f : ℕ) (required : Bool) : Type 0 where
@@ -24,11 +25,11 @@ pub record Shows (text bytes t asked-bytes places s rs open_marks : List ℕ) (f
   pub is : text ≡ text_in bytes t s rs open_marks f (stack_slot + 4) required ++ check_line (check_of (module_of bytes t) q (report_in bytes t s rs open_marks f (stack_slot + 4) required))
 
 -- the text is that, or the line of the refusal
-abbrev pub TextBy : (text bytes t asked-bytes places s rs open_marks : List ℕ) → Outcome → Type 0
-TextBy text bytes t asked-bytes places s rs open_marks (Refused n) = text ≡ refused_text n
-TextBy text bytes t asked-bytes places s rs open_marks (Reported f required) = Shows text bytes t asked-bytes places s rs open_marks f.0 required
+abbrev pub TextBy : (text bytes t asked-bytes places s rs open_marks : List ℕ) → Result Reported Refusal → Type 0
+TextBy text bytes t asked-bytes places s rs open_marks (Err e) = text ≡ refused_text (number e)
+TextBy text bytes t asked-bytes places s rs open_marks (Ok a) = Shows text bytes t asked-bytes places s rs open_marks a.function.0 a.required
 
-pub record TextIs (text bytes t asked-bytes places s rs open_marks : List ℕ) (r : Outcome) : Type 0 where
+pub record TextIs (text bytes t asked-bytes places s rs open_marks : List ℕ) (r : Result Reported Refusal) : Type 0 where
   pub by : TextBy text bytes t asked-bytes places s rs open_marks r
 
 -- a request of a fresh pruner was loaded, and `sum` is what its totals count for
@@ -39,7 +40,7 @@ pub record Asked (bytes t types places s rs open_marks totals : List ℕ) (f sum
   pub loaded : Loaded bytes t types places s rs open_marks totals q (fresh (module_of bytes t))
 
 -- the text is that of whatever request was read and loaded
-pub record Walked (bytes t types places s rs open_marks totals : List ℕ) (f : ℕ) (u us open_after : List ℕ) (r : Outcome) : Type 0 where
+pub record Walked (bytes t types places s rs open_marks totals : List ℕ) (f : ℕ) (u us open_after : List ℕ) (r : Result Reported Refusal) : Type 0 where
   pub by : (asked-bytes : List ℕ) (q : Request) → read_request (module_of bytes t) min_report asked-bytes ≡ accepted q → q.function ≡ f
       → Loaded bytes t types places s rs open_marks totals q (fresh (module_of bytes t))
       → TextIs (answer_text (module_of bytes t) q (request (module_of bytes t) (fresh (module_of bytes t)) q).0) bytes t asked-bytes places u us open_after r

@@ -39,6 +39,7 @@ fn read_input(reader: &mut impl Read, input: &mut [u8]) -> usize
     ensures prefix_len { result ≡ length (take result input.new) }
 {
     let mut done = 0;
+    // Stays: each read says how far the next begins.
     while done < input.len() {
         let n = read_some(reader, &mut input[done..]);
         if n == 0 {
@@ -78,16 +79,7 @@ fn answer(
     open: &mut [u8; MIN_REPORT],
 ) -> io::Result<()> {
     if let Err(refusal) = read_front(input, t, cells, slots) {
-        return print(
-            rt,
-            input,
-            t,
-            places,
-            cells,
-            slots,
-            open,
-            Outcome::Refused(u32::from(refusal)),
-        );
+        return print(rt, input, t, places, cells, slots, open, Err(refusal));
     }
     let outcome = walk_input(input, t, places, cells, slots, open);
     print(rt, input, t, places, cells, slots, open, outcome)

@@ -14,10 +14,9 @@ ghost use Rattle.report.specs.Outcome.{TextIs, Asked, Walked};
 
 use access::whole::types;
 use context::remove::TYPE_WORDS;
-use field::limits::{MAX_PIECES, MAX_TYPES, MIN_REPORT};
+use field::limits::{MAX_TYPES, MIN_REPORT};
 use field::refusal::Refusal;
 use function::add::add_function;
-use leave::leave::own_pieces;
 use marks::places::{PLACES, place_marks};
 use marks::report::TOTALS_SIZE;
 use memory::layout::{CELLS, SLOTS, STACK};
@@ -25,16 +24,19 @@ use module::handles::FunctionHandle;
 use module::tables::WORDS;
 use reading::read::{HELD, SEEN, read};
 use report_text::split::split;
-use requests::begin::{Begun, begin_request};
-use state::answer::Place;
+use requests::begin::begin_request;
+use requests::finish::totals_over;
+use state::answer::{Place, Tally};
 use type_table::fill;
 
-// 01's number; or the asked function, of which memory has a report, and whether it is required.
+// The asked function, of which memory has a report, and whether it is required.
 #[derive(Clone, Copy)]
-pub enum Outcome {
-    Refused(u32),
-    Reported(FunctionHandle, bool),
+pub struct Reported {
+    pub function: FunctionHandle,
+    pub required: bool,
 }
+
+pub type Outcome = Result<Reported, Refusal>;
 
 // The walk of f, and 16 at its end.
 fn walk_function(
@@ -65,16 +67,17 @@ fn walk_function(
         STACK,
         Place::Nowhere,
         0,
-        0,
-        sum,
+        Tally { visits: 0, sum },
     ) {
-        Err(h) => Outcome::Refused(u32::from(h.refusal)),
+        Err(h) => Err(h.refusal),
         Ok(a) => {
-            let own = own_pieces(t, cells, slots, f);
-            if MAX_PIECES < a.tally.sum - own {
-                return Outcome::Refused(16);
+            if totals_over(t, cells, slots, f, a.tally.sum) {
+                return Err(Refusal::PiecesLimit);
             }
-            Outcome::Reported(f, a.required)
+            Ok(Reported {
+                function: f,
+                required: a.required,
+            })
         }
     }
 }
@@ -98,14 +101,21 @@ fn walk_request(
     fill(bytes, t, table);
     // a fresh pruner
     let pruner = b"\0\0";
-    match begin_request(
+    let begun = begin_request(
         bytes, t, places, cells, slots, open, totals, request, pruner, MIN_REPORT,
-    ) {
-        Begun::Refused(n) => Outcome::Refused(n),
-        Begun::Ready(f, sum) => walk_function(
-            bytes, t, table, places, cells, slots, open, totals, f, sum,
-        ),
-    }
+    )?;
+    walk_function(
+        bytes,
+        t,
+        table,
+        places,
+        cells,
+        slots,
+        open,
+        totals,
+        begun.function,
+        begun.sum,
+    )
 }
 
 // The request of a module that was read.

@@ -30,8 +30,8 @@ pub fn write_text(
     ensures { Front out.old out.new (report_input input.now) result }
 {
     match outcome {
-        Outcome::Refused(n) => write_refused(out, n),
-        Outcome::Reported(f, required) => {
+        Err(refusal) => write_refused(out, u32::from(refusal)),
+        Ok(reported) => {
             let n = input.len();
             let at = split(input);
             let k = STACK + 4;
@@ -43,12 +43,12 @@ pub fn write_text(
                 cells,
                 slots,
                 open,
-                f,
+                reported.function,
                 k,
-                required,
+                reported.required,
             );
-            let word = check_report(&input[0..at], t, cells, slots, open, k, &input[at..n]);
-            write_check(out, end, word)
+            let verdict = check_report(&input[0..at], t, cells, slots, open, k, &input[at..n]);
+            write_check(out, end, verdict)
         }
     }
 }

@@ -6,6 +6,7 @@ use field::field::get;
 use field::limits::MAX_BYTES;
 
 // The mark RQ, its letters as one field.
+// Stays: a number, since `u16::from_le_bytes(*b"RQ")` is no constant expression here.
 const REQUEST: u16 = 20818;
 
 // So much of its input the program reads.
@@ -17,6 +18,7 @@ pub fn split(input: &[u8]) -> usize
 {
     let n = input.len();
     let mut at = 0;
+    // Stays: a record says where the next one begins.
     while 4 <= n - at {
         if get(input, at) == REQUEST {
             return at;

@@ -31,7 +31,7 @@ fn read_globals(
     cells: &mut [u32],
     bytes: &[u8],
     at: usize,
-    function: u32,
+    function: FunctionHandle,
     retval: Option<u32>,
     functions: u32,
     globals: u32,
@@ -40,7 +40,7 @@ fn read_globals(
     requires good { Good cells.old }
     requires at_in_bounds { (at ≤ length bytes.now) × RoomFor cells.old bytes.now at }
     requires globals_le_absent { (globals ≤ absent) × Held cells.old retval }
-    ensures { RequestWasRead cells.old cells.new (length bytes.now - at) (finish functions globals report function (optional cells.old retval) (from bytes.now at)) result }
+    ensures { RequestWasRead cells.old cells.new (length bytes.now - at) (finish functions globals report function.0 (optional cells.old retval) (from bytes.now at)) result }
 {
     let Some((o, end)) = read_variables(cells, bytes, at, globals) else {
         return Err(Refusal::Malformed);
@@ -51,14 +51,14 @@ fn read_globals(
     let Some(g) = o else {
         return Err(Refusal::NoSuch);
     };
-    if functions <= function {
+    if functions <= function.0 {
         return Err(Refusal::NoSuch);
     }
     if report < MIN_REPORT {
         return Err(Refusal::ReportTooShort);
     }
     Ok(Request {
-        function: FunctionHandle(function),
+        function,
         retval,
         globals: g,
     })
@@ -88,5 +88,6 @@ pub fn read_request(
     let Some((p, next)) = read_return(cells, bytes, 6) else {
         return Err(Refusal::Malformed);
     };
-    read_globals(cells, bytes, next, f as u32, p, functions, globals, report)
+    let function = FunctionHandle(f as u32);
+    read_globals(cells, bytes, next, function, p, functions, globals, report)
 }

@@ -2,8 +2,9 @@
 -- for each expression, and a few more.
 use Prim.Native.Nat.{ℕ, ◌+◌, ◌-◌, ◌*◌, ◌/◌, ◌%◌, ◌≤◌}
 use native.Mathlib.Omega.{arith}
-use mathlib.Core.Path.{◌≡◌, ap, sym, ◌∙◌}
-use mathlib.Core.Bool.{Bool}
+use mathlib.Core.Path.{◌≡◌, refl, ap, sym, ◌∙◌}
+use mathlib.Core.Bool.{Bool, true, false}
+use mir.Val.{bool_byte}
 use mathlib.Core.List.{List, [], ◌∷◌, ◌++◌}
 use lib.ListN.{length, set, length-append}
 use lib.Seq.{sets, length-sets}
@@ -31,10 +32,17 @@ use Rattle.requests.specs.Answer.{min_answer, answer_body, write_answer, answer_
 abbrev verdict : Bool → ℕ → List ℕ
 verdict required visits = mark required ∷ (visits % 65536 ∷ (visits / 65536 ∷ []))
 
-pub verdict-written : {o p q r : List ℕ} {k : ℕ} (required : Bool) (visits : ℕ) → k ≡ mark required → p ≡ set_field o 6 k → q ≡ set_field p 8 (visits % 65536) → r ≡ set_field q 10 (visits / 65536) → Written o r 6 (verdict required visits) 12
-verdict-written {o} {p} {q} {r} required visits e a b c =
-    written_then (mark required ∷ []) (visits % 65536 ∷ (visits / 65536 ∷ [])) (written_one (a ∙ ap (set_field o 6) e))
-    (written_then (visits % 65536 ∷ []) (visits / 65536 ∷ []) (written_one b) (written_one c))
+-- whether it is required, as the code has it
+flagged : (b : Bool) → bool_byte b ≡ mark b
+unfolding mark
+flagged true = refl
+flagged false = refl
+
+pub verdict-written : {o p q : List ℕ} {k : ℕ} (required : Bool) (visits : ℕ) → k ≡ bool_byte required → p ≡ set_field o 6 k → q ≡ set_word p 8 visits → Written o q 6 (verdict required visits) 12
+unfolding set_word
+verdict-written {o} {p} {q} required visits e a b =
+    written_then (mark required ∷ []) (visits % 65536 ∷ (visits / 65536 ∷ [])) (written_one (a ∙ ap (set_field o 6) (e ∙ flagged required)))
+    (written_then (visits % 65536 ∷ []) (visits / 65536 ∷ []) (written_one refl) (written_one b))
 
 answer_long : (required : Bool) (visits : ℕ) (c : RequiredContext) (es : Records) → length (write_answer required visits c es) ≡ 6 + 2 * length (answer_body required visits c es)
 unfolding write_answer bytes_of

@@ -1,7 +1,7 @@
 -- What a request asks, in memory: its pieces are read into a fresh memory, and its base context stands at the bottom of the stack. Each law answers a need of crate's `begin`.
 use Prim.Native.Nat.{ℕ, ◌+◌, ◌*◌, ◌%◌, ◌<◌, ◌≤◌}
 use native.Mathlib.Omega.{arith}
-use mathlib.Core.Path.{◌≡◌, refl, sym, subst, ◌∙◌}
+use mathlib.Core.Path.{◌≡◌, refl, sym, ap, subst, ◌∙◌}
 use mathlib.Core.Bool.{Bool, true, false, ◌&&◌}
 use mathlib.Core.List.{List}
 use lib.Dec.{leb, eqb}
@@ -19,7 +19,7 @@ use Rattle.request.specs.Fields.{framed, accepted, refused}
 use Rattle.request.specs.Request.{Request, asking, is_request, request_of, judge}
 use Rattle.request.specs.Answers.{optional, Held, RequestHeld, RequestWasRead}
 use Rattle.request.specs.declared.requests.Request as declared
-use Rattle.std.specs.Prelude.{Result, Ok, Err}
+use Rattle.std.specs.Prelude.{Result, Ok, Err, IsErrAnd}
 use Rattle.field.specs.Refusal.{number}
 use Rattle.field.specs.declared.refusal.Refusal.{Refusal}
 use Rattle.memory.specs.Layout.{globals_slot, stack_slot}
@@ -29,8 +29,12 @@ use Rattle.memory.proofs.Slots.{read_at, read-long, kept_read, kept_memory}
 use Rattle.memory.proofs.Runs.{four_read, four_memory, four_outside, context_put}
 use Rattle.module.specs.declared.handles.FunctionHandle.{FunctionHandle as Handle}
 use Rattle.requests.specs.Begin.{base_in, Basing, Based, RequestLoaded}
-use Rattle.requests.specs.declared.begin.Asked.TheVariants as asks
 use Rattle.requests.proofs.Few.{base_few}
+
+-- what a `?` passes on
+pub passed : {T : Type 0} {r : Result T Refusal} {e : Refusal} → IsErrAnd r (λ k. k ≡ e) → r ≡ Err e
+passed {r = Ok x} z = absurd z
+passed {r = Err k} z = ap (λ (i : Refusal). Err i) z
 
 -- the base context in its four slots
 module _ {s rs : List ℕ} {q : declared.Request} (B : Basing s rs q) {t us : List ℕ} {r : ℕ} (M : Made s t (return_entry (optional s q.retval)) 1 r) (saved : us ≡ four_set rs stack_slot q.globals 2 2 r) where
@@ -104,7 +108,7 @@ module _ {s rs : List ℕ} (E : Empty s rs) (request : List ℕ) (functions glob
       is_asked : judge functions globals report (request_of request) ≡ accepted asked_for
       is_asked = sym W.is ∙ rw e
 
-      pub loaded_request : {u us : List ℕ} {f : Handle} → stack_slot + 4 ≤ length rs → Based t rs q u us → q.function.0 ≡ f.0 → RequestLoaded functions globals report request u us (asks.Of f)
+      pub loaded_request : {u us : List ℕ} {f : Handle} → stack_slot + 4 ≤ length rs → Based t rs q u us → q.function.0 ≡ f.0 → RequestLoaded functions globals report request u us (Ok f)
       loaded_request {u} {us} l B named =
           let same = kept_read rs W.kept E.memory.below in
           let outside : (k : ℕ) → ((j : ℕ) → j < 4 → stack_slot + j ≡ k → ⊥) → globals_slot ≤ k → get_or (read u us) k none ≡ none

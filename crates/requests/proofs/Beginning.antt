@@ -6,6 +6,10 @@ use mathlib.Core.Bool.{Bool, true, false}
 use mathlib.Core.List.{List}
 use mathlib.Core.Option.{Option}
 use lib.ListN.{length, get_or, replicate}
+use Rattle.std.specs.Prelude.{Result, Ok, Err}
+use Rattle.field.specs.Refusal.{number}
+use Rattle.field.specs.declared.refusal.Refusal.{Refusal}
+use Rattle.field.specs.declared.refusal.Refusal.TheVariants.{PrunerUnfit}
 use Rattle.field.specs.Limits.{absent, max_pieces, max_functions}
 use Rattle.part.specs.PartReq.{none, entries}
 use Rattle.part.specs.StoreLimits.{entries_cap}
@@ -31,9 +35,6 @@ use Rattle.pruner.specs.Stored.{pruner_in, HasTotals}
 use Rattle.pruner.specs.Reading.{Untold, PrunerIs, PrunerWasRead}
 use Rattle.pruner.proofs.Read.{read_fine, read_few}
 use Rattle.requests.specs.Begin.{base_of, with_totals, after_request, Standing, RequestStands, RequestLoaded, Weighing, Beginning, Begins}
-use Rattle.requests.specs.declared.begin.Asked.{Asked}
-use Rattle.requests.specs.declared.begin.Asked.TheVariants as asks
-use Rattle.requests.specs.declared.begin.Begun.TheVariants as begun
 use Rattle.requests.proofs.Begins.{base_counts}
 
 -- what the totals count for
@@ -63,16 +64,16 @@ module _ {bytes t places s rs open_marks totals : List ℕ} (B : Beginning bytes
   pub few_globals : length (module_of bytes t).globals ≤ absent
   few_globals = omega (arith, (valid bytes m B.was_read.module_is).few_globals)
 
-  module _ (report : ℕ) (request pruner : List ℕ) {n g : ℕ} (functions : n ≡ length (module_of bytes t).functions) (globals : g ≡ length (module_of bytes t).globals) {u us : List ℕ} {a : Asked}
+  module _ (report : ℕ) (request pruner : List ℕ) {n g : ℕ} (functions : n ≡ length (module_of bytes t).functions) (globals : g ≡ length (module_of bytes t).globals) {u us : List ℕ} {a : Result Handle Refusal}
       (L : RequestLoaded n g report request u us a) where
     -- the request is refused
-    pub begins_refused : {k : ℕ} → a ≡ asks.Refused k → Begins bytes t places report request pruner u us open_marks totals (begun.Refused k)
+    pub begins_refused : {e : Refusal} → a ≡ Err e → Begins bytes t places report request pruner u us open_marks totals (Err e)
     unfolding after_request
-    begins_refused {k} e =
-        let there : read_request m report request ≡ reading.refused k = same_judge functions globals report (request_of request) (rw e at L.by) in
+    begins_refused {e} z =
+        let there : read_request m report request ≡ reading.refused (number e) = same_judge functions globals report (request_of request) (rw z at L.by) in
         record { by = rw there }
 
-    module _ {f : Handle} (e : a ≡ asks.Of f) where
+    module _ {f : Handle} (e : a ≡ Ok f) where
       stands : RequestStands n g report request u us f.0
       stands = rw e at L.by
 
@@ -97,7 +98,7 @@ module _ {bytes t places s rs open_marks totals : List ℕ} (B : Beginning bytes
 
       module _ {v vs after : List ℕ} {r : Bool} (P : PrunerWasRead bytes t u us totals pruner v vs after r) where
         -- the totals are refused
-        pub begins_19 : r ≡ false → Begins bytes t places report request pruner v vs open_marks after (begun.Refused 19)
+        pub begins_19 : r ≡ false → Begins bytes t places report request pruner v vs open_marks after (Err PrunerUnfit)
         unfolding after_request with_totals
         begins_19 z =
             let is : read_pruner m pruner ≡ reading.refused 19 = rw z at P.by in
@@ -151,7 +152,7 @@ module _ {bytes t places s rs open_marks totals : List ℕ} (B : Beginning bytes
             weighs = record { memory = T.memory; few = rw T.same (omega (arith, few, told.totals-sum)) }
 
             pub begins : {cleared : List ℕ} {sum : ℕ} → cleared ≡ write_marks open_marks (start_in places f.0) (replicate (size_in places f.0) 0)
-                → sum ≡ entries (get_or (read w ws) globals_slot none) + totals_sum (read w ws) → Begins bytes t places report request pruner w ws cleared after (begun.Ready f sum)
+                → sum ≡ entries (get_or (read w ws) globals_slot none) + totals_sum (read w ws) → Begins bytes t places report request pruner w ws cleared after (Ok (record { function = f; sum = sum }))
             unfolding after_request with_totals
             begins {cleared} {sum} marks count = record {
               by = record {

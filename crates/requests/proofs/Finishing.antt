@@ -8,6 +8,8 @@ use mathlib.Core.List.{List, [], ◌∷◌, ◌++◌}
 use mathlib.Core.Option.{Option, some, none as nothing}
 use lib.ListN.{length, set, drop}
 use lib.Seq.{sets, sets-eq}
+use Rattle.std.specs.Prelude.{Ok, Err}
+use Rattle.field.specs.declared.refusal.Refusal.TheVariants.{PiecesLimit}
 use Rattle.field.specs.Limits.{max_expressions, max_pieces, min_report}
 use Rattle.part.specs.StoreLimits.{entries_cap}
 use Rattle.module.specs.Module.{FunctionHandle, Module}
@@ -37,9 +39,7 @@ use Rattle.pruner.specs.Stored.{pruner_in, HasTotals}
 use Rattle.pruner.proofs.Room.{pruner_long}
 use Rattle.requests.specs.Answer.{min_answer, Answering, answer_in}
 use Rattle.requests.specs.Serve.{finish}
-use Rattle.requests.specs.Finish.{Finishing, Finished}
-use Rattle.requests.specs.declared.finish.Reply.TheVariants.{Visits, Refused}
-use Rattle.state.specs.declared.answer.Place.TheVariants.{Nowhere}
+use Rattle.requests.specs.Finish.{nowhere, Finishing, Finished}
 use Rattle.requests.proofs.Answers.{answer_fits}
 use Rattle.requests.proofs.Ends.{end-count, request-over, request-went}
 
@@ -132,8 +132,8 @@ module _ {bytes t places s rs open_marks totals : List ℕ} {f : FunctionHandle}
   pub finish_own : (Memory s rs × Placed t rs f) × (own_in t s rs f ≤ entries_cap)
   finish_own = own_asks F.ended.standing (omega (arith, F.ended.sum_few))
 
-  pub finish_sub : {own : ℕ} → own ≡ own_in t s rs f → own ≤ sum
-  finish_sub e = omega (arith, own_few F.ended.standing)
+  pub finish_sub : own_in t s rs f ≤ sum
+  finish_sub = own_few F.ended.standing
 
   pub finish_high : base + 4 + 4 ≤ length rs
   finish_high = F.ended.standing.ready.high
@@ -162,7 +162,7 @@ module _ {bytes t places s rs open_marks totals : List ℕ} {f : FunctionHandle}
       (answering F.ended.standing, ((omega (arith, F.ended.standing.proper.visits.few), omega (arith, F.answer_long)), l))
 
   -- 16 refuses
-  pub finish_over : {own : ℕ} → own ≡ own_in t s rs f → max_pieces < sum - own → Finished bytes t places s rs open_marks totals f base required visits sum pruner report answer (Refused 16 Nowhere) pruner report answer
+  pub finish_over : {own : ℕ} → own ≡ own_in t s rs f → max_pieces < sum - own → Finished bytes t places s rs open_marks totals f base required visits sum pruner report answer (Err (nowhere PiecesLimit)) pruner report answer
   unfolding finish
   finish_over e l = record {
     by = λ types u us o b p q same E.
@@ -177,7 +177,7 @@ module _ {bytes t places s rs open_marks totals : List ℕ} {f : FunctionHandle}
       → report-after ≡ write_marks report 0 (report_in places open_marks totals f n)
       → pruner-after ≡ write_pruner (pruner_in bytes t s rs totals) ++ drop (length (write_pruner (pruner_in bytes t s rs totals))) pruner
       → answer-after ≡ sets answer 0 (answer_in t s rs f (base + 4) required visits)
-      → Finished bytes t places s rs open_marks totals f base required visits sum pruner report answer (Visits visits) pruner-after report-after answer-after
+      → Finished bytes t places s rs open_marks totals f base required visits sum pruner report answer (Ok visits) pruner-after report-after answer-after
   unfolding finish report_of
   finish_went {own} {n} {pruner-after} {report-after} {answer-after} e l count reported totalled answered = record {
     by = λ types u us o b p q same E.

@@ -9,7 +9,8 @@ use lib.Dec.{leb, ltb}
 use lib.ListN.{length, get_or, drop}
 use borrow.Author.Tests.{lt-ltb, le-ltb}
 use Rattle.std.specs.Prelude.{Result, Ok, Err}
-use Rattle.field.specs.Refusal.{number}
+use Rattle.field.specs.declared.refusal.Refusal.{Refusal}
+use Rattle.field.specs.declared.refusal.Refusal.TheVariants.{PrunerUnfit, AnswerTooShort}
 use Rattle.field.specs.Limits.{max_pieces}
 use Rattle.part.specs.PartReq.{none}
 use Rattle.module.specs.Module.{Module}
@@ -24,7 +25,6 @@ use Rattle.walk.specs.Requests.{Pruner, request, fresh}
 use Rattle.sound.proofs.Asked as sound
 use Rattle.memory.specs.Layout.{stack_slot}
 use Rattle.memory.specs.Memory.{read}
-use Rattle.state.specs.declared.answer.Place.TheVariants.{Nowhere}
 use Rattle.state.specs.declared.answer.Tally.{Tally}
 use Rattle.state.specs.declared.answer.Halt.{Halt}
 use Rattle.state.specs.declared.answer.Answer.{Answer}
@@ -35,12 +35,9 @@ use Rattle.requests.specs.Answer.{min_answer}
 use Rattle.requests.specs.Loaded.{Loaded}
 use Rattle.requests.specs.Begin.{with_totals, after_request, beginning, Begins, Ready}
 use Rattle.requests.specs.Serve.{Lent, refused_at, finish, lent_pruner, on_pruner, on_request, serve_read}
-use Rattle.requests.specs.Finish.{Finishing, Finished}
+use Rattle.requests.specs.Finish.{nowhere as at_no_place, Finishing, Finished}
 use Rattle.requests.specs.Served.{Walking, Walked, Served}
 use Rattle.requests.specs.declared.begin.Begun.{Begun}
-use Rattle.requests.specs.declared.begin.Begun.TheVariants as begun
-use Rattle.requests.specs.declared.finish.Reply as declared
-use Rattle.requests.specs.declared.finish.Reply.TheVariants.{Refused}
 use Rattle.requests.proofs.Begins.{enters, walks-request}
 use Rattle.requests.proofs.Ends.{walks, request-halts}
 
@@ -61,7 +58,7 @@ module _ {bytes t types places s rs open_marks totals : List ℕ} {f : ℕ} wher
     module _ {a : Result Answer Halt} {u us open_after totals-after : List ℕ}
         (E : FunctionEnds bytes t types places s rs open_marks totals f stack_slot 0 (walk_in bytes t s rs open_marks totals f) a u us open_after totals-after) where
       -- the walk was refused
-      pub walk_halted : {stop : Halt} → a ≡ Err stop → Walked bytes t types places s rs open_marks totals f sum pruner report answer (Refused (number stop.refusal) stop.place) pruner report answer
+      pub walk_halted : {stop : Halt} → a ≡ Err stop → Walked bytes t types places s rs open_marks totals f sum pruner report answer (Err stop) pruner report answer
       unfolding finish
       walk_halted e = record { by = λ q old named count L. sym (ap (finish _) (request-halts bytes t old q ((rw e at E.by) ∙ walk_is L named))) }
 
@@ -83,7 +80,7 @@ module _ {bytes t types places s rs open_marks totals : List ℕ} {f : ℕ} wher
           answer_long = W.answer_long;
         }
 
-        pub walk_finished : {r : declared.Reply} {pruner-after report-after answer-after : List ℕ}
+        pub walk_finished : {r : Result ℕ Halt} {pruner-after report-after answer-after : List ℕ}
             → Finished bytes t places u us open_after totals-after f stack_slot required tally.visits tally.sum pruner report answer r pruner-after report-after answer-after
             → Walked bytes t types places s rs open_marks totals f sum pruner report answer r pruner-after report-after answer-after
         walk_finished F = record {
@@ -158,21 +155,21 @@ module _ (m : Module) (lent : Lent) where
     unfolding serve_read on_request lent_pruner on_pruner
     serve_walks h l = rw (asked_read, le-ltb (length lent.pruner) min_pruner h, old-read, le-ltb (length lent.answer) min_answer l)
 
-module _ {bytes t places s rs open_marks totals asked-bytes pruner : List ℕ} (report answer : List ℕ) {b : Begun} (B : Begins bytes t places (length report) asked-bytes pruner s rs open_marks totals b) where
+module _ {bytes t places s rs open_marks totals asked-bytes pruner : List ℕ} (report answer : List ℕ) {b : Result Begun Refusal} (B : Begins bytes t places (length report) asked-bytes pruner s rs open_marks totals b) where
   abbrev lent : Lent
   lent = record { pruner = pruner; report = report; answer = answer }
 
-  pub served_refused : {n : ℕ} → b ≡ begun.Refused n → Served bytes t asked-bytes pruner report answer (Refused n Nowhere) pruner report answer
-  served_refused e = record { is = sym (serve_refused (module_of bytes t) lent asked-bytes (rw e at B.by)) }
+  pub served_refused : {e : Refusal} → b ≡ Err e → Served bytes t asked-bytes pruner report answer (Err (at_no_place e)) pruner report answer
+  served_refused z = record { is = sym (serve_refused (module_of bytes t) lent asked-bytes (rw z at B.by)) }
 
-  module _ {f : Handle} {sum : ℕ} (e : b ≡ begun.Ready f sum) where
+  module _ {f : Handle} {sum : ℕ} (e : b ≡ Ok (record { function = f; sum = sum })) where
     ready : Ready bytes t places (length report) asked-bytes pruner s rs open_marks totals f.0 sum
     ready = rw e at B.by
 
-    pub served_19 : length pruner < min_pruner → Served bytes t asked-bytes pruner report answer (Refused 19 Nowhere) pruner report answer
+    pub served_19 : length pruner < min_pruner → Served bytes t asked-bytes pruner report answer (Err (at_no_place PrunerUnfit)) pruner report answer
     served_19 l = record { is = sym (serve_19 (module_of bytes t) lent asked-bytes ready.is l) }
 
-    pub served_20 : min_pruner ≤ length pruner → length answer < min_answer → Served bytes t asked-bytes pruner report answer (Refused 20 Nowhere) pruner report answer
+    pub served_20 : min_pruner ≤ length pruner → length answer < min_answer → Served bytes t asked-bytes pruner report answer (Err (at_no_place AnswerTooShort)) pruner report answer
     served_20 h l = record { is = sym (serve_20 (module_of bytes t) lent asked-bytes ready.is h l) }
 
     pub serve_walking : {types : List ℕ} → types_of types ≡ (module_of bytes t).types → min_pruner ≤ length pruner → min_answer ≤ length answer
@@ -188,7 +185,7 @@ module _ {bytes t places s rs open_marks totals asked-bytes pruner : List ℕ} (
       answer_long = l;
     }
 
-    pub served : {types : List ℕ} {r : declared.Reply} {pruner-after report-after answer-after : List ℕ} → types_of types ≡ (module_of bytes t).types → min_pruner ≤ length pruner → min_answer ≤ length answer
+    pub served : {types : List ℕ} {r : Result ℕ Halt} {pruner-after report-after answer-after : List ℕ} → types_of types ≡ (module_of bytes t).types → min_pruner ≤ length pruner → min_answer ≤ length answer
         → Walked bytes t types places s rs open_marks totals f.0 sum pruner report answer r pruner-after report-after answer-after
         → Served bytes t asked-bytes pruner report answer r pruner-after report-after answer-after
     served {types} typed h l W = record {

@@ -1,11 +1,15 @@
 -- How a request begins: the request and the totals that bytes mean, and what memory has of them.
-use Rattle.std.specs.Prelude.{◌≡◌, List, ℕ, ◌+◌, ◌*◌, ◌<◌, ◌≤◌, length, get_or}
-use Rattle.field.specs.Limits.{max_pieces, min_report}
+use Rattle.std.specs.Prelude.{◌≡◌, ⊤, List, ℕ, ◌+◌, ◌*◌, ◌<◌, ◌≤◌, length, get_or, Result, Ok, Err}
+use Rattle.field.specs.Field.{field_at}
+use Rattle.field.specs.Limits.{absent, max_pieces, min_report}
+use Rattle.field.specs.Refusal.{number}
+use Rattle.field.specs.declared.refusal.Refusal.{Refusal}
 use Rattle.part.specs.PartReq.{none, entries}
 use Rattle.part.specs.Store.{top, part, Room}
 use Rattle.part.specs.StoreLimits.{store_words, entries_cap}
 use Rattle.module.specs.Module.{Module}
 use Rattle.module.specs.Tables.{module_of}
+use Rattle.module.specs.declared.handles.FunctionHandle.{FunctionHandle as Handle}
 use Rattle.context.specs.Types.{types_of}
 use Rattle.context.specs.RequiredContext.{RequiredContext, pieces, return_entry}
 use Rattle.request.specs.Fields as reading
@@ -21,10 +25,7 @@ use Rattle.state.specs.State.{totals_sum}
 use Rattle.state.specs.Ready.{WasRead}
 use Rattle.pruner.specs.Form.{pruner_pieces, read_pruner}
 use Rattle.requests.specs.Loaded.{Loaded}
-use Rattle.requests.specs.declared.begin.Asked.{Asked}
-use Rattle.requests.specs.declared.begin.Asked.TheVariants as asking
 use Rattle.requests.specs.declared.begin.Begun.{Begun}
-use Rattle.requests.specs.declared.begin.Begun.TheVariants as begun
 
 -- 12, 11 and 18 of the request, then 19 of the totals
 unfoldable pub with_totals : Request → reading.Answer Pruner → reading.Answer (Request × Pruner)
@@ -69,17 +70,22 @@ pub record Standing (s rs : List ℕ) (q : Request) : Type 0 where
   pub above : (k : ℕ) → stack_slot + 4 ≤ k → get_or (read s rs) k none ≡ none
   pub cost : top s ≤ 3 + 4 * flat_count + 2 * max_pieces + 2
 
+-- A request that is longer than it says is none: 12. So what is read has no more bytes than a header and a body of so many fields.
+abbrev pub LengthChecked : List ℕ → Result ⊤ Refusal → Type 0
+LengthChecked s (Err e) = (number e ≡ 12) × (4 + field_at s 2 < length s)
+LengthChecked s (Ok u) = (length s ≤ 4 + field_at s 2) × (length s ≤ 4 + absent)
+
 pub record RequestStands (functions globals report : ℕ) (request s rs : List ℕ) (f : ℕ) : Type 0 where
   pub q : Request
   pub function_is : q.function ≡ f
   pub is : judge functions globals report (request_of request) ≡ reading.accepted q
   pub standing : Standing s rs q
 
-abbrev pub RequestBy : (functions globals report : ℕ) → (request s rs : List ℕ) → Asked → Type 0
-RequestBy functions globals report request s rs (asking.Refused n) = judge functions globals report (request_of request) ≡ reading.refused n
-RequestBy functions globals report request s rs (asking.Of f) = RequestStands functions globals report request s rs f.0
+abbrev pub RequestBy : (functions globals report : ℕ) → (request s rs : List ℕ) → Result Handle Refusal → Type 0
+RequestBy functions globals report request s rs (Err e) = judge functions globals report (request_of request) ≡ reading.refused (number e)
+RequestBy functions globals report request s rs (Ok f) = RequestStands functions globals report request s rs f.0
 
-pub record RequestLoaded (functions globals report : ℕ) (request s rs : List ℕ) (r : Asked) : Type 0 where
+pub record RequestLoaded (functions globals report : ℕ) (request s rs : List ℕ) (r : Result Handle Refusal) : Type 0 where
   pub by : RequestBy functions globals report request s rs r
 
 -- what the sum of totals asks of the memory
@@ -106,9 +112,9 @@ pub record Ready (bytes t places : List ℕ) (report : ℕ) (request pruner s rs
   pub sum_is : sum ≡ pruner_pieces old
   pub loaded : (types : List ℕ) → types_of types ≡ (module_of bytes t).types → Loaded bytes t types places s rs open_marks totals q old
 
-abbrev pub BeginsBy : (bytes t places : List ℕ) → (report : ℕ) → (request pruner s rs open_marks totals : List ℕ) → Begun → Type 0
-BeginsBy bytes t places report request pruner s rs open_marks totals (begun.Refused n) = beginning (module_of bytes t) report request pruner ≡ reading.refused n
-BeginsBy bytes t places report request pruner s rs open_marks totals (begun.Ready f sum) = Ready bytes t places report request pruner s rs open_marks totals f.0 sum
+abbrev pub BeginsBy : (bytes t places : List ℕ) → (report : ℕ) → (request pruner s rs open_marks totals : List ℕ) → Result Begun Refusal → Type 0
+BeginsBy bytes t places report request pruner s rs open_marks totals (Err e) = beginning (module_of bytes t) report request pruner ≡ reading.refused (number e)
+BeginsBy bytes t places report request pruner s rs open_marks totals (Ok b) = Ready bytes t places report request pruner s rs open_marks totals b.function.0 b.sum
 
-pub record Begins (bytes t places : List ℕ) (report : ℕ) (request pruner s rs open_marks totals : List ℕ) (r : Begun) : Type 0 where
+pub record Begins (bytes t places : List ℕ) (report : ℕ) (request pruner s rs open_marks totals : List ℕ) (r : Result Begun Refusal) : Type 0 where
   pub by : BeginsBy bytes t places report request pruner s rs open_marks totals r

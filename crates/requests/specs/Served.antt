@@ -1,5 +1,5 @@
 -- A request in code: the walk of the asked function from what was loaded, and the whole of it for a module that was read.
-use Rattle.std.specs.Prelude.{◌≡◌, List, ℕ, ◌≤◌, length}
+use Rattle.std.specs.Prelude.{◌≡◌, List, ℕ, ◌≤◌, length, Result}
 use Rattle.field.specs.Limits.{min_report}
 use Rattle.module.specs.Tables.{module_of}
 use Rattle.request.specs.Request.{Request}
@@ -9,7 +9,7 @@ use Rattle.requests.specs.Answer.{min_answer}
 use Rattle.requests.specs.Loaded.{Loaded}
 use Rattle.requests.specs.Serve.{finish, serve_read}
 use Rattle.requests.specs.Finish.{reply_of}
-use Rattle.requests.specs.declared.finish.Reply as declared
+use Rattle.state.specs.declared.answer.Halt.{Halt}
 
 -- a request was loaded, `sum` is what its totals count for, and the buffers are long enough
 pub record Walking (bytes t types places s rs open_marks totals : List ℕ) (f sum : ℕ) (pruner report answer : List ℕ) : Type 0 where
@@ -23,9 +23,9 @@ pub record Walking (bytes t types places s rs open_marks totals : List ℕ) (f s
   pub answer_long : min_answer ≤ length answer
 
 -- the reply and the buffers are those of whatever request was loaded
-pub record Walked (bytes t types places s rs open_marks totals : List ℕ) (f sum : ℕ) (pruner report answer : List ℕ) (r : declared.Reply) (pruner-after report-after answer-after : List ℕ) : Type 0 where
+pub record Walked (bytes t types places s rs open_marks totals : List ℕ) (f sum : ℕ) (pruner report answer : List ℕ) (r : Result ℕ Halt) (pruner-after report-after answer-after : List ℕ) : Type 0 where
   pub by : (q : Request) (old : Pruner) → q.function ≡ f → sum ≡ pruner_pieces old → Loaded bytes t types places s rs open_marks totals q old
       → (reply_of r, record { pruner = pruner-after; report = report-after; answer = answer-after }) ≡ finish (record { pruner = pruner; report = report; answer = answer }) (request (module_of bytes t) old q)
 
-pub record Served (bytes t bytes-asked pruner report answer : List ℕ) (r : declared.Reply) (pruner-after report-after answer-after : List ℕ) : Type 0 where
+pub record Served (bytes t bytes-asked pruner report answer : List ℕ) (r : Result ℕ Halt) (pruner-after report-after answer-after : List ℕ) : Type 0 where
   pub is : (reply_of r, record { pruner = pruner-after; report = report-after; answer = answer-after }) ≡ serve_read (module_of bytes t) bytes-asked (record { pruner = pruner; report = report; answer = answer })

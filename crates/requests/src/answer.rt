@@ -14,23 +14,13 @@ use pruner::write::{write_lists, write_records};
 // the least buffer
 pub const MIN_ANSWER: usize = 327680;
 
-fn flag(b: bool) -> u16
-    ensures { result ≡ mark b }
-{
-    if b {
-        return 1;
-    }
-    0
-}
-
 // The fields before the context.
 fn write_verdict(out: &mut [u8], required: bool, visits: usize)
     requires { (12 ≤ length out.old) × (visits < 4294967296) }
     ensures { Written out.old out.new 6 (mark required ∷ (visits % 65536 ∷ (visits / 65536 ∷ []))) 12 }
 {
-    write(out, 6, flag(required));
-    write(out, 8, (visits % 65536) as u16);
-    write(out, 10, (visits / 65536) as u16);
+    write(out, 6, u16::from(required));
+    write_word(out, 8, visits as u32);
 }
 
 // From the first byte on; what lies past it stays.

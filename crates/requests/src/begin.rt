@@ -6,11 +6,12 @@ ghost use Rattle.part.specs.StoreLimits.{store_words};
 ghost use Rattle.memory.specs.Layout.{globals_slot, slot_count, store_size};
 ghost use Rattle.memory.specs.Memory.{read};
 ghost use Rattle.state.specs.State.{totals_sum};
-ghost use Rattle.requests.specs.Begin.{Basing, Based, Weighing, RequestLoaded, Beginning, Begins};
+ghost use Rattle.requests.specs.Begin.{Basing, Based, Weighing, LengthChecked, RequestLoaded, Beginning, Begins};
 
 use access::whole::{functions, globals};
 use context::required_context::RequiredContext;
 use field::field::get;
+use field::refusal::Refusal;
 use marks::set::clear_marks;
 use memory::layout::{GLOBALS, STACK, TOTALS};
 use memory::memory::{init_memory, tidy, weigh};
@@ -20,18 +21,11 @@ use pruner::lent::read_pruner;
 use request::lists::returned;
 use request::requests::{Request, read_request};
 
-// 01's number, or the asked function.
+// The asked function, and what the totals count for.
 #[derive(Clone, Copy)]
-pub enum Asked {
-    Refused(u32),
-    Of(FunctionHandle),
-}
-
-// 01's number, or the asked function and what the totals count for.
-#[derive(Clone, Copy)]
-pub enum Begun {
-    Refused(u32),
-    Ready(FunctionHandle, usize),
+pub struct Begun {
+    pub function: FunctionHandle,
+    pub sum: usize,
 }
 
 // The base context of the asked function, at the bottom of the stack.
@@ -50,6 +44,16 @@ fn load_base(cells: &mut [u32], slots: &mut [u32], q: Request)
     save_context(slots, STACK, base);
 }
 
+// A request that is longer than it says is none.
+pub fn check_length(request: &[u8]) -> Result<(), Refusal>
+    ensures { LengthChecked request.now result }
+{
+    if 4 + (get(request, 2) as usize) < request.len() {
+        return Err(Refusal::Malformed);
+    }
+    Ok(())
+}
+
 // What the bytes of a request ask of a module with so many functions and globals, in a memory that has nothing else.
 fn load_request(
     cells: &mut [u32],
@@ -58,25 +62,16 @@ fn load_request(
     functions: u32,
     globals: u32,
     report: usize,
-) -> Asked
+) -> Result<FunctionHandle, Refusal>
     requires store_size_in_bounds { (store_size ≤ length cells.old) × (length cells.old ≤ store_words) }
     requires slot_count_in_bounds { (slot_count ≤ length slots.old) × (globals ≤ absent) }
     ensures { RequestLoaded functions globals report request.now cells.new slots.new result }
 {
     init_memory(cells, slots);
-    // a request that is longer than it says is none
-    if 4 + (get(request, 2) as usize) < request.len() {
-        return Asked::Refused(12);
-    }
-    let answer = read_request(cells, request, functions, globals, report);
-    match answer {
-        Err(e) => Asked::Refused(u32::from(e)),
-        Ok(q) => {
-            load_base(cells, slots, q);
-            let f = q.function;
-            Asked::Of(f)
-        }
-    }
+    check_length(request)?;
+    let q = read_request(cells, request, functions, globals, report)?;
+    load_base(cells, slots, q);
+    Ok(q.function)
 }
 
 // What the totals count for.
@@ -99,20 +94,16 @@ pub fn begin_request(
     request: &[u8],
     pruner: &[u8],
     report: usize,
-) -> Begun
+) -> Result<Begun, Refusal>
     requires { Beginning bytes.now t.now places.now cells.old slots.old «open».old totals.old }
     ensures { Begins bytes.now t.now places.now report request.now pruner.now cells.new slots.new «open».new totals.new result }
 {
-    let n = functions(t);
-    match load_request(cells, slots, request, n, globals(t), report) {
-        Asked::Refused(n) => Begun::Refused(n),
-        Asked::Of(f) => {
-            if !read_pruner(bytes, t, places, cells, slots, totals, pruner) {
-                return Begun::Refused(19);
-            }
-            clear_marks(open, places, f);
-            tidy(cells, slots);
-            Begun::Ready(f, weigh_totals(cells, slots))
-        }
+    let function = load_request(cells, slots, request, functions(t), globals(t), report)?;
+    if !read_pruner(bytes, t, places, cells, slots, totals, pruner) {
+        return Err(Refusal::PrunerUnfit);
     }
+    clear_marks(open, places, function);
+    tidy(cells, slots);
+    let sum = weigh_totals(cells, slots);
+    Ok(Begun { function, sum })
 }

@@ -1,20 +1,42 @@
 // How a request ends: 16 is asked of the totals alone, and then the three lent buffers are written.
-ghost use Rattle.requests.specs.Finish.{Finishing, Finished};
+ghost use Rattle.std.specs.Prelude.{◌≡◌, ◌-◌, ◌≤◌, ltb};
+ghost use Rattle.field.specs.Limits.{max_pieces};
+ghost use Rattle.part.specs.StoreLimits.{entries_cap};
+ghost use Rattle.memory.specs.Memory.{Memory};
+ghost use Rattle.leave.specs.Leave.{Placed, own_in};
+ghost use Rattle.requests.specs.Finish.{nowhere, Finishing, Finished};
 
 use crate::answer::write_answer;
 use access::whole::functions;
 use field::limits::MAX_PIECES;
+use field::refusal::Refusal;
 use leave::leave::own_pieces;
 use marks::report::write_report;
 use module::handles::FunctionHandle;
 use pruner::totals::write_pruner;
-use state::answer::Place;
+use state::answer::{Answer, Halt, Place, Tally};
 
-// What a caller hears: the visits, or 01's number and its place.
-#[derive(Clone, Copy)]
-pub enum Reply {
-    Visits(usize),
-    Refused(u32, Place),
+// What a caller hears: the visits, or why the request is refused, and where.
+pub type Reply = Result<usize, Halt>;
+
+// A refusal that falls at no place of the module.
+pub fn nowhere(refusal: Refusal) -> Halt
+    ensures { result ≡ nowhere refusal }
+{
+    Halt {
+        refusal,
+        place: Place::Nowhere,
+    }
+}
+
+// Whether 16 refuses a walk of f that has ended, by its totals alone: the records of f are not counted.
+pub fn totals_over(t: &[u32], cells: &[u32], slots: &[u32], f: FunctionHandle, sum: usize) -> bool
+    requires memory { Memory cells.now slots.now × Placed t.now slots.now f.0 }
+    requires own_bound { (own_in t.now cells.now slots.now f.0 ≤ entries_cap) × (own_in t.now cells.now slots.now f.0 ≤ sum) }
+    ensures { result ≡ ltb max_pieces (sum - own_in t.now cells.now slots.now f.0) }
+{
+    let own = own_pieces(t, cells, slots, f);
+    MAX_PIECES < sum - own
 }
 
 // The walk of f has ended, with its context behind the base.
@@ -28,22 +50,21 @@ pub fn finish_request(
     totals: &[u8],
     f: FunctionHandle,
     base: usize,
-    required: bool,
-    visits: usize,
-    sum: usize,
+    walked: Answer,
     pruner: &mut [u8],
     report: &mut [u8],
     answer: &mut [u8],
 ) -> Reply
-    requires { Finishing bytes.now t.now places.now cells.now slots.now «open».now totals.now f.0 base required visits sum pruner.old report.old answer.old }
-    ensures { Finished bytes.now t.now places.now cells.now slots.now «open».now totals.now f.0 base required visits sum pruner.old report.old answer.old result pruner.new report.new answer.new }
+    requires { Finishing bytes.now t.now places.now cells.now slots.now «open».now totals.now f.0 base walked.required walked.tally.visits walked.tally.sum pruner.old report.old answer.old }
+    ensures { Finished bytes.now t.now places.now cells.now slots.now «open».now totals.now f.0 base walked.required walked.tally.visits walked.tally.sum pruner.old report.old answer.old result pruner.new report.new answer.new }
 {
-    let own = own_pieces(t, cells, slots, f);
-    if MAX_PIECES < sum - own {
-        return Reply::Refused(16, Place::Nowhere);
+    let Answer { tally, required } = walked;
+    let Tally { visits, sum } = tally;
+    if totals_over(t, cells, slots, f, sum) {
+        return Err(nowhere(Refusal::PiecesLimit));
     }
     write_report(report, places, open, totals, f, functions(t) as usize);
     write_pruner(bytes, t, places, cells, slots, totals, pruner);
     write_answer(t, cells, slots, f, base + 4, required, visits, answer);
-    Reply::Visits(visits)
+    Ok(visits)
 }

@@ -7,9 +7,10 @@ ghost use Rattle.state.specs.Ready.{WasRead};
 ghost use Rattle.requests.specs.Served.{Walking, Walked, Served};
 
 use crate::answer::MIN_ANSWER;
-use crate::begin::{Begun, begin_request};
-use crate::finish::{Reply, finish_request};
+use crate::begin::begin_request;
+use crate::finish::{Reply, finish_request, nowhere};
 use field::limits::MIN_REPORT;
+use field::refusal::Refusal;
 use function::add::add_function;
 use marks::places::PLACES;
 use marks::report::TOTALS_SIZE;
@@ -17,7 +18,7 @@ use memory::layout::{CELLS, SLOTS, STACK};
 use module::handles::FunctionHandle;
 use module::tables::WORDS;
 use pruner::frame::MIN_PRUNER;
-use state::answer::Place;
+use state::answer::{Place, Tally};
 
 // The walk of f, and how it ends.
 fn walk_request(
@@ -38,7 +39,7 @@ fn walk_request(
     requires { Walking bytes.now t.now types.now places.now cells.old slots.old «open».old totals.old f.0 sum pruner.old report.old answer.old }
     ensures { Walked bytes.now t.now types.now places.now cells.old slots.old «open».old totals.old f.0 sum pruner.old report.old answer.old result pruner.new report.new answer.new }
 {
-    match add_function(
+    let walked = add_function(
         bytes,
         t,
         types,
@@ -51,28 +52,11 @@ fn walk_request(
         STACK,
         Place::Nowhere,
         0,
-        0,
-        sum,
-    ) {
-        Err(h) => Reply::Refused(u32::from(h.refusal), h.place),
-        Ok(a) => finish_request(
-            bytes,
-            t,
-            places,
-            cells,
-            slots,
-            open,
-            totals,
-            f,
-            STACK,
-            a.required,
-            a.tally.visits,
-            a.tally.sum,
-            pruner,
-            report,
-            answer,
-        ),
-    }
+        Tally { visits: 0, sum },
+    )?;
+    finish_request(
+        bytes, t, places, cells, slots, open, totals, f, STACK, walked, pruner, report, answer,
+    )
 }
 
 // The request in a walk's memory. A refusal leaves the three buffers.
@@ -93,7 +77,7 @@ fn serve_in(
     requires { WasRead bytes.now t.now × Places bytes.now t.now places.now × (types_of types.now ≡ (module_of bytes.now t.now).types) }
     ensures { Served bytes.now t.now request.now pruner.old report.old answer.old result pruner.new report.new answer.new }
 {
-    let begun = begin_request(
+    let begun = match begin_request(
         bytes,
         t,
         places,
@@ -104,21 +88,31 @@ fn serve_in(
         request,
         pruner,
         report.len(),
-    );
-    match begun {
-        Begun::Refused(n) => Reply::Refused(n, Place::Nowhere),
-        Begun::Ready(f, sum) => {
-            if pruner.len() < MIN_PRUNER {
-                return Reply::Refused(19, Place::Nowhere);
-            }
-            if answer.len() < MIN_ANSWER {
-                return Reply::Refused(20, Place::Nowhere);
-            }
-            walk_request(
-                bytes, t, types, places, cells, slots, open, totals, f, sum, pruner, report, answer,
-            )
-        }
+    ) {
+        Ok(begun) => begun,
+        Err(refusal) => return Err(nowhere(refusal)),
+    };
+    if pruner.len() < MIN_PRUNER {
+        return Err(nowhere(Refusal::PrunerUnfit));
     }
+    if answer.len() < MIN_ANSWER {
+        return Err(nowhere(Refusal::AnswerTooShort));
+    }
+    walk_request(
+        bytes,
+        t,
+        types,
+        places,
+        cells,
+        slots,
+        open,
+        totals,
+        begun.function,
+        begun.sum,
+        pruner,
+        report,
+        answer,
+    )
 }
 
 // The same with a memory of its own.

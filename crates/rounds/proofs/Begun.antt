@@ -7,10 +7,9 @@ use mathlib.Core.List.{List, []}
 use lib.ListN.{length, get_or, set, length-set}
 use lib.Seq.{get_or-set_same, get_or-set_other}
 use Rattle.part.specs.PartReq.{none, entries}
-use Rattle.part.specs.Store.{top, part, Good, Room, Made}
+use Rattle.part.specs.Store.{top, part, Made}
 use Rattle.part.proofs.Pieces.{part-2}
-use Rattle.module.specs.Tables.{function_of, module_of}
-use Rattle.context.specs.Types.{types_of}
+use Rattle.module.specs.Tables.{function_of}
 use Rattle.clearance.specs.Shape.{trim}
 use Rattle.clearance.specs.Scope.{Scope, result_shape}
 use Rattle.clearance.specs.Needs.{next, reentry}
@@ -18,7 +17,6 @@ use Rattle.clearance.specs.Verdict.{Request, setting, ending}
 use Rattle.clearance.specs.IsNeed.{IsNeed}
 use Rattle.clearance.proofs.Ascending.{trim-need}
 use Rattle.pass.specs.Checked.{asked_of}
-use Rattle.judge.specs.Alike.{Lower}
 use Rattle.judge.specs.Given.{scope_at}
 use Rattle.framed.specs.Kept.{Kept}
 use Rattle.framed.proofs.Kept.{kept_none, kept_ending}
@@ -60,14 +58,6 @@ laid-is {rs} {us} v e h c =
           ∙ get_or-set_same (set us asked_slot v) end_slot e 0 (omega (arith, c.long));
       hand = get_or-set_same (set (set us asked_slot v) end_slot e) stack_slot e 0 (omega (arith, c.long));
     }
-
--- the slots that are set are there
-module _ {rs us : List ℕ} (h : stack_slot < length rs) (c : Cleared rs us) (v e : ℕ) where
-  pub end_there : end_slot < length (set us asked_slot v)
-  end_there = omega (arith, c.long, length-set us asked_slot v)
-
-  pub hand_there : stack_slot < length (set (set us asked_slot v) end_slot e)
-  hand_there = omega (arith, c.long, length-set us asked_slot v, length-set (set us asked_slot v) end_slot e)
 
 -- by the slot's use
 by_slot : (P : ℕ → Type 0) → ((j : ℕ) → j < asked_slot → P j) → P asked_slot → P end_slot → P stack_slot → (j : ℕ) → j < stack_slot + 1 → P j
@@ -121,19 +111,9 @@ module _ {bytes t types s rs : List ℕ} {g v : ℕ} (f : ℕ) (a : Asked bytes 
   abbrev R : Request
   R = asked_by s g v
 
-  -- room for both
-  pub value_asks : Good s × ((Lower (types_of types) × ((module_of bytes t).types ≡ types_of types)) × ((v < top s) × Room s (entries (part s v))))
-  value_asks = (a.good, ((a.lower, a.same), (a.there.1, omega (arith, a.long, a.slim))))
-
   module _ {u : List ℕ} {x : ℕ} (m : Made s u (trim (part s v) (result_shape S (function_of bytes t f).result)) (entries (part s v)) x) where
     globals_same : part u g ≡ part s g
     globals_same = m.kept.same g a.there.0
-
-    pub globals_asks : Good u × (Lower (types_of types) × ((g < top u) × Room u (1 + entries (part u g))))
-    globals_asks = (
-      m.kept.good,
-      (a.lower, (omega (arith, a.there.0, m.kept.tops), omega (arith, a.long, a.slim, m.cost, m.kept.long, ap entries globals_same))),
-    )
 
     module _ {w us : List ℕ} {y : ℕ} (n : Made u w (trim_globals bytes t types (part u g)) (1 + entries (part u g)) y) (c : Cleared rs us) where
       begun_slots : Laid rs (laid us x y) x y

@@ -1,5 +1,5 @@
 pub mod Tables
 pub mod Begun
 pub mod Passed
-pub mod Numbers
+pub mod Answering
 pub mod Turns

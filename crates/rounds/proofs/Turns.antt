@@ -6,7 +6,7 @@ use mathlib.Core.Path.{◌≡◌, refl, sym, ap, ◌∙◌}
 use mathlib.Core.Bool.{true, false}
 use mathlib.Core.List.{List, []}
 use mathlib.Core.Option.{Option, some, none as nothing}
-use lib.ListN.{length, get_or}
+use lib.ListN.{get_or}
 use Rattle.part.specs.PartReq.{PartReq}
 use Rattle.part.specs.Store.{part}
 use Rattle.context.specs.RequiredContext.{RequiredContext}
@@ -14,18 +14,16 @@ use Rattle.request.specs.Context.{context_of}
 use Rattle.clearance.specs.Scope.{Scope}
 use Rattle.clearance.specs.Tree.{Tree, body_tree}
 use Rattle.clearance.specs.Needs.{Exit, Setting, Table}
-use Rattle.clearance.specs.Verdict.{Request, refused, setting, ending}
+use Rattle.clearance.specs.Verdict.{Request, Answer, refused, setting, ending}
 use Rattle.pass.specs.Pass.{Carried, Passed, on, full}
 use Rattle.pass.specs.Checked.{pass_once, settled_by, settle_within, max_rounds, last_pass, answer_of}
-use Rattle.judge.specs.Given.{scope_at}
 use Rattle.hold.specs.Hold.{in_slot}
 use Rattle.standing.specs.Slots.{table_size, asked_slot, end_slot, stack_slot, Ready}
 use Rattle.standing.specs.Standing.{Carries, TableIn, Went, Keeps}
 use Rattle.standing.specs.declared.passing.Passing.{Passing}
 use Rattle.standing.proofs.Aside.{beside_high}
-use Rattle.checking.specs.Word.{check_word}
-use Rattle.rounds.specs.Settling.{Settling, Settled, reported}
-use Rattle.rounds.specs.Rounds.{Between, Asked, Begins, Rounding, Rounded, Renewed, Answers, Settles}
+use Rattle.rounds.specs.Settling.{Settled, reported}
+use Rattle.rounds.specs.Rounds.{Between, Rounded, Renewed, Answers, Settles}
 
 -- `left` rounds are left, and their outcome is that of all
 pub record Turn (S : Scope) (R : Request) (a : Tree) (left : ℕ) (s rs : List ℕ) : Type 0 where
@@ -160,22 +158,22 @@ module _ {S : Scope} {R : Request} {a : Tree} {left : ℕ} {s rs t us before aft
 turn_none : {S : Scope} {R : Request} {a : Tree} {left : ℕ} {s rs : List ℕ} → Turn S R a left s rs → left ≤ 0 → settle_within (setting S R) a (ending S R) max_rounds [] ≡ nothing
 turn_none {S} {R} {a} {left} u h = sym u.rest ∙ settle_none (setting S R) a (ending S R) left u.table h
 
--- the answer's number by the last pass's outcome
+-- the answer by the last pass's outcome
 module _ {S : Scope} {R : Request} {marks : List ℕ} (context : List ℕ) where
-  settled-by : {o : Option Passed} {r : ℕ} → settle_within (setting S R) (body_tree S.function marks) (ending S R) max_rounds [] ≡ o →
-      ((c : RequiredContext) → context_of context ≡ some c → r ≡ check_word (answer_of (reported marks c) o)) → Settled S R marks context r
+  settled-by : {o : Option Passed} {r : Answer} → settle_within (setting S R) (body_tree S.function marks) (ending S R) max_rounds [] ≡ o →
+      ((c : RequiredContext) → context_of context ≡ some c → r ≡ answer_of (reported marks c) o) → Settled S R marks context r
   unfolding last_pass
-  settled-by e h = record { is = λ c z. h c z ∙ ap (λ o. check_word (answer_of (reported marks c) o)) (sym e) }
+  settled-by e h = record { is = λ c z. h c z ∙ ap (answer_of (reported marks c)) (sym e) }
 
-  settled_full : settle_within (setting S R) (body_tree S.function marks) (ending S R) max_rounds [] ≡ some full → Settled S R marks context (check_word (refused 26))
+  settled_full : settle_within (setting S R) (body_tree S.function marks) (ending S R) max_rounds [] ≡ some full → Settled S R marks context (refused 26)
   unfolding answer_of
   settled_full e = settled-by e (λ c z. refl)
 
-  settled_past : settle_within (setting S R) (body_tree S.function marks) (ending S R) max_rounds [] ≡ nothing → Settled S R marks context (check_word (refused 26))
+  settled_past : settle_within (setting S R) (body_tree S.function marks) (ending S R) max_rounds [] ≡ nothing → Settled S R marks context (refused 26)
   unfolding answer_of
   settled_past e = settled-by e (λ c z. refl)
 
-  settled_last : {t us : List ℕ} {q : Passing} {r : ℕ} → Last S R (body_tree S.function marks) t us q → Answers t (get_or us stack_slot 0) q context r → Settled S R marks context r
+  settled_last : {t us : List ℕ} {q : Passing} {r : Answer} → Last S R (body_tree S.function marks) t us q → Answers t (get_or us stack_slot 0) q context r → Settled S R marks context r
   settled_last l a = settled-by l.is (λ c z. a.is c marks l.carried z l.carries)
 
 -- The loop's invariant: of s₀, rs₀, whatever was asked, so many rounds are left.
@@ -183,42 +181,17 @@ pub record Turning (S : Scope) (a : Tree) (s₀ rs₀ : List ℕ) (left : ℕ) (
   pub ready : Ready S s rs (stack_slot + 1)
   pub turn : (R : Request) → Between S R [] s₀ rs₀ → Turn S R a left s rs
 
-pub turning_first : {S : Scope} {a : Tree} {s rs : List ℕ} → Ready S s rs (stack_slot + 1) → Turning S a s rs max_rounds s rs
-turning_first d = record { ready = d; turn = λ R b. record { table = []; between = b; rest = refl } }
-
 module _ {S : Scope} (marks : List ℕ) {s₀ rs₀ : List ℕ} {left : ℕ} {s rs : List ℕ} (u : Turning S (body_tree S.function marks) s₀ rs₀ left s rs) where
   -- no round is left
-  pub turning_none : (context : List ℕ) → left ≤ 0 → Settles S marks context s₀ rs₀ (check_word (refused 26))
+  pub turning_none : (context : List ℕ) → left ≤ 0 → Settles S marks context s₀ rs₀ (refused 26)
   turning_none context h = record { is = λ R b. settled_past context (turn_none (u.turn R b) h) }
 
   module _ (more : 0 < left) {t us before after : List ℕ} {q : Passing} (w : Rounded S (body_tree S.function marks) s rs t us before after q) where
-    pub turning_full : (context : List ℕ) → q.full ≡ true → Settles S marks context s₀ rs₀ (check_word (refused 26))
+    pub turning_full : (context : List ℕ) → q.full ≡ true → Settles S marks context s₀ rs₀ (refused 26)
     turning_full context h = record { is = λ R b. settled_full context (turn_full (u.turn R b) more w h) }
 
-    pub turning_last : (context : List ℕ) → q.full ≡ false → q.held ≡ true → {r : ℕ} → Answers t (get_or us stack_slot 0) q context r → Settles S marks context s₀ rs₀ r
+    pub turning_last : (context : List ℕ) → q.full ≡ false → q.held ≡ true → {r : Answer} → Answers t (get_or us stack_slot 0) q context r → Settles S marks context s₀ rs₀ r
     turning_last context g h a = record { is = λ R b. settled_last context (turn_last (u.turn R b) more w g h) a }
 
     pub turning_again : q.full ≡ false → q.held ≡ false → {ws : List ℕ} → Renewed us ws → Turning S (body_tree S.function marks) s₀ rs₀ (left - 1) t ws
     turning_again g h n = record { ready = renewed_ready (w.ready g) n; turn = λ R b. turn_again (u.turn R b) more w g h n }
-
--- what the calls ask
-module _ {bytes t : List ℕ} {f : ℕ} {types alike paths firsts s rs path : List ℕ} {g v : ℕ} (G : Settling bytes t f types alike paths firsts s rs path g v) where
-  pub begin_asks : Asked bytes t types s rs g v
-  begin_asks = record {
-    same = G.world.given.values.same;
-    lower = G.world.given.shapes.lower;
-    good = G.good;
-    there = G.there;
-    long = G.long;
-    slim = G.slim;
-    slots = omega (arith, G.slots);
-    listed = G.listed;
-    ascends = G.ascends;
-  }
-
-  pub rounds_asks : {R : Request} {u us : List ℕ} → Begins (scope_at bytes t f) R s rs u us → Rounding bytes t f types alike paths firsts u us path
-  rounds_asks b = record { world = G.world; begins = G.begins; ready = b.between.ready; slots = omega (arith, G.slots, b.slots); path_long = G.path_long }
-
-pub round_asks : {bytes t : List ℕ} {f : ℕ} {types alike paths firsts s₀ rs₀ path₀ s rs path : List ℕ} → Rounding bytes t f types alike paths firsts s₀ rs₀ path₀ →
-    Ready (scope_at bytes t f) s rs (stack_slot + 1) → length rs ≡ length rs₀ → length path ≡ length path₀ → Rounding bytes t f types alike paths firsts s rs path
-round_asks g d l m = record { world = g.world; begins = g.begins; ready = d; slots = omega (arith, g.slots); path_long = omega (arith, g.path_long) }

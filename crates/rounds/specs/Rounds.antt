@@ -11,7 +11,7 @@ use Rattle.request.specs.Context.{context_of}
 use Rattle.clearance.specs.Scope.{Scope}
 use Rattle.clearance.specs.Tree.{Tree}
 use Rattle.clearance.specs.Needs.{next, Table, reentry}
-use Rattle.clearance.specs.Verdict.{Request, setting, ending}
+use Rattle.clearance.specs.Verdict.{Request, Answer, setting, ending}
 use Rattle.clearance.specs.IsNeed.{AscendingRequest}
 use Rattle.pass.specs.Pass.{work_bound, Carried, on}
 use Rattle.pass.specs.Checked.{asked_of, pass_once, answer_of}
@@ -23,7 +23,6 @@ use Rattle.standing.specs.Standing.{Carries, Came, Keeps}
 use Rattle.standing.specs.World.{World}
 use Rattle.standing.specs.declared.passing.Passing.{Passing}
 use Rattle.checking.specs.Stretch.{Firsts}
-use Rattle.checking.specs.Word.{check_word}
 use Rattle.rounds.specs.Settling.{Settled, asked_by, reported}
 
 -- Both tables' slots mean the table o, and the needs at hand are those at the function's end.
@@ -84,11 +83,11 @@ pub record Renewed (rs us : List ℕ) : Type 0 where
   pub hand : get_or us stack_slot 0 ≡ get_or rs end_slot 0
   pub others : (j : ℕ) → table_size ≤ j → j < stack_slot → get_or us j 0 ≡ get_or rs j 0
 
--- r is the number of the answer where the last pass carried what q says and left the need n
-pub record Answers (s : List ℕ) (n : ℕ) (q : Passing) (context : List ℕ) (r : ℕ) : Type 0 where
+-- a is the answer where the last pass carried what q says and left the need n
+pub record Answers (s : List ℕ) (n : ℕ) (q : Passing) (context : List ℕ) (a : Answer) : Type 0 where
   pub is : (c : RequiredContext) (marks : List ℕ) (d : Carried) → context_of context ≡ some c → Carries q d →
-      r ≡ check_word (answer_of (reported marks c) (some (on d (part s n))))
+      a ≡ answer_of (reported marks c) (some (on d (part s n)))
 
--- r is the answer's number, whatever was asked
-pub record Settles (S : Scope) (marks context s rs : List ℕ) (r : ℕ) : Type 0 where
-  pub is : (R : Request) → Between S R [] s rs → Settled S R marks context r
+-- a is the answer, whatever was asked
+pub record Settles (S : Scope) (marks context s rs : List ℕ) (a : Answer) : Type 0 where
+  pub is : (R : Request) → Between S R [] s rs → Settled S R marks context a

@@ -8,7 +8,7 @@ use Rattle.module.specs.Tables.{function_of}
 use Rattle.context.specs.RequiredContext.{RequiredContext}
 use Rattle.request.specs.Context.{context_of}
 use Rattle.clearance.specs.Scope.{Scope}
-use Rattle.clearance.specs.Verdict.{Request, Report}
+use Rattle.clearance.specs.Verdict.{Request, Report, Answer}
 use Rattle.clearance.specs.IsNeed.{AscendingRequest}
 use Rattle.pass.specs.Pass.{work_bound}
 use Rattle.pass.specs.Checked.{last_pass, answer_of}
@@ -16,7 +16,6 @@ use Rattle.hold.specs.Hold.{slack}
 use Rattle.standing.specs.Slots.{stack_slot}
 use Rattle.standing.specs.World.{World}
 use Rattle.checking.specs.Stretch.{Firsts}
-use Rattle.checking.specs.Word.{check_word}
 
 -- what the pieces g and v ask, of globals and of the returned value
 abbrev pub asked_by : (s : List ℕ) → (g v : ℕ) → Request
@@ -39,6 +38,6 @@ pub record Settling (bytes t : List ℕ) (f : ℕ) (types alike paths firsts s r
   pub listed : is_all (part s g) ≡ false
   pub ascends : AscendingRequest (asked_by s g v)
 
--- r is the answer's number, of whatever context the bytes mean
-pub record Settled (S : Scope) (R : Request) (marks context : List ℕ) (r : ℕ) : Type 0 where
-  pub is : (c : RequiredContext) → context_of context ≡ some c → r ≡ check_word (answer_of (reported marks c) (last_pass S R (reported marks c)))
+-- a is the answer, of whatever context the bytes mean
+pub record Settled (S : Scope) (R : Request) (marks context : List ℕ) (a : Answer) : Type 0 where
+  pub is : (c : RequiredContext) → context_of context ≡ some c → a ≡ answer_of (reported marks c) (last_pass S R (reported marks c))

@@ -1,4 +1,4 @@
-// Passes over a function's body until each loop's needs hold on re-entry, and the number of the answer.
+// Passes over a function's body until each loop's needs hold on re-entry, and the answer.
 #![tactic(auto)]
 
 pub mod begin;

@@ -3,7 +3,7 @@ ghost use Rattle.std.specs.Prelude.{◌<◌};
 ghost use Rattle.part.specs.Store.{top, Good};
 ghost use Rattle.module.specs.Tables.{function_of};
 ghost use Rattle.clearance.specs.Tree.{body_tree};
-ghost use Rattle.checking.specs.Word.{word};
+ghost use Rattle.checking.specs.Word.{said};
 ghost use Rattle.judge.specs.Given.{scope_at};
 ghost use Rattle.rounds.specs.Settling.{Settling, Settled, asked_by};
 ghost use Rattle.rounds.specs.Rounds.{Rounding, Rounded, Answers, Settles};
@@ -73,7 +73,7 @@ fn round(
 fn answer(cells: &[u32], n: u32, q: Passing, context: &[u8]) -> Verdict
     requires good { Good cells.now }
     requires n_bound { n < top cells.now }
-    ensures { Answers cells.now n q context.now (word result) }
+    ensures { Answers cells.now n q context.now (said result) }
 {
     if q.deep {
         return Verdict::Refused(Refusal::PartLimit);
@@ -106,7 +106,7 @@ fn settle_rounds(
     context: &[u8],
 ) -> Verdict
     requires { Rounding bytes.now t.now f.0 types.now alike.now paths.now firsts.now cells.old roots.old path.old }
-    ensures { Settles (scope_at bytes.now t.now f.0) marks.now context.now cells.old roots.old (word result) }
+    ensures { Settles (scope_at bytes.now t.now f.0) marks.now context.now cells.old roots.old (said result) }
 {
     for _ in 0..ROUNDS {
         let q = round(
@@ -141,7 +141,7 @@ pub fn settle(
     context: &[u8],
 ) -> Verdict
     requires { Settling bytes.now t.now f.0 types.now alike.now paths.now firsts.now cells.old roots.old path.old globals value }
-    ensures { Settled (scope_at bytes.now t.now f.0) (asked_by cells.old globals value) marks.now context.now (word result) }
+    ensures { Settled (scope_at bytes.now t.now f.0) (asked_by cells.old globals value) marks.now context.now (said result) }
 {
     begin(bytes, t, f, types, cells, roots, globals, value);
     settle_rounds(

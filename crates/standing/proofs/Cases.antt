@@ -17,7 +17,8 @@ use Rattle.hold.specs.Hold.{in_slot}
 use Rattle.standing.specs.Slots.{Ready}
 use Rattle.standing.specs.Standing.{setting_of, Targets, Stands, Went, Walked, Closed, Keeps, inside, around, cases}
 use Rattle.standing.specs.declared.passing.Passing.{Passing}
-use Rattle.standing.specs.declared.passing.Exits.{Exits}
+use Rattle.strays.specs.Exits.{case_to}
+use Rattle.standing.specs.Exits.{Exits}
 use Rattle.standing.proofs.Aside.{beside_high}
 use Rattle.standing.proofs.Stands.{keeps_refl, leads_on, apart_kept, stands_one}
 use Rattle.standing.proofs.Readies.{slot_other, slot_same, ready_open}
@@ -143,7 +144,7 @@ case-exits k = exits_same (of_case k) (upon (k next) (casing k)) refl refl refl 
 
 -- the exits of a case
 abbrev pub case_exits : ℕ → Exits → Exits
-case_exits n x = record { broke = n - 1; continued = x.continued; returned = x.returned }
+case_exits n x = case_to (n - 1) x
 
 module _ {S : Scope} {s rs : List ℕ} {n : ℕ} {x : Exits} (d : Ready S s rs n) (y : Targets n x) (room : n < length rs) (none_in : Kept S none) where
   pub case_targets : Targets (n + 1) (case_exits n x)

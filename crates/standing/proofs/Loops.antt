@@ -24,7 +24,8 @@ use Rattle.hold.proofs.Reach.{reach_trans, reach_is}
 use Rattle.standing.specs.Slots.{table_size, aside_of, Ready}
 use Rattle.standing.specs.Standing.{setting_of, Carries, TableIn, Targets, Stands, Went, Walked, Keeps, passed_by, Begun, Entered, inside, around}
 use Rattle.standing.specs.declared.passing.Passing.{Passing}
-use Rattle.standing.specs.declared.passing.Exits.{Exits}
+use Rattle.strays.specs.Exits.{body_to}
+use Rattle.standing.specs.Exits.{Exits}
 use Rattle.standing.proofs.Aside.{beside_high, beside_low, aside_same}
 use Rattle.standing.proofs.Stands.{keeps_trans, leads_on, stands_below, stands_one, stands_two}
 use Rattle.standing.proofs.Readies.{slot_other, slot_same, ready_open}
@@ -34,7 +35,7 @@ use Rattle.standing.proofs.Cases.{case_exits}
 
 -- the exits of a loop's body
 abbrev pub body_exits : ℕ → Exits → Exits
-body_exits n x = record { broke = n - 1; continued = n; returned = x.returned }
+body_exits n x = body_to (n - 1) n x
 
 -- a table with needs joined to one loop's: how long it is
 join_long : (n : ℕ) (m : PartReq) (t : Table) (k : ℕ) → n < k → length t ≤ k → length (join_at n m t) ≤ k

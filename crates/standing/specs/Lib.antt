@@ -1,3 +1,4 @@
+pub mod Exits
 pub mod Slots
 pub mod Standing
 pub mod World

@@ -13,12 +13,7 @@ pub struct Passing {
 }
 
 // The slots of the needs after a break, a continue and a return. Those at the end of a statement stand in the last slot.
-#[derive(Clone, Copy)]
-pub struct Exits {
-    pub broke: usize,
-    pub continued: usize,
-    pub returned: usize,
-}
+pub type Exits = strays::exits::Exits<usize>;
 
 pub const TABLE: usize = 1024;
 

@@ -24,7 +24,7 @@ impl Frame {
         ensures { result ≡ record { refusal = refusal; place = Statement self.now.function self.now.statement } }
     {
         Halt {
-            refusal: refusal,
+            refusal,
             place: Place::Statement(self.function, self.statement),
         }
     }

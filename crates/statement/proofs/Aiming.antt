@@ -1,24 +1,22 @@
 -- The target of a store: what the search asks of the memory, and that its answer is the definition's.
-use Prim.Native.Nat.{ℕ, ◌+◌, ◌<◌, ◌≤◌}
+use Prim.Native.Nat.{ℕ, ◌+◌, ◌≤◌}
 use native.Mathlib.Omega.{arith}
 use mathlib.Core.Path.{◌≡◌, sym, ap, subst, ◌∙◌}
 use mathlib.Core.Bool.{Bool, true, false}
 use mathlib.Core.List.{List, []}
 use lib.ListN.{length}
 use Rattle.std.specs.Prelude.{Option, Some, None, Ok, Err}
-use Rattle.field.specs.Limits.{max_expressions}
 use Rattle.field.specs.declared.refusal.Refusal.TheVariants.{Panic, PartLimit}
-use Rattle.part.specs.PartReq.{PartReq, over, spine}
-use Rattle.part.specs.Store.{top, part, Good, Room, Kept}
+use Rattle.part.specs.PartReq.{PartReq, over}
+use Rattle.part.specs.Store.{part, Kept}
 use Rattle.part.specs.Found.{Got}
-use Rattle.module.specs.File.{accepted, read_module}
 use Rattle.module.specs.Tables.{module_of}
-use Rattle.context.specs.RequiredContext.{RequiredContext, handle}
+use Rattle.context.specs.RequiredContext.{RequiredContext}
 use Rattle.context.specs.Contexts.{context_of, HasContext, variable_of}
 use Rattle.context.specs.declared.required_context.RequiredContext.{RequiredContext as Pieces}
 use Rattle.sound.proofs.Walks.{module_sound}
 use Rattle.walk.specs.State.{State, went, halt}
-use Rattle.walk.specs.Resolve.{function_at, resolved, unresolved, resolve_var, store_required}
+use Rattle.walk.specs.Resolve.{resolved, unresolved, resolve_var, store_required}
 use Rattle.walk.specs.Statement.{here, target, target_of}
 use Rattle.walk.specs.Statement as walk
 use Rattle.walk.proofs.Bind.{limited_over, limited-under}
@@ -71,9 +69,6 @@ module _ {s rs : List ℕ} (m : Memory s rs) (at : ℕ) (high : at + 4 ≤ lengt
 
 -- and in a store that has grown
 module _ {s rs u : List ℕ} (m : Memory s rs) (x : Kept s u) (at : ℕ) (high : at + 4 ≤ length rs) where
-  pub later_has : HasContext u (pieces_at rs at)
-  later_has = pieces_has (kept_memory m x) at high
-
   pub later_are : context_of u (pieces_at rs at) ≡ context_at (read s rs) at
   later_are = pieces_are (kept_memory m x) at high ∙ ap (λ (ps : List PartReq). context_at ps at) (kept_read rs x m.below)
 
@@ -96,9 +91,6 @@ module _ {bytes t s rs : List ℕ} {fr : Frame} {e : ℕ} (q : Aiming bytes t s 
   pub aim_slots : fr.at + 4 ≤ length rs
   aim_slots = q.begun.ready.high
 
-  pub aim_resolve : (read_module bytes ≡ accepted (module_of bytes t)) × ((e < length (function_at (module_of bytes t) fr.function.0).expressions) × (Good s × Room s max_expressions))
-  aim_resolve = (q.begun.ready.was_read.module_is, (q.there, (q.begun.ready.memory.good, omega (arith, q.begun.roomy))))
-
   module _ {u : List ℕ} {r : Option Target} (x : Resolves (module_of bytes t) fr.function.0 e s u r) where
     pub aim_unresolved : r ≡ None → Aims bytes t s rs fr e (Err (record { refusal = Panic; place = place.Statement fr.function fr.statement })) u
     aim_unresolved h =
@@ -112,17 +104,11 @@ module _ {bytes t s rs : List ℕ} {fr : Frame} {e : ℕ} (q : Aiming bytes t s 
       is : resolve_var (module_of bytes t) fr.function.0 e [] ≡ resolved (variable_of a.var) (part u a.part)
       is = sym (subst (λ (y : Option Target). var_ref_part u y ≡ resolve_var (module_of bytes t) fr.function.0 e []) h x.is)
 
-      pub aim_over : Good u × (a.part < top u)
-      aim_over = (x.kept.good, has.piece)
-
       pub aim_long : {o : Bool} → o ≡ over (part u a.part) → o ≡ true → Aims bytes t s rs fr e (Err (record { refusal = PartLimit; place = place.Statement fr.function fr.statement })) u
       aim_long i z =
           record { kept = x.kept; cost = x.cost; by = λ st g. target-15 (module_of bytes t) (frame_of s rs fr) e is (sym i ∙ z) st }
 
       module _ {c : Pieces} (loaded : c ≡ pieces_at rs fr.at) where
-        pub aim_needs : Good u × (HasContext u c × ((a.part < top u) × (handle (variable_of a.var) < spine)))
-        aim_needs = (x.kept.good, (rw loaded (later_has q.begun.ready.memory x.kept fr.at aim_slots), (has.piece, has.low)))
-
         pub aim_at : {o : Bool} {found : Option ℕ} → o ≡ over (part u a.part) → o ≡ false
             → Got u (store_required (context_of u c) (variable_of a.var) (part u a.part)) found → Aims bytes t s rs fr e (Ok (record { target = a; needed = found })) u
         aim_at i z g =

@@ -1,20 +1,22 @@
 -- An ask after what was walked before: it goes on with that, from wherever that began, since no ask changes what is asked.
 use Prim.Native.Nat.{ℕ, zero, suc, ◌<◌, ◌≤◌}
 use native.Mathlib.Omega.{arith}
-use mathlib.Core.Path.{◌≡◌, refl, sym, subst, ◌∙◌}
+use mathlib.Core.Path.{◌≡◌, refl, sym, ap, subst, ◌∙◌}
 use mathlib.Core.Bool.{Bool, false}
 use mathlib.Core.List.{List}
 use mathlib.Core.Option.{Option, some, none as nothing}
 use lib.ListN.{get_or}
-use borrow.Author.Tests.{eq-eqb, ne_eqb}
-use Rattle.std.specs.Prelude.{Result, Ok, Err}
+use borrow.Author.Tests.{ne_eqb}
+use Rattle.std.specs.Prelude.{Option as Optional, Some, None, Result, Ok, Err}
 use Rattle.field.specs.Limits.{absent}
 use Rattle.part.specs.PartReq.{PartReq, over}
 use Rattle.part.specs.Store.{part}
+use Rattle.module.specs.declared.handles.ExpressionHandle.{ExpressionHandle as Handle}
 use Rattle.module.specs.Decode.{option_of}
 use Rattle.module.specs.Tables.{module_of}
+use Rattle.access.specs.Access.{handle_in}
 use Rattle.valid.specs.Valid.{MaybeBelow}
-use Rattle.walk.specs.State.{State, Out, went, Walk, ◌>>◌}
+use Rattle.walk.specs.State.{State, Out, went, ◌>>◌}
 use Rattle.walk.specs.Expression.{add_expression}
 use Rattle.walk.specs.Statement.{ask_optional}
 use Rattle.walk.specs.Statement as walk
@@ -60,9 +62,8 @@ module _ {bytes t s rs : List ℕ} {fr : Frame} {before : Result Tally Halt} whe
   open_went e o = subst (λ (r : Result Tally Halt). Opening bytes t s rs fr r) e o.by
 
   -- what `add_expression` asks
-  pub ask_wants : {tally : Tally} (k : ℕ) → before ≡ Ok tally → Open bytes t s rs fr before → k ≤ returned
-      → Ready bytes t s rs fr.function.0 fr.at fr.held tally.sum × Wants s rs (want_of k)
-  ask_wants k e o l = let r = open_went e o in (r, slot_wants r.memory k l)
+  pub ask_wants : {tally : Tally} (k : ℕ) → before ≡ Ok tally → Open bytes t s rs fr before → k ≤ returned → Wants s rs (want_of k)
+  ask_wants k e o l = slot_wants (open_went e o).memory k l
 
   pub ask_went : {tally : Tally} (e k : ℕ) {r : Result Tally Halt} {u us : List ℕ} → before ≡ Ok tally → Open bytes t s rs fr before → k ≤ returned
       → Walks bytes t fr.function.0 fr.at fr.held s rs (add_expression (module_of bytes t) fr.function.0 fr.held e (asked s rs (want_of k))) tally.visits r u us
@@ -79,27 +80,36 @@ module _ {bytes t s rs : List ℕ} {fr : Frame} {before : Result Tally Halt} whe
             (w.by rest (h ∙ sym (others_totals (ready_fits ready) ready.low x.others)));
       }
 
-  pub ask_halt : {stop : Halt} {walk : PartReq → Walk (Unit {0})} {k : ℕ} → before ≡ Err stop
-      → Asked bytes t s rs fr before walk k (Err stop) s rs
-  ask_halt {walk = walk} {k} is = record {
-    opens = record { by = tt };
-    by = λ z zs rest total m h g.
-        let x = subst (λ (b : Result Tally Halt). Going bytes t z zs fr rest total b s rs) is g.by in
-        record { by = sym (next_halt (walk (part z (get_or zs k 0))) (sym x)) };
-  }
-
   -- an expression that may be absent
-  pub maybe_absent : (e k : ℕ) → e ≡ absent → Open bytes t s rs fr before
-      → Asked bytes t s rs fr before (maybe_ask (module_of bytes t) fr.function.0 fr.held (option_of e)) k before s rs
-  unfolding option_of maybe_ask
-  maybe_absent e k h o =
-      rw (eq-eqb e absent h) (record { opens = o; by = λ z zs rest total m x g. record { by = subst (λ (y : Out (Unit {0})). Going bytes t z zs fr rest y before s rs) (sym (next_self total)) g.by } })
+  pub maybe_absent : {e : Optional Handle} (k : ℕ) → e ≡ None → Open bytes t s rs fr before
+      → Asked bytes t s rs fr before (maybe_ask (module_of bytes t) fr.function.0 fr.held (handle_in e)) k before s rs
+  unfolding handle_in maybe_ask
+  maybe_absent k h o =
+      rw h (record { opens = o; by = λ z zs rest total m x g. record { by = subst (λ (y : Out (Unit {0})). Going bytes t z zs fr rest y before s rs) (sym (next_self total)) g.by } })
 
-  pub maybe_there : (e k : ℕ) {r : Result Tally Halt} {u us : List ℕ} → (e ≡ absent → ⊥)
-      → Asked bytes t s rs fr before (add_expression (module_of bytes t) fr.function.0 fr.held e) k r u us
-      → Asked bytes t s rs fr before (maybe_ask (module_of bytes t) fr.function.0 fr.held (option_of e)) k r u us
-  unfolding option_of maybe_ask
-  maybe_there e k h a = rw (ne_eqb e absent h) a
+  pub maybe_there : {e : Optional Handle} {there : Handle} (k : ℕ) {r : Result Tally Halt} {u us : List ℕ} → e ≡ Some there
+      → Asked bytes t s rs fr before (add_expression (module_of bytes t) fr.function.0 fr.held there.0) k r u us
+      → Asked bytes t s rs fr before (maybe_ask (module_of bytes t) fr.function.0 fr.held (handle_in e)) k r u us
+  unfolding handle_in maybe_ask
+  maybe_there k h a = rw h a
+
+-- an optional handle that is there, of what it stands for
+module _ {e : Optional Handle} {there : Handle} (h : e ≡ Some there) where
+  pub handle_there : {o : Option ℕ} → handle_in e ≡ o → o ≡ some there.0
+  unfolding handle_in
+  handle_there g = sym g ∙ rw h refl
+
+  pub maybe_below : (n : ℕ) → MaybeBelow n (handle_in e) → there.0 < n
+  unfolding handle_in
+  maybe_below n b = rw h at b
+
+pub handle_absent : {e : Optional Handle} {o : Option ℕ} → e ≡ None → handle_in e ≡ o → o ≡ nothing
+unfolding handle_in
+handle_absent h g = sym g ∙ rw h refl
+
+pub handle_given : {e : Handle} {n : ℕ} → e.0 ≡ n → handle_in (Some e) ≡ some n
+unfolding handle_in
+handle_given h = ap (λ (n : ℕ). some n) h
 
 pub below_there : (n e : ℕ) → (e ≡ absent → ⊥) → MaybeBelow n (option_of e) → e < n
 unfolding option_of
@@ -132,6 +142,3 @@ module _ {bytes t s rs : List ℕ} {fr : Frame} where
         };
       }
   ends answer b (Err stop) a e g = record { by = sym (next_halt (λ left. went left (answer b)) (sym g.by)) ∙ e }
-
-pub answer_is : {walked r : Result Tally Halt} (b : Bool) → walked ≡ r → answer_of r b ≡ answer_of walked b
-answer_is b e = rw e

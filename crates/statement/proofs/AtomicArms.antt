@@ -7,9 +7,8 @@ use mathlib.Core.List.{List, [], ◌∷◌}
 use mathlib.Core.Option.{Option, some, none as nothing}
 use lib.ListN.{length, get_or}
 use lib.Seq.{get_or-set_same, get_or-set_other}
-use borrow.Author.Tests.{eq-eqb, ne_eqb}
-use Rattle.std.specs.Prelude.{Option as Found, Some, None, Result, Ok, Err}
-use Rattle.field.specs.Limits.{absent, max_pieces}
+use Rattle.std.specs.Prelude.{Option as Found, Some, None, is_some, Result, Ok, Err}
+use Rattle.field.specs.Limits.{max_pieces}
 use Rattle.part.specs.PartReq.{PartReq, entries, Subpart, gone, there}
 use Rattle.part.specs.Store.{part}
 use Rattle.part.specs.Found.{Got}
@@ -45,13 +44,12 @@ use Rattle.target.proofs.Checking.{need_fine}
 use Rattle.statement.specs.Leaf.{leaf_req, Arm, Leaves}
 use Rattle.statement.specs.Asks.{Open, Asked, maybe_ask, answer_of}
 use Rattle.statement.specs.Aim.{Aiming, Aimed, AimIs, Aims}
-use Rattle.statement.specs.Aside.{aside_field, aside_slots, some_field, Loading}
+use Rattle.statement.specs.Aside.{aside_field, aside_slots, Loading}
 use Rattle.statement.specs.declared.aim.Aim.{Aim}
 use Rattle.statement.proofs.Holding.{Holdable, hold_ready, hold_state, hold_totals, hold_apart}
 use Rattle.statement.proofs.Asking.{begins, began, ends}
 use Rattle.statement.proofs.Aiming.{kept_ready}
 use Rattle.statement.proofs.Uses.{arm_uses}
-use Rattle.statement.proofs.Fields.{there_maybe, few}
 
 -- records: each is fine, and no larger than all
 record_fine : (es : Records) (e : ℕ) → EachRecord es → Needs Fine (need_of (get_or es e nothing))
@@ -117,31 +115,27 @@ means_kept s rs k j ne (Some n) (Some i) h = ap (part s) (get_or-set_other rs k 
 
 -- the asks of what was found are the definition's
 module _ (m : Module) (fr : Frame) (s : List ℕ) where
-  ask-result : (found : Found ℕ) (sub : Subpart) (e : ℕ) (p : PartReq) (st : State) → Got s sub found → Means s found p → ((n : ℕ) → found ≡ Some n → e ≡ absent → ⊥)
-      → maybe_ask m fr.function fr.held (option_of (aside_field found e)) p st ≡ ask_result m fr (option_of e) sub st
-  unfolding maybe_ask ask_result ask_needed option_of
-  ask-result None sub e p st g z ne = rw g (none_asked (option_of e))
-    where
-      none_asked : (o : Option ℕ) → went st tt ≡ ask_result m fr o gone st
-      none_asked nothing = refl
-      none_asked (some x) = refl
-  ask-result (Some n) sub e p st g z ne = rw (g.1, z, ne_eqb e absent (ne n refl))
+  ask-result : (found : Found ℕ) (sub : Subpart) (e : Option ℕ) (p : PartReq) (st : State) → Got s sub found → Means s found p
+      → maybe_ask m fr.function fr.held (aside_field found e) p st ≡ ask_result m fr e sub st
+  unfolding maybe_ask ask_result ask_needed
+  ask-result None sub nothing p st g z = refl
+  ask-result None sub (some x) p st g z = rw g
+  ask-result (Some n) sub nothing p st g z = refl
+  ask-result (Some n) sub (some x) p st g z = rw (g.1, z)
 
-  ask-value : (found : Found ℕ) (sub : Subpart) (e : ℕ) (p : PartReq) (st : State) → Got s sub found → Means s found p → (e ≡ absent → ⊥)
-      → maybe_ask m fr.function fr.held (option_of (aside_field found e)) p st ≡ ask_needed m fr e sub st
-  unfolding maybe_ask ask_needed option_of
-  ask-value None sub e p st g z ne = rw g
-  ask-value (Some n) sub e p st g z ne = rw (g.1, z, ne_eqb e absent ne)
+  ask-value : (found : Found ℕ) (sub : Subpart) (e : ℕ) (p : PartReq) (st : State) → Got s sub found → Means s found p
+      → maybe_ask m fr.function fr.held (aside_field found (some e)) p st ≡ ask_needed m fr e sub st
+  unfolding maybe_ask ask_needed
+  ask-value None sub e p st g z = rw g
+  ask-value (Some n) sub e p st g z = rw (g.1, z)
 
-some_is : (s : List ℕ) (load needed : Found ℕ) (x y : Subpart) (a b : ℕ) → Got s x load → Got s y needed → ((n : ℕ) → load ≡ Some n → a ≡ absent → ⊥) → (b ≡ absent → ⊥)
-    → some_field (aside_field load a) (aside_field needed b) ≡ (is_there x || is_there y)
-unfolding some_field is_there
-some_is s None None x y a b g h na nb = rw (g, h)
-some_is s None (Some n) x y a b g h na nb = rw (g, h.1, ne_eqb b absent nb)
-some_is s (Some n) needed x y a b g h na nb = rw (g.1, ne_eqb a absent (na n refl))
+found_is : (s : List ℕ) (found : Found ℕ) (x : Subpart) → Got s x found → is_some found ≡ is_there x
+unfolding is_there
+found_is s None x g = rw g
+found_is s (Some n) x g = rw g.1
 
-aside_below : (n : ℕ) (found : Found ℕ) (e : ℕ) → MaybeBelow n (option_of e) → MaybeBelow n (option_of (aside_field found e))
-aside_below n None e h = unfold option_of in tt
+aside_below : (n : ℕ) (found : Found ℕ) (e : Option ℕ) → MaybeBelow n e → MaybeBelow n (aside_field found e)
+aside_below n None e h = tt
 aside_below n (Some i) e h = h
 
 holds : (s : List ℕ) (k : ℕ) → layout.ask ≤ k → k ≤ layout.returned → (found : Found ℕ) (sub : Subpart) → Got s sub found → Needs Fine sub → Needs (λ p. entries p ≤ max_pieces) sub → Holds s k found
@@ -181,7 +175,7 @@ module _ {bytes t s rs : List ℕ} {fr : declared.Frame} {row : Kinded} {sum : �
         let f = subst (AimIs (module_of bytes t) (frame_of s rs fr) (o 0) (context_at (read s rs) fr.at) u) h d.by in
         rw statement_is (record { by = λ call block rest g. record { by = sym (then_halt _ (sym (f (state_of t fr.function.0 fr.at (read s rs) rest visits) refl))) } })
 
-    pub atomic_loads : Loading bytes t u rs fr (o 2)
+    pub atomic_loads : Loading bytes t u rs fr (option_of (o 2))
     atomic_loads = record { sum = sum; ready = after; below = uses.2 }
 
     abbrev records : Records
@@ -235,24 +229,13 @@ module _ {bytes t s rs : List ℕ} {fr : declared.Frame} {row : Kinded} {sum : �
       pub atomic_begins : Open bytes t u us2 fr (Ok (record { visits = visits; sum = sum }))
       atomic_begins = begins ready2
 
-      pub atomic_below : MaybeBelow n (option_of (aside_field load (o 2))) × MaybeBelow n (option_of (aside_field found (o 1)))
-      atomic_below = (aside_below n load (o 2) uses.2, aside_below n found (o 1) (there_maybe n (o 1) uses.1))
-
-      value_there : o 1 ≡ absent → ⊥
-      value_there z = let l = uses.1 in omega (arith, few a)
-
-      result_there : (i : ℕ) → load ≡ Some i → o 2 ≡ absent → ⊥
-      unfolding record_of option_of
-      result_there i e z =
-          let g = subst (Got u load_sub) e loaded in
-          let w : gone ≡ there (part u i) = rw (eq-eqb (o 2) absent z) at g.1 in
-          let b : ◌≡◌ {A = ℕ} 0 1 = cc in
-          omega arith
+      pub atomic_below : MaybeBelow n (aside_field load (option_of (o 2))) × MaybeBelow n (aside_field found (some (o 1)))
+      atomic_below = (aside_below n load (option_of (o 2)) uses.2, aside_below n found (some (o 1)) uses.1)
 
       pub atomic_asks : {w z : Result Tally Halt} {c : Bool} {r : Result Answer Halt} {s1 rs1 v vs : List ℕ}
-          → Asked bytes t u us2 fr (Ok (record { visits = visits; sum = sum })) (maybe_ask (module_of bytes t) fr.function.0 fr.held (option_of (aside_field load (o 2)))) layout.result w s1 rs1
-          → Asked bytes t s1 rs1 fr w (maybe_ask (module_of bytes t) fr.function.0 fr.held (option_of (aside_field found (o 1)))) layout.ask z v vs
-          → c ≡ some_field (aside_field load (o 2)) (aside_field found (o 1)) → r ≡ answer_of z c → Leaves bytes t s rs fr (statement_of row.kind o) visits r v vs
+          → Asked bytes t u us2 fr (Ok (record { visits = visits; sum = sum })) (maybe_ask (module_of bytes t) fr.function.0 fr.held (aside_field load (option_of (o 2)))) layout.result w s1 rs1
+          → Asked bytes t s1 rs1 fr w (maybe_ask (module_of bytes t) fr.function.0 fr.held (aside_field found (some (o 1)))) layout.ask z v vs
+          → c ≡ (is_some load || is_some found) → r ≡ answer_of z c → Leaves bytes t s rs fr (statement_of row.kind o) visits r v vs
       unfolding add_statement add_atomic leaf_req
       atomic_asks {w} {z} {c} {r} {s1} {rs1} {v} {vs} k l q e =
           let m = module_of bytes t in
@@ -266,11 +249,11 @@ module _ {bytes t s rs : List ℕ} {fr : declared.Frame} {row : Kinded} {sum : �
                 = aside_state ready1 layout.ask found hold_need rest visits ∙ aside_state after layout.result load hold_load rest visits ∙ ap (λ (ps : List PartReq). state_of t fr.function.0 fr.at ps rest visits) same in
                 ends StatementReq.Atomic c z
                 (apart_trans (others_apart (others_same refl same)) (apart_trans (aside_apart after layout.result load hold_load) (aside_apart ready1 layout.ask found hold_need)))
-                (rw (states, q ∙ some_is u load found load_sub need_sub (o 2) (o 1) loaded aimed.needs result_there value_there)
-                (ap (λ (x : Out (Unit {0})). x >> maybe_ask m fr.function.0 fr.held (option_of (aside_field found (o 1))) (part u (get_or us2 layout.ask 0)) >> λ left. went left (StatementReq.Atomic (is_there load_sub || is_there need_sub)))
-                (ask-result m frame u load load_sub (o 2) (part u (get_or us2 layout.result 0)) st loaded (means_kept u us1 layout.ask layout.result (omega arith) load found (means_put u rs layout.result atomic_first load)) result_there)
+                (rw (states, q, found_is u load load_sub loaded, found_is u found need_sub aimed.needs)
+                (ap (λ (x : Out (Unit {0})). x >> maybe_ask m fr.function.0 fr.held (aside_field found (some (o 1))) (part u (get_or us2 layout.ask 0)) >> λ left. went left (StatementReq.Atomic (is_there load_sub || is_there need_sub)))
+                (ask-result m frame u load load_sub (option_of (o 2)) (part u (get_or us2 layout.result 0)) st loaded (means_kept u us1 layout.ask layout.result (omega arith) load found (means_put u rs layout.result atomic_first load)))
                 ∙ ap (λ (x : Out (Unit {0})). x >> λ left. went left (StatementReq.Atomic (is_there load_sub || is_there need_sub)))
-                (next_same (ask_result m frame (option_of (o 2)) load_sub st) _ (ask_needed m frame (o 1) need_sub) (λ left. ask-value m frame u found need_sub (o 1) (part u (get_or us2 layout.ask 0)) left aimed.needs (means_put u us1 layout.ask atomic_second found) value_there))
+                (next_same (ask_result m frame (option_of (o 2)) load_sub st) _ (ask_needed m frame (o 1) need_sub) (λ left. ask-value m frame u found need_sub (o 1) (part u (get_or us2 layout.ask 0)) left aimed.needs (means_put u us1 layout.ask atomic_second found)))
                 ∙ sym (then_went _ (sym (aimed.is st refl)))))
                 (l.by u us2 rest _ ready2.memory (i ∙ sym totals) (k.by u us2 rest _ ready2.memory (i ∙ sym totals) (began rest ready2)));
           })

@@ -1,7 +1,6 @@
--- The leaves by kind: which arm each has, and the arms that ask nothing.
-use Prim.Native.Nat.{ℕ, ◌+◌, ◌-◌, ◌<◌, ◌≤◌}
+-- The arms that ask nothing, by kind.
+use Prim.Native.Nat.{ℕ, ◌+◌, ◌-◌, ◌<◌}
 use native.Mathlib.Omega.{arith}
-use native.Mathlib.Decide.{dec_lt, ℕ_discrete}
 use mathlib.Core.Path.{◌≡◌, refl, sym, subst}
 use mathlib.Core.Bool.{true, false}
 use mathlib.Core.List.{List}
@@ -19,10 +18,18 @@ use Rattle.state.specs.declared.frame.Frame.{Frame}
 use Rattle.state.specs.declared.answer.Halt.{Halt}
 use Rattle.state.specs.declared.answer.Answer.{Answer}
 use Rattle.statement.specs.Leaf.{Arm, Leaves}
-use Rattle.statement.specs.LeafKinds.{LeafKind, PlainKind}
-use Rattle.statement.specs.Fields.{StoreKind, plain, image}
-use Rattle.statement.specs.Rays.{RayKind, query, load, ballot, gather, collective}
 use Rattle.statement.proofs.Leaving.{kill_stays, control_stays, memory_stays, image_atomic_halts, break_leaves, continue_leaves}
+
+-- the barriers
+pub data BarrierKind (k : ℕ) : Type 0 where
+  control : k ≡ 9 → BarrierKind k
+  memory : k ≡ 10 → BarrierKind k
+
+-- the kinds that leave the block
+pub data LeavesKind (k : ℕ) : Type 0 where
+  breaks : k ≡ 5 → LeavesKind k
+  continues : k ≡ 6 → LeavesKind k
+  past_last : 20 < k → LeavesKind k
 
 other_breaks : (o : ℕ → ℕ) (j : ℕ) → statement_of (past 21 j) o ≡ Break
 unfolding statement_of
@@ -39,13 +46,10 @@ module _ {bytes t s rs : List ℕ} {fr : Frame} {row : Kinded} {sum : ℕ} (a : 
   unfolding statement_of
   plain_kill e = at_kind 8 e (kill_stays a.begun visits)
 
-  pub plain_control : row.kind ≡ 9 → As row.kind (Ok (record { tally = (record { visits = visits; sum = sum }); required = false })) rs
+  pub plain_barrier : BarrierKind row.kind → As row.kind (Ok (record { tally = (record { visits = visits; sum = sum }); required = false })) rs
   unfolding statement_of
-  plain_control e = at_kind 9 e (control_stays a.begun visits)
-
-  pub plain_memory : row.kind ≡ 10 → As row.kind (Ok (record { tally = (record { visits = visits; sum = sum }); required = false })) rs
-  unfolding statement_of
-  plain_memory e = at_kind 10 e (memory_stays a.begun visits)
+  plain_barrier (control e) = at_kind 9 e (control_stays a.begun visits)
+  plain_barrier (memory e) = at_kind 10 e (memory_stays a.begun visits)
 
   pub plain_image : row.kind ≡ 11 → As row.kind (Err (record { refusal = Panic; place = place.Statement fr.function fr.statement })) rs
   unfolding statement_of
@@ -66,68 +70,9 @@ module _ {bytes t s rs : List ℕ} {fr : Frame} {row : Kinded} {sum : ℕ} (a : 
     by_other : (j : ℕ) → As (past 21 j) gone_out us
     by_other j = rw (other_breaks (operand_at bytes row) j) (break_leaves a.begun visits e)
 
-    pub plain_leaves : PlainKind row.kind → (row.kind ≡ 8 → ⊥) → (row.kind ≡ 9 → ⊥) → (row.kind ≡ 10 → ⊥) → (row.kind ≡ 11 → ⊥) → As row.kind gone_out us
-    plain_leaves k a8 a9 a10 a11 =
-        elim (dec_lt 20 row.kind) [
-          | yes l ↦
-              let is : row.kind ≡ past 21 (row.kind - 21) = omega arith in
-              at_kind (past 21 (row.kind - 21)) is (by_other (row.kind - 21))
-          | no l ↦
-              elim (ℕ_discrete row.kind 5) [
-                | yes z ↦ at_kind 5 z by-break
-                | no n ↦ at_kind 6 (six row.kind k.low n k.no_return a8 a9 a10 a11 (below_12 l)) by-continue
-              ]
-        ]
-      where
-        below_12 : (20 < row.kind → ⊥) → row.kind < 12
-        below_12 l =
-            elim (dec_lt row.kind 12) [
-              | yes z ↦ z
-              | no z ↦
-                  let m : 12 ≤ row.kind = omega arith in
-                  absurd (l (k.late m))
-            ]
-
-        next : (n i : ℕ) → n ≤ i → (i ≡ n → ⊥) → n + 1 ≤ i
-        next n i l h = omega (arith, h)
-
-        six : (i : ℕ) → 5 ≤ i → (i ≡ 5 → ⊥) → (i ≡ 7 → ⊥) → (i ≡ 8 → ⊥) → (i ≡ 9 → ⊥) → (i ≡ 10 → ⊥) → (i ≡ 11 → ⊥) → i < 12 → i ≡ 6
-        six i low n5 n7 n8 n9 n10 n11 high =
-            elim (ℕ_discrete i 6) [
-              | yes z ↦ z
-              | no z ↦
-                  let m = next 11 i (next 10 i (next 9 i (next 8 i (next 7 i (next 6 i (next 5 i low n5) z) n7) n8) n9) n10) n11 in
-                  absurd (omega (arith, m, high))
-            ]
-
--- the groups
-module _ {k : ℕ} where
-  pub plain_low : LeafKind k → (k ≡ 7 → ⊥) → k < 12 → PlainKind k
-  plain_low h n l = record { low = h.low; no_return = n; late = λ m. absurd (omega arith) }
-
-  pub plain_high : 20 < k → PlainKind k
-  plain_high l = record { low = omega arith; no_return = λ z. omega arith; late = λ m. l }
-
-  pub ray_kind : 15 < k → k ≤ 20 → RayKind k
-  ray_kind l h =
-      elim (ℕ_discrete k 16) [
-        | yes z ↦ query z
-        | no n16 ↦
-            elim (ℕ_discrete k 17) [
-              | yes z ↦ load z
-              | no n17 ↦
-                  elim (ℕ_discrete k 18) [
-                    | yes z ↦ ballot z
-                    | no n18 ↦ elim (ℕ_discrete k 19) [ yes z ↦ gather z | no n19 ↦ collective (omega arith) ]
-                  ]
-            ]
-      ]
-
-  pub store_kind : LeafKind k → 12 ≤ k → k ≤ 15 → (k ≡ 13 → ⊥) → StoreKind k
-  store_kind h l m n13 =
-      elim (ℕ_discrete k 12) [
-        | yes z ↦ plain z
-        | no n ↦
-            let n14 = h.no_call in
-            image (omega (arith, n13, n14))
-      ]
+    -- a break, a continue, and a number past the last
+    pub plain_leaves : LeavesKind row.kind → As row.kind gone_out us
+    plain_leaves (breaks e) = at_kind 5 e by-break
+    plain_leaves (continues e) = at_kind 6 e by-continue
+    plain_leaves (past_last l) =
+        at_kind (past 21 (row.kind - 21)) (omega arith) (by_other (row.kind - 21))

@@ -1,25 +1,20 @@
 -- The fields of a store, asked one after the other, and that the arm is the definition's: for both kinds at once, by what they have in common.
-use Prim.Native.Nat.{ℕ, ◌<◌, ◌≤◌}
-use native.Mathlib.Omega.{arith}
+use Prim.Native.Nat.{ℕ}
 use mathlib.Core.Path.{◌≡◌, refl, sym, ap, subst, ◌∙◌}
-use mathlib.Core.Bool.{Bool, true, false, cond}
+use mathlib.Core.Bool.{Bool, true, false}
 use mathlib.Core.List.{List}
-use mathlib.Core.Option.{some, none as nothing}
-use lib.Dec.{eqb}
+use mathlib.Core.Option.{Option, some, none as nothing}
 use lib.ListN.{length, get_or}
-use borrow.Author.Tests.{ne_eqb, eq-eqb}
+use borrow.Author.Tests.{ne_eqb}
 use Rattle.std.specs.Prelude.{Result, Ok, Err}
-use Rattle.field.specs.Limits.{absent, max_expressions}
-use Rattle.part.specs.PartReq.{PartReq, all, exist}
+use Rattle.part.specs.PartReq.{all, exist}
 use Rattle.part.specs.Store.{part}
 use Rattle.module.specs.Module.{Module, Statement}
 use Rattle.module.specs.Decode.{option_of, statement_of}
 use Rattle.module.specs.Tables.{module_of}
 use Rattle.access.specs.Access.{operand_at}
 use Rattle.access.specs.declared.kinded.Kinded.{Kinded}
-use Rattle.valid.specs.Valid.{MaybeBelow, UsesBelow}
-use Rattle.sound.proofs.There.{function_valid}
-use Rattle.sound.proofs.Walks.{module_valid}
+use Rattle.valid.specs.Valid.{UsesBelow}
 use Rattle.walk.specs.State.{State, Out, went, Walk, ◌>>◌, ◌>>=◌}
 use Rattle.walk.specs.Resolve.{function_at}
 use Rattle.walk.specs.Expression.{add_expression}
@@ -35,37 +30,19 @@ use Rattle.state.specs.declared.answer.Halt.{Halt}
 use Rattle.state.specs.declared.answer.Tally.{Tally}
 use Rattle.state.specs.declared.answer.Answer.{Answer}
 use Rattle.statement.specs.Leaf.{leaf_req, Arm, Leaves}
-use Rattle.statement.specs.Asks.{Open, Asked, maybe_ask, answer_of}
+use Rattle.statement.specs.Asks.{Asked, maybe_ask, answer_of}
 use Rattle.statement.specs.Aim.{Aiming}
 use Rattle.statement.specs.Stores.{StoreIs, Stores}
 use Rattle.statement.specs.Fields.{StoreKind, plain, image, Fields, store_fields, FieldsBelow, Fielding, Fielded}
-use Rattle.statement.proofs.Asking.{begins, began, ends, optional_is}
+use Rattle.statement.proofs.Asking.{began, ends, optional_is}
 use Rattle.statement.proofs.Uses.{arm_uses}
-
--- an expression that is there is not absent
-pub there_maybe : (n e : ℕ) → e < n → MaybeBelow n (option_of e)
-unfolding option_of
-there_maybe n e l = go (eqb e absent)
-  where
-    go : (b : Bool) → MaybeBelow n (cond b nothing (some e))
-    go true = tt
-    go false = l
-
-pub there_asked : (m : Module) (f held n e : ℕ) (p : PartReq) (st : State) → e < n → n ≤ max_expressions → maybe_ask m f held (option_of e) p st ≡ add_expression m f held e p st
-unfolding option_of maybe_ask
-there_asked m f held n e p st l h =
-    let ne : e ≡ absent → ⊥ = λ z. omega arith in
-    rw (ne_eqb e absent ne)
 
 -- the four asks
 module _ {bytes t s rs : List ℕ} {fr : declared.Frame} {x : Fields} {sum : ℕ} (q : Fielding bytes t s rs fr x sum) (visits : ℕ) where
-  pub fields_begin : Open bytes t s rs fr (Ok (record { visits = visits; sum = sum }))
-  fields_begin = begins q.ready
-
   pub fields_asked : {a b c d : Result Tally Halt} {s1 rs1 s2 rs2 s3 rs3 u us : List ℕ}
       → Asked bytes t s rs fr (Ok (record { visits = visits; sum = sum })) (add_expression (module_of bytes t) fr.function.0 fr.held x.pointer) layout.exist_slot a s1 rs1
-      → Asked bytes t s1 rs1 fr a (maybe_ask (module_of bytes t) fr.function.0 fr.held (option_of x.coordinate)) layout.all_slot b s2 rs2
-      → Asked bytes t s2 rs2 fr b (maybe_ask (module_of bytes t) fr.function.0 fr.held (option_of x.index)) layout.exist_slot c s3 rs3
+      → Asked bytes t s1 rs1 fr a (maybe_ask (module_of bytes t) fr.function.0 fr.held x.coordinate) layout.all_slot b s2 rs2
+      → Asked bytes t s2 rs2 fr b (maybe_ask (module_of bytes t) fr.function.0 fr.held x.index) layout.exist_slot c s3 rs3
       → Asked bytes t s3 rs3 fr c (add_expression (module_of bytes t) fr.function.0 fr.held x.value) layout.ask d u us
       → Fielded bytes t s rs fr x visits d u us
   fields_asked k l m n = record {
@@ -77,74 +54,61 @@ module _ {bytes t s rs : List ℕ} {fr : declared.Frame} {x : Fields} {sum : ℕ
   }
 
 -- the fields as they are read
-pub image_fields : (k : ℕ) (o : ℕ → ℕ) {a b c d : ℕ} → k ≡ 15 → a ≡ o 0 → b ≡ o 1 → c ≡ o 2 → d ≡ o 3
-    → ◌≡◌ {A = Fields} (record { pointer = a; coordinate = b; index = c; value = d }) (store_fields k o)
+pub image_fields : (o : ℕ → ℕ) {k a b d : ℕ} {c : Option ℕ} → k ≡ 15 → a ≡ o 0 → b ≡ o 1 → c ≡ option_of (o 2) → d ≡ o 3
+    → ◌≡◌ {A = Fields} (record { pointer = a; coordinate = some b; index = c; value = d }) (store_fields k o)
 unfolding store_fields
-image_fields k o e p q r z = rw (eq-eqb k 15 e, p, q, r, z)
+image_fields o e p q r z = rw (e, p, q, r, z)
 
-pub plain_fields : (k : ℕ) (o : ℕ → ℕ) {a b : ℕ} → (k ≡ 15 → ⊥) → a ≡ o 0 → b ≡ o 1
-    → ◌≡◌ {A = Fields} (record { pointer = a; coordinate = absent; index = absent; value = b }) (store_fields k o)
+pub plain_fields : (o : ℕ → ℕ) {k a b : ℕ} → (k ≡ 15 → ⊥) → a ≡ o 0 → b ≡ o 1
+    → ◌≡◌ {A = Fields} (record { pointer = a; coordinate = nothing; index = nothing; value = b }) (store_fields k o)
 unfolding store_fields
-plain_fields k o e p q = rw (ne_eqb k 15 e, p, q)
+plain_fields o {k} e p q = rw (ne_eqb k 15 e, p, q)
 
 -- what the arm of x has in common with a plain store: its fields, what is asked between pointer and value, and what is said of it
 record AsStore (m : Module) (fr : Frame) (x : Statement) (y : Fields) : Type 0 where
   accessors : Walk (Unit {0})
-  between : (st : State) → (maybe_ask m fr.function fr.held (option_of y.coordinate) all st >> maybe_ask m fr.function fr.held (option_of y.index) exist) ≡ accessors st
+  between : (st : State) → (maybe_ask m fr.function fr.held y.coordinate all st >> maybe_ask m fr.function fr.held y.index exist) ≡ accessors st
   is : (call : FunctionWalk) (block : BlockWalk) (st : State) → (store m fr y.pointer accessors y.value st >>= λ left b. went left (leaf_req x b)) ≡ add_statement m call block fr x st
 
 plain_store : (m : Module) (fr : Frame) (o : ℕ → ℕ) → AsStore m fr (statement_of 12 o) (store_fields 12 o)
-unfolding statement_of store_fields add_statement leaf_req maybe_ask option_of
+unfolding statement_of store_fields add_statement leaf_req maybe_ask
 plain_store m fr o = record { accessors = λ asked. went asked tt; between = λ st. refl; is = λ call block st. refl }
 
-image_store : (m : Module) (fr : Frame) (o : ℕ → ℕ) (n : ℕ) → n ≤ max_expressions → o 1 < n → AsStore m fr (statement_of 15 o) (store_fields 15 o)
-unfolding statement_of store_fields add_statement leaf_req
-image_store m fr o n few there = record {
+image_store : (m : Module) (fr : Frame) (o : ℕ → ℕ) → AsStore m fr (statement_of 15 o) (store_fields 15 o)
+unfolding statement_of store_fields add_statement leaf_req maybe_ask
+image_store m fr o = record {
   accessors = λ asked. ask m fr (o 1) all asked >> ask_optional m fr (option_of (o 2)) exist;
   between = λ st.
-      ap (λ (x : Out (Unit {0})). x >> maybe_ask m fr.function fr.held (option_of (o 2)) exist) (there_asked m fr.function fr.held n (o 1) all st there few)
-      ∙ next_same (ask m fr (o 1) all st) _ _ (λ left. optional_is fr m (option_of (o 2)) exist left);
+      next_same (ask m fr (o 1) all st) _ _ (λ left. optional_is fr m (option_of (o 2)) exist left);
   is = λ call block st. refl;
 }
 
 plain_below : (o : ℕ → ℕ) (n : ℕ) (es : List Bool) → UsesBelow n es (statement_of 12 o) → FieldsBelow n (store_fields 12 o)
-unfolding statement_of store_fields option_of
+unfolding statement_of store_fields
 plain_below o n es uses = record { pointer = uses.0; coordinate = tt; index = tt; value = uses.1 }
 
 image_below : (o : ℕ → ℕ) (n : ℕ) (es : List Bool) → UsesBelow n es (statement_of 15 o) → FieldsBelow n (store_fields 15 o)
 unfolding statement_of store_fields
-image_below o n es uses = record { pointer = uses.0; coordinate = there_maybe n (o 1) uses.1; index = uses.2; value = uses.3 }
+image_below o n es uses = record { pointer = uses.0; coordinate = uses.1; index = uses.2; value = uses.3 }
 
-image_there : (o : ℕ → ℕ) (n : ℕ) (es : List Bool) → UsesBelow n es (statement_of 15 o) → o 1 < n
-unfolding statement_of
-image_there o n es uses = uses.1
+module _ (o : ℕ → ℕ) {k : ℕ} where
+  as_store : (m : Module) (fr : Frame) → StoreKind k → AsStore m fr (statement_of k o) (store_fields k o)
+  as_store m fr (plain e) = rw e (plain_store m fr o)
+  as_store m fr (image e) = rw e (image_store m fr o)
 
-module _ (o : ℕ → ℕ) (n : ℕ) (es : List Bool) (k : ℕ) where
-  uses_at : (j : ℕ) → k ≡ j → UsesBelow n es (statement_of k o) → UsesBelow n es (statement_of j o)
-  uses_at j e uses = subst (λ (i : ℕ). UsesBelow n es (statement_of i o)) e uses
-
-  as_store : (m : Module) (fr : Frame) → StoreKind k → n ≤ max_expressions → UsesBelow n es (statement_of k o) → AsStore m fr (statement_of k o) (store_fields k o)
-  as_store m fr (plain e) few uses = subst (λ (i : ℕ). AsStore m fr (statement_of i o) (store_fields i o)) (sym e) (plain_store m fr o)
-  as_store m fr (image e) few uses =
-      subst (λ (i : ℕ). AsStore m fr (statement_of i o) (store_fields i o)) (sym e) (image_store m fr o n few (image_there o n es (uses_at 15 e uses)))
-
-  fields_below : StoreKind k → UsesBelow n es (statement_of k o) → FieldsBelow n (store_fields k o)
-  fields_below (plain e) uses = subst (λ (i : ℕ). FieldsBelow n (store_fields i o)) (sym e) (plain_below o n es (uses_at 12 e uses))
-  fields_below (image e) uses = subst (λ (i : ℕ). FieldsBelow n (store_fields i o)) (sym e) (image_below o n es (uses_at 15 e uses))
-
-pub few : {bytes t s rs : List ℕ} {fr : declared.Frame} {row : Kinded} {sum : ℕ} → Arm bytes t s rs fr row sum → length (function_at (module_of bytes t) fr.function.0).expressions ≤ max_expressions
-few {bytes} {t} {s} {rs} {fr} a =
-    (function_valid (module_of bytes t) (module_valid bytes (module_of bytes t) a.begun.ready.was_read.module_is) fr.function.0 a.begun.ready.function).parts.few_expressions
+  fields_below : (n : ℕ) (es : List Bool) → StoreKind k → UsesBelow n es (statement_of k o) → FieldsBelow n (store_fields k o)
+  fields_below n es (plain e) uses = rw e (plain_below o n es (rw e at uses))
+  fields_below n es (image e) uses = rw e (image_below o n es (rw e at uses))
 
 module _ {bytes t s rs : List ℕ} {fr : declared.Frame} {row : Kinded} {sum : ℕ} (a : Arm bytes t s rs fr row sum) (kind : StoreKind row.kind) (visits : ℕ) {x : Fields} (fields : x ≡ store_fields row.kind (operand_at bytes row)) where
   below : FieldsBelow (length (function_at (module_of bytes t) fr.function.0).expressions) x
-  below = rw fields (fields_below (operand_at bytes row) _ _ row.kind kind (arm_uses a _ refl))
+  below = rw fields (fields_below (operand_at bytes row) _ _ kind (arm_uses a _ refl))
 
   pub store_aims : Aiming bytes t s rs fr x.pointer
   store_aims = record { sum = sum; begun = a.begun; there = below.pointer }
 
   as_plain : AsStore (module_of bytes t) (frame_of s rs fr) (statement_of row.kind (operand_at bytes row)) x
-  as_plain = rw fields (as_store (operand_at bytes row) _ _ row.kind (module_of bytes t) (frame_of s rs fr) kind (few a) (arm_uses a _ refl))
+  as_plain = rw fields (as_store (operand_at bytes row) (module_of bytes t) (frame_of s rs fr) kind)
 
   module _ {need : Result Bool Halt} {u us : List ℕ} (d : Stores bytes t s rs fr x.pointer need u us) where
     pub store_refuses : {stop : Halt} → need ≡ Err stop

@@ -26,9 +26,6 @@ module _ {bytes t s rs : List ℕ} {fr : Frame} {sum : ℕ} (b : Begun bytes t s
   base_inside : fr.base + 4 ≤ length rs
   base_inside = omega (arith, b.base_below, b.ready.high)
 
-  pub leave_slots : (fr.base + 4 ≤ length rs) × (fr.at + 4 ≤ length rs)
-  leave_slots = (base_inside, b.ready.high)
-
   -- nothing is done
   stays : (x : Statement) (r : Bool) → ((call : FunctionWalk) (block : BlockWalk) (st : State) → went st (leaf_req x r) ≡ add_statement (module_of bytes t) call block (frame_of s rs fr) x st)
       → Leaves bytes t s rs fr x visits (Ok (record { tally = (record { visits = visits; sum = sum }); required = r })) s rs

@@ -1,14 +1,14 @@
 -- The statements that are required where anything is needed of their target: their fields, and that the arm is the definition's, for all kinds at once by what
 -- they have in common.
-use Prim.Native.Nat.{ℕ, zero, suc, ◌+◌, ◌<◌, ◌≤◌}
+use Prim.Native.Nat.{ℕ, zero, suc, ◌+◌}
 use native.Mathlib.Omega.{arith}
 use mathlib.Core.Path.{◌≡◌, refl, sym, ap, subst, ◌∙◌}
 use mathlib.Core.Bool.{Bool, true, false}
 use mathlib.Core.List.{List}
+use mathlib.Core.Option.{Option as Optional, some, none as nothing}
 use lib.ListN.{length, get_or}
-use borrow.Author.Tests.{ne_eqb, eq-eqb}
+use borrow.Author.Tests.{ne_eqb}
 use Rattle.std.specs.Prelude.{Option, Some, None, Result, Ok, Err}
-use Rattle.field.specs.Limits.{absent, max_expressions}
 use Rattle.part.specs.PartReq.{PartReq, all, Subpart, gone, there}
 use Rattle.part.specs.Store.{part}
 use Rattle.part.specs.Found.{Got}
@@ -44,46 +44,45 @@ use Rattle.statement.specs.declared.aim.Aim.{Aim}
 use Rattle.statement.proofs.Asking.{begins, began, ends, optional_is}
 use Rattle.statement.proofs.Aiming.{kept_ready}
 use Rattle.statement.proofs.Uses.{arm_uses}
-use Rattle.statement.proofs.Fields.{there_maybe, there_asked, few}
 
 -- the fields as they are read
-module _ (o : ℕ → ℕ) {a b : ℕ} (p : a ≡ o 0) (q : b ≡ o 1) where
-  pub broadcast_fields : {c d : ℕ} → a ≡ 1 → c ≡ o 2 → d ≡ o 3 → ◌≡◌ {A = Ray} (record { target = d; first = b; second = c }) (gather_fields (o 0) o)
+module _ (o : ℕ → ℕ) {a b c : ℕ} (p : a ≡ o 0) (q : b ≡ o 1) (r : c ≡ o 2) where
+  pub broadcast_fields : {d : ℕ} → a ≡ 1 → d ≡ o 3 → ◌≡◌ {A = Ray} (record { target = d; first = some b; second = some c }) (gather_fields (o 0) o)
   unfolding gather_fields
-  broadcast_fields e r z = rw (eq-eqb (o 0) 1 (sym p ∙ e), q, r, z)
+  broadcast_fields e z = rw (sym p, e, q, r, z)
 
-  pub first-fields : {c : ℕ} → (a ≡ 1 → ⊥) → c ≡ o 2 → ◌≡◌ {A = Ray} (record { target = c; first = absent; second = b }) (gather_fields (o 0) o)
+  pub first-fields : (a ≡ 1 → ⊥) → ◌≡◌ {A = Ray} (record { target = c; first = nothing; second = some b }) (gather_fields (o 0) o)
   unfolding gather_fields
-  first-fields e r = rw (ne_eqb (o 0) 1 (λ z. e (p ∙ z)), q, r)
+  first-fields e = rw (ne_eqb (o 0) 1 (λ z. e (p ∙ z)), q, r)
 
-  module _ (k : ℕ) where
-    pub query_fields : k ≡ 16 → ◌≡◌ {A = Ray} (record { target = a; first = absent; second = absent }) (ray_fields k o)
-    unfolding ray_fields
-    query_fields e = rw (eq-eqb k 16 e, p)
+module _ (o : ℕ → ℕ) {k a : ℕ} (p : a ≡ o 0) where
+  pub query_fields : k ≡ 16 → ◌≡◌ {A = Ray} (record { target = a; first = nothing; second = nothing }) (ray_fields k o)
+  unfolding ray_fields
+  query_fields e = rw (e, p)
 
-    pub ballot_fields : (k ≡ 16 → ⊥) → k ≡ 18 → ◌≡◌ {A = Ray} (record { target = a; first = b; second = absent }) (ray_fields k o)
-    unfolding ray_fields
-    ballot_fields n e = rw (ne_eqb k 16 n, eq-eqb k 18 e, p, q)
+  pub ballot_fields : {x : Optional ℕ} → k ≡ 18 → x ≡ option_of (o 1) → ◌≡◌ {A = Ray} (record { target = a; first = x; second = nothing }) (ray_fields k o)
+  unfolding ray_fields
+  ballot_fields e q = rw (e, p, q)
 
-    pub other_fields : (k ≡ 16 → ⊥) → (k ≡ 18 → ⊥) → (k ≡ 19 → ⊥) → ◌≡◌ {A = Ray} (record { target = b; first = a; second = absent }) (ray_fields k o)
-    unfolding ray_fields
-    other_fields n i j = rw (ne_eqb k 16 n, ne_eqb k 18 i, ne_eqb k 19 j, p, q)
+  pub other_fields : {b : ℕ} → (k ≡ 16 → ⊥) → (k ≡ 18 → ⊥) → (k ≡ 19 → ⊥) → b ≡ o 1 → ◌≡◌ {A = Ray} (record { target = b; first = some a; second = nothing }) (ray_fields k o)
+  unfolding ray_fields
+  other_fields n i j q = rw (ne_eqb k 16 n, ne_eqb k 18 i, ne_eqb k 19 j, p, q)
 
-pub mode_fields : (o : ℕ → ℕ) (k : ℕ) {r : Ray} → (k ≡ 16 → ⊥) → (k ≡ 18 → ⊥) → k ≡ 19 → r ≡ gather_fields (o 0) o → r ≡ ray_fields k o
+pub mode_fields : (o : ℕ → ℕ) {k : ℕ} {r : Ray} → k ≡ 19 → r ≡ gather_fields (o 0) o → r ≡ ray_fields k o
 unfolding ray_fields
-mode_fields o k n i e h = rw (ne_eqb k 16 n, ne_eqb k 18 i, eq-eqb k 19 e) h
+mode_fields o e h = rw e h
 
 -- what the arms have in common: the target, what is asked, what is said, and that the fields are there
 record AsRay (m : Module) (fr : Frame) (n : ℕ) (x : Statement) (y : Ray) : Type 0 where
   asks : Walk (Unit {0})
-  between : (st : State) → (maybe_ask m fr.function fr.held (option_of y.first) all st >> maybe_ask m fr.function fr.held (option_of y.second) all) ≡ asks st
+  between : (st : State) → (maybe_ask m fr.function fr.held y.first all st >> maybe_ask m fr.function fr.held y.second all) ≡ asks st
   is : (call : FunctionWalk) (block : BlockWalk) (st : State) → ray m fr y.target asks st ≡ add_statement m call block fr x st
   said : (b : Bool) → leaf_req x b ≡ StatementReq.RayQuery b
   below : RayBelow n y
 
-module _ (m : Module) (fr : Frame) (n : ℕ) (es : List Bool) (few : n ≤ max_expressions) where
+module _ (m : Module) (fr : Frame) (n : ℕ) (es : List Bool) where
   as_query : (o : ℕ → ℕ) → UsesBelow n es (statement_of 16 o) → AsRay m fr n (statement_of 16 o) (ray_fields 16 o)
-  unfolding statement_of ray_fields add_statement leaf_req maybe_ask option_of
+  unfolding statement_of ray_fields add_statement leaf_req maybe_ask
   as_query o uses = record {
     asks = λ asked. went asked tt;
     between = λ st. refl;
@@ -93,31 +92,32 @@ module _ (m : Module) (fr : Frame) (n : ℕ) (es : List Bool) (few : n ≤ max_e
   }
 
   -- one expression and none
-  then_absent : (x : Out (Unit {0})) → (x >> maybe_ask m fr.function fr.held (option_of absent) all) ≡ x
-  unfolding maybe_ask option_of
+  then_absent : (x : Out (Unit {0})) → (x >> maybe_ask m fr.function fr.held nothing all) ≡ x
+  unfolding maybe_ask
   then_absent x = next_self x
 
-  one : (e : ℕ) (st : State) → e < n → (maybe_ask m fr.function fr.held (option_of e) all st >> maybe_ask m fr.function fr.held (option_of absent) all) ≡ ask m fr e all st
-  one e st l = then_absent (maybe_ask m fr.function fr.held (option_of e) all st) ∙ there_asked m fr.function fr.held n e all st l few
+  one : (e : ℕ) (st : State) → (maybe_ask m fr.function fr.held (some e) all st >> maybe_ask m fr.function fr.held nothing all) ≡ ask m fr e all st
+  unfolding maybe_ask
+  one e st = then_absent (ask m fr e all st)
 
   as_load : (o : ℕ → ℕ) → UsesBelow n es (statement_of 17 o) → AsRay m fr n (statement_of 17 o) (ray_fields 17 o)
   unfolding statement_of ray_fields add_statement leaf_req
   as_load o uses = record {
     asks = ask m fr (o 0) all;
-    between = λ st. one (o 0) st uses.0;
+    between = one (o 0);
     is = λ call block st. refl;
     said = λ b. refl;
-    below = record { target = uses.1; first = there_maybe n (o 0) uses.0; second = unfold option_of in tt };
+    below = record { target = uses.1; first = uses.0; second = tt };
   }
 
   as_collective : (o : ℕ → ℕ) → UsesBelow n es (statement_of 20 o) → AsRay m fr n (statement_of 20 o) (ray_fields 20 o)
   unfolding statement_of ray_fields add_statement leaf_req
   as_collective o uses = record {
     asks = ask m fr (o 0) all;
-    between = λ st. one (o 0) st uses.0;
+    between = one (o 0);
     is = λ call block st. refl;
     said = λ b. refl;
-    below = record { target = uses.1; first = there_maybe n (o 0) uses.0; second = unfold option_of in tt };
+    below = record { target = uses.1; first = uses.0; second = tt };
   }
 
   as_ballot : (o : ℕ → ℕ) → UsesBelow n es (statement_of 18 o) → AsRay m fr n (statement_of 18 o) (ray_fields 18 o)
@@ -127,7 +127,7 @@ module _ (m : Module) (fr : Frame) (n : ℕ) (es : List Bool) (few : n ≤ max_e
     between = λ st. then_absent (maybe_ask m fr.function fr.held (option_of (o 1)) all st) ∙ optional_is fr m (option_of (o 1)) all st;
     is = λ call block st. refl;
     said = λ b. refl;
-    below = record { target = uses.0; first = uses.1; second = unfold option_of in tt };
+    below = record { target = uses.0; first = uses.1; second = tt };
   }
 
   -- a gather, by its mode
@@ -135,28 +135,26 @@ module _ (m : Module) (fr : Frame) (n : ℕ) (es : List Bool) (few : n ≤ max_e
   gathered mode o = Rattle.module.specs.Module.SubgroupGather (mode_of mode (o 1)) (o (1 + get_or mode_handles mode 0)) (o (2 + get_or mode_handles mode 0))
 
   as_first : (mode : ℕ) (o : ℕ → ℕ) → mode_of mode (o 1) ≡ Rattle.module.specs.Module.BroadcastFirst → get_or mode_handles mode 0 ≡ 0 → (mode ≡ 1 → ⊥) → UsesBelow n es (gathered mode o) → AsRay m fr n (gathered mode o) (gather_fields mode o)
-  unfolding gather_fields add_statement ask_mode leaf_req maybe_ask option_of
+  unfolding gather_fields add_statement ask_mode leaf_req maybe_ask
   as_first mode o e h ne uses =
       let below : UsesBelow n es (Rattle.module.specs.Module.SubgroupGather Rattle.module.specs.Module.BroadcastFirst (o 1) (o 2)) = rw (e, h) at uses in
       rw (e, h, ne_eqb mode 1 ne)
       (record {
         asks = λ asked. ask_mode m fr Rattle.module.specs.Module.BroadcastFirst asked >> ask m fr (o 1) all;
-        between = λ st. there_asked m fr.function fr.held n (o 1) all st below.1 few;
+        between = λ st. refl;
         is = λ call block st. refl;
         said = λ b. refl;
-        below = record { target = below.2; first = tt; second = there_maybe n (o 1) below.1 };
+        below = record { target = below.2; first = tt; second = below.1 };
       })
 
   as_broadcast : (o : ℕ → ℕ) → UsesBelow n es (gathered 1 o) → AsRay m fr n (gathered 1 o) (gather_fields 1 o)
-  unfolding mode_of mode_handles gather_fields add_statement ask_mode leaf_req
+  unfolding mode_of mode_handles gather_fields add_statement ask_mode leaf_req maybe_ask
   as_broadcast o uses = record {
     asks = λ asked. ask_mode m fr (Rattle.module.specs.Module.Broadcast (o 1)) asked >> ask m fr (o 2) all;
-    between = λ st.
-        ap (λ (x : Out (Unit {0})). x >> maybe_ask m fr.function fr.held (option_of (o 2)) all) (there_asked m fr.function fr.held n (o 1) all st uses.0 few)
-        ∙ next_same (ask m fr (o 1) all st) _ _ (λ left. there_asked m fr.function fr.held n (o 2) all left uses.1 few);
+    between = λ st. next_same (ask m fr (o 1) all st) _ _ (λ left. refl);
     is = λ call block st. refl;
     said = λ b. refl;
-    below = record { target = uses.2; first = there_maybe n (o 1) uses.0; second = there_maybe n (o 2) uses.1 };
+    below = record { target = uses.2; first = uses.0; second = uses.1 };
   }
 
   by_mode : (mode : ℕ) (o : ℕ → ℕ) → UsesBelow n es (gathered mode o) → AsRay m fr n (gathered mode o) (gather_fields mode o)
@@ -169,17 +167,11 @@ module _ (m : Module) (fr : Frame) (n : ℕ) (es : List Bool) (few : n ≤ max_e
   as_gather o uses = by_mode (o 0) o uses
 
   as_ray : (o : ℕ → ℕ) (k : ℕ) → RayKind k → UsesBelow n es (statement_of k o) → AsRay m fr n (statement_of k o) (ray_fields k o)
-  as_ray o k kind uses = go kind
-    where
-      by : (j : ℕ) → k ≡ j → (UsesBelow n es (statement_of j o) → AsRay m fr n (statement_of j o) (ray_fields j o)) → AsRay m fr n (statement_of k o) (ray_fields k o)
-      by j e h = subst (λ (i : ℕ). AsRay m fr n (statement_of i o) (ray_fields i o)) (sym e) (h (subst (λ (i : ℕ). UsesBelow n es (statement_of i o)) e uses))
-
-      go : RayKind k → AsRay m fr n (statement_of k o) (ray_fields k o)
-      go (query e) = by 16 e (as_query o)
-      go (load e) = by 17 e (as_load o)
-      go (ballot e) = by 18 e (as_ballot o)
-      go (gather e) = by 19 e (as_gather o)
-      go (collective e) = by 20 e (as_collective o)
+  as_ray o k (query e) uses = rw e (as_query o (rw e at uses))
+  as_ray o k (load e) uses = rw e (as_load o (rw e at uses))
+  as_ray o k (ballot e) uses = rw e (as_ballot o (rw e at uses))
+  as_ray o k (gather e) uses = rw e (as_gather o (rw e at uses))
+  as_ray o k (collective e) uses = rw e (as_collective o (rw e at uses))
 
 -- the definition, once the target is known
 module _ (m : Module) (fr : Frame) (e : ExpressionHandle) (asks : Walk (Unit {0})) (st : State) where
@@ -203,7 +195,10 @@ module _ {bytes t s rs : List ℕ} {fr : declared.Frame} {row : Kinded} {sum : �
   statement = statement_of row.kind (operand_at bytes row)
 
   as_one : AsRay (module_of bytes t) (frame_of s rs fr) (length (function_at (module_of bytes t) fr.function.0).expressions) statement x
-  as_one = rw fields (as_ray (module_of bytes t) (frame_of s rs fr) _ _ (few a) (operand_at bytes row) row.kind kind (arm_uses a _ refl))
+  as_one = rw fields (as_ray (module_of bytes t) (frame_of s rs fr) _ _ (operand_at bytes row) row.kind kind (arm_uses a _ refl))
+
+  pub ray_below : RayBelow (length (function_at (module_of bytes t) fr.function.0).expressions) x
+  ray_below = as_one.below
 
   pub ray_aims : Aiming bytes t s rs fr x.target
   ray_aims = record { sum = sum; begun = a.begun; there = as_one.below.target }
@@ -248,12 +243,9 @@ module _ {bytes t s rs : List ℕ} {fr : declared.Frame} {row : Kinded} {sum : �
       pub ray_begins : Open bytes t u rs fr (Ok (record { visits = visits; sum = sum }))
       ray_begins = begins after
 
-      pub ray_below : RayBelow (length (function_at (module_of bytes t) fr.function.0).expressions) x
-      ray_below = as_one.below
-
       pub ray_asks : {n : ℕ} → found ≡ Some n → {w z : Result Tally Halt} {r : Result Answer Halt} {s1 rs1 v vs : List ℕ}
-          → Asked bytes t u rs fr (Ok (record { visits = visits; sum = sum })) (maybe_ask (module_of bytes t) fr.function.0 fr.held (option_of x.first)) layout.all_slot w s1 rs1
-          → Asked bytes t s1 rs1 fr w (maybe_ask (module_of bytes t) fr.function.0 fr.held (option_of x.second)) layout.all_slot z v vs
+          → Asked bytes t u rs fr (Ok (record { visits = visits; sum = sum })) (maybe_ask (module_of bytes t) fr.function.0 fr.held x.first) layout.all_slot w s1 rs1
+          → Asked bytes t s1 rs1 fr w (maybe_ask (module_of bytes t) fr.function.0 fr.held x.second) layout.all_slot z v vs
           → r ≡ answer_of z true → Leaves bytes t s rs fr statement visits r v vs
       ray_asks {n} g {w} {z} {r} {s1} {rs1} {v} {vs} k l e =
           let needed = subst (Got u need) g aimed.needs in

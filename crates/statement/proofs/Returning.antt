@@ -6,11 +6,9 @@ use mathlib.Core.Bool.{true}
 use mathlib.Core.List.{List}
 use mathlib.Core.Option.{Option, some, none as nothing}
 use lib.ListN.{length, get_or, set}
-use borrow.Author.Tests.{eq-eqb, ne_eqb}
 use Rattle.std.specs.Prelude.{Result, Ok}
-use Rattle.field.specs.Limits.{absent}
 use Rattle.part.specs.PartReq.{PartReq, entries, Subpart, gone, there, get_subpart, spine}
-use Rattle.part.specs.Store.{top, part, Good}
+use Rattle.part.specs.Store.{top, part}
 use Rattle.module.specs.Module.{Return}
 use Rattle.module.specs.Decode.{option_of, statement_of}
 use Rattle.module.specs.Tables.{module_of}
@@ -38,7 +36,7 @@ use Rattle.state.specs.declared.answer.Answer.{Answer}
 use Rattle.statement.specs.Leaf.{leaf_req, Arm, Leaves}
 use Rattle.statement.specs.Asks.{Open, Asked, answer_of}
 use Rattle.statement.proofs.Leaving.{leaves}
-use Rattle.statement.proofs.Asking.{below_there, begins, began, ends}
+use Rattle.statement.proofs.Asking.{begins, began, ends}
 use Rattle.statement.proofs.Holding.{Holdable, hold_ready, hold_state, hold_totals, hold_apart, hold_part}
 use Rattle.statement.proofs.Uses.{arm_uses, sub_few}
 
@@ -67,15 +65,12 @@ module _ {bytes t s rs : List ℕ} {fr : Frame} {row : Kinded} {sum : ℕ} (a : 
   retval-is : (context_at (read s rs) fr.at).retval ≡ part s (get_or rs (fr.at + 3) 0)
   retval-is = read_at s rs (fr.at + 3) retval_inside
 
-  pub return_get : Good s × (get_or rs (fr.at + 3) 0 < top s)
-  return_get = (a.begun.ready.memory.good, a.begun.ready.memory.below (fr.at + 3) retval_inside)
-
   -- nothing is asked
   module _ {us : List ℕ} (e : us ≡ four_set rs fr.at (get_or rs fr.base 0) (get_or rs (fr.base + 1) 0) (get_or rs (fr.base + 2) 0) (get_or rs (fr.base + 3) 0)) where
-    pub return_absent_leaves : value ≡ absent → Leaves bytes t s rs fr (statement_of row.kind (operand_at bytes row)) visits (Ok (record { tally = (record { visits = visits; sum = sum }); required = fr.break_required })) s us
-    unfolding add_statement leaf_req option_of
+    pub return_absent_leaves : option_of value ≡ nothing → Leaves bytes t s rs fr (statement_of row.kind (operand_at bytes row)) visits (Ok (record { tally = (record { visits = visits; sum = sum }); required = fr.break_required })) s us
+    unfolding add_statement leaf_req
     return_absent_leaves h =
-        rw (statement_is, eq-eqb value absent h)
+        rw (statement_is, h)
         (leaves a.begun visits e (Return nothing) (λ call block rest. sym (return_absent (frame_of s rs fr) (module_of bytes t) _ _)))
 
     pub return_none_leaves : get_subpart (part s (get_or rs (fr.at + 3) 0)) (variable 0) ≡ gone → Leaves bytes t s rs fr (statement_of row.kind (operand_at bytes row)) visits (Ok (record { tally = (record { visits = visits; sum = sum }); required = fr.break_required })) s us
@@ -85,7 +80,7 @@ module _ {bytes t s rs : List ℕ} {fr : Frame} {row : Kinded} {sum : ℕ} (a : 
         (leaves a.begun visits e (Return (option_of value)) (λ call block rest. rw (retval-is, h) (sym (return_none (frame_of s rs fr) (module_of bytes t) _ (option_of value)))))
 
   -- p is asked
-  module _ {n : ℕ} (p : (n < top s) × (get_subpart (part s (get_or rs (fr.at + 3) 0)) (variable 0) ≡ there (part s n))) (there_is : value ≡ absent → ⊥) where
+  module _ {n : ℕ} (p : (n < top s) × (get_subpart (part s (get_or rs (fr.at + 3) 0)) (variable 0) ≡ there (part s n))) {v : ℕ} (there_is : option_of value ≡ some v) where
     fine : Fine (part s n)
     fine =
         subst (Needs Fine) (ap (λ (q : PartReq). get_subpart q (variable 0)) retval-is ∙ p.1)
@@ -108,18 +103,18 @@ module _ {bytes t s rs : List ℕ} {fr : Frame} {row : Kinded} {sum : ℕ} (a : 
         retval_few : entries (context_at (read s rs) fr.at).retval ≤ pieces (context_at (read s rs) fr.at)
         retval_few = unfold pieces in omega arith
 
-    pub return_there : value < length (function_at (module_of bytes t) fr.function.0).expressions
-    return_there = below_there _ value there_is (arm_uses a (Return (option_of value)) statement_is)
+    pub return_there : v < length (function_at (module_of bytes t) fr.function.0).expressions
+    return_there = rw there_is at (arm_uses a (Return (option_of value)) statement_is)
 
     pub return_begins : Open bytes t s (set rs ask n) fr (Ok (record { visits = visits; sum = sum }))
     return_begins = begins (hold_ready a.begun.ready holdable)
 
     pub return_asks : {r : Result Tally Halt} {b : Result Answer Halt} {u us : List ℕ}
-        → Asked bytes t s (set rs ask n) fr (Ok (record { visits = visits; sum = sum })) (add_expression (module_of bytes t) fr.function.0 fr.held value) ask r u us
+        → Asked bytes t s (set rs ask n) fr (Ok (record { visits = visits; sum = sum })) (add_expression (module_of bytes t) fr.function.0 fr.held v) ask r u us
         → b ≡ answer_of r true → Leaves bytes t s rs fr (statement_of row.kind (operand_at bytes row)) visits b u us
-    unfolding add_statement add_return leaf_req option_of
+    unfolding add_statement add_return leaf_req
     return_asks {r} {b} {u} {us} x e =
-        rw (statement_is, ne_eqb value absent there_is, e)
+        rw (statement_is, there_is, e)
         (record {
           by = λ call block rest h.
               ends StatementReq.Return true r (hold_apart a.begun.ready holdable)

@@ -14,10 +14,10 @@ use Rattle.context.specs.Types.{types_of}
 use Rattle.context.specs.RequiredContext.{VarRef, remove_var}
 use Rattle.context.specs.Contexts.{variable_of}
 use Rattle.sound.proofs.Walks.{module_sound}
-use Rattle.walk.specs.State.{State, Place, Out, went, halt, Walk, ◌>>◌}
+use Rattle.walk.specs.State.{State, Out, went, Walk, ◌>>◌}
 use Rattle.walk.specs.Resolve.{function_at, store_required}
 use Rattle.walk.specs.Statement.{Frame, ask, target, taken_out, add_store, store}
-use Rattle.walk.proofs.Bind.{then_went, then_halt, next_halt}
+use Rattle.walk.proofs.Bind.{then_went, next_halt}
 use Rattle.memory.specs.Memory.{read, context_at}
 use Rattle.memory.proofs.Slots.{kept_read}
 use Rattle.state.specs.State.{state_of}
@@ -46,16 +46,7 @@ module _ (m : Module) (fr : Frame) (e : ExpressionHandle) (accessors : Walk (Uni
   unfolding add_store
   store-part h = sym (known ∙ rw h)
 
-store-halts : (m : Module) (fr : Frame) (e : ExpressionHandle) (accessors : Walk (Unit {0})) (value : ExpressionHandle) (st : State) {n : ℕ} {p : Place} → halt n p ≡ target m fr e st
-    → halt n p ≡ store m fr e accessors value st
-store-halts m fr e accessors value st is = sym (then_halt (λ found t. add_store m fr e accessors value t.var t.part t.needed found) (sym is))
-
 module _ {bytes t s rs : List ℕ} {fr : declared.Frame} {e : ℕ} (q : Aiming bytes t s rs fr e) {a : Result Aim Halt} {u : List ℕ} (x : Aims bytes t s rs fr e a u) where
-  pub store_refused : {stop : Halt} → a ≡ Err stop → Stores bytes t s rs fr e (Err stop) u rs
-  store_refused h =
-      let f = subst (AimIs (module_of bytes t) (frame_of s rs fr) e (context_at (read s rs) fr.at) u) h x.by in
-      record { by = λ accessors value rest v. store-halts (module_of bytes t) (frame_of s rs fr) e accessors value (state_of t fr.function.0 fr.at (read s rs) rest v) (f (state_of t fr.function.0 fr.at (read s rs) rest v) refl) }
-
   module _ {y : resolve.Target} {found : Option ℕ} (h : a ≡ Ok (record { target = y; needed = found })) where
     pub aimed : Aimed (module_of bytes t) (frame_of s rs fr) e (context_at (read s rs) fr.at) u y found
     aimed = subst (AimIs (module_of bytes t) (frame_of s rs fr) e (context_at (read s rs) fr.at) u) h x.by

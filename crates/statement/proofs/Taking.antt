@@ -1,5 +1,5 @@
 -- Taking a target out of the context: what that asks of the memory, and that what is left is the definition's.
-use Prim.Native.Nat.{ℕ, ◌+◌, ◌*◌, ◌<◌, ◌≤◌}
+use Prim.Native.Nat.{ℕ, ◌+◌, ◌*◌, ◌≤◌}
 use native.Mathlib.Omega.{arith}
 use mathlib.Core.Path.{◌≡◌, refl, sym, ap, subst, ◌∙◌}
 use mathlib.Core.Bool.{Bool, true, false}
@@ -8,10 +8,9 @@ use lib.ListN.{length, set}
 use Rattle.std.specs.Prelude.{Ok, Err}
 use Rattle.field.specs.declared.refusal.Refusal.TheVariants.{Panic as Panics, PartLimit}
 use Rattle.part.specs.PartReq.{entries}
-use Rattle.part.specs.Store.{part, Good, Room}
-use Rattle.module.specs.File.{accepted, read_module}
+use Rattle.part.specs.Store.{part}
 use Rattle.module.specs.Tables.{module_of}
-use Rattle.context.specs.Types.{types_of, split_most}
+use Rattle.context.specs.Types.{split_most}
 use Rattle.context.specs.RequiredContext.{RequiredContext, RemovedContext, left_context, panic_context, pieces, over_context, remove_var, variable_type}
 use Rattle.context.specs.Contexts.{context_of, HasContext, variable_of, removed, HasRemoved, TookContext, take_room}
 use Rattle.context.specs.declared.required_context.RequiredContext.{RequiredContext as Pieces}
@@ -33,13 +32,12 @@ use Rattle.state.specs.Frame.{frame_of}
 use Rattle.state.specs.declared.answer.Place.TheVariants as place
 use Rattle.state.specs.declared.frame.Frame as declared
 use Rattle.state.proofs.Others.{others_totals, ready_fits, others_apart, apart_trans}
-use Rattle.target.specs.Target.{HasTarget}
 use Rattle.target.specs.declared.resolve.Target.{Target}
 use Rattle.memory.specs.Stretches.{pieces_at}
 use Rattle.statement.specs.Stores.{Taking, Takes}
 use Rattle.statement.proofs.Placed.{Placed, placed_state, placed_ready, placed_others}
-use Rattle.statement.proofs.Holding.{Holdable, hold_inside, hold_ready, hold_state, hold_totals, hold_apart, hold_part}
-use Rattle.statement.proofs.Aiming.{pieces_has, pieces_are}
+use Rattle.statement.proofs.Holding.{Holdable, hold_ready, hold_state, hold_totals, hold_apart, hold_part}
+use Rattle.statement.proofs.Aiming.{pieces_are}
 
 -- the definition
 module _ (fr : Frame) (st : State) where
@@ -69,10 +67,6 @@ module _ {bytes t types s rs : List ℕ} {fr : declared.Frame} {x : Target} {n :
     context_is : context_of s c ≡ before
     context_is = rw loaded (pieces_are q.ready.memory fr.at take_slots)
 
-    pub take_asks : (read_module bytes ≡ accepted (module_of bytes t)) × ((fr.function.0 < length (module_of bytes t).functions) × ((types_of types ≡ (module_of bytes t).types) × (Good s × ((HasContext s c × HasTarget (module_of bytes t) fr.function.0 s x) × Room s (take_room (context_of s c) (part s x.part))))))
-    take_asks =
-        (q.ready.was_read.module_is, (q.ready.function, (q.typed, (q.ready.memory.good, ((rw loaded (pieces_has q.ready.memory fr.at take_slots), q.has), rw context_is (omega (arith, q.roomy, q.few, q.short)))))))
-
     module _ {u : List ℕ} {r : Option Pieces} (d : TookContext s u (remove_var (module_of bytes t) (function_at (module_of bytes t) fr.function.0) (context_of s c) (variable_of x.var) (part s x.part)) (take_room (context_of s c) (part s x.part)) r) where
       is : removed u r ≡ taking
       is = rw context_is at d.is
@@ -85,9 +79,6 @@ module _ {bytes t types s rs : List ℕ} {fr : declared.Frame} {x : Target} {n :
       module _ {y : Pieces} (h : r ≡ Some y) where
         pub take_has : HasContext u y
         take_has = subst (HasRemoved u) h d.has
-
-        pub take_over : Good u × HasContext u y
-        take_over = (d.kept.good, take_has)
 
         left_is : left_context (context_of u y) ≡ taking
         left_is = rw h at is
@@ -127,9 +118,6 @@ module _ {bytes t types s rs : List ℕ} {fr : declared.Frame} {x : Target} {n :
             few = rw part_is (omega (arith, q.small));
             fine = rw part_is q.fine;
           }
-
-          pub take_inside : ask < length vs
-          take_inside = hold_inside (open_after q.sum q.ready) holdable
 
           pub take_done : {o : Bool} → o ≡ over_context (context_of u y) → o ≡ false → Takes bytes t s rs fr x n (Ok tt) u (set vs ask n)
           take_done i z = record {

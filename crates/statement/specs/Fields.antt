@@ -1,10 +1,12 @@
--- The fields that the arms of stores ask, by kind, as numbers: an expression that a kind does not have is absent.
+-- The fields that the arms of stores ask, by kind: an expression that a kind does not have is absent.
 use Rattle.std.specs.Prelude.{◌≡◌, cond, List, ℕ, ◌<◌, eqb, length, get_or, Result}
-use Rattle.field.specs.Limits.{absent}
+use Rattle.std.proofs.Math.Option.{Option, some, none as nothing}
 use Rattle.part.specs.PartReq.{all, exist}
 use Rattle.part.specs.Store.{part}
+use Rattle.module.specs.Module.{ExpressionHandle}
 use Rattle.module.specs.Decode.{option_of}
 use Rattle.module.specs.Tables.{module_of}
+use Rattle.access.specs.Access.{handle_in}
 use Rattle.valid.specs.Valid.{MaybeBelow}
 use Rattle.walk.specs.State.{◌>>◌, total_pieces}
 use Rattle.walk.specs.Resolve.{function_at}
@@ -24,26 +26,26 @@ pub data StoreKind (kind : ℕ) : Type 0 where
   plain : kind ≡ 12 → StoreKind kind
   image : kind ≡ 15 → StoreKind kind
 
--- the numbers of the fields
+-- the fields
 pub record Fields : Type 0 where
-  pub pointer : ℕ
-  pub coordinate : ℕ
-  pub index : ℕ
-  pub value : ℕ
+  pub pointer : ExpressionHandle
+  pub coordinate : Option ExpressionHandle
+  pub index : Option ExpressionHandle
+  pub value : ExpressionHandle
 
 abbrev pub fields_of : declared.Fields → Fields
-fields_of x = record { pointer = x.pointer.0; coordinate = x.coordinate.0; index = x.index.0; value = x.value.0 }
+fields_of x = record { pointer = x.pointer.0; coordinate = handle_in x.coordinate; index = handle_in x.index; value = x.value.0 }
 
 unfoldable pub store_fields : ℕ → (ℕ → ℕ) → Fields
 store_fields kind o =
-    cond (eqb kind 15) (record { pointer = o 0; coordinate = o 1; index = o 2; value = o 3 })
-    (record { pointer = o 0; coordinate = absent; index = absent; value = o 1 })
+    cond (eqb kind 15) (record { pointer = o 0; coordinate = some (o 1); index = option_of (o 2); value = o 3 })
+    (record { pointer = o 0; coordinate = nothing; index = nothing; value = o 1 })
 
 -- what they name is one of n expressions
 pub record FieldsBelow (n : ℕ) (x : Fields) : Type 0 where
   pub pointer : x.pointer < n
-  pub coordinate : MaybeBelow n (option_of x.coordinate)
-  pub index : MaybeBelow n (option_of x.index)
+  pub coordinate : MaybeBelow n x.coordinate
+  pub index : MaybeBelow n x.index
   pub value : x.value < n
 
 -- the function is open, and the fields are there
@@ -56,7 +58,7 @@ pub record Fielded (bytes t s rs : List ℕ) (fr : Frame) (x : Fields) (visits :
   pub by : (rest : Rest) → total_pieces rest.functions ≡ totals_sum (read s rs)
       → Goes bytes t s rs fr rest
       (add_expression (module_of bytes t) fr.function.0 fr.held x.pointer exist (state_of t fr.function.0 fr.at (read s rs) rest visits)
-      >> maybe_ask (module_of bytes t) fr.function.0 fr.held (option_of x.coordinate) all
-      >> maybe_ask (module_of bytes t) fr.function.0 fr.held (option_of x.index) exist
+      >> maybe_ask (module_of bytes t) fr.function.0 fr.held x.coordinate all
+      >> maybe_ask (module_of bytes t) fr.function.0 fr.held x.index exist
       >> add_expression (module_of bytes t) fr.function.0 fr.held x.value (part s (get_or rs layout.ask 0)))
       r u us

@@ -38,10 +38,7 @@ pub fn target_of(
                 return Err(fr.halt(Refusal::PartLimit));
             }
             let needed = store_required(cells, c, target);
-            Ok(Aim {
-                target: target,
-                needed: needed,
-            })
+            Ok(Aim { target, needed })
         }
         None => Err(fr.halt(Refusal::Panic)),
     }

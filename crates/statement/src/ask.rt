@@ -1,7 +1,7 @@
 // Asks, one after the other: each goes on where the walk so far went.
 ghost use Rattle.std.specs.Prelude.{◌≡◌, ◌<◌, ◌≤◌, length};
-ghost use Rattle.module.specs.Decode.{option_of};
 ghost use Rattle.module.specs.Tables.{module_of};
+ghost use Rattle.access.specs.Access.{handle_in};
 ghost use Rattle.valid.specs.Valid.{MaybeBelow};
 ghost use Rattle.walk.specs.Resolve.{function_at};
 ghost use Rattle.walk.specs.Expression.{add_expression};
@@ -10,7 +10,7 @@ ghost use Rattle.statement.specs.Asks.{Open, Asked, maybe_ask, answer_of};
 
 use expression::add::add_expression;
 use memory::want::want_of;
-use module::handles::{ExpressionHandle, NO_HANDLE};
+use module::handles::ExpressionHandle;
 use state::answer::{Answer, Answered, Walked};
 use state::frame::Frame;
 
@@ -32,19 +32,7 @@ pub fn then_ask(
     let tally = before?;
     let f = fr.function;
     let w = want_of(k);
-    add_expression(
-        bytes,
-        t,
-        cells,
-        slots,
-        f,
-        fr.at,
-        fr.held,
-        e,
-        w,
-        tally.visits,
-        tally.sum,
-    )
+    add_expression(bytes, t, cells, slots, f, fr.at, fr.held, e, w, tally)
 }
 
 // The same of an expression that may be absent.
@@ -55,17 +43,17 @@ pub fn then_maybe(
     slots: &mut [u32],
     fr: Frame,
     before: Walked,
-    e: ExpressionHandle,
+    e: Option<ExpressionHandle>,
     k: usize,
 ) -> Walked
     requires fact { Open bytes.now t.now cells.old slots.old fr before }
-    requires maybe_below { MaybeBelow (length (function_at (module_of bytes.now t.now) fr.function.0).expressions) (option_of e.0) × (k ≤ returned) }
-    ensures { Asked bytes.now t.now cells.old slots.old fr before (maybe_ask (module_of bytes.now t.now) fr.function.0 fr.held (option_of e.0)) k result cells.new slots.new }
+    requires maybe_below { MaybeBelow (length (function_at (module_of bytes.now t.now) fr.function.0).expressions) (handle_in e) × (k ≤ returned) }
+    ensures { Asked bytes.now t.now cells.old slots.old fr before (maybe_ask (module_of bytes.now t.now) fr.function.0 fr.held (handle_in e)) k result cells.new slots.new }
 {
-    if e.0 == NO_HANDLE {
-        return before;
+    match e {
+        None => before,
+        Some(there) => then_ask(bytes, t, cells, slots, fr, before, there, k),
     }
-    then_ask(bytes, t, cells, slots, fr, before, e, k)
 }
 
 // The walk with the answer b, where it went.
@@ -73,8 +61,5 @@ pub fn answer(walked: Walked, b: bool) -> Answered
     ensures { result ≡ answer_of walked b }
 {
     let tally = walked?;
-    Ok(Answer {
-        tally: tally,
-        required: b,
-    })
+    Ok(Answer { tally, required: b })
 }

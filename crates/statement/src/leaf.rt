@@ -5,67 +5,21 @@ ghost use Rattle.module.specs.Tables.{module_of};
 ghost use Rattle.access.specs.Access.{operand_at};
 ghost use Rattle.context.specs.Types.{types_of};
 ghost use Rattle.statement.specs.Leaf.{Arm, Leaves};
-ghost use Rattle.statement.specs.LeafKinds.{LeafKind, PlainKind};
+ghost use Rattle.statement.specs.LeafKinds.{LeafKind};
 
+use crate::ask::answer;
 use crate::atomic::add_atomic;
 use crate::leave::leave;
 use crate::rays::add_ray;
 use crate::returns::add_return;
 use crate::stores::add_store;
 use access::kinded::Kinded;
-use access::kinds::{
-    ATOMIC, CONTROL_BARRIER, IMAGE_ATOMIC, IMAGE_STORE, KILL, MEMORY_BARRIER, RETURN, STORE,
-    SUBGROUP_COLLECTIVE_OPERATION,
-};
 use field::refusal::Refusal;
-use state::answer::{Answer, Answered, Tally};
+use module::kinds::StatementKind;
+use state::answer::{Answered, Tally};
 use state::frame::Frame;
 
-// The arms that ask nothing. An image's atomic is 13.
-fn add_plain(
-    bytes: &[u8],
-    t: &[u32],
-    cells: &[u32],
-    slots: &mut [u32],
-    fr: Frame,
-    row: Kinded,
-    visits: usize,
-    sum: usize,
-) -> Answered
-    requires arm { Arm bytes.now t.now cells.now slots.old fr row sum }
-    requires plain_kind { PlainKind row.kind }
-    ensures { Leaves bytes.now t.now cells.now slots.old fr (statement_of row.kind (operand_at bytes.now row)) visits result cells.now slots.new }
-{
-    let kind = row.kind;
-    let tally = Tally {
-        visits: visits,
-        sum: sum,
-    };
-    if kind == KILL {
-        return Ok(Answer {
-            tally: tally,
-            required: true,
-        });
-    }
-    if kind == CONTROL_BARRIER {
-        return Ok(Answer {
-            tally: tally,
-            required: false,
-        });
-    }
-    if kind == MEMORY_BARRIER {
-        return Ok(Answer {
-            tally: tally,
-            required: false,
-        });
-    }
-    if kind == IMAGE_ATOMIC {
-        return Err(fr.halt(Refusal::Panic));
-    }
-    leave(slots, fr, visits, sum)
-}
-
-// `add_statement`, of a leaf.
+// `add_statement`, of a leaf. A break and a continue leave the block, as does a kind past the last: it is a break's.
 pub fn add_leaf(
     bytes: &[u8],
     t: &[u32],
@@ -74,29 +28,31 @@ pub fn add_leaf(
     slots: &mut [u32],
     fr: Frame,
     row: Kinded,
-    visits: usize,
-    sum: usize,
+    tally: Tally,
 ) -> Answered
-    requires arm { Arm bytes.now t.now cells.old slots.old fr row sum }
+    requires arm { Arm bytes.now t.now cells.old slots.old fr row tally.sum }
     requires types_value { types_of types.now ≡ (module_of bytes.now t.now).types }
     requires leaf_kind { LeafKind row.kind }
-    ensures { Leaves bytes.now t.now cells.old slots.old fr (statement_of row.kind (operand_at bytes.now row)) visits result cells.new slots.new }
+    ensures { Leaves bytes.now t.now cells.old slots.old fr (statement_of row.kind (operand_at bytes.now row)) tally.visits result cells.new slots.new }
 {
-    let kind = row.kind;
-    if kind == RETURN {
-        return add_return(bytes, t, cells, slots, fr, row, visits, sum);
+    match StatementKind::try_from(row.kind) {
+        Ok(StatementKind::Return) => add_return(bytes, t, cells, slots, fr, row, tally),
+        Ok(StatementKind::Kill) => answer(Ok(tally), true),
+        Ok(StatementKind::ControlBarrier | StatementKind::MemoryBarrier) => {
+            answer(Ok(tally), false)
+        }
+        Ok(StatementKind::ImageAtomic) => Err(fr.halt(Refusal::Panic)),
+        Ok(StatementKind::Store | StatementKind::ImageStore) => {
+            add_store(bytes, t, types, cells, slots, fr, row, tally)
+        }
+        Ok(StatementKind::Atomic) => add_atomic(bytes, t, cells, slots, fr, row, tally),
+        Ok(
+            StatementKind::RayQuery
+            | StatementKind::WorkGroupUniformLoad
+            | StatementKind::SubgroupBallot
+            | StatementKind::SubgroupGather
+            | StatementKind::SubgroupCollectiveOperation,
+        ) => add_ray(bytes, t, cells, slots, fr, row, tally),
+        _ => leave(slots, fr, tally),
     }
-    if kind < STORE {
-        return add_plain(bytes, t, cells, slots, fr, row, visits, sum);
-    }
-    if SUBGROUP_COLLECTIVE_OPERATION < kind {
-        return add_plain(bytes, t, cells, slots, fr, row, visits, sum);
-    }
-    if IMAGE_STORE < kind {
-        return add_ray(bytes, t, cells, slots, fr, row, visits, sum);
-    }
-    if kind == ATOMIC {
-        return add_atomic(bytes, t, cells, slots, fr, row, visits, sum);
-    }
-    add_store(bytes, t, types, cells, slots, fr, row, visits, sum)
 }

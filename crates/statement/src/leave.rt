@@ -7,16 +7,13 @@ use state::answer::{Answer, Answered, Tally};
 use state::frame::Frame;
 
 // The base of the block is its context then, and what leaves it is required where what stands behind is.
-pub fn leave(slots: &mut [u32], fr: Frame, visits: usize, sum: usize) -> Answered
+pub fn leave(slots: &mut [u32], fr: Frame, tally: Tally) -> Answered
     requires { (fr.base + 4 ≤ length slots.old) × (fr.at + 4 ≤ length slots.old) }
-    ensures { (result ≡ Ok (record { tally = record { visits = visits; sum = sum }; required = fr.break_required })) × (slots.new ≡ four_set slots.old fr.at (get_or slots.old fr.base 0) (get_or slots.old (fr.base + 1) 0) (get_or slots.old (fr.base + 2) 0) (get_or slots.old (fr.base + 3) 0)) }
+    ensures { (result ≡ Ok (record { tally = tally; required = fr.break_required })) × (slots.new ≡ four_set slots.old fr.at (get_or slots.old fr.base 0) (get_or slots.old (fr.base + 1) 0) (get_or slots.old (fr.base + 2) 0) (get_or slots.old (fr.base + 3) 0)) }
 {
     copy_context(slots, fr.base, fr.at);
     Ok(Answer {
-        tally: Tally {
-            visits: visits,
-            sum: sum,
-        },
+        tally,
         required: fr.break_required,
     })
 }

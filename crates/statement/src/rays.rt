@@ -8,19 +8,19 @@ ghost use Rattle.statement.specs.Rays.{RayKind, ray_of, gather_fields, ray_field
 
 use crate::aim::target_of;
 use crate::ask::{answer, then_maybe};
-use access::kinded::{Kinded, expression_operand, operand};
-use access::kinds::{RAY_QUERY, SUBGROUP_BALLOT, SUBGROUP_GATHER};
+use access::kinded::{Kinded, expression_operand, operand, optional_expression};
 use memory::layout::ALL;
-use module::handles::{ExpressionHandle, NO_HANDLE};
-use state::answer::{Answer, Answered, Tally};
+use module::handles::ExpressionHandle;
+use module::kinds::StatementKind;
+use state::answer::{Answered, Tally};
 use state::frame::Frame;
 
 // The target, and what is asked of where it is needed, absent where a kind has no such field.
 #[derive(Clone, Copy)]
 pub struct Ray {
     pub target: ExpressionHandle,
-    pub first: ExpressionHandle,
-    pub second: ExpressionHandle,
+    pub first: Option<ExpressionHandle>,
+    pub second: Option<ExpressionHandle>,
 }
 
 // Those of a gather: a mode that names an expression has it before the argument.
@@ -33,14 +33,14 @@ fn gather_fields(bytes: &[u8], row: Kinded) -> Ray
     if mode == 1 {
         return Ray {
             target: expression_operand(bytes, row, 3),
-            first: first,
-            second: second,
+            first: Some(first),
+            second: Some(second),
         };
     }
     Ray {
         target: second,
-        first: ExpressionHandle(NO_HANDLE),
-        second: first,
+        first: None,
+        second: Some(first),
     }
 }
 
@@ -48,28 +48,23 @@ fn ray_fields(bytes: &[u8], row: Kinded) -> Ray
     ensures { ray_of result ≡ ray_fields row.kind (operand_at bytes.now row) }
 {
     let a = expression_operand(bytes, row, 0);
-    let b = expression_operand(bytes, row, 1);
-    if row.kind == RAY_QUERY {
-        return Ray {
+    match StatementKind::try_from(row.kind) {
+        Ok(StatementKind::RayQuery) => Ray {
             target: a,
-            first: ExpressionHandle(NO_HANDLE),
-            second: ExpressionHandle(NO_HANDLE),
-        };
-    }
-    if row.kind == SUBGROUP_BALLOT {
-        return Ray {
+            first: None,
+            second: None,
+        },
+        Ok(StatementKind::SubgroupBallot) => Ray {
             target: a,
-            first: b,
-            second: ExpressionHandle(NO_HANDLE),
-        };
-    }
-    if row.kind == SUBGROUP_GATHER {
-        return gather_fields(bytes, row);
-    }
-    Ray {
-        target: b,
-        first: a,
-        second: ExpressionHandle(NO_HANDLE),
+            first: optional_expression(bytes, row, 1),
+            second: None,
+        },
+        Ok(StatementKind::SubgroupGather) => gather_fields(bytes, row),
+        _ => Ray {
+            target: expression_operand(bytes, row, 1),
+            first: Some(a),
+            second: None,
+        },
     }
 }
 
@@ -80,24 +75,16 @@ pub fn add_ray(
     slots: &mut [u32],
     fr: Frame,
     row: Kinded,
-    visits: usize,
-    sum: usize,
+    tally: Tally,
 ) -> Answered
-    requires arm { Arm bytes.now t.now cells.old slots.old fr row sum }
+    requires arm { Arm bytes.now t.now cells.old slots.old fr row tally.sum }
     requires ray_kind { RayKind row.kind }
-    ensures { Leaves bytes.now t.now cells.old slots.old fr (statement_of row.kind (operand_at bytes.now row)) visits result cells.new slots.new }
+    ensures { Leaves bytes.now t.now cells.old slots.old fr (statement_of row.kind (operand_at bytes.now row)) tally.visits result cells.new slots.new }
 {
     let x = ray_fields(bytes, row);
-    let tally = Tally {
-        visits: visits,
-        sum: sum,
-    };
     let aim = target_of(bytes, t, cells, slots, fr, x.target)?;
     match aim.needed {
-        None => Ok(Answer {
-            tally: tally,
-            required: false,
-        }),
+        None => answer(Ok(tally), false),
         Some(p) => {
             let a = then_maybe(bytes, t, cells, slots, fr, Ok(tally), x.first, ALL);
             let b = then_maybe(bytes, t, cells, slots, fr, a, x.second, ALL);

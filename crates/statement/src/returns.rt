@@ -6,9 +6,8 @@ ghost use Rattle.statement.specs.Leaf.{Arm, Leaves};
 
 use crate::ask::{answer, then_ask};
 use crate::leave::leave;
-use access::kinded::{Kinded, expression_operand};
+use access::kinded::{Kinded, optional_expression};
 use memory::layout::ASK;
-use module::handles::NO_HANDLE;
 use part::limits::SPINE;
 use part::req::get;
 use state::answer::{Answered, Tally};
@@ -22,26 +21,17 @@ pub fn add_return(
     slots: &mut [u32],
     fr: Frame,
     row: Kinded,
-    visits: usize,
-    sum: usize,
+    tally: Tally,
 ) -> Answered
-    requires arm { Arm bytes.now t.now cells.old slots.old fr row sum }
+    requires arm { Arm bytes.now t.now cells.old slots.old fr row tally.sum }
     requires kind_value { row.kind ≡ 7 }
-    ensures { Leaves bytes.now t.now cells.old slots.old fr (statement_of row.kind (operand_at bytes.now row)) visits result cells.new slots.new }
+    ensures { Leaves bytes.now t.now cells.old slots.old fr (statement_of row.kind (operand_at bytes.now row)) tally.visits result cells.new slots.new }
 {
-    let value = expression_operand(bytes, row, 0);
-    if value.0 == NO_HANDLE {
-        return leave(slots, fr, visits, sum);
-    }
-    let at = fr.at;
-    let Some(p) = get(cells, slots[at + 3], SPINE) else {
-        return leave(slots, fr, visits, sum);
+    let needed = get(cells, slots[fr.at + 3], SPINE);
+    let (Some(value), Some(p)) = (optional_expression(bytes, row, 0), needed) else {
+        return leave(slots, fr, tally);
     };
     slots[ASK] = p;
-    let began = Ok(Tally {
-        visits: visits,
-        sum: sum,
-    });
-    let r = then_ask(bytes, t, cells, slots, fr, began, value, ASK);
+    let r = then_ask(bytes, t, cells, slots, fr, Ok(tally), value, ASK);
     answer(r, true)
 }

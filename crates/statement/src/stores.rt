@@ -9,10 +9,10 @@ ghost use Rattle.statement.specs.Fields.{StoreKind, fields_of, store_fields, Fie
 
 use crate::ask::{answer, then_ask, then_maybe};
 use crate::store::store;
-use access::kinded::{Kinded, expression_operand};
-use access::kinds::IMAGE_STORE;
+use access::kinded::{Kinded, expression_operand, optional_expression};
 use memory::layout::{ALL, ASK, EXIST};
-use module::handles::{ExpressionHandle, NO_HANDLE};
+use module::handles::ExpressionHandle;
+use module::kinds::StatementKind;
 use state::answer::{Answer, Answered, Tally, Walked};
 use state::frame::Frame;
 
@@ -20,8 +20,8 @@ use state::frame::Frame;
 #[derive(Clone, Copy)]
 pub struct Fields {
     pub pointer: ExpressionHandle,
-    pub coordinate: ExpressionHandle,
-    pub index: ExpressionHandle,
+    pub coordinate: Option<ExpressionHandle>,
+    pub index: Option<ExpressionHandle>,
     pub value: ExpressionHandle,
 }
 
@@ -30,19 +30,19 @@ fn store_fields(bytes: &[u8], row: Kinded) -> Fields
 {
     let pointer = expression_operand(bytes, row, 0);
     let next = expression_operand(bytes, row, 1);
-    if row.kind == IMAGE_STORE {
-        return Fields {
-            pointer: pointer,
-            coordinate: next,
-            index: expression_operand(bytes, row, 2),
+    match StatementKind::try_from(row.kind) {
+        Ok(StatementKind::ImageStore) => Fields {
+            pointer,
+            coordinate: Some(next),
+            index: optional_expression(bytes, row, 2),
             value: expression_operand(bytes, row, 3),
-        };
-    }
-    Fields {
-        pointer: pointer,
-        coordinate: ExpressionHandle(NO_HANDLE),
-        index: ExpressionHandle(NO_HANDLE),
-        value: next,
+        },
+        _ => Fields {
+            pointer,
+            coordinate: None,
+            index: None,
+            value: next,
+        },
     }
 }
 
@@ -54,17 +54,12 @@ fn ask_fields(
     slots: &mut [u32],
     fr: Frame,
     x: Fields,
-    visits: usize,
-    sum: usize,
+    tally: Tally,
 ) -> Walked
-    requires { Fielding bytes.now t.now cells.old slots.old fr (fields_of x) sum }
-    ensures { Fielded bytes.now t.now cells.old slots.old fr (fields_of x) visits result cells.new slots.new }
+    requires { Fielding bytes.now t.now cells.old slots.old fr (fields_of x) tally.sum }
+    ensures { Fielded bytes.now t.now cells.old slots.old fr (fields_of x) tally.visits result cells.new slots.new }
 {
-    let began = Ok(Tally {
-        visits: visits,
-        sum: sum,
-    });
-    let a = then_ask(bytes, t, cells, slots, fr, began, x.pointer, EXIST);
+    let a = then_ask(bytes, t, cells, slots, fr, Ok(tally), x.pointer, EXIST);
     let b = then_maybe(bytes, t, cells, slots, fr, a, x.coordinate, ALL);
     let c = then_maybe(bytes, t, cells, slots, fr, b, x.index, EXIST);
     then_ask(bytes, t, cells, slots, fr, c, x.value, ASK)
@@ -79,25 +74,21 @@ pub fn add_store(
     slots: &mut [u32],
     fr: Frame,
     row: Kinded,
-    visits: usize,
-    sum: usize,
+    tally: Tally,
 ) -> Answered
-    requires arm { Arm bytes.now t.now cells.old slots.old fr row sum }
+    requires arm { Arm bytes.now t.now cells.old slots.old fr row tally.sum }
     requires types_value { types_of types.now ≡ (module_of bytes.now t.now).types }
     requires store_kind { StoreKind row.kind }
-    ensures { Leaves bytes.now t.now cells.old slots.old fr (statement_of row.kind (operand_at bytes.now row)) visits result cells.new slots.new }
+    ensures { Leaves bytes.now t.now cells.old slots.old fr (statement_of row.kind (operand_at bytes.now row)) tally.visits result cells.new slots.new }
 {
     let x = store_fields(bytes, row);
     let needed = store(bytes, t, types, cells, slots, fr, x.pointer)?;
     if !needed {
         return Ok(Answer {
-            tally: Tally {
-                visits: visits,
-                sum: sum,
-            },
+            tally,
             required: false,
         });
     }
-    let r = ask_fields(bytes, t, cells, slots, fr, x, visits, sum);
+    let r = ask_fields(bytes, t, cells, slots, fr, x, tally);
     answer(r, true)
 }

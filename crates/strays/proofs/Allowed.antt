@@ -4,7 +4,7 @@ use mathlib.Core.Bool.{Bool, true, false}
 use Rattle.clearance.specs.Needs.{Exit, next, broke, continued, returned, only_next}
 use Rattle.clearance.specs.Judged.{at_top, in_case, in_body}
 use Rattle.strays.specs.declared.exits.Exits.{Exits}
-use Rattle.strays.specs.Exits.{exits_of}
+use Rattle.strays.specs.Exits.{exits_of, case_to, body_to}
 
 by_exit : (p q : Exit → Bool) → p next ≡ q next → p broke ≡ q broke → p continued ≡ q continued → p returned ≡ q returned → (x : Exit) → p x ≡ q x
 by_exit p q a b c d next = a
@@ -20,11 +20,11 @@ pub none_is : exits_of (record { broke = false; continued = false; returned = fa
 unfolding exits_of only_next
 none_is = fun_ext (by_exit _ _ refl refl refl refl)
 
-module _ (e : Exits) where
-  pub case_is : exits_of (record { broke = true; continued = e.continued; returned = e.returned }) ≡ in_case (exits_of e)
+module _ (e : Exits Bool) where
+  pub case_is : exits_of (case_to true e) ≡ in_case (exits_of e)
   unfolding exits_of in_case
   case_is = fun_ext (by_exit _ _ refl refl refl refl)
 
-  pub body_is : exits_of (record { broke = true; continued = true; returned = e.returned }) ≡ in_body (exits_of e)
+  pub body_is : exits_of (body_to true true e) ≡ in_body (exits_of e)
   unfolding exits_of in_body
   body_is = fun_ext (by_exit _ _ refl refl refl refl)

@@ -1,5 +1,5 @@
 -- The blocks and statements of a function that was read: a statement of a block is one of the function, and holds lower blocks.
-use Prim.Native.Nat.{ℕ, ◌+◌, ◌-◌, ◌*◌, ◌<◌, ◌≤◌}
+use Prim.Native.Nat.{ℕ, ◌+◌, ◌-◌, ◌*◌, ◌<◌}
 use native.Mathlib.Omega.{arith}
 use mathlib.Core.Path.{◌≡◌, ap, subst, ◌∙◌}
 use mathlib.Core.List.{List, map}
@@ -113,7 +113,3 @@ case_there p i l e =
     let k = p.of_block.block in
     let h = p.each i l in
     (omega arith, record { of = p.of_block.of; block = omega arith })
-
--- the kind that is left
-pub loop_kind : {k : ℕ} → k ≤ 4 → (k ≡ 0 → ⊥) → (k ≡ 1 → ⊥) → (k ≡ 2 → ⊥) → (k ≡ 3 → ⊥) → k ≡ 4
-loop_kind l a b c d = omega arith

@@ -21,13 +21,12 @@ use Rattle.clearance.specs.Needs.{Exit, only_next, concat}
 use Rattle.clearance.specs.Judged.{at_top, in_case, in_body, unless, strays, lowest, failing, fits_statement, blamed_statement}
 use Rattle.clearance.specs.Scope.{Scope}
 use Rattle.clearance.proofs.Markless.{strays-same}
-use Rattle.module.proofs.Each.{past}
 use Rattle.strays.specs.declared.exits.Exits.{Exits}
 use Rattle.strays.specs.Lower.{lower_of}
 use Rattle.strays.specs.Exits.{exits_of}
 use Rattle.strays.specs.Places.{BlockOf, StatementIn, CasesIn, tree_of, stray_block, stray_statement, stray_cases}
 use Rattle.strays.proofs.Lowers.{lowest_append, then, none_before}
-use Rattle.strays.proofs.Trees.{concat-same, emit_of, block_of, if_of, switch_of, loop_of, break_of, continue_of, return_of, quiet_of, past_of}
+use Rattle.strays.proofs.Trees.{concat-same, block_of, if_of, switch_of, loop_of, break_of, continue_of, return_of, silent_of}
 use Rattle.strays.proofs.Found.{decoded, block_low, accept_low, reject_low, body_low, continuing_low, cases_in}
 
 -- r is the lower of low and of a list's lowest
@@ -41,39 +40,13 @@ none_found : (l : List ℕ) (low : Option ℕ) → l ≡ [] → Lowers l low low
 unfolding lowest lower_of
 none_found l low e = rw e
 
--- Kinds that hold no blocks
-module _ (k s : ℕ) (e : Exits) (low r : Option ℕ) where
-  -- whatever else the function has
-  abbrev Leaving : Type 0
-  Leaving = (f : Function) (block : BlockHandle → Tree) (o : ℕ → ℕ) → Lowers (strays (statement f [] block s (statement_of k o)) (exits_of e)) low r
-
-  pub leaves_past : 20 < k → Lowers (unless e.broke s) low r → Leaving
-  unfolding exits_of
-  leaves_past l h f block o =
-      let z : k ≡ past 21 (k - 21) = omega arith in
-      rw z (same_list (unless e.broke s) _ low r (past_of f block s (exits_of e) o (k - 21)) h)
-
-  pub leaves_return : k ≡ 7 → Lowers (unless e.returned s) low r → Leaving
-  unfolding exits_of
-  leaves_return z h f block o = rw z (same_list (unless e.returned s) _ low r (return_of f block s (exits_of e) o) h)
-
-  pub leaves_continue : k ≡ 6 → Lowers (unless e.continued s) low r → Leaving
-  unfolding exits_of
-  leaves_continue z h f block o = rw z (same_list (unless e.continued s) _ low r (continue_of f block s (exits_of e) o) h)
-
-  pub leaves_break : k ≡ 5 → Lowers (unless e.broke s) low r → Leaving
-  unfolding exits_of
-  leaves_break z h f block o = rw z (same_list (unless e.broke s) _ low r (break_of f block s (exits_of e) o) h)
-
-  pub leaves_not : 7 < k → k ≤ 20 → r ≡ low → Leaving
-  leaves_not l u q f block o =
-      let z : k ≡ past 8 (k - 8) = omega arith in
-      rw (q, z) (none_found _ low (quiet_of f block s (exits_of e) o (k - 8) (omega arith)))
-
 -- A statement, by its kind
-module _ {bytes t : List ℕ} {f b s : ℕ} (p : StatementIn bytes t f b s) {row : Kinded} (is : row ≡ statement_row bytes t f s) (e : Exit → Bool) where
+module _ {bytes t : List ℕ} {f b s : ℕ} (p : StatementIn bytes t f b s) {row : Kinded} (is : row ≡ statement_row bytes t f s) (E : Exits Bool) where
   abbrev F : Function
   F = function_of bytes t f
+
+  abbrev e : Exit → Bool
+  e = exits_of E
 
   abbrev o : ℕ → ℕ
   o = operand_at bytes row
@@ -88,11 +61,21 @@ module _ {bytes t : List ℕ} {f b s : ℕ} (p : StatementIn bytes t f b s) {row
   held_is j a l = ap (λ (x : Tree). strays x a) (below-lt (tree_of F) nop b (o j) l)
 
   module _ (low r : Option ℕ) where
-    pub stray-leaving : ((g : Function) (block : BlockHandle → Tree) (q : ℕ → ℕ) → Lowers (strays (statement g [] block s (statement_of row.kind q)) e) low r) → Lowers (stray_statement F b s e) low r
-    stray-leaving h = by-kind low r row.kind refl refl (h F w o)
+    -- neither holds blocks nor leaves
+    pub stray_silent : (0 < row.kind → 7 < row.kind) → row.kind ≤ 20 → r ≡ low → Lowers (stray_statement F b s e) low r
+    stray_silent h l q = by-kind low r row.kind refl refl (rw q (none_found _ low (silent_of F w s e o row.kind h l)))
 
-    pub stray_emit : row.kind ≡ 0 → r ≡ low → Lowers (stray_statement F b s e) low r
-    stray_emit h q = by-kind low r 0 h refl (rw q (none_found _ low (emit_of F w s e o)))
+    pub stray_continue : row.kind ≡ 6 → Lowers (unless E.continued s) low r → Lowers (stray_statement F b s e) low r
+    unfolding exits_of
+    stray_continue h = by-kind low r 6 h (continue_of F w s e o)
+
+    pub stray_return : row.kind ≡ 7 → Lowers (unless E.returned s) low r → Lowers (stray_statement F b s e) low r
+    unfolding exits_of
+    stray_return h = by-kind low r 7 h (return_of F w s e o)
+
+    pub stray_break : (row.kind ≤ 20 → row.kind ≡ 5) → Lowers (unless E.broke s) low r → Lowers (stray_statement F b s e) low r
+    unfolding exits_of
+    stray_break h = by-kind low r row.kind refl (break_of F w s e o row.kind h)
 
     pub stray-block : {x : ℕ} → row.kind ≡ 1 → x ≡ o 0 → Lowers (stray_block F x e) low r → Lowers (stray_statement F b s e) low r
     stray-block h q z = by-kind low r 1 h (block_of F w s e o ∙ held_is 0 e (block_low p is h)) (rw q at z)

@@ -1,11 +1,9 @@
 // The lowest statement of a body that leaves where it is not allowed. What is later in the definition's order comes first.
-ghost use Rattle.std.specs.Prelude.{◌≡◌, List, [], ℕ, ◌+◌, ◌*◌, ◌<◌};
-ghost use Rattle.module.specs.Module.{BlockHandle as Handle, Function};
-ghost use Rattle.module.specs.Decode.{statement_of};
+ghost use Rattle.std.specs.Prelude.{◌≡◌, List, ℕ, ◌+◌, ◌*◌, ◌<◌};
 ghost use Rattle.module.specs.Tables.{function_of};
 ghost use Rattle.access.specs.Access.{operand_at};
 ghost use Rattle.valid.specs.There.{There};
-ghost use Rattle.clearance.specs.Tree.{Tree, body_tree, statement as statement_tree};
+ghost use Rattle.clearance.specs.Tree.{body_tree};
 ghost use Rattle.clearance.specs.Judged.{at_top, strays as straysOf, lowest};
 ghost use Rattle.judge.specs.Blamed.{blamed};
 ghost use Rattle.strays.specs.Lower.{lower_of};
@@ -16,21 +14,8 @@ use crate::exits::{Exits, at_top, in_body, in_case, none};
 use crate::lower::lower_unless;
 use access::function::{block, body_block};
 use access::kinded::{Kinded, block_operand, operand, statement};
-use access::kinds::{BLOCK, CONTINUE, EMIT, IF, KILL, LAST, LOOP, RETURN, SWITCH};
 use module::handles::{BlockHandle, FunctionHandle};
-
-// A statement that holds no blocks, of a kind past a loop's. A kind past the last is a break's.
-fn stray_leaving(kind: u16, s: u32, e: Exits, low: Option<u32>) -> Option<u32>
-    requires { 4 < kind }
-    ensures { (f : Function) (block : Handle → Tree) (o : ℕ → ℕ) → blamed result ≡ lower_of (lowest (straysOf (statement_tree f [] block s (statement_of kind o)) (exits_of e))) (blamed low) }
-{
-    match kind {
-        CONTINUE => lower_unless(e.continued, s, low),
-        RETURN => lower_unless(e.returned, s, low),
-        KILL..=LAST => low,
-        _ => lower_unless(e.broke, s, low),
-    }
-}
+use module::kinds::{NoKind, StatementKind};
 
 #[cycle(stray_block_stray_cases_stray_statement)]
 fn stray_cases(
@@ -39,7 +24,7 @@ fn stray_cases(
     f: FunctionHandle,
     b: BlockHandle,
     row: Kinded,
-    e: Exits,
+    e: Exits<bool>,
     low: Option<u32>,
 ) -> Option<u32>
     requires { CasesIn bytes.now t.now f.0 b.0 row }
@@ -61,39 +46,32 @@ fn stray_statement(
     f: FunctionHandle,
     b: BlockHandle,
     s: u32,
-    e: Exits,
+    e: Exits<bool>,
     low: Option<u32>,
 ) -> Option<u32>
     requires { StatementIn bytes.now t.now f.0 b.0 s }
     ensures { blamed result ≡ lower_of (lowest (stray_statement (function_of bytes.now t.now f.0) b.0 s (exits_of e))) (blamed low) }
 {
     let row = statement(bytes, t, f, s);
-    let kind = row.kind;
-    if LOOP < kind {
-        return stray_leaving(kind, s, e, low);
+    match StatementKind::try_from(row.kind) {
+        Ok(StatementKind::Block) => stray_block(bytes, t, f, block_operand(bytes, row, 0), e, low),
+        Ok(StatementKind::If) => {
+            let rejected = stray_block(bytes, t, f, block_operand(bytes, row, 2), e, low);
+            stray_block(bytes, t, f, block_operand(bytes, row, 1), e, rejected)
+        }
+        Ok(StatementKind::Switch) => stray_cases(bytes, t, f, b, row, in_case(e), low),
+        Ok(StatementKind::Loop) => {
+            let last = block_operand(bytes, row, 1);
+            let continuing = stray_block(bytes, t, f, last, none(), low);
+            let body = block_operand(bytes, row, 0);
+            stray_block(bytes, t, f, body, in_body(e), continuing)
+        }
+        Ok(StatementKind::Continue) => lower_unless(e.continued, s, low),
+        Ok(StatementKind::Return) => lower_unless(e.returned, s, low),
+        // a kind past the last is a break's
+        Ok(StatementKind::Break) | Err(NoKind) => lower_unless(e.broke, s, low),
+        Ok(_) => low,
     }
-    if kind == EMIT {
-        return low;
-    }
-    if kind == BLOCK {
-        return stray_block(bytes, t, f, block_operand(bytes, row, 0), e, low);
-    }
-    if kind == IF {
-        let rejected = stray_block(bytes, t, f, block_operand(bytes, row, 2), e, low);
-        return stray_block(bytes, t, f, block_operand(bytes, row, 1), e, rejected);
-    }
-    if kind == SWITCH {
-        return stray_cases(bytes, t, f, b, row, in_case(e), low);
-    }
-    let continuing = stray_block(bytes, t, f, block_operand(bytes, row, 1), none(), low);
-    stray_block(
-        bytes,
-        t,
-        f,
-        block_operand(bytes, row, 0),
-        in_body(e),
-        continuing,
-    )
 }
 
 #[cycle(stray_block_stray_cases_stray_statement)]
@@ -102,7 +80,7 @@ fn stray_block(
     t: &[u32],
     f: FunctionHandle,
     b: BlockHandle,
-    e: Exits,
+    e: Exits<bool>,
     low: Option<u32>,
 ) -> Option<u32>
     requires { BlockOf bytes.now t.now f.0 b.0 }

@@ -1,21 +1,17 @@
 -- `resolve_var`'s loop: what is left of the way gives the whole. Each turn is `resolve_var`'s equation in a module that was read, and one index more is one entry
 -- around the part.
 use Prim.Native.Nat.{ℕ, zero, suc, ◌+◌, ◌<◌, ◌≤◌}
-use native.Mathlib.Decide.{ℕ_discrete}
 use native.Mathlib.Omega.{arith}
 use mathlib.Core.Path.{◌≡◌, refl, sym, ◌∙◌, subst}
-use mathlib.Core.Bool.{true, false}
+use mathlib.Core.Bool.{false}
 use mathlib.Core.List.{List, [], ◌∷◌, ◌++◌}
-use lib.Dec.{eqb}
 use lib.ListN.{length, length-append, get_or-append}
 use lib.Seq.{get_or_at}
-use borrow.Author.Tests.{eqb-true, ne_eqb}
 use Rattle.field.specs.Limits.{max_depth, max_expressions}
 use Rattle.part.specs.PartReq.{PartReq, all, none, more, from_first, from_indexes, entries, over, spine}
 use Rattle.part.specs.Limited.{Plain}
 use Rattle.part.specs.Store.{top, part, Good, Kept, Room, Made}
 use Rattle.part.proofs.Pieces.{part-0, part-2}
-use Rattle.part.proofs.Equations.{never}
 use Rattle.part.proofs.Indexes.{from_indexes-path}
 use Rattle.part.proofs.Sizes.{limited}
 use Rattle.part.proofs.Making.{kept_trans}
@@ -39,35 +35,13 @@ use Rattle.context.specs.declared.required_context.VarRef.TheVariants.{Global, L
 use Rattle.walk.specs.Resolve.{function_at, expression_at, VarRefPart, resolved, unresolved, resolve_arm, resolve_var}
 use Rattle.sound.proofs.There.{has_expressions, function_valid, operands_below, names_below}
 use Rattle.sound.proofs.Resolve.{resolve_is}
-use Rattle.target.specs.Target.{follows, base_part, Sees, Resolves}
+use Rattle.target.specs.Target.{Sees, Resolves}
 use Rattle.std.specs.Prelude.{Some, None}
 
--- the kinds
-pub follows-else : {kind : ℕ} → (kind ≡ 3 → ⊥) → eqb kind 4 ≡ follows kind
-unfolding follows
-follows-else {kind} h = rw (ne_eqb kind 3 h)
-
-data Accesses (kind : ℕ) : Type 0 where
+-- a kind that goes on to its base
+pub data Accesses (kind : ℕ) : Type 0 where
   index : kind ≡ 3 → Accesses kind
   value : kind ≡ 4 → Accesses kind
-
-accesses : (kind : ℕ) → follows kind ≡ true → Accesses kind
-unfolding follows
-accesses kind h =
-    elim (ℕ_discrete kind 3) [
-      | yes e ↦ index e
-      | no n ↦ value (eqb-true kind 4 (rw (ne_eqb kind 3 n) at h))
-    ]
-
--- the part of the base
-module _ (kind : ℕ) (o : ℕ → ℕ) (s : List ℕ) (p : ℕ) where
-  pub base_index : {t : List ℕ} {i n : ℕ} → (kind ≡ 4 → ⊥) → i ≡ o 1 → Made s t (more i (part s p) (part s 2)) 1 n → Made s t (base_part kind o (part s p)) 1 n
-  unfolding base_part
-  base_index h q a = record { kept = a.kept; piece = a.piece; is = a.is ∙ rw (ne_eqb kind 4 h, q, part-2 s); cost = a.cost }
-
-  pub base_all : kind ≡ 4 → Good s → Made s s (base_part kind o (part s p)) 1 0
-  unfolding base_part
-  base_all e g = stay s (base_part kind o (part s p)) 1 0 g (omega (arith, g.base)) (part-0 s ∙ rw e)
 
 -- One index more is one entry around the part.
 first_same : (xs ys : List ℕ) (k : ℕ) → k ≤ length xs → from_first (xs ++ ys) k ≡ from_first xs k
@@ -82,16 +56,17 @@ one_more xs i =
     rw (long, get_or_at xs i [] 0 (length xs) refl, first_same xs (i ∷ []) (length xs) (omega arith))
 
 -- a kind that is no access and no variable
-record Other (kind : ℕ) : Type 0 where
-  global : kind ≡ 10 → ⊥
-  local : kind ≡ 11 → ⊥
-  access : follows kind ≡ false
+pub record Other (kind : ℕ) : Type 0 where
+  pub index : kind ≡ 3 → ⊥
+  pub value : kind ≡ 4 → ⊥
+  pub global : kind ≡ 10 → ⊥
+  pub local : kind ≡ 11 → ⊥
 
 other_unresolved : (r : ExpressionHandle → List ℕ → VarRefPart) (o : ℕ → ℕ) (indexes : List ℕ) (kind : ℕ) → Other kind → resolve_arm r (expression_of kind o) indexes ≡ unresolved
-unfolding resolve_arm expression_of follows
+unfolding resolve_arm expression_of
 other_unresolved r o indexes =
     each (λ k. Other k → resolve_arm r (expression_of k o) indexes ≡ unresolved) 32
-    (λ h. refl, (λ h. refl, (λ h. refl, (λ h. never (sym h.access), (λ h. never (sym h.access), (λ h. refl, (λ h. refl, (λ h. refl, (λ h. refl, (λ h. refl, (λ h. absurd (h.global refl), (λ h. absurd (h.local refl), (λ h. refl, (λ h. refl, (λ h. refl, (λ h. refl, (λ h. refl, (λ h. refl, (λ h. refl, (λ h. refl, (λ h. refl, (λ h. refl, (λ h. refl, (λ h. refl, (λ h. refl, (λ h. refl, (λ h. refl, (λ h. refl, (λ h. refl, (λ h. refl, (λ h. refl, (λ h. refl, tt))))))))))))))))))))))))))))))))
+    (λ h. refl, (λ h. refl, (λ h. refl, (λ h. absurd (h.index refl), (λ h. absurd (h.value refl), (λ h. refl, (λ h. refl, (λ h. refl, (λ h. refl, (λ h. refl, (λ h. absurd (h.global refl), (λ h. absurd (h.local refl), (λ h. refl, (λ h. refl, (λ h. refl, (λ h. refl, (λ h. refl, (λ h. refl, (λ h. refl, (λ h. refl, (λ h. refl, (λ h. refl, (λ h. refl, (λ h. refl, (λ h. refl, (λ h. refl, (λ h. refl, (λ h. refl, (λ h. refl, (λ h. refl, (λ h. refl, (λ h. refl, tt))))))))))))))))))))))))))))))))
     (λ k h. refl)
 
 -- from s, t was left: of the way from `whole` the expression e is left, and n is the part's piece
@@ -144,15 +119,17 @@ module _ (bytes words : List ℕ) (read : read_module bytes ≡ accepted (module
       rw a.is (omega (arith, path.count, path.levels, within-limits.deep))
 
   -- the base is lower
-  pub falls : {b : ℕ} → follows r.kind ≡ true → b ≡ operand_at bytes r 0 → b < e
+  pub falls : {b : ℕ} → Accesses r.kind → b ≡ operand_at bytes r 0 → b < e
   unfolding expression_of
-  falls h q = elim (accesses r.kind h) [
+  falls h q = elim h [
     | index k ↦ rw q (operands k).0
     | value k ↦ rw q (operands k).0
   ]
 
-  pub base_asks : {b : ℕ} → Room s max_expressions → b < e → Good t × (Room t 1 × (n < top t))
-  base_asks room h = (a.kept.good, (omega (arith, a.cost, a.few, a.kept.long), a.piece))
+  pub base_asks : r.kind ≡ 3 → Room s max_expressions → Good t × (Room t 1 × ((n < top t) × (2 < top t)))
+  base_asks k room =
+      let below = falls (index k) refl in
+      (a.kept.good, (omega (arith, below, a.cost, a.few, a.kept.long), (a.piece, omega (arith, a.kept.good.base))))
 
   next : {u : List ℕ} {b k : ℕ} {p : PartReq} (indexes : List ℕ) → b < e → Made t u p 1 k → p ≡ from_indexes indexes → Plain (from_indexes indexes) → resolve_var (module_of bytes words) f b indexes ≡ resolve_var (module_of bytes words) f whole [] → Resolving (module_of bytes words) f whole s u b k
   next indexes l d same plain rest =
@@ -168,14 +145,15 @@ module _ (bytes words : List ℕ) (read : read_module bytes ≡ accepted (module
         rest = rest;
       }
 
-  pub again : {u : List ℕ} {b k : ℕ} → follows r.kind ≡ true → b ≡ operand_at bytes r 0 → b < e → Made t u (base_part r.kind (operand_at bytes r) (part t n)) 1 k → Resolving (module_of bytes words) f whole s u b k
-  unfolding expression_of resolve_arm base_part from_first
-  again h q l d = elim (accesses r.kind h) [
-    | index k ↦
-        let around = one_more a.indexes (operand_at bytes r 1) in
-        next (a.indexes ++ (operand_at bytes r 1 ∷ [])) l d (rw (k, a.is, around)) (rw around (omega (arith, (operands k).1), (a.plain, tt))) (rw q (step k))
-    | value k ↦ next [] l d (rw k) tt (rw q (step k))
-  ]
+  pub again_index : {u : List ℕ} {b i k : ℕ} → r.kind ≡ 3 → b ≡ operand_at bytes r 0 → i ≡ operand_at bytes r 1 → Made t u (more i (part t n) (part t 2)) 1 k → Resolving (module_of bytes words) f whole s u b k
+  unfolding expression_of resolve_arm from_first
+  again_index h q g d =
+      let around = one_more a.indexes (operand_at bytes r 1) in
+      next (a.indexes ++ (operand_at bytes r 1 ∷ [])) (falls (index h) q) d (rw (g, part-2 t, a.is, around)) (rw around (omega (arith, (operands h).1), (a.plain, tt))) (rw q (step h))
+
+  pub again_all : {b : ℕ} → r.kind ≡ 4 → b ≡ operand_at bytes r 0 → Resolving (module_of bytes words) f whole s t b 0
+  unfolding expression_of resolve_arm from_first
+  again_all h q = next [] (falls (value h) q) (stay t all 1 0 a.kept.good (omega (arith, a.kept.good.base)) (part-0 t)) refl tt (rw q (step h))
 
   -- the way ends
   found : (v : Variable) → Sees (module_of bytes words) f (variable_of v) → handle (variable_of v) < spine → resolved (variable_of v) (from_indexes a.indexes) ≡ resolve_var (module_of bytes words) f whole [] → Resolves (module_of bytes words) f whole s t (Some (record { var = v; part = n }))
@@ -195,11 +173,11 @@ module _ (bytes words : List ℕ) (read : read_module bytes ≡ accepted (module
       let few = (function_valid (module_of bytes words) is_valid f (has_expressions (module_of bytes words) f e a.there)).parts.few_locals in
       found (Local l) there (omega arith) (rw q (step k))
 
-  pub found_none : (r.kind ≡ 10 → ⊥) → (r.kind ≡ 11 → ⊥) → follows r.kind ≡ false → Resolves (module_of bytes words) f whole s t None
-  found_none g l h =
+  pub found_none : Other r.kind → Resolves (module_of bytes words) f whole s t None
+  found_none h =
       record {
         kept = a.kept;
         has = tt;
-        is = sym (other_unresolved (resolve_var (module_of bytes words) f) (operand_at bytes r) a.indexes r.kind (record { global = g; local = l; access = h })) ∙ step refl;
+        is = sym (other_unresolved (resolve_var (module_of bytes words) f) (operand_at bytes r) a.indexes r.kind h) ∙ step refl;
         cost = within;
       }

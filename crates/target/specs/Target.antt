@@ -1,21 +1,13 @@
 -- A store's target in code: a variable of the module, and the piece of its part.
-use Rattle.std.specs.Prelude.{ℕ, ◌+◌, ◌<◌, ◌≤◌, ◌≡◌, Bool, false, cond, ◌||◌, List, [], eqb, length, Option, Some, None}
+use Rattle.std.specs.Prelude.{ℕ, ◌+◌, ◌<◌, ◌≤◌, ◌≡◌, false, List, [], length, Option, Some, None}
 use Rattle.field.specs.Limits.{max_depth, max_expressions}
-use Rattle.part.specs.PartReq.{PartReq, all, none, more, Subpart, gone, there, entries, over, spine}
+use Rattle.part.specs.PartReq.{Subpart, gone, there, entries, over, spine}
 use Rattle.part.specs.Store.{top, part, Kept}
 use Rattle.module.specs.Module.{FunctionHandle, ExpressionHandle, Module}
 use Rattle.context.specs.RequiredContext.{VarRef, Global, Local, handle}
 use Rattle.context.specs.Contexts.{variable_of}
 use Rattle.walk.specs.Resolve.{function_at, VarRefPart, resolved, unresolved, resolve_var}
 use Rattle.target.specs.declared.resolve.Target.{Target}
-
--- whether an expression of this kind is an access
-unfoldable pub follows : ℕ → Bool
-follows kind = eqb kind 3 || eqb kind 4
-
--- the part of an access's base, with p the access's own
-unfoldable pub base_part : (kind : ℕ) → (operands : ℕ → ℕ) → PartReq → PartReq
-base_part kind o p = cond (eqb kind 4) all (more (o 1) p none)
 
 -- the function f sees this variable
 abbrev pub Sees : Module → FunctionHandle → VarRef → Type 0

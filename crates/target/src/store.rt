@@ -17,7 +17,7 @@ use access::whole::global;
 use context::required_context::{RequiredContext, VarRef};
 use module::handles::{FunctionHandle, TypeHandle};
 use part::req::get;
-use part::store::look;
+use part::store::{ALL_PIECE, EMPTY_PIECE, EXIST_PIECE, look};
 
 // `check_part`: what is needed of the part q, where required is needed of the whole. A path has one entry on each level.
 pub fn check_part(cells: &[u32], q: u32, required: Option<u32>) -> Option<u32>
@@ -28,18 +28,18 @@ pub fn check_part(cells: &[u32], q: u32, required: Option<u32>) -> Option<u32>
     let whole = required?;
     let mut n = q;
     let mut p = whole;
-    while 2 < n {
+    while EMPTY_PIECE < n {
         let x = look(cells, n);
-        if p == 0 {
-            return Some(0);
+        if p == ALL_PIECE {
+            return Some(ALL_PIECE);
         }
         p = get(cells, p, x.index)?;
         n = x.child;
     }
-    if 0 < n {
+    if n != ALL_PIECE {
         return None;
     }
-    if p == 1 {
+    if p == EXIST_PIECE {
         return None;
     }
     Some(p)

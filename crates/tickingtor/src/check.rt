@@ -20,7 +20,7 @@ pub extern "C" fn tickingtor_check(
     let mut t: [u32; WORDS] = [0; WORDS];
     let mut cells: [u32; CELLS] = [0; CELLS];
     let mut slots: [u32; SLOTS] = [0; SLOTS];
-    check_any(
+    u64::from(check_any(
         bytes, &mut t, &mut cells, &mut slots, request, report, context,
-    )
+    ))
 }

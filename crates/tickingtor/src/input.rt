@@ -2,9 +2,11 @@
 ghost use Rattle.std.specs.Prelude.{length};
 ghost use Rattle.boundary.specs.Answers.{Answers, input_answer};
 
+use access::whole::Bound;
 use boundary::input::input_in;
 use context::remove::TYPE_WORDS;
 use field::limits::{MAX_ARGUMENTS, MAX_TYPES};
+use module::handles::{FunctionHandle, TypeHandle};
 use module::tables::WORDS;
 use reading::read::{HELD, SEEN};
 
@@ -23,8 +25,14 @@ pub extern "C" fn tickingtor_input_to_bindings(
     let mut held: [u32; HELD] = [0; HELD];
     let mut table: [u32; TYPE_WORDS * MAX_TYPES] = [0; TYPE_WORDS * MAX_TYPES];
     let mut sets: [u64; MAX_TYPES] = [0; MAX_TYPES];
-    let mut pairs: [u32; 2 * MAX_ARGUMENTS] = [0; 2 * MAX_ARGUMENTS];
+    let unread = Bound {
+        ty: TypeHandle(0),
+        binding: None,
+    };
+    let mut args: [Bound; MAX_ARGUMENTS] = [unread; MAX_ARGUMENTS];
+    let function = FunctionHandle(f);
     input_in(
-        bytes, &mut t, &mut seen, &mut held, &mut table, &mut sets, &mut pairs, f, context, out,
+        bytes, &mut t, &mut seen, &mut held, &mut table, &mut sets, &mut args, function, context,
+        out,
     )
 }

@@ -5,6 +5,7 @@ ghost use Rattle.boundary.specs.Answers.{Answers, output_answer};
 use boundary::output::{OUTPUT_WORDS, output_in};
 use context::remove::TYPE_WORDS;
 use field::limits::MAX_TYPES;
+use module::handles::FunctionHandle;
 use module::tables::WORDS;
 use reading::read::{HELD, SEEN};
 
@@ -24,7 +25,9 @@ pub extern "C" fn tickingtor_output_from_bindings(
     let mut table: [u32; TYPE_WORDS * MAX_TYPES] = [0; TYPE_WORDS * MAX_TYPES];
     let mut cells: [u32; OUTPUT_WORDS] = [0; OUTPUT_WORDS];
     let mut parts: [u32; MAX_TYPES] = [0; MAX_TYPES];
+    let function = FunctionHandle(f);
     output_in(
-        bytes, &mut t, &mut seen, &mut held, &mut table, &mut cells, &mut parts, f, list, out,
+        bytes, &mut t, &mut seen, &mut held, &mut table, &mut cells, &mut parts, function, list,
+        out,
     )
 }

@@ -1,4 +1,4 @@
--- The number of a check, put together: 21, what is not judged, or that of the rounds; and what the rounds are given.
+-- The answer of a check, put together: 21, what is not judged, or that of the rounds; and what the rounds are given.
 use Prim.Native.Nat.{ℕ, suc, ◌-◌, ◌*◌, ◌<◌, ◌≤◌}
 use native.Mathlib.Omega.{arith}
 use mathlib.Core.Path.{◌≡◌, refl, sym, ap, subst, ◌∙◌}
@@ -6,13 +6,14 @@ use mathlib.Core.Bool.{Bool, true, false, not, ◌&&◌}
 use mathlib.Core.List.{List, []}
 use mathlib.Core.Option.{Option, some, none as nothing}
 use lib.ListN.{length, take, length-take}
-use Rattle.std.specs.Prelude.{Result, Ok, Err, MatchResult, is_ok}
+use Rattle.std.specs.Prelude.{Option as Maybe, Some, None, Result, Ok, Err, MatchResult, is_ok}
 use Rattle.std.specs.Borrow.{Bor}
 use Rattle.field.specs.Limits.{max_types, max_expressions}
+use Rattle.field.specs.Refusal.{number}
+use Rattle.field.specs.declared.refusal.Refusal.{Refusal}
 use Rattle.part.proofs.Equations.{never}
 use Rattle.module.specs.Module.{Module, Kill}
 use Rattle.module.specs.Tables.{max_items, function_of, module_of}
-use Rattle.module.specs.declared.handles.FunctionHandle.{FunctionHandle as Handle}
 use Rattle.access.proofs.Access.{function_is, statement_is}
 use Rattle.valid.specs.Valid.{FunctionValid, entries_below}
 use Rattle.valid.specs.There.{There}
@@ -29,34 +30,34 @@ use Rattle.sound.proofs.Sizes.{few_records}
 use Rattle.clearance.specs.Scope.{Scope}
 use Rattle.clearance.specs.Tree.{body_tree}
 use Rattle.clearance.specs.Judged.{blamed_expression, blamed_statement}
-use Rattle.clearance.specs.Verdict.{Request, Report, refused, body, has_shape}
+use Rattle.clearance.specs.Verdict.{Request, Report, Answer, refused, body, has_shape}
 use Rattle.pass.specs.Checked.{judge_by, checked}
 use Rattle.judge.specs.Given.{scope_at}
 use Rattle.judge.proofs.PathSteps.{function_valid, few}
 use Rattle.framed.proofs.Given.{read_function, judged_function, statements-fit}
 use Rattle.standing.specs.World.{World}
 use Rattle.checking.specs.Check.{scope_of, value_of, cut_short, on_buffer, meaning_by, answer_to}
-use Rattle.checking.specs.Word.{refusal_unit, check_word}
+use Rattle.checking.specs.Word.{said}
+use Rattle.checking.specs.declared.words.Verdict.{Verdict}
 use Rattle.checking.specs.Stretch.{Firsts, marks_in, MarksFound}
 use Rattle.rounds.specs.Settling.{asked_by, reported, Settling, Settled}
 use Rattle.verdict.specs.Heard.{asks_by, Accepted, Hears}
 use Rattle.verdict.specs.declared.heard.Heard.{Heard}
-use Rattle.verdict.specs.declared.heard.Heard.TheVariants.{Refused, Of}
 use Rattle.verdict.specs.Tables.{Tables, unjudged, Judges}
 use Rattle.verdict.specs.Checks.{Working, Asked, Marked, MarksChecked, ReportChecked}
 
 -- What is not judged, and what is
 
-unjudged-word : (S : Scope) (R : Request) (P : Report) (o p : Option ℕ) {w : ℕ} → w ≡ unjudged o p → 0 < w → w ≡ check_word (judge_by S R P o p)
-unfolding unjudged judge_by check_word
-unjudged-word S R P (some e) p h l = h
-unjudged-word S R P nothing (some n) h l = h
-unjudged-word S R P nothing nothing h l = absurd (omega arith)
+unjudged_is : (S : Scope) (R : Request) (P : Report) (o p : Option ℕ) {a : Answer} → some a ≡ unjudged o p → a ≡ judge_by S R P o p
+unfolding unjudged judge_by
+unjudged_is S R P (some e) p h = cc
+unjudged_is S R P nothing (some n) h = cc
+unjudged_is S R P nothing nothing h = never cc
 
-none_left : (o p : Option ℕ) → 0 ≡ unjudged o p → (o ≡ nothing) × (p ≡ nothing)
+none_left : (o p : Option ℕ) → nothing ≡ unjudged o p → (o ≡ nothing) × (p ≡ nothing)
 unfolding unjudged
-none_left (some e) p h = absurd (omega arith)
-none_left nothing (some n) h = absurd (omega arith)
+none_left (some e) p h = never cc
+none_left nothing (some n) h = never cc
 none_left nothing nothing h = (refl, refl)
 
 module _ {bytes t : List ℕ} {f : ℕ} {types alike held paths firsts s rs path : List ℕ} {g v : ℕ} (M : Marked bytes t f types alike held paths firsts s rs path g v) where
@@ -86,12 +87,12 @@ module _ {bytes t : List ℕ} {f : ℕ} {types alike held paths firsts s rs path
         few_records bytes m M.was_read.module_is,
       )
 
-  pub not_judged : {r : ℕ} (marks context : List ℕ) → Judges bytes t f r → 0 < r → MarksChecked bytes t f s g v marks context r
-  not_judged marks context J l = record { is = λ c e. unjudged-word S (asked_by s g v) (reported marks c) _ _ (J.is marks) l }
+  pub not_judged : {r : Maybe Verdict} {w : Verdict} (marks context : List ℕ) → Judges bytes t f r → r ≡ Some w → MarksChecked bytes t f s g v marks context (said w)
+  not_judged marks context J h = record { is = λ c e. unjudged_is S (asked_by s g v) (reported marks c) _ _ (rw h at (J.is marks)) }
 
-  module _ {r : ℕ} (J : Judges bytes t f r) (judged : r ≡ 0) where
+  module _ {r : Maybe Verdict} (J : Judges bytes t f r) (judged : r ≡ None) where
     nothing-blamed : (marks : List ℕ) → (blamed_expression S ≡ nothing) × (blamed_statement S (body_tree (function_of bytes t f) marks) ≡ nothing)
-    nothing-blamed marks = none_left _ _ (sym judged ∙ J.is marks)
+    nothing-blamed marks = none_left _ _ (rw judged at (J.is marks))
 
     -- a function of which nothing is to blame is a world for the rounds
     world : {rows same ways unsized : List ℕ} → Tables bytes t f rows same unsized ways → World bytes t f rows same ways
@@ -116,7 +117,7 @@ module _ {bytes t : List ℕ} {f : ℕ} {types alike held paths firsts s rs path
       ascends = M.stored.ascends;
     }
 
-    pub settled : {w : ℕ} (marks context : List ℕ) → Settled S (asked_by s g v) marks context w → MarksChecked bytes t f s g v marks context w
+    pub settled : {w : Answer} (marks context : List ℕ) → Settled S (asked_by s g v) marks context w → MarksChecked bytes t f s g v marks context w
     unfolding judge_by
     settled marks context D = record { is = λ c e. rw ((nothing-blamed marks).0, (nothing-blamed marks).1) (D.is c e) }
 
@@ -172,8 +173,7 @@ module _ {bytes t : List ℕ} {f : ℕ} {rows alike held paths firsts s rs path 
     unshaped false true ha hb h c = never (sym h)
     unshaped false false ha hb h c = rw ha (rw same_scope (checked-unshaped (scope_at bytes t f) (asked_by s g v) (reported marks c) hb))
 
-    pub refused_21 : {x : Bor (List ℕ)} → r ≡ Err x → ReportChecked (module_of bytes t) s f g v report context (refusal_unit * 21)
-    unfolding check_word
+    pub refused_21 : {x : Bor (List ℕ)} → r ≡ Err x → ReportChecked (module_of bytes t) s f g v report context (refused 21)
     refused_21 h = record { is = λ c e. rw (unshaped _ _ refl refl (sym D.fits ∙ ap is_ok h) c) }
 
     shaped : (a b : Bool) → cut_short (module_of bytes t) f report ≡ a → has_shape (function_of bytes t f) marks ≡ b → not a && b ≡ true → (c : RequiredContext) →
@@ -183,27 +183,27 @@ module _ {bytes t : List ℕ} {f : ℕ} {rows alike held paths firsts s rs path 
     shaped false false ha hb h c = never h
     shaped false true ha hb h c = rw ha (rw same_scope (checked-shaped (scope_at bytes t f) (asked_by s g v) (reported marks c) hb))
 
-    pub report-checked : {w : ℕ} {x : Bor (List ℕ)} → r ≡ Ok x → MarksChecked bytes t f s g v x.now context w → ReportChecked (module_of bytes t) s f g v report context w
+    pub report-checked : {w : Answer} {x : Bor (List ℕ)} → r ≡ Ok x → MarksChecked bytes t f s g v x.now context w → ReportChecked (module_of bytes t) s f g v report context w
     report-checked {x = x} h C =
         let same : x.now ≡ marks = subst (λ (o : Result (Bor (List ℕ)) (Bor (List ℕ))). MatchResult o (λ m. m.now ≡ marks) (λ m. m.now ≡ marks)) h D.is in
-        record { is = λ c e. rw same at (C.is c e) ∙ ap check_word (sym (shaped _ _ refl refl (sym D.fits ∙ ap is_ok h) c)) }
+        record { is = λ c e. rw same at (C.is c e) ∙ sym (shaped _ _ refl refl (sym D.fits ∙ ap is_ok h) c) }
 
 -- The whole
 
-module _ {m : Module} {request context u : List ℕ} {a : Heard} (H : Hears m request context u a) (report : List ℕ) where
-  pub read_refused : {n : ℕ} → a ≡ Refused n → refusal_unit * n ≡ check_word (answer_to (meaning_by m report (request_of request) (context_of context)))
-  unfolding answer_to check_word
+module _ {m : Module} {request context u : List ℕ} {a : Result Heard Refusal} (H : Hears m request context u a) (report : List ℕ) where
+  pub read_refused : {e : Refusal} → a ≡ Err e → refused (number e) ≡ answer_to (meaning_by m report (request_of request) (context_of context))
+  unfolding answer_to
   read_refused e = rw ((rw e at H.by) report)
 
-  heard_is : {f : Handle} {g v : ℕ} → a ≡ Of f g v → Accepted m request context u f.0 g v
+  heard_is : {h : Heard} → a ≡ Ok h → Accepted m request context u h.function.0 h.globals h.value
   heard_is e = rw e at H.by
 
-  pub read_checked : {f : Handle} {g v w : ℕ} → a ≡ Of f g v → ReportChecked m u f.0 g v report context w → w ≡ check_word (answer_to (meaning_by m report (request_of request) (context_of context)))
+  pub read_checked : {h : Heard} {w : Answer} → a ≡ Ok h → ReportChecked m u h.function.0 h.globals h.value report context w → w ≡ answer_to (meaning_by m report (request_of request) (context_of context))
   read_checked e C = let A = heard_is e in rw (A.is report) (C.is A.given A.given_is)
 
-  pub read_asks : {bytes t : List ℕ} {f : Handle} {g v : ℕ} {rows alike held paths firsts s rs path : List ℕ} → WasRead bytes t → Working rows alike held paths firsts s rs path → module_of bytes t ≡ m → length u ≡ length s →
-      a ≡ Of f g v → Asked bytes t f.0 rows alike held paths firsts u rs path g v
-  read_asks W K same e h = record {
+  pub read_asks : {bytes t : List ℕ} {h : Heard} {rows alike held paths firsts s rs path : List ℕ} → WasRead bytes t → Working rows alike held paths firsts s rs path → module_of bytes t ≡ m → length u ≡ length s →
+      a ≡ Ok h → Asked bytes t h.function.0 rows alike held paths firsts u rs path h.globals h.value
+  read_asks W K same e o = record {
     was_read = W;
     working = record {
       rows_long = K.rows_long;
@@ -215,5 +215,5 @@ module _ {m : Module} {request context u : List ℕ} {a : Heard} (H : Hears m re
       slots_long = K.slots_long;
       path_long = K.path_long;
     };
-    stored = rw same (heard_is h).stored;
+    stored = rw same (heard_is o).stored;
   }

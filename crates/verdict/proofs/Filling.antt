@@ -1,4 +1,4 @@
--- The tables of a function, of a module that was read: what filling them asks, and that they serve; and the number of what is not judged.
+-- The tables of a function, of a module that was read: what filling them asks, and that they serve; and what is not judged.
 use Prim.Native.Nat.{ℕ, ◌+◌, ◌*◌, ◌≤◌}
 use native.Mathlib.Omega.{arith}
 use mathlib.Core.Path.{◌≡◌, sym, ◌∙◌}
@@ -20,7 +20,7 @@ use Rattle.judge.specs.Paths.{PathTable}
 use Rattle.judge.specs.Given.{scope_at}
 use Rattle.judge.specs.Blamed.{blamed}
 use Rattle.judge.proofs.Equivalence.{lower_types}
-use Rattle.checking.specs.Word.{unjudged_expression_base, unjudged_statement_base}
+use Rattle.checking.specs.declared.words.Verdict.TheVariants.{UnjudgedExpression, UnjudgedStatement}
 use Rattle.verdict.specs.Tables.{Tables, unjudged, Judges}
 
 module _ {bytes t : List ℕ} {f : ℕ} (T : There bytes t f) where
@@ -49,15 +49,15 @@ module _ {bytes t : List ℕ} {f : ℕ} (T : There bytes t f) where
 
 -- what is not judged
 module _ (bytes t : List ℕ) (f : ℕ) {b : Option ℕ} (B : blamed b ≡ blamed_expression (scope_at bytes t f)) where
-  pub at-expression : {e : ℕ} → b ≡ Some e → Judges bytes t f (unjudged_expression_base + e)
+  pub at-expression : {e : ℕ} → b ≡ Some e → Judges bytes t f (Some (UnjudgedExpression e))
   unfolding unjudged
   at-expression h = record { is = λ marks. rw (← B, h) }
 
   module _ (none : b ≡ None) {d : Option ℕ} (D : (marks : List ℕ) → blamed d ≡ blamed_statement (scope_at bytes t f) (body_tree (function_of bytes t f) marks)) where
-    pub at-statement : {n : ℕ} → d ≡ Some n → Judges bytes t f (unjudged_statement_base + n)
+    pub at-statement : {n : ℕ} → d ≡ Some n → Judges bytes t f (Some (UnjudgedStatement n))
     unfolding unjudged
     at-statement h = record { is = λ marks. rw (← B, none, ← D marks, h) }
 
-    pub all_judged : d ≡ None → Judges bytes t f 0
+    pub all_judged : d ≡ None → Judges bytes t f None
     unfolding unjudged
     all_judged h = record { is = λ marks. rw (← B, none, ← D marks, h) }

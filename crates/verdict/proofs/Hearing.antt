@@ -17,7 +17,6 @@ use Rattle.part.proofs.Equations.{never}
 use Rattle.module.specs.Module.{Module}
 use Rattle.module.specs.File as file
 use Rattle.module.specs.Tables.{function_of, module_of}
-use Rattle.module.specs.declared.handles.FunctionHandle.{FunctionHandle as Handle}
 use Rattle.access.proofs.Access.{function_is}
 use Rattle.context.specs.RequiredContext.{RequiredContext, pieces, return_entry}
 use Rattle.request.specs.Fields.{refused, accepted}
@@ -36,13 +35,14 @@ use Rattle.sound.proofs.Asked as sound
 use Rattle.requests.proofs.Basing.{long_refused}
 use Rattle.requests.proofs.Few.{base_few}
 use Rattle.context_bytes.specs.Checked.{status_of, without_function}
+use Rattle.context_bytes.proofs.Status.{refused_above}
 use Rattle.checking.specs.Check.{unread, scope_of, value_of, report_by, cut_short, on_buffer, meaning_of, meaning_by}
 use Rattle.checking.specs.Check as check
 use Rattle.valid.specs.There.{There}
 use Rattle.checking.proofs.Meaning as meaning
 use Rattle.rounds.specs.Settling.{asked_by}
 use Rattle.verdict.specs.Heard.{Store, Pieces, Loaded, ValuePiece, refused_first, Accepted, Hears}
-use Rattle.verdict.specs.declared.heard.Heard.TheVariants as heard
+use Rattle.verdict.specs.declared.heard.Heard.{Heard}
 
 -- the piece of the value
 pub value_piece : (o : Maybe ℕ) → ValuePiece o (unwrap_or o 2)
@@ -194,7 +194,7 @@ unfolding cut_short
 enough m f = let n = start_of m f + stretch m f in le-ltb (length (replicate n 0)) n (omega (arith, length-replicate {A = ℕ} n 0))
 
 module _ (m : Module) (request context : List ℕ) {n g : ℕ} (functions : n ≡ length m.functions) (globals : g ≡ length m.globals) {s : List ℕ} {a : Result declared.Request Refusal} (L : Loaded n g request s a) where
-  pub hears_first : {e : Refusal} → a ≡ Err e → {r : ℕ} → r ≡ refused_first (number e) (context_of context) → Hears m request context s (heard.Refused r)
+  pub hears_first : {e : Refusal} → a ≡ Err e → {r : Refusal} → number r ≡ refused_first (number e) (context_of context) → Hears m request context s (Err r)
   hears_first h z = record { by = rw z (meant_first m (request_of request) (context_of context) (rw (← functions, ← globals) (rw h at L.is))) }
 
 module _ (bytes : List ℕ) (m : Module) (R : file.read_module bytes ≡ file.accepted m) (request context : List ℕ) {n g : ℕ} (functions : n ≡ length m.functions) (globals : g ≡ length m.globals)
@@ -214,13 +214,10 @@ module _ (bytes : List ℕ) (m : Module) (R : file.read_module bytes ≡ file.ac
   pub function-there : q.function.0 < length m.functions
   function-there = (sound.asked m min_report request asked_for is_asked).function
 
-  pub hears_refused : {r : ℕ} → r ≡ status_of (read_context m (function_at m q.function.0) context) → 0 < r → Hears m request context s (heard.Refused r)
-  hears_refused e h = record { by = meant_refused m named (context_of context) e h }
+  pub hears_refused : {r : Refusal} → number r ≡ status_of (read_context m (function_at m q.function.0) context) → Hears m request context s (Err r)
+  hears_refused {r} e = record { by = meant_refused m named (context_of context) e (refused_above r) }
 
-  module _ {r : ℕ} (status : r ≡ status_of (read_context m (function_at m q.function.0) context)) (none : r ≡ 0) {v : ℕ} (piece : ValuePiece q.retval v) where
-    accepts : 0 ≡ status_of (read_context m (function_at m q.function.0) context)
-    accepts = sym none ∙ status
-
+  module _ (accepts : 0 ≡ status_of (read_context m (function_at m q.function.0) context)) {v : ℕ} (piece : ValuePiece q.retval v) where
     means : part s v ≡ value_of (optional s q.retval)
     means = piece.is s
 
@@ -262,5 +259,5 @@ module _ (bytes : List ℕ) (m : Module) (R : file.read_module bytes ≡ file.ac
       is = λ report. (meant_accepted m named (context_of context) accepts).3 report ∙ same_buffer m report q.function.0 (optional s q.retval) (part s q.globals) (part s v) given means;
     }
 
-    pub hears : {f : Handle} → q.function.0 ≡ f.0 → Hears m request context s (heard.Of f q.globals v)
-    hears e = record { by = rw (← e) accepted_request }
+    pub hears : Hears m request context s (Ok (record { function = q.function; globals = q.globals; value = v }))
+    hears = record { by = accepted_request }

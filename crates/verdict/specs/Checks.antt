@@ -9,12 +9,11 @@ use Rattle.context.specs.RequiredContext.{RequiredContext}
 use Rattle.request.specs.Context.{context_of}
 use Rattle.state.specs.Ready.{WasRead}
 use Rattle.clearance.specs.Judged.{blamed_expression, blamed_statement}
-use Rattle.clearance.specs.Verdict.{body}
+use Rattle.clearance.specs.Verdict.{Answer, body}
 use Rattle.pass.specs.Checked.{judge_by}
 use Rattle.judge.specs.Given.{scope_at}
 use Rattle.standing.specs.Slots.{stack_slot}
 use Rattle.checking.specs.Check.{on_buffer, answer_to}
-use Rattle.checking.specs.Word.{check_word}
 use Rattle.rounds.specs.Settling.{asked_by, reported}
 use Rattle.verdict.specs.Heard.{Store, asks_by, Stored}
 use Rattle.verdict.specs.Tables.{Sized}
@@ -46,11 +45,11 @@ pub record Marked (bytes t : List ℕ) (f : ℕ) (types alike held paths firsts 
   pub path_long : max_expressions + 2 ≤ length path
   pub stored : Stored (module_of bytes t) s f g v
 
--- r is the number of what is answered of marks with the function's shape, of whatever context the bytes mean
-pub record MarksChecked (bytes t : List ℕ) (f : ℕ) (s : List ℕ) (g v : ℕ) (marks context : List ℕ) (r : ℕ) : Type 0 where
+-- a is what is answered of marks with the function's shape, of whatever context the bytes mean
+pub record MarksChecked (bytes t : List ℕ) (f : ℕ) (s : List ℕ) (g v : ℕ) (marks context : List ℕ) (a : Answer) : Type 0 where
   pub is : (c : RequiredContext) → context_of context ≡ some c →
-      r ≡ check_word (judge_by (scope_at bytes t f) (asked_by s g v) (reported marks c) (blamed_expression (scope_at bytes t f)) (blamed_statement (scope_at bytes t f) (body (scope_at bytes t f) (reported marks c))))
+      a ≡ judge_by (scope_at bytes t f) (asked_by s g v) (reported marks c) (blamed_expression (scope_at bytes t f)) (blamed_statement (scope_at bytes t f) (body (scope_at bytes t f) (reported marks c)))
 
--- r is the number of what is answered of a report buffer
-pub record ReportChecked (m : Module) (s : List ℕ) (f g v : ℕ) (report context : List ℕ) (r : ℕ) : Type 0 where
-  pub is : (c : RequiredContext) → context_of context ≡ some c → r ≡ check_word (answer_to (on_buffer m report (asks_by s f g v) c))
+-- a is what is answered of a report buffer
+pub record ReportChecked (m : Module) (s : List ℕ) (f g v : ℕ) (report context : List ℕ) (a : Answer) : Type 0 where
+  pub is : (c : RequiredContext) → context_of context ≡ some c → a ≡ answer_to (on_buffer m report (asks_by s f g v) c)

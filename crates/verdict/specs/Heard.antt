@@ -2,6 +2,7 @@
 use Rattle.std.specs.Prelude.{ℕ, ◌+◌, ◌*◌, ◌<◌, ◌≤◌, ◌≡◌, false, cond, eqb, List, length, Option as Maybe, Result, Ok, Err}
 use Rattle.std.proofs.Math.Option.{Option, some}
 use Rattle.field.specs.Limits.{absent, min_report}
+use Rattle.field.specs.Refusal.{number}
 use Rattle.field.specs.declared.refusal.Refusal.{Refusal}
 use Rattle.part.specs.PartReq.{is_all, entries}
 use Rattle.part.specs.StoreLimits.{cell_words, store_words, table_words}
@@ -19,7 +20,6 @@ use Rattle.hold.specs.Hold.{slack}
 use Rattle.checking.specs.Check.{unread, value_of, on_buffer, meaning_by}
 use Rattle.rounds.specs.Settling.{asked_by}
 use Rattle.verdict.specs.declared.heard.Heard.{Heard}
-use Rattle.verdict.specs.declared.heard.Heard.TheVariants.{Refused, Of}
 
 -- words for the store of a check, of any contents
 pub record Store (s : List ℕ) : Type 0 where
@@ -66,9 +66,9 @@ pub record Accepted (m : Module) (request context s : List ℕ) (f g v : ℕ) : 
   pub given_is : context_of context ≡ some given
   pub is : (report : List ℕ) → meaning_by m report (request_of request) (context_of context) ≡ on_buffer m report (asks_by s f g v) given
 
-abbrev pub HearsBy : Module → (request context s : List ℕ) → Heard → Type 0
-HearsBy m request context s (Refused n) = (report : List ℕ) → meaning_by m report (request_of request) (context_of context) ≡ unread n
-HearsBy m request context s (Of f g v) = Accepted m request context s f.0 g v
+abbrev pub HearsBy : Module → (request context s : List ℕ) → Result Heard Refusal → Type 0
+HearsBy m request context s (Err e) = (report : List ℕ) → meaning_by m report (request_of request) (context_of context) ≡ unread (number e)
+HearsBy m request context s (Ok h) = Accepted m request context s h.function.0 h.globals h.value
 
-pub record Hears (m : Module) (request context s : List ℕ) (a : Heard) : Type 0 where
+pub record Hears (m : Module) (request context s : List ℕ) (a : Result Heard Refusal) : Type 0 where
   pub by : HearsBy m request context s a

@@ -1,13 +1,15 @@
 -- The tables of a function, and what they say of whether it is judged.
-use Rattle.std.specs.Prelude.{ℕ, ◌+◌, ◌*◌, ◌≡◌, List, length}
+use Rattle.std.specs.Prelude.{ℕ, ◌*◌, ◌≡◌, List, length, Option as Maybe, Some, None}
 use Rattle.std.proofs.Math.Option.{Option, some, none as nothing}
 use Rattle.module.specs.Tables.{function_of, module_of}
 use Rattle.context.specs.Types.{type_words, types_of}
 use Rattle.clearance.specs.Tree.{body_tree}
 use Rattle.clearance.specs.Judged.{blamed_expression, blamed_statement}
+use Rattle.clearance.specs.Verdict.{Answer, unjudged_expression, unjudged_statement}
 use Rattle.judge.specs.Unsized.{UnsizedTable}
 use Rattle.judge.specs.Given.{scope_at, Given}
-use Rattle.checking.specs.Word.{unjudged_expression_base, unjudged_statement_base}
+use Rattle.checking.specs.Word.{said}
+use Rattle.checking.specs.declared.words.Verdict.{Verdict}
 
 -- as many words as are filled
 pub record Sized (bytes t : List ℕ) (f : ℕ) (types alike held paths : List ℕ) : Type 0 where
@@ -20,12 +22,17 @@ pub record Tables (bytes t : List ℕ) (f : ℕ) (types alike held paths : List 
   pub given : Given bytes t f types alike paths
   pub unsized : UnsizedTable (types_of types) held
 
--- the number of what is not judged, or 0
-unfoldable pub unjudged : (expression statement : Option ℕ) → ℕ
-unjudged (some e) s = unjudged_expression_base + e
-unjudged nothing (some n) = unjudged_statement_base + n
-unjudged nothing nothing = 0
+-- the answer where something is not judged
+unfoldable pub unjudged : (expression statement : Option ℕ) → Option Answer
+unjudged (some e) s = some (unjudged_expression e)
+unjudged nothing (some n) = some (unjudged_statement n)
+unjudged nothing nothing = nothing
+
+-- the same as the code has it
+abbrev pub said_if : Maybe Verdict → Option Answer
+said_if None = nothing
+said_if (Some v) = some (said v)
 
 -- r is that of the function f, whatever its marks
-pub record Judges (bytes t : List ℕ) (f r : ℕ) : Type 0 where
-  pub is : (marks : List ℕ) → r ≡ unjudged (blamed_expression (scope_at bytes t f)) (blamed_statement (scope_at bytes t f) (body_tree (function_of bytes t f) marks))
+pub record Judges (bytes t : List ℕ) (f : ℕ) (r : Maybe Verdict) : Type 0 where
+  pub is : (marks : List ℕ) → said_if r ≡ unjudged (blamed_expression (scope_at bytes t f)) (blamed_statement (scope_at bytes t f) (body_tree (function_of bytes t f) marks))

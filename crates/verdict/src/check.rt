@@ -5,10 +5,11 @@ ghost use Rattle.module.specs.Tables.{module_of};
 ghost use Rattle.request.specs.Request.{request_of};
 ghost use Rattle.request.specs.Context.{context_of};
 ghost use Rattle.checking.specs.Check.{meaning_by, answer_to};
-ghost use Rattle.checking.specs.Word.{check_word};
+ghost use Rattle.checking.specs.Word.{said};
 ghost use Rattle.state.specs.Ready.{WasRead};
 
 use crate::verdict::check_read;
+use checking::words::Verdict;
 use context::remove::TYPE_WORDS;
 use field::limits::{MAX_EXPRESSIONS, MAX_STATEMENTS, MAX_TYPES};
 use memory::layout::{CELLS, SLOTS};
@@ -25,9 +26,9 @@ pub fn check_in(
     request: &[u8],
     report: &[u8],
     context: &[u8],
-) -> u64
+) -> Verdict
     requires { WasRead bytes.now t.now }
-    ensures { result ≡ check_word (answer_to (meaning_by (module_of bytes.now t.now) report.now (request_of request.now) (context_of context.now))) }
+    ensures { said result ≡ answer_to (meaning_by (module_of bytes.now t.now) report.now (request_of request.now) (context_of context.now)) }
 {
     let mut rows: [u32; TYPE_WORDS * MAX_TYPES] = [0; TYPE_WORDS * MAX_TYPES];
     let mut alike: [u32; MAX_TYPES] = [0; MAX_TYPES];

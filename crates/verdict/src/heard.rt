@@ -20,11 +20,12 @@ use module::handles::FunctionHandle;
 use part::store::init;
 use request::requests::{Request, read_request};
 
-// 01's number; or the asked function, and the pieces that are asked of the globals and of the value.
+// The asked function, and the pieces that are asked of the globals and of the value.
 #[derive(Clone, Copy)]
-pub enum Heard {
-    Refused(u32),
-    Of(FunctionHandle, u32, u32),
+pub struct Heard {
+    pub function: FunctionHandle,
+    pub globals: u32,
+    pub value: u32,
 }
 
 // What the bytes of a request ask, in a store that has nothing else. A check has no report buffer that could be too short.
@@ -73,20 +74,26 @@ fn context_status(bytes: &[u8], t: &[u32], f: FunctionHandle, context: &[u8]) ->
     check_context(context, all, given, own)
 }
 
-pub fn hear(bytes: &[u8], t: &[u32], cells: &mut [u32], request: &[u8], context: &[u8]) -> Heard
+pub fn hear(
+    bytes: &[u8],
+    t: &[u32],
+    cells: &mut [u32],
+    request: &[u8],
+    context: &[u8],
+) -> Result<Heard, Refusal>
     requires { WasRead bytes.now t.now × Store cells.old }
     ensures { Hears (module_of bytes.now t.now) request.now context.now cells.new result }
 {
     let n = functions(t);
-    match load_request(cells, request, n, globals(t)) {
-        Err(e) => Heard::Refused(u32::from(refused_first(e, context))),
-        Ok(q) => {
-            let f = q.function;
-            if let Err(e) = context_status(bytes, t, f, context) {
-                return Heard::Refused(u32::from(e));
-            }
-            let retval = q.retval;
-            Heard::Of(f, q.globals, value_piece(retval))
-        }
-    }
+    let q = match load_request(cells, request, n, globals(t)) {
+        Ok(q) => q,
+        Err(e) => return Err(refused_first(e, context)),
+    };
+    context_status(bytes, t, q.function, context)?;
+    let value = value_piece(q.retval);
+    Ok(Heard {
+        function: q.function,
+        globals: q.globals,
+        value,
+    })
 }

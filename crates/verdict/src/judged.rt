@@ -1,12 +1,12 @@
 // Whether a function is judged: the lowest expression that is not, else the lowest statement.
 ghost use Rattle.verdict.specs.Tables.{Tables, Judges};
 
-use checking::words::{UNJUDGED_EXPRESSION, UNJUDGED_STATEMENT};
+use checking::words::Verdict;
 use judge::expressions::blamed_expression;
 use module::handles::FunctionHandle;
 use strays::blame::blamed_statement;
 
-// The number of what is not judged, or 0.
+// The answer where something is not judged.
 pub fn unjudged(
     bytes: &[u8],
     t: &[u32],
@@ -15,15 +15,13 @@ pub fn unjudged(
     alike: &[u32],
     held: &[u32],
     paths: &[u32],
-) -> u64
+) -> Option<Verdict>
     requires { Tables bytes.now t.now f.0 types.now alike.now held.now paths.now }
     ensures { Judges bytes.now t.now f.0 result }
 {
     if let Some(e) = blamed_expression(bytes, t, f, types, alike, held, paths) {
-        return UNJUDGED_EXPRESSION + (e as u64);
+        return Some(Verdict::UnjudgedExpression(e));
     }
-    match blamed_statement(bytes, t, f, types, alike, paths) {
-        None => 0,
-        Some(s) => UNJUDGED_STATEMENT + (s as u64),
-    }
+    let s = blamed_statement(bytes, t, f, types, alike, paths)?;
+    Some(Verdict::UnjudgedStatement(s))
 }

@@ -1,4 +1,4 @@
-// The check's number, of a module that was read: what is asked, the tables of the function, whether it is judged, and the rounds.
+// The check's answer, of a module that was read: what is asked, the tables of the function, whether it is judged, and the rounds.
 #![tactic(auto)]
 
 pub mod check;

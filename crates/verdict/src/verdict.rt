@@ -1,22 +1,23 @@
-// The check's number, of a module that was read.
+// The check's answer, of a module that was read.
 ghost use Rattle.std.specs.Prelude.{◌≡◌};
 ghost use Rattle.module.specs.Tables.{module_of};
 ghost use Rattle.request.specs.Request.{request_of};
 ghost use Rattle.request.specs.Context.{context_of};
 ghost use Rattle.checking.specs.Check.{meaning_by, answer_to};
-ghost use Rattle.checking.specs.Word.{check_word};
+ghost use Rattle.checking.specs.Word.{said};
 ghost use Rattle.state.specs.Ready.{WasRead};
 ghost use Rattle.verdict.specs.Checks.{Working, Asked, Marked, MarksChecked, ReportChecked};
 
-use crate::heard::{Heard, hear};
+use crate::heard::hear;
 use crate::judged::unjudged;
 use crate::tables::fill_tables;
 use access::function::expressions;
 use access::whole::types;
 use checking::firsts::fill_firsts;
 use checking::shape::marks_shape;
-use checking::words::REFUSAL;
+use checking::words::Verdict;
 use context::remove::TYPE_WORDS;
+use field::refusal::Refusal;
 use module::handles::FunctionHandle;
 use rounds::settle::settle;
 
@@ -37,20 +38,19 @@ fn check_marks(
     value: u32,
     marks: &[u8],
     context: &[u8],
-) -> u64
+) -> Verdict
     requires { Marked bytes.now t.now f.0 types.old alike.old held.old paths.old firsts.old cells.old roots.old path.old globals value }
-    ensures { MarksChecked bytes.now t.now f.0 cells.old globals value marks.now context.now result }
+    ensures { MarksChecked bytes.now t.now f.0 cells.old globals value marks.now context.now (said result) }
 {
     fill_tables(bytes, t, f, types, alike, held, paths);
-    let word = unjudged(bytes, t, f, types, alike, held, paths);
-    if 0 < word {
-        return word;
+    if let Some(verdict) = unjudged(bytes, t, f, types, alike, held, paths) {
+        return verdict;
     }
     fill_firsts(bytes, t, f, firsts);
-    u64::from(settle(
+    settle(
         bytes, t, f, types, alike, paths, marks, firsts, cells, roots, path, globals, value,
         context,
-    ))
+    )
 }
 
 // The marks of f in the report buffer.
@@ -70,12 +70,12 @@ fn check_report(
     value: u32,
     report: &[u8],
     context: &[u8],
-) -> u64
+) -> Verdict
     requires { Asked bytes.now t.now f.0 rows.old alike.old held.old paths.old firsts.old cells.old roots.old path.old globals value }
-    ensures { ReportChecked (module_of bytes.now t.now) cells.old f.0 globals value report.now context.now result }
+    ensures { ReportChecked (module_of bytes.now t.now) cells.old f.0 globals value report.now context.now (said result) }
 {
     let Ok(marks) = marks_shape(bytes, t, f, report) else {
-        return REFUSAL * 21;
+        return Verdict::Refused(Refusal::MarksUnfit);
     };
     let n = types(t) as usize;
     let e = expressions(t, f) as usize;
@@ -113,15 +113,28 @@ pub fn check_read(
     request: &[u8],
     report: &[u8],
     context: &[u8],
-) -> u64
+) -> Verdict
     requires { WasRead bytes.now t.now × Working rows.old alike.old held.old paths.old firsts.old cells.old roots.old path.old }
-    ensures { result ≡ check_word (answer_to (meaning_by (module_of bytes.now t.now) report.now (request_of request.now) (context_of context.now))) }
+    ensures { said result ≡ answer_to (meaning_by (module_of bytes.now t.now) report.now (request_of request.now) (context_of context.now)) }
 {
     match hear(bytes, t, cells, request, context) {
-        Heard::Refused(n) => REFUSAL * (n as u64),
-        Heard::Of(f, globals, value) => check_report(
-            bytes, t, f, rows, alike, held, paths, firsts, cells, roots, path, globals, value,
-            report, context,
+        Err(refusal) => Verdict::Refused(refusal),
+        Ok(heard) => check_report(
+            bytes,
+            t,
+            heard.function,
+            rows,
+            alike,
+            held,
+            paths,
+            firsts,
+            cells,
+            roots,
+            path,
+            heard.globals,
+            heard.value,
+            report,
+            context,
         ),
     }
 }

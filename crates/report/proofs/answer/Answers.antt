@@ -1,12 +1,11 @@
 -- `report::answer` meets its contract: what is printed is the text of the input.
 use mathlib.Core.Path.{refl}
-use Rattle.field.proofs.Refusals.{some_number}
 use Rattle.report.proofs.Whole.{input-refused, was_read}
 use Rattle.report.proofs.answer.Goals as goal
 
 pub print-requires : goal.print-requires
 print-requires g c =
-    rw c.from.ensures (input-refused c.args.input.now c.in-Err.ensures (some_number _))
+    input-refused c.args.input.now c.in-Err.ensures
 
 pub walk_input-outcome-requires : goal.walk_input-outcome-requires
 walk_input-outcome-requires g c =

@@ -4,4 +4,4 @@ use Rattle.access.proofs.function.argument.Goals as goal
 
 pub returns : goal.returns
 returns c =
-    argument_read _ _ _ c.row_at-row.ensures _ _ _ _ _ c.word-offset.ensures c.body.ensures c.body-2.ensures
+    argument_read _ _ _ c.row_at-row.ensures _ _ _ _ _ _ c.word-offset.ensures c.body.ensures c.body-2.ensures c.unless_absent-binding.ensures

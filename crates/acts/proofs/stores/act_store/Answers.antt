@@ -26,7 +26,7 @@ returns-then-target c =
 
 pub store_at-requires : goal.store_at-requires
 store_at-requires c =
-    record { place_given = known_asks c.requires.act_given c.requires.store_of (c.store_overlap-a.ensures c.args.v.0) c.find_target-target.ensures.is (sym c.find_target-target.ensures.dynamic ∙ c.if-target.false); from_le_to = (c.find_target-target.ensures.low, c.find_target-target.ensures.high) }
+    known_asks c.requires.act_given c.requires.store_of (c.store_overlap-a.ensures c.args.v.0) c.find_target-target.ensures.is (sym c.find_target-target.ensures.dynamic ∙ c.if-target.false)
 
 pub returns : goal.returns
 returns c =

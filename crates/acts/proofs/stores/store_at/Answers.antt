@@ -3,22 +3,22 @@ use Rattle.acts.proofs.Storing.{known_full, known_given, value_full, value_copy,
 use Rattle.acts.proofs.stores.store_at.Goals as goal
 
 pub take_out-requires : goal.take_out-requires
-take_out-requires c = c.requires.place_given.take
+take_out-requires c = c.requires.take
 
 pub returns-then-not-take_out : goal.returns-then-not-take_out
-returns-then-not-take_out c = known_full c.requires.place_given c.take_out.ensures c.if-not-take_out.true
+returns-then-not-take_out c = known_full c.requires c.take_out.ensures c.if-not-take_out.true
 
 pub ask_value-requires : goal.ask_value-requires
-ask_value-requires c = known_given c.requires.place_given c.take_out.ensures c.if-not-take_out.false
+ask_value-requires c = known_given c.requires c.take_out.ensures c.if-not-take_out.false
 
 pub returns-then-not-ask_value : goal.returns-then-not-ask_value
 returns-then-not-ask_value c =
-    value_full c.requires.place_given c.take_out.ensures c.if-not-take_out.false c.ask_value.ensures c.if-not-ask_value.true
+    value_full c.requires c.take_out.ensures c.if-not-take_out.false c.ask_value.ensures c.if-not-ask_value.true
 
 pub copy-requires : goal.copy-requires
 copy-requires c =
-    value_copy c.requires.place_given c.take_out.ensures c.if-not-take_out.false c.ask_value.ensures c.if-not-ask_value.false
+    value_copy c.requires c.take_out.ensures c.if-not-take_out.false c.ask_value.ensures c.if-not-ask_value.false
 
 pub returns : goal.returns
 returns c =
-    known_left c.requires.place_given c.take_out.ensures c.if-not-take_out.false c.ask_value.ensures c.if-not-ask_value.false c.copy.ensures
+    known_left c.requires c.take_out.ensures c.if-not-take_out.false c.ask_value.ensures c.if-not-ask_value.false c.copy.ensures

@@ -24,22 +24,22 @@ pub overflow_add-held-2 : goal.overflow_add-held-2
 overflow_add-held-2 c = omega (arith, begin_held c.requires, c.weigh.ensures, c.own_pieces-own.ensures)
 
 pub record_of-found-requires : goal.record_of-found-requires
-record_of-found-requires c = begin_loads c.requires c.operand-n.ensures c.expression_operand-result.ensures
+record_of-found-requires c = begin_loads c.requires c.operand-n.ensures c.optional_expression-result.ensures
 
 pub asked_of-retval-requires : goal.asked_of-retval-requires
 asked_of-retval-requires c =
-    begin_asks c.requires c.operand-n.ensures c.expression_operand-result.ensures c.record_of-found.result c.record_of-found.ensures
+    begin_asks c.requires c.operand-n.ensures c.optional_expression-result.ensures c.record_of-found.result c.record_of-found.ensures
 
 pub enter-requires : goal.enter-requires
 enter-requires c =
-    let q9 = begin_enters c.requires c.operand-n.ensures c.expression_operand-result.ensures c.record_of-found.result c.record_of-found.ensures c.function_operand-g.ensures in
+    let q9 = begin_enters c.requires c.operand-n.ensures c.optional_expression-result.ensures c.record_of-found.result c.record_of-found.ensures c.function_operand-g.ensures in
     record { at_in_bounds = q9.0; inside = q9.1 }
 
 pub tidy-requires : goal.tidy-requires
 tidy-requires c =
-    let q9 = begin_tidies c.requires c.operand-n.ensures c.expression_operand-result.ensures c.record_of-found.result c.record_of-found.ensures c.function_operand-g.ensures c.asked_of-retval.ensures c.enter.ensures.slots_after in
+    let q9 = begin_tidies c.requires c.operand-n.ensures c.optional_expression-result.ensures c.record_of-found.result c.record_of-found.ensures c.function_operand-g.ensures c.asked_of-retval.ensures c.enter.ensures.slots_after in
     record { memory = q9.0; slots_bound = q9.1 }
 
 pub returns : goal.returns
 returns c =
-    call_begun c.requires c.operand-n.ensures c.expression_operand-result.ensures c.record_of-found.result c.record_of-found.ensures c.function_operand-g.ensures c.asked_of-retval.ensures c.enter.ensures.slots_after c.own_pieces-own.ensures c.weigh.ensures c.enter.ensures.open_after c.tidy.ensures
+    call_begun c.requires c.operand-n.ensures c.optional_expression-result.ensures c.record_of-found.result c.record_of-found.ensures c.function_operand-g.ensures c.asked_of-retval.ensures c.enter.ensures.slots_after c.own_pieces-own.ensures c.weigh.ensures c.enter.ensures.open_after c.tidy.ensures

@@ -15,15 +15,15 @@ overflow_add-n c = omega (arith, return_few c.requires, c.operand-n.ensures)
 
 pub record_of-found-requires : goal.record_of-found-requires
 record_of-found-requires c =
-    return_loads c.requires c.place-at.ensures c.operand-n.ensures c.expression_operand-result.ensures
+    return_loads c.requires c.place-at.ensures c.operand-n.ensures c.optional_expression-result.ensures
 
 pub end_call-r-requires : goal.end_call-r-requires
 end_call-r-requires c =
-    return_calls c.requires c.place-at.ensures c.operand-n.ensures c.expression_operand-result.ensures c.record_of-found.result c.record_of-found.ensures c.hold_result-there.ensures.1
+    return_calls c.requires c.place-at.ensures c.operand-n.ensures c.optional_expression-result.ensures c.record_of-found.result c.record_of-found.ensures c.hold_result-there.ensures.1
 
 pub mark_call-requires : goal.mark_call-requires
 mark_call-requires c = return_marks c.requires c.place-at.ensures
 
 pub returns : goal.returns
 returns c =
-    call_returned c.requires c.place-at.ensures c.operand-n.ensures c.expression_operand-result.ensures c.record_of-found.result c.record_of-found.ensures c.hold_result-there.ensures.1 c.args.required c.if-not-required.false-raw c.hold_result-there.ensures.0 c.end_call-r.ensures c.mark_call.ensures
+    call_returned c.requires c.place-at.ensures c.operand-n.ensures c.optional_expression-result.ensures c.record_of-found.result c.record_of-found.ensures c.hold_result-there.ensures.1 c.args.required c.if-not-required.false-raw c.hold_result-there.ensures.0 c.end_call-r.ensures c.mark_call.ensures

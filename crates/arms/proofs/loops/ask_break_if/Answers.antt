@@ -1,11 +1,12 @@
 -- `arms::loops::ask_break_if` meets its contract.
+use Rattle.access.proofs.Optional.{no_handle, handle_is}
 use Rattle.block.proofs.Paired.{weighs}
 use Rattle.arms.proofs.Passes.{first_weighs, break_absent, break_fits, break_asks, break_asked}
 use native.Mathlib.Omega.{arith}
 use Rattle.arms.proofs.loops.ask_break_if.Goals as goal
 
-pub returns-then-break_if-eq-NO_HANDLE : goal.returns-then-break_if-eq-NO_HANDLE
-returns-then-break_if-eq-NO_HANDLE c = break_absent c.requires c.if-break_if-eq-NO_HANDLE.true
+pub returns-in_default : goal.returns-in_default
+returns-in_default c = break_absent c.requires (no_handle c.in_default.is)
 
 pub weigh-first-requires : goal.weigh-first-requires
 weigh-first-requires c =
@@ -27,9 +28,9 @@ overflow_add-held-2 c =
 
 pub add_expression-requires : goal.add_expression-requires
 add_expression-requires c =
-    let q9 = break_asks c.requires c.weigh-first.ensures c.weigh-second.ensures c.if-break_if-eq-NO_HANDLE.false c.want_of-w.ensures in
+    let q9 = break_asks c.requires c.weigh-first.ensures c.weigh-second.ensures (handle_is c.in-Some.is) c.want_of-w.ensures in
     record { ready = q9.0; e_in_bounds = q9.1.0; wants = q9.1.1 }
 
 pub returns : goal.returns
 returns c =
-    break_asked c.requires c.weigh-first.ensures c.weigh-second.ensures c.if-break_if-eq-NO_HANDLE.false c.want_of-w.ensures c.add_expression.ensures
+    break_asked c.requires c.weigh-first.ensures c.weigh-second.ensures (handle_is c.in-Some.is) c.want_of-w.ensures c.add_expression.ensures

@@ -1,18 +1,14 @@
 -- `arms::visit::has_mark` meets its contract, kind by kind.
-use Rattle.arms.proofs.MarkKinds.{none_first, none_call, one_early, none_middle, one_late}
+use Rattle.std.proofs.Common.{sym}
+use Rattle.arms.proofs.MarkKinds.{own_none, own_one, own_past}
 use Rattle.arms.proofs.visit.has_mark.Goals as goal
 
-pub returns-then-kind-lt-IF : goal.returns-then-kind-lt-IF
-returns-then-kind-lt-IF c = λ b o. none_first b o _ c.if-kind-lt-IF.true
+pub returns-in_default : goal.returns-in_default
+returns-in_default c = λ b o. own_past b o _ c.in_default.ensures
 
-pub returns-then-kind-eq-CALL : goal.returns-then-kind-eq-CALL
-returns-then-kind-eq-CALL c = λ b o. none_call b o _ c.if-kind-eq-CALL.true
+pub returns-in-Emit : goal.returns-in-Emit
+returns-in-Emit c = λ b o. rw (sym c.in-Ok.ensures) (own_none b o c.in-Emit.is)
 
-pub returns-then-kind-lt-KILL : goal.returns-then-kind-lt-KILL
-returns-then-kind-lt-KILL c = λ b o. one_early b o _ c.if-kind-lt-IF.false c.if-kind-lt-KILL.true
-
-pub returns-then-kind-lt-STORE : goal.returns-then-kind-lt-STORE
-returns-then-kind-lt-STORE c = λ b o. none_middle b o _ c.if-kind-lt-KILL.false c.if-kind-lt-STORE.true
-
-pub returns : goal.returns
-returns c = λ b o. one_late b o _ c.if-kind-lt-STORE.false c.if-kind-eq-CALL.false
+pub returns-in_default-kind : goal.returns-in_default-kind
+returns-in_default-kind c =
+    λ b o. rw (sym c.in-Ok.ensures) (own_one b o _ c.in_default-kind.not-Emit c.in_default-kind.not-Block c.in_default-kind.not-Kill c.in_default-kind.not-ControlBarrier c.in_default-kind.not-MemoryBarrier c.in_default-kind.not-ImageAtomic c.in_default-kind.not-Call)

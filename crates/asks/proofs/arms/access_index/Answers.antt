@@ -4,11 +4,11 @@ use native.Mathlib.Omega.{arith}
 use Rattle.asks.proofs.arms.access_index.Goals as goal
 
 pub returns-then-j-gt0 : goal.returns-then-j-gt0
-returns-then-j-gt0 c = index_after c.requires.1 _ _ _ c.if-j-gt0.true
+returns-then-j-gt0 c = index_after _ _ _ c.if-j-gt0.true
 
 pub returns-then-wrap_over : goal.returns-then-wrap_over
 returns-then-wrap_over c =
-    index_over c.requires.1 _ c.if-j-gt0.false c.operand-i.ensures c.wrap_over.ensures _ c.if-wrap_over.true
+    index_over _ c.if-j-gt0.false c.operand-i.ensures c.wrap_over.ensures _ c.if-wrap_over.true
 
 pub wrap-want-requires : goal.wrap-want-requires
 wrap-want-requires c =
@@ -16,4 +16,4 @@ wrap-want-requires c =
 
 pub returns : goal.returns
 returns c =
-    index_asked c.requires.1 _ c.if-j-gt0.false c.operand-i.ensures c.wrap_over.ensures (omega arith) c.if-wrap_over.false c.expression_operand-base.ensures c.wrap-want.ensures
+    index_asked _ c.if-j-gt0.false c.operand-i.ensures c.wrap_over.ensures c.requires.1 (omega arith) c.if-wrap_over.false c.expression_operand-base.ensures c.wrap-want.ensures

@@ -4,14 +4,14 @@ use Rattle.asks.proofs.Telling.{constant_after, constant_all, constant_exist, co
 use Rattle.asks.proofs.arms.constant.Goals as goal
 
 pub returns-then-j-gt0 : goal.returns-then-j-gt0
-returns-then-j-gt0 c = constant_after c.requires.1 _ _ c.if-j-gt0.true
+returns-then-j-gt0 c = constant_after _ _ c.if-j-gt0.true
 
 pub returns-then-is_all : goal.returns-then-is_all
-returns-then-is_all c = constant_all c.requires.1 _ _ (sym c.if-is_all.true ∙ c.is_all.ensures)
+returns-then-is_all c = constant_all _ _ (sym c.if-is_all.true ∙ c.is_all.ensures)
 
 pub returns-then-is_exist : goal.returns-then-is_exist
-returns-then-is_exist c = constant_exist c.requires.1 _ _ (sym c.if-is_exist.true ∙ c.is_exist.ensures)
+returns-then-is_exist c = constant_exist _ _ (sym c.if-is_exist.true ∙ c.is_exist.ensures)
 
 pub returns : goal.returns
 returns c =
-    constant_refused c.requires.1 _ _ c.if-j-gt0.false (sym c.if-is_all.false ∙ c.is_all.ensures) (sym c.if-is_exist.false ∙ c.is_exist.ensures)
+    constant_refused _ _ c.if-j-gt0.false (sym c.if-is_all.false ∙ c.is_all.ensures) (sym c.if-is_exist.false ∙ c.is_exist.ensures)

@@ -1,12 +1,23 @@
 -- `asks::fields::want_by` meets its contract. Assumes nothing.
-use Rattle.asks.proofs.FieldAsks.{by_same, by_exist, by_all}
+use mathlib.Core.Path.{refl}
+use mathlib.Core.Logic.{inl, inr}
+use Rattle.asks.specs.Ways.{part_by}
+use Rattle.asks.proofs.FieldAsks.{wants_all, wants_exist}
 use Rattle.asks.proofs.fields.want_by.Goals as goal
 
-pub returns-then-way-eq-P : goal.returns-then-way-eq-P
-returns-then-way-eq-P c = by_same _ _ c.if-way-eq-P.true c.requires.1
+pub returns-in-Part : goal.returns-in-Part
+unfolding part_by
+returns-in-Part c = rw c.in-Part.is (record { wants = c.requires.1; is = refl })
 
-pub returns-then-way-eq-X : goal.returns-then-way-eq-X
-returns-then-way-eq-X c = by_exist c.requires.0 _ _ c.if-way-eq-X.true c.want_of.ensures
+pub returns-in-Exist : goal.returns-in-Exist
+unfolding part_by
+returns-in-Exist c = rw c.in-Exist.is (wants_exist c.requires.0 c.want_of.ensures)
 
-pub returns : goal.returns
-returns c = by_all c.requires.0 _ _ c.if-way-eq-P.false c.if-way-eq-X.false c.want_of-2.ensures
+pub returns-in-Skip : goal.returns-in-Skip
+unfolding part_by
+returns-in-Skip c = let all = wants_all c.requires.0 c.want_of-in-Skip.ensures in
+    elim c.in-Skip.is [
+      | inl e ↦ rw e all
+      | inr (inl e) ↦ rw e all
+      | inr (inr e) ↦ rw e all
+    ]

@@ -1,9 +1,10 @@
 -- The proof of the cycle of calls over blocks, statements and what they hold: the block's number falls. Each member's steps stand in a file of laws: Statements, Holders, Ifs, Switches, Loops.
 use Prim.Native.Nat.{◌-◌}
+use borrow.Author.Rules.{rules}
 use mathlib.Core.Path.{refl}
 use Rattle.strays.proofs.Found.{statement_in, statement_small, there, block_low}
 use Rattle.backward.proofs.Course.{point_asks}
-use Rattle.backward.proofs.Statements.{at-point, around-full, around-on, no_statement, later_point, statement_asks, later_full, later_more, all_walked, row_in, inner_passes, holding, not_holding, is_loop}
+use Rattle.backward.proofs.Statements.{at-point, around-full, around-on, no_statement, later_point, statement_asks, later_full, later_more, all_walked, row_in, inner_passes}
 use Rattle.backward.proofs.Holders.{bare-if, bare-switch, bare-loop, first_there, holder_marked, hand_needing, holder_obeys, holder_copy, bare_asks, holder_full, holder_merge, holder_ends, holder_ends_full, low_number}
 use Rattle.backward.proofs.Ifs.{if_copy, reject_asks, if_rejected, if_exchange, accept_asks, if_accepted, if_end_asks, if_ends, if_ends_full}
 use Rattle.backward.proofs.Switches.{no_case, case_copy, case_asks, case_passes, merge_asks, case_more, case_ends_full, all_cases, cases_ask, switch_passes, switch_end_asks, switch-ends, switch_ends_full}
@@ -34,27 +35,27 @@ pass_around-returns t c =
 
 pub pass_bare-pass_if-requires : goal.pass_bare-pass_if-requires
 pass_bare-pass_if-requires t c =
-    (omega (arith, c.decreases), (c.requires.course, (c.requires.b_in_bounds, (c.requires.row_in, c.in-2.is))))
+    (omega (arith, c.decreases), (c.requires.course, (c.requires.b_in_bounds, (c.requires.row_in, (search rules)))))
 
-pub pass_bare-returns-in-2 : goal.pass_bare-returns-in-2
-pass_bare-returns-in-2 t c =
-    bare-if c.requires.course c.requires.row_in c.args.marks.now c.in-2.is c.pass_if.ensures
+pub pass_bare-returns-in-Ok-If : goal.pass_bare-returns-in-Ok-If
+pass_bare-returns-in-Ok-If t c =
+    bare-if c.requires.course c.requires.row_in c.args.marks.now (search rules) c.pass_if.ensures
 
 pub pass_bare-pass_switch-requires : goal.pass_bare-pass_switch-requires
 pass_bare-pass_switch-requires t c =
-    (omega (arith, c.decreases), (c.requires.course, (c.requires.b_in_bounds, (c.requires.row_in, c.in-3.is))))
+    (omega (arith, c.decreases), (c.requires.course, (c.requires.b_in_bounds, (c.requires.row_in, (search rules)))))
 
-pub pass_bare-returns-in-3 : goal.pass_bare-returns-in-3
-pass_bare-returns-in-3 t c =
-    bare-switch c.requires.course c.requires.row_in c.args.marks.now c.in-3.is c.pass_switch.ensures
+pub pass_bare-returns-in-Ok-Switch : goal.pass_bare-returns-in-Ok-Switch
+pass_bare-returns-in-Ok-Switch t c =
+    bare-switch c.requires.course c.requires.row_in c.args.marks.now (search rules) c.pass_switch.ensures
 
 pub pass_bare-pass_loop-requires : goal.pass_bare-pass_loop-requires
 pass_bare-pass_loop-requires t c =
-    (omega (arith, c.decreases), (c.requires.course, (c.requires.b_in_bounds, (c.requires.row_in, is_loop c.requires.lt_kind (omega arith) (omega arith)))))
+    (omega (arith, c.decreases), (c.requires.course, (c.requires.b_in_bounds, (c.requires.row_in, search rules))))
 
 pub pass_bare-returns-in_default : goal.pass_bare-returns-in_default
 pass_bare-returns-in_default t c =
-    bare-loop c.requires.course c.requires.row_in c.args.marks.now (omega arith) (omega arith) c.pass_loop.ensures
+    bare-loop c.requires.course c.requires.row_in c.args.marks.now (search rules) (search rules) c.pass_loop.ensures
 
 pub pass_block-loop-k-init : goal.pass_block-loop-k-init
 pass_block-loop-k-init t c = no_statement c.requires.course c.args.b.0 c.args.marks.now _ _ _ refl
@@ -207,68 +208,62 @@ pass_if-returns t c =
 
 pub pass_loop-begin_loop-requires : goal.pass_loop-begin_loop-requires
 pass_loop-begin_loop-requires t c =
-    begin_asks c.requires.course c.requires.b_in_bounds c.requires.row_in c.requires.kind_value c.args.marks.now c.expression_operand-break_if.ensures
+    begin_asks c.requires.course c.requires.b_in_bounds c.requires.row_in c.requires.kind_value c.args.marks.now c.optional_expression-break_if.ensures
 
 pub pass_loop-returns-then-not-begin_loop : goal.pass_loop-returns-then-not-begin_loop
 pass_loop-returns-then-not-begin_loop t c =
-    loop_begun_full c.requires.course c.requires.b_in_bounds c.requires.row_in c.requires.kind_value c.args.marks.now c.expression_operand-break_if.ensures c.begin_loop.ensures c.if-not-begin_loop.true c.filled.ensures
+    loop_begun_full c.requires.course c.requires.b_in_bounds c.requires.row_in c.requires.kind_value c.args.marks.now c.optional_expression-break_if.ensures c.begin_loop.ensures c.if-not-begin_loop.true c.filled.ensures
 
 pub pass_loop-in_switch-y-requires : goal.pass_loop-in_switch-y-requires
 pass_loop-in_switch-y-requires t c = omega (arith, c.requires.course.ready.high)
 
 pub pass_loop-pass_around-q-requires : goal.pass_loop-pass_around-q-requires
 pass_loop-pass_around-q-requires t c =
-    let z = continuing_asks c.requires.course c.requires.b_in_bounds c.requires.row_in c.requires.kind_value c.args.marks.now c.expression_operand-break_if.ensures c.begin_loop.ensures c.if-not-begin_loop.false c.in_switch-y.ensures c.block_operand-continuing.ensures in (omega (arith, z.0, c.decreases), z.1)
+    let z = continuing_asks c.requires.course c.requires.b_in_bounds c.requires.row_in c.requires.kind_value c.args.marks.now c.optional_expression-break_if.ensures c.begin_loop.ensures c.if-not-begin_loop.false c.in_switch-y.ensures c.block_operand-continuing.ensures in (omega (arith, z.0, c.decreases), z.1)
 
 pub pass_loop-returns-then-q : goal.pass_loop-returns-then-q
 pass_loop-returns-then-q t c =
-    loop_continuing c.requires.course c.requires.b_in_bounds c.requires.row_in c.requires.kind_value c.args.marks.now c.expression_operand-break_if.ensures c.begin_loop.ensures c.if-not-begin_loop.false c.in_switch-y.ensures c.block_operand-continuing.ensures c.pass_around-q.ensures c.if-q.true
+    loop_continuing c.requires.course c.requires.b_in_bounds c.requires.row_in c.requires.kind_value c.args.marks.now c.optional_expression-break_if.ensures c.begin_loop.ensures c.if-not-begin_loop.false c.in_switch-y.ensures c.block_operand-continuing.ensures c.pass_around-q.ensures c.if-q.true
 
 pub pass_loop-copy-requires : goal.pass_loop-copy-requires
 pass_loop-copy-requires t c =
-    body_copy c.requires.course c.requires.b_in_bounds c.requires.row_in c.requires.kind_value c.args.marks.now c.expression_operand-break_if.ensures c.begin_loop.ensures c.if-not-begin_loop.false c.in_switch-y.ensures c.block_operand-continuing.ensures c.pass_around-q.ensures c.if-q.false
+    body_copy c.requires.course c.requires.b_in_bounds c.requires.row_in c.requires.kind_value c.args.marks.now c.optional_expression-break_if.ensures c.begin_loop.ensures c.if-not-begin_loop.false c.in_switch-y.ensures c.block_operand-continuing.ensures c.pass_around-q.ensures c.if-q.false
 
 pub pass_loop-in_body-z-requires : goal.pass_loop-in_body-z-requires
 pass_loop-in_body-z-requires t c = omega (arith, c.requires.course.ready.high)
 
 pub pass_loop-pass_around-o-requires : goal.pass_loop-pass_around-o-requires
 pass_loop-pass_around-o-requires t c =
-    let z = body_asks c.requires.course c.requires.b_in_bounds c.requires.row_in c.requires.kind_value c.args.marks.now c.expression_operand-break_if.ensures c.begin_loop.ensures c.if-not-begin_loop.false c.in_switch-y.ensures c.block_operand-continuing.ensures c.pass_around-q.ensures c.if-q.false c.copy.ensures c.in_body-z.ensures c.block_operand-body.ensures in (omega (arith, z.0, c.decreases), z.1)
+    let z = body_asks c.requires.course c.requires.b_in_bounds c.requires.row_in c.requires.kind_value c.args.marks.now c.optional_expression-break_if.ensures c.begin_loop.ensures c.if-not-begin_loop.false c.in_switch-y.ensures c.block_operand-continuing.ensures c.pass_around-q.ensures c.if-q.false c.copy.ensures c.in_body-z.ensures c.block_operand-body.ensures in (omega (arith, z.0, c.decreases), z.1)
 
 pub pass_loop-returns-then-o : goal.pass_loop-returns-then-o
 pass_loop-returns-then-o t c =
-    loop_body c.requires.course c.requires.b_in_bounds c.requires.row_in c.requires.kind_value c.args.marks.now c.expression_operand-break_if.ensures c.begin_loop.ensures c.if-not-begin_loop.false c.in_switch-y.ensures c.block_operand-continuing.ensures c.pass_around-q.ensures c.if-q.false c.copy.ensures c.in_body-z.ensures c.block_operand-body.ensures c.pass_around-o.ensures c.if-o.true
+    loop_body c.requires.course c.requires.b_in_bounds c.requires.row_in c.requires.kind_value c.args.marks.now c.optional_expression-break_if.ensures c.begin_loop.ensures c.if-not-begin_loop.false c.in_switch-y.ensures c.block_operand-continuing.ensures c.pass_around-q.ensures c.if-q.false c.copy.ensures c.in_body-z.ensures c.block_operand-body.ensures c.pass_around-o.ensures c.if-o.true
 
 pub pass_loop-end_loop-requires : goal.pass_loop-end_loop-requires
 pass_loop-end_loop-requires t c =
-    let q9 = end_asks c.requires.course c.requires.b_in_bounds c.requires.row_in c.requires.kind_value c.args.marks.now c.expression_operand-break_if.ensures c.begin_loop.ensures c.if-not-begin_loop.false c.in_switch-y.ensures c.block_operand-continuing.ensures c.pass_around-q.ensures c.if-q.false c.copy.ensures c.in_body-z.ensures c.block_operand-body.ensures c.pass_around-o.ensures c.if-o.false in
+    let q9 = end_asks c.requires.course c.requires.b_in_bounds c.requires.row_in c.requires.kind_value c.args.marks.now c.optional_expression-break_if.ensures c.begin_loop.ensures c.if-not-begin_loop.false c.in_switch-y.ensures c.block_operand-continuing.ensures c.pass_around-q.ensures c.if-q.false c.copy.ensures c.in_body-z.ensures c.block_operand-body.ensures c.pass_around-o.ensures c.if-o.false in
     record { live = q9.0; stack_slot_lt_n = q9.1 }
 
 pub pass_loop-returns : goal.pass_loop-returns
 pass_loop-returns t c =
-    loop_ends c.requires.course c.requires.b_in_bounds c.requires.row_in c.requires.kind_value c.args.marks.now c.expression_operand-break_if.ensures c.begin_loop.ensures c.if-not-begin_loop.false c.in_switch-y.ensures c.block_operand-continuing.ensures c.pass_around-q.ensures c.if-q.false c.copy.ensures c.in_body-z.ensures c.block_operand-body.ensures c.pass_around-o.ensures c.if-o.false c.end_loop.ensures
+    loop_ends c.requires.course c.requires.b_in_bounds c.requires.row_in c.requires.kind_value c.args.marks.now c.optional_expression-break_if.ensures c.begin_loop.ensures c.if-not-begin_loop.false c.in_switch-y.ensures c.block_operand-continuing.ensures c.pass_around-q.ensures c.if-q.false c.copy.ensures c.in_body-z.ensures c.block_operand-body.ensures c.pass_around-o.ensures c.if-o.false c.end_loop.ensures
 
 pub pass_statement-pass_block-requires : goal.pass_statement-pass_block-requires
 pass_statement-pass_block-requires t c =
-    let z = there c.requires.statement_in c.statement-row.ensures 0 c.block_operand-inner.ensures (block_low c.requires.statement_in c.statement-row.ensures c.if-kind-eq-BLOCK.true) in (omega (arith, z.0, c.decreases), (c.requires.course, (omega (arith, z.0, c.requires.b_in_bounds), z.1)))
+    let z = there c.requires.statement_in c.statement-row.ensures 0 c.block_operand-inner.ensures (block_low c.requires.statement_in c.statement-row.ensures (search rules)) in (omega (arith, z.0, c.decreases), (c.requires.course, (omega (arith, z.0, c.requires.b_in_bounds), z.1)))
 
-pub pass_statement-returns-then-kind-eq-BLOCK : goal.pass_statement-returns-then-kind-eq-BLOCK
-pass_statement-returns-then-kind-eq-BLOCK t c =
-    inner_passes (row_in c.requires.statement_in c.statement-row.ensures) c.args.marks.now c.if-kind-eq-BLOCK.true c.block_operand-inner.ensures c.pass_block.ensures
+pub pass_statement-returns-in-Ok-Block : goal.pass_statement-returns-in-Ok-Block
+pass_statement-returns-in-Ok-Block t c =
+    inner_passes (row_in c.requires.statement_in c.statement-row.ensures) c.args.marks.now (search rules) c.block_operand-inner.ensures c.pass_block.ensures
 
 pub pass_statement-pass_holder-requires : goal.pass_statement-pass_holder-requires
 pass_statement-pass_holder-requires t c =
-    (omega (arith, c.decreases), (c.requires.course, (c.requires.b_in_bounds, ((row_in c.requires.statement_in c.statement-row.ensures), holding _ c.holds.ensures c.if-holds.true))))
-
-pub pass_statement-returns-then-holds : goal.pass_statement-returns-then-holds
-pass_statement-returns-then-holds t c = c.pass_holder.ensures
+    (omega (arith, c.decreases), (c.requires.course, (c.requires.b_in_bounds, (row_in c.requires.statement_in c.statement-row.ensures, search rules))))
 
 pub pass_statement-pass_plain-requires : goal.pass_statement-pass_plain-requires
 pass_statement-pass_plain-requires t c =
-    record { course = c.requires.course; n_in_bounds = omega (arith, c.requires.b_in_bounds); row_in = (row_in c.requires.statement_in c.statement-row.ensures); lt_kind = not_holding _ c.holds.ensures c.if-holds.false c.if-kind-eq-BLOCK.false }
-
-pub pass_statement-returns : goal.pass_statement-returns
-pass_statement-returns t c = c.pass_plain.ensures
+    record { course = c.requires.course; n_in_bounds = omega (arith, c.requires.b_in_bounds); row_in = row_in c.requires.statement_in c.statement-row.ensures; lt_kind = λ l. search (rules, l) }
 
 pub pass_switch-in_switch-y-requires : goal.pass_switch-in_switch-y-requires
 pass_switch-in_switch-y-requires t c = omega (arith, c.requires.course.ready.high)

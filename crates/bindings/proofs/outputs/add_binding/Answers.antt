@@ -1,24 +1,18 @@
 -- `bindings::outputs::add_binding` meets its contract: 15 of what is new and of the sum, 16 of the sum, by their sizes; then the sum.
-use borrow.Author.Rules.{rules}
-use mathlib.Core.Path.{sym, ◌∙◌}
-use Rattle.bindings.proofs.Returning.{binding_bound, add_past, add_past_sum, add_pieces, add-within}
+use native.Mathlib.Omega.{arith}
+use Rattle.std.proofs.lemmas.Result.{err_from_is_err_and}
+use Rattle.bindings.proofs.Returning.{add_refused, add_few, add_within}
 use Rattle.bindings.proofs.outputs.add_binding.Goals as goal
 
-pub own_binding-requires : goal.own_binding-requires
-own_binding-requires c = binding_bound _ c.requires.b_lt_bindings.0
+pub returns-in_err-within_limits : goal.returns-in_err-within_limits
+returns-in_err-within_limits c =
+    let p = err_from_is_err_and c.from_residual.result c.from_residual.ensures.1 in
+    rw (p.1, p.2) (add_refused _ _ c.own_binding.ensures _ _ _ c.returned_from-new.ensures c.requires.b_lt_bindings.1 c.sum_sizes-m.ensures c.over.ensures c.entries-others.ensures c.within_limits.ensures c.in_err-within_limits.was)
 
-pub returns-then-over : goal.returns-then-over
-returns-then-over c =
-    add_past _ c.own_binding.ensures c.requires.b_lt_bindings.0 _ _ _ _ c.returned_from-new.ensures c.requires.b_lt_bindings.1 (sym c.over.ensures ∙ c.if-over.true)
-
-pub returns-then-m : goal.returns-then-m
-returns-then-m c =
-    add_past_sum _ c.own_binding.ensures c.requires.b_lt_bindings.0 _ _ _ _ c.returned_from-new.ensures c.requires.b_lt_bindings.1 (sym c.over.ensures ∙ c.if-over.false) c.sum_sizes-m.ensures (search rules)
-
-pub returns-then-entries-m-gt-MAX_PIECES : goal.returns-then-entries-m-gt-MAX_PIECES
-returns-then-entries-m-gt-MAX_PIECES c =
-    add_pieces _ c.own_binding.ensures c.requires.b_lt_bindings.0 _ _ _ _ c.returned_from-new.ensures c.requires.b_lt_bindings.1 (sym c.over.ensures ∙ c.if-over.false) c.sum_sizes-m.ensures (search rules) c.entries.ensures c.if-entries-m-gt-MAX_PIECES.true
+pub join-requires-clause-room : goal.join-requires-clause-room
+join-requires-clause-room c =
+    omega (arith, add_few _ _ c.own_binding.ensures _ _ _ c.returned_from-new.ensures c.requires.b_lt_bindings.1 c.sum_sizes-m.ensures c.over.ensures c.entries-others.ensures c.within_limits.ensures c.in_ok-within_limits.was, c.requires.bound_result.1, c.returned_from-new.ensures.cost, c.returned_from-new.ensures.kept.long)
 
 pub returns : goal.returns
 returns c =
-    add-within _ c.own_binding.ensures c.requires.b_lt_bindings.0 _ _ _ _ c.returned_from-new.ensures c.requires.b_lt_bindings.1 (sym c.over.ensures ∙ c.if-over.false) c.sum_sizes-m.ensures (search rules) c.entries.ensures c.if-entries-m-gt-MAX_PIECES.false c.join.ensures
+    add_within _ _ c.own_binding.ensures _ _ _ c.returned_from-new.ensures c.requires.b_lt_bindings.1 c.sum_sizes-m.ensures c.over.ensures c.entries-others.ensures c.within_limits.ensures c.in_ok-within_limits.was c.join.ensures

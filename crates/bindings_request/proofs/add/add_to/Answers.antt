@@ -4,9 +4,9 @@ use Rattle.bindings_request.proofs.add.add_to.Goals as goal
 
 pub add_binding-a-requires : goal.add_binding-a-requires
 add_binding-a-requires c =
-    let q9 = add-asks c.requires.tables c.requires.f_in_bounds.0 c.requires.b_lt_bindings.0 c.result-x.result c.result-x.ensures c.args.retval c.returned-entry.ensures c.requires.f_in_bounds.1.1 c.args.parts.now c.requires.parts_len.0 c.requires.parts_len.1 in
+    let q9 = add-asks c.requires.tables c.requires.f_in_bounds.0 c.requires.b_lt_bindings.0 c.result-declared.result c.result-declared.ensures c.args.retval c.returned-entry.ensures c.requires.f_in_bounds.1.1 c.args.parts.now c.requires.parts_len.0 c.requires.parts_len.1 in
     record { good = q9.0; all_bound = q9.1.0; all_sized = q9.1.1.0; parts_len = q9.1.1.1.0; bound_result = q9.1.1.1.1.0; b_lt_bindings = q9.1.1.1.1.1 }
 
 pub returns : goal.returns
 returns c =
-    add_gave c.requires.tables c.requires.f_in_bounds.0 c.requires.b_lt_bindings.0 c.result-x.result c.result-x.ensures c.args.retval c.returned-entry.ensures c.requires.f_in_bounds.1.1 c.add_binding-a.ensures c.write_asking.ensures
+    add_gave c.requires.tables c.requires.f_in_bounds.0 c.requires.b_lt_bindings.0 c.result-declared.result c.result-declared.ensures c.args.retval c.returned-entry.ensures c.requires.f_in_bounds.1.1 c.add_binding-a.ensures c.write_asking.ensures

@@ -21,7 +21,7 @@ returns-in_err-check_context c =
 
 pub slice_bounds-list_needed-end : goal.slice_bounds-list_needed-end
 slice_bounds-list_needed-end c =
-    omega (arith, c.requires.sets_len.1, c.arguments-n.ensures c.args.bytes.now, arguments-few c.requires.tables c.args.f (omega (arith, c.if-functions-f.false, c.functions.ensures c.args.bytes.now)))
+    omega (arith, c.requires.sets_len.1, c.arguments-n.ensures c.args.bytes.now, arguments-few c.requires.tables c.args.f.0 (omega (arith, c.if-functions-f.false, c.functions.ensures c.args.bytes.now)))
 
 pub list_needed-requires-clause-accepts : goal.list_needed-requires-clause-accepts
 list_needed-requires-clause-accepts c =

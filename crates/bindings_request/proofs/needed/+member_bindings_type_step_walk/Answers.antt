@@ -1,7 +1,7 @@
 -- `walk`, `member_bindings` and `type_step` meet their contracts: a type names lower ones, and the measure falls with them.
 use native.Mathlib.Omega.{arith}
 use mathlib.Core.Path.{sym, ◌∙◌}
-use Rattle.bindings_request.proofs.Walking.{lower-past, lower_all, lower-step, member_gone, member_exist, member_needed, left_none, left_more, left_all, base-found}
+use Rattle.bindings_request.proofs.Walking.{lower-past, lower_all, lower-step, member_gone, member_exist, member_needed, left_none, left_more, left_all, base_by, base_not, base-found}
 use Rattle.bindings_request.proofs.needed.+member_bindings_type_step_walk.Goals as goal
 
 pub member_bindings-returns-in_default : goal.member_bindings-returns-in_default
@@ -15,9 +15,9 @@ pub member_bindings-returns : goal.member_bindings-returns
 member_bindings-returns t c =
     member_needed _ c.in-Some.ensures.1 (sym c.is_exist.ensures ∙ c.if-is_exist.false) c.member_at-m.ensures c.own_binding-own.ensures c.walk-below.ensures
 
-pub type_step-returns-then-is_base : goal.type_step-returns-then-is_base
-type_step-returns-then-is_base t c =
-    base-found _ _ _ _ c.type_kind-kind.ensures c.is_base.ensures c.if-is_base.true c.first_word-base.ensures c.walk.ensures
+pub type_step-returns-in-Pointer : goal.type_step-returns-in-Pointer
+type_step-returns-in-Pointer t c =
+    base-found _ _ _ _ (base_by _ c.type_kind.ensures c.in-Pointer.is) c.first_word.ensures c.walk.ensures
 
 pub type_step-loop-i-init : goal.type_step-loop-i-init
 type_step-loop-i-init t c = left_none _ _ _ _ c.member_count-i.ensures
@@ -27,7 +27,7 @@ type_step-loop-i-preserved t c = left_more _ _ _ _ c.loop-i-test.true c.loop-i.i
 
 pub type_step-returns : goal.type_step-returns
 type_step-returns t c =
-    left_all _ _ _ _ c.loop-i-test.false c.loop-i.invariant c.type_kind-kind.ensures (sym c.is_base.ensures ∙ c.if-is_base.false)
+    left_all _ _ _ _ c.loop-i-test.false c.loop-i.invariant (base_not _ c.type_kind.ensures c.in_default.not-Pointer c.in_default.not-Array c.in_default.not-BindingArray)
 
 pub walk-returns-then-t-u : goal.walk-returns-then-t-u
 walk-returns-then-t-u t c = lower-past _ _ _ _ _ c.if-t-u.true

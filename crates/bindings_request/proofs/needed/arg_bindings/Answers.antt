@@ -1,24 +1,27 @@
 -- `bindings_request::needed::arg_bindings` meets its contract: by what is asked of the argument, and whether it is bound.
 use mathlib.Core.Path.{sym, ◌∙◌}
-use Rattle.bindings_request.proofs.Arguments.{arg_gone, arg_exist, arg_free, arg_all, arg_part}
+use mathlib.Core.Logic.{inl, inr}
+use Rattle.bindings_request.proofs.needed.arg_bindings.Goals.{else-is_some-via-then-is_some+else-not-is_all, else-is_some-via-else-is_some}
+use Rattle.bindings_request.proofs.Arguments.{arg_gone, arg_exist, arg_given, arg_part}
 use Rattle.bindings_request.proofs.needed.arg_bindings.Goals as goal
 
 pub returns-in_default : goal.returns-in_default
 returns-in_default c =
-    arg_gone _ _ _ _ (c.in_default.ensures.is _ _ c.requires.list_at.is)
+    arg_gone _ _ _ (c.in_default.ensures.is _ _ c.requires.list_at.is)
 
 pub returns-then-is_exist : goal.returns-then-is_exist
 returns-then-is_exist c =
-    arg_exist _ _ _ _ _ (c.in-Some.ensures.is _ _ c.requires.list_at.is).1 (sym c.is_exist.ensures ∙ c.if-is_exist.true)
+    arg_exist _ _ _ _ (c.in-Some.ensures.is _ _ c.requires.list_at.is).1 (sym c.is_exist.ensures ∙ c.if-is_exist.true)
 
-pub returns-then-binding : goal.returns-then-binding
-returns-then-binding c =
-    arg_free _ _ _ _ _ (c.in-Some.ensures.is _ _ c.requires.list_at.is).1 (sym c.is_exist.ensures ∙ c.if-is_exist.false) c.type_bindings-below.ensures c.if-binding.true
-
-pub returns-then-is_all : goal.returns-then-is_all
-returns-then-is_all c =
-    arg_all _ _ _ _ _ (c.in-Some.ensures.is _ _ c.requires.list_at.is).1 (sym c.is_all.ensures ∙ c.if-is_all.true) c.type_bindings-below.ensures c.own_binding-own.ensures
+pub returns-then-not-is_all : goal.returns-then-not-is_all
+returns-then-not-is_all c =
+    arg_part _ _ _ _ (c.in-Some.ensures.is _ _ c.requires.list_at.is).1 (sym c.is_exist.ensures ∙ c.if-is_exist.false) (sym c.is_some.ensures ∙ c.if-is_some.true) (sym c.is_all.ensures ∙ c.if-not-is_all.true)
 
 pub returns : goal.returns
 returns c =
-    arg_part _ _ _ _ _ (c.in-Some.ensures.is _ _ c.requires.list_at.is).1 (sym c.is_exist.ensures ∙ c.if-is_exist.false) c.if-binding.false (sym c.is_all.ensures ∙ c.if-is_all.false)
+    arg_given _ _ _ _ (c.in-Some.ensures.is _ _ c.requires.list_at.is).1 (sym c.is_exist.ensures ∙ c.if-is_exist.false)
+    (elim c.else-is_some.branch [
+      | else-is_some-via-then-is_some+else-not-is_all w ↦ inr (sym w.is_all.ensures ∙ w.if-not-is_all.false)
+      | else-is_some-via-else-is_some w ↦ inl (sym c.is_some.ensures ∙ w.if-is_some.false)
+    ])
+    c.type_bindings-below.ensures c.own_binding-own.ensures

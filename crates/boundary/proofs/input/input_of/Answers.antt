@@ -1,16 +1,26 @@
--- `boundary::input::input_of` meets its contract: the types' rows are filled in, and the answer is told as a number.
-use Rattle.boundary.proofs.Answers.{answers}
-use Rattle.boundary.proofs.Types.{fill_asks, tables, as_many}
+-- `boundary::input::input_of` meets its contract: the file's refusal, or what is answered of the module that was read.
+use Rattle.std.proofs.lemmas.Result.{err_from_is_err_and}
+use native.Mathlib.Omega.{arith}
+use Rattle.boundary.proofs.Answers.{file_refused, file_read}
+use Rattle.boundary.proofs.Types.{types-few, as_many, ones_part}
 use Rattle.boundary.proofs.input.input_of.Goals as goal
 
-pub fill-requires : goal.fill-requires
-fill-requires c =
-    let q9 = fill_asks c.args.bytes.now c.args.t.now c.requires.bytes_value c.requires.table_len in
-    record { table_len = q9.0; table_len_bound = q9.1.0; all_sized = q9.1.1 }
+pub returns-in_err-rows : goal.returns-in_err-rows
+returns-in_err-rows c =
+    let p = err_from_is_err_and c.from_residual.result c.from_residual.ensures.1 in
+    rw (p.1, p.2) (file_refused c.args.bytes.now _ c.in_err-rows.ensures)
 
-pub input_to_bindings_bytes-a-requires : goal.input_to_bindings_bytes-a-requires
-input_to_bindings_bytes-a-requires c =
-    record { tables = tables c.args.bytes.now c.args.t.now c.requires.bytes_value _ c.fill.ensures; sets_len = (as_many c.args.bytes.now c.args.t.now c.requires.bytes_value _ c.fill.ensures c.requires.sets_len.0, c.requires.sets_len.1) }
+pub slice_bounds-input_to_bindings_bytes-end : goal.slice_bounds-input_to_bindings_bytes-end
+slice_bounds-input_to_bindings_bytes-end c =
+    omega (arith, c.requires.max_types_in_bounds.1.0, c.types-n.ensures c.args.bytes.now, types-few _ _ c.in_ok-rows.ensures.read)
+
+pub input_to_bindings_bytes-requires : goal.input_to_bindings_bytes-requires
+input_to_bindings_bytes-requires c =
+    let T = c.in_ok-rows.ensures in
+    record {
+      tables = T;
+      sets_len = (as_many _ _ T.read _ T.rows (ones_part _ _ T.read (c.types-n.ensures c.args.bytes.now) _ c.requires.max_types_in_bounds.1.0), c.requires.max_types_in_bounds.1.1);
+    }
 
 pub returns : goal.returns
-returns c = answers c.input_to_bindings_bytes-a.ensures c.word_of.ensures
+returns c = file_read c.args.bytes.now _ c.in_ok-rows.ensures c.input_to_bindings_bytes.ensures

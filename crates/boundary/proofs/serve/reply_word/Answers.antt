@@ -2,8 +2,8 @@
 use Rattle.boundary.proofs.Requests.{word_visits, word_refused}
 use Rattle.boundary.proofs.serve.reply_word.Goals as goal
 
-pub returns-in-Visits : goal.returns-in-Visits
-returns-in-Visits c = word_visits c.in-Visits.is
+pub returns-in-Ok : goal.returns-in-Ok
+returns-in-Ok c = word_visits c.in-Ok.is
 
-pub returns-in-Refused : goal.returns-in-Refused
-returns-in-Refused c = word_refused c.in-Refused.is c.place_word.ensures.0
+pub returns-in-Err : goal.returns-in-Err
+returns-in-Err c = rw c.refused_word.ensures (word_refused c.in-Err.is c.from.ensures c.place_word.ensures.0)

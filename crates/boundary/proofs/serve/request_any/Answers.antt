@@ -1,12 +1,11 @@
 -- `boundary::serve::request_any` meets its contract: the file's refusal, or what is answered of the module that was read.
 use mathlib.Core.Path.{refl}
-use Rattle.field.proofs.Refusals.{some_number}
 use Rattle.boundary.proofs.Requests.{file_read, requests_refused, requests_of}
 use Rattle.boundary.proofs.serve.request_any.Goals as goal
 
 pub returns-in-Err : goal.returns-in-Err
 returns-in-Err c =
-    requests_refused c.in-Err.ensures (some_number _) (rw c.from.ensures at c.reply_word.ensures)
+    requests_refused c.in-Err.ensures c.in-Err.refusal refl (rw c.nowhere.ensures at c.reply_word.ensures)
 
 pub request_in-requires : goal.request_in-requires
 request_in-requires c = file_read c.in_default.ensures refl

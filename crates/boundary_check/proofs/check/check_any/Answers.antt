@@ -10,7 +10,7 @@ read_file-requires c = (search rules, (search rules, search rules))
 
 pub returns-in-Err : goal.returns-in-Err
 returns-in-Err c =
-    rw c.from.ensures (file_refused c.in-Err.ensures c.args.request.now c.args.report.now c.args.context.now (some_number _))
+    file_refused c.in-Err.ensures c.args.request.now c.args.report.now c.args.context.now (some_number _)
 
 pub check_in-requires : goal.check_in-requires
 check_in-requires c = file_read c.in_default.ensures refl

@@ -15,9 +15,9 @@ pub overflow_add-i : goal.overflow_add-i
 overflow_add-i c =
     omega (arith, few_arguments (call_row c.requires), c.operand-n.ensures)
 
-pub then_argument-requires : goal.then_argument-requires
-then_argument-requires c =
-    record { passable = c.loop-i.invariant.0.opens; e_in_bounds = rw c.expression_operand-e.ensures (argument_there (call_row c.requires) c.loop-i.i (omega (arith, c.operand-n.ensures))) }
+pub then_argument-requires-clause-e_in_bounds : goal.then_argument-requires-clause-e_in_bounds
+then_argument-requires-clause-e_in_bounds c =
+    rw c.expression_operand-e.ensures (argument_there (call_row c.requires) c.loop-i.i (omega (arith, c.operand-n.ensures)))
 
 pub loop-i-preserved : goal.loop-i-preserved
 loop-i-preserved c =
@@ -27,12 +27,6 @@ pub returns-in_err-tally : goal.returns-in_err-tally
 returns-in_err-tally c =
     rw (passed c.from_residual.ensures.1)
     (arguments_stop (operand_at c.args.bytes.now c.args.row 1 - (c.loop-i.i + 1)) (arguments_next c.loop-i.invariant.0 refl c.expression_operand-e.ensures c.in_err-tally.ensures) (omega (arith, c.operand-n.ensures)))
-
-pub shape_of-cells : goal.shape_of-cells
-shape_of-cells c = c.loop-i.invariant.1.0
-
-pub shape_of-slots : goal.shape_of-slots
-shape_of-slots c = c.loop-i.invariant.1.1
 
 pub returns : goal.returns
 returns c =

@@ -1,56 +1,51 @@
--- `check_text::line::write_answer` meets its contract: by the range of the number.
-use native.Mathlib.Omega.{arith}
-use mathlib.Core.Path.{sym}
-use Rattle.lines.proofs.Writing.{fits_as, wrote_as}
-use Rattle.check_text.proofs.Saying.{says_clear, says_start, says_statement, says_expression, says_unjudged, says_refused, names_something}
+-- `check_text::line::write_answer` meets its contract: by the answer.
+use Rattle.checking.specs.Line.{answer_text}
 use Rattle.check_text.proofs.line.write_answer.Goals as goal
 
 pub write_word-requires : goal.write_word-requires
-write_word-requires c = fits_as (says_clear c.args.word (omega (arith, c.if-word-lt1.true))) c.requires.1
+unfolding answer_text
+write_word-requires c = rw c.in-Clear.is at c.requires
 
-pub returns-then-word-lt1 : goal.returns-then-word-lt1
-returns-then-word-lt1 c =
-    wrote_as (sym (says_clear c.args.word (omega (arith, c.if-word-lt1.true)))) c.write_word.ensures
+pub returns-in-Clear : goal.returns-in-Clear
+unfolding answer_text
+returns-in-Clear c = rw c.in-Clear.is c.write_word.ensures
 
-pub write_word-requires-then-word-lt2 : goal.write_word-requires-then-word-lt2
-write_word-requires-then-word-lt2 c =
-    fits_as (says_start c.args.word (omega (arith, c.if-word-lt1.false)) (omega (arith, c.if-word-lt2.true))) c.requires.1
+pub write_word-requires-in-Start : goal.write_word-requires-in-Start
+unfolding answer_text
+write_word-requires-in-Start c = rw c.in-Start.is at c.requires
 
-pub returns-then-word-lt2 : goal.returns-then-word-lt2
-returns-then-word-lt2 c =
-    wrote_as (sym (says_start c.args.word (omega (arith, c.if-word-lt1.false)) (omega (arith, c.if-word-lt2.true)))) c.write_word-then-word-lt2.ensures
-
-pub overflow_sub-word : goal.overflow_sub-word
-overflow_sub-word c = names_something c.requires.0 (omega (arith, c.if-word-lt2.false))
+pub returns-in-Start : goal.returns-in-Start
+unfolding answer_text
+returns-in-Start c = rw c.in-Start.is c.write_word-in-Start.ensures
 
 pub write_named-requires : goal.write_named-requires
-write_named-requires c =
-    fits_as (says_statement c.args.word (omega (arith, c.if-word-lt2.false)) (omega (arith, c.if-word-lt-UNJUDGED_EXPRESSION.true))) c.requires.1
+unfolding answer_text
+write_named-requires c = rw c.in-Statement.is at c.requires
 
-pub returns-then-word-lt-UNJUDGED_EXPRESSION : goal.returns-then-word-lt-UNJUDGED_EXPRESSION
-returns-then-word-lt-UNJUDGED_EXPRESSION c =
-    wrote_as (sym (says_statement c.args.word (omega (arith, c.if-word-lt2.false)) (omega (arith, c.if-word-lt-UNJUDGED_EXPRESSION.true)))) c.write_named.ensures
+pub returns-in-Statement : goal.returns-in-Statement
+unfolding answer_text
+returns-in-Statement c = rw c.in-Statement.is c.write_named.ensures
 
-pub write_named-requires-then-word-lt-UNJUDGED_STATEMENT : goal.write_named-requires-then-word-lt-UNJUDGED_STATEMENT
-write_named-requires-then-word-lt-UNJUDGED_STATEMENT c =
-    fits_as (says_expression c.args.word (omega (arith, c.if-word-lt-UNJUDGED_EXPRESSION.false)) (omega (arith, c.if-word-lt-UNJUDGED_STATEMENT.true))) c.requires.1
+pub write_named-requires-in-UnjudgedExpression : goal.write_named-requires-in-UnjudgedExpression
+unfolding answer_text
+write_named-requires-in-UnjudgedExpression c = rw c.in-UnjudgedExpression.is at c.requires
 
-pub returns-then-word-lt-UNJUDGED_STATEMENT : goal.returns-then-word-lt-UNJUDGED_STATEMENT
-returns-then-word-lt-UNJUDGED_STATEMENT c =
-    wrote_as (sym (says_expression c.args.word (omega (arith, c.if-word-lt-UNJUDGED_EXPRESSION.false)) (omega (arith, c.if-word-lt-UNJUDGED_STATEMENT.true)))) c.write_named-then-word-lt-UNJUDGED_STATEMENT.ensures
+pub returns-in-UnjudgedExpression : goal.returns-in-UnjudgedExpression
+unfolding answer_text
+returns-in-UnjudgedExpression c = rw c.in-UnjudgedExpression.is c.write_named-in-UnjudgedExpression.ensures
 
-pub write_named-requires-then-word-lt-REFUSAL : goal.write_named-requires-then-word-lt-REFUSAL
-write_named-requires-then-word-lt-REFUSAL c =
-    fits_as (says_unjudged c.args.word (omega (arith, c.if-word-lt-UNJUDGED_STATEMENT.false)) (omega (arith, c.if-word-lt-REFUSAL.true))) c.requires.1
+pub write_named-requires-in-UnjudgedStatement : goal.write_named-requires-in-UnjudgedStatement
+unfolding answer_text
+write_named-requires-in-UnjudgedStatement c = rw c.in-UnjudgedStatement.is at c.requires
 
-pub returns-then-word-lt-REFUSAL : goal.returns-then-word-lt-REFUSAL
-returns-then-word-lt-REFUSAL c =
-    wrote_as (sym (says_unjudged c.args.word (omega (arith, c.if-word-lt-UNJUDGED_STATEMENT.false)) (omega (arith, c.if-word-lt-REFUSAL.true)))) c.write_named-then-word-lt-REFUSAL.ensures
+pub returns-in-UnjudgedStatement : goal.returns-in-UnjudgedStatement
+unfolding answer_text
+returns-in-UnjudgedStatement c = rw c.in-UnjudgedStatement.is c.write_named-in-UnjudgedStatement.ensures
 
-pub write_named-requires-2 : goal.write_named-requires-2
-write_named-requires-2 c =
-    fits_as (says_refused c.args.word (omega (arith, c.if-word-lt-REFUSAL.false))) c.requires.1
+pub write_named-requires-in-Refused : goal.write_named-requires-in-Refused
+unfolding answer_text
+write_named-requires-in-Refused c = rw c.from.ensures (rw c.in-Refused.is at c.requires)
 
-pub returns : goal.returns
-returns c =
-    wrote_as (sym (says_refused c.args.word (omega (arith, c.if-word-lt-REFUSAL.false)))) c.write_named-2.ensures
+pub returns-in-Refused : goal.returns-in-Refused
+unfolding answer_text
+returns-in-Refused c = rw c.in-Refused.is (rw c.from.ensures at c.write_named-in-Refused.ensures)

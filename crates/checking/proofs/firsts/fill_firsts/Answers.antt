@@ -1,5 +1,5 @@
 -- `checking::firsts::fill_firsts` meets its contract. The invariant: `at` counts the marks of the first s statements, and their entries are right.
-use Rattle.checking.proofs.Counting.{counted_none, counted_small, counted_more, filled_none, filled_more, filled_all}
+use Rattle.checking.proofs.Counting.{counted_none, counted_small, counted_more, filled_none, filled_more}
 use native.Mathlib.Omega.{arith}
 use Rattle.checking.proofs.firsts.fill_firsts.Goals as goal
 
@@ -13,7 +13,3 @@ overflow_add-at c =
 pub loop-s-preserved : goal.loop-s-preserved
 loop-s-preserved c =
     (counted_more c.requires.0 c.loop-s.invariant.0 (c.statements-n.ensures _) c.loop-s-test.true c.mark_count-at.ensures, filled_more (omega (arith, c.loop-s-test.true, c.statements-n.ensures c.args.bytes.now, c.requires.1, c.loop-s.auto.firsts)) c.loop-s.invariant.0.is c.loop-s.invariant.1)
-
-pub returns : goal.returns
-returns c =
-    filled_all (omega (arith, c.requires.1, c.loop-s.auto.firsts)) (omega (arith, c.loop-s-test.false, c.statements-n.ensures c.args.bytes.now)) c.loop-s.invariant.1

@@ -13,9 +13,6 @@ use Rattle.context_bytes.proofs.check.+check_entries_skip_part.Goals.{check_entr
 pub check_entries-loop-init : goal.check_entries-loop-init
 check_entries-loop-init t c = let e : c.args.n - 0 ≡ c.args.n = omega arith in rw e (check_first _ _ _ c.requires)
 
-pub check_entries-entry_index-requires : goal.check_entries-entry_index-requires
-check_entries-entry_index-requires t c = c.loop.invariant.inside
-
 pub check_entries-returns-in_err-i : goal.check_entries-returns-in_err-i
 check_entries-returns-in_err-i t c =
     rw c.from_residual.ensures (check_stop c.loop.invariant (index_refused (omega arith) c.in_err-i.ensures _))

@@ -12,8 +12,5 @@ skip_return-requires c = context_inside 0 0 0 c.args.bytes.now c.is_context.ensu
 pub returns-in_default : goal.returns-in_default
 returns-in_default c = no_return _ _ _ _ c.is_context.ensures c.if-not-is_context.false c.in_default.ensures
 
-pub check_lists-requires : goal.check_lists-requires
-check_lists-requires c = c.in-Some.ensures.placed.1
-
 pub returns : goal.returns
 returns c = status_read _ _ _ _ c.is_context.ensures c.if-not-is_context.false c.in-Some.ensures c.check_lists.ensures

@@ -7,20 +7,11 @@ use Rattle.context_bytes.proofs.check.check_lists.Goals.{else-g-via-then-g+then-
 pub returns-in_default : goal.returns-in_default
 returns-in_default c = no_globals _ _ _ c.in_default.ensures
 
-pub check_variables-requires-2 : goal.check_variables-requires-2
-check_variables-requires-2 c = c.in-Some.ensures.placed.1
-
 pub returns-in_default-check_variables : goal.returns-in_default-check_variables
 returns-in_default-check_variables c = no_args _ _ _ c.in-Some.ensures c.in_default-check_variables.ensures
 
-pub check_variables-requires-3 : goal.check_variables-requires-3
-check_variables-requires-3 c = c.in-Some-check_variables.ensures.placed.1
-
 pub returns-in_default-check_variables-2 : goal.returns-in_default-check_variables-2
 returns-in_default-check_variables-2 c = no_locals _ _ _ c.in-Some.ensures c.in-Some-check_variables.ensures c.in_default-check_variables-2.ensures
-
-pub ends-requires : goal.ends-requires
-ends-requires c = c.in-Some-check_variables-2.ensures.placed.1
 
 pub returns-then-not-ends : goal.returns-then-not-ends
 returns-then-not-ends c = lists_left _ _ _ c.in-Some.ensures c.in-Some-check_variables.ensures c.in-Some-check_variables-2.ensures (goes_on c.args.bytes.now _ c.ends.ensures c.if-not-ends.true)

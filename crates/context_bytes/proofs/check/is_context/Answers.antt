@@ -8,6 +8,3 @@ use Rattle.context_bytes.proofs.check.is_context.Goals as goal
 pub returns-else-bytes-ge6 : goal.returns-else-bytes-ge6
 returns-else-bytes-ge6 c =
     lt-leb 6 (length c.args.bytes.now) c.if-bytes-ge6.false ∙ frame_short _ _ _ _ _ c.if-bytes-ge6.false
-
-pub returns-then-bytes-ge6 : goal.returns-then-bytes-ge6
-returns-then-bytes-ge6 c = c.is_record.ensures ∙ rw c.read_word.ensures

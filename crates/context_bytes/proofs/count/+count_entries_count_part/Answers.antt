@@ -4,14 +4,11 @@ use mathlib.Core.Path.{◌≡◌}
 use native.Mathlib.Omega.{arith}
 use Rattle.request.proofs.Entries.{pred_of}
 use Rattle.request.proofs.Steps.{index_read, index_refused}
-use Rattle.context_bytes.proofs.Counted.{counting_first, counting_stop, counting_no_part, counting_fits, counting_again, counting_done, count_malformed, count_all, count_exist, count_level}
+use Rattle.context_bytes.proofs.Counted.{counting_first, counting_stop, counting_no_part, counting_again, counting_done, count_malformed, count_all, count_exist}
 use Rattle.context_bytes.proofs.count.+count_entries_count_part.Goals as goal
 
 pub count_entries-loop-init : goal.count_entries-loop-init
 count_entries-loop-init t c = let e : c.args.n - 0 ≡ c.args.n = omega arith in rw e (counting_first _ _ c.requires)
-
-pub count_entries-entry_index-requires : goal.count_entries-entry_index-requires
-count_entries-entry_index-requires t c = c.loop.invariant.inside
 
 pub count_entries-returns-in_err-i : goal.count_entries-returns-in_err-i
 count_entries-returns-in_err-i t c =
@@ -24,14 +21,6 @@ count_entries-count_part-requires t c =
 pub count_entries-returns-in_err-k : goal.count_entries-returns-in_err-k
 count_entries-returns-in_err-k t c =
     rw c.from_residual-in_err-k.ensures (counting_no_part c.loop.invariant (index_read (pred_of _ (omega arith)) c.in_ok-i.ensures) c.in_err-k.ensures)
-
-pub count_entries-overflow_add-sum : goal.count_entries-overflow_add-sum
-count_entries-overflow_add-sum t c =
-    omega (arith, counting_fits c.loop.invariant (index_read (pred_of _ (omega arith)) c.in_ok-i.ensures) c.in_ok-k.ensures)
-
-pub count_entries-overflow_add-sum-in-loop : goal.count_entries-overflow_add-sum-in-loop
-count_entries-overflow_add-sum-in-loop t c =
-    omega (arith, counting_fits c.loop.invariant (index_read (pred_of _ (omega arith)) c.in_ok-i.ensures) c.in_ok-k.ensures)
 
 pub count_entries-overflow_add-least : goal.count_entries-overflow_add-least
 count_entries-overflow_add-least t c = omega (arith, index_read {n = c.args.n - c.loop.counter} (pred_of _ (omega arith)) c.in_ok-i.ensures)
@@ -51,6 +40,3 @@ count_part-returns-in-All t c = count_all (rw c.in-All.is at c.in_ok-part_code.e
 
 pub count_part-returns-in-Exist : goal.count_part-returns-in-Exist
 count_part-returns-in-Exist t c = count_exist (rw c.in-Exist.is at c.in_ok-part_code.ensures)
-
-pub count_part-returns-in-Entries : goal.count_part-returns-in-Entries
-count_part-returns-in-Entries t c = count_level (rw c.in-Entries.is at c.in_ok-part_code.ensures) c.count_entries.ensures

@@ -1,6 +1,6 @@
 -- `context_bytes::count::count_context` meets its contract: one law for each way.
 use Rattle.request.proofs.ContextLists.{context_inside}
-use Rattle.context_bytes.proofs.Counted.{no_frame, no_return, no_globals, no_args, no_locals, pieces_fit, pieces_are}
+use Rattle.context_bytes.proofs.Counted.{no_frame, no_return, no_globals, no_args, no_locals, pieces_are}
 use native.Mathlib.Omega.{arith}
 use Rattle.context_bytes.proofs.count.count_context.Goals as goal
 
@@ -14,32 +14,14 @@ count_return-requires c =
 pub returns-in_default : goal.returns-in_default
 returns-in_default c = no_return _ c.in_default.ensures
 
-pub count_variables-requires : goal.count_variables-requires
-count_variables-requires c = c.in-Some.ensures.placed.1
-
 pub returns-in_default-count_variables : goal.returns-in_default-count_variables
 returns-in_default-count_variables c = no_globals _ c.in-Some.ensures c.in_default-count_variables.ensures
-
-pub count_variables-requires-2 : goal.count_variables-requires-2
-count_variables-requires-2 c = c.in-Some-count_variables.ensures.placed.1
 
 pub returns-in_default-count_variables-2 : goal.returns-in_default-count_variables-2
 returns-in_default-count_variables-2 c = no_args _ c.in-Some.ensures c.in-Some-count_variables.ensures c.in_default-count_variables-2.ensures
 
-pub count_variables-requires-3 : goal.count_variables-requires-3
-count_variables-requires-3 c = c.in-Some-count_variables-2.ensures.placed.1
-
 pub returns-in_default-count_variables-3 : goal.returns-in_default-count_variables-3
 returns-in_default-count_variables-3 c = no_locals _ c.in-Some.ensures c.in-Some-count_variables.ensures c.in-Some-count_variables-2.ensures c.in_default-count_variables-3.ensures
-
-pub overflow_add-result : goal.overflow_add-result
-overflow_add-result c = omega (arith, pieces_fit _ c.in-Some.ensures c.in-Some-count_variables.ensures c.in-Some-count_variables-2.ensures c.in-Some-count_variables-3.ensures)
-
-pub overflow_add-result-2 : goal.overflow_add-result-2
-overflow_add-result-2 c = omega (arith, pieces_fit _ c.in-Some.ensures c.in-Some-count_variables.ensures c.in-Some-count_variables-2.ensures c.in-Some-count_variables-3.ensures)
-
-pub overflow_add-result-3 : goal.overflow_add-result-3
-overflow_add-result-3 c = omega (arith, pieces_fit _ c.in-Some.ensures c.in-Some-count_variables.ensures c.in-Some-count_variables-2.ensures c.in-Some-count_variables-3.ensures)
 
 pub returns : goal.returns
 returns c = pieces_are _ c.in-Some.ensures c.in-Some-count_variables.ensures c.in-Some-count_variables-2.ensures c.in-Some-count_variables-3.ensures

@@ -1,18 +1,11 @@
 -- The proof of the cycle of calls {covers_entries, covers_part}: a part's entries have parts that go less deep. Each return is one law about what was seen.
 use Prim.Native.Nat.{◌-◌}
 use mathlib.Core.Logic.{inl, inr}
-use mathlib.Core.Path.{◌≡◌}
 use native.Mathlib.Omega.{arith}
 use Rattle.request.proofs.Entries.{pred_of}
 use Rattle.request.proofs.Steps.{index_read, index_refused}
-use Rattle.context_bytes.proofs.Covered.{cover_first, cover_stop, cover_other, cover_not, cover_again, cover_all, cover_more, cover_done, part_no, part_all, part_exist, part_more, part-entries}
+use Rattle.context_bytes.proofs.Covered.{cover_stop, cover_other, cover_not, cover_again, cover_all, cover_more, cover_done, part_no, part_all, part_exist, part_more}
 use Rattle.context_bytes.proofs.cover.+covers_entries_covers_part.Goals as goal
-
-pub covers_entries-loop-init : goal.covers_entries-loop-init
-covers_entries-loop-init t c = let e : c.args.k - 0 ≡ c.args.k = omega arith in rw e (cover_first _ _ _ c.requires.n_bound.0 c.requires.n_bound.1)
-
-pub covers_entries-entry_index-requires : goal.covers_entries-entry_index-requires
-covers_entries-entry_index-requires t c = c.loop.invariant.inside
 
 pub covers_entries-returns-in_err-i : goal.covers_entries-returns-in_err-i
 covers_entries-returns-in_err-i t c =
@@ -21,9 +14,6 @@ covers_entries-returns-in_err-i t c =
 pub covers_entries-overflow_add-base : goal.covers_entries-overflow_add-base
 covers_entries-overflow_add-base t c =
     omega (arith, index_read {n = c.args.k - c.loop.counter} (pred_of _ (omega arith)) c.in_ok-i.ensures, c.requires.n_bound.2)
-
-pub covers_entries-ask-requires : goal.covers_entries-ask-requires
-covers_entries-ask-requires t c = record { good = c.requires.good; n_bound = c.loop.invariant.piece }
 
 pub covers_entries-returns-in_err-c : goal.covers_entries-returns-in_err-c
 covers_entries-returns-in_err-c t c =
@@ -56,9 +46,6 @@ covers_entries-returns-then-m-eq0 t c =
 pub covers_entries-returns : goal.covers_entries-returns
 covers_entries-returns t c = cover_done c.loop.invariant (omega arith) c.requires.good c.if-m-eq0.false c.if-m-ge3.false
 
-pub covers_part-part_code-requires : goal.covers_part-part_code-requires
-covers_part-part_code-requires t c = c.requires.n_bound.1
-
 pub covers_part-returns-in_err-part_code : goal.covers_part-returns-in_err-part_code
 covers_part-returns-in_err-part_code t c = rw c.from_residual.ensures (part_no _ _ c.in_err-part_code.ensures)
 
@@ -70,6 +57,3 @@ covers_part-returns-then-n-eq1 t c = part_exist _ _ (rw c.in-Exist.is at c.in_ok
 
 pub covers_part-returns-else-n-eq1 : goal.covers_part-returns-else-n-eq1
 covers_part-returns-else-n-eq1 t c = part_more _ _ (rw c.in-Exist.is at c.in_ok-part_code.ensures) c.if-n-eq1.false
-
-pub covers_part-returns-in-Entries : goal.covers_part-returns-in-Entries
-covers_part-returns-in-Entries t c = part-entries _ _ (rw c.in-Entries.is at c.in_ok-part_code.ensures) c.covers_entries.ensures

@@ -12,9 +12,6 @@ skip_return-requires c = context_inside 0 0 0 c.args.bytes.now c.is_context.ensu
 pub returns-in_default : goal.returns-in_default
 returns-in_default c = args_no_return c.in_default.ensures
 
-pub check_variables-requires : goal.check_variables-requires
-check_variables-requires c = c.in-Some.ensures.placed.1
-
 pub returns-in_default-check_variables : goal.returns-in_default-check_variables
 returns-in_default-check_variables c = args_no_globals c.in-Some.ensures c.in_default-check_variables.ensures
 

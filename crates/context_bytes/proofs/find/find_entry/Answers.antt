@@ -10,9 +10,6 @@ use Rattle.context_bytes.proofs.find.find_entry.Goals as goal
 pub loop-init : goal.loop-init
 loop-init c = let e : c.args.n - 0 ≡ c.args.n = omega arith in rw e (finding_first _ _ _ c.requires)
 
-pub entry_index-requires : goal.entry_index-requires
-entry_index-requires c = c.loop.invariant.inside
-
 pub returns-in_err-j : goal.returns-in_err-j
 returns-in_err-j c = rw c.from_residual.ensures (finding_stop c.loop.invariant (index_refused (omega arith) c.in_err-j.ensures _))
 
@@ -30,9 +27,6 @@ skip_part-requires c = (index_read {n = c.args.n - c.loop.counter} (pred_of _ (o
 pub returns-in_err-end : goal.returns-in_err-end
 returns-in_err-end c =
     rw c.from_residual-in_err-end.ensures (finding_no_part c.loop.invariant (index_read (pred_of _ (omega arith)) c.in_ok-j.ensures) c.in_err-end.ensures)
-
-pub overflow_add-least : goal.overflow_add-least
-overflow_add-least c = omega (arith, index_read {n = c.args.n - c.loop.counter} (pred_of _ (omega arith)) c.in_ok-j.ensures)
 
 pub loop-preserved : goal.loop-preserved
 loop-preserved c =

@@ -3,8 +3,5 @@ use mathlib.Core.Path.{refl, ◌∙◌}
 use Rattle.context_bytes.proofs.Found.{is_exist_by}
 use Rattle.context_bytes.proofs.find.is_exist.Goals as goal
 
-pub part_code-requires : goal.part_code-requires
-part_code-requires c = c.requires.inside
-
 pub returns : goal.returns
 returns c = c.eq.ensures ∙ is_exist_by c.requires _ refl refl (λ n. refl) c.part_code.result c.part_code.ensures

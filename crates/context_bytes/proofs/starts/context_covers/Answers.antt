@@ -15,10 +15,6 @@ skip_return-requires c = context_inside 0 0 0 c.args.context.now c.is_context.en
 pub returns-in_default : goal.returns-in_default
 returns-in_default c = start_no_return _ _ _ c.in_default.ensures
 
-pub lists_cover-requires : goal.lists_cover-requires
-lists_cover-requires c =
-    record { good = c.requires.good; g_bound = (c.slot-g.ensures.piece, c.slot-a.ensures.piece, c.in-Some.ensures.placed.1) }
-
 pub returns : goal.returns
 returns c =
     start_lists _ _ _ c.in-Some.ensures c.needs_expression.ensures c.if-needs_expression.false c.slot-g.ensures c.slot-a.ensures c.lists_cover.ensures

@@ -1,18 +1,9 @@
 -- `context_bytes::starts::needs_expression` meets its contract. What is left of the need keeps the answer (`Expressed`); the measure is the number of the piece.
-use Rattle.context_bytes.proofs.Starting.{expressed_first, expressed_yes, expressed_on, expressed_end}
+use Rattle.context_bytes.proofs.Starting.{expressed_yes, expressed_on, expressed_end}
 use Rattle.context_bytes.proofs.starts.needs_expression.Goals as goal
-
-pub loop-m-init : goal.loop-m-init
-loop-m-init c = expressed_first c.requires.n_bound
-
-pub look-x-requires : goal.look-x-requires
-look-x-requires c = record { good = c.requires.good; lt_n = (c.loop-m-test.true, c.loop-m.invariant.piece) }
 
 pub returns-then-x : goal.returns-then-x
 returns-then-x c = expressed_yes c.loop-m.invariant c.look-x.ensures c.if-x.true
-
-pub loop-m-smaller : goal.loop-m-smaller
-loop-m-smaller c = c.look-x.ensures.rest_low
 
 pub loop-m-preserved : goal.loop-m-preserved
 loop-m-preserved c = expressed_on c.loop-m.invariant c.look-x.ensures c.if-x.false

@@ -1,21 +1,11 @@
 -- From the copies, the sum and the comparison (LoopEnd).
 use mathlib.Core.Path.{refl}
-use Rattle.ends.proofs.LoopEnd.{sum_asks, loop_full, covers_asks, loop_ends}
+use Rattle.ends.proofs.LoopEnd.{loop_full, loop_ends}
 use Rattle.ends.proofs.merge.end_loop.Goals as goal
-
-pub push_sum-requires : goal.push_sum-requires
-push_sum-requires c =
-    let q9 = sum_asks c.requires.live c.requires.stack_slot_lt_n.0 c.requires.stack_slot_lt_n.1 c.copy.ensures in
-    record { live = q9.0; n_in_bounds = q9.1.0; i_lt_n = q9.1.1 }
 
 pub returns-then-not-push_sum : goal.returns-then-not-push_sum
 returns-then-not-push_sum c =
     loop_full c.requires.live c.requires.stack_slot_lt_n.0 c.requires.stack_slot_lt_n.1 c.copy.ensures c.push_sum.ensures c.if-not-push_sum.true c.filled.ensures
-
-pub covers-holds-requires : goal.covers-holds-requires
-covers-holds-requires c =
-    let q9 = covers_asks c.requires.live c.requires.stack_slot_lt_n.0 c.requires.stack_slot_lt_n.1 c.copy.ensures c.push_sum.ensures c.if-not-push_sum.false c.copy-2.ensures in
-    record { good = q9.0; a_bound = q9.1 }
 
 pub returns-then-holds : goal.returns-then-holds
 returns-then-holds c =

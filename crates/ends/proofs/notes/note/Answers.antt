@@ -7,10 +7,6 @@ use native.Mathlib.Omega.{arith}
 use Rattle.ends.proofs.notes.note.Goals as goal
 use Rattle.ends.proofs.notes.note.Goals.{then-sizes, else-sizes}
 
-pub measure-sizes-requires : goal.measure-sizes-requires
-measure-sizes-requires c =
-    record { good = c.requires.live.loose.good; n_bound = c.requires.live.loose.pieces (c.args.n - 1) (omega (arith, c.requires.n_nonzero)) }
-
 pub overflow_sub-many : goal.overflow_sub-many
 overflow_sub-many c =
     width-less c.measure-sizes.ensures (narrow c.requires.live (c.args.n - 1) (omega (arith, c.requires.n_nonzero)))

@@ -7,13 +7,17 @@ use Rattle.walk.specs.Resolve.{expression_at}
 use Rattle.walk.specs.Expression.{arm_asks}
 use Rattle.memory.specs.Want.{asked}
 use Rattle.expression.specs.Walks.{Left}
+use Rattle.expression.proofs.Walking.{Began}
 use Rattle.expression.proofs.add.+add_expression.Given as goal
 
-abbrev pub invariant-loop-h : goal.invariant-loop-h
-invariant-loop-h l = Left l.bytes l.t l.f.0 l.e.0 l.at l.held l.initial.cells l.initial.slots l.w l.initial.v l.j l.v l.m l.cells l.slots
+abbrev pub invariant-loop-a : goal.invariant-loop-a
+invariant-loop-a l = record {
+  began : Began l.bytes l.t l.f.0 l.e.0 l.at l.held l.fn.cells l.fn.slots l.w l.fn.began.visits l.fn.began.sum l.initial.cells l.initial.slots;
+  left : Left l.bytes l.t l.f.0 l.e.0 l.at l.held l.initial.cells l.initial.slots l.w l.initial.tally.visits l.j l.tally.visits l.tally.sum l.cells l.slots;
+}
 
-abbrev pub decreases-loop-h : goal.decreases-loop-h
-decreases-loop-h l = length (arm_asks (expression_at (module_of l.bytes l.t) l.f.0 l.e.0) (asked l.initial.cells l.initial.slots l.w)) - l.j
+abbrev pub decreases-loop-a : goal.decreases-loop-a
+decreases-loop-a l = length (arm_asks (expression_at (module_of l.bytes l.t) l.f.0 l.e.0) (asked l.initial.cells l.initial.slots l.w)) - l.j
 
 abbrev pub decreases-add_expression : goal.decreases-add_expression
 decreases-add_expression l = l.e.0

@@ -7,16 +7,16 @@ use Rattle.expression.proofs.visit.close.Goals as goal
 pub overflow_add-number : goal.overflow_add-number
 overflow_add-number c = let h = close_note c.requires c.expression_number-number.ensures in omega (arith, h.high)
 
-pub note-m-requires : goal.note-m-requires
-note-m-requires c = close_note c.requires c.expression_number-number.ensures
+pub note-sum-requires : goal.note-sum-requires
+note-sum-requires c = close_note c.requires c.expression_number-number.ensures
 
 pub allowed-requires : goal.allowed-requires
-allowed-requires c = close_counting c.requires c.expression_number-number.ensures c.note-m.ensures
+allowed-requires c = close_counting c.requires c.expression_number-number.ensures c.note-sum.ensures
 
 pub returns-then-allowed : goal.returns-then-allowed
 returns-then-allowed c =
-    λ bytes r. closed c.requires c.expression_number-number.ensures c.note-m.ensures r _ c.allowed.ensures c.if-allowed.true
+    λ bytes r. closed c.requires c.expression_number-number.ensures c.note-sum.ensures r _ c.allowed.ensures c.if-allowed.true
 
 pub returns : goal.returns
 returns c =
-    λ bytes r. closed_16 c.requires c.expression_number-number.ensures c.note-m.ensures r _ c.allowed.ensures c.if-allowed.false refl refl
+    λ bytes r. closed_16 c.requires c.expression_number-number.ensures c.note-sum.ensures r _ c.allowed.ensures c.if-allowed.false refl refl

@@ -1,8 +1,8 @@
 -- `forms::form::type_extent` meets its contract: by the kind, and of an array by its count.
 use mathlib.Core.Path.{ap}
 use borrow.Author.Rules.{rules}
-use Rattle.judge.specs.declared.rows.TypeKind.TheVariants.{BindingArray, Array}
-use Rattle.judge.specs.TypeKind.{type_number}
+use Rattle.module.specs.declared.kinds.TypeKind.TheVariants.{BindingArray, Array}
+use Rattle.module.specs.KindNumbers.{type_number}
 use Rattle.judge.proofs.TypeKinds.{is_not}
 use Rattle.forms.proofs.Shapes.{extent-bound, extent-parts, extent_endless, extent_elements}
 use Rattle.forms.proofs.form.type_extent.Goals as goal

@@ -1,7 +1,7 @@
 -- `forms::form::type_member` meets its contract: a part that is there, by the kind.
 use mathlib.Core.Path.{ap}
-use Rattle.judge.specs.declared.rows.TypeKind.TheVariants.{Vector, Matrix, Struct}
-use Rattle.judge.specs.TypeKind.{type_number}
+use Rattle.module.specs.declared.kinds.TypeKind.TheVariants.{Vector, Matrix, Struct}
+use Rattle.module.specs.KindNumbers.{type_number}
 use Rattle.judge.proofs.TypeKinds.{is_not}
 use Rattle.forms.proofs.Shapes.{part_none, part_number, part_column, part_member, part_base, member_there, element_there}
 use Rattle.forms.proofs.form.type_member.Goals as goal

@@ -1,8 +1,8 @@
 -- `forms::form::type_split` meets its contract: by the kind.
 use mathlib.Core.Path.{ap}
 use mathlib.Core.Logic.{inl, inr}
-use Rattle.judge.specs.declared.rows.TypeKind.TheVariants.{Vector, Matrix, Struct}
-use Rattle.judge.specs.TypeKind.{type_number}
+use Rattle.module.specs.declared.kinds.TypeKind.TheVariants.{Vector, Matrix, Struct}
+use Rattle.module.specs.KindNumbers.{type_number}
 use Rattle.judge.proofs.TypeKinds.{is_not}
 use Rattle.forms.proofs.Shapes.{parted_vector, parted_matrix, parted_struct, parted_none}
 use Rattle.forms.proofs.form.type_split.Goals as goal

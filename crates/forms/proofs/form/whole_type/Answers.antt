@@ -3,8 +3,8 @@ use mathlib.Core.Path.{sym, ap, ◌∙◌}
 use mathlib.Core.Logic.{inl, inr}
 use native.Mathlib.Omega.{arith}
 use borrow.Author.Tests.{eq-eqb, ne_eqb}
-use Rattle.judge.specs.declared.rows.TypeKind.TheVariants.{Array, BindingArray}
-use Rattle.judge.specs.TypeKind.{type_number}
+use Rattle.module.specs.declared.kinds.TypeKind.TheVariants.{Array, BindingArray}
+use Rattle.module.specs.KindNumbers.{type_number}
 use Rattle.judge.proofs.TypeKinds.{is_not}
 use Rattle.forms.proofs.Shapes.{whole_array, whole_other}
 use Rattle.forms.proofs.form.whole_type.Goals as goal

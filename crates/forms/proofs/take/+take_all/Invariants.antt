@@ -1,7 +1,6 @@
 -- `forms::take::take_all` meets its contract. The measure is what is left of the path.
-use Prim.Native.Nat.{◌-◌}
 use lib.ListN.{length}
 use Rattle.forms.proofs.take.+take_all.Given as goal
 
 abbrev pub decreases-take_all : goal.decreases-take_all
-decreases-take_all l = length l.path.now - l.at
+decreases-take_all l = length l.path.now

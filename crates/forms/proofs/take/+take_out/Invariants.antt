@@ -1,7 +1,6 @@
 -- `forms::take::take_out` meets its contract. The measure is what is left of the path.
-use Prim.Native.Nat.{◌-◌}
 use lib.ListN.{length}
 use Rattle.forms.proofs.take.+take_out.Given as goal
 
 abbrev pub decreases-take_out : goal.decreases-take_out
-decreases-take_out l = length l.path.now - l.at
+decreases-take_out l = length l.path.now

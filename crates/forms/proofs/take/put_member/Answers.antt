@@ -2,10 +2,6 @@
 use Rattle.forms.proofs.Taking.{put_at, put_other}
 use Rattle.forms.proofs.take.put_member.Goals as goal
 
-pub keep-requires : goal.keep-requires
-keep-requires c =
-    record { good = c.requires.good; room = c.requires.room; child_bound = c.requires.d_bound }
-
 pub returns-then-k-i : goal.returns-then-k-i
 returns-then-k-i c =
     put_at (c.requires.good, (c.requires.room, c.requires.d_bound)) _ _ c.if-k-i.true c.keep.ensures

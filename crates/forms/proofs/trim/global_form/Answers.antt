@@ -10,4 +10,4 @@ returns-then-globals-g c = global_past _ _ _ c.if-i-lt-SPINE.false (c.globals.en
 
 pub returns : goal.returns
 returns c =
-    global_there _ _ _ c.if-i-lt-SPINE.false (c.globals.ensures _) c.if-globals-g.false c.global-h.ensures
+    global_there _ _ _ c.if-i-lt-SPINE.false (c.globals.ensures _) c.if-globals-g.false c.global.ensures

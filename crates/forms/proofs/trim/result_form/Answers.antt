@@ -2,8 +2,8 @@
 use Rattle.forms.proofs.Trimming.{result_void, result_type}
 use Rattle.forms.proofs.trim.result_form.Goals as goal
 
-pub returns-then-ty-eq-NO_HANDLE : goal.returns-then-ty-eq-NO_HANDLE
-returns-then-ty-eq-NO_HANDLE c = result_void _ c.result-b.result c.result-b.ensures c.if-ty-eq-NO_HANDLE.true
+pub returns-in-None : goal.returns-in-None
+returns-in-None c = result_void _ c.result.ensures c.in-None.is
 
-pub returns : goal.returns
-returns c = result_type _ c.result-b.result c.result-b.ensures _ c.requires c.if-ty-eq-NO_HANDLE.false
+pub returns-in-Some : goal.returns-in-Some
+returns-in-Some c = result_type _ c.result.ensures _ _ c.requires c.in-Some.is

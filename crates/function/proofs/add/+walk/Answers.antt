@@ -1,7 +1,7 @@
 -- The one proof of the walks of blocks, statements and functions: each need is answered by a law of crates block and arms. A number falls: that of the block among the blocks of its
 -- function, below the numbers of all higher functions.
 use Rattle.arms.proofs.AddIf.{if_asked, if_ends, if_few, if_halts, if_paired}
-use Rattle.arms.proofs.ByArm.{emit_arm, emit_asks, holder_kind, if_arm, leaf_asks, leaf_ends, loop_arm, loop_kind, mark_asks, mark_ends, nested_arm, switch_arm}
+use Rattle.arms.proofs.ByArm.{if_arm, leaf_ends, loop_arm, mark_ends, nested_arm, switch_arm}
 use Rattle.arms.proofs.CallSteps.{call_begins, call_ended, call_high, call_leaves, call_own, call_returns, call_stops, call_sum, callee_below, function_enters}
 use Rattle.arms.proofs.Looping.{loop_dropped, loop_drops, loop_ends, loop_fits, loop_halts, loop_paired, loop_pass_halts, loop_passing, loop_turning}
 use Rattle.arms.proofs.SwitchCases.{began, body_lower, case-ends, case_enters, case_halts, case_limit, cases_begin, cases_next, copy_asks, held_fits, outside_few, switch_asks, switch_whole}
@@ -12,40 +12,14 @@ use Rattle.block.proofs.Nested.{arm_high, arm_small, arm_weighs, nested_ends, ne
 use Rattle.block.proofs.Paired.{pair_ends, pair_first, pair_halt, pair_halt_2, pair_second, pair_small, pair_weighs, weighs}
 use Rattle.block.proofs.Statements.{all_left, base-copies, base-small, base-weighs, none_left, statement_low, statement_visits, statements_next, statements_stop}
 use Rattle.state.proofs.Ends.{passed}
+use mathlib.Core.Path.{refl}
+use Rattle.std.proofs.Common.{rules}
 use native.Mathlib.Omega.{arith}
 use borrow.Author.Tests.{not-true, not-false}
 use Rattle.function.proofs.add.+walk.Goals as goal
 
-pub add_arm-add_emit-requires : goal.add_arm-add_emit-requires
-add_arm-add_emit-requires t c = emit_asks c.requires c.if-kind-eq-EMIT.true
-
-pub add_arm-returns-then-kind-eq-EMIT : goal.add_arm-returns-then-kind-eq-EMIT
-add_arm-returns-then-kind-eq-EMIT t c = emit_arm c.requires c.add_emit.ensures
-
-pub add_arm-add_call-requires : goal.add_arm-add_call-requires
-add_arm-add_call-requires t c = (omega (arith, c.decreases), (c.requires, c.if-kind-eq-CALL.true))
-
-pub add_arm-returns-then-kind-eq-CALL : goal.add_arm-returns-then-kind-eq-CALL
-add_arm-returns-then-kind-eq-CALL t c = c.add_call.ensures
-
-pub add_arm-add_holder-requires : goal.add_arm-add_holder-requires
-add_arm-add_holder-requires t c =
-    (omega (arith, c.decreases), (c.requires, holder_kind _ c.if-kind-eq-EMIT.false c.if-kind-lt-BREAK.true))
-
-pub add_arm-returns-then-kind-lt-BREAK : goal.add_arm-returns-then-kind-lt-BREAK
-add_arm-returns-then-kind-lt-BREAK t c = c.add_holder.ensures
-
-pub add_arm-add_leaf-r-requires : goal.add_arm-add_leaf-r-requires
-add_arm-add_leaf-r-requires t c =
-    let q9 = leaf_asks c.requires c.if-kind-lt-BREAK.false c.if-kind-eq-CALL.false in
-    record { arm = q9.0; types_value = q9.1.0; leaf_kind = q9.1.1 }
-
-pub add_arm-mark_statement-requires : goal.add_arm-mark_statement-requires
-add_arm-mark_statement-requires t c = mark_asks c.requires _ (leaf_ends c.requires _ c.add_leaf-r.ensures)
-
-pub add_arm-returns : goal.add_arm-returns
-add_arm-returns t c =
-    mark_ends c.requires c.mark_statement.ensures (leaf_ends c.requires _ c.add_leaf-r.ensures)
+pub add_arm-returns-in_default : goal.add_arm-returns-in_default
+add_arm-returns-in_default t c = mark_ends c.requires c.mark_statement.ensures (leaf_ends c.requires _ c.add_leaf-r.ensures)
 
 pub add_block-weigh-requires : goal.add_block-weigh-requires
 add_block-weigh-requires t c =
@@ -77,7 +51,7 @@ add_block-returns-in_err-a t c =
 
 pub add_block-loop-k-preserved : goal.add_block-loop-k-preserved
 add_block-loop-k-preserved t c =
-    statements_next c.args.f c.requires c.args.break_required c.copy_context.ensures c.loop-k.invariant (omega arith) c.add_statement.ensures c.in_ok-a.was c.or-behind.ensures c.or-required.ensures
+    statements_next c.args.f c.requires c.args.break_required c.copy_context.ensures c.loop-k.invariant (omega arith) c.add_statement.ensures c.in_ok-a.was refl refl
 
 pub add_block-returns : goal.add_block-returns
 add_block-returns t c =
@@ -90,8 +64,8 @@ pub add_call-overflow_add-at : goal.add_call-overflow_add-at
 add_call-overflow_add-at t c =
     omega (arith, call_high c.requires.arms c.requires.kind_value, c.begin_call-arg-4-1.given.0.1)
 
-pub add_call-overflow_sub-sum : goal.add_call-overflow_sub-sum
-add_call-overflow_sub-sum t c =
+pub add_call-overflow_sub-others : goal.add_call-overflow_sub-others
+add_call-overflow_sub-others t c =
     omega (arith, call_own c.requires.arms c.requires.kind_value c.function_operand-g.ensures c.begin_call-begun.ensures)
 
 pub add_call-add_function-requires : goal.add_call-add_function-requires
@@ -102,13 +76,13 @@ pub add_call-overflow_add-a : goal.add_call-overflow_add-a
 add_call-overflow_add-a t c =
     omega (arith, call_sum c.requires.arms c.requires.kind_value c.function_operand-g.ensures c.begin_call-begun.ensures c.add_function.ensures c.in_ok-a.was)
 
-pub add_call-leave_call-left-requires : goal.add_call-leave_call-left-requires
-add_call-leave_call-left-requires t c =
+pub add_call-leave_call-sum-requires : goal.add_call-leave_call-sum-requires
+add_call-leave_call-sum-requires t c =
     call_leaves c.requires.arms c.requires.kind_value c.function_operand-g.ensures c.begin_call-begun.ensures c.add_function.ensures c.in_ok-a.was
 
 pub add_call-return_call-requires : goal.add_call-return_call-requires
 add_call-return_call-requires t c =
-    call_returns c.requires.arms c.requires.kind_value c.function_operand-g.ensures c.begin_call-begun.ensures c.add_function.ensures c.in_ok-a.was c.leave_call-left.ensures
+    call_returns c.requires.arms c.requires.kind_value c.function_operand-g.ensures c.begin_call-begun.ensures c.add_function.ensures c.in_ok-a.was c.leave_call-sum.ensures
 
 pub add_call-returns-in_err-a : goal.add_call-returns-in_err-a
 add_call-returns-in_err-a t c =
@@ -117,7 +91,7 @@ add_call-returns-in_err-a t c =
 
 pub add_call-returns : goal.add_call-returns
 add_call-returns t c =
-    call_ended c.requires.arms c.requires.kind_value c.function_operand-g.ensures c.begin_call-begun.ensures c.add_function.ensures c.in_ok-a.was c.leave_call-left.ensures c.return_call.ensures
+    call_ended c.requires.arms c.requires.kind_value c.function_operand-g.ensures c.begin_call-begun.ensures c.add_function.ensures c.in_ok-a.was c.leave_call-sum.ensures c.return_call.ensures
 
 pub add_function-overflow_add-at : goal.add_function-overflow_add-at
 add_function-overflow_add-at t c = omega (arith, c.requires.base_bound)
@@ -144,50 +118,21 @@ pub add_function-returns : goal.add_function-returns
 add_function-returns t c =
     function_ends c.requires.function_entered (c.body_block-b.ensures _) c.args.here c.add_block.ensures c.in_ok-a.was c.add_total.ensures c.in_ok-tally.was
 
-pub add_holder-add_nested-r-requires : goal.add_holder-add_nested-r-requires
-add_holder-add_nested-r-requires t c = (omega (arith, c.decreases), (c.requires.arms, c.if-kind-eq-BLOCK.true))
+pub add_holder-returns-in-Ok-Block : goal.add_holder-returns-in-Ok-Block
+add_holder-returns-in-Ok-Block t c =
+    mark_ends c.requires.arms c.mark_statement.ensures (nested_arm c.requires.arms (search rules) c.add_nested-r.ensures)
 
-pub add_holder-mark_statement-requires : goal.add_holder-mark_statement-requires
-add_holder-mark_statement-requires t c =
-    mark_asks c.requires.arms _ (nested_arm c.requires.arms c.if-kind-eq-BLOCK.true c.add_nested-r.ensures)
+pub add_holder-returns-in-Ok-If : goal.add_holder-returns-in-Ok-If
+add_holder-returns-in-Ok-If t c =
+    mark_ends c.requires.arms c.mark_statement-in-Ok-If.ensures (if_arm c.requires.arms (search rules) c.add_if-r.ensures)
 
-pub add_holder-returns-then-kind-eq-BLOCK : goal.add_holder-returns-then-kind-eq-BLOCK
-add_holder-returns-then-kind-eq-BLOCK t c =
-    mark_ends c.requires.arms c.mark_statement.ensures (nested_arm c.requires.arms c.if-kind-eq-BLOCK.true c.add_nested-r.ensures)
+pub add_holder-returns-in-Ok-Switch : goal.add_holder-returns-in-Ok-Switch
+add_holder-returns-in-Ok-Switch t c =
+    mark_ends c.requires.arms c.mark_statement-in-Ok-Switch.ensures (switch_arm c.requires.arms (search rules) c.add_switch-r.ensures)
 
-pub add_holder-add_if-r-requires : goal.add_holder-add_if-r-requires
-add_holder-add_if-r-requires t c = (omega (arith, c.decreases), (c.requires.arms, c.if-kind-eq-IF.true))
-
-pub add_holder-mark_statement-requires-then-kind-eq-IF : goal.add_holder-mark_statement-requires-then-kind-eq-IF
-add_holder-mark_statement-requires-then-kind-eq-IF t c =
-    mark_asks c.requires.arms _ (if_arm c.requires.arms c.if-kind-eq-IF.true c.add_if-r.ensures)
-
-pub add_holder-returns-then-kind-eq-IF : goal.add_holder-returns-then-kind-eq-IF
-add_holder-returns-then-kind-eq-IF t c =
-    mark_ends c.requires.arms c.mark_statement-then-kind-eq-IF.ensures (if_arm c.requires.arms c.if-kind-eq-IF.true c.add_if-r.ensures)
-
-pub add_holder-add_switch-r-requires : goal.add_holder-add_switch-r-requires
-add_holder-add_switch-r-requires t c = (omega (arith, c.decreases), (c.requires.arms, c.if-kind-eq-SWITCH.true))
-
-pub add_holder-mark_statement-requires-then-kind-eq-SWITCH : goal.add_holder-mark_statement-requires-then-kind-eq-SWITCH
-add_holder-mark_statement-requires-then-kind-eq-SWITCH t c =
-    mark_asks c.requires.arms _ (switch_arm c.requires.arms c.if-kind-eq-SWITCH.true c.add_switch-r.ensures)
-
-pub add_holder-returns-then-kind-eq-SWITCH : goal.add_holder-returns-then-kind-eq-SWITCH
-add_holder-returns-then-kind-eq-SWITCH t c =
-    mark_ends c.requires.arms c.mark_statement-then-kind-eq-SWITCH.ensures (switch_arm c.requires.arms c.if-kind-eq-SWITCH.true c.add_switch-r.ensures)
-
-pub add_holder-add_loop-r-requires : goal.add_holder-add_loop-r-requires
-add_holder-add_loop-r-requires t c =
-    (omega (arith, c.decreases), (c.requires.arms, loop_kind _ c.requires.le_kind c.if-kind-eq-BLOCK.false c.if-kind-eq-IF.false c.if-kind-eq-SWITCH.false))
-
-pub add_holder-mark_statement-requires-2 : goal.add_holder-mark_statement-requires-2
-add_holder-mark_statement-requires-2 t c =
-    mark_asks c.requires.arms _ (loop_arm c.requires.arms (loop_kind _ c.requires.le_kind c.if-kind-eq-BLOCK.false c.if-kind-eq-IF.false c.if-kind-eq-SWITCH.false) c.add_loop-r.ensures)
-
-pub add_holder-returns : goal.add_holder-returns
-add_holder-returns t c =
-    mark_ends c.requires.arms c.mark_statement-2.ensures (loop_arm c.requires.arms (loop_kind _ c.requires.le_kind c.if-kind-eq-BLOCK.false c.if-kind-eq-IF.false c.if-kind-eq-SWITCH.false) c.add_loop-r.ensures)
+pub add_holder-returns-in_default : goal.add_holder-returns-in_default
+add_holder-returns-in_default t c =
+    mark_ends c.requires.arms c.mark_statement-in_default.ensures (loop_arm c.requires.arms (search rules) c.add_loop-r.ensures)
 
 pub add_if-weigh-requires : goal.add_if-weigh-requires
 add_if-weigh-requires t c =
@@ -243,11 +188,11 @@ add_loop-returns-then-not-a t c =
 
 pub add_loop-end_pass-requires : goal.add_loop-end_pass-requires
 add_loop-end_pass-requires t c =
-    loop_passing c.requires.arms c.requires.kind_value c.weigh.ensures c.block_operand-body.ensures c.block_operand-continuing.ensures c.add_pair.ensures c.in_ok-a.was c.expression_operand-break_if.ensures
+    loop_passing c.requires.arms c.requires.kind_value c.weigh.ensures c.block_operand-body.ensures c.block_operand-continuing.ensures c.add_pair.ensures c.in_ok-a.was c.optional_expression-break_if.ensures
 
 pub add_loop-add_turns-requires : goal.add_loop-add_turns-requires
 add_loop-add_turns-requires t c =
-    (omega (arith, c.decreases), loop_turning c.requires.arms c.requires.kind_value c.weigh.ensures c.block_operand-body.ensures c.block_operand-continuing.ensures c.add_pair.ensures c.in_ok-a.was c.expression_operand-break_if.ensures (not-false _ c.if-not-a.false) c.end_pass.ensures c.in_ok-left.was)
+    (omega (arith, c.decreases), loop_turning c.requires.arms c.requires.kind_value c.weigh.ensures c.block_operand-body.ensures c.block_operand-continuing.ensures c.add_pair.ensures c.in_ok-a.was c.optional_expression-break_if.ensures (not-false _ c.if-not-a.false) c.end_pass.ensures c.in_ok-left.was)
 
 pub add_loop-returns-in_err-a : goal.add_loop-returns-in_err-a
 add_loop-returns-in_err-a t c =
@@ -257,11 +202,11 @@ add_loop-returns-in_err-a t c =
 pub add_loop-returns-in_err-left : goal.add_loop-returns-in_err-left
 add_loop-returns-in_err-left t c =
     rw (passed c.from_residual-in_err-left.ensures.1)
-    (loop_pass_halts c.requires.arms c.requires.kind_value c.weigh.ensures c.block_operand-body.ensures c.block_operand-continuing.ensures c.add_pair.ensures c.in_ok-a.was c.expression_operand-break_if.ensures (not-false _ c.if-not-a.false) c.end_pass.ensures c.in_err-left.was)
+    (loop_pass_halts c.requires.arms c.requires.kind_value c.weigh.ensures c.block_operand-body.ensures c.block_operand-continuing.ensures c.add_pair.ensures c.in_ok-a.was c.optional_expression-break_if.ensures (not-false _ c.if-not-a.false) c.end_pass.ensures c.in_err-left.was)
 
 pub add_loop-returns : goal.add_loop-returns
 add_loop-returns t c =
-    loop_ends c.requires.arms c.requires.kind_value c.weigh.ensures c.block_operand-body.ensures c.block_operand-continuing.ensures c.add_pair.ensures c.in_ok-a.was c.expression_operand-break_if.ensures (not-false _ c.if-not-a.false) c.end_pass.ensures c.in_ok-left.was _ c.add_turns.ensures
+    loop_ends c.requires.arms c.requires.kind_value c.weigh.ensures c.block_operand-body.ensures c.block_operand-continuing.ensures c.add_pair.ensures c.in_ok-a.was c.optional_expression-break_if.ensures (not-false _ c.if-not-a.false) c.end_pass.ensures c.in_ok-left.was _ c.add_turns.ensures
 
 pub add_nested-weigh-requires : goal.add_nested-weigh-requires
 add_nested-weigh-requires t c =
@@ -323,32 +268,32 @@ add_pair-returns-in_err-c t c =
 
 pub add_pair-returns : goal.add_pair-returns
 add_pair-returns t c =
-    pair_ends c.requires c.args.break_required c.add_block.ensures c.in_ok-a.was c.weigh.ensures c.add_block-2.ensures c.in_ok-c.was c.or.ensures
+    pair_ends c.requires c.args.break_required c.add_block.ensures c.in_ok-a.was c.weigh.ensures c.add_block-2.ensures c.in_ok-c.was refl
 
-pub add_statement-returns-then-visits-ge-MAX_VISITS : goal.add_statement-returns-then-visits-ge-MAX_VISITS
-add_statement-returns-then-visits-ge-MAX_VISITS t c =
-    rw c.halt.ensures (visit_17 c.requires c.if-visits-ge-MAX_VISITS.true)
+pub add_statement-returns-then-tally-ge-MAX_VISITS : goal.add_statement-returns-then-tally-ge-MAX_VISITS
+add_statement-returns-then-tally-ge-MAX_VISITS t c =
+    rw c.halt.ensures (visit_17 c.requires c.if-tally-ge-MAX_VISITS.true)
 
 pub add_statement-allowed-requires : goal.add_statement-allowed-requires
 add_statement-allowed-requires t c = visit_counting c.requires
 
 pub add_statement-returns-then-not-allowed : goal.add_statement-returns-then-not-allowed
 add_statement-returns-then-not-allowed t c =
-    rw c.halt-then-not-allowed.ensures (visit_16 c.requires c.if-visits-ge-MAX_VISITS.false c.allowed.ensures c.if-not-allowed.true)
+    rw c.halt-then-not-allowed.ensures (visit_16 c.requires c.if-tally-ge-MAX_VISITS.false c.allowed.ensures c.if-not-allowed.true)
 
-pub add_statement-overflow_add-visits : goal.add_statement-overflow_add-visits
-add_statement-overflow_add-visits t c = omega (arith, c.if-visits-ge-MAX_VISITS.false)
+pub add_statement-overflow_add-counted : goal.add_statement-overflow_add-counted
+add_statement-overflow_add-counted t c = omega (arith, c.if-tally-ge-MAX_VISITS.false)
 
 pub add_statement-add_arm-r-requires : goal.add_statement-add_arm-r-requires
 add_statement-add_arm-r-requires t c =
-    (omega (arith, c.decreases), visit_arms c.requires c.if-visits-ge-MAX_VISITS.false c.allowed.ensures c.if-not-allowed.false _ c.statement-row.ensures)
+    (omega (arith, c.decreases), visit_arms c.requires c.if-tally-ge-MAX_VISITS.false c.allowed.ensures c.if-not-allowed.false _ c.statement-row.ensures)
 
 pub add_statement-end_statement-requires : goal.add_statement-end_statement-requires
 add_statement-end_statement-requires t c = last_asks _ c.add_arm-r.ensures
 
 pub add_statement-returns : goal.add_statement-returns
 add_statement-returns t c =
-    visit_ends c.requires c.if-visits-ge-MAX_VISITS.false c.allowed.ensures c.if-not-allowed.false _ _ c.statement-row.ensures c.add_arm-r.ensures c.end_statement.ensures
+    visit_ends c.requires c.if-tally-ge-MAX_VISITS.false c.allowed.ensures c.if-not-allowed.false _ _ c.statement-row.ensures c.add_arm-r.ensures c.end_statement.ensures
 
 pub add_switch-weigh-requires : goal.add_switch-weigh-requires
 add_switch-weigh-requires t c =
@@ -403,7 +348,7 @@ add_switch-returns-then-end_case t c =
 
 pub add_switch-loop-k-preserved : goal.add_switch-loop-k-preserved
 add_switch-loop-k-preserved t c =
-    cases_next c.loop-k.invariant c.weigh-in-loop-k.ensures c.case_body-body.ensures (omega arith) c.add_block.ensures c.in_ok-a.was c.end_case.ensures c.if-end_case.false c.or-any.ensures
+    cases_next c.loop-k.invariant c.weigh-in-loop-k.ensures c.case_body-body.ensures (omega arith) c.add_block.ensures c.in_ok-a.was c.end_case.ensures c.if-end_case.false refl
 
 pub add_switch-end_switch-requires : goal.add_switch-end_switch-requires
 add_switch-end_switch-requires t c =

@@ -1,18 +1,16 @@
 -- `judge::indexes::fits_index` meets its contract: by the kind of index.
+use borrow.Author.Rules.{rules}
 use Rattle.judge.proofs.IndexRows.{fits_access, fits_constant}
 use Rattle.judge.proofs.indexes.fits_index.Goals as goal
 
-pub fits_base-fits-requires : goal.fits_base-fits-requires
-fits_base-fits-requires c =
-    record { row = c.requires.row; le_kind = c.requires.le_kind; kind_bound = c.requires.kind_bound }
+pub returns-then-is_value : goal.returns-then-is_value
+returns-then-is_value c =
+    fits_access c.requires.row c.requires.le_kind c.requires.kind_bound (search rules) c.fits_base-fits.ensures (search rules)
 
-pub is_value-requires : goal.is_value-requires
-is_value-requires c = c.requires.row.given.values
+pub returns-else-is_value : goal.returns-else-is_value
+returns-else-is_value c =
+    fits_access c.requires.row c.requires.le_kind c.requires.kind_bound (search rules) c.fits_base-fits.ensures (search rules)
 
-pub returns-then-row-eq-ACCESS : goal.returns-then-row-eq-ACCESS
-returns-then-row-eq-ACCESS c =
-    fits_access c.requires.row c.requires.le_kind c.requires.kind_bound c.if-row-eq-ACCESS.true c.fits_base-fits.ensures c.expression_operand-index.ensures c.is_value.ensures c.both.ensures
-
-pub returns : goal.returns
-returns c =
-    fits_constant c.requires.row c.requires.le_kind c.requires.kind_bound c.if-row-eq-ACCESS.false c.fits_base-fits.ensures
+pub returns-in_default : goal.returns-in_default
+returns-in_default c =
+    fits_constant c.requires.row c.requires.le_kind c.requires.kind_bound (search rules) c.fits_base-fits.ensures

@@ -1,15 +1,14 @@
 -- `judge::shapes::part_count` meets its contract: by the kind.
+use borrow.Author.Rules.{rules}
 use mathlib.Core.Path.{ap}
 use mathlib.Core.Logic.{inl, inr}
-use Rattle.judge.specs.declared.rows.TypeKind.TheVariants.{Vector, Matrix, Array, Struct}
-use Rattle.judge.specs.TypeKind.{type_number}
-use Rattle.judge.proofs.TypeKinds.{is_not}
+use Rattle.module.specs.KindNumbers.{type_number}
 use Rattle.judge.proofs.ShapeRows.{count_array, count_vector, count_matrix, count_struct, count_none}
 use Rattle.judge.proofs.shapes.part_count.Goals as goal
 
 pub returns-in-Array : goal.returns-in-Array
 returns-in-Array c =
-    count_array _ _ c.kind_at.ensures (ap type_number c.in-Array.is) c.second_word.ensures
+    count_array _ _ c.kind_at.ensures (search rules) c.second_word.ensures
 
 pub returns-in-Vector : goal.returns-in-Vector
 returns-in-Vector c =
@@ -21,4 +20,4 @@ returns-in-Vector c =
 
 pub returns-in_default : goal.returns-in_default
 returns-in_default c =
-    count_none _ _ c.kind_at.ensures (is_not Array c.in_default.not-Array) (is_not Vector c.in_default.not-Vector) (is_not Matrix c.in_default.not-Matrix) (is_not Struct c.in_default.not-Struct)
+    count_none _ _ c.kind_at.ensures (search rules) (search rules) (search rules) (search rules)

@@ -1,8 +1,5 @@
 -- `judge::shapes::same_part` meets its contract: a part that is there is a member, or what a dynamic index gives.
-use mathlib.Core.Path.{ap}
-use Rattle.judge.specs.declared.rows.TypeKind.TheVariants.{Struct}
-use Rattle.judge.specs.TypeKind.{type_number}
-use Rattle.judge.proofs.TypeKinds.{is_not}
+use borrow.Author.Rules.{rules}
 use Rattle.judge.proofs.ShapeRows.{part_none, part_struct, part-other, member_there}
 use Rattle.judge.proofs.shapes.same_part.Goals as goal
 
@@ -11,11 +8,11 @@ returns-then-part_count-i c = λ S p. part_none _ S p _ _ _ c.part_count.ensures
 
 pub base_at-requires : goal.base_at-requires
 base_at-requires c =
-    member_there _ _ c.kind_at.ensures (ap type_number c.in-Struct.is) c.part_count.ensures c.if-part_count-i.false
+    member_there _ _ c.kind_at.ensures (search rules) c.part_count.ensures c.if-part_count-i.false
 
 pub returns-in-Struct : goal.returns-in-Struct
 returns-in-Struct c =
-    λ S p. part_struct _ S p _ c.kind_at.ensures _ _ c.part_count.ensures c.if-part_count-i.false c.requires.shapes c.requires.a_in_bounds c.requires.b_in_bounds (ap type_number c.in-Struct.is) c.base_at.ensures c.is_alike.ensures
+    λ S p. part_struct _ S p _ c.kind_at.ensures _ _ c.part_count.ensures c.if-part_count-i.false c.requires.shapes c.requires.a_in_bounds c.requires.b_in_bounds (search rules) c.base_at.ensures c.is_alike.ensures
 
 pub same_element-requires : goal.same_element-requires
 same_element-requires c =
@@ -23,4 +20,4 @@ same_element-requires c =
 
 pub returns-in_default : goal.returns-in_default
 returns-in_default c =
-    λ S p. part-other _ S p _ c.kind_at.ensures _ _ c.part_count.ensures c.if-part_count-i.false (is_not Struct c.in_default.not-Struct) (c.same_element.ensures S p)
+    λ S p. part-other _ S p _ c.kind_at.ensures _ _ c.part_count.ensures c.if-part_count-i.false (search rules) (c.same_element.ensures S p)

@@ -1,17 +1,24 @@
 -- `judge::statements::fits_return` meets its contract: by whether there is a value, and a result.
-use Rattle.judge.proofs.StatementRows.{return_absent, return_none, return_some}
+use borrow.Author.Rules.{rules}
+use Rattle.access.specs.Access.{handle_in}
+use Rattle.clearance.specs.Judged.{presently}
+use Rattle.judge.proofs.StatementRows.{return_none, return_some}
 use Rattle.judge.proofs.statements.fits_return.Goals as goal
 
-pub returns-then-v-eq-NO_HANDLE : goal.returns-then-v-eq-NO_HANDLE
-returns-then-v-eq-NO_HANDLE c = return_absent c.requires.given _ c.if-v-eq-NO_HANDLE.true
+pub returns-in_default : goal.returns-in_default
+unfolding handle_in presently
+returns-in_default c = search rules
 
-pub returns-then-declared-eq-NO_HANDLE : goal.returns-then-declared-eq-NO_HANDLE
-returns-then-declared-eq-NO_HANDLE c =
-    return_none c.requires.given _ _ c.if-v-eq-NO_HANDLE.false c.result-declared.ensures c.if-declared-eq-NO_HANDLE.true
+pub returns-in_default-result : goal.returns-in_default-result
+unfolding handle_in presently
+returns-in_default-result c = rw c.in-Some.is (return_none c.requires.given _ c.result.ensures c.in_default-result.is)
 
-pub is_value-requires : goal.is_value-requires
-is_value-requires c = c.requires.given.values
+pub returns-then-is_value : goal.returns-then-is_value
+unfolding handle_in presently
+returns-then-is_value c =
+    rw c.in-Some.is (return_some c.requires.given _ c.result.ensures _ c.in-Some-result.is (rw c.in-Some.is at c.requires.maybe_below) (search rules))
 
-pub returns : goal.returns
-returns c =
-    return_some c.requires.given _ _ c.requires.maybe_below c.if-v-eq-NO_HANDLE.false c.result-declared.ensures c.if-declared-eq-NO_HANDLE.false c.type_of.ensures c.is_alike-same.ensures c.is_value.ensures c.both.ensures
+pub returns-else-is_value : goal.returns-else-is_value
+unfolding handle_in presently
+returns-else-is_value c =
+    rw c.in-Some.is (return_some c.requires.given _ c.result.ensures _ c.in-Some-result.is (rw c.in-Some.is at c.requires.maybe_below) (search rules))

@@ -1,12 +1,13 @@
--- `judge::values::maybe_value` meets its contract: by whether the operand is absent.
-use Rattle.judge.proofs.ValueRows.{maybe_absent, maybe_there}
+-- `judge::values::maybe_value` meets its contract: by whether the operand is there.
+use borrow.Author.Rules.{rules}
+use Rattle.access.specs.Access.{handle_in}
+use Rattle.clearance.specs.Judged.{presently}
 use Rattle.judge.proofs.values.maybe_value.Goals as goal
 
-pub returns-then-v-eq-NO_HANDLE : goal.returns-then-v-eq-NO_HANDLE
-returns-then-v-eq-NO_HANDLE c = maybe_absent _ _ c.if-v-eq-NO_HANDLE.true
+pub returns-in-None : goal.returns-in-None
+unfolding handle_in presently
+returns-in-None c = search rules
 
-pub is_value-requires : goal.is_value-requires
-is_value-requires c = c.requires
-
-pub returns : goal.returns
-returns c = maybe_there _ _ c.if-v-eq-NO_HANDLE.false c.is_value.ensures
+pub returns-in-Some : goal.returns-in-Some
+unfolding handle_in presently
+returns-in-Some c = search rules

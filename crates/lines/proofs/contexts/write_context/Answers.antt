@@ -1,5 +1,5 @@
 -- `lines::contexts::write_context` meets its contract.
-use Rattle.lines.proofs.Writing.{wrote_then, wrote_long, rooms_first, rooms_then}
+use Rattle.lines.proofs.Writing.{rooms_first, rooms_then}
 use Rattle.lines.proofs.Whole.{context_rooms, context_wrote}
 use Rattle.lines.proofs.contexts.write_context.Goals as goal
 
@@ -18,10 +18,6 @@ write_variables-locals-requires c =
 pub write_variables-requires : goal.write_variables-requires
 write_variables-requires c =
     record { good = c.requires.good; map_bound = (c.requires.globals_bound.1, rooms_first (rooms_then (rooms_then (rooms_then (context_rooms c.args.cells.now c.args.c c.requires.globals_bound.4) c.write_variables-retval.ensures) c.write_retval-args.ensures) c.write_variables-locals.ensures)) }
-
-pub shape_of-out : goal.shape_of-out
-shape_of-out c =
-    wrote_long (wrote_then c.write_variables-retval.ensures (wrote_then c.write_retval-args.ensures (wrote_then c.write_variables-locals.ensures c.write_variables.ensures)))
 
 pub returns : goal.returns
 returns c =

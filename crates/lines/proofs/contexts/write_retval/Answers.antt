@@ -1,6 +1,6 @@
 -- `lines::contexts::write_retval` meets its contract.
 use mathlib.Core.Path.{sym}
-use Rattle.lines.proofs.Writing.{wrote_then, wrote_as, wrote_long, rooms_first, rooms_then}
+use Rattle.lines.proofs.Writing.{wrote_then, wrote_as, rooms_first, rooms_then}
 use Rattle.lines.proofs.Rows.{no_retval, retval_line, retval_rooms, wrote_none}
 use native.Mathlib.Omega.{arith}
 use Rattle.lines.proofs.contexts.write_retval.Goals as goal
@@ -18,10 +18,6 @@ write_part-end-requires c =
 pub write_byte-requires : goal.write_byte-requires
 write_byte-requires c =
     rooms_first (rooms_then (rooms_then (retval_rooms c.look-x.ensures c.requires.map_bound.1) c.write_word-part.ensures) c.write_part-end.ensures)
-
-pub shape_of-out : goal.shape_of-out
-shape_of-out c =
-    wrote_long (wrote_then c.write_word-part.ensures (wrote_then c.write_part-end.ensures c.write_byte.ensures))
 
 pub returns : goal.returns
 returns c =

@@ -1,12 +1,8 @@
 -- `lines::contexts::write_variables` meets its contract. The entries from n on are left; a cell's rest is a lower number.
-use mathlib.Core.Path.{refl}
-use Rattle.lines.proofs.Along.{along_none, along_fits, along_more, along_done, along_long}
+use Rattle.lines.proofs.Along.{along_fits, along_more, along_done}
 use Rattle.lines.proofs.Rows.{no_variables, variable_line}
 use native.Mathlib.Omega.{arith}
 use Rattle.lines.proofs.contexts.write_variables.Goals as goal
-
-pub loop-n-init : goal.loop-n-init
-loop-n-init c = (c.requires.map_bound.0, along_none _ _ refl)
 
 pub write_line-next-requires : goal.write_line-next-requires
 write_line-next-requires c =
@@ -15,9 +11,6 @@ write_line-next-requires c =
 pub loop-n-preserved : goal.loop-n-preserved
 loop-n-preserved c =
     (omega (arith, c.look-x.ensures.rest_low, c.loop-n.invariant.0), along_more c.loop-n.invariant.1 (variable_line c.args.word.now c.look-x.ensures c.variable_of-k.ensures) c.write_line-next.ensures)
-
-pub shape_of-out : goal.shape_of-out
-shape_of-out c = along_long c.loop-n.invariant.1
 
 pub returns : goal.returns
 returns c = along_done c.loop-n.invariant.1 (no_variables _ _ c.args.word.now (omega arith))

@@ -1,57 +1,71 @@
 -- `lines::names::name` meets its contract, kind by kind.
 use mathlib.Core.Path.{sym}
-use native.Mathlib.Omega.{arith}
-use Rattle.lines.proofs.Named.{named, barrier_named, ray_named, other_named}
+use Rattle.module.specs.declared.kinds.StatementKind.TheVariants as kind
+use Rattle.lines.proofs.Named.{named, other_named}
 use Rattle.lines.proofs.names.name.Goals as goal
-use Rattle.lines.proofs.names.name.Goals.{in_default-via-then-kind-lt6, in_default-via-else-kind-lt6+else-kind-lt11+else-kind-lt21}
 
-pub returns-in-0 : goal.returns-in-0
-returns-in-0 c = sym (named 0 c.in-0.is)
+pub returns-in-Ok-Emit : goal.returns-in-Ok-Emit
+returns-in-Ok-Emit c = sym (named kind.Emit c.in-Ok-Emit.field-0-is c.in-Ok-Emit.ensures)
 
-pub returns-in-1 : goal.returns-in-1
-returns-in-1 c = sym (named 1 c.in-1.is)
+pub returns-in-Ok-Block : goal.returns-in-Ok-Block
+returns-in-Ok-Block c = sym (named kind.Block c.in-Ok-Block.field-0-is c.in-Ok-Block.ensures)
 
-pub returns-in-2 : goal.returns-in-2
-returns-in-2 c = sym (named 2 c.in-2.is)
+pub returns-in-Ok-If : goal.returns-in-Ok-If
+returns-in-Ok-If c = sym (named kind.If c.in-Ok-If.field-0-is c.in-Ok-If.ensures)
 
-pub returns-in-3 : goal.returns-in-3
-returns-in-3 c = sym (named 3 c.in-3.is)
+pub returns-in-Ok-Switch : goal.returns-in-Ok-Switch
+returns-in-Ok-Switch c = sym (named kind.Switch c.in-Ok-Switch.field-0-is c.in-Ok-Switch.ensures)
 
-pub returns-in-4 : goal.returns-in-4
-returns-in-4 c = sym (named 4 c.in-4.is)
+pub returns-in-Ok-Loop : goal.returns-in-Ok-Loop
+returns-in-Ok-Loop c = sym (named kind.Loop c.in-Ok-Loop.field-0-is c.in-Ok-Loop.ensures)
 
-pub returns-in-6 : goal.returns-in-6
-returns-in-6 c = sym (named 6 c.in-6.is)
+pub returns-in-Ok-Break : goal.returns-in-Ok-Break
+returns-in-Ok-Break c = sym (named kind.Break c.in-Ok-Break.field-0-is c.in-Ok-Break.ensures)
 
-pub returns-in-7 : goal.returns-in-7
-returns-in-7 c = sym (named 7 c.in-7.is)
+pub returns-in-Ok-Continue : goal.returns-in-Ok-Continue
+returns-in-Ok-Continue c = sym (named kind.Continue c.in-Ok-Continue.field-0-is c.in-Ok-Continue.ensures)
 
-pub returns-in-8 : goal.returns-in-8
-returns-in-8 c = sym (named 8 c.in-8.is)
+pub returns-in-Ok-Return : goal.returns-in-Ok-Return
+returns-in-Ok-Return c = sym (named kind.Return c.in-Ok-Return.field-0-is c.in-Ok-Return.ensures)
 
-pub returns-in-11 : goal.returns-in-11
-returns-in-11 c = sym (named 11 c.in-11.is)
+pub returns-in-Ok-Kill : goal.returns-in-Ok-Kill
+returns-in-Ok-Kill c = sym (named kind.Kill c.in-Ok-Kill.field-0-is c.in-Ok-Kill.ensures)
 
-pub returns-in-12 : goal.returns-in-12
-returns-in-12 c = sym (named 12 c.in-12.is)
+pub returns-in-Ok-ControlBarrier : goal.returns-in-Ok-ControlBarrier
+returns-in-Ok-ControlBarrier c = sym (named kind.ControlBarrier c.in-Ok-ControlBarrier.field-0-is c.in-Ok-ControlBarrier.ensures)
 
-pub returns-in-13 : goal.returns-in-13
-returns-in-13 c = sym (named 13 c.in-13.is)
+pub returns-in-Ok-MemoryBarrier : goal.returns-in-Ok-MemoryBarrier
+returns-in-Ok-MemoryBarrier c = sym (named kind.MemoryBarrier c.in-Ok-MemoryBarrier.field-0-is c.in-Ok-MemoryBarrier.ensures)
 
-pub returns-in-14 : goal.returns-in-14
-returns-in-14 c = sym (named 14 c.in-14.is)
+pub returns-in-Ok-ImageAtomic : goal.returns-in-Ok-ImageAtomic
+returns-in-Ok-ImageAtomic c = sym (named kind.ImageAtomic c.in-Ok-ImageAtomic.field-0-is c.in-Ok-ImageAtomic.ensures)
 
-pub returns-in-15 : goal.returns-in-15
-returns-in-15 c = sym (named 15 c.in-15.is)
+pub returns-in-Ok-Store : goal.returns-in-Ok-Store
+returns-in-Ok-Store c = sym (named kind.Store c.in-Ok-Store.field-0-is c.in-Ok-Store.ensures)
 
-pub returns-in-9-to-10 : goal.returns-in-9-to-10
-returns-in-9-to-10 c = sym (barrier_named _ (omega arith) (omega arith))
+pub returns-in-Ok-Atomic : goal.returns-in-Ok-Atomic
+returns-in-Ok-Atomic c = sym (named kind.Atomic c.in-Ok-Atomic.field-0-is c.in-Ok-Atomic.ensures)
 
-pub returns-in-16-to-20 : goal.returns-in-16-to-20
-returns-in-16-to-20 c = sym (ray_named _ (omega arith) (omega arith))
+pub returns-in-Ok-Call : goal.returns-in-Ok-Call
+returns-in-Ok-Call c = sym (named kind.Call c.in-Ok-Call.field-0-is c.in-Ok-Call.ensures)
 
-pub returns-in_default : goal.returns-in_default
-returns-in_default c = elim c.in_default.branch [
-  | in_default-via-then-kind-lt6 w ↦ sym (named 5 (omega arith))
-  | in_default-via-else-kind-lt6+else-kind-lt11+else-kind-lt21 w ↦ sym (other_named _ (omega arith))
-]
+pub returns-in-Ok-ImageStore : goal.returns-in-Ok-ImageStore
+returns-in-Ok-ImageStore c = sym (named kind.ImageStore c.in-Ok-ImageStore.field-0-is c.in-Ok-ImageStore.ensures)
+
+pub returns-in-Ok-RayQuery : goal.returns-in-Ok-RayQuery
+returns-in-Ok-RayQuery c = sym (named kind.RayQuery c.in-Ok-RayQuery.field-0-is c.in-Ok-RayQuery.ensures)
+
+pub returns-in-Ok-WorkGroupUniformLoad : goal.returns-in-Ok-WorkGroupUniformLoad
+returns-in-Ok-WorkGroupUniformLoad c = sym (named kind.WorkGroupUniformLoad c.in-Ok-WorkGroupUniformLoad.field-0-is c.in-Ok-WorkGroupUniformLoad.ensures)
+
+pub returns-in-Ok-SubgroupBallot : goal.returns-in-Ok-SubgroupBallot
+returns-in-Ok-SubgroupBallot c = sym (named kind.SubgroupBallot c.in-Ok-SubgroupBallot.field-0-is c.in-Ok-SubgroupBallot.ensures)
+
+pub returns-in-Ok-SubgroupGather : goal.returns-in-Ok-SubgroupGather
+returns-in-Ok-SubgroupGather c = sym (named kind.SubgroupGather c.in-Ok-SubgroupGather.field-0-is c.in-Ok-SubgroupGather.ensures)
+
+pub returns-in-Ok-SubgroupCollectiveOperation : goal.returns-in-Ok-SubgroupCollectiveOperation
+returns-in-Ok-SubgroupCollectiveOperation c = sym (named kind.SubgroupCollectiveOperation c.in-Ok-SubgroupCollectiveOperation.field-0-is c.in-Ok-SubgroupCollectiveOperation.ensures)
+
+pub returns-in-Err : goal.returns-in-Err
+returns-in-Err c = sym (other_named _ c.in-Err.ensures)

@@ -1,11 +1,8 @@
 -- `lines::own_marks::write_own_marks` meets its contract. The marks from the k-th on are left.
-use Rattle.lines.proofs.Along.{along_none, along_fits, along_more, along_done, along_long}
-use Rattle.lines.proofs.Own.{marks_next, marks_none, marks_all}
+use Rattle.lines.proofs.Along.{along_fits, along_more, along_done}
+use Rattle.lines.proofs.Own.{marks_next, marks_none}
 use native.Mathlib.Omega.{arith}
 use Rattle.lines.proofs.own_marks.write_own_marks.Goals as goal
-
-pub loop-k-init : goal.loop-k-init
-loop-k-init c = along_none _ _ (marks_all c.args.marks.now c.args.from c.args.n)
 
 pub write_mark-next-requires : goal.write_mark-next-requires
 write_mark-next-requires c =
@@ -14,9 +11,6 @@ write_mark-next-requires c =
 pub loop-k-preserved : goal.loop-k-preserved
 loop-k-preserved c =
     along_more c.loop-k.invariant (marks_next c.args.marks.now c.args.from c.args.n c.loop-k.k c.requires.0 (omega arith)) c.write_mark-next.ensures
-
-pub shape_of-out : goal.shape_of-out
-shape_of-out c = along_long c.loop-k.invariant
 
 pub returns : goal.returns
 returns c =

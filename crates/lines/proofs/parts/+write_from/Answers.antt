@@ -1,14 +1,11 @@
 -- `lines::parts::write_from` meets its contract. The measure is the requirement's number: a cell names lower ones.
 use mathlib.Core.Path.{sym}
-use Rattle.lines.proofs.Writing.{fits_as, wrote_as, wrote_long, wrote_then, rooms_first, rooms_then}
+use Rattle.lines.proofs.Writing.{fits_as, wrote_as, rooms_first, rooms_then}
 use Rattle.lines.proofs.Cells.{plain_is, cell_rooms, cell_wrote, child_call, rest_call}
 use Rattle.lines.proofs.parts.+write_from.Goals as goal
 
 pub write_plain-requires : goal.write_plain-requires
 write_plain-requires t c = fits_as (plain_is _ _ _ c.if-n-lt3.true) c.requires.n_bound.1
-
-pub shape_of-out-then-n-lt3 : goal.shape_of-out-then-n-lt3
-shape_of-out-then-n-lt3 t c = wrote_long c.write_plain.ensures
 
 pub returns-then-n-lt3 : goal.returns-then-n-lt3
 returns-then-n-lt3 t c = wrote_as (sym (plain_is _ _ _ c.if-n-lt3.true)) c.write_plain.ensures
@@ -31,10 +28,6 @@ write_from-rest-requires t c =
 pub write_from-requires : goal.write_from-requires
 write_from-requires t c =
     rest_call c.decreases c.look-x.ensures c.requires.good c.requires.n_bound.0 (rooms_first (rooms_then (rooms_then (rooms_then (rooms_then (cell_rooms _ c.look-x.ensures c.opening-open.ensures c.requires.n_bound.1) c.write_byte-index.ensures) c.write_number-colon.ensures) c.write_byte-child.ensures) c.write_from-rest.ensures))
-
-pub shape_of-out : goal.shape_of-out
-shape_of-out t c =
-    wrote_long (wrote_then c.write_byte-index.ensures (wrote_then c.write_number-colon.ensures (wrote_then c.write_byte-child.ensures (wrote_then c.write_from-rest.ensures c.write_from.ensures))))
 
 pub returns : goal.returns
 returns t c =

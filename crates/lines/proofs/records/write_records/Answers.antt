@@ -1,13 +1,9 @@
 -- `lines::records::write_records` meets its contract. The records from the k-th on are left.
 use Prim.Native.Nat.{◌+◌}
-use Rattle.lines.proofs.Along.{along_none, along_fits, along_more, along_done, along_long}
-use Rattle.lines.proofs.Rows.{records_next, records_none, records_all}
+use Rattle.lines.proofs.Along.{along_fits, along_more, along_done}
+use Rattle.lines.proofs.Rows.{records_next, records_none}
 use native.Mathlib.Omega.{arith}
 use Rattle.lines.proofs.records.write_records.Goals as goal
-
-pub loop-k-init : goal.loop-k-init
-loop-k-init c =
-    along_none _ _ (records_all c.args.cells.now c.args.slots.now c.args.base c.args.n)
 
 pub write_record-next-requires : goal.write_record-next-requires
 write_record-next-requires c =
@@ -16,9 +12,6 @@ write_record-next-requires c =
 pub loop-k-preserved : goal.loop-k-preserved
 loop-k-preserved c =
     along_more c.loop-k.invariant (records_next c.args.cells.now c.args.slots.now c.args.base c.args.n c.loop-k.k c.requires.n_in_bounds.0 (omega arith)) c.write_record-next.ensures
-
-pub shape_of-out : goal.shape_of-out
-shape_of-out c = along_long c.loop-k.invariant
 
 pub returns : goal.returns
 returns c =

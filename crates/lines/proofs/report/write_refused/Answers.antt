@@ -1,11 +1,8 @@
 -- `lines::report::write_refused` meets its contract.
-use Rattle.lines.proofs.Writing.{wrote_then, wrote_long, rooms_first, rooms_then}
+use Rattle.lines.proofs.Writing.{rooms_first, rooms_then}
 use Rattle.lines.proofs.ReportText.{refused_rooms, refused_front}
 use native.Mathlib.Omega.{arith}
 use Rattle.lines.proofs.report.write_refused.Goals as goal
-
-pub write_word-number-requires : goal.write_word-number-requires
-write_word-number-requires c = rooms_first (refused_rooms c.args.n (omega arith))
 
 pub write_number-end-requires : goal.write_number-end-requires
 write_number-end-requires c =
@@ -14,10 +11,6 @@ write_number-end-requires c =
 pub write_byte-requires : goal.write_byte-requires
 write_byte-requires c =
     rooms_first (rooms_then (rooms_then (refused_rooms c.args.n (omega arith)) c.write_word-number.ensures) c.write_number-end.ensures)
-
-pub shape_of-out : goal.shape_of-out
-shape_of-out c =
-    wrote_long (wrote_then c.write_word-number.ensures (wrote_then c.write_number-end.ensures c.write_byte.ensures))
 
 pub returns : goal.returns
 returns c =

@@ -1,5 +1,5 @@
 -- `lines::report::write_report_text` meets its contract.
-use Rattle.lines.proofs.Writing.{wrote_then, wrote_long, rooms_first, rooms_then}
+use Rattle.lines.proofs.Writing.{rooms_first, rooms_then}
 use Rattle.lines.proofs.ReportText.{report_rooms, items_within, report_front}
 use Rattle.lines.proofs.report.write_report_text.Goals as goal
 
@@ -17,10 +17,6 @@ write_records_of-statements-requires c =
 pub write_statements-requires : goal.write_statements-requires
 write_statements-requires c =
     (c.requires.0.marked, rooms_first (rooms_then (rooms_then (rooms_then (report_rooms c.requires.0 c.args.required) c.write_required-context.ensures) c.write_context_at-records.ensures) c.write_records_of-statements.ensures))
-
-pub shape_of-out : goal.shape_of-out
-shape_of-out c =
-    wrote_long (wrote_then c.write_required-context.ensures (wrote_then c.write_context_at-records.ensures (wrote_then c.write_records_of-statements.ensures c.write_statements.ensures)))
 
 pub returns : goal.returns
 returns c =

@@ -1,21 +1,9 @@
 -- `lines::statements::write_statement` meets its contract.
 use lib.ListN.{drop}
-use Rattle.lines.proofs.Writing.{wrote_then, wrote_long, rooms_first, rooms_then}
+use Rattle.lines.proofs.Writing.{rooms_first, rooms_then}
 use Rattle.lines.proofs.StatementLines.{statement_rooms, statement_wrote}
 use native.Mathlib.Omega.{arith}
 use Rattle.lines.proofs.statements.write_statement.Goals as goal
-
-pub write_word-number-requires : goal.write_word-number-requires
-write_word-number-requires c =
-    rooms_first (statement_rooms c.args.bytes.now c.args.t.now c.args.f.0 c.args.s (drop c.args.from c.args.marks.now) c.statement-row.ensures c.mark_count-n.ensures c.requires.1)
-
-pub write_number-space-requires : goal.write_number-space-requires
-write_number-space-requires c =
-    rooms_first (rooms_then (statement_rooms c.args.bytes.now c.args.t.now c.args.f.0 c.args.s (drop c.args.from c.args.marks.now) c.statement-row.ensures c.mark_count-n.ensures c.requires.1) c.write_word-number.ensures)
-
-pub write_byte-name-requires : goal.write_byte-name-requires
-write_byte-name-requires c =
-    rooms_first (rooms_then (rooms_then (statement_rooms c.args.bytes.now c.args.t.now c.args.f.0 c.args.s (drop c.args.from c.args.marks.now) c.statement-row.ensures c.mark_count-n.ensures c.requires.1) c.write_word-number.ensures) c.write_number-space.ensures)
 
 pub write_name-own-requires : goal.write_name-own-requires
 write_name-own-requires c =
@@ -28,10 +16,6 @@ write_own_marks-end-requires c =
 pub write_byte-requires : goal.write_byte-requires
 write_byte-requires c =
     rooms_first (rooms_then (rooms_then (rooms_then (rooms_then (rooms_then (statement_rooms c.args.bytes.now c.args.t.now c.args.f.0 c.args.s (drop c.args.from c.args.marks.now) c.statement-row.ensures c.mark_count-n.ensures c.requires.1) c.write_word-number.ensures) c.write_number-space.ensures) c.write_byte-name.ensures) c.write_name-own.ensures) c.write_own_marks-end.ensures)
-
-pub shape_of-out : goal.shape_of-out
-shape_of-out c =
-    wrote_long (wrote_then c.write_word-number.ensures (wrote_then c.write_number-space.ensures (wrote_then c.write_byte-name.ensures (wrote_then c.write_name-own.ensures (wrote_then c.write_own_marks-end.ensures c.write_byte.ensures)))))
 
 pub returns : goal.returns
 returns c =

@@ -1,5 +1,5 @@
 -- `lines::statements::write_statements` meets its contract. The lines from the statement s on are left.
-use Rattle.lines.proofs.Along.{along_none, along_fits, along_more, along_done, along_long}
+use Rattle.lines.proofs.Along.{along_none, along_fits, along_more, along_done}
 use Rattle.lines.proofs.StatementLines.{lines_all, lines_none, lines_next, marks_there}
 use native.Mathlib.Omega.{arith}
 use Rattle.lines.proofs.statements.write_statements.Goals as goal
@@ -15,9 +15,6 @@ write_statement-next-requires c =
 pub loop-s-preserved : goal.loop-s-preserved
 loop-s-preserved c =
     along_more c.loop-s.invariant (lines_next c.requires.0 c.loop-s.s (omega (arith, c.statements-n.ensures c.args.bytes.now)) c.place-from.ensures) c.write_statement-next.ensures
-
-pub shape_of-out : goal.shape_of-out
-shape_of-out c = along_long c.loop-s.invariant
 
 pub returns : goal.returns
 returns c =

@@ -1,8 +1,9 @@
 -- `marks::ray::+ray_block_ray_statement` meets its contract. Assumes nothing.
 use mathlib.Core.Path.{refl, sym, ap, ◌∙◌}
+use Rattle.std.proofs.Common.{rules}
 use native.Mathlib.Omega.{arith}
 use Rattle.walk.specs.Marks.{ray_of, first_ray}
-use Rattle.marks.proofs.Rays.{ray_down, found_is, nothing_is, down_found, down_next, down_end, from_found, from_next, from_end, ray_begins, statement_in, statement_small, decoded, held_block, statement_ray}
+use Rattle.marks.proofs.Rays.{ray_down, found_is, nothing_is, down_found, down_next, down_end, from_found, from_next, from_end, ray_begins, statement_in, statement_small, decoded, held_block, statement_ray, ray_kind}
 use Prim.Native.Nat.{◌-◌}
 use Rattle.marks.proofs.ray.+ray_block_ray_statement.Goals as goal
 
@@ -29,9 +30,9 @@ pub ray_block-returns : goal.ray_block-returns
 ray_block-returns t c =
     from_end _ _ _ _ c.loop-k.k c.block-range.result.count _ (omega arith) c.loop-k.invariant
 
-pub ray_statement-returns-then-kind-ge16 : goal.ray_statement-returns-then-kind-ge16
-ray_statement-returns-then-kind-ge16 t c =
-    c.ray_of.ensures _ _ ∙ ap (ray_of _ _) (sym (decoded _ _ _ _ _ c.requires _ c.statement-row.ensures))
+pub ray_statement-returns-in-Ok-RayQuery : goal.ray_statement-returns-in-Ok-RayQuery
+ray_statement-returns-in-Ok-RayQuery t c =
+    ray_kind _ _ _ _ (search rules) (search rules) ∙ ap (ray_of _ _) (sym (decoded _ _ _ _ _ c.requires _ c.statement-row.ensures))
 
 pub ray_statement-loop-j-init : goal.ray_statement-loop-j-init
 ray_statement-loop-j-init t c =
@@ -47,13 +48,13 @@ pub ray_statement-returns-in-Some : goal.ray_statement-returns-in-Some
 ray_statement-returns-in-Some t c =
     down_found _ _ c.loop-j.j (c.loop-j.j - 1) _ (omega arith) c.loop-j.invariant _
     (found_is c.in-Some.is (c.ray_block.ensures ∙ ap (first_ray _ _) c.held_number.ensures))
-    ∙ statement_ray _ _ _ _ _ c.requires _ c.statement-row.ensures (omega arith)
+    ∙ statement_ray _ _ _ _ _ c.requires _ c.statement-row.ensures (λ h. search rules)
 
 pub ray_statement-loop-j-preserved : goal.ray_statement-loop-j-preserved
 ray_statement-loop-j-preserved t c =
     down_next _ _ c.loop-j.j (c.loop-j.j - 1) _ (omega arith) c.loop-j.invariant
-    (nothing_is c.in_default.is (c.ray_block.ensures ∙ ap (first_ray _ _) c.held_number.ensures))
+    (nothing_is c.in_default-ray_block.is (c.ray_block.ensures ∙ ap (first_ray _ _) c.held_number.ensures))
 
 pub ray_statement-returns : goal.ray_statement-returns
 ray_statement-returns t c =
-    down_end _ _ c.loop-j.j _ (omega arith) c.loop-j.invariant ∙ statement_ray _ _ _ _ _ c.requires _ c.statement-row.ensures (omega arith)
+    down_end _ _ c.loop-j.j _ (omega arith) c.loop-j.invariant ∙ statement_ray _ _ _ _ _ c.requires _ c.statement-row.ensures (λ h. search rules)

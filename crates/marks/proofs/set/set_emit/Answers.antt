@@ -13,7 +13,7 @@ set_mark-requires c = let l = still_long _ _ _ _ c.loop-k.invariant.0 in omega a
 
 pub loop-k-preserved : goal.loop-k-preserved
 loop-k-preserved c =
-    (emit_turn _ _ _ _ _ _ _ _ refl c.loop-k.invariant.0 c.set_mark.ensures, any-turn c.args.marks.now _ 0 _ _ _ _ _ refl c.loop-k.invariant.1 c.or-found.ensures)
+    (emit_turn _ _ _ _ _ _ _ _ refl c.loop-k.invariant.0 c.set_mark.ensures, any-turn c.args.marks.now _ 0 _ _ _ _ _ refl c.loop-k.invariant.1 refl)
 
 pub shape_of-marks : goal.shape_of-marks
 shape_of-marks c = still_long _ _ _ _ c.loop-k.invariant.0

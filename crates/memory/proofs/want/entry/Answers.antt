@@ -1,6 +1,5 @@
 -- `memory::want::entry` meets its contract. Assumes nothing.
 use Rattle.memory.proofs.Asks.{entry_wrapped, entry_after, entry_none, entry_there}
-use Rattle.memory.proofs.Slots.{want_low}
 use native.Mathlib.Omega.{arith}
 use Rattle.memory.proofs.want.entry.Goals as goal
 
@@ -10,13 +9,9 @@ returns-then-k-eq0 c = entry_wrapped _ _ c.requires.1 _ c.if-up-gt0.true c.if-k-
 pub returns-then-up-gt0 : goal.returns-then-up-gt0
 returns-then-up-gt0 c = entry_after _ _ c.requires.1 _ c.if-up-gt0.true c.if-k-eq0.false
 
-pub reach-m-requires : goal.reach-m-requires
-reach-m-requires c =
-    record { good = c.requires.0.good; n_bound = ((want_low c.requires.0 _ c.requires.1).1, omega (arith, c.requires.1.deep)) }
-
-pub returns-then-t-lt3 : goal.returns-then-t-lt3
-returns-then-t-lt3 c =
-    entry_none _ _ c.requires.1 _ _ _ c.if-up-gt0.false c.reach-m.ensures.1 _ c.tail-t.ensures.1 c.if-t-lt3.true
+pub returns-then-t-le-EMPTY_PIECE : goal.returns-then-t-le-EMPTY_PIECE
+returns-then-t-le-EMPTY_PIECE c =
+    entry_none _ _ c.requires.1 _ _ _ c.if-up-gt0.false c.reach-m.ensures.1 _ c.tail-t.ensures.1 (omega (arith, c.if-t-le-EMPTY_PIECE.true))
 
 pub returns : goal.returns
 returns c =

@@ -1,15 +1,9 @@
 -- `memory::want::is_plain` meets its contract. Assumes nothing.
 use Rattle.memory.proofs.Asks.{plain_wrapped, plain_core}
-use Rattle.memory.proofs.Slots.{want_low}
-use native.Mathlib.Omega.{arith}
 use Rattle.memory.proofs.want.is_plain.Goals as goal
 
 pub returns-then-w-gt0 : goal.returns-then-w-gt0
 returns-then-w-gt0 c = plain_wrapped _ _ c.requires.memory.1 c.args.p c.if-w-gt0.true
-
-pub reach-n-requires : goal.reach-n-requires
-reach-n-requires c =
-    record { good = c.requires.memory.0.good; n_bound = ((want_low c.requires.memory.0 _ c.requires.memory.1).1, omega (arith, c.requires.memory.1.deep)) }
 
 pub returns : goal.returns
 returns c = plain_core _ _ c.requires.memory.1 _ _ c.args.p c.if-w-gt0.false c.reach-n.ensures.1 c.requires.p_lt2

@@ -3,8 +3,8 @@ use Rattle.memory.proofs.Asks.{kid-low, kid-cell}
 use native.Mathlib.Omega.{arith}
 use Rattle.memory.proofs.want.kid.Goals as goal
 
-pub returns-then-n-gt2 : goal.returns-then-n-gt2
-returns-then-n-gt2 c = (omega arith, kid-cell c.look-x.ensures)
+pub returns-then-n-gt-EMPTY_PIECE : goal.returns-then-n-gt-EMPTY_PIECE
+returns-then-n-gt-EMPTY_PIECE c = (omega arith, kid-cell c.look-x.ensures)
 
 pub returns : goal.returns
-returns c = (omega arith, kid-low _ _ c.if-n-gt2.false)
+returns c = (omega arith, kid-low _ _ c.if-n-gt-EMPTY_PIECE.false)

@@ -1,6 +1,6 @@
 -- `memory::want::swizzle` meets its contract. Assumes nothing.
 use mathlib.Core.Path.{refl, sym, ◌∙◌}
-use Rattle.memory.proofs.FlatParts.{digit_missing, digit_there, picks_all, picks_exist, picks_panic, pick_first, pick_there, pick_less, pick_out, pick_panics, pick_on, pick_done}
+use Rattle.memory.proofs.FlatParts.{digit_missing, digit_there, picks_all, picks_exist, picks_panic, pick_first, pick_less, pick_out, pick_panics, pick_on, pick_done}
 use Rattle.memory.proofs.Slots.{asked-small}
 use native.Mathlib.Omega.{arith}
 use Rattle.memory.proofs.want.swizzle.Goals as goal
@@ -16,10 +16,6 @@ loop-i-init c = pick_first _ _ (sym c.if-is_all.false ∙ c.is_all.ensures) (sym
 
 pub returns-then-i-ge4 : goal.returns-then-i-ge4
 returns-then-i-ge4 c = picks_panic (pick_out c.loop-i.invariant c.in-Some.ensures c.if-i-ge4.true)
-
-pub child-u-requires : goal.child-u-requires
-child-u-requires c =
-    record { memory = c.requires.memory; k_value = pick_there c.loop-i.invariant c.in-Some.ensures c.if-i-ge4.false }
 
 pub returns-in_err-d : goal.returns-in_err-d
 returns-in_err-d c =

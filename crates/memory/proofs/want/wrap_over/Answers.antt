@@ -3,13 +3,7 @@ use mathlib.Core.Path.{ap, ◌∙◌}
 use Rattle.std.proofs.lemmas.Bool.{le-leb}
 use Rattle.part.specs.PartReq.{depth}
 use Rattle.memory.proofs.Asks.{over-deep, over-wide}
-use Rattle.memory.proofs.Slots.{want_low}
-use native.Mathlib.Omega.{arith}
 use Rattle.memory.proofs.want.wrap_over.Goals as goal
-
-pub reach-n-requires : goal.reach-n-requires
-reach-n-requires c =
-    record { good = c.requires.memory.0.good; n_bound = ((want_low c.requires.memory.0 _ c.requires.memory.1).1, omega (arith, c.requires.memory.1.deep)) }
 
 pub returns-then-d-w-ge-MAX_DEPTH : goal.returns-then-d-w-ge-MAX_DEPTH
 returns-then-d-w-ge-MAX_DEPTH c =

@@ -3,8 +3,8 @@ use Rattle.module.proofs.Shapes.{expression-row, no-expression}
 use native.Mathlib.Omega.{arith}
 use Rattle.module.proofs.shape.expression_shape.Goals as goal
 
-pub returns-then-kind-gt31 : goal.returns-then-kind-gt31
-returns-then-kind-gt31 c = no-expression _ c.if-kind-gt31.true
+pub returns-then-i-ge32 : goal.returns-then-i-ge32
+returns-then-i-ge32 c = no-expression _ c.if-i-ge32.true
 
 pub returns : goal.returns
 returns c = expression-row _ (omega arith)

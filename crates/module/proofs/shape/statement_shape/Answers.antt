@@ -3,8 +3,8 @@ use Rattle.module.proofs.Shapes.{statement-row, no_statement}
 use native.Mathlib.Omega.{arith}
 use Rattle.module.proofs.shape.statement_shape.Goals as goal
 
-pub returns-then-kind-gt20 : goal.returns-then-kind-gt20
-returns-then-kind-gt20 c = no_statement _ c.if-kind-gt20.true
+pub returns-then-i-ge21 : goal.returns-then-i-ge21
+returns-then-i-ge21 c = no_statement _ c.if-i-ge21.true
 
 pub returns : goal.returns
 returns c = statement-row _ (omega arith)

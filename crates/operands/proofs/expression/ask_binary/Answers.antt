@@ -2,9 +2,6 @@
 use Rattle.operands.proofs.ByKind.{given_as, all_as, part_list, whole_list}
 use Rattle.operands.proofs.expression.ask_binary.Goals as goal
 
-pub by_part-requires : goal.by_part-requires
-by_part-requires c = record { row = c.requires.arm_given.expression; kind_value = c.requires.kind_value }
-
 pub ask_both_same-requires : goal.ask_both_same-requires
 ask_both_same-requires c =
     given_as c.requires.arm_given (part_list c.requires.arm_given c.requires.kind_value c.by_part.ensures c.if-by_part.true)

@@ -2,39 +2,24 @@
 use mathlib.Core.Path.{refl}
 use Rattle.part.proofs.Pieces.{part-0}
 use Rattle.operands.proofs.Lists.{value_given, value_all, all_piece}
-use Rattle.operands.proofs.Loads.{left_start, left_done, constant_less, left_constant, dynamic_less, left_given, left_full, left_dynamic}
+use Rattle.operands.proofs.Loads.{left_start, left_constant, left_given, left_full, left_dynamic}
 use Rattle.operands.proofs.load.ask_indexes.Goals as goal
 
 pub loop-base-init : goal.loop-base-init
 loop-base-init c = left_start c.requires.pointer c.requires.list_given
 
-pub step_down-step-requires : goal.step_down-step-requires
-step_down-step-requires c = c.loop-base.invariant.pointer
-
-pub returns-in-Variable : goal.returns-in-Variable
-returns-in-Variable c =
-    left_done c.requires.pointer c.requires.list_given c.loop-base.invariant c.step_down-step.ensures c.in-Variable.is
-
-pub loop-base-smaller-in-Constant : goal.loop-base-smaller-in-Constant
-loop-base-smaller-in-Constant c =
-    constant_less c.requires.pointer c.requires.list_given c.loop-base.invariant c.step_down-step.ensures c.in-Constant.is
-
 pub loop-base-preserved-in-Constant : goal.loop-base-preserved-in-Constant
 loop-base-preserved-in-Constant c =
-    left_constant c.requires.pointer c.requires.list_given c.loop-base.invariant c.step_down-step.ensures c.in-Constant.is
+    left_constant c.requires.pointer c.requires.list_given c.loop-base.invariant c.step_down.ensures c.in-Constant.is
 
 pub ask_value-requires : goal.ask_value-requires
 ask_value-requires c =
-    value_given (left_given c.requires.pointer c.requires.list_given c.loop-base.invariant c.step_down-step.ensures c.in-Dynamic.is) refl 0 (part-0 _) (all_piece (left_given c.requires.pointer c.requires.list_given c.loop-base.invariant c.step_down-step.ensures c.in-Dynamic.is))
+    value_given (left_given c.requires.pointer c.requires.list_given c.loop-base.invariant c.step_down.ensures c.in-Dynamic.is) refl 0 (part-0 _) (all_piece (left_given c.requires.pointer c.requires.list_given c.loop-base.invariant c.step_down.ensures c.in-Dynamic.is))
 
 pub returns-then-not-ask_value : goal.returns-then-not-ask_value
 returns-then-not-ask_value c =
-    left_full c.requires.pointer c.requires.list_given c.loop-base.invariant c.step_down-step.ensures c.in-Dynamic.is (value_all (left_given c.requires.pointer c.requires.list_given c.loop-base.invariant c.step_down-step.ensures c.in-Dynamic.is) refl 0 (part-0 _) c.ask_value.ensures) c.if-not-ask_value.true
-
-pub loop-base-smaller : goal.loop-base-smaller
-loop-base-smaller c =
-    dynamic_less c.requires.pointer c.requires.list_given c.loop-base.invariant c.step_down-step.ensures c.in-Dynamic.is
+    left_full c.requires.pointer c.requires.list_given c.loop-base.invariant c.step_down.ensures c.in-Dynamic.is (value_all (left_given c.requires.pointer c.requires.list_given c.loop-base.invariant c.step_down.ensures c.in-Dynamic.is) refl 0 (part-0 _) c.ask_value.ensures) c.if-not-ask_value.true
 
 pub loop-base-preserved : goal.loop-base-preserved
 loop-base-preserved c =
-    left_dynamic c.requires.pointer c.requires.list_given c.loop-base.invariant c.step_down-step.ensures c.in-Dynamic.is (value_all (left_given c.requires.pointer c.requires.list_given c.loop-base.invariant c.step_down-step.ensures c.in-Dynamic.is) refl 0 (part-0 _) c.ask_value.ensures) c.if-not-ask_value.false
+    left_dynamic c.requires.pointer c.requires.list_given c.loop-base.invariant c.step_down.ensures c.in-Dynamic.is (value_all (left_given c.requires.pointer c.requires.list_given c.loop-base.invariant c.step_down.ensures c.in-Dynamic.is) refl 0 (part-0 _) c.ask_value.ensures) c.if-not-ask_value.false

@@ -1,7 +1,7 @@
 -- `operands::made::ask_components` meets its contract. The invariant: the asks from the number k on are done.
 use Prim.Native.Nat.{◌-◌}
 use Rattle.access.specs.Access.{operand_at}
-use Rattle.operands.proofs.Loops.{loop_start, loop_done, loop_given, loop_full, loop_more}
+use Rattle.operands.proofs.Loops.{loop_start, loop_given, loop_full, loop_more}
 use Rattle.operands.proofs.Parts.{components-each}
 use native.Mathlib.Omega.{arith}
 use Rattle.operands.proofs.made.ask_components.Goals as goal
@@ -21,7 +21,3 @@ returns-then-not-ask_component c =
 pub loop-k-preserved : goal.loop-k-preserved
 loop-k-preserved c =
     loop_more (components-each (operand_at c.args.bytes.now c.args.row) _) c.requires (c.loop-k.k - 1) (omega arith) (omega arith) c.loop-k.invariant c.ask_component.ensures c.if-not-ask_component.false
-
-pub returns : goal.returns
-returns c =
-    loop_done (components-each (operand_at c.args.bytes.now c.args.row) _) c.requires (omega arith) c.loop-k.invariant

@@ -1,7 +1,7 @@
 -- `operands::made::ask_letters` meets its contract. The invariant: the asks from the number k on are done.
 use Prim.Native.Nat.{◌-◌}
 use Rattle.access.specs.Access.{operand_at}
-use Rattle.operands.proofs.Loops.{loop_start, loop_done, loop_given, loop_full, loop_more}
+use Rattle.operands.proofs.Loops.{loop_start, loop_given, loop_full, loop_more}
 use Rattle.operands.proofs.Parts.{letters-each}
 use native.Mathlib.Omega.{arith}
 use Rattle.operands.proofs.made.ask_letters.Goals as goal
@@ -21,7 +21,3 @@ returns-then-not-ask_letter c =
 pub loop-k-preserved : goal.loop-k-preserved
 loop-k-preserved c =
     loop_more (letters-each (operand_at c.args.bytes.now c.args.row) _) c.requires.list_given (c.loop-k.k - 1) (omega arith) (omega arith) c.loop-k.invariant c.ask_letter.ensures c.if-not-ask_letter.false
-
-pub returns : goal.returns
-returns c =
-    loop_done (letters-each (operand_at c.args.bytes.now c.args.row) _) c.requires.list_given (omega arith) c.loop-k.invariant

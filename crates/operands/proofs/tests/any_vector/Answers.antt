@@ -1,13 +1,10 @@
 -- `operands::tests::any_vector` meets its contract. The invariant: the first i are no vectors.
 use Rattle.access.specs.Access.{operand_at}
-use Rattle.judge.specs.declared.rows.TypeKind.TheVariants.{Vector}
+use Rattle.module.specs.declared.kinds.TypeKind.TheVariants.{Vector}
 use Rattle.judge.proofs.TypeKinds.{equal, unequal}
-use Rattle.operands.proofs.Vectors.{no_vector_start, no_vector_all, vector_found, no_vector_next}
+use Rattle.operands.proofs.Vectors.{no_vector_all, vector_found, no_vector_next}
 use native.Mathlib.Omega.{arith}
 use Rattle.operands.proofs.tests.any_vector.Goals as goal
-
-pub loop-i-init : goal.loop-i-init
-loop-i-init c = no_vector_start _ _
 
 pub returns-then-eq : goal.returns-then-eq
 returns-then-eq c =

@@ -12,21 +12,21 @@ pub read_single-requires : goal.read_single-requires
 read_single-requires c =
     record { good = c.loop-k.invariant.memory.good; at_in_bounds = (c.loop-k.invariant.spent.inside, recording_room c.loop-k.invariant c.loop-k-test.true c.requires.at_in_bounds.1) }
 
-pub returns-in_default : goal.returns-in_default
-returns-in_default c =
-    recording_refused c.loop-k.invariant c.loop-k-test.true c.read_single.ensures c.in_default.is
+pub returns-in_err-p : goal.returns-in_err-p
+returns-in_err-p c =
+    rw c.from_residual.ensures (recording_refused c.loop-k.invariant c.loop-k-test.true c.read_single.ensures c.in_err-p.was)
 
 pub entries-requires : goal.entries-requires
 entries-requires c =
-    record { good = c.read_single.ensures.kept.good; n_bound = (piece_placed c.read_single.ensures c.in-Some.is).0 }
+    record { good = c.read_single.ensures.kept.good; n_bound = (piece_placed c.read_single.ensures c.in_ok-p.was).0 }
 
 pub returns-then-count-gt-MAX_PIECES : goal.returns-then-count-gt-MAX_PIECES
 returns-then-count-gt-MAX_PIECES c =
-    recording_many c.loop-k.invariant c.loop-k-test.true c.read_single.ensures c.in-Some.is c.entries.ensures c.if-count-gt-MAX_PIECES.true
+    recording_many c.loop-k.invariant c.loop-k-test.true c.read_single.ensures c.in_ok-p.was c.entries.ensures c.if-count-gt-MAX_PIECES.true
 
 pub loop-k-preserved : goal.loop-k-preserved
 loop-k-preserved c =
-    recording_more c.loop-k.invariant c.loop-k-test.true c.read_single.ensures c.in-Some.is c.entries.ensures (omega (arith, c.if-count-gt-MAX_PIECES.false)) c.requires.memory.1 c.requires.memory.2
+    recording_more c.loop-k.invariant c.loop-k-test.true c.read_single.ensures c.in_ok-p.was c.entries.ensures (omega (arith, c.if-count-gt-MAX_PIECES.false)) c.requires.memory.1 c.requires.memory.2
 
 pub returns : goal.returns
 returns c = recording_done c.loop-k.invariant (omega (arith, c.loop-k-test.false))

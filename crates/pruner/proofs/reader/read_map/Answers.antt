@@ -9,8 +9,8 @@ read_variables-requires c =
 pub returns-in_err-o : goal.returns-in_err-o
 returns-in_err-o c = rw c.from_residual.ensures (map_refused c.args.limit _ _ c.in_err-o.ensures)
 
-pub returns-in_default : goal.returns-in_default
-returns-in_default c = map_unknown c.args.limit _ _ c.in_ok-o.ensures c.in_default.is
+pub returns-in_err-p : goal.returns-in_err-p
+returns-in_err-p c = rw c.from_residual-in_err-p.ensures (map_unknown c.args.limit _ _ c.in_ok-o.ensures c.in_err-p.was)
 
 pub returns : goal.returns
-returns c = map_read c.args.limit _ _ c.in_ok-o.ensures c.in-Some.is
+returns c = map_read c.args.limit _ _ c.in_ok-o.ensures c.in_ok-p.was

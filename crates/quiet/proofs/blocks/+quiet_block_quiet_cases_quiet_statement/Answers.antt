@@ -1,11 +1,12 @@
 -- The proof of the cycle of calls {quiet_block, quiet_cases, quiet_statement}: the block's number falls, and a statement and a switch's cases stand
 -- between. The loops' invariants: what is left says the whole.
 use Prim.Native.Nat.{◌-◌}
-use mathlib.Core.Path.{refl, ◌∙◌}
+use mathlib.Core.Path.{◌∙◌}
+use borrow.Author.Rules.{rules}
 use Rattle.part.specs.Store.{part}
 use Rattle.strays.specs.Exits.{exits_of}
 use Rattle.strays.proofs.Found.{in_function, statement_in, statement_small, there, block_low, accept_low, reject_low, body_low, continuing_low, cases_in, case_there}
-use Rattle.quiet.proofs.Steps.{at_first, stops, goes_on, ends, is_last, statement_first, no_statement, all_statements, case_first, no_case, all_cases, quiet_inner, quiet_if, quiet_loop, quiet_switch, plain_kind}
+use Rattle.quiet.proofs.Steps.{at_first, stops, goes_on, ends, is_last, statement_first, no_statement, all_statements, case_first, no_case, all_cases, quiet_inner, quiet_if, quiet_loop, quiet_switch}
 use native.Mathlib.Omega.{arith}
 use Rattle.quiet.proofs.blocks.+quiet_block_quiet_cases_quiet_statement.Goals as goal
 
@@ -65,77 +66,56 @@ quiet_cases-returns t c =
 
 pub quiet_statement-quiet_block-requires : goal.quiet_statement-quiet_block-requires
 quiet_statement-quiet_block-requires t c =
-    let h = there c.requires.statement_in c.statement-row.ensures 0 c.block_operand-inner.ensures (block_low c.requires.statement_in c.statement-row.ensures c.if-kind-eq-BLOCK.true) in (omega (arith, h.0, c.decreases), (c.requires.needing, (c.requires.f_in_bounds, h.1)))
+    let h = there c.requires.statement_in c.statement-row.ensures 0 c.block_operand-inner.ensures (block_low c.requires.statement_in c.statement-row.ensures (search rules)) in (omega (arith, h.0, c.decreases), (c.requires.needing, (c.requires.f_in_bounds, h.1)))
 
-pub quiet_statement-shape_of-path-then-kind-eq-BLOCK : goal.quiet_statement-shape_of-path-then-kind-eq-BLOCK
-quiet_statement-shape_of-path-then-kind-eq-BLOCK t c = c.quiet_block.ensures.long
+pub quiet_statement-returns-in-Ok-Block : goal.quiet_statement-returns-in-Ok-Block
+quiet_statement-returns-in-Ok-Block t c =
+    is_last (quiet_inner c.requires.statement_in c.statement-row.ensures _ _ (search rules) c.block_operand-inner.ensures _) c.quiet_block.ensures
 
-pub quiet_statement-returns-then-kind-eq-BLOCK : goal.quiet_statement-returns-then-kind-eq-BLOCK
-quiet_statement-returns-then-kind-eq-BLOCK t c =
-    is_last (quiet_inner c.requires.statement_in c.statement-row.ensures _ _ c.if-kind-eq-BLOCK.true c.block_operand-inner.ensures _) c.quiet_block.ensures
+pub quiet_statement-quiet_block-requires-in-Ok-If : goal.quiet_statement-quiet_block-requires-in-Ok-If
+quiet_statement-quiet_block-requires-in-Ok-If t c =
+    let h = there c.requires.statement_in c.statement-row.ensures 1 c.block_operand-accept.ensures (accept_low c.requires.statement_in c.statement-row.ensures (search rules)) in (omega (arith, h.0, c.decreases), (c.requires.needing, (c.requires.f_in_bounds, h.1)))
 
-pub quiet_statement-quiet_block-requires-then-kind-eq-IF : goal.quiet_statement-quiet_block-requires-then-kind-eq-IF
-quiet_statement-quiet_block-requires-then-kind-eq-IF t c =
-    let h = there c.requires.statement_in c.statement-row.ensures 1 c.block_operand-accept.ensures (accept_low c.requires.statement_in c.statement-row.ensures c.if-kind-eq-IF.true) in (omega (arith, h.0, c.decreases), (c.requires.needing, (c.requires.f_in_bounds, h.1)))
+pub quiet_statement-quiet_block-requires-then-quiet_block : goal.quiet_statement-quiet_block-requires-then-quiet_block
+quiet_statement-quiet_block-requires-then-quiet_block t c =
+    let h = there c.requires.statement_in c.statement-row.ensures 2 c.block_operand-reject.ensures (reject_low c.requires.statement_in c.statement-row.ensures (search rules)) in (omega (arith, h.0, c.decreases), (c.requires.needing, (omega (arith, c.quiet_block-in-Ok-If.ensures.long, c.requires.f_in_bounds), h.1)))
 
-pub quiet_statement-shape_of-path-then-not-quiet_block : goal.quiet_statement-shape_of-path-then-not-quiet_block
-quiet_statement-shape_of-path-then-not-quiet_block t c = c.quiet_block-then-kind-eq-IF.ensures.long
+pub quiet_statement-returns-else-quiet_block : goal.quiet_statement-returns-else-quiet_block
+quiet_statement-returns-else-quiet_block t c =
+    rw c.if-quiet_block.false (stops (at_first _ _) (quiet_if c.requires.statement_in c.statement-row.ensures _ _ (search rules) c.block_operand-accept.ensures c.block_operand-reject.ensures) c.quiet_block-in-Ok-If.ensures c.if-quiet_block.false)
 
-pub quiet_statement-returns-then-not-quiet_block : goal.quiet_statement-returns-then-not-quiet_block
-quiet_statement-returns-then-not-quiet_block t c =
-    stops (at_first _ _) (quiet_if c.requires.statement_in c.statement-row.ensures _ _ c.if-kind-eq-IF.true c.block_operand-accept.ensures refl) c.quiet_block-then-kind-eq-IF.ensures c.if-not-quiet_block.true
-
-pub quiet_statement-quiet_block-requires-then-kind-eq-IF-2 : goal.quiet_statement-quiet_block-requires-then-kind-eq-IF-2
-quiet_statement-quiet_block-requires-then-kind-eq-IF-2 t c =
-    let h = there c.requires.statement_in c.statement-row.ensures 2 c.block_operand-reject.ensures (reject_low c.requires.statement_in c.statement-row.ensures c.if-kind-eq-IF.true) in (omega (arith, h.0, c.decreases), (c.requires.needing, (omega (arith, c.quiet_block-then-kind-eq-IF.ensures.long, c.requires.f_in_bounds), h.1)))
-
-pub quiet_statement-shape_of-path-then-kind-eq-IF : goal.quiet_statement-shape_of-path-then-kind-eq-IF
-quiet_statement-shape_of-path-then-kind-eq-IF t c = c.quiet_block-then-kind-eq-IF-2.ensures.long ∙ c.quiet_block-then-kind-eq-IF.ensures.long
-
-pub quiet_statement-returns-then-kind-eq-IF : goal.quiet_statement-returns-then-kind-eq-IF
-quiet_statement-returns-then-kind-eq-IF t c =
-    is_last (goes_on (at_first _ _) (quiet_if c.requires.statement_in c.statement-row.ensures _ _ c.if-kind-eq-IF.true c.block_operand-accept.ensures c.block_operand-reject.ensures) c.quiet_block-then-kind-eq-IF.ensures c.if-not-quiet_block.false) c.quiet_block-then-kind-eq-IF-2.ensures
+pub quiet_statement-returns-then-quiet_block : goal.quiet_statement-returns-then-quiet_block
+quiet_statement-returns-then-quiet_block t c =
+    is_last (goes_on (at_first _ _) (quiet_if c.requires.statement_in c.statement-row.ensures _ _ (search rules) c.block_operand-accept.ensures c.block_operand-reject.ensures) c.quiet_block-in-Ok-If.ensures c.if-quiet_block.true) c.quiet_block-then-quiet_block.ensures
 
 pub quiet_statement-quiet_cases-requires : goal.quiet_statement-quiet_cases-requires
 quiet_statement-quiet_cases-requires t c =
-    (omega (arith, c.decreases), (c.requires.needing, (c.requires.f_in_bounds, cases_in c.requires.statement_in c.statement-row.ensures c.if-kind-eq-SWITCH.true)))
+    (omega (arith, c.decreases), (c.requires.needing, (c.requires.f_in_bounds, cases_in c.requires.statement_in c.statement-row.ensures (search rules))))
 
-pub quiet_statement-shape_of-path-then-kind-eq-SWITCH : goal.quiet_statement-shape_of-path-then-kind-eq-SWITCH
-quiet_statement-shape_of-path-then-kind-eq-SWITCH t c = c.quiet_cases.ensures.long
+pub quiet_statement-returns-in-Ok-Switch : goal.quiet_statement-returns-in-Ok-Switch
+quiet_statement-returns-in-Ok-Switch t c =
+    is_last (quiet_switch c.requires.statement_in c.statement-row.ensures _ _ (search rules) c.in_case-x.ensures _) c.quiet_cases.ensures
 
-pub quiet_statement-returns-then-kind-eq-SWITCH : goal.quiet_statement-returns-then-kind-eq-SWITCH
-quiet_statement-returns-then-kind-eq-SWITCH t c =
-    is_last (quiet_switch c.requires.statement_in c.statement-row.ensures _ _ c.if-kind-eq-SWITCH.true c.in_case-x.ensures _) c.quiet_cases.ensures
+pub quiet_statement-quiet_block-requires-in-Ok-Loop : goal.quiet_statement-quiet_block-requires-in-Ok-Loop
+quiet_statement-quiet_block-requires-in-Ok-Loop t c =
+    let h = there c.requires.statement_in c.statement-row.ensures 0 c.block_operand-body.ensures (body_low c.requires.statement_in c.statement-row.ensures (search rules)) in (omega (arith, h.0, c.decreases), (c.requires.needing, (c.requires.f_in_bounds, h.1)))
 
-pub quiet_statement-quiet_block-requires-then-kind-eq-LOOP : goal.quiet_statement-quiet_block-requires-then-kind-eq-LOOP
-quiet_statement-quiet_block-requires-then-kind-eq-LOOP t c =
-    let h = there c.requires.statement_in c.statement-row.ensures 0 c.block_operand-body.ensures (body_low c.requires.statement_in c.statement-row.ensures c.if-kind-eq-LOOP.true) in (omega (arith, h.0, c.decreases), (c.requires.needing, (c.requires.f_in_bounds, h.1)))
+pub quiet_statement-quiet_block-requires-then-quiet_block-2 : goal.quiet_statement-quiet_block-requires-then-quiet_block-2
+quiet_statement-quiet_block-requires-then-quiet_block-2 t c =
+    let h = there c.requires.statement_in c.statement-row.ensures 1 c.block_operand-last.ensures (continuing_low c.requires.statement_in c.statement-row.ensures (search rules)) in (omega (arith, h.0, c.decreases), (c.requires.needing, (omega (arith, c.quiet_block-in-Ok-Loop.ensures.long, c.requires.f_in_bounds), h.1)))
 
-pub quiet_statement-shape_of-path-then-not-quiet_block-2 : goal.quiet_statement-shape_of-path-then-not-quiet_block-2
-quiet_statement-shape_of-path-then-not-quiet_block-2 t c = c.quiet_block-then-kind-eq-LOOP.ensures.long
+pub quiet_statement-returns-else-quiet_block-2 : goal.quiet_statement-returns-else-quiet_block-2
+quiet_statement-returns-else-quiet_block-2 t c =
+    rw c.if-quiet_block-2.false (stops (at_first _ _) (quiet_loop c.requires.statement_in c.statement-row.ensures _ _ (search rules) c.block_operand-body.ensures c.in_body-x.ensures c.block_operand-last.ensures c.in_case-y.ensures) c.quiet_block-in-Ok-Loop.ensures c.if-quiet_block-2.false)
 
-pub quiet_statement-returns-then-not-quiet_block-2 : goal.quiet_statement-returns-then-not-quiet_block-2
-quiet_statement-returns-then-not-quiet_block-2 t c =
-    stops (at_first _ _) (quiet_loop c.requires.statement_in c.statement-row.ensures _ _ c.if-kind-eq-LOOP.true c.block_operand-body.ensures c.in_body-x.ensures refl refl) c.quiet_block-then-kind-eq-LOOP.ensures c.if-not-quiet_block-2.true
+pub quiet_statement-returns-then-quiet_block-2 : goal.quiet_statement-returns-then-quiet_block-2
+quiet_statement-returns-then-quiet_block-2 t c =
+    is_last (goes_on (at_first _ _) (quiet_loop c.requires.statement_in c.statement-row.ensures _ _ (search rules) c.block_operand-body.ensures c.in_body-x.ensures c.block_operand-last.ensures c.in_case-y.ensures) c.quiet_block-in-Ok-Loop.ensures c.if-quiet_block-2.true) c.quiet_block-then-quiet_block-2.ensures
 
-pub quiet_statement-quiet_block-requires-then-kind-eq-LOOP-2 : goal.quiet_statement-quiet_block-requires-then-kind-eq-LOOP-2
-quiet_statement-quiet_block-requires-then-kind-eq-LOOP-2 t c =
-    let h = there c.requires.statement_in c.statement-row.ensures 1 c.block_operand-last.ensures (continuing_low c.requires.statement_in c.statement-row.ensures c.if-kind-eq-LOOP.true) in (omega (arith, h.0, c.decreases), (c.requires.needing, (omega (arith, c.quiet_block-then-kind-eq-LOOP.ensures.long, c.requires.f_in_bounds), h.1)))
+pub quiet_statement-quiet_plain-requires-clause-s_in_bounds : goal.quiet_statement-quiet_plain-requires-clause-s_in_bounds
+quiet_statement-quiet_plain-requires-clause-s_in_bounds t c =
+    in_function c.requires.statement_in
 
-pub quiet_statement-shape_of-path-then-kind-eq-LOOP : goal.quiet_statement-shape_of-path-then-kind-eq-LOOP
-quiet_statement-shape_of-path-then-kind-eq-LOOP t c =
-    c.quiet_block-then-kind-eq-LOOP-2.ensures.long ∙ c.quiet_block-then-kind-eq-LOOP.ensures.long
-
-pub quiet_statement-returns-then-kind-eq-LOOP : goal.quiet_statement-returns-then-kind-eq-LOOP
-quiet_statement-returns-then-kind-eq-LOOP t c =
-    is_last (goes_on (at_first _ _) (quiet_loop c.requires.statement_in c.statement-row.ensures _ _ c.if-kind-eq-LOOP.true c.block_operand-body.ensures c.in_body-x.ensures c.block_operand-last.ensures c.in_case-y.ensures) c.quiet_block-then-kind-eq-LOOP.ensures c.if-not-quiet_block-2.false) c.quiet_block-then-kind-eq-LOOP-2.ensures
-
-pub quiet_statement-quiet_plain-requires : goal.quiet_statement-quiet_plain-requires
-quiet_statement-quiet_plain-requires t c =
-    record { needing = c.requires.needing; f_in_bounds = c.requires.f_in_bounds; s_in_bounds = in_function c.requires.statement_in; row_value = c.statement-row.ensures; lt_kind = plain_kind c.if-kind-eq-BLOCK.false c.if-kind-eq-IF.false c.if-kind-eq-SWITCH.false c.if-kind-eq-LOOP.false }
-
-pub quiet_statement-shape_of-path : goal.quiet_statement-shape_of-path
-quiet_statement-shape_of-path t c = (c.quiet_plain.ensures c.args.b.0).long
-
-pub quiet_statement-returns : goal.quiet_statement-returns
-quiet_statement-returns t c = c.quiet_plain.ensures c.args.b.0
+pub quiet_statement-returns-in_default : goal.quiet_statement-returns-in_default
+quiet_statement-returns-in_default t c =
+    c.quiet_plain.ensures c.args.b.0

@@ -1,19 +1,8 @@
 -- `quiet::plain::quiet_emits` meets its contract. The invariant: what is left says the whole.
-use mathlib.Core.Path.{◌∙◌}
 use borrow.Author.Rules.{rules}
-use Rattle.quiet.proofs.Leaves.{emits_start, emits_stop, emits_next, emits_end}
+use Rattle.quiet.proofs.Leaves.{emits_stop, emits_next, emits_end}
 use native.Mathlib.Omega.{arith}
 use Rattle.quiet.proofs.plain.quiet_emits.Goals as goal
-
-pub loop-e-init : goal.loop-e-init
-loop-e-init c = emits_start _ _ _ _ _
-
-pub emit_idle-requires : goal.emit_idle-requires
-emit_idle-requires c =
-    record { needing = c.requires.needing; e_in_bounds = omega (arith, c.loop-e-test.true, c.requires.last_in_bounds); in_bounds = omega (arith, c.loop-e.invariant.long, c.requires.in_bounds) }
-
-pub shape_of-path-then-not-emit_idle : goal.shape_of-path-then-not-emit_idle
-shape_of-path-then-not-emit_idle c = c.emit_idle.ensures.long ∙ c.loop-e.invariant.long
 
 pub returns-then-not-emit_idle : goal.returns-then-not-emit_idle
 returns-then-not-emit_idle c =
@@ -22,9 +11,6 @@ returns-then-not-emit_idle c =
 pub loop-e-preserved : goal.loop-e-preserved
 loop-e-preserved c =
     emits_next _ _ _ _ (omega (arith, c.loop-e-test.true)) c.loop-e.invariant c.emit_idle.ensures c.if-not-emit_idle.false
-
-pub shape_of-path : goal.shape_of-path
-shape_of-path c = c.loop-e.invariant.long
 
 pub returns : goal.returns
 returns c = emits_end _ _ _ _ c.loop-e-test.false c.loop-e.invariant

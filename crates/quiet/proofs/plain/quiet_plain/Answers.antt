@@ -1,28 +1,31 @@
 -- `quiet::plain::quiet_plain` meets its contract: an emit, a store, or what leaves.
-use Rattle.quiet.proofs.Leaves.{last-there, stored_pointer, quiet_emit, quiet_store, quiet-leaving}
-use native.Mathlib.Omega.{arith}
+use Rattle.quiet.proofs.Leaves.{last-there, stored_pointer, quiet_emit, quiet_store, quiet_break, quiet_continue, quiet_return, quiet_other}
+use borrow.Author.Rules.{rules}
 use Rattle.quiet.proofs.plain.quiet_plain.Goals as goal
 
-pub quiet_emits-requires : goal.quiet_emits-requires
-quiet_emits-requires c =
-    record { needing = c.requires.needing; last_in_bounds = last-there c.requires.needing.world c.requires.s_in_bounds c.requires.row_value c.if-kind-eq-EMIT.true c.expression_operand-last.ensures; in_bounds = omega (arith, c.requires.f_in_bounds) }
+pub quiet_emits-requires-clause-last_in_bounds : goal.quiet_emits-requires-clause-last_in_bounds
+quiet_emits-requires-clause-last_in_bounds c = last-there c.requires.needing.world c.requires.s_in_bounds c.requires.row_value (search rules) c.expression_operand-last.ensures
 
-pub returns-then-kind-eq-EMIT : goal.returns-then-kind-eq-EMIT
-returns-then-kind-eq-EMIT c =
-    quiet_emit c.requires.needing.world c.requires.s_in_bounds c.requires.row_value _ _ c.if-kind-eq-EMIT.true c.expression_operand-first.ensures c.expression_operand-last.ensures c.quiet_emits.ensures
+pub returns-in-Ok-Emit : goal.returns-in-Ok-Emit
+returns-in-Ok-Emit c = quiet_emit c.requires.needing.world c.requires.s_in_bounds c.requires.row_value _ _ (search rules) c.expression_operand-first.ensures c.expression_operand-last.ensures c.quiet_emits.ensures
 
-pub store_idle-requires : goal.store_idle-requires
-store_idle-requires c =
-    record { needing = c.requires.needing; pointer = stored_pointer c.requires.needing.world c.requires.s_in_bounds c.requires.row_value c.if-kind-eq-STORE.true c.expression_operand-p.ensures; f_in_bounds = c.requires.f_in_bounds }
+pub store_idle-requires-clause-pointer : goal.store_idle-requires-clause-pointer
+store_idle-requires-clause-pointer c = stored_pointer c.requires.needing.world c.requires.s_in_bounds c.requires.row_value (search rules) c.expression_operand-p.ensures
 
-pub returns-then-kind-eq-STORE : goal.returns-then-kind-eq-STORE
-returns-then-kind-eq-STORE c =
-    quiet_store c.requires.needing.world c.requires.s_in_bounds c.requires.row_value _ _ c.if-kind-eq-STORE.true c.expression_operand-p.ensures c.store_idle.ensures
+pub returns-in-Ok-Store : goal.returns-in-Ok-Store
+returns-in-Ok-Store c = quiet_store c.requires.needing.world c.requires.s_in_bounds c.requires.row_value _ _ (search rules) c.expression_operand-p.ensures c.store_idle.ensures
 
-pub quiet_leaving-requires : goal.quiet_leaving-requires
-quiet_leaving-requires c =
-    record { lt_kind = c.requires.lt_kind c.if-kind-eq-EMIT.false; fact = c.if-kind-eq-STORE.false }
+pub returns-in-Ok-Continue : goal.returns-in-Ok-Continue
+returns-in-Ok-Continue c = quiet_continue c.requires.needing.world c.requires.s_in_bounds c.requires.row_value _ _ _ (search rules)
 
-pub returns : goal.returns
-returns c =
-    quiet-leaving c.requires.needing.world c.requires.s_in_bounds c.requires.row_value _ _ _ c.quiet_leaving.ensures
+pub returns-in-Ok-Return : goal.returns-in-Ok-Return
+returns-in-Ok-Return c = quiet_return c.requires.needing.world c.requires.s_in_bounds c.requires.row_value _ _ _ (search rules)
+
+pub returns-in-Ok : goal.returns-in-Ok
+returns-in-Ok c = quiet_other c.requires.needing.world c.requires.s_in_bounds c.requires.row_value _ _ _ (search rules) (search rules) (search rules)
+
+pub returns-in-Ok-Break : goal.returns-in-Ok-Break
+returns-in-Ok-Break c = quiet_break c.requires.needing.world c.requires.s_in_bounds c.requires.row_value _ _ _ (λ l. search (rules, l))
+
+pub returns-in-Ok-Break-2 : goal.returns-in-Ok-Break-2
+returns-in-Ok-Break-2 c = quiet_break c.requires.needing.world c.requires.s_in_bounds c.requires.row_value _ _ _ (λ l. search (rules, l))

@@ -1,26 +1,25 @@
 -- `report::outcome::walk_function` meets its contract: the walk's refusal, 16 at its end, or a report in memory.
 use Rattle.report.proofs.Walking.{walk_enters, walk_halted, walk_own, walk_sub, walk_over, walk_went}
+use mathlib.Core.Path.{refl}
+use Rattle.requests.proofs.Ends.{are_over, not_over}
 use borrow.Author.Rules.{rules}
 use Rattle.report.proofs.outcome.walk_function.Goals as goal
 
 pub add_function-requires : goal.add_function-requires
 add_function-requires c = record { function_entered = walk_enters c.requires; base_bound = search rules }
 
-pub own_pieces-own-requires : goal.own_pieces-own-requires
-own_pieces-own-requires c =
+pub totals_over-requires : goal.totals_over-requires
+totals_over-requires c =
     let q9 = walk_own c.requires c.add_function.ensures c.in-Ok.is in
-    record { memory = q9.0; f_bound = q9.1 }
+    record { memory = q9.0; own_bound = (q9.1, walk_sub c.requires c.add_function.ensures c.in-Ok.is) }
 
-pub overflow_sub-a : goal.overflow_sub-a
-overflow_sub-a c = walk_sub c.requires c.add_function.ensures c.in-Ok.is c.own_pieces-own.ensures
-
-pub returns-then-a-own-gt-MAX_PIECES : goal.returns-then-a-own-gt-MAX_PIECES
-returns-then-a-own-gt-MAX_PIECES c =
-    walk_over c.requires c.add_function.ensures c.in-Ok.is c.own_pieces-own.ensures c.if-a-own-gt-MAX_PIECES.true
+pub returns-then-totals_over : goal.returns-then-totals_over
+returns-then-totals_over c =
+    walk_over c.requires c.add_function.ensures c.in-Ok.is refl (are_over c.totals_over.ensures c.if-totals_over.true)
 
 pub returns-in-Err : goal.returns-in-Err
-returns-in-Err c = rw c.from.ensures (walk_halted c.requires c.add_function.ensures c.in-Err.is)
+returns-in-Err c = walk_halted c.requires c.add_function.ensures c.in-Err.is
 
-pub returns-else-a-own-gt-MAX_PIECES : goal.returns-else-a-own-gt-MAX_PIECES
-returns-else-a-own-gt-MAX_PIECES c =
-    walk_went c.requires c.add_function.ensures c.in-Ok.is c.own_pieces-own.ensures c.if-a-own-gt-MAX_PIECES.false
+pub returns-else-totals_over : goal.returns-else-totals_over
+returns-else-totals_over c =
+    walk_went c.requires c.add_function.ensures c.in-Ok.is refl (not_over c.totals_over.ensures c.if-totals_over.false)

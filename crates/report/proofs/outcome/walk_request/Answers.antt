@@ -1,5 +1,6 @@
 -- `report::outcome::walk_request` meets its contract: the request's refusal, or what its walk comes to.
 use native.Mathlib.Omega.{arith}
+use Rattle.requests.proofs.Basing.{passed}
 use Rattle.report.proofs.Requesting.{fill_asks, request_refused, request_asked, request_walked}
 use borrow.Author.Rules.{rules}
 use Rattle.report.proofs.outcome.walk_request.Goals as goal
@@ -17,17 +18,17 @@ begin_request-requires c =
     record { was_read = c.requires.0; placed = c.place_marks.ensures; cells_long = search rules; cells_fit = search rules; slots_long = search rules; open_long = search rules; totals_long = search rules }
 
 pub walk_function-requires : goal.walk_function-requires
-walk_function-requires c = request_asked c.begin_request.ensures c.in-Ready.is c.fill.ensures
+walk_function-requires c = request_asked c.begin_request.ensures c.in_ok-begun.was c.fill.ensures
 
-pub shape_of-table-in-Refused : goal.shape_of-table-in-Refused
-shape_of-table-in-Refused c = omega (arith, c.fill.auto)
+pub shape_of-table-in_err-begun : goal.shape_of-table-in_err-begun
+shape_of-table-in_err-begun c = omega (arith, c.fill.auto)
 
-pub returns-in-Refused : goal.returns-in-Refused
-returns-in-Refused c = request_refused c.begin_request.ensures c.in-Refused.is
+pub returns-in_err-begun : goal.returns-in_err-begun
+returns-in_err-begun c = rw (passed c.from_residual.ensures.1) (request_refused c.begin_request.ensures c.in_err-begun.was)
 
-pub shape_of-table-in-Ready : goal.shape_of-table-in-Ready
-shape_of-table-in-Ready c = omega (arith, c.fill.auto)
+pub shape_of-table : goal.shape_of-table
+shape_of-table c = omega (arith, c.fill.auto)
 
-pub returns-in-Ready : goal.returns-in-Ready
-returns-in-Ready c =
-    request_walked c.begin_request.ensures c.in-Ready.is c.fill.ensures c.walk_function.ensures
+pub returns : goal.returns
+returns c =
+    request_walked c.begin_request.ensures c.in_ok-begun.was c.fill.ensures c.walk_function.ensures

@@ -1,20 +1,12 @@
 -- `requests::answer::write_answer` meets its contract: the body, then the header before it.
 use lib.ListN.{length-set}
-use Rattle.requests.proofs.Answers.{verdict_room, lists_fit, records_fit, head_room, end_is, answer_written, still_long}
+use Rattle.requests.proofs.Answers.{verdict_room, lists_fit, records_fit, head_room, end_is, answer_written}
 use native.Mathlib.Omega.{arith}
 use Rattle.requests.proofs.answer.write_answer.Goals as goal
 
 pub write_verdict-requires : goal.write_verdict-requires
 write_verdict-requires c =
     (verdict_room c.args.t.now c.args.cells.now c.args.slots.now c.args.out.now c.args.f.0 c.args.at c.args.required c.args.visits c.requires.visits_bound.1, c.requires.visits_bound.0)
-
-pub write_lists-lists-requires : goal.write_lists-lists-requires
-write_lists-lists-requires c =
-    record { good = c.requires.answering.good; below = c.requires.answering.below; context_in_bounds = c.requires.answering.context_there; fits = lists_fit c.args.t.now c.args.cells.now c.args.slots.now c.args.out.now c.args.f.0 c.args.at c.args.required c.args.visits c.requires.visits_bound.1 c.write_verdict.ensures }
-
-pub write_records-end-requires : goal.write_records-end-requires
-write_records-end-requires c =
-    record { good = c.requires.answering.good; below = c.requires.answering.below; n_in_bounds = omega (arith, c.requires.answering.records_there, c.records_of-own.ensures.from, c.records_of-own.ensures.n); fits = records_fit c.args.t.now c.args.cells.now c.args.slots.now c.args.out.now c.args.f.0 c.args.at c.args.required c.args.visits c.requires.visits_bound.1 c.write_verdict.ensures c.write_lists-lists.ensures c.records_of-own.ensures }
 
 pub bounds-out-0 : goal.bounds-out-0
 bounds-out-0 c =
@@ -32,10 +24,14 @@ pub write_word-requires : goal.write_word-requires
 write_word-requires c =
     simp length-set (omega (arith, head_room c.args.t.now c.args.cells.now c.args.slots.now c.args.out.now c.args.f.0 c.args.at c.args.required c.args.visits c.requires.visits_bound.1 c.write_verdict.ensures c.write_lists-lists.ensures c.records_of-own.ensures c.write_records-end.ensures))
 
-pub shape_of-out : goal.shape_of-out
-shape_of-out c =
-    still_long c.args.t.now c.args.cells.now c.args.slots.now c.args.out.now c.args.f.0 c.args.at c.args.required c.args.visits c.requires.visits_bound.1 c.write_verdict.ensures c.write_lists-lists.ensures c.records_of-own.ensures c.write_records-end.ensures c.write_word.ensures
-
 pub returns : goal.returns
 returns c =
     answer_written c.args.t.now c.args.cells.now c.args.slots.now c.args.out.now c.args.f.0 c.args.at c.args.required c.args.visits c.requires.visits_bound.1 c.write_verdict.ensures c.write_lists-lists.ensures c.records_of-own.ensures c.write_records-end.ensures c.write_word.ensures
+
+pub write_lists-lists-requires-clause-fits : goal.write_lists-lists-requires-clause-fits
+write_lists-lists-requires-clause-fits c =
+    lists_fit c.args.t.now c.args.cells.now c.args.slots.now c.args.out.now c.args.f.0 c.args.at c.args.required c.args.visits c.requires.visits_bound.1 c.write_verdict.ensures
+
+pub write_records-end-requires-clause-fits : goal.write_records-end-requires-clause-fits
+write_records-end-requires-clause-fits c =
+    records_fit c.args.t.now c.args.cells.now c.args.slots.now c.args.out.now c.args.f.0 c.args.at c.args.required c.args.visits c.requires.visits_bound.1 c.write_verdict.ensures c.write_lists-lists.ensures c.records_of-own.ensures

@@ -4,4 +4,4 @@ use Rattle.requests.proofs.answer.write_verdict.Goals as goal
 
 pub returns : goal.returns
 returns c =
-    verdict-written c.args.required c.args.visits c.flag.ensures c.write.ensures c.write-2.ensures c.write-3.ensures
+    verdict-written c.args.required c.args.visits c.from.ensures c.write.ensures c.write_word.ensures

@@ -1,5 +1,5 @@
--- `rounds::settle::answer` meets its contract (Numbers).
-use Rattle.rounds.proofs.Numbers.{answers_deep, answers_wide, answers_fault, answers_clear, answers_start}
+-- `rounds::settle::answer` meets its contract (Answering).
+use Rattle.rounds.proofs.Answering.{answers_deep, answers_wide, answers_fault, answers_clear, answers_start}
 use Rattle.rounds.proofs.settle.answer.Goals as goal
 
 pub returns-then-q : goal.returns-then-q

@@ -2,34 +2,17 @@
 use Prim.Native.Nat.{◌+◌, ◌-◌}
 use mathlib.Core.Path.{◌≡◌}
 use Rattle.pass.specs.Checked.{max_rounds}
-use Rattle.standing.specs.Slots.{stack_slot}
-use Rattle.rounds.proofs.Turns.{turning_first, turning_none, turning_full, turning_last, turning_again, round_asks}
+use Rattle.rounds.proofs.Turns.{turning_none, turning_full, turning_last, turning_again}
 use native.Mathlib.Omega.{arith}
 use Rattle.rounds.proofs.settle.settle_rounds.Goals as goal
-
-pub loop-init : goal.loop-init
-loop-init c = turning_first c.requires.ready
-
-pub round-q-requires : goal.round-q-requires
-round-q-requires c = round_asks c.requires c.loop.invariant.ready c.loop.auto.roots c.loop.auto.path
 
 pub returns-then-q : goal.returns-then-q
 returns-then-q c =
     turning_full c.args.marks.now c.loop.invariant (omega (arith, c.loop-test.true)) c.round-q.ensures _ c.if-q.true
 
-pub bounds-roots-2050 : goal.bounds-roots-2050
-bounds-roots-2050 c = omega (arith, c.requires.slots, c.loop.auto.roots, c.round-q.ensures.slots)
-
-pub answer-requires : goal.answer-requires
-answer-requires c =
-    record { good = (c.round-q.ensures.ready c.if-q.false).live.loose.good; n_bound = (c.round-q.ensures.ready c.if-q.false).live.loose.pieces stack_slot (omega arith) }
-
 pub returns-then-q-2 : goal.returns-then-q-2
 returns-then-q-2 c =
     turning_last c.args.marks.now c.loop.invariant (omega (arith, c.loop-test.true)) c.round-q.ensures _ c.if-q.false c.if-q-2.true c.answer.ensures
-
-pub renew-requires : goal.renew-requires
-renew-requires c = omega (arith, c.requires.slots, c.loop.auto.roots, c.round-q.ensures.slots)
 
 pub loop-preserved : goal.loop-preserved
 loop-preserved c =

@@ -1,25 +1,17 @@
 -- `statement::leaf::add_leaf` meets its contract. Assumes nothing.
-use Rattle.statement.proofs.ByKind.{plain_low, plain_high, ray_kind, store_kind}
+use Rattle.std.proofs.Common.{rules}
+use Rattle.statement.proofs.ByKind.{control, memory, breaks, continues, past_last, plain_kill, plain_barrier, plain_image, plain_leaves}
 use Rattle.statement.proofs.leaf.add_leaf.Goals as goal
 
-pub add_return-requires : goal.add_return-requires
-add_return-requires c = record { arm = c.requires.arm; kind_value = c.if-kind-eq-RETURN.true }
+pub returns-in-Ok-Kill : goal.returns-in-Ok-Kill
+returns-in-Ok-Kill c = rw c.answer.ensures (plain_kill c.requires.arm _ (search rules))
 
-pub add_plain-requires : goal.add_plain-requires
-add_plain-requires c =
-    record { arm = c.requires.arm; plain_kind = plain_low c.requires.leaf_kind c.if-kind-eq-RETURN.false c.if-kind-lt-STORE.true }
+pub returns-in-Ok-ControlBarrier : goal.returns-in-Ok-ControlBarrier
+returns-in-Ok-ControlBarrier c =
+    rw c.answer-in-Ok-ControlBarrier.ensures (plain_barrier c.requires.arm _ (search (rules, control, memory)))
 
-pub add_plain-requires-then-kind-gt-SUBGROUP_COLLECTIVE_OPERATION : goal.add_plain-requires-then-kind-gt-SUBGROUP_COLLECTIVE_OPERATION
-add_plain-requires-then-kind-gt-SUBGROUP_COLLECTIVE_OPERATION c =
-    record { arm = c.requires.arm; plain_kind = plain_high c.if-kind-gt-SUBGROUP_COLLECTIVE_OPERATION.true }
+pub returns-in-Ok-ImageAtomic : goal.returns-in-Ok-ImageAtomic
+returns-in-Ok-ImageAtomic c = rw c.halt.ensures (plain_image c.requires.arm _ (search rules))
 
-pub add_ray-requires : goal.add_ray-requires
-add_ray-requires c =
-    record { arm = c.requires.arm; ray_kind = ray_kind c.if-kind-gt-IMAGE_STORE.true c.if-kind-gt-SUBGROUP_COLLECTIVE_OPERATION.false }
-
-pub add_atomic-requires : goal.add_atomic-requires
-add_atomic-requires c = record { arm = c.requires.arm; kind_value = c.if-kind-eq-ATOMIC.true }
-
-pub add_store-requires : goal.add_store-requires
-add_store-requires c =
-    record { arm = c.requires.arm; types_value = c.requires.types_value; store_kind = store_kind c.requires.leaf_kind c.if-kind-lt-STORE.false c.if-kind-gt-IMAGE_STORE.false c.if-kind-eq-ATOMIC.false }
+pub returns-in_default : goal.returns-in_default
+returns-in_default c = rw c.leave.ensures.0 (plain_leaves c.requires.arm _ c.leave.ensures.1 (search (rules, breaks, continues, past_last)))

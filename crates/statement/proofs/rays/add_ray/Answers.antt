@@ -9,11 +9,11 @@ target_of-requires c = ray_aims c.requires.arm c.requires.ray_kind 0 c.ray_field
 
 pub then_maybe-a-requires : goal.then_maybe-a-requires
 then_maybe-a-requires c =
-    record { fact = ray_begins c.requires.arm c.requires.ray_kind _ c.ray_fields-x.ensures c.target_of.ensures c.in_ok-aim.was; maybe_below = ((ray_below c.requires.arm c.requires.ray_kind 0 c.ray_fields-x.ensures c.target_of.ensures c.in_ok-aim.was).first, omega arith) }
+    record { fact = ray_begins c.requires.arm c.requires.ray_kind _ c.ray_fields-x.ensures c.target_of.ensures c.in_ok-aim.was; maybe_below = ((ray_below c.requires.arm c.requires.ray_kind 0 c.ray_fields-x.ensures).first, omega arith) }
 
-pub then_maybe-b-requires : goal.then_maybe-b-requires
-then_maybe-b-requires c =
-    record { fact = c.then_maybe-a.ensures.opens; maybe_below = ((ray_below c.requires.arm c.requires.ray_kind 0 c.ray_fields-x.ensures c.target_of.ensures c.in_ok-aim.was).second, omega arith) }
+pub then_maybe-b-requires-clause-maybe_below : goal.then_maybe-b-requires-clause-maybe_below
+then_maybe-b-requires-clause-maybe_below c =
+    ((ray_below c.requires.arm c.requires.ray_kind 0 c.ray_fields-x.ensures).second, omega arith)
 
 pub returns-in_err-aim : goal.returns-in_err-aim
 returns-in_err-aim c =
@@ -22,8 +22,9 @@ returns-in_err-aim c =
 
 pub returns-in-None : goal.returns-in-None
 returns-in-None c =
-    ray_unneeded c.requires.arm c.requires.ray_kind _ c.ray_fields-x.ensures c.target_of.ensures c.in_ok-aim.was c.in-None.is
+    rw c.answer.ensures
+    (ray_unneeded c.requires.arm c.requires.ray_kind _ c.ray_fields-x.ensures c.target_of.ensures c.in_ok-aim.was c.in-None.is)
 
 pub returns-in-Some : goal.returns-in-Some
 returns-in-Some c =
-    ray_asks c.requires.arm c.requires.ray_kind _ c.ray_fields-x.ensures c.target_of.ensures c.in_ok-aim.was c.in-Some.is c.then_maybe-a.ensures c.then_maybe-b.ensures c.answer.ensures
+    ray_asks c.requires.arm c.requires.ray_kind _ c.ray_fields-x.ensures c.target_of.ensures c.in_ok-aim.was c.in-Some.is c.then_maybe-a.ensures c.then_maybe-b.ensures c.answer-in-Some.ensures

@@ -1,12 +1,14 @@
 -- `statement::rays::gather_fields` meets its contract. Assumes nothing.
-use Rattle.access.specs.Access.{operand_at}
+use Rattle.access.specs.Access.{operand_at, handle_in}
 use Rattle.statement.proofs.RayArms.{broadcast_fields, first-fields}
 use Rattle.statement.proofs.rays.gather_fields.Goals as goal
 
 pub returns-then-mode-eq1 : goal.returns-then-mode-eq1
+unfolding handle_in
 returns-then-mode-eq1 c =
-    broadcast_fields (operand_at c.args.bytes.now c.args.row) c.operand-mode.ensures c.expression_operand-first.ensures c.if-mode-eq1.true c.expression_operand-second.ensures c.expression_operand.ensures
+    broadcast_fields (operand_at c.args.bytes.now c.args.row) c.operand-mode.ensures c.expression_operand-first.ensures c.expression_operand-second.ensures c.if-mode-eq1.true c.expression_operand.ensures
 
 pub returns : goal.returns
+unfolding handle_in
 returns c =
-    first-fields (operand_at c.args.bytes.now c.args.row) c.operand-mode.ensures c.expression_operand-first.ensures c.if-mode-eq1.false c.expression_operand-second.ensures
+    first-fields (operand_at c.args.bytes.now c.args.row) c.operand-mode.ensures c.expression_operand-first.ensures c.expression_operand-second.ensures c.if-mode-eq1.false

@@ -1,15 +1,11 @@
 -- `statement::store::store` meets its contract. Assumes nothing.
 use Rattle.state.proofs.Ends.{passed}
-use Rattle.statement.proofs.Storing.{store_refused, store_none, store_takes, store_stops, store_goes}
+use Rattle.statement.proofs.Storing.{store_none, store_takes, store_stops, store_goes}
 use Rattle.statement.proofs.store.store.Goals as goal
 
 pub take-requires : goal.take-requires
 take-requires c =
     store_takes c.requires.aiming c.target_of.ensures c.in_ok-aim.was c.in-Some.is c.requires.types_value
-
-pub returns-in_err-aim : goal.returns-in_err-aim
-returns-in_err-aim c =
-    rw (passed c.from_residual.ensures.1) (store_refused c.requires.aiming c.target_of.ensures c.in_err-aim.was)
 
 pub returns-in-None : goal.returns-in-None
 returns-in-None c = store_none c.requires.aiming c.target_of.ensures c.in_ok-aim.was c.in-None.is

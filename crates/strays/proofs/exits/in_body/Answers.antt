@@ -3,4 +3,4 @@ use Rattle.strays.proofs.Allowed.{body_is}
 use Rattle.strays.proofs.exits.in_body.Goals as goal
 
 pub returns : goal.returns
-returns c = body_is _
+returns c = rw c.in_body.ensures (body_is _)

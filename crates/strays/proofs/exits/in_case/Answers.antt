@@ -3,4 +3,4 @@ use Rattle.strays.proofs.Allowed.{case_is}
 use Rattle.strays.proofs.exits.in_case.Goals as goal
 
 pub returns : goal.returns
-returns c = case_is _
+returns c = rw c.in_case.ensures (case_is _)

@@ -1,34 +1,45 @@
 -- `resolve_var` meets its contract. The invariant: what is left of the way gives the whole. The measure is the expression's number.
-use mathlib.Core.Path.{sym, ◌∙◌}
+use borrow.Author.Rules.{rules}
 use Rattle.valid.proofs.Accepted.{valid}
-use Rattle.target.proofs.Resolving.{resolving_start, falls, base_asks, again, found_global, found_local, found_none}
+use Rattle.target.proofs.Resolving.{resolving_start, index, value, falls, base_asks, again_index, again_all, found_global, found_local, found_none}
 use Rattle.target.proofs.resolve.resolve_var.Goals as goal
+use Rattle.target.proofs.resolve.resolve_var.Goals.{in-Ok-AccessIndex, in-Ok-Access}
 
-pub loop-f-init : goal.loop-f-init
-loop-f-init c =
+pub loop-cells-init : goal.loop-cells-init
+loop-cells-init c =
     resolving_start (valid _ _ c.requires.bytes_value) _ _ c.requires.e_in_bounds c.requires.good
 
-pub returns-then-row-eq-GLOBAL_VARIABLE : goal.returns-then-row-eq-GLOBAL_VARIABLE
-returns-then-row-eq-GLOBAL_VARIABLE c =
-    found_global _ _ c.requires.bytes_value c.loop-f.invariant c.expression-row.ensures _ c.if-row-eq-GLOBAL_VARIABLE.true c.global_operand.ensures
+pub returns-in-Ok-GlobalVariable : goal.returns-in-Ok-GlobalVariable
+returns-in-Ok-GlobalVariable c =
+    found_global _ _ c.requires.bytes_value c.loop-cells.invariant c.expression-row.ensures _ (search rules) c.global_operand.ensures
 
-pub returns-then-row-eq-LOCAL_VARIABLE : goal.returns-then-row-eq-LOCAL_VARIABLE
-returns-then-row-eq-LOCAL_VARIABLE c =
-    found_local _ _ c.requires.bytes_value c.loop-f.invariant c.expression-row.ensures _ c.if-row-eq-LOCAL_VARIABLE.true c.local_operand.ensures
+pub returns-in-Ok-LocalVariable : goal.returns-in-Ok-LocalVariable
+returns-in-Ok-LocalVariable c =
+    found_local _ _ c.requires.bytes_value c.loop-cells.invariant c.expression-row.ensures _ (search rules) c.local_operand.ensures
 
-pub returns-then-not-follows : goal.returns-then-not-follows
-returns-then-not-follows c =
-    found_none _ _ c.requires.bytes_value c.loop-f.invariant c.expression-row.ensures c.if-row-eq-GLOBAL_VARIABLE.false c.if-row-eq-LOCAL_VARIABLE.false (sym c.follows.ensures ∙ c.if-not-follows.true)
+pub returns-in_default : goal.returns-in_default
+returns-in_default c =
+    found_none _ _ c.requires.bytes_value c.loop-cells.invariant c.expression-row.ensures (record { index = search rules; value = search rules; global = search rules; local = search rules })
 
-pub base_part-p-requires : goal.base_part-p-requires
-base_part-p-requires c =
-    let q9 = base_asks _ _ c.requires.bytes_value c.loop-f.invariant c.expression-row.ensures c.requires.room (falls _ _ c.requires.bytes_value c.loop-f.invariant c.expression-row.ensures (sym c.follows.ensures ∙ c.if-not-follows.false) c.expression_operand-x.ensures) in
-    record { good = q9.0; room = q9.1 }
+pub returns-in_default-2 : goal.returns-in_default-2
+returns-in_default-2 c =
+    found_none _ _ c.requires.bytes_value c.loop-cells.invariant c.expression-row.ensures (record { index = search rules; value = search rules; global = search rules; local = search rules })
 
-pub loop-f-smaller : goal.loop-f-smaller
-loop-f-smaller c =
-    falls _ _ c.requires.bytes_value c.loop-f.invariant c.expression-row.ensures (sym c.follows.ensures ∙ c.if-not-follows.false) c.expression_operand-x.ensures
+pub make-p-requires : goal.make-p-requires
+make-p-requires c =
+    let q9 = base_asks _ _ c.requires.bytes_value c.loop-cells.invariant c.expression-row.ensures (search rules) c.requires.room in
+    record { good = q9.0; room = q9.1.0; child_bound = q9.1.1 }
 
-pub loop-f-preserved : goal.loop-f-preserved
-loop-f-preserved c =
-    again _ _ c.requires.bytes_value c.loop-f.invariant c.expression-row.ensures (sym c.follows.ensures ∙ c.if-not-follows.false) c.expression_operand-x.ensures (falls _ _ c.requires.bytes_value c.loop-f.invariant c.expression-row.ensures (sym c.follows.ensures ∙ c.if-not-follows.false) c.expression_operand-x.ensures) c.base_part-p.ensures
+pub loop-cells-smaller : goal.loop-cells-smaller
+loop-cells-smaller c =
+    elim c.match-try_from-2.branch [
+      | in-Ok-AccessIndex w ↦ falls _ _ c.requires.bytes_value c.loop-cells.invariant c.expression-row.ensures (index (search rules)) c.expression_operand-x.ensures
+      | in-Ok-Access w ↦ falls _ _ c.requires.bytes_value c.loop-cells.invariant c.expression-row.ensures (value (search rules)) c.expression_operand-x.ensures
+    ]
+
+pub loop-cells-preserved : goal.loop-cells-preserved
+loop-cells-preserved c =
+    elim c.match-try_from-2.branch [
+      | in-Ok-AccessIndex w ↦ rw (w.cells-is, w.p-is) (again_index _ _ c.requires.bytes_value c.loop-cells.invariant c.expression-row.ensures (search rules) c.expression_operand-x.ensures w.operand.ensures w.make-p.ensures)
+      | in-Ok-Access w ↦ rw (w.cells-is, w.p-is) (again_all _ _ c.requires.bytes_value c.loop-cells.invariant c.expression-row.ensures (search rules) c.expression_operand-x.ensures)
+    ]

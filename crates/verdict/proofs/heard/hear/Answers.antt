@@ -1,6 +1,7 @@
 -- `verdict::heard::hear` meets its contract: 12 of either, 11 of either, or what is asked.
-use mathlib.Core.Path.{refl, ◌∙◌}
-use Rattle.context_bytes.proofs.Status.{refused_above}
+use Rattle.std.proofs.lemmas.Result.{err_from_is_err_and}
+use mathlib.Core.Path.{sym, ap, ◌∙◌}
+use Rattle.context_bytes.specs.Checked.{status}
 use Rattle.valid.proofs.Accepted.{valid}
 use Rattle.verdict.proofs.Hearing.{hears_first, function-there, hears_refused, hears}
 use native.Mathlib.Omega.{arith}
@@ -14,14 +15,16 @@ pub context_status-requires : goal.context_status-requires
 context_status-requires c =
     record { read = c.requires.0.module_is; there = function-there _ _ c.requires.0.module_is c.args.request.now c.args.context.now (c.functions-n.ensures c.args.bytes.now) (c.globals.ensures c.args.bytes.now) c.load_request.ensures c.in-Ok.is }
 
-pub returns-in-Err-context_status : goal.returns-in-Err-context_status
-returns-in-Err-context_status c =
-    hears_refused _ _ c.requires.0.module_is c.args.request.now c.args.context.now (c.functions-n.ensures c.args.bytes.now) (c.globals.ensures c.args.bytes.now) c.load_request.ensures c.in-Ok.is (c.from-in-Err-context_status.ensures ∙ c.in-Err-context_status.ensures) (rw c.from-in-Err-context_status.ensures (refused_above c.in-Err-context_status.e))
+pub returns-in_err-context_status : goal.returns-in_err-context_status
+returns-in_err-context_status c =
+    let p = err_from_is_err_and c.from_residual.result c.from_residual.ensures.1 in
+    rw (p.1, p.2)
+    (hears_refused _ _ c.requires.0.module_is c.args.request.now c.args.context.now (c.functions-n.ensures c.args.bytes.now) (c.globals.ensures c.args.bytes.now) c.load_request.ensures c.in-Ok.is (ap status (sym c.in_err-context_status.was) ∙ c.context_status.ensures))
 
 pub returns-in-Err : goal.returns-in-Err
 returns-in-Err c =
-    hears_first _ c.args.request.now c.args.context.now (c.functions-n.ensures c.args.bytes.now) (c.globals.ensures c.args.bytes.now) c.load_request.ensures c.in-Err.is (c.from.ensures ∙ c.refused_first.ensures)
+    hears_first _ c.args.request.now c.args.context.now (c.functions-n.ensures c.args.bytes.now) (c.globals.ensures c.args.bytes.now) c.load_request.ensures c.in-Err.is c.refused_first.ensures
 
-pub returns-in_default : goal.returns-in_default
-returns-in_default c =
-    hears _ _ c.requires.0.module_is c.args.request.now c.args.context.now (c.functions-n.ensures c.args.bytes.now) (c.globals.ensures c.args.bytes.now) c.load_request.ensures c.in-Ok.is c.in_default.ensures refl c.value_piece.ensures refl
+pub returns : goal.returns
+returns c =
+    hears _ _ c.requires.0.module_is c.args.request.now c.args.context.now (c.functions-n.ensures c.args.bytes.now) (c.globals.ensures c.args.bytes.now) c.load_request.ensures c.in-Ok.is (ap status (sym c.in_ok-context_status.was) ∙ c.context_status.ensures) c.value_piece-value.ensures

@@ -12,10 +12,10 @@ returns-in-Some c =
 pub blamed_statement-requires : goal.blamed_statement-requires
 blamed_statement-requires c = c.requires.given
 
-pub returns-in-None : goal.returns-in-None
-returns-in-None c =
-    all_judged c.args.bytes.now c.args.t.now c.args.f.0 c.blamed_expression.ensures c.in_default.is c.blamed_statement.ensures c.in-None.is
+pub returns-in_err-s : goal.returns-in_err-s
+returns-in_err-s c =
+    rw c.from_residual.ensures (all_judged c.args.bytes.now c.args.t.now c.args.f.0 c.blamed_expression.ensures c.in_default.is c.blamed_statement.ensures c.in_err-s.was)
 
-pub returns-in-Some-blamed_statement : goal.returns-in-Some-blamed_statement
-returns-in-Some-blamed_statement c =
-    at-statement c.args.bytes.now c.args.t.now c.args.f.0 c.blamed_expression.ensures c.in_default.is c.blamed_statement.ensures c.in-Some-blamed_statement.is
+pub returns : goal.returns
+returns c =
+    at-statement c.args.bytes.now c.args.t.now c.args.f.0 c.blamed_expression.ensures c.in_default.is c.blamed_statement.ensures c.in_ok-s.was

@@ -6,19 +6,18 @@ use Rattle.verdict.proofs.verdict.check_marks.Goals as goal
 pub fill_tables-requires : goal.fill_tables-requires
 fill_tables-requires c = (there c.requires, c.requires.sized)
 
-pub unjudged-word-requires : goal.unjudged-word-requires
-unjudged-word-requires c = c.fill_tables.ensures
+pub unjudged-requires : goal.unjudged-requires
+unjudged-requires c = c.fill_tables.ensures
 
-pub returns-then-word-gt0 : goal.returns-then-word-gt0
-returns-then-word-gt0 c =
-    not_judged c.requires c.args.marks.now c.args.context.now c.unjudged-word.ensures c.if-word-gt0.true
+pub returns-in-Some : goal.returns-in-Some
+returns-in-Some c = not_judged c.requires c.args.marks.now c.args.context.now c.unjudged.ensures c.in-Some.is
 
 pub fill_firsts-requires : goal.fill_firsts-requires
 fill_firsts-requires c = firsts-asked c.requires
 
 pub settle-requires : goal.settle-requires
 settle-requires c =
-    settling c.requires c.unjudged-word.ensures (omega arith) c.fill_tables.ensures c.fill_firsts.ensures
+    settling c.requires c.unjudged.ensures c.in_default.is c.fill_tables.ensures c.fill_firsts.ensures
 
 pub shape_of-types : goal.shape_of-types
 shape_of-types c = omega (arith, c.fill_tables.auto)
@@ -31,4 +30,4 @@ shape_of-held c = omega (arith, c.fill_tables.auto)
 
 pub returns : goal.returns
 returns c =
-    rw c.from.ensures (settled c.requires c.unjudged-word.ensures (omega arith) c.args.marks.now c.args.context.now c.settle.ensures)
+    settled c.requires c.unjudged.ensures c.in_default.is c.args.marks.now c.args.context.now c.settle.ensures
