@@ -188,21 +188,24 @@ fn add_arm(
 {
     match StatementKind::try_from(row.kind) {
         Ok(StatementKind::Emit) => {
-            add_emit(bytes, t, places, cells, slots, open, fr, row, tally)
+            return add_emit(bytes, t, places, cells, slots, open, fr, row, tally);
         }
-        Ok(StatementKind::Call) => add_call(
-            bytes, t, types, places, cells, slots, open, totals, fr, b, row, tally,
-        ),
+        Ok(StatementKind::Call) => {
+            return add_call(
+                bytes, t, types, places, cells, slots, open, totals, fr, b, row, tally,
+            );
+        }
         Ok(
             StatementKind::Block | StatementKind::If | StatementKind::Switch | StatementKind::Loop,
-        ) => add_holder(
-            bytes, t, types, places, cells, slots, open, totals, fr, b, row, tally,
-        ),
-        _ => {
-            let r = add_leaf(bytes, t, types, cells, slots, fr, row, tally);
-            mark_statement(t, places, open, fr, row, r)
+        ) => {
+            return add_holder(
+                bytes, t, types, places, cells, slots, open, totals, fr, b, row, tally,
+            );
         }
+        _ => {}
     }
+    let r = add_leaf(bytes, t, types, cells, slots, fr, row, tally);
+    mark_statement(t, places, open, fr, row, r)
 }
 
 // The arm of a statement that holds blocks, with its marks: each takes them by itself, so that no answer of a walk waits beside those of the others.
@@ -230,27 +233,26 @@ fn add_holder(
             let r = add_nested(
                 bytes, t, types, places, cells, slots, open, totals, fr, b, row, tally,
             );
-            mark_statement(t, places, open, fr, row, r)
+            return mark_statement(t, places, open, fr, row, r);
         }
         Ok(StatementKind::If) => {
             let r = add_if(
                 bytes, t, types, places, cells, slots, open, totals, fr, b, row, tally,
             );
-            mark_statement(t, places, open, fr, row, r)
+            return mark_statement(t, places, open, fr, row, r);
         }
         Ok(StatementKind::Switch) => {
             let r = add_switch(
                 bytes, t, types, places, cells, slots, open, totals, fr, b, row, tally,
             );
-            mark_statement(t, places, open, fr, row, r)
+            return mark_statement(t, places, open, fr, row, r);
         }
-        _ => {
-            let r = add_loop(
-                bytes, t, types, places, cells, slots, open, totals, fr, b, row, tally,
-            );
-            mark_statement(t, places, open, fr, row, r)
-        }
+        _ => {}
     }
+    let r = add_loop(
+        bytes, t, types, places, cells, slots, open, totals, fr, b, row, tally,
+    );
+    mark_statement(t, places, open, fr, row, r)
 }
 
 // Two blocks one after the other, both from the base in the slots from `base` on. Their contexts are left in the slots from `at` on, and behind them. A statement of the block b holds them.

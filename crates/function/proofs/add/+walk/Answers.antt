@@ -18,8 +18,8 @@ use native.Mathlib.Omega.{arith}
 use borrow.Author.Tests.{not-true, not-false}
 use Rattle.function.proofs.add.+walk.Goals as goal
 
-pub add_arm-returns-in_default : goal.add_arm-returns-in_default
-add_arm-returns-in_default t c = mark_ends c.requires c.mark_statement.ensures (leaf_ends c.requires _ c.add_leaf-r.ensures)
+pub add_arm-returns : goal.add_arm-returns
+add_arm-returns t c = mark_ends c.requires c.mark_statement.ensures (leaf_ends c.requires _ c.add_leaf-r.ensures)
 
 pub add_block-weigh-requires : goal.add_block-weigh-requires
 add_block-weigh-requires t c =
@@ -130,9 +130,9 @@ pub add_holder-returns-in-Ok-Switch : goal.add_holder-returns-in-Ok-Switch
 add_holder-returns-in-Ok-Switch t c =
     mark_ends c.requires.arms c.mark_statement-in-Ok-Switch.ensures (switch_arm c.requires.arms (search rules) c.add_switch-r.ensures)
 
-pub add_holder-returns-in_default : goal.add_holder-returns-in_default
-add_holder-returns-in_default t c =
-    mark_ends c.requires.arms c.mark_statement-in_default.ensures (loop_arm c.requires.arms (search rules) c.add_loop-r.ensures)
+pub add_holder-returns : goal.add_holder-returns
+add_holder-returns t c =
+    mark_ends c.requires.arms c.mark_statement-2.ensures (loop_arm c.requires.arms (search rules) c.add_loop-r.ensures)
 
 pub add_if-weigh-requires : goal.add_if-weigh-requires
 add_if-weigh-requires t c =
