@@ -3,102 +3,100 @@ ghost use Rattle.std.specs.Prelude.{◌≡◌, List, ℕ, pred, length};
 ghost use Rattle.module.specs.Tables.{function_of};
 ghost use Rattle.access.specs.Access.{argument_at, local_at, typed_at, range_at, arg_from, result_from, range_from};
 
+use crate::file::File;
 use crate::whole::{Bound, unless_absent};
 use module::access::{BlockRange, block_range};
 use module::handles::{BlockHandle, ExpressionHandle, FunctionHandle, LocalHandle, TypeHandle};
 use module::record::body;
 use module::tables::{ITEMS, row_at, word};
 
-// Stays: a function for each count of a row. One over a choice of the field asks for that choice at each call, and is no plainer.
-pub fn arguments(t: &[u32], f: FunctionHandle) -> u32
-    ensures { (bytes : List ℕ) → result ≡ length (function_of bytes t.now f.0).arguments }
-{
-    let row = row_at(t, f.0);
-    row.arguments
-}
+impl<'a> File<'a> {
+    // Stays: a function for each count of a row. One over a choice of the field asks for that choice at each call, and is no plainer.
+    pub fn arguments(&self, f: FunctionHandle) -> u32
+        ensures { result ≡ length (function_of self.now.bytes self.now.t f.0).arguments }
+    {
+        let row = row_at(self.t, f.0);
+        row.arguments
+    }
 
-pub fn locals(t: &[u32], f: FunctionHandle) -> u32
-    ensures { (bytes : List ℕ) → result ≡ length (function_of bytes t.now f.0).locals }
-{
-    let row = row_at(t, f.0);
-    row.locals
-}
+    pub fn locals(&self, f: FunctionHandle) -> u32
+        ensures { result ≡ length (function_of self.now.bytes self.now.t f.0).locals }
+    {
+        let row = row_at(self.t, f.0);
+        row.locals
+    }
 
-pub fn expressions(t: &[u32], f: FunctionHandle) -> u32
-    ensures { (bytes : List ℕ) → result ≡ length (function_of bytes t.now f.0).expressions }
-{
-    let row = row_at(t, f.0);
-    row.expressions
-}
+    pub fn expressions(&self, f: FunctionHandle) -> u32
+        ensures { result ≡ length (function_of self.now.bytes self.now.t f.0).expressions }
+    {
+        let row = row_at(self.t, f.0);
+        row.expressions
+    }
 
-pub fn statements(t: &[u32], f: FunctionHandle) -> u32
-    ensures { (bytes : List ℕ) → result ≡ length (function_of bytes t.now f.0).statements }
-{
-    let row = row_at(t, f.0);
-    row.statements
-}
+    pub fn statements(&self, f: FunctionHandle) -> u32
+        ensures { result ≡ length (function_of self.now.bytes self.now.t f.0).statements }
+    {
+        let row = row_at(self.t, f.0);
+        row.statements
+    }
 
-pub fn blocks(t: &[u32], f: FunctionHandle) -> u32
-    ensures { (bytes : List ℕ) → result ≡ length (function_of bytes t.now f.0).blocks }
-{
-    let row = row_at(t, f.0);
-    row.blocks
-}
+    pub fn blocks(&self, f: FunctionHandle) -> u32
+        ensures { result ≡ length (function_of self.now.bytes self.now.t f.0).blocks }
+    {
+        let row = row_at(self.t, f.0);
+        row.blocks
+    }
 
-// The body is the last block.
-pub fn body_block(t: &[u32], f: FunctionHandle) -> BlockHandle
-    ensures { (bytes : List ℕ) → result.0 ≡ pred (length (function_of bytes t.now f.0).blocks) }
-{
-    BlockHandle(blocks(t, f).saturating_sub(1))
-}
+    // The body is the last block.
+    pub fn body_block(&self, f: FunctionHandle) -> BlockHandle
+        ensures { result.0 ≡ pred (length (function_of self.now.bytes self.now.t f.0).blocks) }
+    {
+        BlockHandle(self.blocks(f).saturating_sub(1))
+    }
 
-// The result, where the function has one.
-pub fn result(bytes: &[u8], t: &[u32], f: FunctionHandle) -> Option<Bound>
-    ensures { result_from result ≡ (function_of bytes.now t.now f.0).result }
-{
-    let row = row_at(t, f.0);
-    let ty = unless_absent(body(bytes, row.offset, 1) as u32)?;
-    let binding = unless_absent(body(bytes, row.offset, 2) as u32);
-    Some(Bound {
-        ty: TypeHandle(ty),
-        binding,
-    })
-}
+    // The result, where the function has one.
+    pub fn result(&self, f: FunctionHandle) -> Option<Bound>
+        ensures { result_from result ≡ (function_of self.now.bytes self.now.t f.0).result }
+    {
+        let row = row_at(self.t, f.0);
+        let ty = unless_absent(body(self.bytes, row.offset, 1) as u32)?;
+        let binding = unless_absent(body(self.bytes, row.offset, 2) as u32);
+        Some(Bound {
+            ty: TypeHandle(ty),
+            binding,
+        })
+    }
 
-pub fn argument(bytes: &[u8], t: &[u32], f: FunctionHandle, i: u32) -> Bound
-    ensures { arg_from result ≡ argument_at bytes.now t.now f.0 i }
-{
-    let row = row_at(t, f.0);
-    let offset = word(t, ITEMS + ((row.items as usize) + (i as usize)));
-    let ty = TypeHandle(body(bytes, offset, 0) as u32);
-    let binding = unless_absent(body(bytes, offset, 1) as u32);
-    Bound { ty, binding }
-}
+    pub fn argument(&self, f: FunctionHandle, i: u32) -> Bound
+        ensures { arg_from result ≡ argument_at self.now.bytes self.now.t f.0 i }
+    {
+        let row = row_at(self.t, f.0);
+        let offset = word(self.t, ITEMS + ((row.items as usize) + (i as usize)));
+        let ty = TypeHandle(body(self.bytes, offset, 0) as u32);
+        let binding = unless_absent(body(self.bytes, offset, 1) as u32);
+        Bound { ty, binding }
+    }
 
-pub fn local(bytes: &[u8], t: &[u32], f: FunctionHandle, l: LocalHandle) -> TypeHandle
-    ensures { result.0 ≡ local_at bytes.now t.now f.0 l.0 }
-{
-    let row = row_at(t, f.0);
-    let offset = word(t, ITEMS + (row.locals_from() + (l.0 as usize)));
-    TypeHandle(body(bytes, offset, 0) as u32)
-}
+    pub fn local(&self, f: FunctionHandle, l: LocalHandle) -> TypeHandle
+        ensures { result.0 ≡ local_at self.now.bytes self.now.t f.0 l.0 }
+    {
+        let row = row_at(self.t, f.0);
+        let offset = word(self.t, ITEMS + (row.locals_from() + (l.0 as usize)));
+        TypeHandle(body(self.bytes, offset, 0) as u32)
+    }
 
-pub fn expression_type(
-    bytes: &[u8],
-    t: &[u32],
-    f: FunctionHandle,
-    e: ExpressionHandle,
-) -> TypeHandle
-    ensures { result.0 ≡ (typed_at bytes.now t.now f.0 e.0).type }
-{
-    let row = row_at(t, f.0);
-    let offset = word(t, ITEMS + (row.expressions_from() + (e.0 as usize)));
-    TypeHandle(body(bytes, offset, 0) as u32)
-}
+    pub fn expression_type(&self, f: FunctionHandle, e: ExpressionHandle) -> TypeHandle
+        ensures { result.0 ≡ (typed_at self.now.bytes self.now.t f.0 e.0).type }
+    {
+        let row = row_at(self.t, f.0);
+        let offset = word(self.t, ITEMS + (row.expressions_from() + (e.0 as usize)));
+        TypeHandle(body(self.bytes, offset, 0) as u32)
+    }
 
-pub fn block(t: &[u32], f: FunctionHandle, b: BlockHandle) -> BlockRange
-    ensures { range_from result ≡ range_at t.now f.0 b.0 }
-{
-    let row = row_at(t, f.0);
-    block_range(t, row, b)
+    pub fn block(&self, f: FunctionHandle, b: BlockHandle) -> BlockRange
+        ensures { range_from result ≡ range_at self.now.t f.0 b.0 }
+    {
+        let row = row_at(self.t, f.0);
+        block_range(self.t, row, b)
+    }
 }

@@ -3,6 +3,7 @@ ghost use Rattle.std.specs.Prelude.{◌≡◌, ◌<◌};
 ghost use Rattle.module.specs.Decode.{option_of};
 ghost use Rattle.access.specs.Access.{operand_at, handle_in, expression_number, expression_row, statement_row};
 
+use crate::file::File;
 use field::limits::ABSENT;
 use module::handles::{BlockHandle, ExpressionHandle, FunctionHandle, GlobalHandle, LocalHandle};
 use module::record::body;
@@ -16,86 +17,88 @@ pub struct Kinded {
     pub before: u16,
 }
 
-// The operands' field j; 0 past the last.
-pub fn operand(bytes: &[u8], row: Kinded, j: u16) -> u16
-    ensures { result ≡ operand_at bytes.now row j }
-{
-    body(bytes, row.offset, (row.before as u32) + (j as u32))
-}
-
-// The same as the handle that it is.
-// Stays: a function for each handle. One over a type parameter asks for a From of each handle, which is longer, and says no more.
-pub fn expression_operand(bytes: &[u8], row: Kinded, j: u16) -> ExpressionHandle
-    ensures { result.0 ≡ operand_at bytes.now row j }
-{
-    ExpressionHandle(operand(bytes, row, j) as u32)
-}
-
-// An expression that a file may leave out.
-pub fn optional_expression(bytes: &[u8], row: Kinded, j: u16) -> Option<ExpressionHandle>
-    ensures { handle_in result ≡ option_of (operand_at bytes.now row j) }
-{
-    let number = operand(bytes, row, j);
-    if number == ABSENT {
-        return None;
+impl<'a> File<'a> {
+    // The operands' field j; 0 past the last.
+    pub fn operand(&self, row: Kinded, j: u16) -> u16
+        ensures { result ≡ operand_at self.now.bytes row j }
+    {
+        body(self.bytes, row.offset, (row.before as u32) + (j as u32))
     }
-    Some(ExpressionHandle(number as u32))
-}
 
-pub fn global_operand(bytes: &[u8], row: Kinded, j: u16) -> GlobalHandle
-    ensures { result.0 ≡ operand_at bytes.now row j }
-{
-    GlobalHandle(operand(bytes, row, j) as u32)
-}
-
-pub fn local_operand(bytes: &[u8], row: Kinded, j: u16) -> LocalHandle
-    ensures { result.0 ≡ operand_at bytes.now row j }
-{
-    LocalHandle(operand(bytes, row, j) as u32)
-}
-
-pub fn function_operand(bytes: &[u8], row: Kinded, j: u16) -> FunctionHandle
-    ensures { result.0 ≡ operand_at bytes.now row j }
-{
-    FunctionHandle(operand(bytes, row, j) as u32)
-}
-
-// A switch has two operands for each of fewer than 65536 cases.
-pub fn block_operand(bytes: &[u8], row: Kinded, j: u32) -> BlockHandle
-    requires { j < 200000 }
-    ensures { result.0 ≡ operand_at bytes.now row j }
-{
-    BlockHandle(body(bytes, row.offset, (row.before as u32) + j) as u32)
-}
-
-// The number of an expression among the items of the file.
-pub fn expression_number(t: &[u32], f: FunctionHandle, e: ExpressionHandle) -> usize
-    ensures { result ≡ expression_number t.now f.0 e.0 }
-{
-    let row = row_at(t, f.0);
-    row.expressions_from() + (e.0 as usize)
-}
-
-pub fn expression(bytes: &[u8], t: &[u32], f: FunctionHandle, e: ExpressionHandle) -> Kinded
-    ensures { result ≡ expression_row bytes.now t.now f.0 e.0 }
-{
-    let row = row_at(t, f.0);
-    let offset = word(t, ITEMS + (row.expressions_from() + (e.0 as usize)));
-    Kinded {
-        kind: body(bytes, offset, 1),
-        offset,
-        before: 2,
+    // The same as the handle that it is.
+    // Stays: a function for each handle. One over a type parameter asks for a From of each handle, which is longer, and says no more.
+    pub fn expression_operand(&self, row: Kinded, j: u16) -> ExpressionHandle
+        ensures { result.0 ≡ operand_at self.now.bytes row j }
+    {
+        ExpressionHandle(self.operand(row, j) as u32)
     }
-}
 
-pub fn statement(bytes: &[u8], t: &[u32], f: FunctionHandle, s: u32) -> Kinded
-    ensures { result ≡ statement_row bytes.now t.now f.0 s }
-{
-    let row = row_at(t, f.0);
-    let offset = word(t, ITEMS + (row.statements_from() + (s as usize)));
-    Kinded {
-        kind: body(bytes, offset, 0),
-        offset,
-        before: 1,
+    // An expression that a file may leave out.
+    pub fn optional_expression(&self, row: Kinded, j: u16) -> Option<ExpressionHandle>
+        ensures { handle_in result ≡ option_of (operand_at self.now.bytes row j) }
+    {
+        let number = self.operand(row, j);
+        if number == ABSENT {
+            return None;
+        }
+        Some(ExpressionHandle(number as u32))
+    }
+
+    pub fn global_operand(&self, row: Kinded, j: u16) -> GlobalHandle
+        ensures { result.0 ≡ operand_at self.now.bytes row j }
+    {
+        GlobalHandle(self.operand(row, j) as u32)
+    }
+
+    pub fn local_operand(&self, row: Kinded, j: u16) -> LocalHandle
+        ensures { result.0 ≡ operand_at self.now.bytes row j }
+    {
+        LocalHandle(self.operand(row, j) as u32)
+    }
+
+    pub fn function_operand(&self, row: Kinded, j: u16) -> FunctionHandle
+        ensures { result.0 ≡ operand_at self.now.bytes row j }
+    {
+        FunctionHandle(self.operand(row, j) as u32)
+    }
+
+    // A switch has two operands for each of fewer than 65536 cases.
+    pub fn block_operand(&self, row: Kinded, j: u32) -> BlockHandle
+        requires { j < 200000 }
+        ensures { result.0 ≡ operand_at self.now.bytes row j }
+    {
+        BlockHandle(body(self.bytes, row.offset, (row.before as u32) + j) as u32)
+    }
+
+    // The number of an expression among the items of the file.
+    pub fn expression_number(&self, f: FunctionHandle, e: ExpressionHandle) -> usize
+        ensures { result ≡ expression_number self.now.t f.0 e.0 }
+    {
+        let row = row_at(self.t, f.0);
+        row.expressions_from() + (e.0 as usize)
+    }
+
+    pub fn expression(&self, f: FunctionHandle, e: ExpressionHandle) -> Kinded
+        ensures { result ≡ expression_row self.now.bytes self.now.t f.0 e.0 }
+    {
+        let row = row_at(self.t, f.0);
+        let offset = word(self.t, ITEMS + (row.expressions_from() + (e.0 as usize)));
+        Kinded {
+            kind: body(self.bytes, offset, 1),
+            offset,
+            before: 2,
+        }
+    }
+
+    pub fn statement(&self, f: FunctionHandle, s: u32) -> Kinded
+        ensures { result ≡ statement_row self.now.bytes self.now.t f.0 s }
+    {
+        let row = row_at(self.t, f.0);
+        let offset = word(self.t, ITEMS + (row.statements_from() + (s as usize)));
+        Kinded {
+            kind: body(self.bytes, offset, 0),
+            offset,
+            before: 1,
+        }
     }
 }

@@ -4,6 +4,7 @@ ghost use Rattle.module.specs.Decode.{option_of};
 ghost use Rattle.module.specs.Tables.{module_of};
 ghost use Rattle.access.specs.Access.{global_at, number_in};
 
+use crate::file::File;
 use field::limits::ABSENT;
 use module::access::global_type;
 use module::handles::{GlobalHandle, TypeHandle};
@@ -26,26 +27,28 @@ pub fn unless_absent(number: u32) -> Option<u32>
     Some(number)
 }
 
-pub fn types(t: &[u32]) -> u32
-    ensures { (bytes : List ℕ) → result ≡ length (module_of bytes t.now).types }
-{
-    word(t, HEAD)
-}
+impl<'a> File<'a> {
+    pub fn types(&self) -> u32
+        ensures { result ≡ length (module_of self.now.bytes self.now.t).types }
+    {
+        word(self.t, HEAD)
+    }
 
-pub fn globals(t: &[u32]) -> u32
-    ensures { (bytes : List ℕ) → result ≡ length (module_of bytes t.now).globals }
-{
-    word(t, HEAD + 1)
-}
+    pub fn globals(&self) -> u32
+        ensures { result ≡ length (module_of self.now.bytes self.now.t).globals }
+    {
+        word(self.t, HEAD + 1)
+    }
 
-pub fn functions(t: &[u32]) -> u32
-    ensures { (bytes : List ℕ) → result ≡ length (module_of bytes t.now).functions }
-{
-    word(t, HEAD + 2)
-}
+    pub fn functions(&self) -> u32
+        ensures { result ≡ length (module_of self.now.bytes self.now.t).functions }
+    {
+        word(self.t, HEAD + 2)
+    }
 
-pub fn global(bytes: &[u8], t: &[u32], g: GlobalHandle) -> TypeHandle
-    ensures { result.0 ≡ global_at bytes.now t.now g.0 }
-{
-    TypeHandle(global_type(bytes, t, g) as u32)
+    pub fn global(&self, g: GlobalHandle) -> TypeHandle
+        ensures { result.0 ≡ global_at self.now.bytes self.now.t g.0 }
+    {
+        TypeHandle(global_type(self.bytes, self.t, g) as u32)
+    }
 }

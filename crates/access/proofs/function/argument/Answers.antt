@@ -1,7 +1,0 @@
--- `access::function::argument` meets its contract.
-use Rattle.access.proofs.Access.{argument_read}
-use Rattle.access.proofs.function.argument.Goals as goal
-
-pub returns : goal.returns
-returns c =
-    argument_read _ _ _ c.row_at-row.ensures _ _ _ _ _ _ c.word-offset.ensures c.body.ensures c.body-2.ensures c.unless_absent-binding.ensures

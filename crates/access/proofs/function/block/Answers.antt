@@ -1,6 +1,0 @@
--- `access::function::block` meets its contract.
-use Rattle.access.proofs.Access.{block_read}
-use Rattle.access.proofs.function.block.Goals as goal
-
-pub returns : goal.returns
-returns c = block_read _ _ _ c.row_at-row.ensures _ _ _ c.block_range.ensures

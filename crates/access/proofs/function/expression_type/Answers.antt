@@ -1,7 +1,0 @@
--- `access::function::expression_type` meets its contract.
-use Rattle.access.proofs.Access.{expression_type_read}
-use Rattle.access.proofs.function.expression_type.Goals as goal
-
-pub returns : goal.returns
-returns c =
-    expression_type_read _ _ _ c.row_at-row.ensures _ _ _ _ (rw c.expressions_from.ensures at c.word-offset.ensures) c.body.ensures

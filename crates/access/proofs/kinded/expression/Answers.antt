@@ -1,7 +1,0 @@
--- `access::kinded::expression` meets its contract.
-use Rattle.access.specs.Access.{expression_row}
-use Rattle.access.proofs.kinded.expression.Goals as goal
-
-pub returns : goal.returns
-unfolding expression_row
-returns c = rw (c.body.ensures, c.word-offset.ensures, c.expressions_from.ensures, c.row_at-row.ensures)

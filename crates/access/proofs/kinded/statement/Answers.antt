@@ -1,7 +1,0 @@
--- `access::kinded::statement` meets its contract.
-use Rattle.access.specs.Access.{statement_row}
-use Rattle.access.proofs.kinded.statement.Goals as goal
-
-pub returns : goal.returns
-unfolding statement_row
-returns c = rw (c.body.ensures, c.word-offset.ensures, c.statements_from.ensures, c.row_at-row.ensures)

@@ -1,0 +1,28 @@
+// A module that was read, as one value: the file's bytes, and the tables that lead into them.
+ghost use Rattle.std.specs.Prelude.{◌≡◌};
+
+use std::marker::Model;
+
+// Only this crate looks inside.
+#[derive(Drop)]
+pub struct File<'a> {
+    pub(crate) bytes: &'a [u8],
+    pub(crate) t: &'a [u32],
+}
+
+impl<'a> Model for File<'a> {
+    ghost use Rattle.access.specs.File.{File};
+
+    ghost Value = { File };
+
+    ghost view = { λ m. record { bytes = m.bytes.now; t = m.t.now } };
+}
+
+impl<'a> File<'a> {
+    pub fn new(bytes: &'a [u8], t: &'a [u32]) -> Self
+        ensures bytes { result.bytes ≡ bytes.now }
+        ensures tables { result.t ≡ t.now }
+    {
+        File { bytes, t }
+    }
+}
