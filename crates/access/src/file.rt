@@ -1,6 +1,9 @@
 // A module that was read, as one value: the file's bytes, and the tables that lead into them.
 ghost use Rattle.std.specs.Prelude.{◌≡◌};
+ghost use Rattle.module.specs.Tables.{row_at};
 
+use module::handles::FunctionHandle;
+use module::tables::{Row, row_at};
 use std::marker::Model;
 
 // Only this crate looks inside.
@@ -24,5 +27,12 @@ impl<'a> File<'a> {
         ensures tables { result.t ≡ t.now }
     {
         File { bytes, t }
+    }
+
+    // How many of each the function has, and where they begin.
+    pub fn row(&self, f: FunctionHandle) -> Row
+        ensures { result ≡ row_at self.now.t f.0 }
+    {
+        row_at(self.t, f.0)
     }
 }

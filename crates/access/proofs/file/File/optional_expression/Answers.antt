@@ -9,7 +9,6 @@ pub returns-then-number : goal.returns-then-number
 unfolding handle_in option_of
 returns-then-number c = rw (sym c.operand-number.ensures, c.if-number.true)
 
-
 pub returns : goal.returns
 unfolding handle_in option_of
 returns c = rw (sym c.operand-number.ensures, ne_eqb _ _ c.if-number.false)
