@@ -1,5 +1,5 @@
 // One function of the module, by its handle.
-ghost use Rattle.std.specs.Prelude.{◌≡◌, List, ℕ, pred, length};
+ghost use Rattle.std.specs.Prelude.{◌≡◌, pred, length};
 ghost use Rattle.module.specs.Tables.{function_of};
 ghost use Rattle.access.specs.Access.{argument_at, local_at, typed_at, range_at, arg_from, result_from, range_from};
 

@@ -1,12 +1,12 @@
 // The whole module: how many of each it has, and the types of globals.
-ghost use Rattle.std.specs.Prelude.{◌≡◌, List, ℕ, length};
+ghost use Rattle.std.specs.Prelude.{◌≡◌, get_or, length};
 ghost use Rattle.module.specs.Decode.{option_of};
-ghost use Rattle.module.specs.Tables.{module_of};
+ghost use Rattle.module.specs.Tables.{type_body, module_of};
 ghost use Rattle.access.specs.Access.{global_at, number_in};
 
 use crate::file::File;
 use field::limits::ABSENT;
-use module::access::global_type;
+use module::access::{global_type, type_field};
 use module::handles::{GlobalHandle, TypeHandle};
 use module::tables::{HEAD, word};
 
@@ -50,5 +50,12 @@ impl<'a> File<'a> {
         ensures { result.0 ≡ global_at self.now.bytes self.now.t g.0 }
     {
         TypeHandle(global_type(self.bytes, self.t, g) as u32)
+    }
+
+    // The field j of a type's record: its kind is the field 0, and its operands follow.
+    pub fn type_field(&self, h: TypeHandle, j: u32) -> u16
+        ensures { result ≡ get_or (type_body self.now.bytes self.now.t h.0) j 0 }
+    {
+        type_field(self.bytes, self.t, h, j)
     }
 }

@@ -9,7 +9,7 @@ ghost use Rattle.acts.specs.Marks.{PassGiven, ByMark, EmitsPassed};
 
 use crate::marks::mark_at;
 use crate::take::take_out;
-use access::function::expressions;
+use access::file::File;
 use ends::notes::{blame, note};
 use hold::hold::copy;
 use module::handles::{ExpressionHandle, FunctionHandle};
@@ -20,8 +20,7 @@ use standing::passing::{Passing, filled};
 
 // The needs before an emit of the expression e. Its operands are lent as much of the path as the function's pointers take. Says whether the needs are within the bound.
 pub fn act_emit(
-    bytes: &[u8],
-    t: &[u32],
+    file: &File,
     f: FunctionHandle,
     types: &[u32],
     alike: &[u32],
@@ -32,27 +31,25 @@ pub fn act_emit(
     n: usize,
     e: ExpressionHandle,
 ) -> bool
-    requires act_given { ActGiven bytes.now t.now f.0 types.now alike.now paths.now cells.old roots.old path.old n }
-    requires e_in_bounds { e.0 < length (function_of bytes.now t.now f.0).expressions }
-    ensures { Acted (scope_at bytes.now t.now f.0) (emit e.0) cells.old roots.old n cells.new roots.new path.old path.new result }
+    requires act_given { ActGiven file.now.bytes file.now.t f.0 types.now alike.now paths.now cells.old roots.old path.old n }
+    requires e_in_bounds { e.0 < length (function_of file.now.bytes file.now.t f.0).expressions }
+    ensures { Acted (scope_at file.now.bytes file.now.t f.0) (emit e.0) cells.old roots.old n cells.new roots.new path.old path.new result }
 {
     let last = n - 1;
     let left = n + 1;
     let asked = n + 2;
     let hand = roots[last];
-    let a = emit_overlap(bytes, t, f, types, alike, paths, cells, path, hand, e);
+    let a = emit_overlap(file, f, types, alike, paths, cells, path, hand, e);
     if !is_some(a) {
         return true;
     }
     evaluated_path(path, e);
-    if !take_out(bytes, t, f, types, cells, roots, n, &path[0..2], a) {
+    if !take_out(file, f, types, cells, roots, n, &path[0..2], a) {
         return false;
     }
-    let size = (expressions(t, f) as usize) + 2;
+    let size = (file.expressions(f) as usize) + 2;
     let part = &mut path[..size];
-    if !ask_operands(
-        bytes, t, f, types, alike, paths, cells, roots, part, asked, e,
-    ) {
+    if !ask_operands(file, f, types, alike, paths, cells, roots, part, asked, e) {
         return false;
     }
     copy(roots, left, last);
@@ -62,8 +59,7 @@ pub fn act_emit(
 // Stays: a store does the same around its own act. One function over both would take the act apart twice, each time in one more function with all these parameters.
 // The expression e of the emit l, in a pass.
 fn pass_emit(
-    bytes: &[u8],
-    t: &[u32],
+    file: &File,
     f: FunctionHandle,
     types: &[u32],
     alike: &[u32],
@@ -77,26 +73,24 @@ fn pass_emit(
     marked: bool,
     e: ExpressionHandle,
 ) -> Passing
-    requires pass_given { PassGiven bytes.now t.now f.0 types.now alike.now paths.now cells.old roots.old path.old n p l }
-    requires e_in_bounds { e.0 < length (function_of bytes.now t.now f.0).expressions }
-    ensures { ByMark (scope_at bytes.now t.now f.0) l marked (emit e.0) cells.old roots.old n p cells.new roots.new path.old path.new result }
+    requires pass_given { PassGiven file.now.bytes file.now.t f.0 types.now alike.now paths.now cells.old roots.old path.old n p l }
+    requires e_in_bounds { e.0 < length (function_of file.now.bytes file.now.t f.0).expressions }
+    ensures { ByMark (scope_at file.now.bytes file.now.t f.0) l marked (emit e.0) cells.old roots.old n p cells.new roots.new path.old path.new result }
 {
     let last = n - 1;
     let above = n + 1;
     if marked {
-        if act_emit(bytes, t, f, types, alike, paths, cells, roots, path, n, e) {
+        if act_emit(file, f, types, alike, paths, cells, roots, path, n, e) {
             return p;
         }
         return filled();
     }
     let hand = roots[last];
-    if emit_idle(bytes, t, f, types, alike, paths, cells, path, hand, e) {
+    if emit_idle(file, f, types, alike, paths, cells, path, hand, e) {
         return p;
     }
     copy(roots, last, n);
-    if !act_emit(
-        bytes, t, f, types, alike, paths, cells, roots, path, above, e,
-    ) {
+    if !act_emit(file, f, types, alike, paths, cells, roots, path, above, e) {
         return filled();
     }
     copy(roots, n, last);
@@ -105,8 +99,7 @@ fn pass_emit(
 
 // The statement l, an emit of the expressions from the first to the last, whose marks begin at `begin`, in a pass.
 pub fn pass_emits(
-    bytes: &[u8],
-    t: &[u32],
+    file: &File,
     f: FunctionHandle,
     types: &[u32],
     alike: &[u32],
@@ -122,10 +115,10 @@ pub fn pass_emits(
     first: ExpressionHandle,
     last: ExpressionHandle,
 ) -> Passing
-    requires pass_given { PassGiven bytes.now t.now f.0 types.now alike.now paths.now cells.old roots.old path.old n p l }
-    requires begin_value { begin ≡ marks_before (function_of bytes.now t.now f.0).statements l }
-    requires last_in_bounds { last.0 < length (function_of bytes.now t.now f.0).expressions }
-    ensures { EmitsPassed (scope_at bytes.now t.now f.0) marks.now l first.0 last.0 cells.old roots.old n p cells.new roots.new path.old path.new result }
+    requires pass_given { PassGiven file.now.bytes file.now.t f.0 types.now alike.now paths.now cells.old roots.old path.old n p l }
+    requires begin_value { begin ≡ marks_before (function_of file.now.bytes file.now.t f.0).statements l }
+    requires last_in_bounds { last.0 < length (function_of file.now.bytes file.now.t f.0).expressions }
+    ensures { EmitsPassed (scope_at file.now.bytes file.now.t f.0) marks.now l first.0 last.0 cells.old roots.old n p cells.new roots.new path.old path.new result }
 {
     let mut q = p;
     let count = (last.0 + 1).saturating_sub(first.0);
@@ -134,7 +127,7 @@ pub fn pass_emits(
         let marked = mark_at(marks, (begin as usize) + (k as usize));
         let e = ExpressionHandle(first.0 + k);
         q = pass_emit(
-            bytes, t, f, types, alike, paths, cells, roots, path, n, at, l, marked, e,
+            file, f, types, alike, paths, cells, roots, path, n, at, l, marked, e,
         );
         if q.full {
             return q;

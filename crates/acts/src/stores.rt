@@ -11,6 +11,7 @@ ghost use Rattle.acts.specs.Acts.{ActGiven, StoreOf, leaving, Acted, PlaceGiven,
 ghost use Rattle.acts.specs.Marks.{PassGiven, ByMark};
 
 use crate::take::take_out;
+use access::file::File;
 use asking::ask::ask_value;
 use ends::notes::blame;
 use hold::hold::copy;
@@ -22,8 +23,7 @@ use standing::passing::{Passing, filled};
 
 // A store to a place of which the piece a is needed.
 fn store_at(
-    bytes: &[u8],
-    t: &[u32],
+    file: &File,
     f: FunctionHandle,
     types: &[u32],
     cells: &mut [u32],
@@ -33,16 +33,16 @@ fn store_at(
     a: u32,
     v: ExpressionHandle,
 ) -> bool
-    requires { PlaceGiven bytes.now t.now f.0 types.now cells.old roots.old n place.now a v.0 }
-    ensures { Stepped (scope_at bytes.now t.now f.0) (leaving (scope_at bytes.now t.now f.0) (without (scope_at bytes.now t.now f.0) place.now (in_slot cells.old roots.old (n - 1))) (of_value v.0 (below (in_slot cells.old roots.old (n - 1)) place.now) ∷ [])) cells.old roots.old n cells.new roots.new result }
+    requires { PlaceGiven file.now.bytes file.now.t f.0 types.now cells.old roots.old n place.now a v.0 }
+    ensures { Stepped (scope_at file.now.bytes file.now.t f.0) (leaving (scope_at file.now.bytes file.now.t f.0) (without (scope_at file.now.bytes file.now.t f.0) place.now (in_slot cells.old roots.old (n - 1))) (of_value v.0 (below (in_slot cells.old roots.old (n - 1)) place.now) ∷ [])) cells.old roots.old n cells.new roots.new result }
 {
     let last = n - 1;
     let left = n + 1;
-    if !take_out(bytes, t, f, types, cells, roots, n, place, a) {
+    if !take_out(file, f, types, cells, roots, n, place, a) {
         return false;
     }
     let part = roots[n];
-    if !ask_value(bytes, t, f, cells, roots, n + 2, v, part) {
+    if !ask_value(file, f, cells, roots, n + 2, v, part) {
         return false;
     }
     copy(roots, left, last);
@@ -51,8 +51,7 @@ fn store_at(
 
 // A store to the pointer p, which has a dynamic index.
 fn store_somewhere(
-    bytes: &[u8],
-    t: &[u32],
+    file: &File,
     f: FunctionHandle,
     cells: &mut [u32],
     roots: &mut [u32],
@@ -60,15 +59,15 @@ fn store_somewhere(
     p: ExpressionHandle,
     v: ExpressionHandle,
 ) -> bool
-    requires { SomewhereGiven bytes.now t.now f.0 cells.old roots.old n p.0 v.0 }
-    ensures { Stepped (scope_at bytes.now t.now f.0) (leaving (scope_at bytes.now t.now f.0) (in_slot cells.old roots.old (n - 1)) (ask_whole v.0 ∷ map ask_whole (indexes_of bytes.now t.now f.0 p.0))) cells.old roots.old n cells.new roots.new result }
+    requires { SomewhereGiven file.now.bytes file.now.t f.0 cells.old roots.old n p.0 v.0 }
+    ensures { Stepped (scope_at file.now.bytes file.now.t f.0) (leaving (scope_at file.now.bytes file.now.t f.0) (in_slot cells.old roots.old (n - 1)) (ask_whole v.0 ∷ map ask_whole (indexes_of file.now.bytes file.now.t f.0 p.0))) cells.old roots.old n cells.new roots.new result }
 {
     let last = n - 1;
     copy(roots, last, n);
-    if !ask_indexes(bytes, t, f, cells, roots, n + 1, p) {
+    if !ask_indexes(file, f, cells, roots, n + 1, p) {
         return false;
     }
-    if !ask_value(bytes, t, f, cells, roots, n + 1, v, 0) {
+    if !ask_value(file, f, cells, roots, n + 1, v, 0) {
         return false;
     }
     copy(roots, n, last);
@@ -77,8 +76,7 @@ fn store_somewhere(
 
 // The needs before a store of the value v to the pointer p. Says whether the needs are within the bound.
 pub fn act_store(
-    bytes: &[u8],
-    t: &[u32],
+    file: &File,
     f: FunctionHandle,
     types: &[u32],
     alike: &[u32],
@@ -90,27 +88,26 @@ pub fn act_store(
     p: ExpressionHandle,
     v: ExpressionHandle,
 ) -> bool
-    requires act_given { ActGiven bytes.now t.now f.0 types.now alike.now paths.now cells.old roots.old path.old n }
-    requires store_of { StoreOf (scope_at bytes.now t.now f.0) p.0 v.0 }
-    ensures { Acted (scope_at bytes.now t.now f.0) (store p.0 v.0) cells.old roots.old n cells.new roots.new path.old path.new result }
+    requires act_given { ActGiven file.now.bytes file.now.t f.0 types.now alike.now paths.now cells.old roots.old path.old n }
+    requires store_of { StoreOf (scope_at file.now.bytes file.now.t f.0) p.0 v.0 }
+    ensures { Acted (scope_at file.now.bytes file.now.t f.0) (store p.0 v.0) cells.old roots.old n cells.new roots.new path.old path.new result }
 {
     let hand = roots[n - 1];
-    let a = store_overlap(bytes, t, f, types, alike, paths, cells, path, hand, p);
+    let a = store_overlap(file, f, types, alike, paths, cells, path, hand, p);
     if !is_some(a) {
         return true;
     }
-    let target = find_target(bytes, t, f, path, p);
+    let target = find_target(file, f, path, p);
     if target.dynamic {
-        return store_somewhere(bytes, t, f, cells, roots, n, p, v);
+        return store_somewhere(file, f, cells, roots, n, p, v);
     }
     let place = &path[target.from..target.to];
-    store_at(bytes, t, f, types, cells, roots, n, place, a, v)
+    store_at(file, f, types, cells, roots, n, place, a, v)
 }
 
 // The statement l, a store of the value v to the pointer a, in a pass.
 pub fn pass_store(
-    bytes: &[u8],
-    t: &[u32],
+    file: &File,
     f: FunctionHandle,
     types: &[u32],
     alike: &[u32],
@@ -125,27 +122,25 @@ pub fn pass_store(
     a: ExpressionHandle,
     v: ExpressionHandle,
 ) -> Passing
-    requires pass_given { PassGiven bytes.now t.now f.0 types.now alike.now paths.now cells.old roots.old path.old n p l }
-    requires store_of { StoreOf (scope_at bytes.now t.now f.0) a.0 v.0 }
-    ensures { ByMark (scope_at bytes.now t.now f.0) l marked (store a.0 v.0) cells.old roots.old n p cells.new roots.new path.old path.new result }
+    requires pass_given { PassGiven file.now.bytes file.now.t f.0 types.now alike.now paths.now cells.old roots.old path.old n p l }
+    requires store_of { StoreOf (scope_at file.now.bytes file.now.t f.0) a.0 v.0 }
+    ensures { ByMark (scope_at file.now.bytes file.now.t f.0) l marked (store a.0 v.0) cells.old roots.old n p cells.new roots.new path.old path.new result }
 {
     let last = n - 1;
     let above = n + 1;
     if marked {
-        if act_store(
-            bytes, t, f, types, alike, paths, cells, roots, path, n, a, v,
-        ) {
+        if act_store(file, f, types, alike, paths, cells, roots, path, n, a, v) {
             return p;
         }
         return filled();
     }
     let hand = roots[last];
-    if store_idle(bytes, t, f, types, alike, paths, cells, path, hand, a) {
+    if store_idle(file, f, types, alike, paths, cells, path, hand, a) {
         return p;
     }
     copy(roots, last, n);
     if !act_store(
-        bytes, t, f, types, alike, paths, cells, roots, path, above, a, v,
+        file, f, types, alike, paths, cells, roots, path, above, a, v,
     ) {
         return filled();
     }

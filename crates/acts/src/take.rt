@@ -2,14 +2,14 @@
 ghost use Rattle.judge.specs.Given.{scope_at};
 ghost use Rattle.acts.specs.Acts.{TakeGiven, TakenOut};
 
+use access::file::File;
 use forms::place::take_place;
 use hold::hold::push;
 use module::handles::FunctionHandle;
 
 // The slot n has the piece a, and the next one the needs at hand without the place. Says whether the needs are within the bound.
 pub fn take_out(
-    bytes: &[u8],
-    t: &[u32],
+    file: &File,
     f: FunctionHandle,
     types: &[u32],
     cells: &mut [u32],
@@ -18,11 +18,11 @@ pub fn take_out(
     place: &[u32],
     a: u32,
 ) -> bool
-    requires { TakeGiven bytes.now t.now f.0 types.now cells.old roots.old n place.now a }
-    ensures { TakenOut (scope_at bytes.now t.now f.0) place.now cells.old roots.old n cells.new roots.new result }
+    requires { TakeGiven file.now.bytes file.now.t f.0 types.now cells.old roots.old n place.now a }
+    ensures { TakenOut (scope_at file.now.bytes file.now.t f.0) place.now cells.old roots.old n cells.new roots.new result }
 {
     let hand = roots[n - 1];
     roots[n] = a;
-    let left = take_place(cells, bytes, t, f, types, hand, place);
+    let left = take_place(cells, file, f, types, hand, place);
     push(cells, roots, n + 1, left)
 }

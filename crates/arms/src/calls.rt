@@ -6,7 +6,8 @@ ghost use Rattle.memory.specs.Layout.{result as result_slot};
 ghost use Rattle.statement.specs.Aside.{aside_slots};
 ghost use Rattle.arms.specs.Calls.{found_part, was_found, Asking, CallBegins, CallBegan, LeavesCall, LeftCall, Returns, Returned, call_marks};
 
-use access::kinded::{Kinded, function_operand, operand, optional_expression};
+use access::file::File;
+use access::kinded::Kinded;
 use block::call::enter;
 use call::ends::end_call;
 use leave::leave::{leave, own_pieces};
@@ -41,8 +42,7 @@ fn asked_of(cells: &mut [u32], found: Option<u32>) -> u32
 
 // The called function's base is put above the current context.
 pub fn begin_call(
-    bytes: &[u8],
-    t: &[u32],
+    file: &File,
     places: &[u32],
     cells: &mut [u32],
     slots: &mut [u32],
@@ -51,17 +51,17 @@ pub fn begin_call(
     row: Kinded,
     sum: usize,
 ) -> Begun
-    requires { CallBegins bytes.now t.now places.now cells.old slots.old «open».old fr row sum }
-    ensures { CallBegan bytes.now t.now places.now cells.old slots.old «open».old fr row result.held result.own cells.new slots.new «open».new }
+    requires { CallBegins file.now.bytes file.now.t places.now cells.old slots.old «open».old fr row sum }
+    ensures { CallBegan file.now.bytes file.now.t places.now cells.old slots.old «open».old fr row result.held result.own cells.new slots.new «open».new }
 {
     let f = fr.function;
     let at = fr.at;
-    let g = function_operand(bytes, row, 0);
-    let n = operand(bytes, row, 1);
-    let result = optional_expression(bytes, row, 2 + n);
-    let own = own_pieces(t, cells, slots, f);
+    let g = file.function_operand(row, 0);
+    let n = file.operand(row, 1);
+    let result = file.optional_expression(row, 2 + n);
+    let own = own_pieces(file, cells, slots, f);
     let held = fr.held + weigh(cells, slots, at, 4) + own;
-    let found = record_of(bytes, t, cells, slots, fr, result);
+    let found = record_of(file, cells, slots, fr, result);
     let retval = asked_of(cells, found);
     enter(slots, open, places, g, at, retval);
     tidy(cells, slots);
@@ -70,18 +70,18 @@ pub fn begin_call(
 
 // The called function g ends. Gives what records and totals count for without its records.
 pub fn leave_call(
-    t: &[u32],
+    file: &File,
     cells: &[u32],
     slots: &mut [u32],
     g: FunctionHandle,
     at: usize,
     sum: usize,
 ) -> usize
-    requires { LeavesCall t.now cells.now slots.old g.0 at sum }
-    ensures { LeftCall t.now cells.now slots.old g.0 at sum result slots.new }
+    requires { LeavesCall file.now.t cells.now slots.old g.0 at sum }
+    ensures { LeftCall file.now.t cells.now slots.old g.0 at sum result slots.new }
 {
-    let less = own_pieces(t, cells, slots, g);
-    leave(t, slots, g, at + 4, at + 8);
+    let less = own_pieces(file, cells, slots, g);
+    leave(file, slots, g, at + 4, at + 8);
     sum - less
 }
 
@@ -111,8 +111,7 @@ fn mark_call(open: &mut [u8], at: usize, res: bool, r: Answered) -> Answered
 
 // The call ends, once its function was walked: whether that is required.
 pub fn return_call(
-    bytes: &[u8],
-    t: &[u32],
+    file: &File,
     places: &[u32],
     cells: &mut [u32],
     slots: &mut [u32],
@@ -122,11 +121,11 @@ pub fn return_call(
     required: bool,
     tally: Tally,
 ) -> Answered
-    requires { Returns bytes.now t.now places.now cells.old slots.old «open».old fr row tally.visits tally.sum }
-    ensures { Returned bytes.now t.now places.now cells.old slots.old «open».old fr row required tally.visits tally.sum result cells.new slots.new «open».new }
+    requires { Returns file.now.bytes file.now.t places.now cells.old slots.old «open».old fr row tally.visits tally.sum }
+    ensures { Returned file.now.bytes file.now.t places.now cells.old slots.old «open».old fr row required tally.visits tally.sum result cells.new slots.new «open».new }
 {
     let f = fr.function;
-    let at = place(t, places, f, fr.statement);
+    let at = place(file, places, f, fr.statement);
     if !required {
         set_call(open, at, false, false);
         return Ok(Answer {
@@ -134,10 +133,10 @@ pub fn return_call(
             required: false,
         });
     }
-    let n = operand(bytes, row, 1);
-    let result = optional_expression(bytes, row, 2 + n);
-    let found = record_of(bytes, t, cells, slots, fr, result);
+    let n = file.operand(row, 1);
+    let result = file.optional_expression(row, 2 + n);
+    let found = record_of(file, cells, slots, fr, result);
     let there = hold_result(slots, found);
-    let r = end_call(bytes, t, cells, slots, fr, row, there, tally);
+    let r = end_call(file, cells, slots, fr, row, there, tally);
     mark_call(open, at, there, r)
 }

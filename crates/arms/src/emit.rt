@@ -1,7 +1,8 @@
 // The statement Emit.
 ghost use Rattle.arms.specs.Emit.{EmitAsked, EmitEnds};
 
-use access::kinded::{Kinded, expression_number, expression_operand};
+use access::file::File;
+use access::kinded::Kinded;
 use marks::places::place;
 use marks::set::set_emit;
 use memory::layout::EXPRS;
@@ -10,8 +11,7 @@ use state::frame::Frame;
 
 // `Emit`, with its marks: which of its expressions have a record. It is required if any has.
 pub fn add_emit(
-    bytes: &[u8],
-    t: &[u32],
+    file: &File,
     places: &[u32],
     cells: &[u32],
     slots: &[u32],
@@ -20,15 +20,15 @@ pub fn add_emit(
     row: Kinded,
     tally: Tally,
 ) -> Answered
-    requires { EmitAsked bytes.now t.now places.now cells.now slots.now «open».old fr row tally.sum }
-    ensures { EmitEnds bytes.now t.now places.now cells.now slots.now «open».old fr row tally.sum tally.visits result «open».new }
+    requires { EmitAsked file.now.bytes file.now.t places.now cells.now slots.now «open».old fr row tally.sum }
+    ensures { EmitEnds file.now.bytes file.now.t places.now cells.now slots.now «open».old fr row tally.sum tally.visits result «open».new }
 {
     let f = fr.function;
-    let first = expression_operand(bytes, row, 0);
-    let last = expression_operand(bytes, row, 1);
+    let first = file.expression_operand(row, 0);
+    let last = file.expression_operand(row, 1);
     let n = (last.0 as usize) + 1 - (first.0 as usize);
-    let from = EXPRS + expression_number(t, f, first);
-    let at = place(t, places, f, fr.statement);
+    let from = EXPRS + file.expression_number(f, first);
+    let at = place(file, places, f, fr.statement);
     let any = set_emit(open, at, slots, from, n);
     Ok(Answer {
         tally,

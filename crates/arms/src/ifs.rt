@@ -4,6 +4,7 @@ ghost use Rattle.module.specs.Tables.{module_of};
 ghost use Rattle.walk.specs.Resolve.{function_at};
 ghost use Rattle.arms.specs.Ifs.{IfAsked, IfEnds};
 
+use access::file::File;
 use block::branches::{drop_both, join_up};
 use expression::add::add_expression;
 use field::refusal::Refusal;
@@ -16,8 +17,7 @@ use statement::ask::answer;
 
 // Where either block is required, their contexts are joined in the place of the current one, and the condition is asked; else they are forgotten.
 pub fn end_if(
-    bytes: &[u8],
-    t: &[u32],
+    file: &File,
     cells: &mut [u32],
     slots: &mut [u32],
     fr: Frame,
@@ -25,9 +25,9 @@ pub fn end_if(
     required: bool,
     tally: Tally,
 ) -> Answered
-    requires if_asked { IfAsked bytes.now t.now cells.old slots.old fr tally.sum tally.visits }
-    requires condition_in_bounds { condition.0 < length (function_at (module_of bytes.now t.now) fr.function.0).expressions }
-    ensures { IfEnds bytes.now t.now cells.old slots.old fr condition.0 required tally.sum tally.visits result cells.new slots.new }
+    requires if_asked { IfAsked file.now.bytes file.now.t cells.old slots.old fr tally.sum tally.visits }
+    requires condition_in_bounds { condition.0 < length (function_at (module_of file.now.bytes file.now.t) fr.function.0).expressions }
+    ensures { IfEnds file.now.bytes file.now.t cells.old slots.old fr condition.0 required tally.sum tally.visits result cells.new slots.new }
 {
     let f = fr.function;
     let at = fr.at;
@@ -42,6 +42,6 @@ pub fn end_if(
         return Err(fr.halt(Refusal::PartLimit));
     }
     let w = want_of(ALL);
-    let r = add_expression(bytes, t, cells, slots, f, at, fr.held, condition, w, tally);
+    let r = add_expression(file, cells, slots, f, at, fr.held, condition, w, tally);
     answer(r, true)
 }

@@ -2,6 +2,7 @@
 ghost use Rattle.access.specs.Access.{handle_in};
 ghost use Rattle.arms.specs.Loops.{Passing, BreakEnds, PassEnds, TurnWalked, TurnEnds};
 
+use access::file::File;
 use block::stack::{drop, join, lower, settled};
 use expression::add::add_expression;
 use field::refusal::Refusal;
@@ -22,16 +23,15 @@ pub enum Turn {
 
 // `break_if`, where there is one, is asked in the statement's context while those of both blocks are held.
 fn ask_break_if(
-    bytes: &[u8],
-    t: &[u32],
+    file: &File,
     cells: &mut [u32],
     slots: &mut [u32],
     fr: Frame,
     break_if: Option<ExpressionHandle>,
     tally: Tally,
 ) -> Walked
-    requires { Passing bytes.now t.now cells.old slots.old fr (handle_in break_if) tally.sum tally.visits }
-    ensures { BreakEnds bytes.now t.now cells.old slots.old fr (handle_in break_if) tally.sum tally.visits result cells.new slots.new }
+    requires { Passing file.now.bytes file.now.t cells.old slots.old fr (handle_in break_if) tally.sum tally.visits }
+    ensures { BreakEnds file.now.bytes file.now.t cells.old slots.old fr (handle_in break_if) tally.sum tally.visits result cells.new slots.new }
 {
     let Some(e) = break_if else {
         return Ok(tally);
@@ -43,24 +43,23 @@ fn ask_break_if(
     let second = weigh(cells, slots, k + 4, 4);
     let held = fr.held + (first + second);
     let w = want_of(ALL);
-    add_expression(bytes, t, cells, slots, f, at, held, e, w, tally)
+    add_expression(file, cells, slots, f, at, held, e, w, tally)
 }
 
 // A first pass that is required ends: `break_if`, and the join of both blocks' contexts, which is the working context then.
 pub fn end_pass(
-    bytes: &[u8],
-    t: &[u32],
+    file: &File,
     cells: &mut [u32],
     slots: &mut [u32],
     fr: Frame,
     break_if: Option<ExpressionHandle>,
     tally: Tally,
 ) -> Walked
-    requires { Passing bytes.now t.now cells.old slots.old fr (handle_in break_if) tally.sum tally.visits }
-    ensures { PassEnds bytes.now t.now cells.old slots.old fr (handle_in break_if) tally.sum tally.visits result cells.new slots.new }
+    requires { Passing file.now.bytes file.now.t cells.old slots.old fr (handle_in break_if) tally.sum tally.visits }
+    ensures { PassEnds file.now.bytes file.now.t cells.old slots.old fr (handle_in break_if) tally.sum tally.visits result cells.new slots.new }
 {
     let at = fr.at;
-    let tally = ask_break_if(bytes, t, cells, slots, fr, break_if, tally)?;
+    let tally = ask_break_if(file, cells, slots, fr, break_if, tally)?;
     if join(cells, slots, at + 4) {
         return Err(fr.halt(Refusal::PartLimit));
     }

@@ -3,7 +3,8 @@ ghost use Rattle.std.specs.Prelude.{◌≡◌, ◌+◌, ◌*◌};
 ghost use Rattle.access.specs.Access.{operand_at};
 ghost use Rattle.arms.specs.Switches.{Casing, CaseEnds, EndingSwitch, SwitchEnds};
 
-use access::kinded::{Kinded, block_operand};
+use access::file::File;
+use access::kinded::Kinded;
 use block::aside::{put_aside, take_back};
 use block::stack::{drop, join};
 use expression::add::add_expression;
@@ -15,10 +16,10 @@ use state::answer::{Answer, Answered, Tally};
 use state::frame::Frame;
 
 // The block of the case k.
-pub fn case_body(bytes: &[u8], row: Kinded, k: u16) -> BlockHandle
-    ensures { result.0 ≡ operand_at bytes.now row (3 + 2 * k) }
+pub fn case_body(file: &File, row: Kinded, k: u16) -> BlockHandle
+    ensures { result.0 ≡ operand_at file.now.bytes row (3 + 2 * k) }
 {
-    block_operand(bytes, row, 3 + 2 * (k as u32))
+    file.block_operand(row, 3 + 2 * (k as u32))
 }
 
 // A case was walked: its context, behind the one at k, is joined to that. Whether that passes a limit.
@@ -35,8 +36,7 @@ pub fn end_case(cells: &mut [u32], slots: &mut [u32], k: usize) -> bool
 
 // All cases were walked, and are joined behind the statement's context. What the selector needs is not kept.
 pub fn end_switch(
-    bytes: &[u8],
-    t: &[u32],
+    file: &File,
     cells: &mut [u32],
     slots: &mut [u32],
     fr: Frame,
@@ -44,8 +44,8 @@ pub fn end_switch(
     required: bool,
     tally: Tally,
 ) -> Answered
-    requires { EndingSwitch bytes.now t.now cells.old slots.old fr selector.0 tally.sum tally.visits }
-    ensures { SwitchEnds bytes.now t.now cells.old slots.old fr selector.0 required tally.sum tally.visits result cells.new slots.new }
+    requires { EndingSwitch file.now.bytes file.now.t cells.old slots.old fr selector.0 tally.sum tally.visits }
+    ensures { SwitchEnds file.now.bytes file.now.t cells.old slots.old fr selector.0 required tally.sum tally.visits result cells.new slots.new }
 {
     let at = fr.at;
     if !required {
@@ -59,7 +59,7 @@ pub fn end_switch(
     drop(slots, at);
     let f = fr.function;
     let w = want_of(ALL);
-    let tally = add_expression(bytes, t, cells, slots, f, at, fr.held, selector, w, tally)?;
+    let tally = add_expression(file, cells, slots, f, at, fr.held, selector, w, tally)?;
     take_back(cells, slots, at);
     Ok(Answer {
         tally,

@@ -5,6 +5,7 @@ ghost use Rattle.walk.specs.StatementReq as req;
 ghost use Rattle.statement.specs.Leaf.{leaf_req};
 ghost use Rattle.arms.specs.Visit.{mark_when, MarkAsked, MarkEnds, LastAsked, LastEnds};
 
+use access::file::File;
 use access::kinded::Kinded;
 use expression::visit::allowed;
 use field::refusal::Refusal;
@@ -53,20 +54,20 @@ fn required(kind: u16, b: bool) -> bool
 
 // An arm's answer, once its mark is written: whether the statement is required.
 pub fn mark_statement(
-    t: &[u32],
+    file: &File,
     places: &[u32],
     open: &mut [u8],
     fr: Frame,
     row: Kinded,
     r: Answered,
 ) -> Answered
-    requires { MarkAsked t.now places.now «open».old fr row r }
-    ensures { MarkEnds t.now places.now «open».old fr row r result «open».new }
+    requires { MarkAsked file.now.t places.now «open».old fr row r }
+    ensures { MarkEnds file.now.t places.now «open».old fr row r result «open».new }
 {
     let a = r?;
     let kind = row.kind;
     if has_mark(kind) {
-        let at = place(t, places, fr.function, fr.statement);
+        let at = place(file, places, fr.function, fr.statement);
         set_mark(open, at, a.required);
     }
     Ok(Answer {

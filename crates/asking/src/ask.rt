@@ -11,6 +11,7 @@ ghost use Rattle.judge.specs.Given.{scope_at};
 ghost use Rattle.standing.specs.Standing.{Stepped, Valued};
 ghost use Rattle.asking.specs.Asks.{Asks, AskGiven, step_of, AsksAt, ValueGiven, StepGiven};
 
+use access::file::File;
 use hold::hold::{copy, push, push_sum};
 use module::handles::{ExpressionHandle, FunctionHandle};
 use needs::path::under;
@@ -56,8 +57,7 @@ pub fn ask_place(cells: &mut [u32], roots: &mut [u32], n: usize, path: &[u32], a
 
 // The part a of the value v is asked where the value stands; of a fixed value nothing is.
 pub fn ask_value(
-    bytes: &[u8],
-    t: &[u32],
+    file: &File,
     f: FunctionHandle,
     cells: &mut [u32],
     roots: &mut [u32],
@@ -65,10 +65,10 @@ pub fn ask_value(
     v: ExpressionHandle,
     a: u32,
 ) -> bool
-    requires { ValueGiven (scope_at bytes.now t.now f.0) cells.old roots.old n v.0 a }
-    ensures { Asks (scope_at bytes.now t.now f.0) (step_of (scope_at bytes.now t.now f.0) (of_value v.0 (part cells.old a))) cells.old roots.old n cells.new roots.new result }
+    requires { ValueGiven (scope_at file.now.bytes file.now.t f.0) cells.old roots.old n v.0 a }
+    ensures { Asks (scope_at file.now.bytes file.now.t f.0) (step_of (scope_at file.now.bytes file.now.t f.0) (of_value v.0 (part cells.old a))) cells.old roots.old n cells.new roots.new result }
 {
-    let source = source_of(bytes, t, f, v);
+    let source = source_of(file, f, v);
     let mut path: [u32; 2] = [0; 2];
     match source {
         Source::Given => true,
@@ -85,34 +85,32 @@ pub fn ask_value(
 
 // All of the value v is asked.
 pub fn ask_whole(
-    bytes: &[u8],
-    t: &[u32],
+    file: &File,
     f: FunctionHandle,
     cells: &mut [u32],
     roots: &mut [u32],
     n: usize,
     v: ExpressionHandle,
 ) -> bool
-    requires { StepGiven (scope_at bytes.now t.now f.0) cells.old roots.old n v.0 }
-    ensures { Stepped (scope_at bytes.now t.now f.0) (step_of (scope_at bytes.now t.now f.0) (ask_whole v.0)) cells.old roots.old n cells.new roots.new result }
+    requires { StepGiven (scope_at file.now.bytes file.now.t f.0) cells.old roots.old n v.0 }
+    ensures { Stepped (scope_at file.now.bytes file.now.t f.0) (step_of (scope_at file.now.bytes file.now.t f.0) (ask_whole v.0)) cells.old roots.old n cells.new roots.new result }
 {
-    ask_value(bytes, t, f, cells, roots, n, v, 0)
+    ask_value(file, f, cells, roots, n, v, 0)
 }
 
 // Of the value v, which is returned, the part is asked that is asked of the function's value.
 pub fn ask_returned(
-    bytes: &[u8],
-    t: &[u32],
+    file: &File,
     f: FunctionHandle,
     cells: &mut [u32],
     roots: &mut [u32],
     n: usize,
     v: ExpressionHandle,
 ) -> bool
-    requires step_given { StepGiven (scope_at bytes.now t.now f.0) cells.old roots.old n v.0 }
-    requires v_value { fits_statement (scope_at bytes.now t.now f.0) (Return (some v.0)) ≡ true }
-    ensures { Valued (scope_at bytes.now t.now f.0) v.0 cells.old roots.old n cells.new roots.new result }
+    requires step_given { StepGiven (scope_at file.now.bytes file.now.t f.0) cells.old roots.old n v.0 }
+    requires v_value { fits_statement (scope_at file.now.bytes file.now.t f.0) (Return (some v.0)) ≡ true }
+    ensures { Valued (scope_at file.now.bytes file.now.t f.0) v.0 cells.old roots.old n cells.new roots.new result }
 {
     let a = roots[ASKED];
-    ask_value(bytes, t, f, cells, roots, n, v, a)
+    ask_value(file, f, cells, roots, n, v, a)
 }

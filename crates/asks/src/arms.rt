@@ -11,14 +11,15 @@ ghost use Rattle.memory.specs.Want.{asked, Wants};
 ghost use Rattle.asks.specs.Asks.{Told, Lettered};
 
 use crate::what::Ask;
-use access::kinded::{Kinded, expression_operand, operand};
+use access::file::File;
+use access::kinded::Kinded;
 use field::refusal::Refusal;
 use memory::layout::ALL;
 use memory::want::{Want, child, entry, is_all, is_exist, swizzle, want_of, wrap_over};
 use module::handles::ExpressionHandle;
 
 pub fn access_index(
-    bytes: &[u8],
+    file: &File,
     cells: &[u32],
     slots: &[u32],
     row: Kinded,
@@ -26,16 +27,16 @@ pub fn access_index(
     j: u32,
 ) -> Option<Ask>
     requires { Memory cells.now slots.now × Wants cells.now slots.now w }
-    ensures { Told cells.now slots.now w (formed (operand_at bytes.now row 0) (more (operand_at bytes.now row 1) (asked cells.now slots.now w) none)) j result }
+    ensures { Told cells.now slots.now w (formed (operand_at file.now.bytes row 0) (more (operand_at file.now.bytes row 1) (asked cells.now slots.now w) none)) j result }
 {
     if 0 < j {
         return None;
     }
-    let i = operand(bytes, row, 1) as u32;
+    let i = file.operand(row, 1) as u32;
     if wrap_over(cells, slots, w, i) {
         return Some(Ask::Refuse(Refusal::PartLimit));
     }
-    let base = expression_operand(bytes, row, 0);
+    let base = file.expression_operand(row, 0);
     let want = w.wrap(i);
     Some(Ask::Operand(base, want))
 }
@@ -58,29 +59,29 @@ pub fn constant(cells: &[u32], slots: &[u32], w: Want, j: u32) -> Option<Ask>
 }
 
 // The letter i of a swizzle, 0 where its pattern has none.
-fn letter(bytes: &[u8], row: Kinded, i: u16) -> u32
+fn letter(file: &File, row: Kinded, i: u16) -> u32
     requires { i < 4 }
-    ensures { result ≡ get_or (tab (operand_at bytes.now row 1) (λ k. operand_at bytes.now row (2 + k))) i 0 }
+    ensures { result ≡ get_or (tab (operand_at file.now.bytes row 1) (λ k. operand_at file.now.bytes row (2 + k))) i 0 }
 {
-    if i < operand(bytes, row, 1) {
-        return operand(bytes, row, 2 + i) as u32;
+    if i < file.operand(row, 1) {
+        return file.operand(row, 2 + i) as u32;
     }
     0
 }
 
 // Its four letters.
-fn letters(bytes: &[u8], row: Kinded) -> [u32; 4]
-    ensures { Lettered (tab (operand_at bytes.now row 1) (λ k. operand_at bytes.now row (2 + k))) result }
+fn letters(file: &File, row: Kinded) -> [u32; 4]
+    ensures { Lettered (tab (operand_at file.now.bytes row 1) (λ k. operand_at file.now.bytes row (2 + k))) result }
 {
-    let a = letter(bytes, row, 0);
-    let b = letter(bytes, row, 1);
-    let c = letter(bytes, row, 2);
-    let d = letter(bytes, row, 3);
+    let a = letter(file, row, 0);
+    let b = letter(file, row, 1);
+    let c = letter(file, row, 2);
+    let d = letter(file, row, 3);
     [a, b, c, d]
 }
 
 pub fn swizzle_ask(
-    bytes: &[u8],
+    file: &File,
     cells: &[u32],
     slots: &[u32],
     row: Kinded,
@@ -88,34 +89,34 @@ pub fn swizzle_ask(
     j: u32,
 ) -> Option<Ask>
     requires memory { Memory cells.now slots.now × Wants cells.now slots.now w }
-    requires each_below { EachBelow 4 (tab (operand_at bytes.now row 1) (λ k. operand_at bytes.now row (2 + k))) }
-    ensures { Told cells.now slots.now w (swizzle_asks (operand_at bytes.now row 0) (swizzled (tab (operand_at bytes.now row 1) (λ k. operand_at bytes.now row (2 + k))) (asked cells.now slots.now w))) j result }
+    requires each_below { EachBelow 4 (tab (operand_at file.now.bytes row 1) (λ k. operand_at file.now.bytes row (2 + k))) }
+    ensures { Told cells.now slots.now w (swizzle_asks (operand_at file.now.bytes row 0) (swizzled (tab (operand_at file.now.bytes row 1) (λ k. operand_at file.now.bytes row (2 + k))) (asked cells.now slots.now w))) j result }
 {
     if 0 < j {
         return None;
     }
-    let pattern = letters(bytes, row);
+    let pattern = letters(file, row);
     let Some(slot) = swizzle(cells, slots, w, pattern) else {
         return Some(Ask::Refuse(Refusal::Panic));
     };
-    let vector = expression_operand(bytes, row, 0);
+    let vector = file.expression_operand(row, 0);
     let want = want_of(slot);
     Some(Ask::Operand(vector, want))
 }
 
 // The component i of a construction.
-fn component(bytes: &[u8], row: Kinded, i: u32) -> ExpressionHandle
-    requires i_bound { i < operand_at bytes.now row 0 }
-    requires row_bound { operand_at bytes.now row 0 < 65536 }
-    ensures { result.0 ≡ operand_at bytes.now row (1 + i) }
+fn component(file: &File, row: Kinded, i: u32) -> ExpressionHandle
+    requires i_bound { i < operand_at file.now.bytes row 0 }
+    requires row_bound { operand_at file.now.bytes row 0 < 65536 }
+    ensures { result.0 ≡ operand_at file.now.bytes row (1 + i) }
 {
     let k = 1 + (i as u16);
-    expression_operand(bytes, row, k)
+    file.expression_operand(row, k)
 }
 
 // All of each component; or what each entry has, of the component with its index.
 pub fn compose(
-    bytes: &[u8],
+    file: &File,
     cells: &[u32],
     slots: &[u32],
     row: Kinded,
@@ -123,14 +124,14 @@ pub fn compose(
     j: u32,
 ) -> Option<Ask>
     requires { Memory cells.now slots.now × Wants cells.now slots.now w }
-    ensures { Told cells.now slots.now w (compose_asks (tab (operand_at bytes.now row 0) (λ k. operand_at bytes.now row (1 + k))) (asked cells.now slots.now w)) j result }
+    ensures { Told cells.now slots.now w (compose_asks (tab (operand_at file.now.bytes row 0) (λ k. operand_at file.now.bytes row (1 + k))) (asked cells.now slots.now w)) j result }
 {
-    let n = operand(bytes, row, 0) as u32;
+    let n = file.operand(row, 0) as u32;
     if is_all(cells, slots, w) {
         if n <= j {
             return None;
         }
-        let x = component(bytes, row, j);
+        let x = component(file, row, j);
         let all = want_of(ALL);
         return Some(Ask::Operand(x, all));
     }
@@ -138,7 +139,7 @@ pub fn compose(
     if n <= i {
         return Some(Ask::Refuse(Refusal::Panic));
     }
-    let x = component(bytes, row, i);
+    let x = component(file, row, i);
     let u = child(cells, slots, w, j);
     Some(Ask::Operand(x, u))
 }

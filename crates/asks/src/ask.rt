@@ -7,7 +7,7 @@ ghost use Rattle.asks.specs.Asks.{Only, There, Asks};
 use crate::arms::{access_index, compose, constant, swizzle_ask};
 use crate::fields::field_ask;
 use crate::what::Ask;
-use access::kinded::{expression, global_operand, local_operand, operand};
+use access::file::File;
 use field::refusal::Refusal;
 use memory::want::Want;
 use module::handles::{ExpressionHandle, FunctionHandle};
@@ -27,8 +27,7 @@ fn only(what: Ask, j: u32) -> Option<Ask>
 // what this works with on every level.
 #[inline(never)]
 pub fn ask(
-    bytes: &[u8],
-    t: &[u32],
+    file: &File,
     cells: &[u32],
     slots: &[u32],
     f: FunctionHandle,
@@ -36,22 +35,22 @@ pub fn ask(
     w: Want,
     j: u32,
 ) -> Option<Ask>
-    requires there { There bytes.now t.now f.0 e.0 }
+    requires there { There file.now.bytes file.now.t f.0 e.0 }
     requires memory { Memory cells.now slots.now × Wants cells.now slots.now w }
-    ensures { Asks (module_of bytes.now t.now) f.0 e.0 cells.now slots.now w j result }
+    ensures { Asks (module_of file.now.bytes file.now.t) f.0 e.0 cells.now slots.now w j result }
 {
-    let row = expression(bytes, t, f, e);
+    let row = file.expression(f, e);
     match ExpressionKind::try_from(row.kind) {
-        Ok(ExpressionKind::AccessIndex) => access_index(bytes, cells, slots, row, w, j),
+        Ok(ExpressionKind::AccessIndex) => access_index(file, cells, slots, row, w, j),
         Ok(ExpressionKind::Constant) => constant(cells, slots, w, j),
-        Ok(ExpressionKind::Swizzle) => swizzle_ask(bytes, cells, slots, row, w, j),
-        Ok(ExpressionKind::Compose) => compose(bytes, cells, slots, row, w, j),
+        Ok(ExpressionKind::Swizzle) => swizzle_ask(file, cells, slots, row, w, j),
+        Ok(ExpressionKind::Compose) => compose(file, cells, slots, row, w, j),
         Ok(ExpressionKind::FunctionArgument) => {
-            only(Ask::Argument(operand(bytes, row, 0) as u32), j)
+            only(Ask::Argument(file.operand(row, 0) as u32), j)
         }
-        Ok(ExpressionKind::GlobalVariable) => only(Ask::Global(global_operand(bytes, row, 0)), j),
-        Ok(ExpressionKind::LocalVariable) => only(Ask::Local(local_operand(bytes, row, 0)), j),
+        Ok(ExpressionKind::GlobalVariable) => only(Ask::Global(file.global_operand(row, 0)), j),
+        Ok(ExpressionKind::LocalVariable) => only(Ask::Local(file.local_operand(row, 0)), j),
         Ok(ExpressionKind::RayQueryVertexPositions) => only(Ask::Refuse(Refusal::Panic), j),
-        _ => field_ask(bytes, cells, slots, row, w, j),
+        _ => field_ask(file, cells, slots, row, w, j),
     }
 }

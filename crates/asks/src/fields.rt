@@ -7,7 +7,8 @@ ghost use Rattle.asks.specs.Asks.{Told};
 ghost use Rattle.asks.specs.Ways.{chosen, part_by, field_asks, fields, ways_of, way_number, WaysOf, By};
 
 use crate::what::Ask;
-use access::kinded::{Kinded, expression_operand, operand, optional_expression};
+use access::file::File;
+use access::kinded::Kinded;
 use memory::layout::{ALL, EXIST};
 use memory::want::{Want, want_of};
 use module::handles::ExpressionHandle;
@@ -59,8 +60,8 @@ fn sample_ways(code: u16) -> &'static [Way]
 }
 
 // The ways of the fields of an expression, none where the arm is of another sort.
-fn ways(bytes: &[u8], row: Kinded) -> &'static [Way]
-    ensures { WaysOf row.kind (operand_at bytes.now row 4) result.now }
+fn ways(file: &File, row: Kinded) -> &'static [Way]
+    ensures { WaysOf row.kind (operand_at file.now.bytes row 4) result.now }
 {
     match ExpressionKind::try_from(row.kind) {
         Ok(ExpressionKind::Access) => &[Way::All, Way::All],
@@ -71,7 +72,7 @@ fn ways(bytes: &[u8], row: Kinded) -> &'static [Way]
             | ExpressionKind::RayQueryGetIntersection,
         ) => &[Way::All],
         Ok(ExpressionKind::Load | ExpressionKind::Unary | ExpressionKind::As) => &[Way::Part],
-        Ok(ExpressionKind::ImageSample) => sample_ways(operand(bytes, row, 4)),
+        Ok(ExpressionKind::ImageSample) => sample_ways(file.operand(row, 4)),
         Ok(ExpressionKind::ImageLoad) => {
             &[Way::All, Way::All, Way::Maybe, Way::Maybe, Way::Maybe]
         }
@@ -85,13 +86,13 @@ fn ways(bytes: &[u8], row: Kinded) -> &'static [Way]
 }
 
 // The operand of the field k, where it is asked in this way.
-fn chosen(bytes: &[u8], row: Kinded, k: u16, way: Way) -> Option<ExpressionHandle>
-    ensures { handle_in result ≡ chosen (way_number way) (operand_at bytes.now row k) }
+fn chosen(file: &File, row: Kinded, k: u16, way: Way) -> Option<ExpressionHandle>
+    ensures { handle_in result ≡ chosen (way_number way) (operand_at file.now.bytes row k) }
 {
     match way {
         Way::Skip => None,
-        Way::Maybe => optional_expression(bytes, row, k),
-        Way::Part | Way::All | Way::Exist => Some(expression_operand(bytes, row, k)),
+        Way::Maybe => file.optional_expression(row, k),
+        Way::Part | Way::All | Way::Exist => Some(file.expression_operand(row, k)),
     }
 }
 
@@ -109,7 +110,7 @@ fn want_by(cells: &[u32], slots: &[u32], w: Want, way: Way) -> Want
 
 // The j-th of the operands that are asked.
 pub fn field_ask(
-    bytes: &[u8],
+    file: &File,
     cells: &[u32],
     slots: &[u32],
     row: Kinded,
@@ -117,13 +118,13 @@ pub fn field_ask(
     j: u32,
 ) -> Option<Ask>
     requires { Memory cells.now slots.now × Wants cells.now slots.now w }
-    ensures { Told cells.now slots.now w (field_asks fields (ways_of row.kind (operand_at bytes.now row 4)) (operand_at bytes.now row) 0 (asked cells.now slots.now w)) j result }
+    ensures { Told cells.now slots.now w (field_asks fields (ways_of row.kind (operand_at file.now.bytes row 4)) (operand_at file.now.bytes row) 0 (asked cells.now slots.now w)) j result }
 {
     let mut skip = j;
-    let ways = ways(bytes, row);
+    let ways = ways(file, row);
     for k in 0..ways.len() {
         let way = ways[k];
-        if let Some(x) = chosen(bytes, row, k as u16, way) {
+        if let Some(x) = chosen(file, row, k as u16, way) {
             if skip == 0 {
                 return Some(Ask::Operand(x, want_by(cells, slots, w, way)));
             }

@@ -12,10 +12,8 @@ ghost use Rattle.backward.specs.Course.{Course, Passes, RowIn, blocks_under, cas
 
 use crate::plain::pass_plain;
 use crate::slots::{exchange, in_body, in_switch};
-use access::function::block;
-use access::kinded::{
-    Kinded, block_operand, expression_operand, operand, optional_expression, statement,
-};
+use access::file::File;
+use access::kinded::Kinded;
 use acts::marks::mark_at;
 use ends::held::{begin_loop, end_if, end_switch};
 use ends::merge::{end_loop, merge};
@@ -29,8 +27,7 @@ use standing::passing::{Exits, Passing, filled};
 // The cases of a switch: their union stands in the last slot, none at first. The needs after the switch stand where a break leads.
 #[cycle(blocks)]
 fn pass_cases(
-    bytes: &[u8],
-    t: &[u32],
+    file: &File,
     f: FunctionHandle,
     types: &[u32],
     alike: &[u32],
@@ -47,21 +44,20 @@ fn pass_cases(
     s: u32,
     row: Kinded,
 ) -> Passing
-    requires course { Course bytes.now t.now f.0 types.now alike.now paths.now firsts.now cells.old roots.old path.old n x p }
+    requires course { Course file.now.bytes file.now.t f.0 types.now alike.now paths.now firsts.now cells.old roots.old path.old n x p }
     requires b_in_bounds { n + (3 * b.0 + 10) ≤ length roots.old }
-    requires row_in { RowIn bytes.now t.now f.0 b.0 s row }
+    requires row_in { RowIn file.now.bytes file.now.t f.0 b.0 s row }
     requires kind_value { row.kind ≡ 3 }
     requires n_value { in_slot cells.old roots.old (n - 1) ≡ none }
-    ensures { Passes (scope_at bytes.now t.now f.0) (cases (operand_at bytes.now row 1) (case_block (function_of bytes.now t.now f.0) marks.now (operand_at bytes.now row))) cells.old roots.old n x p cells.new roots.new path.old path.new result }
+    ensures { Passes (scope_at file.now.bytes file.now.t f.0) (cases (operand_at file.now.bytes row 1) (case_block (function_of file.now.bytes file.now.t f.0) marks.now (operand_at file.now.bytes row))) cells.old roots.old n x p cells.new roots.new path.old path.new result }
 {
-    let count = operand(bytes, row, 1) as u32;
+    let count = file.operand(row, 1) as u32;
     let mut q = p;
     for i in 0..count {
         copy(roots, x.broke, n);
-        let case = block_operand(bytes, row, 3 + 2 * i);
+        let case = file.block_operand(row, 3 + 2 * i);
         q = pass_around(
-            bytes,
-            t,
+            file,
             f,
             types,
             alike,
@@ -88,8 +84,7 @@ fn pass_cases(
 
 #[cycle(blocks)]
 fn pass_switch(
-    bytes: &[u8],
-    t: &[u32],
+    file: &File,
     f: FunctionHandle,
     types: &[u32],
     alike: &[u32],
@@ -106,17 +101,16 @@ fn pass_switch(
     s: u32,
     row: Kinded,
 ) -> Passing
-    requires course { Course bytes.now t.now f.0 types.now alike.now paths.now firsts.now cells.old roots.old path.old n x p }
+    requires course { Course file.now.bytes file.now.t f.0 types.now alike.now paths.now firsts.now cells.old roots.old path.old n x p }
     requires b_in_bounds { n + (3 * b.0 + 11) ≤ length roots.old }
-    requires row_in { RowIn bytes.now t.now f.0 b.0 s row }
+    requires row_in { RowIn file.now.bytes file.now.t f.0 b.0 s row }
     requires kind_value { row.kind ≡ 3 }
-    ensures { Passes (scope_at bytes.now t.now f.0) (inside (switch_tree (blocks_under (function_of bytes.now t.now f.0) marks.now b.0) (operand_at bytes.now row))) cells.old roots.old n x p cells.new roots.new path.old path.new result }
+    ensures { Passes (scope_at file.now.bytes file.now.t f.0) (inside (switch_tree (blocks_under (function_of file.now.bytes file.now.t f.0) marks.now b.0) (operand_at file.now.bytes row))) cells.old roots.old n x p cells.new roots.new path.old path.new result }
 {
     roots[n] = 2;
     let y = in_switch(n, x);
     let q = pass_cases(
-        bytes,
-        t,
+        file,
         f,
         types,
         alike,
@@ -136,8 +130,8 @@ fn pass_switch(
     if q.full {
         return q;
     }
-    let selector = expression_operand(bytes, row, 0);
-    if end_switch(bytes, t, f, cells, roots, n, selector) {
+    let selector = file.expression_operand(row, 0);
+    if end_switch(file, f, cells, roots, n, selector) {
         return q;
     }
     filled()
@@ -145,8 +139,7 @@ fn pass_switch(
 
 #[cycle(blocks)]
 fn pass_if(
-    bytes: &[u8],
-    t: &[u32],
+    file: &File,
     f: FunctionHandle,
     types: &[u32],
     alike: &[u32],
@@ -163,18 +156,17 @@ fn pass_if(
     s: u32,
     row: Kinded,
 ) -> Passing
-    requires course { Course bytes.now t.now f.0 types.now alike.now paths.now firsts.now cells.old roots.old path.old n x p }
+    requires course { Course file.now.bytes file.now.t f.0 types.now alike.now paths.now firsts.now cells.old roots.old path.old n x p }
     requires b_in_bounds { n + (3 * b.0 + 11) ≤ length roots.old }
-    requires row_in { RowIn bytes.now t.now f.0 b.0 s row }
+    requires row_in { RowIn file.now.bytes file.now.t f.0 b.0 s row }
     requires kind_value { row.kind ≡ 2 }
-    ensures { Passes (scope_at bytes.now t.now f.0) (inside (if_tree (blocks_under (function_of bytes.now t.now f.0) marks.now b.0) (operand_at bytes.now row))) cells.old roots.old n x p cells.new roots.new path.old path.new result }
+    ensures { Passes (scope_at file.now.bytes file.now.t f.0) (inside (if_tree (blocks_under (function_of file.now.bytes file.now.t f.0) marks.now b.0) (operand_at file.now.bytes row))) cells.old roots.old n x p cells.new roots.new path.old path.new result }
 {
     let last = n - 1;
     copy(roots, last, n);
-    let reject = block_operand(bytes, row, 2);
+    let reject = file.block_operand(row, 2);
     let q = pass_around(
-        bytes,
-        t,
+        file,
         f,
         types,
         alike,
@@ -193,10 +185,9 @@ fn pass_if(
         return q;
     }
     exchange(roots, n);
-    let accept = block_operand(bytes, row, 1);
+    let accept = file.block_operand(row, 1);
     let o = pass_around(
-        bytes,
-        t,
+        file,
         f,
         types,
         alike,
@@ -214,8 +205,8 @@ fn pass_if(
     if o.full {
         return o;
     }
-    let condition = expression_operand(bytes, row, 0);
-    if end_if(bytes, t, f, cells, roots, n, condition) {
+    let condition = file.expression_operand(row, 0);
+    if end_if(file, f, cells, roots, n, condition) {
         return o;
     }
     filled()
@@ -223,8 +214,7 @@ fn pass_if(
 
 #[cycle(blocks)]
 fn pass_loop(
-    bytes: &[u8],
-    t: &[u32],
+    file: &File,
     f: FunctionHandle,
     types: &[u32],
     alike: &[u32],
@@ -241,22 +231,21 @@ fn pass_loop(
     s: u32,
     row: Kinded,
 ) -> Passing
-    requires course { Course bytes.now t.now f.0 types.now alike.now paths.now firsts.now cells.old roots.old path.old n x p }
+    requires course { Course file.now.bytes file.now.t f.0 types.now alike.now paths.now firsts.now cells.old roots.old path.old n x p }
     requires b_in_bounds { n + (3 * b.0 + 11) ≤ length roots.old }
-    requires row_in { RowIn bytes.now t.now f.0 b.0 s row }
+    requires row_in { RowIn file.now.bytes file.now.t f.0 b.0 s row }
     requires kind_value { row.kind ≡ 4 }
-    ensures { Passes (scope_at bytes.now t.now f.0) (inside (loop_tree (blocks_under (function_of bytes.now t.now f.0) marks.now b.0) s (operand_at bytes.now row))) cells.old roots.old n x p cells.new roots.new path.old path.new result }
+    ensures { Passes (scope_at file.now.bytes file.now.t f.0) (inside (loop_tree (blocks_under (function_of file.now.bytes file.now.t f.0) marks.now b.0) s (operand_at file.now.bytes row))) cells.old roots.old n x p cells.new roots.new path.old path.new result }
 {
     let l = s as usize;
-    let break_if = optional_expression(bytes, row, 2);
-    if !begin_loop(bytes, t, f, cells, roots, n, l, break_if) {
+    let break_if = file.optional_expression(row, 2);
+    if !begin_loop(file, f, cells, roots, n, l, break_if) {
         return filled();
     }
     let y = in_switch(n, x);
-    let continuing = block_operand(bytes, row, 1);
+    let continuing = file.block_operand(row, 1);
     let q = pass_around(
-        bytes,
-        t,
+        file,
         f,
         types,
         alike,
@@ -277,10 +266,9 @@ fn pass_loop(
     let above = n + 1;
     copy(roots, n, above);
     let z = in_body(n, x);
-    let body = block_operand(bytes, row, 0);
+    let body = file.block_operand(row, 0);
     let o = pass_around(
-        bytes,
-        t,
+        file,
         f,
         types,
         alike,
@@ -304,8 +292,7 @@ fn pass_loop(
 // What has the mark of the statement s of the block b: an if, a switch or a loop.
 #[cycle(blocks)]
 fn pass_bare(
-    bytes: &[u8],
-    t: &[u32],
+    file: &File,
     f: FunctionHandle,
     types: &[u32],
     alike: &[u32],
@@ -322,21 +309,21 @@ fn pass_bare(
     s: u32,
     row: Kinded,
 ) -> Passing
-    requires course { Course bytes.now t.now f.0 types.now alike.now paths.now firsts.now cells.old roots.old path.old n x p }
+    requires course { Course file.now.bytes file.now.t f.0 types.now alike.now paths.now firsts.now cells.old roots.old path.old n x p }
     requires b_in_bounds { n + (3 * b.0 + 11) ≤ length roots.old }
-    requires row_in { RowIn bytes.now t.now f.0 b.0 s row }
+    requires row_in { RowIn file.now.bytes file.now.t f.0 b.0 s row }
     requires lt_kind { (1 < row.kind) × (row.kind < 5) }
-    ensures { Passes (scope_at bytes.now t.now f.0) (inside (bare_tree (blocks_under (function_of bytes.now t.now f.0) marks.now b.0) s row.kind (operand_at bytes.now row))) cells.old roots.old n x p cells.new roots.new path.old path.new result }
+    ensures { Passes (scope_at file.now.bytes file.now.t f.0) (inside (bare_tree (blocks_under (function_of file.now.bytes file.now.t f.0) marks.now b.0) s row.kind (operand_at file.now.bytes row))) cells.old roots.old n x p cells.new roots.new path.old path.new result }
 {
     match StatementKind::try_from(row.kind) {
         Ok(StatementKind::If) => pass_if(
-            bytes, t, f, types, alike, paths, marks, firsts, cells, roots, path, n, x, p, b, s, row,
+            file, f, types, alike, paths, marks, firsts, cells, roots, path, n, x, p, b, s, row,
         ),
         Ok(StatementKind::Switch) => pass_switch(
-            bytes, t, f, types, alike, paths, marks, firsts, cells, roots, path, n, x, p, b, s, row,
+            file, f, types, alike, paths, marks, firsts, cells, roots, path, n, x, p, b, s, row,
         ),
         _ => pass_loop(
-            bytes, t, f, types, alike, paths, marks, firsts, cells, roots, path, n, x, p, b, s, row,
+            file, f, types, alike, paths, marks, firsts, cells, roots, path, n, x, p, b, s, row,
         ),
     }
 }
@@ -344,8 +331,7 @@ fn pass_bare(
 // One that breaks its rule is walked as if marked, and what is needed after it is needed before it too.
 #[cycle(blocks)]
 fn pass_holder(
-    bytes: &[u8],
-    t: &[u32],
+    file: &File,
     f: FunctionHandle,
     types: &[u32],
     alike: &[u32],
@@ -362,27 +348,26 @@ fn pass_holder(
     s: u32,
     row: Kinded,
 ) -> Passing
-    requires course { Course bytes.now t.now f.0 types.now alike.now paths.now firsts.now cells.old roots.old path.old n x p }
+    requires course { Course file.now.bytes file.now.t f.0 types.now alike.now paths.now firsts.now cells.old roots.old path.old n x p }
     requires b_in_bounds { n + (3 * b.0 + 12) ≤ length roots.old }
-    requires row_in { RowIn bytes.now t.now f.0 b.0 s row }
+    requires row_in { RowIn file.now.bytes file.now.t f.0 b.0 s row }
     requires lt_kind { (1 < row.kind) × (row.kind < 5) }
-    ensures { Passes (scope_at bytes.now t.now f.0) (inside (statement_tree (function_of bytes.now t.now f.0) marks.now b.0 s)) cells.old roots.old n x p cells.new roots.new path.old path.new result }
+    ensures { Passes (scope_at file.now.bytes file.now.t f.0) (inside (statement_tree (function_of file.now.bytes file.now.t f.0) marks.now b.0 s)) cells.old roots.old n x p cells.new roots.new path.old path.new result }
 {
     let last = n - 1;
     let begin = firsts[s as usize] as usize;
     if mark_at(marks, begin) {
         return pass_bare(
-            bytes, t, f, types, alike, paths, marks, firsts, cells, roots, path, n, x, p, b, s, row,
+            file, f, types, alike, paths, marks, firsts, cells, roots, path, n, x, p, b, s, row,
         );
     }
     let hand = roots[last];
-    if obeys(bytes, t, f, types, alike, paths, cells, path, hand, b, s) {
+    if obeys(file, f, types, alike, paths, cells, path, hand, b, s) {
         return p;
     }
     copy(roots, last, n);
     let q = pass_bare(
-        bytes,
-        t,
+        file,
         f,
         types,
         alike,
@@ -412,8 +397,7 @@ fn pass_holder(
 // The statement s of the block b.
 #[cycle(blocks)]
 fn pass_statement(
-    bytes: &[u8],
-    t: &[u32],
+    file: &File,
     f: FunctionHandle,
     types: &[u32],
     alike: &[u32],
@@ -429,32 +413,31 @@ fn pass_statement(
     b: BlockHandle,
     s: u32,
 ) -> Passing
-    requires course { Course bytes.now t.now f.0 types.now alike.now paths.now firsts.now cells.old roots.old path.old n x p }
+    requires course { Course file.now.bytes file.now.t f.0 types.now alike.now paths.now firsts.now cells.old roots.old path.old n x p }
     requires b_in_bounds { n + (3 * b.0 + 12) ≤ length roots.old }
-    requires statement_in { StatementIn bytes.now t.now f.0 b.0 s }
-    ensures { Passes (scope_at bytes.now t.now f.0) (inside (statement_tree (function_of bytes.now t.now f.0) marks.now b.0 s)) cells.old roots.old n x p cells.new roots.new path.old path.new result }
+    requires statement_in { StatementIn file.now.bytes file.now.t f.0 b.0 s }
+    ensures { Passes (scope_at file.now.bytes file.now.t f.0) (inside (statement_tree (function_of file.now.bytes file.now.t f.0) marks.now b.0 s)) cells.old roots.old n x p cells.new roots.new path.old path.new result }
 {
-    let row = statement(bytes, t, f, s);
+    let row = file.statement(f, s);
     match StatementKind::try_from(row.kind) {
         Ok(StatementKind::Block) => {
-            let inner = block_operand(bytes, row, 0);
+            let inner = file.block_operand(row, 0);
             pass_block(
-                bytes, t, f, types, alike, paths, marks, firsts, cells, roots, path, n, x, p, inner,
+                file, f, types, alike, paths, marks, firsts, cells, roots, path, n, x, p, inner,
             )
         }
         Ok(StatementKind::If | StatementKind::Switch | StatementKind::Loop) => pass_holder(
-            bytes, t, f, types, alike, paths, marks, firsts, cells, roots, path, n, x, p, b, s, row,
+            file, f, types, alike, paths, marks, firsts, cells, roots, path, n, x, p, b, s, row,
         ),
         _ => pass_plain(
-            bytes, t, f, types, alike, paths, marks, firsts, cells, roots, path, n, x, p, b, s, row,
+            file, f, types, alike, paths, marks, firsts, cells, roots, path, n, x, p, b, s, row,
         ),
     }
 }
 
 #[cycle(blocks)]
 fn pass_block(
-    bytes: &[u8],
-    t: &[u32],
+    file: &File,
     f: FunctionHandle,
     types: &[u32],
     alike: &[u32],
@@ -469,19 +452,18 @@ fn pass_block(
     p: Passing,
     b: BlockHandle,
 ) -> Passing
-    requires course { Course bytes.now t.now f.0 types.now alike.now paths.now firsts.now cells.old roots.old path.old n x p }
+    requires course { Course file.now.bytes file.now.t f.0 types.now alike.now paths.now firsts.now cells.old roots.old path.old n x p }
     requires b_in_bounds { n + (3 * b.0 + 12) ≤ length roots.old }
-    requires block_of { BlockOf bytes.now t.now f.0 b.0 }
-    ensures { Passes (scope_at bytes.now t.now f.0) (inside (tree_of (function_of bytes.now t.now f.0) marks.now b.0)) cells.old roots.old n x p cells.new roots.new path.old path.new result }
+    requires block_of { BlockOf file.now.bytes file.now.t f.0 b.0 }
+    ensures { Passes (scope_at file.now.bytes file.now.t f.0) (inside (tree_of (function_of file.now.bytes file.now.t f.0) marks.now b.0)) cells.old roots.old n x p cells.new roots.new path.old path.new result }
 {
-    let range = block(t, f, b);
+    let range = file.block(f, b);
     let first = range.first;
     let mut q = p;
     for k in (0..range.count).rev() {
         let at = note(cells, roots, n, q);
         q = pass_statement(
-            bytes,
-            t,
+            file,
             f,
             types,
             alike,
@@ -507,8 +489,7 @@ fn pass_block(
 // A block with the points after and before it.
 #[cycle(blocks)]
 pub fn pass_around(
-    bytes: &[u8],
-    t: &[u32],
+    file: &File,
     f: FunctionHandle,
     types: &[u32],
     alike: &[u32],
@@ -523,14 +504,14 @@ pub fn pass_around(
     p: Passing,
     b: BlockHandle,
 ) -> Passing
-    requires course { Course bytes.now t.now f.0 types.now alike.now paths.now firsts.now cells.old roots.old path.old n x p }
+    requires course { Course file.now.bytes file.now.t f.0 types.now alike.now paths.now firsts.now cells.old roots.old path.old n x p }
     requires b_in_bounds { n + (3 * b.0 + 12) ≤ length roots.old }
-    requires block_of { BlockOf bytes.now t.now f.0 b.0 }
-    ensures { Passes (scope_at bytes.now t.now f.0) (around (tree_of (function_of bytes.now t.now f.0) marks.now b.0)) cells.old roots.old n x p cells.new roots.new path.old path.new result }
+    requires block_of { BlockOf file.now.bytes file.now.t f.0 b.0 }
+    ensures { Passes (scope_at file.now.bytes file.now.t f.0) (around (tree_of (function_of file.now.bytes file.now.t f.0) marks.now b.0)) cells.old roots.old n x p cells.new roots.new path.old path.new result }
 {
     let at = note(cells, roots, n, p);
     let q = pass_block(
-        bytes, t, f, types, alike, paths, marks, firsts, cells, roots, path, n, x, at, b,
+        file, f, types, alike, paths, marks, firsts, cells, roots, path, n, x, at, b,
     );
     if q.full {
         return q;

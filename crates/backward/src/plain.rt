@@ -6,7 +6,8 @@ ghost use Rattle.quiet.specs.Places.{statement_tree};
 ghost use Rattle.standing.specs.Standing.{inside};
 ghost use Rattle.backward.specs.Course.{Course, Passes, RowIn};
 
-use access::kinded::{Kinded, expression_operand};
+use access::file::File;
+use access::kinded::Kinded;
 use acts::emits::pass_emits;
 use acts::marks::mark_at;
 use acts::stores::pass_store;
@@ -17,8 +18,7 @@ use standing::passing::{Exits, Passing};
 
 // The statement s of the block b, whose row is given.
 pub fn pass_plain(
-    bytes: &[u8],
-    t: &[u32],
+    file: &File,
     f: FunctionHandle,
     types: &[u32],
     alike: &[u32],
@@ -35,33 +35,31 @@ pub fn pass_plain(
     s: u32,
     row: Kinded,
 ) -> Passing
-    requires course { Course bytes.now t.now f.0 types.now alike.now paths.now firsts.now cells.old roots.old path.old n x p }
+    requires course { Course file.now.bytes file.now.t f.0 types.now alike.now paths.now firsts.now cells.old roots.old path.old n x p }
     requires n_in_bounds { n + 12 ≤ length roots.old }
-    requires row_in { RowIn bytes.now t.now f.0 b.0 s row }
+    requires row_in { RowIn file.now.bytes file.now.t f.0 b.0 s row }
     requires lt_kind { (row.kind ≡ 0 → ⊥) → 4 < row.kind }
-    ensures { Passes (scope_at bytes.now t.now f.0) (inside (statement_tree (function_of bytes.now t.now f.0) marks.now b.0 s)) cells.old roots.old n x p cells.new roots.new path.old path.new result }
+    ensures { Passes (scope_at file.now.bytes file.now.t f.0) (inside (statement_tree (function_of file.now.bytes file.now.t f.0) marks.now b.0 s)) cells.old roots.old n x p cells.new roots.new path.old path.new result }
 {
     let begin = firsts[s as usize];
     match StatementKind::try_from(row.kind) {
         Ok(StatementKind::Emit) => {
-            let first = expression_operand(bytes, row, 0);
-            let last = expression_operand(bytes, row, 1);
+            let first = file.expression_operand(row, 0);
+            let last = file.expression_operand(row, 1);
             pass_emits(
-                bytes, t, f, types, alike, paths, marks, cells, roots, path, n, p, s as u16, begin,
+                file, f, types, alike, paths, marks, cells, roots, path, n, p, s as u16, begin,
                 first, last,
             )
         }
         Ok(StatementKind::Store) => {
             let marked = mark_at(marks, begin as usize);
-            let pointer = expression_operand(bytes, row, 0);
-            let value = expression_operand(bytes, row, 1);
+            let pointer = file.expression_operand(row, 0);
+            let value = file.expression_operand(row, 1);
             pass_store(
-                bytes, t, f, types, alike, paths, cells, roots, path, n, p, s as u16, marked,
-                pointer, value,
+                file, f, types, alike, paths, cells, roots, path, n, p, s as u16, marked, pointer,
+                value,
             )
         }
-        _ => pass_leaving(
-            bytes, t, f, types, alike, paths, cells, roots, n, x, p, s, row,
-        ),
+        _ => pass_leaving(file, f, types, alike, paths, cells, roots, n, x, p, s, row),
     }
 }

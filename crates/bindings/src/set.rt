@@ -5,8 +5,7 @@ ghost use Rattle.access.specs.Access.{number_in};
 ghost use Rattle.bindings.specs.Bindings.{contains, own_binding, list_of};
 ghost use Rattle.bindings.specs.Rows.{BindingFits};
 
-// A binding is below.
-pub const BINDINGS: u32 = 64;
+use module::operands::BINDINGS;
 
 // The set of one binding, and of none where there is none.
 pub fn own_binding(binding: Option<u32>) -> u64

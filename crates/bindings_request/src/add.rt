@@ -13,20 +13,18 @@ ghost use Rattle.bindings.specs.Outputs.{output_cells, request_context};
 ghost use Rattle.bindings_request.specs.Boundary.{Tables, Lent, own_number, written, add_bytes, Gave};
 
 use crate::answer::{Refused, write_asking};
-use access::function::result;
-use access::whole::{functions, globals};
+use access::file::File;
 use bindings::outputs::add_binding;
-use bindings::set::BINDINGS;
 use field::refusal::Refusal;
 use module::handles::FunctionHandle;
+use module::operands::BINDINGS;
 use part::store::init;
 use request::lists::returned;
 use request::requests::read_request;
 
 // One binding more, in a request of the function f for these pieces.
 fn add_to(
-    bytes: &[u8],
-    t: &[u32],
+    file: &File,
     types: &[u32],
     cells: &mut [u32],
     parts: &mut [u32],
@@ -36,15 +34,15 @@ fn add_to(
     b: u32,
     out: &mut [u8],
 ) -> Result<usize, Refused>
-    requires tables { Tables bytes.now t.now types.now }
+    requires tables { Tables file.now.bytes file.now.t types.now }
     requires good { Good cells.old }
     requires parts_len { (length parts.old ≡ type_count types.now) × Room cells.old (1 + (output_cells parts.old + max_pieces)) }
-    requires f_in_bounds { (f.0 < length (module_of bytes.now t.now).functions) × (Held cells.old retval × (globals < top cells.old)) }
+    requires f_in_bounds { (f.0 < length (module_of file.now.bytes file.now.t).functions) × (Held cells.old retval × (globals < top cells.old)) }
     requires b_lt_bindings { (b < bindings) × (min_report ≤ length out.old) }
-    ensures { Gave out.old out.new (written f.0 (add_request (module_of bytes.now t.now) f.0 b (request_context (part cells.old globals) (return_entry (optional cells.old retval))))) result }
+    ensures { Gave out.old out.new (written f.0 (add_request (module_of file.now.bytes file.now.t) f.0 b (request_context (part cells.old globals) (return_entry (optional cells.old retval))))) result }
 {
     let entry = returned(cells, retval);
-    let declared = result(bytes, t, f);
+    let declared = file.result(f);
     let a = add_binding(cells, types, b, declared, parts, globals, entry);
     write_asking(cells, f, globals, a, out)
 }
@@ -61,8 +59,7 @@ fn own_refusal(e: Refusal) -> Refusal
 
 // The request's bytes with one binding more, written from the slice's first byte on.
 pub fn add_binding_bytes(
-    bytes: &[u8],
-    t: &[u32],
+    file: &File,
     types: &[u32],
     cells: &mut [u32],
     parts: &mut [u32],
@@ -70,21 +67,21 @@ pub fn add_binding_bytes(
     b: u32,
     out: &mut [u8],
 ) -> Result<usize, Refused>
-    requires tables { Tables bytes.now t.now types.now }
+    requires tables { Tables file.now.bytes file.now.t types.now }
     requires parts_len { (length parts.old ≡ type_count types.now) × Lent cells.old parts.old request.now }
-    ensures { Gave out.old out.new (add_bytes (module_of bytes.now t.now) (length out.old) b request.now) result }
+    ensures { Gave out.old out.new (add_bytes (module_of file.now.bytes file.now.t) (length out.old) b request.now) result }
 {
     if BINDINGS <= b {
         return Err(Refusal::Malformed.into());
     }
     init(cells);
-    let a = read_request(cells, request, functions(t), globals(t), out.len());
+    let a = read_request(cells, request, file.functions(), file.globals(), out.len());
     match a {
         Err(e) => Err(own_refusal(e).into()),
         Ok(q) => {
             let f = q.function;
             let o = q.retval;
-            add_to(bytes, t, types, cells, parts, f, o, q.globals, b, out)
+            add_to(file, types, cells, parts, f, o, q.globals, b, out)
         }
     }
 }

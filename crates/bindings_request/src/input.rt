@@ -11,24 +11,25 @@ ghost use Rattle.bindings_request.specs.Inputs.{Accepts, ListGiven, input_bytes}
 
 use crate::answer::Refused;
 use crate::needed::{all_table, input_to_bindings};
-use access::function::{argument, arguments, locals};
-use access::whole::{Bound, functions, globals};
-use bindings::set::{BINDINGS, list};
+use access::file::File;
+use access::whole::Bound;
+use bindings::set::list;
 use context_bytes::check::{check_context, without_function};
 use context_bytes::count::count_context;
 use context_bytes::find::args_at;
 use field::limits::MAX_PIECES;
 use field::refusal::Refusal;
 use module::handles::FunctionHandle;
+use module::operands::BINDINGS;
 
 // The arguments of the function f, each in its place.
-fn fill(bytes: &[u8], t: &[u32], f: FunctionHandle, args: &mut [Bound])
-    requires args_len { length args.old ≡ length (function_of bytes.now t.now f.0).arguments }
+fn fill(file: &File, f: FunctionHandle, args: &mut [Bound])
+    requires args_len { length args.old ≡ length (function_of file.now.bytes file.now.t f.0).arguments }
     requires args_len_bound { length args.old ≤ max_arguments }
-    ensures { args_of args.new ≡ (function_of bytes.now t.now f.0).arguments }
+    ensures { args_of args.new ≡ (function_of file.now.bytes file.now.t f.0).arguments }
 {
     for i in 0..args.len() {
-        args[i] = argument(bytes, t, f, i as u32);
+        args[i] = file.argument(f, i as u32);
     }
 }
 
@@ -45,8 +46,7 @@ fn write_list(s: u64, context: &[u8], out: &mut [u8]) -> Result<usize, Refused>
 
 // What is needed of the function f by a context that is accepted, where there is a place for each argument.
 fn list_needed(
-    bytes: &[u8],
-    t: &[u32],
+    file: &File,
     types: &[u32],
     sets: &mut [u64],
     args: &mut [Bound],
@@ -54,16 +54,16 @@ fn list_needed(
     context: &[u8],
     out: &mut [u8],
 ) -> Result<usize, Refused>
-    requires tables { Tables bytes.now t.now types.now }
-    requires sets_len { (length sets.old ≡ type_count types.now) × (f.0 < length (module_of bytes.now t.now).functions) }
-    requires args_len { length args.old ≡ length (function_of bytes.now t.now f.0).arguments }
-    requires accepts { Accepts (module_of bytes.now t.now) (function_of bytes.now t.now f.0) context.now }
-    ensures { Gave out.old out.new (input_bytes (module_of bytes.now t.now) (length out.old) f.0 context.now) result }
+    requires tables { Tables file.now.bytes file.now.t types.now }
+    requires sets_len { (length sets.old ≡ type_count types.now) × (f.0 < length (module_of file.now.bytes file.now.t).functions) }
+    requires args_len { length args.old ≡ length (function_of file.now.bytes file.now.t f.0).arguments }
+    requires accepts { Accepts (module_of file.now.bytes file.now.t) (function_of file.now.bytes file.now.t f.0) context.now }
+    ensures { Gave out.old out.new (input_bytes (module_of file.now.bytes file.now.t) (length out.old) f.0 context.now) result }
 {
     if out.len() < BINDINGS as usize {
         return Err(Refusal::AnswerTooShort.into());
     }
-    fill(bytes, t, f, args);
+    fill(file, f, args);
     all_table(types, sets);
     let s = input_to_bindings(context, args_at(context), types, sets, args)?;
     write_list(s, context, out)
@@ -71,8 +71,7 @@ fn list_needed(
 
 // The bindings list of a context's bytes, written from the slice's first byte on.
 pub fn input_to_bindings_bytes(
-    bytes: &[u8],
-    t: &[u32],
+    file: &File,
     types: &[u32],
     sets: &mut [u64],
     args: &mut [Bound],
@@ -80,24 +79,15 @@ pub fn input_to_bindings_bytes(
     context: &[u8],
     out: &mut [u8],
 ) -> Result<usize, Refused>
-    requires tables { Tables bytes.now t.now types.now }
+    requires tables { Tables file.now.bytes file.now.t types.now }
     requires sets_len { (length sets.old ≡ type_count types.now) × (max_arguments ≤ length args.old) }
-    ensures { Gave out.old out.new (input_bytes (module_of bytes.now t.now) (length out.old) f.0 context.now) result }
+    ensures { Gave out.old out.new (input_bytes (module_of file.now.bytes file.now.t) (length out.old) f.0 context.now) result }
 {
-    if functions(t) <= f.0 {
+    if file.functions() <= f.0 {
         return Err(without_function(context).into());
     }
-    let n = arguments(t, f);
-    let l = locals(t, f);
-    check_context(context, globals(t), n, l)?;
-    list_needed(
-        bytes,
-        t,
-        types,
-        sets,
-        &mut args[0..n as usize],
-        f,
-        context,
-        out,
-    )
+    let n = file.arguments(f);
+    let l = file.locals(f);
+    check_context(context, file.globals(), n, l)?;
+    list_needed(file, types, sets, &mut args[0..n as usize], f, context, out)
 }

@@ -1,7 +1,8 @@
 // A list of bindings as the set of them: each is below the one after it, and the last below 64.
 ghost use Rattle.bindings_request.specs.Listed.{SetIs};
 
-use bindings::set::{BINDINGS, own_binding};
+use bindings::set::own_binding;
+use module::operands::BINDINGS;
 
 // None, where the list does not ascend or has a binding above 63.
 pub fn set_of(list: &[u8]) -> Option<u64>

@@ -6,8 +6,7 @@ ghost use Rattle.bindings_request.specs.Boundary.{Tables, Lent, output_bytes, Ga
 
 use crate::answer::{Refused, write_asking};
 use crate::listed::set_of;
-use access::function::result;
-use access::whole::functions;
+use access::file::File;
 use bindings::outputs::output_from_bindings;
 use field::limits::MIN_REPORT;
 use field::refusal::Refusal;
@@ -16,8 +15,7 @@ use part::store::init;
 
 // The request that asks for these bindings of the function f, written from the slice's first byte on.
 pub fn output_from_bindings_bytes(
-    bytes: &[u8],
-    t: &[u32],
+    file: &File,
     types: &[u32],
     cells: &mut [u32],
     parts: &mut [u32],
@@ -25,21 +23,21 @@ pub fn output_from_bindings_bytes(
     list: &[u8],
     out: &mut [u8],
 ) -> Result<usize, Refused>
-    requires tables { Tables bytes.now t.now types.now }
+    requires tables { Tables file.now.bytes file.now.t types.now }
     requires parts_len { (length parts.old ≡ type_count types.now) × Lent cells.old parts.old [] }
-    ensures { Gave out.old out.new (output_bytes (module_of bytes.now t.now) (length out.old) f.0 list.now) result }
+    ensures { Gave out.old out.new (output_bytes (module_of file.now.bytes file.now.t) (length out.old) f.0 list.now) result }
 {
     let Some(s) = set_of(list) else {
         return Err(Refusal::Malformed.into());
     };
-    if functions(t) <= f.0 {
+    if file.functions() <= f.0 {
         return Err(Refusal::NoSuch.into());
     }
     if out.len() < MIN_REPORT {
         return Err(Refusal::AnswerTooShort.into());
     }
     init(cells);
-    let declared = result(bytes, t, f);
+    let declared = file.result(f);
     let a = output_from_bindings(cells, types, s, declared, parts);
     write_asking(cells, f, 2, a, out)
 }

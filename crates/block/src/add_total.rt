@@ -2,6 +2,7 @@
 ghost use Rattle.block.specs.AddTotal.{TotalAsked, TotalEnds};
 
 use crate::added::{first_total, later_total};
+use access::file::File;
 use field::refusal::Refusal;
 use marks::ray::first_ray;
 use module::handles::FunctionHandle;
@@ -9,8 +10,7 @@ use state::answer::{Halt, Place, Tally, Walked};
 
 // `here` is where f was called.
 pub fn add_total(
-    bytes: &[u8],
-    t: &[u32],
+    file: &File,
     places: &[u32],
     cells: &mut [u32],
     slots: &mut [u32],
@@ -21,25 +21,25 @@ pub fn add_total(
     here: Place,
     tally: Tally,
 ) -> Walked
-    requires { TotalAsked bytes.now t.now places.now cells.old slots.old «open».now totals.old f.0 at tally.sum }
-    ensures { TotalEnds bytes.now t.now places.now cells.old slots.old «open».now totals.old f.0 at tally.sum tally.visits here result cells.new slots.new totals.new }
+    requires { TotalAsked file.now.bytes file.now.t places.now cells.old slots.old «open».now totals.old f.0 at tally.sum }
+    ensures { TotalEnds file.now.bytes file.now.t places.now cells.old slots.old «open».now totals.old f.0 at tally.sum tally.visits here result cells.new slots.new totals.new }
 {
     let i = f.0 as usize;
     if totals[i] == 0 {
-        let first = first_total(t, places, cells, slots, open, totals, f, at, tally.sum);
+        let first = first_total(file, places, cells, slots, open, totals, f, at, tally.sum);
         return Ok(Tally {
             sum: first,
             ..tally
         });
     }
-    let ray = first_ray(bytes, t, f);
+    let ray = first_ray(file, f);
     if let Some(s) = ray {
         return Err(Halt {
             refusal: Refusal::Panic,
             place: Place::Statement(f, s),
         });
     }
-    match later_total(t, places, cells, slots, open, totals, f, at, tally.sum) {
+    match later_total(file, places, cells, slots, open, totals, f, at, tally.sum) {
         None => Err(Halt {
             refusal: Refusal::PartLimit,
             place: here,

@@ -7,12 +7,13 @@ ghost use Rattle.memory.specs.Memory.{read, context_at};
 ghost use Rattle.block.specs.Adding.{Adding, FirstTotal, IsLater};
 
 use crate::total::{join_total, keep_total, weigh_total};
+use access::file::File;
 use marks::set::{add_marks, keep_marks};
 use module::handles::FunctionHandle;
 
 // The first total of f.
 pub fn first_total(
-    t: &[u32],
+    file: &File,
     places: &[u32],
     cells: &[u32],
     slots: &mut [u32],
@@ -22,19 +23,19 @@ pub fn first_total(
     at: usize,
     sum: usize,
 ) -> usize
-    requires { Adding t.now places.now cells.now slots.old «open».now totals.old f.0 at sum }
-    ensures { FirstTotal t.now places.now cells.now slots.old «open».now totals.old f.0 at sum result slots.new totals.new }
+    requires { Adding file.now.t places.now cells.now slots.old «open».now totals.old f.0 at sum }
+    ensures { FirstTotal file.now.t places.now cells.now slots.old «open».now totals.old f.0 at sum result slots.new totals.new }
 {
-    let less = weigh_total(t, cells, slots, f);
-    keep_total(t, slots, f, at);
-    let more = weigh_total(t, cells, slots, f);
+    let less = weigh_total(file, cells, slots, f);
+    keep_total(file, slots, f, at);
+    let more = weigh_total(file, cells, slots, f);
     keep_marks(totals, open, places, f);
     sum - less + more
 }
 
 // A later one: joined to the total of f. None where that passes a limit.
 pub fn later_total(
-    t: &[u32],
+    file: &File,
     places: &[u32],
     cells: &mut [u32],
     slots: &mut [u32],
@@ -44,15 +45,15 @@ pub fn later_total(
     at: usize,
     sum: usize,
 ) -> Option<usize>
-    requires adding { Adding t.now places.now cells.old slots.old «open».now totals.old f.0 at sum }
+    requires adding { Adding file.now.t places.now cells.old slots.old «open».now totals.old f.0 at sum }
     requires room { Room cells.old (pieces (context_at (read cells.old slots.old) (functions_slot + 4 * f.0)) + pieces (context_at (read cells.old slots.old) at)) }
-    ensures { IsLater t.now places.now cells.old slots.old «open».now totals.old f.0 at sum result cells.new slots.new totals.new }
+    ensures { IsLater file.now.t places.now cells.old slots.old «open».now totals.old f.0 at sum result cells.new slots.new totals.new }
 {
-    let less = weigh_total(t, cells, slots, f);
-    if join_total(t, cells, slots, f, at) {
+    let less = weigh_total(file, cells, slots, f);
+    if join_total(file, cells, slots, f, at) {
         return None;
     }
-    let more = weigh_total(t, cells, slots, f);
+    let more = weigh_total(file, cells, slots, f);
     add_marks(totals, open, places, f);
     Some(sum - less + more)
 }

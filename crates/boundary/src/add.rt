@@ -8,10 +8,10 @@ ghost use Rattle.context.specs.Types.{type_words};
 ghost use Rattle.bindings_request.specs.Boundary.{Gave};
 ghost use Rattle.boundary.specs.Answers.{Answers, add_answer};
 
+use access::file::File;
 use crate::answer::word_of;
 use crate::output::OUTPUT_WORDS;
 use crate::rows::read_rows;
-use access::whole::types;
 use bindings_request::add::add_binding_bytes;
 use bindings_request::answer::Refused;
 use requests::begin::check_length;
@@ -38,9 +38,10 @@ fn add_of(
     ensures { Gave out.old out.new (add_answer bytes.now (length out.old) b request.now) result }
 {
     let rows = read_rows(bytes, t, seen, held, table)?;
+    let file = File::new(bytes, t);
     check_length(request)?;
-    let n = types(t) as usize;
-    add_binding_bytes(bytes, t, rows, cells, &mut parts[0..n], request, b, out)
+    let n = file.types() as usize;
+    add_binding_bytes(file, rows, cells, &mut parts[0..n], request, b, out)
 }
 
 // Of any bytes, with room for whatever they say.

@@ -7,9 +7,10 @@ ghost use Rattle.context.specs.Types.{type_words};
 ghost use Rattle.bindings_request.specs.Boundary.{Gave};
 ghost use Rattle.boundary.specs.Answers.{Answers, input_answer};
 
+use access::file::File;
 use crate::answer::word_of;
 use crate::rows::read_rows;
-use access::whole::{Bound, types};
+use access::whole::Bound;
 use bindings_request::answer::Refused;
 use bindings_request::input::input_to_bindings_bytes;
 use module::handles::FunctionHandle;
@@ -32,8 +33,9 @@ fn input_of(
     ensures { Gave out.old out.new (input_answer bytes.now (length out.old) f.0 context.now) result }
 {
     let rows = read_rows(bytes, t, seen, held, table)?;
-    let n = types(t) as usize;
-    input_to_bindings_bytes(bytes, t, rows, &mut sets[0..n], args, f, context, out)
+    let file = File::new(bytes, t);
+    let n = file.types() as usize;
+    input_to_bindings_bytes(file, rows, &mut sets[0..n], args, f, context, out)
 }
 
 // Of any bytes, with room for whatever they say.

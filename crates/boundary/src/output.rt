@@ -8,9 +8,9 @@ ghost use Rattle.context.specs.Types.{type_words};
 ghost use Rattle.bindings_request.specs.Boundary.{Gave};
 ghost use Rattle.boundary.specs.Answers.{Answers, output_answer};
 
+use access::file::File;
 use crate::answer::word_of;
 use crate::rows::read_rows;
-use access::whole::types;
 use bindings_request::answer::Refused;
 use bindings_request::output::output_from_bindings_bytes;
 use field::limits::{MAX_MEMBERS, MAX_PIECES, MAX_TYPES};
@@ -40,8 +40,9 @@ fn output_of(
     ensures { Gave out.old out.new (output_answer bytes.now (length out.old) f.0 list.now) result }
 {
     let rows = read_rows(bytes, t, seen, held, table)?;
-    let n = types(t) as usize;
-    output_from_bindings_bytes(bytes, t, rows, cells, &mut parts[0..n], f, list, out)
+    let file = File::new(bytes, t);
+    let n = file.types() as usize;
+    output_from_bindings_bytes(file, rows, cells, &mut parts[0..n], f, list, out)
 }
 
 // Of any bytes, with room for whatever they say.

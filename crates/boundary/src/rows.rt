@@ -6,7 +6,7 @@ ghost use Rattle.module.specs.Tables.{words, max_items};
 ghost use Rattle.context.specs.Types.{type_words};
 ghost use Rattle.boundary.specs.Rows.{RowsRead};
 
-use access::whole::types;
+use access::file::File;
 use context::remove::TYPE_WORDS;
 use field::refusal::Refusal;
 use reading::read::read;
@@ -25,8 +25,9 @@ pub fn read_rows<'a>(
     ensures { RowsRead bytes.now t.new result }
 {
     read(bytes, t, seen, held)?;
-    let e = TYPE_WORDS * (types(t) as usize);
+    let file = File::new(bytes, t);
+    let e = TYPE_WORDS * (file.types() as usize);
     let rows = &mut table[0..e];
-    fill(bytes, t, rows);
+    fill(&file, rows);
     Ok(rows)
 }

@@ -9,7 +9,7 @@ ghost use Rattle.requests.specs.Finish.{reply_of};
 ghost use Rattle.boundary.specs.Requests.{RequestsRead, Requests};
 
 use crate::answer::refused_word;
-use access::whole::types;
+use access::file::File;
 use context::remove::TYPE_WORDS;
 use field::limits::MAX_TYPES;
 use marks::places::{PLACES, place_marks};
@@ -45,8 +45,7 @@ fn reply_word(r: Reply) -> u64
 
 // Of a module that was read, with a row for each type.
 fn request_of(
-    bytes: &[u8],
-    t: &[u32; WORDS],
+    file: &File,
     table: &mut [u32],
     places: &mut [u32; PLACES],
     request: &[u8],
@@ -54,33 +53,31 @@ fn request_of(
     report: &mut [u8],
     answer: &mut [u8],
 ) -> u64
-    requires { WasRead bytes.now t.now × (length table.old ≡ type_words * length (module_of bytes.now t.now).types) }
-    ensures { RequestsRead bytes.now t.now request.now pruner.old report.old answer.old result pruner.new report.new answer.new }
+    requires { WasRead file.now.bytes file.now.t × (length table.old ≡ type_words * length (module_of file.now.bytes file.now.t).types) }
+    ensures { RequestsRead file.now.bytes file.now.t request.now pruner.old report.old answer.old result pruner.new report.new answer.new }
 {
-    fill(bytes, t, table);
-    place_marks(bytes, t, places);
-    let r = serve_read(bytes, t, table, places, request, pruner, report, answer);
+    fill(file, table);
+    place_marks(file, places);
+    let r = serve_read(file, table, places, request, pruner, report, answer);
     reply_word(r)
 }
 
 // The same with tables of its own.
 fn request_in(
-    bytes: &[u8],
-    t: &[u32; WORDS],
+    file: &File,
     request: &[u8],
     pruner: &mut [u8],
     report: &mut [u8],
     answer: &mut [u8],
 ) -> u64
-    requires { WasRead bytes.now t.now }
-    ensures { RequestsRead bytes.now t.now request.now pruner.old report.old answer.old result pruner.new report.new answer.new }
+    requires { WasRead file.now.bytes file.now.t }
+    ensures { RequestsRead file.now.bytes file.now.t request.now pruner.old report.old answer.old result pruner.new report.new answer.new }
 {
     let mut table: [u32; TYPE_WORDS * MAX_TYPES] = [0; TYPE_WORDS * MAX_TYPES];
     let mut places: [u32; PLACES] = [0; PLACES];
-    let e = TYPE_WORDS * (types(t) as usize);
+    let e = TYPE_WORDS * (file.types() as usize);
     request_of(
-        bytes,
-        t,
+        file,
         &mut table[0..e],
         &mut places,
         request,
@@ -104,5 +101,5 @@ pub fn request_any(
     if let Err(refusal) = read_module(bytes, t) {
         return reply_word(Err(nowhere(refusal)));
     }
-    request_in(bytes, t, request, pruner, report, answer)
+    request_in(&File::new(bytes, t), request, pruner, report, answer)
 }

@@ -7,6 +7,7 @@ ghost use Rattle.reading.specs.Reads.{Reads};
 ghost use Rattle.checking.specs.Check.{check};
 ghost use Rattle.checking.specs.Word.{said};
 
+use access::file::File;
 use checking::words::Verdict;
 use field::refusal::Refusal;
 use memory::layout::{CELLS, SLOTS};
@@ -42,5 +43,5 @@ pub fn check_any(
     if let Err(refusal) = read_file(bytes, t, cells, slots) {
         return Verdict::Refused(refusal);
     }
-    check_in(bytes, t, cells, slots, request, report, context)
+    check_in(&File::new(bytes, t), cells, slots, request, report, context)
 }

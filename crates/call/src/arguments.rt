@@ -5,7 +5,8 @@ ghost use Rattle.access.specs.Access.{operand_at};
 ghost use Rattle.walk.specs.Resolve.{function_at};
 ghost use Rattle.call.specs.Calls.{Calling, Passable, Argued, AskedArguments};
 
-use access::kinded::{Kinded, expression_operand, operand};
+use access::file::File;
+use access::kinded::Kinded;
 use memory::layout::{ASK, RETURNED};
 use module::handles::ExpressionHandle;
 use part::limits::SPINE;
@@ -16,8 +17,7 @@ use statement::ask::then_ask;
 
 // What is needed of the argument i, if anything is, is asked of the expression e, after a walk that went.
 fn then_argument(
-    bytes: &[u8],
-    t: &[u32],
+    file: &File,
     cells: &mut [u32],
     slots: &mut [u32],
     fr: Frame,
@@ -25,38 +25,37 @@ fn then_argument(
     e: ExpressionHandle,
     i: u16,
 ) -> Walked
-    requires passable { Passable bytes.now t.now cells.old slots.old fr (Ok tally) }
-    requires e_in_bounds { e.0 < length (function_at (module_of bytes.now t.now) fr.function.0).expressions }
-    ensures { Argued bytes.now t.now cells.old slots.old fr (Ok tally) e.0 i result cells.new slots.new }
+    requires passable { Passable file.now.bytes file.now.t cells.old slots.old fr (Ok tally) }
+    requires e_in_bounds { e.0 < length (function_at (module_of file.now.bytes file.now.t) fr.function.0).expressions }
+    ensures { Argued file.now.bytes file.now.t cells.old slots.old fr (Ok tally) e.0 i result cells.new slots.new }
 {
     let needed = get(cells, slots[RETURNED], SPINE + (i as u32));
     match needed {
         None => Ok(tally),
         Some(p) => {
             slots[ASK] = p;
-            then_ask(bytes, t, cells, slots, fr, Ok(tally), e, ASK)
+            then_ask(file, cells, slots, fr, Ok(tally), e, ASK)
         }
     }
 }
 
 // Each argument in turn. The slot ASK has what is asked of it.
 pub fn ask_arguments(
-    bytes: &[u8],
-    t: &[u32],
+    file: &File,
     cells: &mut [u32],
     slots: &mut [u32],
     fr: Frame,
     row: Kinded,
     began: Tally,
 ) -> Walked
-    requires { Calling bytes.now t.now cells.old slots.old fr row began.sum }
-    ensures { AskedArguments bytes.now t.now cells.old slots.old fr row began.visits (operand_at bytes.now row 1) result cells.new slots.new }
+    requires { Calling file.now.bytes file.now.t cells.old slots.old fr row began.sum }
+    ensures { AskedArguments file.now.bytes file.now.t cells.old slots.old fr row began.visits (operand_at file.now.bytes row 1) result cells.new slots.new }
 {
-    let n = operand(bytes, row, 1);
+    let n = file.operand(row, 1);
     let mut tally = began;
     for i in 0..n {
-        let e = expression_operand(bytes, row, 2 + i);
-        tally = then_argument(bytes, t, cells, slots, fr, tally, e, i)?;
+        let e = file.expression_operand(row, 2 + i);
+        tally = then_argument(file, cells, slots, fr, tally, e, i)?;
     }
     Ok(tally)
 }

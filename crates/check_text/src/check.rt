@@ -2,24 +2,24 @@
 ghost use Rattle.check_text.specs.Checked.{Judging, Checks};
 
 use crate::record::{MAX_RECORD, write_record};
+use access::file::File;
 use checking::words::Verdict;
 use memory::layout::{CELLS, SLOTS};
 use verdict::check::check_in;
 
 // The check of the request's report, whose context stands in the four slots from k on.
 pub fn check_report(
-    bytes: &[u8],
-    t: &[u32],
+    file: &File,
     cells: &mut [u32; CELLS],
     slots: &mut [u32; SLOTS],
     open: &[u8],
     k: usize,
     request: &[u8],
 ) -> Verdict
-    requires { Judging bytes.now t.now cells.old slots.old «open».now k request.now }
-    ensures { Checks bytes.now t.now cells.old slots.old «open».now k request.now result }
+    requires { Judging file.now.bytes file.now.t cells.old slots.old «open».now k request.now }
+    ensures { Checks file.now.bytes file.now.t cells.old slots.old «open».now k request.now result }
 {
     let mut context: [u8; MAX_RECORD] = [0; MAX_RECORD];
     let n = write_record(cells, slots, k, &mut context);
-    check_in(bytes, t, cells, slots, request, open, &context[0..n])
+    check_in(file, cells, slots, request, open, &context[0..n])
 }

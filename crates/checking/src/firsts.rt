@@ -5,18 +5,18 @@ ghost use Rattle.module.specs.Tables.{function_of};
 ghost use Rattle.valid.specs.There.{There};
 ghost use Rattle.checking.specs.Stretch.{Firsts};
 
-use access::function::statements;
+use access::file::File;
 use marks::places::mark_count;
 use module::handles::FunctionHandle;
 
-pub fn fill_firsts(bytes: &[u8], t: &[u32], f: FunctionHandle, firsts: &mut [u32])
-    requires { There bytes.now t.now f.0 × (length (function_of bytes.now t.now f.0).statements ≤ length firsts.old) }
-    ensures { Firsts (function_of bytes.now t.now f.0).statements firsts.new }
+pub fn fill_firsts(file: &File, f: FunctionHandle, firsts: &mut [u32])
+    requires { There file.now.bytes file.now.t f.0 × (length (function_of file.now.bytes file.now.t f.0).statements ≤ length firsts.old) }
+    ensures { Firsts (function_of file.now.bytes file.now.t f.0).statements firsts.new }
 {
-    let n = statements(t, f);
+    let n = file.statements(f);
     let mut at: u32 = 0;
     for s in 0..n {
         firsts[s as usize] = at;
-        at += mark_count(bytes, t, f, s);
+        at += mark_count(file, f, s);
     }
 }

@@ -7,32 +7,32 @@ ghost use Rattle.walk.specs.Marks.{stretch};
 ghost use Rattle.marks.specs.Places.{start_of};
 ghost use Rattle.checking.specs.Stretch.{MarksFound};
 
-use access::function::statements;
+use access::file::File;
 use marks::places::mark_count;
 use module::handles::FunctionHandle;
 
 // How many marks the function has.
-fn mark_total(bytes: &[u8], t: &[u32], f: FunctionHandle) -> u32
-    requires { There bytes.now t.now f.0 }
-    ensures { result ≡ stretch (module_of bytes.now t.now) f.0 }
+fn mark_total(file: &File, f: FunctionHandle) -> u32
+    requires { There file.now.bytes file.now.t f.0 }
+    ensures { result ≡ stretch (module_of file.now.bytes file.now.t) f.0 }
 {
-    let n = statements(t, f);
+    let n = file.statements(f);
     let mut at: u32 = 0;
     for s in 0..n {
-        at += mark_count(bytes, t, f, s);
+        at += mark_count(file, f, s);
     }
     at
 }
 
 // How many the functions before it have.
-fn marks_start(bytes: &[u8], t: &[u32], f: FunctionHandle) -> u32
-    requires { There bytes.now t.now f.0 }
-    ensures { result ≡ start_of (module_of bytes.now t.now) f.0 }
+fn marks_start(file: &File, f: FunctionHandle) -> u32
+    requires { There file.now.bytes file.now.t f.0 }
+    ensures { result ≡ start_of (module_of file.now.bytes file.now.t) f.0 }
 {
     let n = f.0;
     let mut at: u32 = 0;
     for g in 0..n {
-        at += mark_total(bytes, t, FunctionHandle(g));
+        at += mark_total(file, FunctionHandle(g));
     }
     at
 }
@@ -46,16 +46,15 @@ fn are_bits(marks: &[u8]) -> bool
 
 // The function's part of the buffer, as far as it is there: well where the whole of it is and the marks have the function's shape.
 pub fn marks_shape<'a>(
-    bytes: &[u8],
-    t: &[u32],
+    file: &File,
     f: FunctionHandle,
     report: &'a [u8],
 ) -> Result<&'a [u8], &'a [u8]>
-    requires { There bytes.now t.now f.0 }
-    ensures { MarksFound bytes.now t.now f.0 report.now result }
+    requires { There file.now.bytes file.now.t f.0 }
+    ensures { MarksFound file.now.bytes file.now.t f.0 report.now result }
 {
-    let start = marks_start(bytes, t, f) as usize;
-    let end = start + mark_total(bytes, t, f) as usize;
+    let start = marks_start(file, f) as usize;
+    let end = start + mark_total(file, f) as usize;
     let from = start.min(report.len());
     let to = end.min(report.len());
     let marks = &report[from..to];

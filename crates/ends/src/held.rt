@@ -8,50 +8,48 @@ ghost use Rattle.standing.proofs.Cases.{switch_ends};
 ghost use Rattle.ends.specs.Merged.{EndGiven, BeginGiven};
 
 use crate::merge::merge;
+use access::file::File;
 use asking::ask::ask_whole;
 use hold::hold::{copy, push_sum};
 use module::handles::{ExpressionHandle, FunctionHandle};
 
 // The needs of both blocks are joined, and the condition is needed.
 pub fn end_if(
-    bytes: &[u8],
-    t: &[u32],
+    file: &File,
     f: FunctionHandle,
     cells: &mut [u32],
     roots: &mut [u32],
     n: usize,
     e: ExpressionHandle,
 ) -> bool
-    requires { EndGiven (scope_at bytes.now t.now f.0) cells.old roots.old n e.0 }
-    ensures { Closed (scope_at bytes.now t.now f.0) (ending (scope_at bytes.now t.now f.0) e.0) cells.old roots.old n cells.new roots.new result }
+    requires { EndGiven (scope_at file.now.bytes file.now.t f.0) cells.old roots.old n e.0 }
+    ensures { Closed (scope_at file.now.bytes file.now.t f.0) (ending (scope_at file.now.bytes file.now.t f.0) e.0) cells.old roots.old n cells.new roots.new result }
 {
     if !merge(cells, roots, n, n, n - 1) {
         return false;
     }
-    ask_whole(bytes, t, f, cells, roots, n, e)
+    ask_whole(file, f, cells, roots, n, e)
 }
 
 // The cases' union takes the place of the needs after the switch, and the selector is needed.
 pub fn end_switch(
-    bytes: &[u8],
-    t: &[u32],
+    file: &File,
     f: FunctionHandle,
     cells: &mut [u32],
     roots: &mut [u32],
     n: usize,
     e: ExpressionHandle,
 ) -> bool
-    requires { EndGiven (scope_at bytes.now t.now f.0) cells.old roots.old n e.0 }
-    ensures { Closed (scope_at bytes.now t.now f.0) (switch_ends (scope_at bytes.now t.now f.0) e.0) cells.old roots.old n cells.new roots.new result }
+    requires { EndGiven (scope_at file.now.bytes file.now.t f.0) cells.old roots.old n e.0 }
+    ensures { Closed (scope_at file.now.bytes file.now.t f.0) (switch_ends (scope_at file.now.bytes file.now.t f.0) e.0) cells.old roots.old n cells.new roots.new result }
 {
     copy(roots, n, n - 1);
-    ask_whole(bytes, t, f, cells, roots, n, e)
+    ask_whole(file, f, cells, roots, n, e)
 }
 
 // After the continuing block of the loop l stand its re-entry needs, and with `break_if` also the needs after the loop and the condition.
 pub fn begin_loop(
-    bytes: &[u8],
-    t: &[u32],
+    file: &File,
     f: FunctionHandle,
     cells: &mut [u32],
     roots: &mut [u32],
@@ -59,8 +57,8 @@ pub fn begin_loop(
     l: usize,
     break_if: Option<ExpressionHandle>,
 ) -> bool
-    requires { BeginGiven (scope_at bytes.now t.now f.0) l cells.old roots.old n (handle_in break_if) }
-    ensures { Begun (scope_at bytes.now t.now f.0) l (handle_in break_if) cells.old roots.old n cells.new roots.new result }
+    requires { BeginGiven (scope_at file.now.bytes file.now.t f.0) l cells.old roots.old n (handle_in break_if) }
+    ensures { Begun (scope_at file.now.bytes file.now.t f.0) l (handle_in break_if) cells.old roots.old n cells.new roots.new result }
 {
     let Some(condition) = break_if else {
         copy(roots, l, n);
@@ -69,5 +67,5 @@ pub fn begin_loop(
     if !push_sum(cells, roots, n, n - 1, l) {
         return false;
     }
-    ask_whole(bytes, t, f, cells, roots, n + 1, condition)
+    ask_whole(file, f, cells, roots, n + 1, condition)
 }

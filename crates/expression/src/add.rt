@@ -9,6 +9,7 @@ ghost use Rattle.expression.specs.Walks.{Walks};
 
 use crate::variables::{entry, global};
 use crate::visit::{allowed, close};
+use access::file::File;
 use asks::ask::ask;
 use asks::what::Ask;
 use field::limits::MAX_VISITS;
@@ -24,8 +25,7 @@ const ARGUMENTS: usize = 2;
 
 // `add_expression`: a visit of the expression e of f, of which w is asked, with the current context in the slots from `at` on.
 pub fn add_expression(
-    bytes: &[u8],
-    t: &[u32],
+    file: &File,
     cells: &mut [u32],
     slots: &mut [u32],
     f: FunctionHandle,
@@ -35,10 +35,10 @@ pub fn add_expression(
     w: Want,
     began: Tally,
 ) -> Walked
-    requires ready { Ready bytes.now t.now cells.old slots.old f.0 at held began.sum }
-    requires e_in_bounds { e.0 < length (function_at (module_of bytes.now t.now) f.0).expressions }
+    requires ready { Ready file.now.bytes file.now.t cells.old slots.old f.0 at held began.sum }
+    requires e_in_bounds { e.0 < length (function_at (module_of file.now.bytes file.now.t) f.0).expressions }
     requires wants { Wants cells.old slots.old w }
-    ensures { Walks bytes.now t.now f.0 at held cells.old slots.old (add_expression (module_of bytes.now t.now) f.0 held e.0 (asked cells.old slots.old w)) began.visits result cells.new slots.new }
+    ensures { Walks file.now.bytes file.now.t f.0 at held cells.old slots.old (add_expression (module_of file.now.bytes file.now.t) f.0 held e.0 (asked cells.old slots.old w)) began.visits result cells.new slots.new }
 {
     let here = Place::Expression(f, e);
     if MAX_VISITS <= began.visits {
@@ -59,16 +59,18 @@ pub fn add_expression(
     };
     let mut j = 0;
     // Stays: the arm's answers end the loop, and no count; a `for` would need an end of its own.
-    while let Some(a) = ask(bytes, t, cells, slots, f, e, w, j) {
+    while let Some(a) = ask(file, cells, slots, f, e, w, j) {
         match a {
             Ask::Operand(h, want) => {
-                tally = add_expression(bytes, t, cells, slots, f, at, held, h, want, tally)?;
+                tally = add_expression(file, cells, slots, f, at, held, h, want, tally)?;
             }
             Ask::Argument(i) => {
-                return entry(t, cells, slots, f, at, held, e, ARGUMENTS, i, w, tally);
+                return entry(file, cells, slots, f, at, held, e, ARGUMENTS, i, w, tally);
             }
-            Ask::Global(g) => return global(t, cells, slots, f, at, held, e, g, w, tally),
-            Ask::Local(l) => return entry(t, cells, slots, f, at, held, e, LOCALS, l.0, w, tally),
+            Ask::Global(g) => return global(file, cells, slots, f, at, held, e, g, w, tally),
+            Ask::Local(l) => return entry(
+                file, cells, slots, f, at, held, e, LOCALS, l.0, w, tally,
+            ),
             Ask::Refuse(refusal) => {
                 return Err(Halt {
                     refusal,
@@ -78,5 +80,5 @@ pub fn add_expression(
         }
         j += 1;
     }
-    close(t, cells, slots, f, at, held, e, w, tally)
+    close(file, cells, slots, f, at, held, e, w, tally)
 }

@@ -9,6 +9,7 @@ ghost use Rattle.expression.specs.Walks.{Walks, EntryWalks, ending_global};
 ghost use Rattle.expression.specs.Visits.{Visiting, Mapping, Meets};
 
 use crate::visit::close;
+use access::file::File;
 use field::refusal::Refusal;
 use memory::layout::GLOBALS;
 use memory::memory::{ask_global, join_asked};
@@ -35,7 +36,7 @@ fn join(cells: &mut [u32], slots: &mut [u32], k: usize, i: u32, w: Want) -> bool
 
 // The entry i of a map of the current context is asked w, and the visit ends: that of an argument, or of a local, by the map's place in the context.
 pub fn entry(
-    t: &[u32],
+    file: &File,
     cells: &mut [u32],
     slots: &mut [u32],
     f: FunctionHandle,
@@ -47,9 +48,9 @@ pub fn entry(
     w: Want,
     tally: Tally,
 ) -> Walked
-    requires visiting { Visiting t.now f.0 e.0 at held cells.old slots.old w tally.sum }
+    requires visiting { Visiting file.now.t f.0 e.0 at held cells.old slots.old w tally.sum }
     requires in_bounds { (map < 4) × (i < spine) }
-    ensures { (bytes : List ℕ) → Ready bytes t.now cells.old slots.old f.0 at held tally.sum → EntryWalks bytes t.now f.0 at held cells.old slots.old map e.0 i (asked cells.old slots.old w) tally.visits result cells.new slots.new }
+    ensures { (bytes : List ℕ) → Ready bytes file.now.t cells.old slots.old f.0 at held tally.sum → EntryWalks bytes file.now.t f.0 at held cells.old slots.old map e.0 i (asked cells.old slots.old w) tally.visits result cells.new slots.new }
 {
     if join(cells, slots, at + map, i, w) {
         return Err(Halt {
@@ -57,12 +58,12 @@ pub fn entry(
             place: Place::Expression(f, e),
         });
     }
-    close(t, cells, slots, f, at, held, e, w, tally)
+    close(file, cells, slots, f, at, held, e, w, tally)
 }
 
 // The global g is asked w, and the visit ends. 15 is asked of the total, where it was joined.
 pub fn global(
-    t: &[u32],
+    file: &File,
     cells: &mut [u32],
     slots: &mut [u32],
     f: FunctionHandle,
@@ -73,9 +74,9 @@ pub fn global(
     w: Want,
     tally: Tally,
 ) -> Walked
-    requires visiting { Visiting t.now f.0 e.0 at held cells.old slots.old w tally.sum }
+    requires visiting { Visiting file.now.t f.0 e.0 at held cells.old slots.old w tally.sum }
     requires g_lt_spine { g.0 < spine }
-    ensures { (bytes : List ℕ) → Ready bytes t.now cells.old slots.old f.0 at held tally.sum → Walks bytes t.now f.0 at held cells.old slots.old (ending_global f.0 held e.0 g.0 (asked cells.old slots.old w)) tally.visits result cells.new slots.new }
+    ensures { (bytes : List ℕ) → Ready bytes file.now.t cells.old slots.old f.0 at held tally.sum → Walks bytes file.now.t f.0 at held cells.old slots.old (ending_global f.0 held e.0 g.0 (asked cells.old slots.old w)) tally.visits result cells.new slots.new }
 {
     let seen = get(cells, slots[GLOBALS], SPINE + g.0);
     let n = slots[at];
@@ -87,7 +88,7 @@ pub fn global(
     match seen {
         None => {
             slots[at] = r.globals;
-            close(t, cells, slots, f, at, held, e, w, counted)
+            close(file, cells, slots, f, at, held, e, w, counted)
         }
         Some(_) => {
             if over(cells, slots[GLOBALS]) {
@@ -96,7 +97,7 @@ pub fn global(
                     place: Place::Expression(f, e),
                 });
             }
-            close(t, cells, slots, f, at, held, e, w, counted)
+            close(file, cells, slots, f, at, held, e, w, counted)
         }
     }
 }

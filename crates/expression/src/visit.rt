@@ -5,7 +5,7 @@ ghost use Rattle.state.specs.Ready.{Ready};
 ghost use Rattle.expression.specs.Walks.{Walks, closing};
 ghost use Rattle.expression.specs.Visits.{Counting, Allowed, Closing};
 
-use access::kinded::expression_number;
+use access::file::File;
 use field::limits::MAX_PIECES;
 use field::refusal::Refusal;
 use memory::layout::EXPRS;
@@ -29,7 +29,7 @@ pub fn allowed(cells: &mut [u32], slots: &mut [u32], at: usize, held: usize, sum
 
 // A visit of e ends: the record, 16, and room for the next visit.
 pub fn close(
-    t: &[u32],
+    file: &File,
     cells: &mut [u32],
     slots: &mut [u32],
     f: FunctionHandle,
@@ -39,10 +39,10 @@ pub fn close(
     w: Want,
     tally: Tally,
 ) -> Walked
-    requires { Closing t.now f.0 e.0 at held cells.old slots.old w tally.sum }
-    ensures { (bytes : List ℕ) → Ready bytes t.now cells.old slots.old f.0 at held tally.sum → Walks bytes t.now f.0 at held cells.old slots.old (closing f.0 held e.0 (asked cells.old slots.old w)) tally.visits result cells.new slots.new }
+    requires { Closing file.now.t f.0 e.0 at held cells.old slots.old w tally.sum }
+    ensures { (bytes : List ℕ) → Ready bytes file.now.t cells.old slots.old f.0 at held tally.sum → Walks bytes file.now.t f.0 at held cells.old slots.old (closing f.0 held e.0 (asked cells.old slots.old w)) tally.visits result cells.new slots.new }
 {
-    let number = expression_number(t, f, e);
+    let number = file.expression_number(f, e);
     let sum = note(cells, slots, EXPRS + number, w, tally.sum);
     if allowed(cells, slots, at, held, sum) {
         return Ok(Tally { sum, ..tally });

@@ -12,43 +12,41 @@ ghost use Rattle.forms.specs.Frames.{Framing, Rooted, place_cells};
 
 use crate::form::Form;
 use crate::take::{change_entry, take_out};
-use access::function::local;
-use access::whole::global;
+use access::file::File;
 use judge::values::type_of;
 use module::handles::{ExpressionHandle, FunctionHandle, GlobalHandle, LocalHandle};
 use part::limits::SPINE;
 use part::req::get;
 
 // The shape of the variable v of the kind k: a global (0), a local (1), or an evaluated expression, 32 to a kind (from 4 on).
-fn place_form(bytes: &[u8], t: &[u32], f: FunctionHandle, types: &[u32], k: u32, v: u32) -> Form
-    requires framing { Framing bytes.now t.now f.0 types.now }
+fn place_form(file: &File, f: FunctionHandle, types: &[u32], k: u32, v: u32) -> Form
+    requires framing { Framing file.now.bytes file.now.t f.0 types.now }
     requires fact { (k ≡ 2 → ⊥) × (k ≡ 3 → ⊥) }
-    requires k_bound { (k ≤ 64) × (v < extent (kind_shape (scope_at bytes.now t.now f.0) k)) }
-    ensures { shape_by types.now result ≡ member (kind_shape (scope_at bytes.now t.now f.0) k) (variable v) }
+    requires k_bound { (k ≤ 64) × (v < extent (kind_shape (scope_at file.now.bytes file.now.t f.0) k)) }
+    ensures { shape_by types.now result ≡ member (kind_shape (scope_at file.now.bytes file.now.t f.0) k) (variable v) }
 {
     match k {
-        0 => Form::Of(global(bytes, t, GlobalHandle(v))),
-        1 => Form::Of(local(bytes, t, f, LocalHandle(v))),
-        _ => Form::Of(type_of(bytes, t, f, ExpressionHandle(32 * (k - 4) + v))),
+        0 => Form::Of(file.global(GlobalHandle(v))),
+        1 => Form::Of(file.local(f, LocalHandle(v))),
+        _ => Form::Of(type_of(file, f, ExpressionHandle(32 * (k - 4) + v))),
     }
 }
 
 // The needs n without the part at the path, whose first two indexes say where its variable is.
 pub fn take_place(
     cells: &mut [u32],
-    bytes: &[u8],
-    t: &[u32],
+    file: &File,
     f: FunctionHandle,
     types: &[u32],
     n: u32,
     path: &[u32],
 ) -> u32
     requires good { Good cells.old }
-    requires framing { Framing bytes.now t.now f.0 types.now × Rooted path.now }
+    requires framing { Framing file.now.bytes file.now.t f.0 types.now × Rooted path.now }
     requires n_bound { (n < top cells.old) × Framed (part cells.old n) }
-    requires need { IsNeed (frame (scope_at bytes.now t.now f.0)) (part cells.old n) }
+    requires need { IsNeed (frame (scope_at file.now.bytes file.now.t f.0)) (part cells.old n) }
     requires room { Room cells.old (place_cells path.now) }
-    ensures { Made cells.old cells.new (leaves (frame (scope_at bytes.now t.now f.0)) (part cells.old n) path.now) (place_cells path.now) result }
+    ensures { Made cells.old cells.new (leaves (frame (scope_at file.now.bytes file.now.t f.0)) (part cells.old n) path.now) (place_cells path.now) result }
 {
     let x = path[0];
     let y = path[1];
@@ -58,7 +56,7 @@ pub fn take_place(
     let Some(c) = get(cells, m, y) else {
         return n;
     };
-    let form = place_form(bytes, t, f, types, x - SPINE, y - SPINE);
+    let form = place_form(file, f, types, x - SPINE, y - SPINE);
     let d = take_out(cells, types, form, c, &path[2..]);
     let e = change_entry(cells, m, y, d);
     change_entry(cells, n, x, e)

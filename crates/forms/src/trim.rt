@@ -13,8 +13,7 @@ ghost use Rattle.forms.specs.Frames.{globals_shape, trim_globals};
 
 use crate::form::{Form, is_void, member_form};
 use crate::take::keep;
-use access::function::result;
-use access::whole::{global, globals};
+use access::file::File;
 use module::handles::{FunctionHandle, GlobalHandle};
 use part::limits::SPINE;
 use part::store::look;
@@ -43,25 +42,25 @@ pub fn trim_part(cells: &mut [u32], types: &[u32], form: Form, p: u32) -> u32
 }
 
 // The shape of the entry i of the map of globals.
-fn global_form(bytes: &[u8], t: &[u32], types: &[u32], i: u32) -> Form
-    ensures { shape_by types.now result ≡ member (globals_shape bytes.now t.now types.now) i }
+fn global_form(file: &File, types: &[u32], i: u32) -> Form
+    ensures { shape_by types.now result ≡ member (globals_shape file.now.bytes file.now.t types.now) i }
 {
     if i < SPINE {
         return Form::Void;
     }
     let g = i - SPINE;
-    if globals(t) <= g {
+    if file.globals() <= g {
         return Form::Void;
     }
-    Form::Of(global(bytes, t, GlobalHandle(g)))
+    Form::Of(file.global(GlobalHandle(g)))
 }
 
 // What is left of p, a map of globals.
-fn trim_map(cells: &mut [u32], bytes: &[u8], t: &[u32], types: &[u32], p: u32) -> u32
+fn trim_map(cells: &mut [u32], file: &File, types: &[u32], p: u32) -> u32
     requires good { Good cells.old }
     requires lower { Lower (types_of types.now) }
     requires p_bound { (p < top cells.old) × Room cells.old (entries (part cells.old p)) }
-    ensures { Made cells.old cells.new (trim (part cells.old p) (globals_shape bytes.now t.now types.now)) (entries (part cells.old p)) result }
+    ensures { Made cells.old cells.new (trim (part cells.old p) (globals_shape file.now.bytes file.now.t types.now)) (entries (part cells.old p)) result }
 {
     if p == 0 {
         return 0;
@@ -70,48 +69,41 @@ fn trim_map(cells: &mut [u32], bytes: &[u8], t: &[u32], types: &[u32], p: u32) -
         return 2;
     }
     let x = look(cells, p);
-    let m = global_form(bytes, t, types, x.index);
+    let m = global_form(file, types, x.index);
     let c = trim_part(cells, types, m, x.child);
-    let r = trim_map(cells, bytes, t, types, x.rest);
+    let r = trim_map(cells, file, types, x.rest);
     keep(cells, x.index, c, r)
 }
 
 // What is left of p, asked of the globals at a function's end, as needs of its frame.
-pub fn trim_globals(cells: &mut [u32], bytes: &[u8], t: &[u32], types: &[u32], p: u32) -> u32
+pub fn trim_globals(cells: &mut [u32], file: &File, types: &[u32], p: u32) -> u32
     requires good { Good cells.old }
     requires lower { Lower (types_of types.now) }
     requires p_bound { (p < top cells.old) × Room cells.old (1 + entries (part cells.old p)) }
-    ensures { Made cells.old cells.new (trim_globals bytes.now t.now types.now (part cells.old p)) (1 + entries (part cells.old p)) result }
+    ensures { Made cells.old cells.new (trim_globals file.now.bytes file.now.t types.now (part cells.old p)) (1 + entries (part cells.old p)) result }
 {
-    let m = trim_map(cells, bytes, t, types, p);
+    let m = trim_map(cells, file, types, p);
     keep(cells, SPINE, m, 2)
 }
 
 // The shape of a function's result.
-fn result_form(bytes: &[u8], t: &[u32], f: FunctionHandle, types: &[u32]) -> Form
-    requires { (module_of bytes.now t.now).types ≡ types_of types.now }
-    ensures { shape_by types.now result ≡ result_shape (scope_at bytes.now t.now f.0) (function_of bytes.now t.now f.0).result }
+fn result_form(file: &File, f: FunctionHandle, types: &[u32]) -> Form
+    requires { (module_of file.now.bytes file.now.t).types ≡ types_of types.now }
+    ensures { shape_by types.now result ≡ result_shape (scope_at file.now.bytes file.now.t f.0) (function_of file.now.bytes file.now.t f.0).result }
 {
-    match result(bytes, t, f) {
+    match file.result(f) {
         Some(x) => Form::Of(x.ty),
         None => Form::Void,
     }
 }
 
 // What is left of p, asked of a function's result.
-pub fn trim_value(
-    cells: &mut [u32],
-    bytes: &[u8],
-    t: &[u32],
-    f: FunctionHandle,
-    types: &[u32],
-    p: u32,
-) -> u32
+pub fn trim_value(cells: &mut [u32], file: &File, f: FunctionHandle, types: &[u32], p: u32) -> u32
     requires good { Good cells.old }
-    requires lower { Lower (types_of types.now) × ((module_of bytes.now t.now).types ≡ types_of types.now) }
+    requires lower { Lower (types_of types.now) × ((module_of file.now.bytes file.now.t).types ≡ types_of types.now) }
     requires p_bound { (p < top cells.old) × Room cells.old (entries (part cells.old p)) }
-    ensures { Made cells.old cells.new (trim (part cells.old p) (result_shape (scope_at bytes.now t.now f.0) (function_of bytes.now t.now f.0).result)) (entries (part cells.old p)) result }
+    ensures { Made cells.old cells.new (trim (part cells.old p) (result_shape (scope_at file.now.bytes file.now.t f.0) (function_of file.now.bytes file.now.t f.0).result)) (entries (part cells.old p)) result }
 {
-    let form = result_form(bytes, t, f, types);
+    let form = result_form(file, f, types);
     trim_part(cells, types, form, p)
 }

@@ -19,11 +19,8 @@ ghost use Rattle.block.specs.Pairing.{add_pair, Paired, PairEnds};
 ghost use Rattle.field.specs.Limits.{max_turns};
 ghost use Rattle.arms.specs.Loops.{Turning};
 
-use access::function::{block, body_block};
-use access::kinded::{
-    Kinded, block_operand, expression_operand, function_operand, operand, optional_expression,
-    statement,
-};
+use access::file::File;
+use access::kinded::Kinded;
 use arms::calls::{begin_call, leave_call, return_call};
 use arms::emit::add_emit;
 use arms::ifs::end_if;
@@ -43,7 +40,6 @@ use memory::memory::weigh;
 use memory::stretches::copy_context;
 use module::handles::{BlockHandle, FunctionHandle};
 use module::kinds::StatementKind;
-use module::tables::WORDS;
 use state::answer::{Answer, Answered, Place, Tally};
 use state::frame::Frame;
 use statement::leaf::add_leaf;
@@ -51,8 +47,7 @@ use statement::leaf::add_leaf;
 // `add_function_ref`: f, whose base context stands in the slots from `base` on, and which was called at `here`. Its context is left behind that.
 #[cycle(walk)]
 pub fn add_function(
-    bytes: &[u8],
-    t: &[u32; WORDS],
+    file: &File,
     types: &[u32],
     places: &[u32; PLACES],
     cells: &mut [u32; CELLS],
@@ -65,17 +60,17 @@ pub fn add_function(
     held: usize,
     tally: Tally,
 ) -> Answered
-    requires function_entered { FunctionEntered bytes.now t.now types.now places.now cells.old slots.old «open».old totals.old f.0 base held tally.sum tally.visits }
+    requires function_entered { FunctionEntered file.now.bytes file.now.t types.now places.now cells.old slots.old «open».old totals.old f.0 base held tally.sum tally.visits }
     requires base_bound { base + 4 ≤ slot_count }
-    ensures { FunctionEnds bytes.now t.now types.now places.now cells.old slots.old «open».old totals.old f.0 base held (add_function (module_of bytes.now t.now) f.0 (place_of here) held (get_or (read cells.old slots.old) base none) (get_or (read cells.old slots.old) (base + 3) none) (state_in bytes.now t.now cells.old slots.old «open».old totals.old f.0 base tally.visits)) result cells.new slots.new «open».new totals.new }
+    ensures { FunctionEnds file.now.bytes file.now.t types.now places.now cells.old slots.old «open».old totals.old f.0 base held (add_function (module_of file.now.bytes file.now.t) f.0 (place_of here) held (get_or (read cells.old slots.old) base none) (get_or (read cells.old slots.old) (base + 3) none) (state_in file.now.bytes file.now.t cells.old slots.old «open».old totals.old f.0 base tally.visits)) result cells.new slots.new «open».new totals.new }
 {
-    let b = body_block(t, f);
+    let b = file.body_block(f);
     let at = base + 4;
     let a = add_block(
-        bytes, t, types, places, cells, slots, open, totals, f, b, base, at, held, false, tally,
+        file, types, places, cells, slots, open, totals, f, b, base, at, held, false, tally,
     )?;
     let tally = add_total(
-        bytes, t, places, cells, slots, open, totals, f, at, here, a.tally,
+        file, places, cells, slots, open, totals, f, at, here, a.tally,
     )?;
     Ok(Answer {
         tally,
@@ -86,8 +81,7 @@ pub fn add_function(
 // `add_block`: the block b of f, whose base stands in the slots from `base` on. Its context is left in those from `at` on.
 #[cycle(walk)]
 pub fn add_block(
-    bytes: &[u8],
-    t: &[u32; WORDS],
+    file: &File,
     types: &[u32],
     places: &[u32; PLACES],
     cells: &mut [u32; CELLS],
@@ -102,10 +96,10 @@ pub fn add_block(
     break_required: bool,
     began: Tally,
 ) -> Answered
-    requires { Entered bytes.now t.now types.now places.now cells.old slots.old «open».old totals.old f.0 b.0 base at held (held + context_in cells.old slots.old base) began.sum began.visits }
-    ensures { BlockEnds bytes.now t.now types.now places.now cells.old slots.old «open».old totals.old f.0 base at held (held + context_in cells.old slots.old base) began.sum (block_in bytes.now t.now f.0 b.0 held (context_at (read cells.old slots.old) base) break_required (state_in bytes.now t.now cells.old slots.old «open».old totals.old f.0 at began.visits)) result cells.new slots.new «open».new totals.new }
+    requires { Entered file.now.bytes file.now.t types.now places.now cells.old slots.old «open».old totals.old f.0 b.0 base at held (held + context_in cells.old slots.old base) began.sum began.visits }
+    ensures { BlockEnds file.now.bytes file.now.t types.now places.now cells.old slots.old «open».old totals.old f.0 base at held (held + context_in cells.old slots.old base) began.sum (block_in file.now.bytes file.now.t f.0 b.0 held (context_at (read cells.old slots.old) base) break_required (state_in file.now.bytes file.now.t cells.old slots.old «open».old totals.old f.0 at began.visits)) result cells.new slots.new «open».new totals.new }
 {
-    let range = block(t, f, b);
+    let range = file.block(f, b);
     let first = range.first;
     let inner = held + weigh(cells, slots, base, 4);
     copy_context(slots, base, at);
@@ -122,7 +116,7 @@ pub fn add_block(
             break_required: behind,
         };
         let a = add_statement(
-            bytes, t, types, places, cells, slots, open, totals, fr, b, tally,
+            file, types, places, cells, slots, open, totals, fr, b, tally,
         )?;
         tally = a.tally;
         behind |= a.required;
@@ -134,8 +128,7 @@ pub fn add_block(
 // `add_statement`, as a visit: 17, 16, the arm with its marks, and 16 again. The statement stands in the block b.
 #[cycle(walk)]
 pub fn add_statement(
-    bytes: &[u8],
-    t: &[u32; WORDS],
+    file: &File,
     types: &[u32],
     places: &[u32; PLACES],
     cells: &mut [u32; CELLS],
@@ -146,8 +139,8 @@ pub fn add_statement(
     b: BlockHandle,
     tally: Tally,
 ) -> Answered
-    requires { Visits bytes.now t.now types.now places.now cells.old slots.old «open».old totals.old fr b.0 tally.sum tally.visits }
-    ensures { VisitEnds bytes.now t.now types.now places.now cells.old slots.old «open».old totals.old fr (visit_statement (module_of bytes.now t.now) (add_function (module_of bytes.now t.now)) (block_in bytes.now t.now fr.function.0) (frame_of cells.old slots.old fr) (state_in bytes.now t.now cells.old slots.old «open».old totals.old fr.function.0 fr.at tally.visits)) result cells.new slots.new «open».new totals.new }
+    requires { Visits file.now.bytes file.now.t types.now places.now cells.old slots.old «open».old totals.old fr b.0 tally.sum tally.visits }
+    ensures { VisitEnds file.now.bytes file.now.t types.now places.now cells.old slots.old «open».old totals.old fr (visit_statement (module_of file.now.bytes file.now.t) (add_function (module_of file.now.bytes file.now.t)) (block_in file.now.bytes file.now.t fr.function.0) (frame_of cells.old slots.old fr) (state_in file.now.bytes file.now.t cells.old slots.old «open».old totals.old fr.function.0 fr.at tally.visits)) result cells.new slots.new «open».new totals.new }
 {
     let f = fr.function;
     if MAX_VISITS <= tally.visits {
@@ -156,13 +149,13 @@ pub fn add_statement(
     if !allowed(cells, slots, fr.at, fr.held, tally.sum) {
         return Err(fr.halt(Refusal::PiecesLimit));
     }
-    let row = statement(bytes, t, f, fr.statement);
+    let row = file.statement(f, fr.statement);
     let counted = Tally {
         visits: tally.visits + 1,
         ..tally
     };
     let r = add_arm(
-        bytes, t, types, places, cells, slots, open, totals, fr, b, row, counted,
+        file, types, places, cells, slots, open, totals, fr, b, row, counted,
     );
     end_statement(cells, slots, fr, r)
 }
@@ -170,8 +163,7 @@ pub fn add_statement(
 // The arm with its marks.
 #[cycle(walk)]
 fn add_arm(
-    bytes: &[u8],
-    t: &[u32; WORDS],
+    file: &File,
     types: &[u32],
     places: &[u32; PLACES],
     cells: &mut [u32; CELLS],
@@ -183,36 +175,35 @@ fn add_arm(
     row: Kinded,
     tally: Tally,
 ) -> Answered
-    requires { Arms bytes.now t.now types.now places.now cells.old slots.old «open».old totals.old fr b.0 row tally.sum tally.visits }
-    ensures { StatementEnds bytes.now t.now types.now places.now cells.old slots.old «open».old totals.old fr (marked (module_of bytes.now t.now) (frame_of cells.old slots.old fr) (add_statement (module_of bytes.now t.now) (add_function (module_of bytes.now t.now)) (block_in bytes.now t.now fr.function.0) (frame_of cells.old slots.old fr) (statement_of row.kind (operand_at bytes.now row)) (state_in bytes.now t.now cells.old slots.old «open».old totals.old fr.function.0 fr.at tally.visits))) (λ b. b) result cells.new slots.new «open».new totals.new }
+    requires { Arms file.now.bytes file.now.t types.now places.now cells.old slots.old «open».old totals.old fr b.0 row tally.sum tally.visits }
+    ensures { StatementEnds file.now.bytes file.now.t types.now places.now cells.old slots.old «open».old totals.old fr (marked (module_of file.now.bytes file.now.t) (frame_of cells.old slots.old fr) (add_statement (module_of file.now.bytes file.now.t) (add_function (module_of file.now.bytes file.now.t)) (block_in file.now.bytes file.now.t fr.function.0) (frame_of cells.old slots.old fr) (statement_of row.kind (operand_at file.now.bytes row)) (state_in file.now.bytes file.now.t cells.old slots.old «open».old totals.old fr.function.0 fr.at tally.visits))) (λ b. b) result cells.new slots.new «open».new totals.new }
 {
     match StatementKind::try_from(row.kind) {
         Ok(StatementKind::Emit) => {
-            return add_emit(bytes, t, places, cells, slots, open, fr, row, tally);
+            return add_emit(file, places, cells, slots, open, fr, row, tally);
         }
         Ok(StatementKind::Call) => {
             return add_call(
-                bytes, t, types, places, cells, slots, open, totals, fr, b, row, tally,
+                file, types, places, cells, slots, open, totals, fr, b, row, tally,
             );
         }
         Ok(
             StatementKind::Block | StatementKind::If | StatementKind::Switch | StatementKind::Loop,
         ) => {
             return add_holder(
-                bytes, t, types, places, cells, slots, open, totals, fr, b, row, tally,
+                file, types, places, cells, slots, open, totals, fr, b, row, tally,
             );
         }
         _ => {}
     }
-    let r = add_leaf(bytes, t, types, cells, slots, fr, row, tally);
-    mark_statement(t, places, open, fr, row, r)
+    let r = add_leaf(file, types, cells, slots, fr, row, tally);
+    mark_statement(file, places, open, fr, row, r)
 }
 
 // The arm of a statement that holds blocks, with its marks: each takes them by itself, so that no answer of a walk waits beside those of the others.
 #[cycle(walk)]
 fn add_holder(
-    bytes: &[u8],
-    t: &[u32; WORDS],
+    file: &File,
     types: &[u32],
     places: &[u32; PLACES],
     cells: &mut [u32; CELLS],
@@ -224,42 +215,41 @@ fn add_holder(
     row: Kinded,
     tally: Tally,
 ) -> Answered
-    requires arms { Arms bytes.now t.now types.now places.now cells.old slots.old «open».old totals.old fr b.0 row tally.sum tally.visits }
+    requires arms { Arms file.now.bytes file.now.t types.now places.now cells.old slots.old «open».old totals.old fr b.0 row tally.sum tally.visits }
     requires le_kind { (1 ≤ row.kind) × (row.kind ≤ 4) }
-    ensures { StatementEnds bytes.now t.now types.now places.now cells.old slots.old «open».old totals.old fr (marked (module_of bytes.now t.now) (frame_of cells.old slots.old fr) (add_statement (module_of bytes.now t.now) (add_function (module_of bytes.now t.now)) (block_in bytes.now t.now fr.function.0) (frame_of cells.old slots.old fr) (statement_of row.kind (operand_at bytes.now row)) (state_in bytes.now t.now cells.old slots.old «open».old totals.old fr.function.0 fr.at tally.visits))) (λ b. b) result cells.new slots.new «open».new totals.new }
+    ensures { StatementEnds file.now.bytes file.now.t types.now places.now cells.old slots.old «open».old totals.old fr (marked (module_of file.now.bytes file.now.t) (frame_of cells.old slots.old fr) (add_statement (module_of file.now.bytes file.now.t) (add_function (module_of file.now.bytes file.now.t)) (block_in file.now.bytes file.now.t fr.function.0) (frame_of cells.old slots.old fr) (statement_of row.kind (operand_at file.now.bytes row)) (state_in file.now.bytes file.now.t cells.old slots.old «open».old totals.old fr.function.0 fr.at tally.visits))) (λ b. b) result cells.new slots.new «open».new totals.new }
 {
     match StatementKind::try_from(row.kind) {
         Ok(StatementKind::Block) => {
             let r = add_nested(
-                bytes, t, types, places, cells, slots, open, totals, fr, b, row, tally,
+                file, types, places, cells, slots, open, totals, fr, b, row, tally,
             );
-            return mark_statement(t, places, open, fr, row, r);
+            return mark_statement(file, places, open, fr, row, r);
         }
         Ok(StatementKind::If) => {
             let r = add_if(
-                bytes, t, types, places, cells, slots, open, totals, fr, b, row, tally,
+                file, types, places, cells, slots, open, totals, fr, b, row, tally,
             );
-            return mark_statement(t, places, open, fr, row, r);
+            return mark_statement(file, places, open, fr, row, r);
         }
         Ok(StatementKind::Switch) => {
             let r = add_switch(
-                bytes, t, types, places, cells, slots, open, totals, fr, b, row, tally,
+                file, types, places, cells, slots, open, totals, fr, b, row, tally,
             );
-            return mark_statement(t, places, open, fr, row, r);
+            return mark_statement(file, places, open, fr, row, r);
         }
         _ => {}
     }
     let r = add_loop(
-        bytes, t, types, places, cells, slots, open, totals, fr, b, row, tally,
+        file, types, places, cells, slots, open, totals, fr, b, row, tally,
     );
-    mark_statement(t, places, open, fr, row, r)
+    mark_statement(file, places, open, fr, row, r)
 }
 
 // Two blocks one after the other, both from the base in the slots from `base` on. Their contexts are left in the slots from `at` on, and behind them. A statement of the block b holds them.
 #[cycle(walk)]
 pub fn add_pair(
-    bytes: &[u8],
-    t: &[u32; WORDS],
+    file: &File,
     types: &[u32],
     places: &[u32; PLACES],
     cells: &mut [u32; CELLS],
@@ -276,12 +266,11 @@ pub fn add_pair(
     break_required: bool,
     tally: Tally,
 ) -> Answered
-    requires { Paired bytes.now t.now types.now places.now cells.old slots.old «open».old totals.old f.0 b.0 first.0 second.0 base at held tally.sum tally.visits }
-    ensures { PairEnds bytes.now t.now types.now places.now cells.old slots.old «open».old totals.old f.0 base at held (add_pair (block_in bytes.now t.now f.0) first.0 second.0 held (context_at (read cells.old slots.old) base) break_required (state_in bytes.now t.now cells.old slots.old «open».old totals.old f.0 at tally.visits)) result cells.new slots.new «open».new totals.new }
+    requires { Paired file.now.bytes file.now.t types.now places.now cells.old slots.old «open».old totals.old f.0 b.0 first.0 second.0 base at held tally.sum tally.visits }
+    ensures { PairEnds file.now.bytes file.now.t types.now places.now cells.old slots.old «open».old totals.old f.0 base at held (add_pair (block_in file.now.bytes file.now.t f.0) first.0 second.0 held (context_at (read cells.old slots.old) base) break_required (state_in file.now.bytes file.now.t cells.old slots.old «open».old totals.old f.0 at tally.visits)) result cells.new slots.new «open».new totals.new }
 {
     let a = add_block(
-        bytes,
-        t,
+        file,
         types,
         places,
         cells,
@@ -298,8 +287,7 @@ pub fn add_pair(
     )?;
     let more = held + weigh(cells, slots, at, 4);
     let c = add_block(
-        bytes,
-        t,
+        file,
         types,
         places,
         cells,
@@ -323,8 +311,7 @@ pub fn add_pair(
 // `Block`.
 #[cycle(walk)]
 pub fn add_nested(
-    bytes: &[u8],
-    t: &[u32; WORDS],
+    file: &File,
     types: &[u32],
     places: &[u32; PLACES],
     cells: &mut [u32; CELLS],
@@ -336,17 +323,16 @@ pub fn add_nested(
     row: Kinded,
     tally: Tally,
 ) -> Answered
-    requires arms { Arms bytes.now t.now types.now places.now cells.old slots.old «open».old totals.old fr b.0 row tally.sum tally.visits }
+    requires arms { Arms file.now.bytes file.now.t types.now places.now cells.old slots.old «open».old totals.old fr b.0 row tally.sum tally.visits }
     requires kind_value { row.kind ≡ 1 }
-    ensures { StatementEnds bytes.now t.now types.now places.now cells.old slots.old «open».old totals.old fr (add_nested (block_in bytes.now t.now fr.function.0) (frame_of cells.old slots.old fr) (operand_at bytes.now row 0) (state_in bytes.now t.now cells.old slots.old «open».old totals.old fr.function.0 fr.at tally.visits)) StatementReq.BlockStmt result cells.new slots.new «open».new totals.new }
+    ensures { StatementEnds file.now.bytes file.now.t types.now places.now cells.old slots.old «open».old totals.old fr (add_nested (block_in file.now.bytes file.now.t fr.function.0) (frame_of cells.old slots.old fr) (operand_at file.now.bytes row 0) (state_in file.now.bytes file.now.t cells.old slots.old «open».old totals.old fr.function.0 fr.at tally.visits)) StatementReq.BlockStmt result cells.new slots.new «open».new totals.new }
 {
     let f = fr.function;
     let at = fr.at;
-    let inner = block_operand(bytes, row, 0);
+    let inner = file.block_operand(row, 0);
     let held = fr.held + weigh(cells, slots, at, 4);
     let a = add_block(
-        bytes,
-        t,
+        file,
         types,
         places,
         cells,
@@ -368,8 +354,7 @@ pub fn add_nested(
 // `If`.
 #[cycle(walk)]
 pub fn add_if(
-    bytes: &[u8],
-    t: &[u32; WORDS],
+    file: &File,
     types: &[u32],
     places: &[u32; PLACES],
     cells: &mut [u32; CELLS],
@@ -381,18 +366,17 @@ pub fn add_if(
     row: Kinded,
     tally: Tally,
 ) -> Answered
-    requires arms { Arms bytes.now t.now types.now places.now cells.old slots.old «open».old totals.old fr b.0 row tally.sum tally.visits }
+    requires arms { Arms file.now.bytes file.now.t types.now places.now cells.old slots.old «open».old totals.old fr b.0 row tally.sum tally.visits }
     requires kind_value { row.kind ≡ 2 }
-    ensures { StatementEnds bytes.now t.now types.now places.now cells.old slots.old «open».old totals.old fr (add_if (module_of bytes.now t.now) (block_in bytes.now t.now fr.function.0) (frame_of cells.old slots.old fr) (operand_at bytes.now row 0) (operand_at bytes.now row 1) (operand_at bytes.now row 2) (state_in bytes.now t.now cells.old slots.old «open».old totals.old fr.function.0 fr.at tally.visits)) StatementReq.If result cells.new slots.new «open».new totals.new }
+    ensures { StatementEnds file.now.bytes file.now.t types.now places.now cells.old slots.old «open».old totals.old fr (add_if (module_of file.now.bytes file.now.t) (block_in file.now.bytes file.now.t fr.function.0) (frame_of cells.old slots.old fr) (operand_at file.now.bytes row 0) (operand_at file.now.bytes row 1) (operand_at file.now.bytes row 2) (state_in file.now.bytes file.now.t cells.old slots.old «open».old totals.old fr.function.0 fr.at tally.visits)) StatementReq.If result cells.new slots.new «open».new totals.new }
 {
     let f = fr.function;
     let at = fr.at;
-    let accept = block_operand(bytes, row, 1);
-    let reject = block_operand(bytes, row, 2);
+    let accept = file.block_operand(row, 1);
+    let reject = file.block_operand(row, 2);
     let held = fr.held + weigh(cells, slots, at, 4);
     let a = add_pair(
-        bytes,
-        t,
+        file,
         types,
         places,
         cells,
@@ -409,15 +393,14 @@ pub fn add_if(
         fr.break_required,
         tally,
     )?;
-    let condition = expression_operand(bytes, row, 0);
-    end_if(bytes, t, cells, slots, fr, condition, a.required, a.tally)
+    let condition = file.expression_operand(row, 0);
+    end_if(file, cells, slots, fr, condition, a.required, a.tally)
 }
 
 // `Switch`: the cases, the last first, joined behind the current context.
 #[cycle(walk)]
 pub fn add_switch(
-    bytes: &[u8],
-    t: &[u32; WORDS],
+    file: &File,
     types: &[u32],
     places: &[u32; PLACES],
     cells: &mut [u32; CELLS],
@@ -429,9 +412,9 @@ pub fn add_switch(
     row: Kinded,
     began: Tally,
 ) -> Answered
-    requires arms { Arms bytes.now t.now types.now places.now cells.old slots.old «open».old totals.old fr b.0 row began.sum began.visits }
+    requires arms { Arms file.now.bytes file.now.t types.now places.now cells.old slots.old «open».old totals.old fr b.0 row began.sum began.visits }
     requires kind_value { row.kind ≡ 3 }
-    ensures { StatementEnds bytes.now t.now types.now places.now cells.old slots.old «open».old totals.old fr (add_switch (module_of bytes.now t.now) (block_in bytes.now t.now fr.function.0) (frame_of cells.old slots.old fr) (operand_at bytes.now row 0) (tab (operand_at bytes.now row 1) (case_of (operand_at bytes.now row))) (state_in bytes.now t.now cells.old slots.old «open».old totals.old fr.function.0 fr.at began.visits)) StatementReq.Switch result cells.new slots.new «open».new totals.new }
+    ensures { StatementEnds file.now.bytes file.now.t types.now places.now cells.old slots.old «open».old totals.old fr (add_switch (module_of file.now.bytes file.now.t) (block_in file.now.bytes file.now.t fr.function.0) (frame_of cells.old slots.old fr) (operand_at file.now.bytes row 0) (tab (operand_at file.now.bytes row 1) (case_of (operand_at file.now.bytes row))) (state_in file.now.bytes file.now.t cells.old slots.old «open».old totals.old fr.function.0 fr.at began.visits)) StatementReq.Switch result cells.new slots.new «open».new totals.new }
 {
     let f = fr.function;
     let at = fr.at;
@@ -439,12 +422,11 @@ pub fn add_switch(
     copy_context(slots, at, at + 4);
     let mut tally = began;
     let mut any = false;
-    for k in (0..operand(bytes, row, 1)).rev() {
-        let body = case_body(bytes, row, k);
+    for k in (0..file.operand(row, 1)).rev() {
+        let body = case_body(file, row, k);
         let held = outside + weigh(cells, slots, at + 4, 4);
         let a = add_block(
-            bytes,
-            t,
+            file,
             types,
             places,
             cells,
@@ -465,15 +447,14 @@ pub fn add_switch(
         tally = a.tally;
         any |= a.required;
     }
-    let selector = expression_operand(bytes, row, 0);
-    end_switch(bytes, t, cells, slots, fr, selector, any, tally)
+    let selector = file.expression_operand(row, 0);
+    end_switch(file, cells, slots, fr, selector, any, tally)
 }
 
 // `Loop`: the first pass, and the turns where it is required.
 #[cycle(walk)]
 pub fn add_loop(
-    bytes: &[u8],
-    t: &[u32; WORDS],
+    file: &File,
     types: &[u32],
     places: &[u32; PLACES],
     cells: &mut [u32; CELLS],
@@ -485,18 +466,17 @@ pub fn add_loop(
     row: Kinded,
     tally: Tally,
 ) -> Answered
-    requires arms { Arms bytes.now t.now types.now places.now cells.old slots.old «open».old totals.old fr b.0 row tally.sum tally.visits }
+    requires arms { Arms file.now.bytes file.now.t types.now places.now cells.old slots.old «open».old totals.old fr b.0 row tally.sum tally.visits }
     requires kind_value { row.kind ≡ 4 }
-    ensures { StatementEnds bytes.now t.now types.now places.now cells.old slots.old «open».old totals.old fr (add_loop (module_of bytes.now t.now) (block_in bytes.now t.now fr.function.0) (frame_of cells.old slots.old fr) (operand_at bytes.now row 0) (operand_at bytes.now row 1) (option_of (operand_at bytes.now row 2)) (state_in bytes.now t.now cells.old slots.old «open».old totals.old fr.function.0 fr.at tally.visits)) StatementReq.Loop result cells.new slots.new «open».new totals.new }
+    ensures { StatementEnds file.now.bytes file.now.t types.now places.now cells.old slots.old «open».old totals.old fr (add_loop (module_of file.now.bytes file.now.t) (block_in file.now.bytes file.now.t fr.function.0) (frame_of cells.old slots.old fr) (operand_at file.now.bytes row 0) (operand_at file.now.bytes row 1) (option_of (operand_at file.now.bytes row 2)) (state_in file.now.bytes file.now.t cells.old slots.old «open».old totals.old fr.function.0 fr.at tally.visits)) StatementReq.Loop result cells.new slots.new «open».new totals.new }
 {
     let f = fr.function;
     let at = fr.at;
-    let body = block_operand(bytes, row, 0);
-    let continuing = block_operand(bytes, row, 1);
+    let body = file.block_operand(row, 0);
+    let continuing = file.block_operand(row, 1);
     let held = fr.held + weigh(cells, slots, at, 4);
     let a = add_pair(
-        bytes,
-        t,
+        file,
         types,
         places,
         cells,
@@ -517,18 +497,17 @@ pub fn add_loop(
         drop_both(slots, at);
         return Ok(a);
     }
-    let break_if = optional_expression(bytes, row, 2);
-    let left = end_pass(bytes, t, cells, slots, fr, break_if, a.tally)?;
+    let break_if = file.optional_expression(row, 2);
+    let left = end_pass(file, cells, slots, fr, break_if, a.tally)?;
     add_turns(
-        bytes, t, types, places, cells, slots, open, totals, fr, b, body, continuing, left,
+        file, types, places, cells, slots, open, totals, fr, b, body, continuing, left,
     )
 }
 
 // The turns, each from the working context behind the current one, until that contains what a turn leaves.
 #[cycle(walk)]
 fn add_turns(
-    bytes: &[u8],
-    t: &[u32; WORDS],
+    file: &File,
     types: &[u32],
     places: &[u32; PLACES],
     cells: &mut [u32; CELLS],
@@ -541,8 +520,8 @@ fn add_turns(
     continuing: BlockHandle,
     began: Tally,
 ) -> Answered
-    requires { Turning bytes.now t.now types.now places.now cells.old slots.old «open».old totals.old fr b.0 body.0 continuing.0 began.sum began.visits }
-    ensures { StatementEnds bytes.now t.now types.now places.now cells.old slots.old «open».old totals.old fr (turns (block_in bytes.now t.now fr.function.0) (frame_of cells.old slots.old fr) (fr.held + context_in cells.old slots.old fr.at + context_in cells.old slots.old (fr.at + 4)) body.0 continuing.0 (context_at (read cells.old slots.old) (fr.at + 4)) max_turns (state_in bytes.now t.now cells.old slots.old «open».old totals.old fr.function.0 (fr.at + 4) began.visits)) StatementReq.Loop result cells.new slots.new «open».new totals.new }
+    requires { Turning file.now.bytes file.now.t types.now places.now cells.old slots.old «open».old totals.old fr b.0 body.0 continuing.0 began.sum began.visits }
+    ensures { StatementEnds file.now.bytes file.now.t types.now places.now cells.old slots.old «open».old totals.old fr (turns (block_in file.now.bytes file.now.t fr.function.0) (frame_of cells.old slots.old fr) (fr.held + context_in cells.old slots.old fr.at + context_in cells.old slots.old (fr.at + 4)) body.0 continuing.0 (context_at (read cells.old slots.old) (fr.at + 4)) max_turns (state_in file.now.bytes file.now.t cells.old slots.old «open».old totals.old fr.function.0 (fr.at + 4) began.visits)) StatementReq.Loop result cells.new slots.new «open».new totals.new }
 {
     let f = fr.function;
     let at = fr.at;
@@ -550,8 +529,7 @@ fn add_turns(
     let mut tally = began;
     for left in (0..MAX_TURNS).rev() {
         let a = add_pair(
-            bytes,
-            t,
+            file,
             types,
             places,
             cells,
@@ -586,8 +564,7 @@ fn add_turns(
 // `Call`, with its marks.
 #[cycle(walk)]
 pub fn add_call(
-    bytes: &[u8],
-    t: &[u32; WORDS],
+    file: &File,
     types: &[u32],
     places: &[u32; PLACES],
     cells: &mut [u32; CELLS],
@@ -599,22 +576,21 @@ pub fn add_call(
     row: Kinded,
     tally: Tally,
 ) -> Answered
-    requires arms { Arms bytes.now t.now types.now places.now cells.old slots.old «open».old totals.old fr b.0 row tally.sum tally.visits }
+    requires arms { Arms file.now.bytes file.now.t types.now places.now cells.old slots.old «open».old totals.old fr b.0 row tally.sum tally.visits }
     requires kind_value { row.kind ≡ 14 }
-    ensures { StatementEnds bytes.now t.now types.now places.now cells.old slots.old «open».old totals.old fr (marked (module_of bytes.now t.now) (frame_of cells.old slots.old fr) (add_statement (module_of bytes.now t.now) (add_function (module_of bytes.now t.now)) (block_in bytes.now t.now fr.function.0) (frame_of cells.old slots.old fr) (statement_of row.kind (operand_at bytes.now row)) (state_in bytes.now t.now cells.old slots.old «open».old totals.old fr.function.0 fr.at tally.visits))) (λ b. b) result cells.new slots.new «open».new totals.new }
+    ensures { StatementEnds file.now.bytes file.now.t types.now places.now cells.old slots.old «open».old totals.old fr (marked (module_of file.now.bytes file.now.t) (frame_of cells.old slots.old fr) (add_statement (module_of file.now.bytes file.now.t) (add_function (module_of file.now.bytes file.now.t)) (block_in file.now.bytes file.now.t fr.function.0) (frame_of cells.old slots.old fr) (statement_of row.kind (operand_at file.now.bytes row)) (state_in file.now.bytes file.now.t cells.old slots.old «open».old totals.old fr.function.0 fr.at tally.visits))) (λ b. b) result cells.new slots.new «open».new totals.new }
 {
     let f = fr.function;
     let at = fr.at;
-    let g = function_operand(bytes, row, 0);
-    let begun = begin_call(bytes, t, places, cells, slots, open, fr, row, tally.sum);
+    let g = file.function_operand(row, 0);
+    let begun = begin_call(file, places, cells, slots, open, fr, row, tally.sum);
     let own = begun.own;
     let others = Tally {
         sum: tally.sum - own,
         ..tally
     };
     let a = add_function(
-        bytes,
-        t,
+        file,
         types,
         places,
         cells,
@@ -627,10 +603,9 @@ pub fn add_call(
         begun.held,
         others,
     )?;
-    let sum = leave_call(t, cells, slots, g, at, a.tally.sum + own);
+    let sum = leave_call(file, cells, slots, g, at, a.tally.sum + own);
     return_call(
-        bytes,
-        t,
+        file,
         places,
         cells,
         slots,

@@ -13,42 +13,40 @@ use crate::named::fits_named;
 use crate::operators::fits_operator;
 use crate::unsized_types::holds_either;
 use crate::values::{is_value, type_of};
-use access::function::expressions;
-use access::kinded::expression;
+use access::file::File;
 use module::handles::{ExpressionHandle, FunctionHandle};
 use module::kinds::ExpressionKind;
 
 // Whether the expression e fits, by the group of its kind. A kind past the last is a literal's.
 pub fn fits_expression(
-    bytes: &[u8],
-    t: &[u32],
+    file: &File,
     f: FunctionHandle,
     types: &[u32],
     alike: &[u32],
     paths: &[u32],
     e: ExpressionHandle,
 ) -> bool
-    requires given { Given bytes.now t.now f.0 types.now alike.now paths.now }
-    requires e_in_bounds { e.0 < length (function_of bytes.now t.now f.0).expressions }
-    ensures { Fits bytes.now t.now f.0 e.0 result }
+    requires given { Given file.now.bytes file.now.t f.0 types.now alike.now paths.now }
+    requires e_in_bounds { e.0 < length (function_of file.now.bytes file.now.t f.0).expressions }
+    ensures { Fits file.now.bytes file.now.t f.0 e.0 result }
 {
-    let row = expression(bytes, t, f, e);
+    let row = file.expression(f, e);
     match ExpressionKind::try_from(row.kind) {
         Ok(ExpressionKind::Literal | ExpressionKind::ZeroValue | ExpressionKind::Constant) => {
-            is_value(bytes, t, f, types, paths, e)
+            is_value(file, f, types, paths, e)
         }
         Ok(ExpressionKind::AccessIndex | ExpressionKind::Access) => {
-            fits_index(bytes, t, f, types, alike, paths, row, e)
+            fits_index(file, f, types, alike, paths, row, e)
         }
         Ok(ExpressionKind::Splat | ExpressionKind::Swizzle | ExpressionKind::Compose) => {
-            fits_made(bytes, t, f, types, alike, paths, row, e)
+            fits_made(file, f, types, alike, paths, row, e)
         }
         Ok(
             ExpressionKind::FunctionArgument
             | ExpressionKind::GlobalVariable
             | ExpressionKind::LocalVariable
             | ExpressionKind::Load,
-        ) => fits_named(bytes, t, f, types, alike, paths, row, e),
+        ) => fits_named(file, f, types, alike, paths, row, e),
         Ok(
             ExpressionKind::Unary
             | ExpressionKind::Binary
@@ -57,16 +55,15 @@ pub fn fits_expression(
             | ExpressionKind::Relational
             | ExpressionKind::Math
             | ExpressionKind::As,
-        ) => fits_operator(bytes, t, f, types, alike, paths, row, e),
+        ) => fits_operator(file, f, types, alike, paths, row, e),
         Ok(_) => false,
-        Err(_) => is_value(bytes, t, f, types, paths, e),
+        Err(_) => is_value(file, f, types, paths, e),
     }
 }
 
 // Whether the expression e fits and neither its type nor its pointee holds an unsized array.
 pub fn judged_expression(
-    bytes: &[u8],
-    t: &[u32],
+    file: &File,
     f: FunctionHandle,
     types: &[u32],
     alike: &[u32],
@@ -74,35 +71,34 @@ pub fn judged_expression(
     paths: &[u32],
     e: ExpressionHandle,
 ) -> bool
-    requires given { Given bytes.now t.now f.0 types.now alike.now paths.now }
+    requires given { Given file.now.bytes file.now.t f.0 types.now alike.now paths.now }
     requires unsized_table { UnsizedTable (types_of types.now) held.now }
-    requires e_in_bounds { e.0 < length (function_of bytes.now t.now f.0).expressions }
-    ensures { result ≡ judged_expression (scope_at bytes.now t.now f.0) e.0 }
+    requires e_in_bounds { e.0 < length (function_of file.now.bytes file.now.t f.0).expressions }
+    ensures { result ≡ judged_expression (scope_at file.now.bytes file.now.t f.0) e.0 }
 {
-    let own = type_of(bytes, t, f, e);
+    let own = type_of(file, f, e);
     if holds_either(types, held, own) {
         return false;
     }
-    fits_expression(bytes, t, f, types, alike, paths, e)
+    fits_expression(file, f, types, alike, paths, e)
 }
 
 // The lowest expression that is not judged.
 pub fn blamed_expression(
-    bytes: &[u8],
-    t: &[u32],
+    file: &File,
     f: FunctionHandle,
     types: &[u32],
     alike: &[u32],
     held: &[u32],
     paths: &[u32],
 ) -> Option<u32>
-    requires given { Given bytes.now t.now f.0 types.now alike.now paths.now }
+    requires given { Given file.now.bytes file.now.t f.0 types.now alike.now paths.now }
     requires unsized_table { UnsizedTable (types_of types.now) held.now }
-    ensures { blamed result ≡ blamed_expression (scope_at bytes.now t.now f.0) }
+    ensures { blamed result ≡ blamed_expression (scope_at file.now.bytes file.now.t f.0) }
 {
-    let n = expressions(t, f);
+    let n = file.expressions(f);
     for e in 0..n {
-        if !judged_expression(bytes, t, f, types, alike, held, paths, ExpressionHandle(e)) {
+        if !judged_expression(file, f, types, alike, held, paths, ExpressionHandle(e)) {
             return Some(e);
         }
     }

@@ -8,7 +8,8 @@ ghost use Rattle.judge.specs.Given.{scope_at, Row, Fits, fits_base};
 
 use crate::shapes::{pointee, same_element, same_part};
 use crate::values::{is_path, is_value, type_of};
-use access::kinded::{Kinded, expression_operand, operand};
+use access::file::File;
+use access::kinded::Kinded;
 use module::handles::{ExpressionHandle, FunctionHandle, TypeHandle};
 use module::kinds::ExpressionKind;
 
@@ -27,8 +28,7 @@ fn same_index(types: &[u32], alike: &[u32], kind: u16, a: TypeHandle, i: u32, b:
 
 // Whether the index e of its base fits, by the kind of its row.
 fn fits_base(
-    bytes: &[u8],
-    t: &[u32],
+    file: &File,
     f: FunctionHandle,
     types: &[u32],
     alike: &[u32],
@@ -36,16 +36,16 @@ fn fits_base(
     row: Kinded,
     e: ExpressionHandle,
 ) -> bool
-    requires row { Row bytes.now t.now f.0 types.now alike.now paths.now e.0 row }
+    requires row { Row file.now.bytes file.now.t f.0 types.now alike.now paths.now e.0 row }
     requires le_kind { 3 ≤ row.kind }
     requires kind_bound { row.kind ≤ 4 }
-    ensures { result ≡ fits_base (scope_at bytes.now t.now f.0) bytes.now row e.0 }
+    ensures { result ≡ fits_base (scope_at file.now.bytes file.now.t f.0) file.now.bytes row e.0 }
 {
-    let base = expression_operand(bytes, row, 0);
-    let i = operand(bytes, row, 1) as u32;
-    let a = type_of(bytes, t, f, base);
-    let b = type_of(bytes, t, f, e);
-    if is_path(bytes, t, f, types, paths, base) {
+    let base = file.expression_operand(row, 0);
+    let i = file.operand(row, 1) as u32;
+    let a = type_of(file, f, base);
+    let b = type_of(file, f, e);
+    if is_path(file, f, types, paths, base) {
         return same_index(
             types,
             alike,
@@ -55,15 +55,14 @@ fn fits_base(
             pointee(types, b),
         );
     }
-    is_value(bytes, t, f, types, paths, base)
-        && is_value(bytes, t, f, types, paths, e)
+    is_value(file, f, types, paths, base)
+        && is_value(file, f, types, paths, e)
         && same_index(types, alike, row.kind, a, i, b)
 }
 
 // A constant index, or one by an expression, which is a value.
 pub fn fits_index(
-    bytes: &[u8],
-    t: &[u32],
+    file: &File,
     f: FunctionHandle,
     types: &[u32],
     alike: &[u32],
@@ -71,16 +70,16 @@ pub fn fits_index(
     row: Kinded,
     e: ExpressionHandle,
 ) -> bool
-    requires row { Row bytes.now t.now f.0 types.now alike.now paths.now e.0 row }
+    requires row { Row file.now.bytes file.now.t f.0 types.now alike.now paths.now e.0 row }
     requires le_kind { 3 ≤ row.kind }
     requires kind_bound { row.kind ≤ 4 }
-    ensures { Fits bytes.now t.now f.0 e.0 result }
+    ensures { Fits file.now.bytes file.now.t f.0 e.0 result }
 {
-    let fits = fits_base(bytes, t, f, types, alike, paths, row, e);
+    let fits = fits_base(file, f, types, alike, paths, row, e);
     match ExpressionKind::try_from(row.kind) {
         Ok(ExpressionKind::Access) => {
-            let index = expression_operand(bytes, row, 1);
-            is_value(bytes, t, f, types, paths, index) && fits
+            let index = file.expression_operand(row, 1);
+            is_value(file, f, types, paths, index) && fits
         }
         _ => fits,
     }

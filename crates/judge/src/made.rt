@@ -12,19 +12,20 @@ ghost use Rattle.judge.specs.Given.{scope_at, Row, Fits};
 use crate::rows::kind_at;
 use crate::shapes::{is_vector_of, part_count, same_part};
 use crate::values::{all_values, is_value, type_of};
-use access::kinded::{Kinded, expression_operand, operand};
+use access::file::File;
+use access::kinded::Kinded;
 use bindings::types::first_word;
 use module::handles::{ExpressionHandle, FunctionHandle, TypeHandle};
 use module::kinds::{ExpressionKind, TypeKind};
 
 // Whether each letter of a pattern is below n.
-fn letters_below(bytes: &[u8], row: Kinded, n: u32) -> bool
-    requires { operand_at bytes.now row 1 ≤ 4 }
-    ensures { result ≡ every (λ i. ltb i n) (tab (operand_at bytes.now row 1) (λ i. operand_at bytes.now row (2 + i))) }
+fn letters_below(file: &File, row: Kinded, n: u32) -> bool
+    requires { operand_at file.now.bytes row 1 ≤ 4 }
+    ensures { result ≡ every (λ i. ltb i n) (tab (operand_at file.now.bytes row 1) (λ i. operand_at file.now.bytes row (2 + i))) }
 {
-    let count = operand(bytes, row, 1);
+    let count = file.operand(row, 1);
     for i in 0..count {
-        let letter = operand(bytes, row, 2 + i) as u32;
+        let letter = file.operand(row, 2 + i) as u32;
         if n <= letter {
             return false;
         }
@@ -34,8 +35,7 @@ fn letters_below(bytes: &[u8], row: Kinded, n: u32) -> bool
 
 // Letters of a vector that is a value, and a vector of as many.
 fn fits_swizzle(
-    bytes: &[u8],
-    t: &[u32],
+    file: &File,
     f: FunctionHandle,
     types: &[u32],
     alike: &[u32],
@@ -43,19 +43,19 @@ fn fits_swizzle(
     row: Kinded,
     e: ExpressionHandle,
 ) -> bool
-    requires row { Row bytes.now t.now f.0 types.now alike.now paths.now e.0 row }
+    requires row { Row file.now.bytes file.now.t f.0 types.now alike.now paths.now e.0 row }
     requires kind_value { row.kind ≡ 7 }
-    ensures { Fits bytes.now t.now f.0 e.0 result }
+    ensures { Fits file.now.bytes file.now.t f.0 e.0 result }
 {
-    let vector = expression_operand(bytes, row, 0);
-    let a = type_of(bytes, t, f, vector);
+    let vector = file.expression_operand(row, 0);
+    let a = type_of(file, f, vector);
     if kind_at(types, a) != TypeKind::Vector {
         return false;
     }
-    let letters = operand(bytes, row, 1) as u32;
-    is_value(bytes, t, f, types, paths, vector)
-        && letters_below(bytes, row, first_word(types, a))
-        && is_vector_of(types, letters, type_of(bytes, t, f, e))
+    let letters = file.operand(row, 1) as u32;
+    is_value(file, f, types, paths, vector)
+        && letters_below(file, row, first_word(types, a))
+        && is_vector_of(types, letters, type_of(file, f, e))
 }
 
 // How many components the type a gives: a scalar or a vector.
@@ -70,14 +70,14 @@ fn component_count(types: &[u32], a: TypeHandle) -> u32
 }
 
 // Whether the components are scalars and vectors, n components in all.
-fn joins(bytes: &[u8], t: &[u32], f: FunctionHandle, types: &[u32], row: Kinded, n: u32) -> bool
-    requires { (module_of bytes.now t.now).types ≡ types_of types.now }
-    ensures { result ≡ (every (λ c. is_scalar (inner_of (scope_at bytes.now t.now f.0) c) || is_vector (inner_of (scope_at bytes.now t.now f.0) c)) (tab (operand_at bytes.now row 0) (λ i. operand_at bytes.now row (1 + i))) && eqb (count_components (scope_at bytes.now t.now f.0) (tab (operand_at bytes.now row 0) (λ i. operand_at bytes.now row (1 + i)))) n) }
+fn joins(file: &File, f: FunctionHandle, types: &[u32], row: Kinded, n: u32) -> bool
+    requires { (module_of file.now.bytes file.now.t).types ≡ types_of types.now }
+    ensures { result ≡ (every (λ c. is_scalar (inner_of (scope_at file.now.bytes file.now.t f.0) c) || is_vector (inner_of (scope_at file.now.bytes file.now.t f.0) c)) (tab (operand_at file.now.bytes row 0) (λ i. operand_at file.now.bytes row (1 + i))) && eqb (count_components (scope_at file.now.bytes file.now.t f.0) (tab (operand_at file.now.bytes row 0) (λ i. operand_at file.now.bytes row (1 + i)))) n) }
 {
-    let count = operand(bytes, row, 0);
+    let count = file.operand(row, 0);
     let mut total: usize = 0;
     for i in 0..count {
-        let a = type_of(bytes, t, f, expression_operand(bytes, row, 1 + i));
+        let a = type_of(file, f, file.expression_operand(row, 1 + i));
         match kind_at(types, a) {
             TypeKind::Scalar | TypeKind::Vector => {}
             _ => return false,
@@ -89,8 +89,7 @@ fn joins(bytes: &[u8], t: &[u32], f: FunctionHandle, types: &[u32], row: Kinded,
 
 // Whether each component is of the shape of the type a's part of its number.
 fn parts_fit(
-    bytes: &[u8],
-    t: &[u32],
+    file: &File,
     f: FunctionHandle,
     types: &[u32],
     alike: &[u32],
@@ -99,14 +98,14 @@ fn parts_fit(
     e: ExpressionHandle,
     a: TypeHandle,
 ) -> bool
-    requires row { Row bytes.now t.now f.0 types.now alike.now paths.now e.0 row }
+    requires row { Row file.now.bytes file.now.t f.0 types.now alike.now paths.now e.0 row }
     requires kind_value { row.kind ≡ 8 }
     requires a_in_bounds { a.0 < length (types_of types.now) }
-    ensures { result ≡ every (λ i. same_part (scope_at bytes.now t.now f.0) (part_type (scope_at bytes.now t.now f.0) (inner (scope_at bytes.now t.now f.0) a.0) i) (inner_of (scope_at bytes.now t.now f.0) (operand_at bytes.now row (1 + i)))) (tab (operand_at bytes.now row 0) (λ i. i)) }
+    ensures { result ≡ every (λ i. same_part (scope_at file.now.bytes file.now.t f.0) (part_type (scope_at file.now.bytes file.now.t f.0) (inner (scope_at file.now.bytes file.now.t f.0) a.0) i) (inner_of (scope_at file.now.bytes file.now.t f.0) (operand_at file.now.bytes row (1 + i)))) (tab (operand_at file.now.bytes row 0) (λ i. i)) }
 {
-    let count = operand(bytes, row, 0);
+    let count = file.operand(row, 0);
     for i in 0..count {
-        let b = type_of(bytes, t, f, expression_operand(bytes, row, 1 + i));
+        let b = type_of(file, f, file.expression_operand(row, 1 + i));
         if !same_part(types, alike, a, i as u32, b) {
             return false;
         }
@@ -116,8 +115,7 @@ fn parts_fit(
 
 // A value of its components: a vector of scalars and vectors, or a matrix, an array or a struct of its parts.
 fn fits_compose(
-    bytes: &[u8],
-    t: &[u32],
+    file: &File,
     f: FunctionHandle,
     types: &[u32],
     alike: &[u32],
@@ -125,18 +123,18 @@ fn fits_compose(
     row: Kinded,
     e: ExpressionHandle,
 ) -> bool
-    requires row { Row bytes.now t.now f.0 types.now alike.now paths.now e.0 row }
+    requires row { Row file.now.bytes file.now.t f.0 types.now alike.now paths.now e.0 row }
     requires kind_value { row.kind ≡ 8 }
-    ensures { Fits bytes.now t.now f.0 e.0 result }
+    ensures { Fits file.now.bytes file.now.t f.0 e.0 result }
 {
-    let values = all_values(bytes, t, f, types, paths, row);
-    let a = type_of(bytes, t, f, e);
+    let values = all_values(file, f, types, paths, row);
+    let a = type_of(file, f, e);
     match kind_at(types, a) {
-        TypeKind::Vector => values && joins(bytes, t, f, types, row, first_word(types, a)),
+        TypeKind::Vector => values && joins(file, f, types, row, first_word(types, a)),
         TypeKind::Matrix | TypeKind::Array | TypeKind::Struct => {
             values
-                && part_count(types, a) == operand(bytes, row, 0) as u32
-                && parts_fit(bytes, t, f, types, alike, paths, row, e, a)
+                && part_count(types, a) == file.operand(row, 0) as u32
+                && parts_fit(file, f, types, alike, paths, row, e, a)
         }
         _ => false,
     }
@@ -144,8 +142,7 @@ fn fits_compose(
 
 // A vector of one scalar, letters of a vector, or components.
 pub fn fits_made(
-    bytes: &[u8],
-    t: &[u32],
+    file: &File,
     f: FunctionHandle,
     types: &[u32],
     alike: &[u32],
@@ -153,21 +150,21 @@ pub fn fits_made(
     row: Kinded,
     e: ExpressionHandle,
 ) -> bool
-    requires row { Row bytes.now t.now f.0 types.now alike.now paths.now e.0 row }
+    requires row { Row file.now.bytes file.now.t f.0 types.now alike.now paths.now e.0 row }
     requires le_kind { 6 ≤ row.kind }
     requires kind_bound { row.kind ≤ 8 }
-    ensures { Fits bytes.now t.now f.0 e.0 result }
+    ensures { Fits file.now.bytes file.now.t f.0 e.0 result }
 {
     match ExpressionKind::try_from(row.kind) {
-        Ok(ExpressionKind::Swizzle) => fits_swizzle(bytes, t, f, types, alike, paths, row, e),
+        Ok(ExpressionKind::Swizzle) => fits_swizzle(file, f, types, alike, paths, row, e),
         Ok(ExpressionKind::Splat) => {
-            let value = expression_operand(bytes, row, 0);
-            let a = type_of(bytes, t, f, value);
-            let b = type_of(bytes, t, f, e);
-            is_value(bytes, t, f, types, paths, value)
+            let value = file.expression_operand(row, 0);
+            let a = type_of(file, f, value);
+            let b = type_of(file, f, e);
+            is_value(file, f, types, paths, value)
                 && kind_at(types, a) == TypeKind::Scalar
                 && kind_at(types, b) == TypeKind::Vector
         }
-        _ => fits_compose(bytes, t, f, types, alike, paths, row, e),
+        _ => fits_compose(file, f, types, alike, paths, row, e),
     }
 }

@@ -10,9 +10,8 @@ ghost use Rattle.judge.specs.Given.{scope_at, Given, Row, Fits};
 use crate::rows::kind_at;
 use crate::shapes::{is_alike, pointee};
 use crate::values::{is_path, is_value, type_of};
-use access::function::{argument, local};
-use access::kinded::{Kinded, expression_operand, global_operand, local_operand, operand};
-use access::whole::global;
+use access::file::File;
+use access::kinded::Kinded;
 use module::handles::{ExpressionHandle, FunctionHandle, TypeHandle};
 use module::kinds::{ExpressionKind, TypeKind};
 
@@ -28,8 +27,7 @@ fn fits_variable(types: &[u32], alike: &[u32], a: TypeHandle, b: TypeHandle) -> 
 
 // Whether p is a path that leads to what has v's shape.
 pub fn leads_to(
-    bytes: &[u8],
-    t: &[u32],
+    file: &File,
     f: FunctionHandle,
     types: &[u32],
     alike: &[u32],
@@ -37,19 +35,18 @@ pub fn leads_to(
     p: ExpressionHandle,
     v: ExpressionHandle,
 ) -> bool
-    requires given { Given bytes.now t.now f.0 types.now alike.now paths.now }
-    requires p_in_bounds { p.0 < length (function_of bytes.now t.now f.0).expressions }
-    requires v_in_bounds { v.0 < length (function_of bytes.now t.now f.0).expressions }
-    ensures { result ≡ (is_path (scope_at bytes.now t.now f.0) p.0 && same (scope_at bytes.now t.now f.0) (pointee (scope_at bytes.now t.now f.0) p.0) (inner_of (scope_at bytes.now t.now f.0) v.0)) }
+    requires given { Given file.now.bytes file.now.t f.0 types.now alike.now paths.now }
+    requires p_in_bounds { p.0 < length (function_of file.now.bytes file.now.t f.0).expressions }
+    requires v_in_bounds { v.0 < length (function_of file.now.bytes file.now.t f.0).expressions }
+    ensures { result ≡ (is_path (scope_at file.now.bytes file.now.t f.0) p.0 && same (scope_at file.now.bytes file.now.t f.0) (pointee (scope_at file.now.bytes file.now.t f.0) p.0) (inner_of (scope_at file.now.bytes file.now.t f.0) v.0)) }
 {
-    let led = pointee(types, type_of(bytes, t, f, p));
-    is_path(bytes, t, f, types, paths, p) && is_alike(alike, led, type_of(bytes, t, f, v))
+    let led = pointee(types, type_of(file, f, p));
+    is_path(file, f, types, paths, p) && is_alike(alike, led, type_of(file, f, v))
 }
 
 // An argument, a global, a local or a load.
 pub fn fits_named(
-    bytes: &[u8],
-    t: &[u32],
+    file: &File,
     f: FunctionHandle,
     types: &[u32],
     alike: &[u32],
@@ -57,29 +54,28 @@ pub fn fits_named(
     row: Kinded,
     e: ExpressionHandle,
 ) -> bool
-    requires row { Row bytes.now t.now f.0 types.now alike.now paths.now e.0 row }
+    requires row { Row file.now.bytes file.now.t f.0 types.now alike.now paths.now e.0 row }
     requires le_kind { 9 ≤ row.kind }
     requires kind_bound { row.kind ≤ 12 }
-    ensures { Fits bytes.now t.now f.0 e.0 result }
+    ensures { Fits file.now.bytes file.now.t f.0 e.0 result }
 {
-    let own = type_of(bytes, t, f, e);
+    let own = type_of(file, f, e);
     match ExpressionKind::try_from(row.kind) {
         Ok(ExpressionKind::GlobalVariable) => {
-            let a = global(bytes, t, global_operand(bytes, row, 0));
+            let a = file.global(file.global_operand(row, 0));
             fits_variable(types, alike, a, own)
         }
         Ok(ExpressionKind::LocalVariable) => {
-            let a = local(bytes, t, f, local_operand(bytes, row, 0));
+            let a = file.local(f, file.local_operand(row, 0));
             fits_variable(types, alike, a, own)
         }
         Ok(ExpressionKind::FunctionArgument) => {
-            let a = argument(bytes, t, f, operand(bytes, row, 0) as u32);
-            is_value(bytes, t, f, types, paths, e) && is_alike(alike, a.ty, own)
+            let a = file.argument(f, file.operand(row, 0) as u32);
+            is_value(file, f, types, paths, e) && is_alike(alike, a.ty, own)
         }
         _ => {
-            let pointer = expression_operand(bytes, row, 0);
-            is_value(bytes, t, f, types, paths, e)
-                && leads_to(bytes, t, f, types, alike, paths, pointer, e)
+            let pointer = file.expression_operand(row, 0);
+            is_value(file, f, types, paths, e) && leads_to(file, f, types, alike, paths, pointer, e)
         }
     }
 }

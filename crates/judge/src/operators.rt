@@ -4,14 +4,14 @@ ghost use Rattle.judge.specs.Given.{Row, Fits};
 
 use crate::shapes::is_alike;
 use crate::values::{is_value, maybe_value, type_of};
-use access::kinded::{Kinded, expression_operand, optional_expression};
+use access::file::File;
+use access::kinded::Kinded;
 use module::handles::{ExpressionHandle, FunctionHandle};
 use module::kinds::ExpressionKind;
 
 // A value of two, by a condition: both have the result's shape.
 fn fits_select(
-    bytes: &[u8],
-    t: &[u32],
+    file: &File,
     f: FunctionHandle,
     types: &[u32],
     alike: &[u32],
@@ -19,26 +19,25 @@ fn fits_select(
     row: Kinded,
     e: ExpressionHandle,
 ) -> bool
-    requires row { Row bytes.now t.now f.0 types.now alike.now paths.now e.0 row }
+    requires row { Row file.now.bytes file.now.t f.0 types.now alike.now paths.now e.0 row }
     requires kind_value { row.kind ≡ 18 }
-    ensures { Fits bytes.now t.now f.0 e.0 result }
+    ensures { Fits file.now.bytes file.now.t f.0 e.0 result }
 {
-    let condition = expression_operand(bytes, row, 0);
-    let accept = expression_operand(bytes, row, 1);
-    let reject = expression_operand(bytes, row, 2);
-    let own = type_of(bytes, t, f, e);
-    is_value(bytes, t, f, types, paths, e)
-        && is_value(bytes, t, f, types, paths, condition)
-        && is_value(bytes, t, f, types, paths, accept)
-        && is_value(bytes, t, f, types, paths, reject)
-        && is_alike(alike, type_of(bytes, t, f, accept), own)
-        && is_alike(alike, type_of(bytes, t, f, reject), own)
+    let condition = file.expression_operand(row, 0);
+    let accept = file.expression_operand(row, 1);
+    let reject = file.expression_operand(row, 2);
+    let own = type_of(file, f, e);
+    is_value(file, f, types, paths, e)
+        && is_value(file, f, types, paths, condition)
+        && is_value(file, f, types, paths, accept)
+        && is_value(file, f, types, paths, reject)
+        && is_alike(alike, type_of(file, f, accept), own)
+        && is_alike(alike, type_of(file, f, reject), own)
 }
 
 // One value to four.
 fn fits_math(
-    bytes: &[u8],
-    t: &[u32],
+    file: &File,
     f: FunctionHandle,
     types: &[u32],
     alike: &[u32],
@@ -46,25 +45,24 @@ fn fits_math(
     row: Kinded,
     e: ExpressionHandle,
 ) -> bool
-    requires row { Row bytes.now t.now f.0 types.now alike.now paths.now e.0 row }
+    requires row { Row file.now.bytes file.now.t f.0 types.now alike.now paths.now e.0 row }
     requires kind_value { row.kind ≡ 21 }
-    ensures { Fits bytes.now t.now f.0 e.0 result }
+    ensures { Fits file.now.bytes file.now.t f.0 e.0 result }
 {
-    let x = expression_operand(bytes, row, 0);
-    let y = optional_expression(bytes, row, 1);
-    let z = optional_expression(bytes, row, 2);
-    let w = optional_expression(bytes, row, 3);
-    is_value(bytes, t, f, types, paths, e)
-        && is_value(bytes, t, f, types, paths, x)
-        && maybe_value(bytes, t, f, types, paths, y)
-        && maybe_value(bytes, t, f, types, paths, z)
-        && maybe_value(bytes, t, f, types, paths, w)
+    let x = file.expression_operand(row, 0);
+    let y = file.optional_expression(row, 1);
+    let z = file.optional_expression(row, 2);
+    let w = file.optional_expression(row, 3);
+    is_value(file, f, types, paths, e)
+        && is_value(file, f, types, paths, x)
+        && maybe_value(file, f, types, paths, y)
+        && maybe_value(file, f, types, paths, z)
+        && maybe_value(file, f, types, paths, w)
 }
 
 // An operator; a derivative is never judged.
 pub fn fits_operator(
-    bytes: &[u8],
-    t: &[u32],
+    file: &File,
     f: FunctionHandle,
     types: &[u32],
     alike: &[u32],
@@ -72,28 +70,28 @@ pub fn fits_operator(
     row: Kinded,
     e: ExpressionHandle,
 ) -> bool
-    requires row { Row bytes.now t.now f.0 types.now alike.now paths.now e.0 row }
+    requires row { Row file.now.bytes file.now.t f.0 types.now alike.now paths.now e.0 row }
     requires le_kind { 16 ≤ row.kind }
     requires kind_bound { row.kind ≤ 22 }
-    ensures { Fits bytes.now t.now f.0 e.0 result }
+    ensures { Fits file.now.bytes file.now.t f.0 e.0 result }
 {
-    let x = expression_operand(bytes, row, 0);
+    let x = file.expression_operand(row, 0);
     match ExpressionKind::try_from(row.kind) {
-        Ok(ExpressionKind::Select) => fits_select(bytes, t, f, types, alike, paths, row, e),
-        Ok(ExpressionKind::Math) => fits_math(bytes, t, f, types, alike, paths, row, e),
+        Ok(ExpressionKind::Select) => fits_select(file, f, types, alike, paths, row, e),
+        Ok(ExpressionKind::Math) => fits_math(file, f, types, alike, paths, row, e),
         Ok(ExpressionKind::Relational) => {
-            is_value(bytes, t, f, types, paths, e) && is_value(bytes, t, f, types, paths, x)
+            is_value(file, f, types, paths, e) && is_value(file, f, types, paths, x)
         }
         Ok(ExpressionKind::Binary) => {
-            let y = expression_operand(bytes, row, 1);
-            is_value(bytes, t, f, types, paths, e)
-                && is_value(bytes, t, f, types, paths, x)
-                && is_value(bytes, t, f, types, paths, y)
+            let y = file.expression_operand(row, 1);
+            is_value(file, f, types, paths, e)
+                && is_value(file, f, types, paths, x)
+                && is_value(file, f, types, paths, y)
         }
         Ok(ExpressionKind::Unary | ExpressionKind::As) => {
-            is_value(bytes, t, f, types, paths, e)
-                && is_value(bytes, t, f, types, paths, x)
-                && is_alike(alike, type_of(bytes, t, f, x), type_of(bytes, t, f, e))
+            is_value(file, f, types, paths, e)
+                && is_value(file, f, types, paths, x)
+                && is_alike(alike, type_of(file, f, x), type_of(file, f, e))
         }
         _ => false,
     }

@@ -7,20 +7,20 @@ ghost use Rattle.access.specs.Access.{typed_at};
 ghost use Rattle.judge.specs.Marked.{marked};
 ghost use Rattle.judge.specs.Paths.{path_by, PathTable};
 
-use access::kinded::{expression, expression_operand};
+use access::file::File;
 use bindings::types::word;
 use module::handles::{ExpressionHandle, FunctionHandle};
 use module::kinds::ExpressionKind;
 
 // The expression e's entry: a variable is a path, and of an index it is its base's.
-fn path_entry(bytes: &[u8], t: &[u32], f: FunctionHandle, table: &[u32], e: ExpressionHandle) -> u32
-    ensures { eqb result 1 ≡ path_by (marked table.now) (typed_at bytes.now t.now f.0 e.0).expression }
+fn path_entry(file: &File, f: FunctionHandle, table: &[u32], e: ExpressionHandle) -> u32
+    ensures { eqb result 1 ≡ path_by (marked table.now) (typed_at file.now.bytes file.now.t f.0 e.0).expression }
 {
-    let row = expression(bytes, t, f, e);
+    let row = file.expression(f, e);
     match ExpressionKind::try_from(row.kind) {
         Ok(ExpressionKind::GlobalVariable | ExpressionKind::LocalVariable) => 1,
         Ok(ExpressionKind::AccessIndex | ExpressionKind::Access) => {
-            let base = expression_operand(bytes, row, 0);
+            let base = file.expression_operand(row, 0);
             word(table, base.0 as usize)
         }
         _ => 0,
@@ -28,14 +28,14 @@ fn path_entry(bytes: &[u8], t: &[u32], f: FunctionHandle, table: &[u32], e: Expr
 }
 
 // The table: lowest first, since an expression's operands are lower.
-pub fn fill_paths(bytes: &[u8], t: &[u32], f: FunctionHandle, table: &mut [u32])
-    requires bytes_value { read_module bytes.now ≡ accepted (module_of bytes.now t.now) }
-    requires f_in_bounds { f.0 < length (module_of bytes.now t.now).functions }
-    requires table_len { length table.old ≡ length (function_of bytes.now t.now f.0).expressions }
-    ensures { PathTable (function_of bytes.now t.now f.0).expressions table.new }
+pub fn fill_paths(file: &File, f: FunctionHandle, table: &mut [u32])
+    requires bytes_value { read_module file.now.bytes ≡ accepted (module_of file.now.bytes file.now.t) }
+    requires f_in_bounds { f.0 < length (module_of file.now.bytes file.now.t).functions }
+    requires table_len { length table.old ≡ length (function_of file.now.bytes file.now.t f.0).expressions }
+    ensures { PathTable (function_of file.now.bytes file.now.t f.0).expressions table.new }
 {
     for e in 0..table.len() {
-        let r = path_entry(bytes, t, f, table, ExpressionHandle(e as u32));
+        let r = path_entry(file, f, table, ExpressionHandle(e as u32));
         table[e] = r;
     }
 }

@@ -7,87 +7,76 @@ ghost use Rattle.clearance.specs.Judged.{every, presently, is_value};
 ghost use Rattle.judge.specs.Given.{scope_at, Values};
 
 use crate::rows::kind_at;
-use access::function::{expression_type, expressions};
-use access::kinded::{Kinded, expression_operand, operand};
+use access::file::File;
+use access::kinded::Kinded;
 use bindings::types::word;
 use module::handles::{ExpressionHandle, FunctionHandle, TypeHandle};
 use module::kinds::TypeKind;
 
 // The type of the expression e; 0, where there is none.
-pub fn type_of(bytes: &[u8], t: &[u32], f: FunctionHandle, e: ExpressionHandle) -> TypeHandle
-    ensures { result.0 ≡ type_of (scope_at bytes.now t.now f.0) e.0 }
+pub fn type_of(file: &File, f: FunctionHandle, e: ExpressionHandle) -> TypeHandle
+    ensures { result.0 ≡ type_of (scope_at file.now.bytes file.now.t f.0) e.0 }
 {
-    if e.0 < expressions(t, f) {
-        return expression_type(bytes, t, f, e);
+    if e.0 < file.expressions(f) {
+        return file.expression_type(f, e);
     }
     TypeHandle(0)
 }
 
 // Whether the expression e is a path.
 pub fn is_path(
-    bytes: &[u8],
-    t: &[u32],
+    file: &File,
     f: FunctionHandle,
     types: &[u32],
     paths: &[u32],
     e: ExpressionHandle,
 ) -> bool
-    requires { Values bytes.now t.now f.0 types.now paths.now }
-    ensures { result ≡ is_path (scope_at bytes.now t.now f.0) e.0 }
+    requires { Values file.now.bytes file.now.t f.0 types.now paths.now }
+    ensures { result ≡ is_path (scope_at file.now.bytes file.now.t f.0) e.0 }
 {
     word(paths, e.0 as usize) == 1
 }
 
 // Whether the expression e is a value.
 pub fn is_value(
-    bytes: &[u8],
-    t: &[u32],
+    file: &File,
     f: FunctionHandle,
     types: &[u32],
     paths: &[u32],
     e: ExpressionHandle,
 ) -> bool
-    requires { Values bytes.now t.now f.0 types.now paths.now }
-    ensures { result ≡ is_value (scope_at bytes.now t.now f.0) e.0 }
+    requires { Values file.now.bytes file.now.t f.0 types.now paths.now }
+    ensures { result ≡ is_value (scope_at file.now.bytes file.now.t f.0) e.0 }
 {
-    !is_path(bytes, t, f, types, paths, e)
-        && kind_at(types, type_of(bytes, t, f, e)) != TypeKind::Pointer
+    !is_path(file, f, types, paths, e) && kind_at(types, type_of(file, f, e)) != TypeKind::Pointer
 }
 
 // Whether the operand v is absent or a value.
 pub fn maybe_value(
-    bytes: &[u8],
-    t: &[u32],
+    file: &File,
     f: FunctionHandle,
     types: &[u32],
     paths: &[u32],
     v: Option<ExpressionHandle>,
 ) -> bool
-    requires { Values bytes.now t.now f.0 types.now paths.now }
-    ensures { result ≡ presently (is_value (scope_at bytes.now t.now f.0)) (handle_in v) }
+    requires { Values file.now.bytes file.now.t f.0 types.now paths.now }
+    ensures { result ≡ presently (is_value (scope_at file.now.bytes file.now.t f.0)) (handle_in v) }
 {
     match v {
         None => true,
-        Some(e) => is_value(bytes, t, f, types, paths, e),
+        Some(e) => is_value(file, f, types, paths, e),
     }
 }
 
 // Whether the operands after the first, which is their count, are values.
-pub fn all_values(
-    bytes: &[u8],
-    t: &[u32],
-    f: FunctionHandle,
-    types: &[u32],
-    paths: &[u32],
-    row: Kinded,
-) -> bool
-    requires { Values bytes.now t.now f.0 types.now paths.now }
-    ensures { result ≡ every (is_value (scope_at bytes.now t.now f.0)) (tab (operand_at bytes.now row 0) (λ i. operand_at bytes.now row (1 + i))) }
+pub fn all_values(file: &File, f: FunctionHandle, types: &[u32], paths: &[u32], row: Kinded) -> bool
+    requires { Values file.now.bytes file.now.t f.0 types.now paths.now }
+    ensures { result ≡ every (is_value (scope_at file.now.bytes file.now.t f.0)) (tab (operand_at file.now.bytes row 0) (λ i. operand_at file.now.bytes row (1 + i))) }
 {
-    let n = operand(bytes, row, 0);
+    let n = file.operand(row, 0);
     for i in 0..n {
-        let c = expression_operand(bytes, row, 1 + i);
-        if !is_value(bytes, t, f, types, paths, c) {
+        let c = file.expression_operand(row, 1 + i);
+        if !is_value(file, f, types, paths, c) {
             return false;
         }
     }

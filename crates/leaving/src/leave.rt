@@ -2,7 +2,8 @@
 ghost use Rattle.std.specs.Prelude.{◌≡◌, ◌<◌};
 ghost use Rattle.leaving.specs.Leaves.{LeaveGiven, Leaves};
 
-use access::kinded::{Kinded, optional_expression};
+use access::file::File;
+use access::kinded::Kinded;
 use asking::ask::ask_returned;
 use hold::hold::copy;
 use module::handles::FunctionHandle;
@@ -11,8 +12,7 @@ use standing::passing::{Exits, Passing, filled};
 
 // A return.
 fn pass_return(
-    bytes: &[u8],
-    t: &[u32],
+    file: &File,
     f: FunctionHandle,
     types: &[u32],
     alike: &[u32],
@@ -25,16 +25,16 @@ fn pass_return(
     l: u32,
     row: Kinded,
 ) -> Passing
-    requires leave_given { LeaveGiven bytes.now t.now f.0 types.now alike.now paths.now cells.old roots.old n x p l row }
+    requires leave_given { LeaveGiven file.now.bytes file.now.t f.0 types.now alike.now paths.now cells.old roots.old n x p l row }
     requires kind_value { row.kind ≡ 7 }
-    ensures { Leaves bytes.now t.now f.0 cells.old roots.old n x p l cells.new roots.new result }
+    ensures { Leaves file.now.bytes file.now.t f.0 cells.old roots.old n x p l cells.new roots.new result }
 {
     let last = n - 1;
     copy(roots, x.returned, last);
-    let Some(value) = optional_expression(bytes, row, 0) else {
+    let Some(value) = file.optional_expression(row, 0) else {
         return p;
     };
-    if ask_returned(bytes, t, f, cells, roots, n, value) {
+    if ask_returned(file, f, cells, roots, n, value) {
         return p;
     }
     filled()
@@ -42,8 +42,7 @@ fn pass_return(
 
 // The statement l, of a kind past a loop's, that is no store. A kind past the last is a break's.
 pub fn pass_leaving(
-    bytes: &[u8],
-    t: &[u32],
+    file: &File,
     f: FunctionHandle,
     types: &[u32],
     alike: &[u32],
@@ -56,14 +55,14 @@ pub fn pass_leaving(
     l: u32,
     row: Kinded,
 ) -> Passing
-    requires leave_given { LeaveGiven bytes.now t.now f.0 types.now alike.now paths.now cells.old roots.old n x p l row }
+    requires leave_given { LeaveGiven file.now.bytes file.now.t f.0 types.now alike.now paths.now cells.old roots.old n x p l row }
     requires lt_kind { (4 < row.kind) × (row.kind ≡ 12 → ⊥) }
-    ensures { Leaves bytes.now t.now f.0 cells.old roots.old n x p l cells.new roots.new result }
+    ensures { Leaves file.now.bytes file.now.t f.0 cells.old roots.old n x p l cells.new roots.new result }
 {
     let last = n - 1;
     match StatementKind::try_from(row.kind) {
         Ok(StatementKind::Return) => pass_return(
-            bytes, t, f, types, alike, paths, cells, roots, n, x, p, l, row,
+            file, f, types, alike, paths, cells, roots, n, x, p, l, row,
         ),
         Ok(StatementKind::Continue) => {
             copy(roots, x.continued, last);

@@ -13,6 +13,7 @@ use crate::records::write_records;
 use crate::required::write_required;
 use crate::statements::write_statements;
 use crate::text::{write_byte, write_number, write_word};
+use access::file::File;
 use field::limits::{MAX_EXPRESSIONS, MAX_PIECES, MAX_STATEMENTS};
 use memory::layout::EXPRS;
 use memory::stretches::load_context;
@@ -38,15 +39,15 @@ fn write_context_at(out: &mut [u8], at: usize, cells: &[u32], slots: &[u32], k: 
 fn write_records_of(
     out: &mut [u8],
     at: usize,
-    t: &[u32],
+    file: &File,
     cells: &[u32],
     slots: &[u32],
     f: FunctionHandle,
 ) -> usize
-    requires { Memory cells.now slots.now × (items_to (row_at t.now f.0) ≤ max_items) × Fits at (records_text 0 (records_in t.now exprs_slot f.0 (read cells.now slots.now))) }
-    ensures { Wrote out.old out.new at (records_text 0 (records_in t.now exprs_slot f.0 (read cells.now slots.now))) result }
+    requires { Memory cells.now slots.now × (items_to (row_at file.now.t f.0) ≤ max_items) × Fits at (records_text 0 (records_in file.now.t exprs_slot f.0 (read cells.now slots.now))) }
+    ensures { Wrote out.old out.new at (records_text 0 (records_in file.now.t exprs_slot f.0 (read cells.now slots.now))) result }
 {
-    let row = row_at(t, f.0);
+    let row = file.row(f);
     let first = EXPRS + row.expressions_from();
     write_records(out, at, cells, slots, first, row.expressions as usize)
 }
@@ -54,8 +55,7 @@ fn write_records_of(
 // The lines of the report on f, whose context stands in the slots from `at` on; they begin at byte 0, and the answer is their length.
 pub fn write_report_text(
     out: &mut [u8],
-    bytes: &[u8],
-    t: &[u32],
+    file: &File,
     places: &[u32],
     cells: &[u32],
     slots: &[u32],
@@ -64,13 +64,13 @@ pub fn write_report_text(
     at: usize,
     required: bool,
 ) -> usize
-    requires { Reporting bytes.now t.now places.now cells.now slots.now marks.now f.0 at × (max_text ≤ length out.old) }
-    ensures { Front out.old out.new (text_in bytes.now t.now cells.now slots.now marks.now f.0 at required) result }
+    requires { Reporting file.now.bytes file.now.t places.now cells.now slots.now marks.now f.0 at × (max_text ≤ length out.old) }
+    ensures { Front out.old out.new (text_in file.now.bytes file.now.t cells.now slots.now marks.now f.0 at required) result }
 {
     let context = write_required(out, 0, required);
     let records = write_context_at(out, context, cells, slots, at);
-    let statements = write_records_of(out, records, t, cells, slots, f);
-    write_statements(out, statements, bytes, t, places, marks, f)
+    let statements = write_records_of(out, records, file, cells, slots, f);
+    write_statements(out, statements, file, places, marks, f)
 }
 
 pub fn write_refused(out: &mut [u8], n: u32) -> usize

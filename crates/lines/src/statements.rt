@@ -9,8 +9,7 @@ ghost use Rattle.lines.specs.Wrote.{Fits, Wrote};
 use crate::names::write_name;
 use crate::own_marks::write_own_marks;
 use crate::text::{write_byte, write_number, write_word};
-use access::function::statements;
-use access::kinded::statement;
+use access::file::File;
 use marks::places::{mark_count, place};
 use module::handles::FunctionHandle;
 
@@ -18,18 +17,17 @@ use module::handles::FunctionHandle;
 fn write_statement(
     out: &mut [u8],
     at: usize,
-    bytes: &[u8],
-    t: &[u32],
+    file: &File,
     marks: &[u8],
     f: FunctionHandle,
     s: u32,
     from: usize,
 ) -> usize
-    requires { (from + mark_count (statement_at bytes.now t.now f.0 s) ≤ length marks.now) × Fits at (statement_text s (statement_at bytes.now t.now f.0 s) (drop from marks.now)) }
-    ensures { Wrote out.old out.new at (statement_text s (statement_at bytes.now t.now f.0 s) (drop from marks.now)) result }
+    requires { (from + mark_count (statement_at file.now.bytes file.now.t f.0 s) ≤ length marks.now) × Fits at (statement_text s (statement_at file.now.bytes file.now.t f.0 s) (drop from marks.now)) }
+    ensures { Wrote out.old out.new at (statement_text s (statement_at file.now.bytes file.now.t f.0 s) (drop from marks.now)) result }
 {
-    let row = statement(bytes, t, f, s);
-    let n = mark_count(bytes, t, f, s);
+    let row = file.statement(f, s);
+    let n = mark_count(file, f, s);
     let number = write_word(out, at, b"stmt ");
     let space = write_number(out, number, s);
     let name = write_byte(out, space, b' ');
@@ -42,20 +40,19 @@ fn write_statement(
 pub fn write_statements(
     out: &mut [u8],
     at: usize,
-    bytes: &[u8],
-    t: &[u32],
+    file: &File,
     places: &[u32],
     marks: &[u8],
     f: FunctionHandle,
 ) -> usize
-    requires { Marked bytes.now t.now places.now marks.now f.0 × Fits at (statements_in bytes.now t.now marks.now f.0) }
-    ensures { Wrote out.old out.new at (statements_in bytes.now t.now marks.now f.0) result }
+    requires { Marked file.now.bytes file.now.t places.now marks.now f.0 × Fits at (statements_in file.now.bytes file.now.t marks.now f.0) }
+    ensures { Wrote out.old out.new at (statements_in file.now.bytes file.now.t marks.now f.0) result }
 {
-    let n = statements(t, f);
+    let n = file.statements(f);
     let mut next = at;
     for s in 0..n {
-        let from = place(t, places, f, s);
-        next = write_statement(out, next, bytes, t, marks, f, s, from);
+        let from = place(file, places, f, s);
+        next = write_statement(out, next, file, marks, f, s, from);
     }
     next
 }

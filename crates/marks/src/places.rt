@@ -8,9 +8,7 @@ ghost use Rattle.access.specs.Access.{statement_number, statement_at};
 ghost use Rattle.state.specs.Ready.{WasRead};
 ghost use Rattle.marks.specs.Places.{starts_at, places_size, start_of, start_in, placed_in, Places};
 
-use access::function::statements;
-use access::kinded::{operand, statement};
-use access::whole::functions;
+use access::file::File;
 use field::limits::MAX_FUNCTIONS;
 use module::handles::FunctionHandle;
 use module::kinds::StatementKind;
@@ -30,10 +28,10 @@ pub fn start(places: &[u32], f: usize) -> usize
 }
 
 // The number of a statement among the items of the file.
-fn statement_number(t: &[u32], f: FunctionHandle, s: u32) -> usize
-    ensures { result ≡ statement_number t.now f.0 s }
+fn statement_number(file: &File, f: FunctionHandle, s: u32) -> usize
+    ensures { result ≡ statement_number file.now.t f.0 s }
 {
-    let row = row_at(t, f.0);
+    let row = file.row(f);
     (row.items as usize)
         + (row.arguments as usize)
         + (row.locals as usize)
@@ -42,10 +40,10 @@ fn statement_number(t: &[u32], f: FunctionHandle, s: u32) -> usize
 }
 
 // Where the marks of the statement s of f begin.
-pub fn place(t: &[u32], places: &[u32], f: FunctionHandle, s: u32) -> usize
-    ensures { result ≡ get_or places.now (statement_number t.now f.0 s) 0 }
+pub fn place(file: &File, places: &[u32], f: FunctionHandle, s: u32) -> usize
+    ensures { result ≡ get_or places.now (statement_number file.now.t f.0 s) 0 }
 {
-    word(places, statement_number(t, f, s)) as usize
+    word(places, statement_number(file, f, s)) as usize
 }
 
 // How many numbers there are from first to last.
@@ -57,12 +55,12 @@ fn range_count(first: u16, last: u16) -> u32
 }
 
 // An emit has a mark for each expression from its first to its last.
-pub fn mark_count(bytes: &[u8], t: &[u32], f: FunctionHandle, s: u32) -> u32
-    ensures { result ≡ mark_count (statement_at bytes.now t.now f.0 s) }
+pub fn mark_count(file: &File, f: FunctionHandle, s: u32) -> u32
+    ensures { result ≡ mark_count (statement_at file.now.bytes file.now.t f.0 s) }
 {
-    let row = statement(bytes, t, f, s);
+    let row = file.statement(f, s);
     match StatementKind::try_from(row.kind) {
-        Ok(StatementKind::Emit) => range_count(operand(bytes, row, 0), operand(bytes, row, 1)),
+        Ok(StatementKind::Emit) => range_count(file.operand(row, 0), file.operand(row, 1)),
         Ok(StatementKind::Call) => 2,
         Ok(
             StatementKind::Block
@@ -75,34 +73,28 @@ pub fn mark_count(bytes: &[u8], t: &[u32], f: FunctionHandle, s: u32) -> u32
 }
 
 // The places of the statements of f, whose marks begin at `first`. The answer is where they end.
-fn place_statements(
-    bytes: &[u8],
-    t: &[u32],
-    places: &mut [u32],
-    f: FunctionHandle,
-    first: u32,
-) -> u32
-    requires { WasRead bytes.now t.now × (f.0 < length (module_of bytes.now t.now).functions) × (first ≡ start_of (module_of bytes.now t.now) f.0) }
-    ensures { (places.new ≡ placed_in bytes.now t.now f.0 places.old (row_at t.now f.0).statements) × (result ≡ start_of (module_of bytes.now t.now) (f.0 + 1)) }
+fn place_statements(file: &File, places: &mut [u32], f: FunctionHandle, first: u32) -> u32
+    requires { WasRead file.now.bytes file.now.t × (f.0 < length (module_of file.now.bytes file.now.t).functions) × (first ≡ start_of (module_of file.now.bytes file.now.t) f.0) }
+    ensures { (places.new ≡ placed_in file.now.bytes file.now.t f.0 places.old (row_at file.now.t f.0).statements) × (result ≡ start_of (module_of file.now.bytes file.now.t) (f.0 + 1)) }
 {
-    let n = statements(t, f);
+    let n = file.statements(f);
     let mut at = first;
     for s in 0..n {
-        put(places, statement_number(t, f, s), at);
-        at += mark_count(bytes, t, f, s);
+        put(places, statement_number(file, f, s), at);
+        at += mark_count(file, f, s);
     }
     at
 }
 
-pub fn place_marks(bytes: &[u8], t: &[u32], places: &mut [u32])
-    requires { WasRead bytes.now t.now × (places_size ≤ length places.old) }
-    ensures { Places bytes.now t.now places.new }
+pub fn place_marks(file: &File, places: &mut [u32])
+    requires { WasRead file.now.bytes file.now.t × (places_size ≤ length places.old) }
+    ensures { Places file.now.bytes file.now.t places.new }
 {
-    let n = functions(t);
+    let n = file.functions();
     let mut at: u32 = 0;
     for f in 0..n {
         put(places, STARTS + (f as usize), at);
-        at = place_statements(bytes, t, places, FunctionHandle(f), at);
+        at = place_statements(file, places, FunctionHandle(f), at);
     }
     put(places, STARTS + (n as usize), at);
 }

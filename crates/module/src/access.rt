@@ -59,7 +59,7 @@ pub fn block_range(t: &[u32], row: Row, b: BlockHandle) -> BlockRange
     let first = first_statement(t, row, b.0 as usize, 0);
     let next = first_statement(t, row, (b.0 as usize) + 1, row.statements);
     BlockRange {
-        first: first,
+        first,
         count: next.saturating_sub(first),
     }
 }

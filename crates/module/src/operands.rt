@@ -15,7 +15,7 @@ use crate::tables::{Counts, MARKS, put, row_at, word};
 use field::limits::ABSENT;
 
 // Bindings are 0 to 63.
-const BINDINGS: u32 = 64;
+pub const BINDINGS: u32 = 64;
 
 // How many expressions a level's code has, and a mode's.
 const LEVELS: [u16; 5] = [0, 0, 1, 1, 2];

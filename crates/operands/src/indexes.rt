@@ -8,7 +8,8 @@ ghost use Rattle.judge.specs.Given.{scope_at};
 ghost use Rattle.operands.specs.AsksAll.{ListGiven, AsksAll, wanted_in};
 ghost use Rattle.operands.specs.Lists.{member_of};
 
-use access::kinded::{Kinded, expression_operand, operand};
+use access::file::File;
+use access::kinded::Kinded;
 use asking::ask::ask_place;
 use module::handles::{ExpressionHandle, FunctionHandle};
 use place::slots::{argument_path, evaluated_path};
@@ -16,8 +17,7 @@ use place::sources::{Source, source_of};
 
 // The part a of the part i of the value v.
 pub fn ask_member(
-    bytes: &[u8],
-    t: &[u32],
+    file: &File,
     f: FunctionHandle,
     cells: &mut [u32],
     roots: &mut [u32],
@@ -26,12 +26,12 @@ pub fn ask_member(
     i: u32,
     a: u32,
 ) -> bool
-    requires list_given { ListGiven (scope_at bytes.now t.now f.0) (of_value v.0 (more i (part cells.old a) none) ∷ []) cells.old roots.old n }
+    requires list_given { ListGiven (scope_at file.now.bytes file.now.t f.0) (of_value v.0 (more i (part cells.old a) none) ∷ []) cells.old roots.old n }
     requires a_bound { a < top cells.old }
-    ensures { AsksAll (scope_at bytes.now t.now f.0) (of_value v.0 (more i (part cells.old a) none) ∷ []) cells.old roots.old n cells.new roots.new result }
+    ensures { AsksAll (scope_at file.now.bytes file.now.t f.0) (of_value v.0 (more i (part cells.old a) none) ∷ []) cells.old roots.old n cells.new roots.new result }
 {
     let mut path = [0, 0, i];
-    match source_of(bytes, t, f, v) {
+    match source_of(file, f, v) {
         Source::Given => return true,
         Source::Argument(k) => argument_path(&mut path, k),
         Source::Evaluated => evaluated_path(&mut path, v),
@@ -41,19 +41,18 @@ pub fn ask_member(
 
 // Of what a constant index names, the part that is needed.
 pub fn ask_index(
-    bytes: &[u8],
-    t: &[u32],
+    file: &File,
     f: FunctionHandle,
     cells: &mut [u32],
     roots: &mut [u32],
     n: usize,
     row: Kinded,
 ) -> bool
-    requires { ListGiven (scope_at bytes.now t.now f.0) (member_of (operand_at bytes.now row) (wanted_in cells.old roots.old n)) cells.old roots.old n }
-    ensures { AsksAll (scope_at bytes.now t.now f.0) (member_of (operand_at bytes.now row) (wanted_in cells.old roots.old n)) cells.old roots.old n cells.new roots.new result }
+    requires { ListGiven (scope_at file.now.bytes file.now.t f.0) (member_of (operand_at file.now.bytes row) (wanted_in cells.old roots.old n)) cells.old roots.old n }
+    ensures { AsksAll (scope_at file.now.bytes file.now.t f.0) (member_of (operand_at file.now.bytes row) (wanted_in cells.old roots.old n)) cells.old roots.old n cells.new roots.new result }
 {
-    let base = expression_operand(bytes, row, 0);
-    let index = operand(bytes, row, 1) as u32;
+    let base = file.expression_operand(row, 0);
+    let index = file.operand(row, 1) as u32;
     let a = roots[n - 2];
-    ask_member(bytes, t, f, cells, roots, n, base, index, a)
+    ask_member(file, f, cells, roots, n, base, index, a)
 }

@@ -8,6 +8,7 @@ ghost use Rattle.operands.specs.Arms.{PathRoom};
 ghost use Rattle.operands.specs.AsksAll.{ListGiven, AsksAll, wanted_in};
 ghost use Rattle.operands.specs.Lists.{load_of};
 
+use access::file::File;
 use asking::ask::{ask_place, ask_value};
 use module::handles::{ExpressionHandle, FunctionHandle};
 use place::steps::{Step, step_down};
@@ -15,25 +16,24 @@ use place::target::find_target;
 
 // The dynamic indexes of the pointer p, each whole.
 pub fn ask_indexes(
-    bytes: &[u8],
-    t: &[u32],
+    file: &File,
     f: FunctionHandle,
     cells: &mut [u32],
     roots: &mut [u32],
     n: usize,
     p: ExpressionHandle,
 ) -> bool
-    requires list_given { ListGiven (scope_at bytes.now t.now f.0) (map ask_whole (indexes_of bytes.now t.now f.0 p.0)) cells.old roots.old n }
-    requires pointer { Pointer bytes.now t.now f.0 p.0 }
-    ensures { AsksAll (scope_at bytes.now t.now f.0) (map ask_whole (indexes_of bytes.now t.now f.0 p.0)) cells.old roots.old n cells.new roots.new result }
+    requires list_given { ListGiven (scope_at file.now.bytes file.now.t f.0) (map ask_whole (indexes_of file.now.bytes file.now.t f.0 p.0)) cells.old roots.old n }
+    requires pointer { Pointer file.now.bytes file.now.t f.0 p.0 }
+    ensures { AsksAll (scope_at file.now.bytes file.now.t f.0) (map ask_whole (indexes_of file.now.bytes file.now.t f.0 p.0)) cells.old roots.old n cells.new roots.new result }
 {
     let mut h = p;
     loop {
-        match step_down(bytes, t, f, h) {
+        match step_down(file, f, h) {
             Step::Variable => return true,
             Step::Constant(base) => h = base,
             Step::Dynamic(base, index) => {
-                if !ask_value(bytes, t, f, cells, roots, n, index, 0) {
+                if !ask_value(file, f, cells, roots, n, index, 0) {
                     return false;
                 }
                 h = base;
@@ -51,8 +51,7 @@ fn loaded(a: u32, dynamic: bool) -> u32
 
 // What stands where the pointer p leads.
 pub fn ask_load(
-    bytes: &[u8],
-    t: &[u32],
+    file: &File,
     f: FunctionHandle,
     cells: &mut [u32],
     roots: &mut [u32],
@@ -60,15 +59,15 @@ pub fn ask_load(
     n: usize,
     p: ExpressionHandle,
 ) -> bool
-    requires list_given { ListGiven (scope_at bytes.now t.now f.0) (load_of (scope_at bytes.now t.now f.0) p.0 (wanted_in cells.old roots.old n)) cells.old roots.old n }
-    requires pointer { Pointer bytes.now t.now f.0 p.0 }
-    requires path_room { PathRoom bytes.now t.now f.0 path.old }
-    ensures { AsksAll (scope_at bytes.now t.now f.0) (load_of (scope_at bytes.now t.now f.0) p.0 (wanted_in cells.old roots.old n)) cells.old roots.old n cells.new roots.new result }
+    requires list_given { ListGiven (scope_at file.now.bytes file.now.t f.0) (load_of (scope_at file.now.bytes file.now.t f.0) p.0 (wanted_in cells.old roots.old n)) cells.old roots.old n }
+    requires pointer { Pointer file.now.bytes file.now.t f.0 p.0 }
+    requires path_room { PathRoom file.now.bytes file.now.t f.0 path.old }
+    ensures { AsksAll (scope_at file.now.bytes file.now.t f.0) (load_of (scope_at file.now.bytes file.now.t f.0) p.0 (wanted_in cells.old roots.old n)) cells.old roots.old n cells.new roots.new result }
 {
-    if !ask_indexes(bytes, t, f, cells, roots, n, p) {
+    if !ask_indexes(file, f, cells, roots, n, p) {
         return false;
     }
-    let target = find_target(bytes, t, f, path, p);
+    let target = find_target(file, f, path, p);
     let a = loaded(roots[n - 2], target.dynamic);
     ask_place(cells, roots, n, &path[target.from..target.to], a)
 }

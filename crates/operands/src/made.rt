@@ -9,7 +9,8 @@ ghost use Rattle.operands.specs.Lists.{letter_of, component_of, letters, compone
 
 use crate::indexes::ask_member;
 use crate::operators::ask_whole;
-use access::kinded::{Kinded, expression_operand, operand};
+use access::file::File;
+use access::kinded::Kinded;
 use asking::ask::ask_value;
 use module::handles::FunctionHandle;
 use part::req::get;
@@ -25,8 +26,7 @@ fn subpart(cells: &[u32], a: u32, k: u32) -> u32
 
 // The part k of the result, of the component that the letter k names.
 fn ask_letter(
-    bytes: &[u8],
-    t: &[u32],
+    file: &File,
     f: FunctionHandle,
     cells: &mut [u32],
     roots: &mut [u32],
@@ -34,20 +34,19 @@ fn ask_letter(
     row: Kinded,
     k: u16,
 ) -> bool
-    requires list_given { ListGiven (scope_at bytes.now t.now f.0) (letter_of (operand_at bytes.now row) k (wanted_in cells.old roots.old n)) cells.old roots.old n }
+    requires list_given { ListGiven (scope_at file.now.bytes file.now.t f.0) (letter_of (operand_at file.now.bytes row) k (wanted_in cells.old roots.old n)) cells.old roots.old n }
     requires k_bound { k < 4 }
-    ensures { AsksAll (scope_at bytes.now t.now f.0) (letter_of (operand_at bytes.now row) k (wanted_in cells.old roots.old n)) cells.old roots.old n cells.new roots.new result }
+    ensures { AsksAll (scope_at file.now.bytes file.now.t f.0) (letter_of (operand_at file.now.bytes row) k (wanted_in cells.old roots.old n)) cells.old roots.old n cells.new roots.new result }
 {
-    let vector = expression_operand(bytes, row, 0);
-    let letter = operand(bytes, row, 2 + k) as u32;
+    let vector = file.expression_operand(row, 0);
+    let letter = file.operand(row, 2 + k) as u32;
     let c = subpart(cells, roots[n - 2], k as u32);
-    ask_member(bytes, t, f, cells, roots, n, vector, letter, c)
+    ask_member(file, f, cells, roots, n, vector, letter, c)
 }
 
 // The part k of the result, of the component k.
 fn ask_component(
-    bytes: &[u8],
-    t: &[u32],
+    file: &File,
     f: FunctionHandle,
     cells: &mut [u32],
     roots: &mut [u32],
@@ -55,32 +54,31 @@ fn ask_component(
     row: Kinded,
     k: u16,
 ) -> bool
-    requires list_given { ListGiven (scope_at bytes.now t.now f.0) (component_of (operand_at bytes.now row) k (wanted_in cells.old roots.old n)) cells.old roots.old n }
+    requires list_given { ListGiven (scope_at file.now.bytes file.now.t f.0) (component_of (operand_at file.now.bytes row) k (wanted_in cells.old roots.old n)) cells.old roots.old n }
     requires k_bound { k < 65535 }
-    ensures { AsksAll (scope_at bytes.now t.now f.0) (component_of (operand_at bytes.now row) k (wanted_in cells.old roots.old n)) cells.old roots.old n cells.new roots.new result }
+    ensures { AsksAll (scope_at file.now.bytes file.now.t f.0) (component_of (operand_at file.now.bytes row) k (wanted_in cells.old roots.old n)) cells.old roots.old n cells.new roots.new result }
 {
-    let v = expression_operand(bytes, row, 1 + k);
+    let v = file.expression_operand(row, 1 + k);
     let c = subpart(cells, roots[n - 2], k as u32);
-    ask_value(bytes, t, f, cells, roots, n, v, c)
+    ask_value(file, f, cells, roots, n, v, c)
 }
 
 // Stays: the loops here differ in what they ask of an operand. One loop over them would take that as a closure over cells and roots, with a longer contract than they have.
 // Letters of a vector.
 pub fn ask_letters(
-    bytes: &[u8],
-    t: &[u32],
+    file: &File,
     f: FunctionHandle,
     cells: &mut [u32],
     roots: &mut [u32],
     n: usize,
     row: Kinded,
 ) -> bool
-    requires list_given { ListGiven (scope_at bytes.now t.now f.0) (ask_picked (operand_at bytes.now row 0) (letters (operand_at bytes.now row)) 0 (wanted_in cells.old roots.old n)) cells.old roots.old n }
-    requires row_bound { operand_at bytes.now row 1 ≤ 4 }
-    ensures { AsksAll (scope_at bytes.now t.now f.0) (ask_picked (operand_at bytes.now row 0) (letters (operand_at bytes.now row)) 0 (wanted_in cells.old roots.old n)) cells.old roots.old n cells.new roots.new result }
+    requires list_given { ListGiven (scope_at file.now.bytes file.now.t f.0) (ask_picked (operand_at file.now.bytes row 0) (letters (operand_at file.now.bytes row)) 0 (wanted_in cells.old roots.old n)) cells.old roots.old n }
+    requires row_bound { operand_at file.now.bytes row 1 ≤ 4 }
+    ensures { AsksAll (scope_at file.now.bytes file.now.t f.0) (ask_picked (operand_at file.now.bytes row 0) (letters (operand_at file.now.bytes row)) 0 (wanted_in cells.old roots.old n)) cells.old roots.old n cells.new roots.new result }
 {
-    for k in (0..operand(bytes, row, 1)).rev() {
-        if !ask_letter(bytes, t, f, cells, roots, n, row, k) {
+    for k in (0..file.operand(row, 1)).rev() {
+        if !ask_letter(file, f, cells, roots, n, row, k) {
             return false;
         }
     }
@@ -89,19 +87,18 @@ pub fn ask_letters(
 
 // Components, each for its part.
 pub fn ask_components(
-    bytes: &[u8],
-    t: &[u32],
+    file: &File,
     f: FunctionHandle,
     cells: &mut [u32],
     roots: &mut [u32],
     n: usize,
     row: Kinded,
 ) -> bool
-    requires { ListGiven (scope_at bytes.now t.now f.0) (ask_components (components (operand_at bytes.now row)) 0 (wanted_in cells.old roots.old n)) cells.old roots.old n }
-    ensures { AsksAll (scope_at bytes.now t.now f.0) (ask_components (components (operand_at bytes.now row)) 0 (wanted_in cells.old roots.old n)) cells.old roots.old n cells.new roots.new result }
+    requires { ListGiven (scope_at file.now.bytes file.now.t f.0) (ask_components (components (operand_at file.now.bytes row)) 0 (wanted_in cells.old roots.old n)) cells.old roots.old n }
+    ensures { AsksAll (scope_at file.now.bytes file.now.t f.0) (ask_components (components (operand_at file.now.bytes row)) 0 (wanted_in cells.old roots.old n)) cells.old roots.old n cells.new roots.new result }
 {
-    for k in (0..operand(bytes, row, 0)).rev() {
-        if !ask_component(bytes, t, f, cells, roots, n, row, k) {
+    for k in (0..file.operand(row, 0)).rev() {
+        if !ask_component(file, f, cells, roots, n, row, k) {
             return false;
         }
     }
@@ -110,19 +107,18 @@ pub fn ask_components(
 
 // Components of a vector that is made of vectors too: each whole.
 pub fn ask_joined(
-    bytes: &[u8],
-    t: &[u32],
+    file: &File,
     f: FunctionHandle,
     cells: &mut [u32],
     roots: &mut [u32],
     n: usize,
     row: Kinded,
 ) -> bool
-    requires { ListGiven (scope_at bytes.now t.now f.0) (map ask_whole (components (operand_at bytes.now row))) cells.old roots.old n }
-    ensures { AsksAll (scope_at bytes.now t.now f.0) (map ask_whole (components (operand_at bytes.now row))) cells.old roots.old n cells.new roots.new result }
+    requires { ListGiven (scope_at file.now.bytes file.now.t f.0) (map ask_whole (components (operand_at file.now.bytes row))) cells.old roots.old n }
+    ensures { AsksAll (scope_at file.now.bytes file.now.t f.0) (map ask_whole (components (operand_at file.now.bytes row))) cells.old roots.old n cells.new roots.new result }
 {
-    for k in (0..operand(bytes, row, 0)).rev() {
-        if !ask_whole(bytes, t, f, cells, roots, n, row, 1 + k) {
+    for k in (0..file.operand(row, 0)).rev() {
+        if !ask_whole(file, f, cells, roots, n, row, 1 + k) {
             return false;
         }
     }

@@ -5,14 +5,14 @@ ghost use Rattle.judge.specs.Given.{scope_at};
 ghost use Rattle.operands.specs.AsksAll.{ListGiven, AsksAll, wanted_in};
 ghost use Rattle.operands.specs.Lists.{same_of, whole_of, present_of, both_same, both_whole, select_of, math_of};
 
-use access::kinded::{Kinded, expression_operand, optional_expression};
+use access::file::File;
+use access::kinded::Kinded;
 use asking::ask::ask_value;
 use module::handles::FunctionHandle;
 
 // Of the operand j the same part.
 pub fn ask_same(
-    bytes: &[u8],
-    t: &[u32],
+    file: &File,
     f: FunctionHandle,
     cells: &mut [u32],
     roots: &mut [u32],
@@ -20,18 +20,17 @@ pub fn ask_same(
     row: Kinded,
     j: u16,
 ) -> bool
-    requires { ListGiven (scope_at bytes.now t.now f.0) (same_of (operand_at bytes.now row) j (wanted_in cells.old roots.old n)) cells.old roots.old n }
-    ensures { AsksAll (scope_at bytes.now t.now f.0) (same_of (operand_at bytes.now row) j (wanted_in cells.old roots.old n)) cells.old roots.old n cells.new roots.new result }
+    requires { ListGiven (scope_at file.now.bytes file.now.t f.0) (same_of (operand_at file.now.bytes row) j (wanted_in cells.old roots.old n)) cells.old roots.old n }
+    ensures { AsksAll (scope_at file.now.bytes file.now.t f.0) (same_of (operand_at file.now.bytes row) j (wanted_in cells.old roots.old n)) cells.old roots.old n cells.new roots.new result }
 {
-    let v = expression_operand(bytes, row, j);
+    let v = file.expression_operand(row, j);
     let a = roots[n - 2];
-    ask_value(bytes, t, f, cells, roots, n, v, a)
+    ask_value(file, f, cells, roots, n, v, a)
 }
 
 // All of the operand j.
 pub fn ask_whole(
-    bytes: &[u8],
-    t: &[u32],
+    file: &File,
     f: FunctionHandle,
     cells: &mut [u32],
     roots: &mut [u32],
@@ -39,17 +38,16 @@ pub fn ask_whole(
     row: Kinded,
     j: u16,
 ) -> bool
-    requires { ListGiven (scope_at bytes.now t.now f.0) (whole_of (operand_at bytes.now row) j) cells.old roots.old n }
-    ensures { AsksAll (scope_at bytes.now t.now f.0) (whole_of (operand_at bytes.now row) j) cells.old roots.old n cells.new roots.new result }
+    requires { ListGiven (scope_at file.now.bytes file.now.t f.0) (whole_of (operand_at file.now.bytes row) j) cells.old roots.old n }
+    ensures { AsksAll (scope_at file.now.bytes file.now.t f.0) (whole_of (operand_at file.now.bytes row) j) cells.old roots.old n cells.new roots.new result }
 {
-    let v = expression_operand(bytes, row, j);
-    ask_value(bytes, t, f, cells, roots, n, v, 0)
+    let v = file.expression_operand(row, j);
+    ask_value(file, f, cells, roots, n, v, 0)
 }
 
 // All of the operand j, if it is there.
 fn ask_present(
-    bytes: &[u8],
-    t: &[u32],
+    file: &File,
     f: FunctionHandle,
     cells: &mut [u32],
     roots: &mut [u32],
@@ -57,91 +55,86 @@ fn ask_present(
     row: Kinded,
     j: u16,
 ) -> bool
-    requires { ListGiven (scope_at bytes.now t.now f.0) (present_of (operand_at bytes.now row) j) cells.old roots.old n }
-    ensures { AsksAll (scope_at bytes.now t.now f.0) (present_of (operand_at bytes.now row) j) cells.old roots.old n cells.new roots.new result }
+    requires { ListGiven (scope_at file.now.bytes file.now.t f.0) (present_of (operand_at file.now.bytes row) j) cells.old roots.old n }
+    ensures { AsksAll (scope_at file.now.bytes file.now.t f.0) (present_of (operand_at file.now.bytes row) j) cells.old roots.old n cells.new roots.new result }
 {
-    match optional_expression(bytes, row, j) {
+    match file.optional_expression(row, j) {
         None => true,
-        Some(v) => ask_value(bytes, t, f, cells, roots, n, v, 0),
+        Some(v) => ask_value(file, f, cells, roots, n, v, 0),
     }
 }
 
 // Of both operands the same part.
 pub fn ask_both_same(
-    bytes: &[u8],
-    t: &[u32],
+    file: &File,
     f: FunctionHandle,
     cells: &mut [u32],
     roots: &mut [u32],
     n: usize,
     row: Kinded,
 ) -> bool
-    requires { ListGiven (scope_at bytes.now t.now f.0) (both_same (operand_at bytes.now row) (wanted_in cells.old roots.old n)) cells.old roots.old n }
-    ensures { AsksAll (scope_at bytes.now t.now f.0) (both_same (operand_at bytes.now row) (wanted_in cells.old roots.old n)) cells.old roots.old n cells.new roots.new result }
+    requires { ListGiven (scope_at file.now.bytes file.now.t f.0) (both_same (operand_at file.now.bytes row) (wanted_in cells.old roots.old n)) cells.old roots.old n }
+    ensures { AsksAll (scope_at file.now.bytes file.now.t f.0) (both_same (operand_at file.now.bytes row) (wanted_in cells.old roots.old n)) cells.old roots.old n cells.new roots.new result }
 {
-    ask_same(bytes, t, f, cells, roots, n, row, 1) && ask_same(bytes, t, f, cells, roots, n, row, 0)
+    ask_same(file, f, cells, roots, n, row, 1) && ask_same(file, f, cells, roots, n, row, 0)
 }
 
 // Both operands whole.
 pub fn ask_both_whole(
-    bytes: &[u8],
-    t: &[u32],
+    file: &File,
     f: FunctionHandle,
     cells: &mut [u32],
     roots: &mut [u32],
     n: usize,
     row: Kinded,
 ) -> bool
-    requires { ListGiven (scope_at bytes.now t.now f.0) (both_whole (operand_at bytes.now row)) cells.old roots.old n }
-    ensures { AsksAll (scope_at bytes.now t.now f.0) (both_whole (operand_at bytes.now row)) cells.old roots.old n cells.new roots.new result }
+    requires { ListGiven (scope_at file.now.bytes file.now.t f.0) (both_whole (operand_at file.now.bytes row)) cells.old roots.old n }
+    ensures { AsksAll (scope_at file.now.bytes file.now.t f.0) (both_whole (operand_at file.now.bytes row)) cells.old roots.old n cells.new roots.new result }
 {
-    ask_whole(bytes, t, f, cells, roots, n, row, 1)
-        && ask_whole(bytes, t, f, cells, roots, n, row, 0)
+    ask_whole(file, f, cells, roots, n, row, 1) && ask_whole(file, f, cells, roots, n, row, 0)
 }
 
 // Of a value of two the same part of both, and the condition whole.
 pub fn ask_select(
-    bytes: &[u8],
-    t: &[u32],
+    file: &File,
     f: FunctionHandle,
     cells: &mut [u32],
     roots: &mut [u32],
     n: usize,
     row: Kinded,
 ) -> bool
-    requires { ListGiven (scope_at bytes.now t.now f.0) (select_of (operand_at bytes.now row) (wanted_in cells.old roots.old n)) cells.old roots.old n }
-    ensures { AsksAll (scope_at bytes.now t.now f.0) (select_of (operand_at bytes.now row) (wanted_in cells.old roots.old n)) cells.old roots.old n cells.new roots.new result }
+    requires { ListGiven (scope_at file.now.bytes file.now.t f.0) (select_of (operand_at file.now.bytes row) (wanted_in cells.old roots.old n)) cells.old roots.old n }
+    ensures { AsksAll (scope_at file.now.bytes file.now.t f.0) (select_of (operand_at file.now.bytes row) (wanted_in cells.old roots.old n)) cells.old roots.old n cells.new roots.new result }
 {
-    if !ask_same(bytes, t, f, cells, roots, n, row, 2) {
+    if !ask_same(file, f, cells, roots, n, row, 2) {
         return false;
     }
-    if !ask_same(bytes, t, f, cells, roots, n, row, 1) {
+    if !ask_same(file, f, cells, roots, n, row, 1) {
         return false;
     }
-    ask_whole(bytes, t, f, cells, roots, n, row, 0)
+    ask_whole(file, f, cells, roots, n, row, 0)
 }
 
 // One operand to four, whole.
 pub fn ask_math(
-    bytes: &[u8],
-    t: &[u32],
+    file: &File,
     f: FunctionHandle,
     cells: &mut [u32],
     roots: &mut [u32],
     n: usize,
     row: Kinded,
 ) -> bool
-    requires { ListGiven (scope_at bytes.now t.now f.0) (math_of (operand_at bytes.now row)) cells.old roots.old n }
-    ensures { AsksAll (scope_at bytes.now t.now f.0) (math_of (operand_at bytes.now row)) cells.old roots.old n cells.new roots.new result }
+    requires { ListGiven (scope_at file.now.bytes file.now.t f.0) (math_of (operand_at file.now.bytes row)) cells.old roots.old n }
+    ensures { AsksAll (scope_at file.now.bytes file.now.t f.0) (math_of (operand_at file.now.bytes row)) cells.old roots.old n cells.new roots.new result }
 {
-    if !ask_present(bytes, t, f, cells, roots, n, row, 3) {
+    if !ask_present(file, f, cells, roots, n, row, 3) {
         return false;
     }
-    if !ask_present(bytes, t, f, cells, roots, n, row, 2) {
+    if !ask_present(file, f, cells, roots, n, row, 2) {
         return false;
     }
-    if !ask_present(bytes, t, f, cells, roots, n, row, 1) {
+    if !ask_present(file, f, cells, roots, n, row, 1) {
         return false;
     }
-    ask_whole(bytes, t, f, cells, roots, n, row, 0)
+    ask_whole(file, f, cells, roots, n, row, 0)
 }

@@ -7,7 +7,8 @@ ghost use Rattle.clearance.specs.Scope.{inner_of, is_vector, any_vector, by_part
 ghost use Rattle.judge.specs.Given.{scope_at, Row};
 ghost use Rattle.operands.specs.Lists.{components};
 
-use access::kinded::{Kinded, expression_operand, operand};
+use access::file::File;
+use access::kinded::Kinded;
 use judge::rows::kind_at;
 use judge::shapes::is_alike;
 use judge::values::type_of;
@@ -16,8 +17,7 @@ use module::kinds::TypeKind;
 
 // Whether a binary operator is by part: both operands have the result's type, a scalar or a vector.
 pub fn by_part(
-    bytes: &[u8],
-    t: &[u32],
+    file: &File,
     f: FunctionHandle,
     types: &[u32],
     alike: &[u32],
@@ -25,29 +25,29 @@ pub fn by_part(
     row: Kinded,
     e: ExpressionHandle,
 ) -> bool
-    requires row { Row bytes.now t.now f.0 types.now alike.now paths.now e.0 row }
+    requires row { Row file.now.bytes file.now.t f.0 types.now alike.now paths.now e.0 row }
     requires kind_value { row.kind ≡ 17 }
-    ensures { result ≡ by_part (scope_at bytes.now t.now f.0) e.0 (operand_at bytes.now row 0) (operand_at bytes.now row 1) }
+    ensures { result ≡ by_part (scope_at file.now.bytes file.now.t f.0) e.0 (operand_at file.now.bytes row 0) (operand_at file.now.bytes row 1) }
 {
-    let own = type_of(bytes, t, f, e);
+    let own = type_of(file, f, e);
     match kind_at(types, own) {
         TypeKind::Scalar | TypeKind::Vector => {}
         _ => return false,
     }
-    let x = expression_operand(bytes, row, 0);
-    let y = expression_operand(bytes, row, 1);
-    let first = is_alike(alike, type_of(bytes, t, f, x), own);
-    let second = is_alike(alike, type_of(bytes, t, f, y), own);
+    let x = file.expression_operand(row, 0);
+    let y = file.expression_operand(row, 1);
+    let first = is_alike(alike, type_of(file, f, x), own);
+    let second = is_alike(alike, type_of(file, f, y), own);
     first && second
 }
 
 // Whether a component is a vector.
-fn any_vector(bytes: &[u8], t: &[u32], f: FunctionHandle, types: &[u32], row: Kinded) -> bool
-    requires { (module_of bytes.now t.now).types ≡ types_of types.now }
-    ensures { result ≡ any_vector (scope_at bytes.now t.now f.0) (components (operand_at bytes.now row)) }
+fn any_vector(file: &File, f: FunctionHandle, types: &[u32], row: Kinded) -> bool
+    requires { (module_of file.now.bytes file.now.t).types ≡ types_of types.now }
+    ensures { result ≡ any_vector (scope_at file.now.bytes file.now.t f.0) (components (operand_at file.now.bytes row)) }
 {
-    for i in 0..operand(bytes, row, 0) {
-        let a = type_of(bytes, t, f, expression_operand(bytes, row, 1 + i));
+    for i in 0..file.operand(row, 0) {
+        let a = type_of(file, f, file.expression_operand(row, 1 + i));
         if kind_at(types, a) == TypeKind::Vector {
             return true;
         }
@@ -57,16 +57,15 @@ fn any_vector(bytes: &[u8], t: &[u32], f: FunctionHandle, types: &[u32], row: Ki
 
 // Whether the expression e is a vector with a vector among its components.
 pub fn is_joined(
-    bytes: &[u8],
-    t: &[u32],
+    file: &File,
     f: FunctionHandle,
     types: &[u32],
     row: Kinded,
     e: ExpressionHandle,
 ) -> bool
-    requires { (module_of bytes.now t.now).types ≡ types_of types.now }
-    ensures { result ≡ (is_vector (inner_of (scope_at bytes.now t.now f.0) e.0) && any_vector (scope_at bytes.now t.now f.0) (components (operand_at bytes.now row))) }
+    requires { (module_of file.now.bytes file.now.t).types ≡ types_of types.now }
+    ensures { result ≡ (is_vector (inner_of (scope_at file.now.bytes file.now.t f.0) e.0) && any_vector (scope_at file.now.bytes file.now.t f.0) (components (operand_at file.now.bytes row))) }
 {
-    let own = type_of(bytes, t, f, e);
-    kind_at(types, own) == TypeKind::Vector && any_vector(bytes, t, f, types, row)
+    let own = type_of(file, f, e);
+    kind_at(types, own) == TypeKind::Vector && any_vector(file, f, types, row)
 }

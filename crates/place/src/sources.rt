@@ -5,8 +5,7 @@ ghost use Rattle.clearance.specs.Needs.{gives};
 ghost use Rattle.judge.specs.Given.{scope_at, Values};
 ghost use Rattle.place.specs.Sources.{source_by, gives_kind};
 
-use access::function::expressions;
-use access::kinded::{expression, operand};
+use access::file::File;
 use judge::values::is_path;
 use module::handles::{ExpressionHandle, FunctionHandle};
 use module::kinds::ExpressionKind;
@@ -20,15 +19,15 @@ pub enum Source {
 }
 
 // Where the value of the expression e is; one that is not there is a literal, and so is a kind past the last.
-pub fn source_of(bytes: &[u8], t: &[u32], f: FunctionHandle, e: ExpressionHandle) -> Source
-    ensures { source_by result e.0 ≡ source (scope_at bytes.now t.now f.0) e.0 }
+pub fn source_of(file: &File, f: FunctionHandle, e: ExpressionHandle) -> Source
+    ensures { source_by result e.0 ≡ source (scope_at file.now.bytes file.now.t f.0) e.0 }
 {
-    if expressions(t, f) <= e.0 {
+    if file.expressions(f) <= e.0 {
         return Source::Given;
     }
-    let row = expression(bytes, t, f, e);
+    let row = file.expression(f, e);
     match ExpressionKind::try_from(row.kind) {
-        Ok(ExpressionKind::FunctionArgument) => Source::Argument(operand(bytes, row, 0)),
+        Ok(ExpressionKind::FunctionArgument) => Source::Argument(file.operand(row, 0)),
         Ok(ExpressionKind::Literal | ExpressionKind::ZeroValue | ExpressionKind::Constant) => {
             Source::Given
         }
@@ -60,23 +59,22 @@ fn gives_kind(kind: u16) -> bool
 
 // Whether an emit gives the expression e its value.
 pub fn gives_value(
-    bytes: &[u8],
-    t: &[u32],
+    file: &File,
     f: FunctionHandle,
     types: &[u32],
     paths: &[u32],
     e: ExpressionHandle,
 ) -> bool
-    requires { Values bytes.now t.now f.0 types.now paths.now }
-    ensures { result ≡ gives (arm (scope_at bytes.now t.now f.0) e.0) }
+    requires { Values file.now.bytes file.now.t f.0 types.now paths.now }
+    ensures { result ≡ gives (arm (scope_at file.now.bytes file.now.t f.0) e.0) }
 {
-    if expressions(t, f) <= e.0 {
+    if file.expressions(f) <= e.0 {
         return false;
     }
-    let row = expression(bytes, t, f, e);
+    let row = file.expression(f, e);
     match ExpressionKind::try_from(row.kind) {
         Ok(ExpressionKind::AccessIndex | ExpressionKind::Access) => {
-            !is_path(bytes, t, f, types, paths, e)
+            !is_path(file, f, types, paths, e)
         }
         _ => gives_kind(row.kind),
     }

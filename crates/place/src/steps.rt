@@ -2,7 +2,7 @@
 ghost use Rattle.place.specs.Target.{Pointer};
 ghost use Rattle.place.specs.Steps.{StepDown};
 
-use access::kinded::{expression, expression_operand};
+use access::file::File;
 use module::handles::{ExpressionHandle, FunctionHandle};
 use module::kinds::ExpressionKind;
 
@@ -14,15 +14,15 @@ pub enum Step {
     Dynamic(ExpressionHandle, ExpressionHandle),
 }
 
-pub fn step_down(bytes: &[u8], t: &[u32], f: FunctionHandle, e: ExpressionHandle) -> Step
-    requires { Pointer bytes.now t.now f.0 e.0 }
-    ensures { StepDown bytes.now t.now f.0 e.0 result }
+pub fn step_down(file: &File, f: FunctionHandle, e: ExpressionHandle) -> Step
+    requires { Pointer file.now.bytes file.now.t f.0 e.0 }
+    ensures { StepDown file.now.bytes file.now.t f.0 e.0 result }
 {
-    let row = expression(bytes, t, f, e);
-    let base = expression_operand(bytes, row, 0);
+    let row = file.expression(f, e);
+    let base = file.expression_operand(row, 0);
     match ExpressionKind::try_from(row.kind) {
         Ok(ExpressionKind::AccessIndex) => Step::Constant(base),
-        Ok(ExpressionKind::Access) => Step::Dynamic(base, expression_operand(bytes, row, 1)),
+        Ok(ExpressionKind::Access) => Step::Dynamic(base, file.expression_operand(row, 1)),
         _ => Step::Variable,
     }
 }

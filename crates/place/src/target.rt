@@ -5,7 +5,7 @@ ghost use Rattle.clearance.specs.Scope.{variable};
 ghost use Rattle.judge.specs.Given.{scope_at};
 ghost use Rattle.place.specs.Target.{Pointer, IndexesPassed, TargetFound};
 
-use access::kinded::{expression, expression_operand, operand};
+use access::file::File;
 use module::handles::{ExpressionHandle, FunctionHandle};
 use module::kinds::ExpressionKind;
 use part::limits::SPINE;
@@ -66,30 +66,24 @@ fn variable_kind(kind: u16) -> u32
 
 // The indexes from the pointer e down to its variable, each one word lower.
 // Stays: a loop by hand, since the next row is that of the operand which this one names; nothing is counted.
-fn pass_indexes(
-    bytes: &[u8],
-    t: &[u32],
-    f: FunctionHandle,
-    path: &mut [u32],
-    e: ExpressionHandle,
-) -> Reached
-    requires pointer { Pointer bytes.now t.now f.0 e.0 }
-    requires f_in_bounds { length (function_of bytes.now t.now f.0).expressions + 2 ≤ length path.old }
-    ensures { IndexesPassed (scope_at bytes.now t.now f.0) e.0 path.old path.new result }
+fn pass_indexes(file: &File, f: FunctionHandle, path: &mut [u32], e: ExpressionHandle) -> Reached
+    requires pointer { Pointer file.now.bytes file.now.t f.0 e.0 }
+    requires f_in_bounds { length (function_of file.now.bytes file.now.t f.0).expressions + 2 ≤ length path.old }
+    ensures { IndexesPassed (scope_at file.now.bytes file.now.t f.0) e.0 path.old path.new result }
 {
     let mut from = path.len();
     let mut to = path.len();
     let mut dynamic = false;
     let mut h = e;
-    let mut row = expression(bytes, t, f, e);
+    let mut row = file.expression(f, e);
     while is_index(row.kind) {
         let next = from - 1;
-        path[next] = operand(bytes, row, 1) as u32;
+        path[next] = file.operand(row, 1) as u32;
         to = end_after(row.kind, next, to);
         dynamic = dynamic_after(row.kind, dynamic);
         from = next;
-        h = expression_operand(bytes, row, 0);
-        row = expression(bytes, t, f, h);
+        h = file.expression_operand(row, 0);
+        row = file.expression(f, h);
     }
     let passed = Target { from, to, dynamic };
     Reached {
@@ -99,22 +93,16 @@ fn pass_indexes(
 }
 
 // The part of its variable that the pointer e names for sure.
-pub fn find_target(
-    bytes: &[u8],
-    t: &[u32],
-    f: FunctionHandle,
-    path: &mut [u32],
-    e: ExpressionHandle,
-) -> Target
-    requires pointer { Pointer bytes.now t.now f.0 e.0 }
-    requires f_in_bounds { length (function_of bytes.now t.now f.0).expressions + 2 ≤ length path.old }
-    ensures { TargetFound (scope_at bytes.now t.now f.0) e.0 path.old path.new result }
+pub fn find_target(file: &File, f: FunctionHandle, path: &mut [u32], e: ExpressionHandle) -> Target
+    requires pointer { Pointer file.now.bytes file.now.t f.0 e.0 }
+    requires f_in_bounds { length (function_of file.now.bytes file.now.t f.0).expressions + 2 ≤ length path.old }
+    ensures { TargetFound (scope_at file.now.bytes file.now.t f.0) e.0 path.old path.new result }
 {
-    let reached = pass_indexes(bytes, t, f, path, e);
-    let row = expression(bytes, t, f, reached.variable);
+    let reached = pass_indexes(file, f, path, e);
+    let row = file.expression(f, reached.variable);
     let from = reached.passed.from - 2;
     let number = from + 1;
-    path[number] = SPINE + (operand(bytes, row, 0) as u32);
+    path[number] = SPINE + (file.operand(row, 0) as u32);
     path[from] = variable_kind(row.kind);
     Target {
         from,

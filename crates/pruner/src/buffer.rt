@@ -7,7 +7,7 @@ ghost use Rattle.pruner.specs.Reading.{RoomBeside, NoTotals, FlagsCleared, Funct
 
 use crate::reader::read_map;
 use crate::total::read_total;
-use access::whole::{functions, globals};
+use access::file::File;
 use field::limits::MAX_PIECES;
 use memory::layout::GLOBALS;
 use module::handles::FunctionHandle;
@@ -23,8 +23,7 @@ pub fn clear_flags(totals: &mut [u8], n: usize)
 }
 
 pub fn read_functions(
-    bytes: &[u8],
-    t: &[u32],
+    file: &File,
     places: &[u32],
     cells: &mut [u32],
     slots: &mut [u32],
@@ -33,16 +32,15 @@ pub fn read_functions(
     at: usize,
     sum: usize,
 ) -> Option<(usize, usize)>
-    requires has_totals { HasTotals bytes.now t.now places.now cells.old slots.old totals.old × NoTotals bytes.now t.now cells.old slots.old totals.old }
+    requires has_totals { HasTotals file.now.bytes file.now.t places.now cells.old slots.old totals.old × NoTotals file.now.bytes file.now.t cells.old slots.old totals.old }
     requires at_in_bounds { (at ≤ length pruner.now) × RoomBeside cells.old pruner.now at (max_items + max_functions) × (sum ≤ max_pieces) }
-    ensures { FunctionsWereRead bytes.now t.now cells.old slots.old totals.old pruner.now at sum cells.new slots.new totals.new result }
+    ensures { FunctionsWereRead file.now.bytes file.now.t cells.old slots.old totals.old pruner.now at sum cells.new slots.new totals.new result }
 {
     let mut next = at;
     let mut count = sum;
-    for f in 0..functions(t) {
+    for f in 0..file.functions() {
         let (end, m) = read_total(
-            bytes,
-            t,
+            file,
             places,
             cells,
             slots,
@@ -60,19 +58,18 @@ pub fn read_functions(
 
 // The fields of a buffer's record, behind its header. Whether they are totals that 16 allows.
 pub fn read_body(
-    bytes: &[u8],
-    t: &[u32],
+    file: &File,
     places: &[u32],
     cells: &mut [u32],
     slots: &mut [u32],
     totals: &mut [u8],
     pruner: &[u8],
 ) -> bool
-    requires has_totals { HasTotals bytes.now t.now places.now cells.old slots.old totals.old × NoTotals bytes.now t.now cells.old slots.old totals.old }
+    requires has_totals { HasTotals file.now.bytes file.now.t places.now cells.old slots.old totals.old × NoTotals file.now.bytes file.now.t cells.old slots.old totals.old }
     requires in_bounds { (6 ≤ length pruner.now) × RoomBeside cells.old pruner.now 6 (max_items + max_functions) }
-    ensures { BodyWasRead bytes.now t.now cells.old slots.old totals.old pruner.now cells.new slots.new totals.new result }
+    ensures { BodyWasRead file.now.bytes file.now.t cells.old slots.old totals.old pruner.now cells.new slots.new totals.new result }
 {
-    let n = globals(t);
+    let n = file.globals();
     let Some((g, next)) = read_map(cells, pruner, 6, n) else {
         return false;
     };
@@ -81,7 +78,7 @@ pub fn read_body(
         return false;
     }
     slots[GLOBALS] = g;
-    let Some((end, _)) = read_functions(bytes, t, places, cells, slots, totals, pruner, next, count)
+    let Some((end, _)) = read_functions(file, places, cells, slots, totals, pruner, next, count)
     else {
         return false;
     };

@@ -4,22 +4,21 @@ ghost use Rattle.pruner.specs.Reading.{Untold, PrunerWasRead};
 
 use crate::buffer::{clear_flags, read_body};
 use crate::frame::{is_fresh, record_length};
-use access::whole::functions;
+use access::file::File;
 
 // Whether the buffer means totals.
 pub fn read_pruner(
-    bytes: &[u8],
-    t: &[u32],
+    file: &File,
     places: &[u32],
     cells: &mut [u32],
     slots: &mut [u32],
     totals: &mut [u8],
     pruner: &[u8],
 ) -> bool
-    requires { HasTotals bytes.now t.now places.now cells.old slots.old totals.old × Untold cells.old slots.old }
-    ensures { PrunerWasRead bytes.now t.now cells.old slots.old totals.old pruner.now cells.new slots.new totals.new result }
+    requires { HasTotals file.now.bytes file.now.t places.now cells.old slots.old totals.old × Untold cells.old slots.old }
+    ensures { PrunerWasRead file.now.bytes file.now.t cells.old slots.old totals.old pruner.now cells.new slots.new totals.new result }
 {
-    let n = functions(t) as usize;
+    let n = file.functions() as usize;
     clear_flags(totals, n);
     if is_fresh(pruner) {
         return true;
@@ -27,5 +26,5 @@ pub fn read_pruner(
     let Some(end) = record_length(pruner) else {
         return false;
     };
-    read_body(bytes, t, places, cells, slots, totals, &pruner[..end])
+    read_body(file, places, cells, slots, totals, &pruner[..end])
 }

@@ -8,8 +8,7 @@ ghost use Rattle.pruner.specs.Reading.{RoomBeside, KeptWasRead, TotalWasRead};
 
 use crate::kept::{read_context, read_records};
 use crate::reader::read_marks;
-use access::function::{arguments, locals};
-use access::whole::globals;
+use access::file::File;
 use field::field::read;
 use leave::leave::records_of;
 use marks::places::start;
@@ -20,8 +19,7 @@ use request::record::ends;
 
 // The total of f, from the byte after its flag on.
 pub fn read_kept(
-    bytes: &[u8],
-    t: &[u32],
+    file: &File,
     places: &[u32],
     cells: &mut [u32],
     slots: &mut [u32],
@@ -31,9 +29,9 @@ pub fn read_kept(
     f: FunctionHandle,
     sum: usize,
 ) -> Option<(usize, usize)>
-    requires has_totals { HasTotals bytes.now t.now places.now cells.old slots.old totals.old × (f.0 < length (module_of bytes.now t.now).functions) }
-    requires at_in_bounds { (at ≤ length pruner.now) × RoomBeside cells.old pruner.now at (1 + (row_at t.now f.0).expressions) × (sum ≤ max_pieces) }
-    ensures { KeptWasRead bytes.now t.now cells.old slots.old totals.old pruner.now at f.0 sum cells.new slots.new totals.new result }
+    requires has_totals { HasTotals file.now.bytes file.now.t places.now cells.old slots.old totals.old × (f.0 < length (module_of file.now.bytes file.now.t).functions) }
+    requires at_in_bounds { (at ≤ length pruner.now) × RoomBeside cells.old pruner.now at (1 + (row_at file.now.t f.0).expressions) × (sum ≤ max_pieces) }
+    ensures { KeptWasRead file.now.bytes file.now.t cells.old slots.old totals.old pruner.now at f.0 sum cells.new slots.new totals.new result }
 {
     let i = f.0 as usize;
     let from = start(places, i);
@@ -43,20 +41,19 @@ pub fn read_kept(
         return None;
     }
     let slot = FUNCTIONS + 4 * i;
-    let g = globals(t);
-    let a = arguments(t, f);
-    let l = locals(t, f);
+    let g = file.globals();
+    let a = file.arguments(f);
+    let l = file.locals(f);
     let lists = at + 2 * n;
     let (next, count) = read_context(cells, slots, pruner, lists, slot, g, a, l, sum)?;
-    let records = records_of(t, f);
+    let records = records_of(file, f);
     let base = RECORDS + records.from;
     read_records(cells, slots, pruner, next, base, records.n, count)
 }
 
 // The total of f after 1, or none after 0. It has none yet.
 pub fn read_total(
-    bytes: &[u8],
-    t: &[u32],
+    file: &File,
     places: &[u32],
     cells: &mut [u32],
     slots: &mut [u32],
@@ -66,9 +63,9 @@ pub fn read_total(
     f: FunctionHandle,
     sum: usize,
 ) -> Option<(usize, usize)>
-    requires has_totals { HasTotals bytes.now t.now places.now cells.old slots.old totals.old × (f.0 < length (module_of bytes.now t.now).functions) × (has_total totals.old f.0 ≡ false) }
-    requires at_in_bounds { (at ≤ length pruner.now) × RoomBeside cells.old pruner.now at (1 + (row_at t.now f.0).expressions) × (sum ≤ max_pieces) }
-    ensures { TotalWasRead bytes.now t.now cells.old slots.old totals.old pruner.now at f.0 sum cells.new slots.new totals.new result }
+    requires has_totals { HasTotals file.now.bytes file.now.t places.now cells.old slots.old totals.old × (f.0 < length (module_of file.now.bytes file.now.t).functions) × (has_total totals.old f.0 ≡ false) }
+    requires at_in_bounds { (at ≤ length pruner.now) × RoomBeside cells.old pruner.now at (1 + (row_at file.now.t f.0).expressions) × (sum ≤ max_pieces) }
+    ensures { TotalWasRead file.now.bytes file.now.t cells.old slots.old totals.old pruner.now at f.0 sum cells.new slots.new totals.new result }
 {
     if ends(pruner, at) {
         return None;
@@ -80,16 +77,5 @@ pub fn read_total(
     if flag != 1 {
         return None;
     }
-    read_kept(
-        bytes,
-        t,
-        places,
-        cells,
-        slots,
-        totals,
-        pruner,
-        at + 2,
-        f,
-        sum,
-    )
+    read_kept(file, places, cells, slots, totals, pruner, at + 2, f, sum)
 }

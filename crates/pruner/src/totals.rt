@@ -8,7 +8,7 @@ ghost use Rattle.pruner.specs.Form.{min_pruner, write_total, write_totals, write
 ghost use Rattle.pruner.specs.Stored.{pruner_in, HasTotals};
 
 use crate::write::write_total;
-use access::whole::functions;
+use access::file::File;
 use field::field::{write, write_word};
 use leave::leave::records_of;
 use marks::places::start;
@@ -19,8 +19,7 @@ use request::write::write_variables;
 
 // The total of f, or 0.
 fn write_function(
-    bytes: &[u8],
-    t: &[u32],
+    file: &File,
     places: &[u32],
     cells: &[u32],
     slots: &[u32],
@@ -29,16 +28,16 @@ fn write_function(
     out: &mut [u8],
     at: usize,
 ) -> usize
-    requires has_totals { HasTotals bytes.now t.now places.now cells.now slots.now totals.now × (f.0 < length (module_of bytes.now t.now).functions) }
-    requires fits { Fits out.old at (write_total (total_in (module_of bytes.now t.now) t.now (read cells.now slots.now) totals.now f.0)) }
-    ensures { Written out.old out.new at (write_total (total_in (module_of bytes.now t.now) t.now (read cells.now slots.now) totals.now f.0)) result }
+    requires has_totals { HasTotals file.now.bytes file.now.t places.now cells.now slots.now totals.now × (f.0 < length (module_of file.now.bytes file.now.t).functions) }
+    requires fits { Fits out.old at (write_total (total_in (module_of file.now.bytes file.now.t) file.now.t (read cells.now slots.now) totals.now f.0)) }
+    ensures { Written out.old out.new at (write_total (total_in (module_of file.now.bytes file.now.t) file.now.t (read cells.now slots.now) totals.now f.0)) result }
 {
     let i = f.0 as usize;
     if totals[i] == 0 {
         write(out, at, 0);
         return at + 2;
     }
-    let records = records_of(t, f);
+    let records = records_of(file, f);
     let from = start(places, i);
     let n = start(places, i + 1) - from;
     let context = FUNCTIONS + 4 * i;
@@ -57,8 +56,7 @@ fn write_function(
 }
 
 fn write_functions(
-    bytes: &[u8],
-    t: &[u32],
+    file: &File,
     places: &[u32],
     cells: &[u32],
     slots: &[u32],
@@ -66,15 +64,14 @@ fn write_functions(
     out: &mut [u8],
     at: usize,
 ) -> usize
-    requires has_totals { HasTotals bytes.now t.now places.now cells.now slots.now totals.now }
-    requires fits { Fits out.old at (write_totals (functions_in (module_of bytes.now t.now) t.now (read cells.now slots.now) totals.now)) }
-    ensures { Written out.old out.new at (write_totals (functions_in (module_of bytes.now t.now) t.now (read cells.now slots.now) totals.now)) result }
+    requires has_totals { HasTotals file.now.bytes file.now.t places.now cells.now slots.now totals.now }
+    requires fits { Fits out.old at (write_totals (functions_in (module_of file.now.bytes file.now.t) file.now.t (read cells.now slots.now) totals.now)) }
+    ensures { Written out.old out.new at (write_totals (functions_in (module_of file.now.bytes file.now.t) file.now.t (read cells.now slots.now) totals.now)) result }
 {
     let mut next = at;
-    for f in 0..functions(t) {
+    for f in 0..file.functions() {
         next = write_function(
-            bytes,
-            t,
+            file,
             places,
             cells,
             slots,
@@ -89,20 +86,19 @@ fn write_functions(
 
 // The totals that memory has, from the first byte of the buffer on.
 pub fn write_pruner(
-    bytes: &[u8],
-    t: &[u32],
+    file: &File,
     places: &[u32],
     cells: &[u32],
     slots: &[u32],
     totals: &[u8],
     out: &mut [u8],
 )
-    requires has_totals { HasTotals bytes.now t.now places.now cells.now slots.now totals.now }
-    requires min_pruner_in_bounds { (min_pruner ≤ length out.old) × (length (write_pruner (pruner_in bytes.now t.now cells.now slots.now totals.now)) ≤ min_pruner) }
-    ensures { out.new ≡ write_pruner (pruner_in bytes.now t.now cells.now slots.now totals.now) ++ drop (length (write_pruner (pruner_in bytes.now t.now cells.now slots.now totals.now))) out.old }
+    requires has_totals { HasTotals file.now.bytes file.now.t places.now cells.now slots.now totals.now }
+    requires min_pruner_in_bounds { (min_pruner ≤ length out.old) × (length (write_pruner (pruner_in file.now.bytes file.now.t cells.now slots.now totals.now)) ≤ min_pruner) }
+    ensures { out.new ≡ write_pruner (pruner_in file.now.bytes file.now.t cells.now slots.now totals.now) ++ drop (length (write_pruner (pruner_in file.now.bytes file.now.t cells.now slots.now totals.now))) out.old }
 {
     let next = write_variables(cells, slots[GLOBALS], out, 6);
-    let end = write_functions(bytes, t, places, cells, slots, totals, out, next);
+    let end = write_functions(file, places, cells, slots, totals, out, next);
     out[0] = b'P';
     out[1] = b'N';
     write_word(out, 2, (end - 6) as u32);

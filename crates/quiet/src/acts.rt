@@ -8,6 +8,7 @@ ghost use Rattle.judge.specs.Given.{scope_at};
 ghost use Rattle.place.specs.Target.{Pointer};
 ghost use Rattle.quiet.specs.Acts.{Needing, Overlap, Idle};
 
+use access::file::File;
 use module::handles::{ExpressionHandle, FunctionHandle};
 use needs::path::below;
 use place::slots::evaluated_path;
@@ -26,8 +27,7 @@ pub fn is_some(p: u32) -> bool
 
 // What the need m asks of the expression e, if an emit gives it its value.
 pub fn emit_overlap(
-    bytes: &[u8],
-    t: &[u32],
+    file: &File,
     f: FunctionHandle,
     types: &[u32],
     alike: &[u32],
@@ -37,12 +37,12 @@ pub fn emit_overlap(
     m: u32,
     e: ExpressionHandle,
 ) -> u32
-    requires needing { Needing bytes.now t.now f.0 types.now alike.now paths.now cells.now m }
-    requires e_in_bounds { e.0 < length (function_of bytes.now t.now f.0).expressions }
+    requires needing { Needing file.now.bytes file.now.t f.0 types.now alike.now paths.now cells.now m }
+    requires e_in_bounds { e.0 < length (function_of file.now.bytes file.now.t f.0).expressions }
     requires in_bounds { 2 ≤ length path.old }
-    ensures { Overlap (scope_at bytes.now t.now f.0) (emit e.0) cells.now (part cells.now m) path.old path.new result }
+    ensures { Overlap (scope_at file.now.bytes file.now.t f.0) (emit e.0) cells.now (part cells.now m) path.old path.new result }
 {
-    if !gives_value(bytes, t, f, types, paths, e) {
+    if !gives_value(file, f, types, paths, e) {
         return 2;
     }
     evaluated_path(path, e);
@@ -51,8 +51,7 @@ pub fn emit_overlap(
 
 // What the need m asks of the part that a store to the pointer p gives, whatever the value.
 pub fn store_overlap(
-    bytes: &[u8],
-    t: &[u32],
+    file: &File,
     f: FunctionHandle,
     types: &[u32],
     alike: &[u32],
@@ -62,12 +61,12 @@ pub fn store_overlap(
     m: u32,
     p: ExpressionHandle,
 ) -> u32
-    requires needing { Needing bytes.now t.now f.0 types.now alike.now paths.now cells.now m }
-    requires pointer { Pointer bytes.now t.now f.0 p.0 }
-    requires f_in_bounds { length (function_of bytes.now t.now f.0).expressions + 2 ≤ length path.old }
-    ensures { (v : ℕ) → Overlap (scope_at bytes.now t.now f.0) (store p.0 v) cells.now (part cells.now m) path.old path.new result }
+    requires needing { Needing file.now.bytes file.now.t f.0 types.now alike.now paths.now cells.now m }
+    requires pointer { Pointer file.now.bytes file.now.t f.0 p.0 }
+    requires f_in_bounds { length (function_of file.now.bytes file.now.t f.0).expressions + 2 ≤ length path.old }
+    ensures { (v : ℕ) → Overlap (scope_at file.now.bytes file.now.t f.0) (store p.0 v) cells.now (part cells.now m) path.old path.new result }
 {
-    let target = find_target(bytes, t, f, path, p);
+    let target = find_target(file, f, path, p);
     let from = target.from;
     let to = target.to;
     below(cells, m, &path[from..to])
@@ -75,8 +74,7 @@ pub fn store_overlap(
 
 // Whether the expression e, emitted, gives nothing that is needed.
 pub fn emit_idle(
-    bytes: &[u8],
-    t: &[u32],
+    file: &File,
     f: FunctionHandle,
     types: &[u32],
     alike: &[u32],
@@ -86,18 +84,17 @@ pub fn emit_idle(
     m: u32,
     e: ExpressionHandle,
 ) -> bool
-    requires needing { Needing bytes.now t.now f.0 types.now alike.now paths.now cells.now m }
-    requires e_in_bounds { e.0 < length (function_of bytes.now t.now f.0).expressions }
+    requires needing { Needing file.now.bytes file.now.t f.0 types.now alike.now paths.now cells.now m }
+    requires e_in_bounds { e.0 < length (function_of file.now.bytes file.now.t f.0).expressions }
     requires in_bounds { 2 ≤ length path.old }
-    ensures { Idle (scope_at bytes.now t.now f.0) (emit e.0) (part cells.now m) path.old path.new result }
+    ensures { Idle (scope_at file.now.bytes file.now.t f.0) (emit e.0) (part cells.now m) path.old path.new result }
 {
-    !is_some(emit_overlap(bytes, t, f, types, alike, paths, cells, path, m, e))
+    !is_some(emit_overlap(file, f, types, alike, paths, cells, path, m, e))
 }
 
 // Whether a store to the pointer p gives nothing that is needed.
 pub fn store_idle(
-    bytes: &[u8],
-    t: &[u32],
+    file: &File,
     f: FunctionHandle,
     types: &[u32],
     alike: &[u32],
@@ -107,10 +104,10 @@ pub fn store_idle(
     m: u32,
     p: ExpressionHandle,
 ) -> bool
-    requires needing { Needing bytes.now t.now f.0 types.now alike.now paths.now cells.now m }
-    requires pointer { Pointer bytes.now t.now f.0 p.0 }
-    requires f_in_bounds { length (function_of bytes.now t.now f.0).expressions + 2 ≤ length path.old }
-    ensures { (v : ℕ) → Idle (scope_at bytes.now t.now f.0) (store p.0 v) (part cells.now m) path.old path.new result }
+    requires needing { Needing file.now.bytes file.now.t f.0 types.now alike.now paths.now cells.now m }
+    requires pointer { Pointer file.now.bytes file.now.t f.0 p.0 }
+    requires f_in_bounds { length (function_of file.now.bytes file.now.t f.0).expressions + 2 ≤ length path.old }
+    ensures { (v : ℕ) → Idle (scope_at file.now.bytes file.now.t f.0) (store p.0 v) (part cells.now m) path.old path.new result }
 {
-    !is_some(store_overlap(bytes, t, f, types, alike, paths, cells, path, m, p))
+    !is_some(store_overlap(file, f, types, alike, paths, cells, path, m, p))
 }

@@ -9,15 +9,15 @@ ghost use Rattle.quiet.specs.Acts.{Needing, IdleFrom};
 ghost use Rattle.quiet.specs.Places.{quiet_statement, Says};
 
 use crate::acts::{emit_idle, store_idle};
-use access::kinded::{Kinded, expression_operand};
+use access::file::File;
+use access::kinded::Kinded;
 use module::handles::{ExpressionHandle, FunctionHandle};
 use module::kinds::{NoKind, StatementKind};
 use strays::exits::Exits;
 
 // Whether none of the emitted expressions, from the first to the last, gives anything that is needed.
 fn quiet_emits(
-    bytes: &[u8],
-    t: &[u32],
+    file: &File,
     f: FunctionHandle,
     types: &[u32],
     alike: &[u32],
@@ -28,15 +28,14 @@ fn quiet_emits(
     first: ExpressionHandle,
     last: ExpressionHandle,
 ) -> bool
-    requires needing { Needing bytes.now t.now f.0 types.now alike.now paths.now cells.now m }
-    requires last_in_bounds { last.0 < length (function_of bytes.now t.now f.0).expressions }
+    requires needing { Needing file.now.bytes file.now.t f.0 types.now alike.now paths.now cells.now m }
+    requires last_in_bounds { last.0 < length (function_of file.now.bytes file.now.t f.0).expressions }
     requires in_bounds { 2 ≤ length path.old }
-    ensures { IdleFrom (scope_at bytes.now t.now f.0) (part cells.now m) first.0 ((last.0 + 1) - first.0) path.old path.new result }
+    ensures { IdleFrom (scope_at file.now.bytes file.now.t f.0) (part cells.now m) first.0 ((last.0 + 1) - first.0) path.old path.new result }
 {
     for e in first.0..=last.0 {
         if !emit_idle(
-            bytes,
-            t,
+            file,
             f,
             types,
             alike,
@@ -54,8 +53,7 @@ fn quiet_emits(
 
 // The statement s, by its row, whatever block it is in.
 pub fn quiet_plain(
-    bytes: &[u8],
-    t: &[u32],
+    file: &File,
     f: FunctionHandle,
     types: &[u32],
     alike: &[u32],
@@ -67,24 +65,22 @@ pub fn quiet_plain(
     row: Kinded,
     e: Exits<bool>,
 ) -> bool
-    requires needing { Needing bytes.now t.now f.0 types.now alike.now paths.now cells.now m }
-    requires f_in_bounds { length (function_of bytes.now t.now f.0).expressions + 2 ≤ length path.old }
-    requires s_in_bounds { s < length (function_of bytes.now t.now f.0).statements }
-    requires row_value { row ≡ statement_row bytes.now t.now f.0 s }
+    requires needing { Needing file.now.bytes file.now.t f.0 types.now alike.now paths.now cells.now m }
+    requires f_in_bounds { length (function_of file.now.bytes file.now.t f.0).expressions + 2 ≤ length path.old }
+    requires s_in_bounds { s < length (function_of file.now.bytes file.now.t f.0).statements }
+    requires row_value { row ≡ statement_row file.now.bytes file.now.t f.0 s }
     requires lt_kind { (row.kind ≡ 0 → ⊥) → 4 < row.kind }
-    ensures { (b : ℕ) → Says (quiet_statement (scope_at bytes.now t.now f.0) (part cells.now m) b s (exits_of e)) path.old path.new result }
+    ensures { (b : ℕ) → Says (quiet_statement (scope_at file.now.bytes file.now.t f.0) (part cells.now m) b s (exits_of e)) path.old path.new result }
 {
     match StatementKind::try_from(row.kind) {
         Ok(StatementKind::Emit) => {
-            let first = expression_operand(bytes, row, 0);
-            let last = expression_operand(bytes, row, 1);
-            quiet_emits(
-                bytes, t, f, types, alike, paths, cells, path, m, first, last,
-            )
+            let first = file.expression_operand(row, 0);
+            let last = file.expression_operand(row, 1);
+            quiet_emits(file, f, types, alike, paths, cells, path, m, first, last)
         }
         Ok(StatementKind::Store) => {
-            let p = expression_operand(bytes, row, 0);
-            store_idle(bytes, t, f, types, alike, paths, cells, path, m, p)
+            let p = file.expression_operand(row, 0);
+            store_idle(file, f, types, alike, paths, cells, path, m, p)
         }
         Ok(StatementKind::Continue) => e.continued,
         Ok(StatementKind::Return) => e.returned,

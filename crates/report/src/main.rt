@@ -11,6 +11,7 @@ ghost use Rattle.report.specs.Outcome.{TextIs};
 
 use crate::outcome::{Outcome, read_front, walk_input};
 use crate::text::write_text;
+use access::file::File;
 use check_text::line::MAX_LINE;
 use field::limits::MIN_REPORT;
 use lines::report::MAX_TEXT;
@@ -55,17 +56,17 @@ fn read_input(reader: &mut impl Read, input: &mut [u8]) -> usize
 fn print(
     rt: &impl Print,
     input: &[u8],
-    t: &[u32],
+    file: &File,
     places: &[u32],
     cells: &mut [u32; CELLS],
     slots: &mut [u32; SLOTS],
     open: &[u8],
     outcome: Outcome,
 ) -> io::Result<()>
-    requires { TextIs (report_input input.now) (module_in input.now) t.now (request_in input.now) places.now cells.old slots.old «open».now outcome }
+    requires { TextIs (report_input input.now) (module_in input.now) file.now.t (request_in input.now) places.now cells.old slots.old «open».now outcome }
 {
     let mut text: [u8; MAX_TEXT + MAX_LINE] = [0; MAX_TEXT + MAX_LINE];
-    let n = write_text(&mut text, input, t, places, cells, slots, open, outcome);
+    let n = write_text(&mut text, input, file, places, cells, slots, open, outcome);
     rt.write_all(&text[0..n])
 }
 
@@ -79,10 +80,10 @@ fn answer(
     open: &mut [u8; MIN_REPORT],
 ) -> io::Result<()> {
     if let Err(refusal) = read_front(input, t, cells, slots) {
-        return print(rt, input, t, places, cells, slots, open, Err(refusal));
+        return print(rt, input, file, places, cells, slots, open, Err(refusal));
     }
-    let outcome = walk_input(input, t, places, cells, slots, open);
-    print(rt, input, t, places, cells, slots, open, outcome)
+    let outcome = walk_input(input, file, places, cells, slots, open);
+    print(rt, input, file, places, cells, slots, open, outcome)
 }
 
 fn report(rt: &impl Print, input: &[u8]) -> io::Result<()> {

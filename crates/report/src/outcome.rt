@@ -12,7 +12,7 @@ ghost use Rattle.report_text.specs.Split.{module_in, request_in};
 ghost use Rattle.report_text.specs.Input.{request_text, report_input};
 ghost use Rattle.report.specs.Outcome.{TextIs, Asked, Walked};
 
-use access::whole::types;
+use access::file::File;
 use context::remove::TYPE_WORDS;
 use field::limits::{MAX_TYPES, MIN_REPORT};
 use field::refusal::Refusal;
@@ -21,7 +21,6 @@ use marks::places::{PLACES, place_marks};
 use marks::report::TOTALS_SIZE;
 use memory::layout::{CELLS, SLOTS, STACK};
 use module::handles::FunctionHandle;
-use module::tables::WORDS;
 use reading::read::{HELD, SEEN, read};
 use report_text::split::split;
 use requests::begin::begin_request;
@@ -40,8 +39,7 @@ pub type Outcome = Result<Reported, Refusal>;
 
 // The walk of f, and 16 at its end.
 fn walk_function(
-    bytes: &[u8],
-    t: &[u32; WORDS],
+    file: &File,
     types: &[u32],
     places: &[u32; PLACES],
     cells: &mut [u32; CELLS],
@@ -51,12 +49,11 @@ fn walk_function(
     f: FunctionHandle,
     sum: usize,
 ) -> Outcome
-    requires { Asked bytes.now t.now types.now places.now cells.old slots.old «open».old totals.old f.0 sum }
-    ensures { Walked bytes.now t.now types.now places.now cells.old slots.old «open».old totals.old f.0 cells.new slots.new «open».new result }
+    requires { Asked file.now.bytes file.now.t types.now places.now cells.old slots.old «open».old totals.old f.0 sum }
+    ensures { Walked file.now.bytes file.now.t types.now places.now cells.old slots.old «open».old totals.old f.0 cells.new slots.new «open».new result }
 {
     match add_function(
-        bytes,
-        t,
+        file,
         types,
         places,
         cells,
@@ -71,7 +68,7 @@ fn walk_function(
     ) {
         Err(h) => Err(h.refusal),
         Ok(a) => {
-            if totals_over(t, cells, slots, f, a.tally.sum) {
+            if totals_over(file, cells, slots, f, a.tally.sum) {
                 return Err(Refusal::PiecesLimit);
             }
             Ok(Reported {
@@ -84,8 +81,7 @@ fn walk_function(
 
 // The request of a module that was read, with a row for each type.
 fn walk_request(
-    bytes: &[u8],
-    t: &[u32; WORDS],
+    file: &File,
     table: &mut [u32],
     places: &mut [u32; PLACES],
     cells: &mut [u32; CELLS],
@@ -94,19 +90,18 @@ fn walk_request(
     totals: &mut [u8; TOTALS_SIZE],
     request: &[u8],
 ) -> Outcome
-    requires { WasRead bytes.now t.now × (length table.old ≡ type_words * length (module_of bytes.now t.now).types) }
-    ensures { TextIs (request_text (module_of bytes.now t.now) (read_request (module_of bytes.now t.now) min_report request.now)) bytes.now t.now request.now places.new cells.new slots.new «open».new result }
+    requires { WasRead file.now.bytes file.now.t × (length table.old ≡ type_words * length (module_of file.now.bytes file.now.t).types) }
+    ensures { TextIs (request_text (module_of file.now.bytes file.now.t) (read_request (module_of file.now.bytes file.now.t) min_report request.now)) file.now.bytes file.now.t request.now places.new cells.new slots.new «open».new result }
 {
-    place_marks(bytes, t, places);
-    fill(bytes, t, table);
+    place_marks(file, places);
+    fill(file, table);
     // a fresh pruner
     let pruner = b"\0\0";
     let begun = begin_request(
-        bytes, t, places, cells, slots, open, totals, request, pruner, MIN_REPORT,
+        file, places, cells, slots, open, totals, request, pruner, MIN_REPORT,
     )?;
     walk_function(
-        bytes,
-        t,
+        file,
         table,
         places,
         cells,
@@ -120,24 +115,22 @@ fn walk_request(
 
 // The request of a module that was read.
 fn walk_read(
-    bytes: &[u8],
-    t: &[u32; WORDS],
+    file: &File,
     places: &mut [u32; PLACES],
     cells: &mut [u32; CELLS],
     slots: &mut [u32; SLOTS],
     open: &mut [u8; MIN_REPORT],
     request: &[u8],
 ) -> Outcome
-    requires { WasRead bytes.now t.now }
-    ensures { TextIs (request_text (module_of bytes.now t.now) (read_request (module_of bytes.now t.now) min_report request.now)) bytes.now t.now request.now places.new cells.new slots.new «open».new result }
+    requires { WasRead file.now.bytes file.now.t }
+    ensures { TextIs (request_text (module_of file.now.bytes file.now.t) (read_request (module_of file.now.bytes file.now.t) min_report request.now)) file.now.bytes file.now.t request.now places.new cells.new slots.new «open».new result }
 {
     let mut table: [u32; TYPE_WORDS * MAX_TYPES] = [0; TYPE_WORDS * MAX_TYPES];
     let mut totals: [u8; TOTALS_SIZE] = [0; TOTALS_SIZE];
-    let n = types(t) as usize;
+    let n = file.types() as usize;
     let e = TYPE_WORDS * n;
     walk_request(
-        bytes,
-        t,
+        file,
         &mut table[0..e],
         places,
         cells,
@@ -166,16 +159,16 @@ pub fn read_front(
 // The request behind a module that was read, asked of a fresh pruner.
 pub fn walk_input(
     input: &[u8],
-    t: &[u32; WORDS],
+    file: &File,
     places: &mut [u32; PLACES],
     cells: &mut [u32; CELLS],
     slots: &mut [u32; SLOTS],
     open: &mut [u8; MIN_REPORT],
 ) -> Outcome
-    requires { WasRead (module_in input.now) t.now }
-    ensures { TextIs (report_input input.now) (module_in input.now) t.now (request_in input.now) places.new cells.new slots.new «open».new result }
+    requires { WasRead (module_in input.now) file.now.t }
+    ensures { TextIs (report_input input.now) (module_in input.now) file.now.t (request_in input.now) places.new cells.new slots.new «open».new result }
 {
     let n = input.len();
     let at = split(input);
-    walk_read(&input[0..at], t, places, cells, slots, open, &input[at..n])
+    walk_read(file, places, cells, slots, open, &input[at..n])
 }

@@ -8,6 +8,7 @@ ghost use Rattle.check_text.specs.Checked.{max_line};
 ghost use Rattle.report.specs.Outcome.{TextIs};
 
 use crate::outcome::Outcome;
+use access::file::File;
 use check_text::check::check_report;
 use check_text::line::write_check;
 use lines::report::{write_refused, write_report_text};
@@ -18,14 +19,14 @@ use report_text::split::split;
 pub fn write_text(
     out: &mut [u8],
     input: &[u8],
-    t: &[u32],
+    file: &File,
     places: &[u32],
     cells: &mut [u32; CELLS],
     slots: &mut [u32; SLOTS],
     open: &[u8],
     outcome: Outcome,
 ) -> usize
-    requires text_is { TextIs (report_input input.now) (module_in input.now) t.now (request_in input.now) places.now cells.old slots.old «open».now outcome }
+    requires text_is { TextIs (report_input input.now) (module_in input.now) file.now.t (request_in input.now) places.now cells.old slots.old «open».now outcome }
     requires max_line_in_bounds { max_text + max_line ≤ length out.old }
     ensures { Front out.old out.new (report_input input.now) result }
 {
@@ -37,8 +38,7 @@ pub fn write_text(
             let k = STACK + 4;
             let end = write_report_text(
                 out,
-                &input[0..at],
-                t,
+                file,
                 places,
                 cells,
                 slots,
@@ -47,7 +47,7 @@ pub fn write_text(
                 k,
                 reported.required,
             );
-            let verdict = check_report(&input[0..at], t, cells, slots, open, k, &input[at..n]);
+            let verdict = check_report(file, cells, slots, open, k, &input[at..n]);
             write_check(out, end, verdict)
         }
     }

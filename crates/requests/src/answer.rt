@@ -5,6 +5,7 @@ ghost use Rattle.walk.specs.StatementReq.{mark};
 ghost use Rattle.request.specs.Written.{Written};
 ghost use Rattle.requests.specs.Answer.{min_answer, Answering, answer_in};
 
+use access::file::File;
 use field::field::{write, write_word};
 use leave::leave::records_of;
 use memory::layout::EXPRS;
@@ -25,7 +26,7 @@ fn write_verdict(out: &mut [u8], required: bool, visits: usize)
 
 // From the first byte on; what lies past it stays.
 pub fn write_answer(
-    t: &[u32],
+    file: &File,
     cells: &[u32],
     slots: &[u32],
     f: FunctionHandle,
@@ -34,12 +35,12 @@ pub fn write_answer(
     visits: usize,
     out: &mut [u8],
 )
-    requires answering { Answering t.now cells.now slots.now f.0 at }
-    requires visits_bound { (visits < 4294967296) × (length (answer_in t.now cells.now slots.now f.0 at required visits) ≤ length out.old) }
-    requires visits_len_bound { length (answer_in t.now cells.now slots.now f.0 at required visits) ≤ min_answer }
-    ensures { out.new ≡ sets out.old 0 (answer_in t.now cells.now slots.now f.0 at required visits) }
+    requires answering { Answering file.now.t cells.now slots.now f.0 at }
+    requires visits_bound { (visits < 4294967296) × (length (answer_in file.now.t cells.now slots.now f.0 at required visits) ≤ length out.old) }
+    requires visits_len_bound { length (answer_in file.now.t cells.now slots.now f.0 at required visits) ≤ min_answer }
+    ensures { out.new ≡ sets out.old 0 (answer_in file.now.t cells.now slots.now f.0 at required visits) }
 {
-    let own = records_of(t, f);
+    let own = records_of(file, f);
     let from = own.from;
     write_verdict(out, required, visits);
     let lists = write_lists(cells, slots, at, out, 12);

@@ -8,7 +8,7 @@ ghost use Rattle.memory.specs.Memory.{read};
 ghost use Rattle.state.specs.State.{totals_sum};
 ghost use Rattle.requests.specs.Begin.{Basing, Based, Weighing, LengthChecked, RequestLoaded, Beginning, Begins};
 
-use access::whole::{functions, globals};
+use access::file::File;
 use context::required_context::RequiredContext;
 use field::field::get;
 use field::refusal::Refusal;
@@ -84,8 +84,7 @@ fn weigh_totals(cells: &[u32], slots: &[u32]) -> usize
 
 // From here `add_function` walks the asked function, its base at STACK.
 pub fn begin_request(
-    bytes: &[u8],
-    t: &[u32],
+    file: &File,
     places: &[u32],
     cells: &mut [u32],
     slots: &mut [u32],
@@ -95,11 +94,18 @@ pub fn begin_request(
     pruner: &[u8],
     report: usize,
 ) -> Result<Begun, Refusal>
-    requires { Beginning bytes.now t.now places.now cells.old slots.old «open».old totals.old }
-    ensures { Begins bytes.now t.now places.now report request.now pruner.now cells.new slots.new «open».new totals.new result }
+    requires { Beginning file.now.bytes file.now.t places.now cells.old slots.old «open».old totals.old }
+    ensures { Begins file.now.bytes file.now.t places.now report request.now pruner.now cells.new slots.new «open».new totals.new result }
 {
-    let function = load_request(cells, slots, request, functions(t), globals(t), report)?;
-    if !read_pruner(bytes, t, places, cells, slots, totals, pruner) {
+    let function = load_request(
+        cells,
+        slots,
+        request,
+        file.functions(),
+        file.globals(),
+        report,
+    )?;
+    if !read_pruner(file, places, cells, slots, totals, pruner) {
         return Err(Refusal::PrunerUnfit);
     }
     clear_marks(open, places, function);

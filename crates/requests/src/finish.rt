@@ -7,7 +7,7 @@ ghost use Rattle.leave.specs.Leave.{Placed, own_in};
 ghost use Rattle.requests.specs.Finish.{nowhere, Finishing, Finished};
 
 use crate::answer::write_answer;
-use access::whole::functions;
+use access::file::File;
 use field::limits::MAX_PIECES;
 use field::refusal::Refusal;
 use leave::leave::own_pieces;
@@ -30,19 +30,18 @@ pub fn nowhere(refusal: Refusal) -> Halt
 }
 
 // Whether 16 refuses a walk of f that has ended, by its totals alone: the records of f are not counted.
-pub fn totals_over(t: &[u32], cells: &[u32], slots: &[u32], f: FunctionHandle, sum: usize) -> bool
-    requires memory { Memory cells.now slots.now × Placed t.now slots.now f.0 }
-    requires own_bound { (own_in t.now cells.now slots.now f.0 ≤ entries_cap) × (own_in t.now cells.now slots.now f.0 ≤ sum) }
-    ensures { result ≡ ltb max_pieces (sum - own_in t.now cells.now slots.now f.0) }
+pub fn totals_over(file: &File, cells: &[u32], slots: &[u32], f: FunctionHandle, sum: usize) -> bool
+    requires memory { Memory cells.now slots.now × Placed file.now.t slots.now f.0 }
+    requires own_bound { (own_in file.now.t cells.now slots.now f.0 ≤ entries_cap) × (own_in file.now.t cells.now slots.now f.0 ≤ sum) }
+    ensures { result ≡ ltb max_pieces (sum - own_in file.now.t cells.now slots.now f.0) }
 {
-    let own = own_pieces(t, cells, slots, f);
+    let own = own_pieces(file, cells, slots, f);
     MAX_PIECES < sum - own
 }
 
 // The walk of f has ended, with its context behind the base.
 pub fn finish_request(
-    bytes: &[u8],
-    t: &[u32],
+    file: &File,
     places: &[u32],
     cells: &[u32],
     slots: &[u32],
@@ -55,16 +54,16 @@ pub fn finish_request(
     report: &mut [u8],
     answer: &mut [u8],
 ) -> Reply
-    requires { Finishing bytes.now t.now places.now cells.now slots.now «open».now totals.now f.0 base walked.required walked.tally.visits walked.tally.sum pruner.old report.old answer.old }
-    ensures { Finished bytes.now t.now places.now cells.now slots.now «open».now totals.now f.0 base walked.required walked.tally.visits walked.tally.sum pruner.old report.old answer.old result pruner.new report.new answer.new }
+    requires { Finishing file.now.bytes file.now.t places.now cells.now slots.now «open».now totals.now f.0 base walked.required walked.tally.visits walked.tally.sum pruner.old report.old answer.old }
+    ensures { Finished file.now.bytes file.now.t places.now cells.now slots.now «open».now totals.now f.0 base walked.required walked.tally.visits walked.tally.sum pruner.old report.old answer.old result pruner.new report.new answer.new }
 {
     let Answer { tally, required } = walked;
     let Tally { visits, sum } = tally;
-    if totals_over(t, cells, slots, f, sum) {
+    if totals_over(file, cells, slots, f, sum) {
         return Err(nowhere(Refusal::PiecesLimit));
     }
-    write_report(report, places, open, totals, f, functions(t) as usize);
-    write_pruner(bytes, t, places, cells, slots, totals, pruner);
-    write_answer(t, cells, slots, f, base + 4, required, visits, answer);
+    write_report(report, places, open, totals, f, file.functions() as usize);
+    write_pruner(file, places, cells, slots, totals, pruner);
+    write_answer(file, cells, slots, f, base + 4, required, visits, answer);
     Ok(visits)
 }

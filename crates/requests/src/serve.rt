@@ -9,6 +9,7 @@ ghost use Rattle.requests.specs.Served.{Walking, Walked, Served};
 use crate::answer::MIN_ANSWER;
 use crate::begin::begin_request;
 use crate::finish::{Reply, finish_request, nowhere};
+use access::file::File;
 use field::limits::MIN_REPORT;
 use field::refusal::Refusal;
 use function::add::add_function;
@@ -16,14 +17,12 @@ use marks::places::PLACES;
 use marks::report::TOTALS_SIZE;
 use memory::layout::{CELLS, SLOTS, STACK};
 use module::handles::FunctionHandle;
-use module::tables::WORDS;
 use pruner::frame::MIN_PRUNER;
 use state::answer::{Place, Tally};
 
 // The walk of f, and how it ends.
 fn walk_request(
-    bytes: &[u8],
-    t: &[u32; WORDS],
+    file: &File,
     types: &[u32],
     places: &[u32; PLACES],
     cells: &mut [u32; CELLS],
@@ -36,12 +35,11 @@ fn walk_request(
     report: &mut [u8],
     answer: &mut [u8],
 ) -> Reply
-    requires { Walking bytes.now t.now types.now places.now cells.old slots.old «open».old totals.old f.0 sum pruner.old report.old answer.old }
-    ensures { Walked bytes.now t.now types.now places.now cells.old slots.old «open».old totals.old f.0 sum pruner.old report.old answer.old result pruner.new report.new answer.new }
+    requires { Walking file.now.bytes file.now.t types.now places.now cells.old slots.old «open».old totals.old f.0 sum pruner.old report.old answer.old }
+    ensures { Walked file.now.bytes file.now.t types.now places.now cells.old slots.old «open».old totals.old f.0 sum pruner.old report.old answer.old result pruner.new report.new answer.new }
 {
     let walked = add_function(
-        bytes,
-        t,
+        file,
         types,
         places,
         cells,
@@ -55,14 +53,13 @@ fn walk_request(
         Tally { visits: 0, sum },
     )?;
     finish_request(
-        bytes, t, places, cells, slots, open, totals, f, STACK, walked, pruner, report, answer,
+        file, places, cells, slots, open, totals, f, STACK, walked, pruner, report, answer,
     )
 }
 
 // The request in a walk's memory. A refusal leaves the three buffers.
 fn serve_in(
-    bytes: &[u8],
-    t: &[u32; WORDS],
+    file: &File,
     types: &[u32],
     places: &[u32; PLACES],
     cells: &mut [u32; CELLS],
@@ -74,12 +71,11 @@ fn serve_in(
     report: &mut [u8],
     answer: &mut [u8],
 ) -> Reply
-    requires { WasRead bytes.now t.now × Places bytes.now t.now places.now × (types_of types.now ≡ (module_of bytes.now t.now).types) }
-    ensures { Served bytes.now t.now request.now pruner.old report.old answer.old result pruner.new report.new answer.new }
+    requires { WasRead file.now.bytes file.now.t × Places file.now.bytes file.now.t places.now × (types_of types.now ≡ (module_of file.now.bytes file.now.t).types) }
+    ensures { Served file.now.bytes file.now.t request.now pruner.old report.old answer.old result pruner.new report.new answer.new }
 {
     let begun = match begin_request(
-        bytes,
-        t,
+        file,
         places,
         cells,
         slots,
@@ -99,8 +95,7 @@ fn serve_in(
         return Err(nowhere(Refusal::AnswerTooShort));
     }
     walk_request(
-        bytes,
-        t,
+        file,
         types,
         places,
         cells,
@@ -117,8 +112,7 @@ fn serve_in(
 
 // The same with a memory of its own.
 pub fn serve_read(
-    bytes: &[u8],
-    t: &[u32; WORDS],
+    file: &File,
     types: &[u32],
     places: &[u32; PLACES],
     request: &[u8],
@@ -126,16 +120,15 @@ pub fn serve_read(
     report: &mut [u8],
     answer: &mut [u8],
 ) -> Reply
-    requires { WasRead bytes.now t.now × Places bytes.now t.now places.now × (types_of types.now ≡ (module_of bytes.now t.now).types) }
-    ensures { Served bytes.now t.now request.now pruner.old report.old answer.old result pruner.new report.new answer.new }
+    requires { WasRead file.now.bytes file.now.t × Places file.now.bytes file.now.t places.now × (types_of types.now ≡ (module_of file.now.bytes file.now.t).types) }
+    ensures { Served file.now.bytes file.now.t request.now pruner.old report.old answer.old result pruner.new report.new answer.new }
 {
     let mut cells: [u32; CELLS] = [0; CELLS];
     let mut slots: [u32; SLOTS] = [0; SLOTS];
     let mut open: [u8; MIN_REPORT] = [0; MIN_REPORT];
     let mut totals: [u8; TOTALS_SIZE] = [0; TOTALS_SIZE];
     serve_in(
-        bytes,
-        t,
+        file,
         types,
         places,
         &mut cells,

@@ -5,6 +5,7 @@ ghost use Rattle.standing.specs.Slots.{asked_slot, stack_slot};
 ghost use Rattle.rounds.specs.Settling.{asked_by};
 ghost use Rattle.rounds.specs.Rounds.{Cleared, Asked, Begins, Renewed};
 
+use access::file::File;
 use forms::trim::{trim_globals, trim_value};
 use hold::hold::copy;
 use module::handles::FunctionHandle;
@@ -22,8 +23,7 @@ fn clear_tables(roots: &mut [u32])
 
 // What is asked, within its types: of the value, and of the globals at the function's end.
 pub fn begin(
-    bytes: &[u8],
-    t: &[u32],
+    file: &File,
     f: FunctionHandle,
     types: &[u32],
     cells: &mut [u32],
@@ -31,11 +31,11 @@ pub fn begin(
     globals: u32,
     value: u32,
 )
-    requires { Asked bytes.now t.now types.now cells.old roots.old globals value }
-    ensures { Begins (scope_at bytes.now t.now f.0) (asked_by cells.old globals value) cells.old roots.old cells.new roots.new }
+    requires { Asked file.now.bytes file.now.t types.now cells.old roots.old globals value }
+    ensures { Begins (scope_at file.now.bytes file.now.t f.0) (asked_by cells.old globals value) cells.old roots.old cells.new roots.new }
 {
-    let v = trim_value(cells, bytes, t, f, types, value);
-    let e = trim_globals(cells, bytes, t, types, globals);
+    let v = trim_value(cells, file, f, types, value);
+    let e = trim_globals(cells, file, types, globals);
     clear_tables(roots);
     roots[ASKED] = v;
     roots[END] = e;

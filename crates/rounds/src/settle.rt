@@ -9,7 +9,7 @@ ghost use Rattle.rounds.specs.Settling.{Settling, Settled, asked_by};
 ghost use Rattle.rounds.specs.Rounds.{Rounding, Rounded, Answers, Settles};
 
 use crate::begin::{begin, renew};
-use access::function::body_block;
+use access::file::File;
 use backward::blocks::pass_around;
 use checking::words::Verdict;
 use context_bytes::starts::context_covers;
@@ -22,8 +22,7 @@ const ROUNDS: u32 = 65536;
 
 // One pass over the body, with the needs at the function's end where each exit leads.
 fn round(
-    bytes: &[u8],
-    t: &[u32],
+    file: &File,
     f: FunctionHandle,
     types: &[u32],
     alike: &[u32],
@@ -34,8 +33,8 @@ fn round(
     roots: &mut [u32],
     path: &mut [u32],
 ) -> Passing
-    requires { Rounding bytes.now t.now f.0 types.now alike.now paths.now firsts.now cells.old roots.old path.old }
-    ensures { Rounded (scope_at bytes.now t.now f.0) (body_tree (function_of bytes.now t.now f.0) marks.now) cells.old roots.old cells.new roots.new path.old path.new result }
+    requires { Rounding file.now.bytes file.now.t f.0 types.now alike.now paths.now firsts.now cells.old roots.old path.old }
+    ensures { Rounded (scope_at file.now.bytes file.now.t f.0) (body_tree (function_of file.now.bytes file.now.t f.0) marks.now) cells.old roots.old cells.new roots.new path.old path.new result }
 {
     let x = Exits {
         broke: END,
@@ -49,10 +48,9 @@ fn round(
         deep: false,
         wide: false,
     };
-    let b = body_block(t, f);
+    let b = file.body_block(f);
     pass_around(
-        bytes,
-        t,
+        file,
         f,
         types,
         alike,
@@ -92,8 +90,7 @@ fn answer(cells: &[u32], n: u32, q: Passing, context: &[u8]) -> Verdict
 
 // Rounds until each loop's needs hold; past the most of them the answer is 26.
 fn settle_rounds(
-    bytes: &[u8],
-    t: &[u32],
+    file: &File,
     f: FunctionHandle,
     types: &[u32],
     alike: &[u32],
@@ -105,12 +102,12 @@ fn settle_rounds(
     path: &mut [u32],
     context: &[u8],
 ) -> Verdict
-    requires { Rounding bytes.now t.now f.0 types.now alike.now paths.now firsts.now cells.old roots.old path.old }
-    ensures { Settles (scope_at bytes.now t.now f.0) marks.now context.now cells.old roots.old (said result) }
+    requires { Rounding file.now.bytes file.now.t f.0 types.now alike.now paths.now firsts.now cells.old roots.old path.old }
+    ensures { Settles (scope_at file.now.bytes file.now.t f.0) marks.now context.now cells.old roots.old (said result) }
 {
     for _ in 0..ROUNDS {
         let q = round(
-            bytes, t, f, types, alike, paths, marks, firsts, cells, roots, path,
+            file, f, types, alike, paths, marks, firsts, cells, roots, path,
         );
         if q.full {
             return Verdict::Refused(Refusal::CheckBound);
@@ -125,8 +122,7 @@ fn settle_rounds(
 
 // The answer, of a judged function and what is asked of it.
 pub fn settle(
-    bytes: &[u8],
-    t: &[u32],
+    file: &File,
     f: FunctionHandle,
     types: &[u32],
     alike: &[u32],
@@ -140,11 +136,11 @@ pub fn settle(
     value: u32,
     context: &[u8],
 ) -> Verdict
-    requires { Settling bytes.now t.now f.0 types.now alike.now paths.now firsts.now cells.old roots.old path.old globals value }
-    ensures { Settled (scope_at bytes.now t.now f.0) (asked_by cells.old globals value) marks.now context.now (said result) }
+    requires { Settling file.now.bytes file.now.t f.0 types.now alike.now paths.now firsts.now cells.old roots.old path.old globals value }
+    ensures { Settled (scope_at file.now.bytes file.now.t f.0) (asked_by cells.old globals value) marks.now context.now (said result) }
 {
-    begin(bytes, t, f, types, cells, roots, globals, value);
+    begin(file, f, types, cells, roots, globals, value);
     settle_rounds(
-        bytes, t, f, types, alike, paths, marks, firsts, cells, roots, path, context,
+        file, f, types, alike, paths, marks, firsts, cells, roots, path, context,
     )
 }

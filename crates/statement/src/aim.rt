@@ -1,6 +1,7 @@
 // A store's target, and what is needed of it.
 ghost use Rattle.statement.specs.Aim.{Aiming, Aims};
 
+use access::file::File;
 use field::refusal::Refusal;
 use memory::stretches::load_context;
 use module::handles::ExpressionHandle;
@@ -19,19 +20,18 @@ pub struct Aim {
 
 // The target that the expression e names: 13 where that is no variable, 15 at a path that is too long.
 pub fn target_of(
-    bytes: &[u8],
-    t: &[u32],
+    file: &File,
     cells: &mut [u32],
     slots: &[u32],
     fr: Frame,
     e: ExpressionHandle,
 ) -> Result<Aim, Halt>
-    requires { Aiming bytes.now t.now cells.old slots.now fr e.0 }
-    ensures { Aims bytes.now t.now cells.old slots.now fr e.0 result cells.new }
+    requires { Aiming file.now.bytes file.now.t cells.old slots.now fr e.0 }
+    ensures { Aims file.now.bytes file.now.t cells.old slots.now fr e.0 result cells.new }
 {
     let f = fr.function;
     let c = load_context(slots, fr.at);
-    let found = resolve_var(bytes, t, cells, f, e);
+    let found = resolve_var(file, cells, f, e);
     match found {
         Some(target) => {
             if over(cells, target.part) {

@@ -8,6 +8,7 @@ ghost use Rattle.walk.specs.Expression.{add_expression};
 ghost use Rattle.memory.specs.Layout.{returned};
 ghost use Rattle.statement.specs.Asks.{Open, Asked, maybe_ask, answer_of};
 
+use access::file::File;
 use expression::add::add_expression;
 use memory::want::want_of;
 use module::handles::ExpressionHandle;
@@ -16,8 +17,7 @@ use state::frame::Frame;
 
 // The part of the slot k is asked of the expression e, where the walk so far went.
 pub fn then_ask(
-    bytes: &[u8],
-    t: &[u32],
+    file: &File,
     cells: &mut [u32],
     slots: &mut [u32],
     fr: Frame,
@@ -25,20 +25,19 @@ pub fn then_ask(
     e: ExpressionHandle,
     k: usize,
 ) -> Walked
-    requires fact { Open bytes.now t.now cells.old slots.old fr before }
-    requires e_in_bounds { (e.0 < length (function_at (module_of bytes.now t.now) fr.function.0).expressions) × (k ≤ returned) }
-    ensures { Asked bytes.now t.now cells.old slots.old fr before (add_expression (module_of bytes.now t.now) fr.function.0 fr.held e.0) k result cells.new slots.new }
+    requires fact { Open file.now.bytes file.now.t cells.old slots.old fr before }
+    requires e_in_bounds { (e.0 < length (function_at (module_of file.now.bytes file.now.t) fr.function.0).expressions) × (k ≤ returned) }
+    ensures { Asked file.now.bytes file.now.t cells.old slots.old fr before (add_expression (module_of file.now.bytes file.now.t) fr.function.0 fr.held e.0) k result cells.new slots.new }
 {
     let tally = before?;
     let f = fr.function;
     let w = want_of(k);
-    add_expression(bytes, t, cells, slots, f, fr.at, fr.held, e, w, tally)
+    add_expression(file, cells, slots, f, fr.at, fr.held, e, w, tally)
 }
 
 // The same of an expression that may be absent.
 pub fn then_maybe(
-    bytes: &[u8],
-    t: &[u32],
+    file: &File,
     cells: &mut [u32],
     slots: &mut [u32],
     fr: Frame,
@@ -46,13 +45,13 @@ pub fn then_maybe(
     e: Option<ExpressionHandle>,
     k: usize,
 ) -> Walked
-    requires fact { Open bytes.now t.now cells.old slots.old fr before }
-    requires maybe_below { MaybeBelow (length (function_at (module_of bytes.now t.now) fr.function.0).expressions) (handle_in e) × (k ≤ returned) }
-    ensures { Asked bytes.now t.now cells.old slots.old fr before (maybe_ask (module_of bytes.now t.now) fr.function.0 fr.held (handle_in e)) k result cells.new slots.new }
+    requires fact { Open file.now.bytes file.now.t cells.old slots.old fr before }
+    requires maybe_below { MaybeBelow (length (function_at (module_of file.now.bytes file.now.t) fr.function.0).expressions) (handle_in e) × (k ≤ returned) }
+    ensures { Asked file.now.bytes file.now.t cells.old slots.old fr before (maybe_ask (module_of file.now.bytes file.now.t) fr.function.0 fr.held (handle_in e)) k result cells.new slots.new }
 {
     match e {
         None => before,
-        Some(there) => then_ask(bytes, t, cells, slots, fr, before, there, k),
+        Some(there) => then_ask(file, cells, slots, fr, before, there, k),
     }
 }
 

@@ -12,7 +12,8 @@ ghost use Rattle.statement.specs.Aside.{aside_field, aside_slots, Loading};
 
 use crate::aim::target_of;
 use crate::ask::{answer, then_maybe};
-use access::kinded::{Kinded, expression_number, expression_operand, optional_expression};
+use access::file::File;
+use access::kinded::Kinded;
 use memory::layout::{ASK, EXPRS, RESULT};
 use memory::want::kid;
 use module::handles::ExpressionHandle;
@@ -21,19 +22,18 @@ use state::frame::Frame;
 
 // The record of a result, which may be absent.
 pub fn record_of(
-    bytes: &[u8],
-    t: &[u32],
+    file: &File,
     cells: &[u32],
     slots: &[u32],
     fr: Frame,
     res: Option<ExpressionHandle>,
 ) -> Option<u32>
-    requires { Loading bytes.now t.now cells.now slots.now fr (handle_in res) }
-    ensures { Got cells.now (record_of (records_in t.now exprs_slot fr.function.0 (read cells.now slots.now)) (handle_in res)) result }
+    requires { Loading file.now.bytes file.now.t cells.now slots.now fr (handle_in res) }
+    ensures { Got cells.now (record_of (records_in file.now.t exprs_slot fr.function.0 (read cells.now slots.now)) (handle_in res)) result }
 {
     let e = res?;
     let f = fr.function;
-    let number = expression_number(t, f, e);
+    let number = file.expression_number(f, e);
     let n = slots[EXPRS + number];
     if n < 3 {
         return None;
@@ -56,27 +56,26 @@ fn put_aside(
 }
 
 pub fn add_atomic(
-    bytes: &[u8],
-    t: &[u32],
+    file: &File,
     cells: &mut [u32],
     slots: &mut [u32],
     fr: Frame,
     row: Kinded,
     tally: Tally,
 ) -> Answered
-    requires arm { Arm bytes.now t.now cells.old slots.old fr row tally.sum }
+    requires arm { Arm file.now.bytes file.now.t cells.old slots.old fr row tally.sum }
     requires kind_value { row.kind ≡ 13 }
-    ensures { Leaves bytes.now t.now cells.old slots.old fr (statement_of row.kind (operand_at bytes.now row)) tally.visits result cells.new slots.new }
+    ensures { Leaves file.now.bytes file.now.t cells.old slots.old fr (statement_of row.kind (operand_at file.now.bytes row)) tally.visits result cells.new slots.new }
 {
-    let pointer = expression_operand(bytes, row, 0);
-    let value = expression_operand(bytes, row, 1);
-    let result = optional_expression(bytes, row, 2);
-    let aim = target_of(bytes, t, cells, slots, fr, pointer)?;
-    let load = record_of(bytes, t, cells, slots, fr, result);
+    let pointer = file.expression_operand(row, 0);
+    let value = file.expression_operand(row, 1);
+    let result = file.optional_expression(row, 2);
+    let aim = target_of(file, cells, slots, fr, pointer)?;
+    let load = record_of(file, cells, slots, fr, result);
     let first = put_aside(slots, RESULT, load, result);
     let second = put_aside(slots, ASK, aim.needed, Some(value));
     let required = load.is_some() || aim.needed.is_some();
-    let a = then_maybe(bytes, t, cells, slots, fr, Ok(tally), first, RESULT);
-    let b = then_maybe(bytes, t, cells, slots, fr, a, second, ASK);
+    let a = then_maybe(file, cells, slots, fr, Ok(tally), first, RESULT);
+    let b = then_maybe(file, cells, slots, fr, a, second, ASK);
     answer(b, required)
 }

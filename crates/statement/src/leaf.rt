@@ -13,6 +13,7 @@ use crate::leave::leave;
 use crate::rays::add_ray;
 use crate::returns::add_return;
 use crate::stores::add_store;
+use access::file::File;
 use access::kinded::Kinded;
 use field::refusal::Refusal;
 use module::kinds::StatementKind;
@@ -21,8 +22,7 @@ use state::frame::Frame;
 
 // `add_statement`, of a leaf. A break and a continue leave the block, as does a kind past the last: it is a break's.
 pub fn add_leaf(
-    bytes: &[u8],
-    t: &[u32],
+    file: &File,
     types: &[u32],
     cells: &mut [u32],
     slots: &mut [u32],
@@ -30,29 +30,29 @@ pub fn add_leaf(
     row: Kinded,
     tally: Tally,
 ) -> Answered
-    requires arm { Arm bytes.now t.now cells.old slots.old fr row tally.sum }
-    requires types_value { types_of types.now ≡ (module_of bytes.now t.now).types }
+    requires arm { Arm file.now.bytes file.now.t cells.old slots.old fr row tally.sum }
+    requires types_value { types_of types.now ≡ (module_of file.now.bytes file.now.t).types }
     requires leaf_kind { LeafKind row.kind }
-    ensures { Leaves bytes.now t.now cells.old slots.old fr (statement_of row.kind (operand_at bytes.now row)) tally.visits result cells.new slots.new }
+    ensures { Leaves file.now.bytes file.now.t cells.old slots.old fr (statement_of row.kind (operand_at file.now.bytes row)) tally.visits result cells.new slots.new }
 {
     match StatementKind::try_from(row.kind) {
-        Ok(StatementKind::Return) => add_return(bytes, t, cells, slots, fr, row, tally),
+        Ok(StatementKind::Return) => add_return(file, cells, slots, fr, row, tally),
         Ok(StatementKind::Kill) => answer(Ok(tally), true),
         Ok(StatementKind::ControlBarrier | StatementKind::MemoryBarrier) => {
             answer(Ok(tally), false)
         }
         Ok(StatementKind::ImageAtomic) => Err(fr.halt(Refusal::Panic)),
         Ok(StatementKind::Store | StatementKind::ImageStore) => {
-            add_store(bytes, t, types, cells, slots, fr, row, tally)
+            add_store(file, types, cells, slots, fr, row, tally)
         }
-        Ok(StatementKind::Atomic) => add_atomic(bytes, t, cells, slots, fr, row, tally),
+        Ok(StatementKind::Atomic) => add_atomic(file, cells, slots, fr, row, tally),
         Ok(
             StatementKind::RayQuery
             | StatementKind::WorkGroupUniformLoad
             | StatementKind::SubgroupBallot
             | StatementKind::SubgroupGather
             | StatementKind::SubgroupCollectiveOperation,
-        ) => add_ray(bytes, t, cells, slots, fr, row, tally),
+        ) => add_ray(file, cells, slots, fr, row, tally),
         _ => leave(slots, fr, tally),
     }
 }

@@ -8,7 +8,8 @@ ghost use Rattle.statement.specs.Rays.{RayKind, ray_of, gather_fields, ray_field
 
 use crate::aim::target_of;
 use crate::ask::{answer, then_maybe};
-use access::kinded::{Kinded, expression_operand, operand, optional_expression};
+use access::file::File;
+use access::kinded::Kinded;
 use memory::layout::ALL;
 use module::handles::ExpressionHandle;
 use module::kinds::StatementKind;
@@ -24,15 +25,15 @@ pub struct Ray {
 }
 
 // Those of a gather: a mode that names an expression has it before the argument.
-fn gather_fields(bytes: &[u8], row: Kinded) -> Ray
-    ensures { ray_of result ≡ gather_fields (operand_at bytes.now row 0) (operand_at bytes.now row) }
+fn gather_fields(file: &File, row: Kinded) -> Ray
+    ensures { ray_of result ≡ gather_fields (operand_at file.now.bytes row 0) (operand_at file.now.bytes row) }
 {
-    let mode = operand(bytes, row, 0);
-    let first = expression_operand(bytes, row, 1);
-    let second = expression_operand(bytes, row, 2);
+    let mode = file.operand(row, 0);
+    let first = file.expression_operand(row, 1);
+    let second = file.expression_operand(row, 2);
     if mode == 1 {
         return Ray {
-            target: expression_operand(bytes, row, 3),
+            target: file.expression_operand(row, 3),
             first: Some(first),
             second: Some(second),
         };
@@ -44,10 +45,10 @@ fn gather_fields(bytes: &[u8], row: Kinded) -> Ray
     }
 }
 
-fn ray_fields(bytes: &[u8], row: Kinded) -> Ray
-    ensures { ray_of result ≡ ray_fields row.kind (operand_at bytes.now row) }
+fn ray_fields(file: &File, row: Kinded) -> Ray
+    ensures { ray_of result ≡ ray_fields row.kind (operand_at file.now.bytes row) }
 {
-    let a = expression_operand(bytes, row, 0);
+    let a = file.expression_operand(row, 0);
     match StatementKind::try_from(row.kind) {
         Ok(StatementKind::RayQuery) => Ray {
             target: a,
@@ -56,12 +57,12 @@ fn ray_fields(bytes: &[u8], row: Kinded) -> Ray
         },
         Ok(StatementKind::SubgroupBallot) => Ray {
             target: a,
-            first: optional_expression(bytes, row, 1),
+            first: file.optional_expression(row, 1),
             second: None,
         },
-        Ok(StatementKind::SubgroupGather) => gather_fields(bytes, row),
+        Ok(StatementKind::SubgroupGather) => gather_fields(file, row),
         _ => Ray {
-            target: expression_operand(bytes, row, 1),
+            target: file.expression_operand(row, 1),
             first: Some(a),
             second: None,
         },
@@ -69,25 +70,24 @@ fn ray_fields(bytes: &[u8], row: Kinded) -> Ray
 }
 
 pub fn add_ray(
-    bytes: &[u8],
-    t: &[u32],
+    file: &File,
     cells: &mut [u32],
     slots: &mut [u32],
     fr: Frame,
     row: Kinded,
     tally: Tally,
 ) -> Answered
-    requires arm { Arm bytes.now t.now cells.old slots.old fr row tally.sum }
+    requires arm { Arm file.now.bytes file.now.t cells.old slots.old fr row tally.sum }
     requires ray_kind { RayKind row.kind }
-    ensures { Leaves bytes.now t.now cells.old slots.old fr (statement_of row.kind (operand_at bytes.now row)) tally.visits result cells.new slots.new }
+    ensures { Leaves file.now.bytes file.now.t cells.old slots.old fr (statement_of row.kind (operand_at file.now.bytes row)) tally.visits result cells.new slots.new }
 {
-    let x = ray_fields(bytes, row);
-    let aim = target_of(bytes, t, cells, slots, fr, x.target)?;
+    let x = ray_fields(file, row);
+    let aim = target_of(file, cells, slots, fr, x.target)?;
     match aim.needed {
         None => answer(Ok(tally), false),
         Some(p) => {
-            let a = then_maybe(bytes, t, cells, slots, fr, Ok(tally), x.first, ALL);
-            let b = then_maybe(bytes, t, cells, slots, fr, a, x.second, ALL);
+            let a = then_maybe(file, cells, slots, fr, Ok(tally), x.first, ALL);
+            let b = then_maybe(file, cells, slots, fr, a, x.second, ALL);
             answer(b, true)
         }
     }

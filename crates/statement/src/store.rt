@@ -6,6 +6,7 @@ ghost use Rattle.statement.specs.Aim.{Aiming};
 ghost use Rattle.statement.specs.Stores.{Taking, Takes, Stores};
 
 use crate::aim::target_of;
+use access::file::File;
 use field::refusal::Refusal;
 use memory::layout::ASK;
 use memory::stretches::{load_context, save_context};
@@ -17,8 +18,7 @@ use target::store::take_out;
 
 // The target is taken out of the context, and the piece p of it, which is needed, is put into the slot ASK.
 fn take(
-    bytes: &[u8],
-    t: &[u32],
+    file: &File,
     types: &[u32],
     cells: &mut [u32],
     slots: &mut [u32],
@@ -26,12 +26,12 @@ fn take(
     target: Target,
     p: u32,
 ) -> Result<(), Halt>
-    requires { Taking bytes.now t.now types.now cells.old slots.old fr target p }
-    ensures { Takes bytes.now t.now cells.old slots.old fr target p result cells.new slots.new }
+    requires { Taking file.now.bytes file.now.t types.now cells.old slots.old fr target p }
+    ensures { Takes file.now.bytes file.now.t cells.old slots.old fr target p result cells.new slots.new }
 {
     let f = fr.function;
     let c = load_context(slots, fr.at);
-    let taken = take_out(bytes, t, cells, types, f, c, target);
+    let taken = take_out(file, cells, types, f, c, target);
     match taken {
         Some(d) => {
             if d.over(cells) {
@@ -47,23 +47,22 @@ fn take(
 
 // The store into what the expression e names. Whether anything is needed of that: the slot ASK has what, then.
 pub fn store(
-    bytes: &[u8],
-    t: &[u32],
+    file: &File,
     types: &[u32],
     cells: &mut [u32],
     slots: &mut [u32],
     fr: Frame,
     e: ExpressionHandle,
 ) -> Result<bool, Halt>
-    requires aiming { Aiming bytes.now t.now cells.old slots.old fr e.0 }
-    requires types_value { types_of types.now ≡ (module_of bytes.now t.now).types }
-    ensures { Stores bytes.now t.now cells.old slots.old fr e.0 result cells.new slots.new }
+    requires aiming { Aiming file.now.bytes file.now.t cells.old slots.old fr e.0 }
+    requires types_value { types_of types.now ≡ (module_of file.now.bytes file.now.t).types }
+    ensures { Stores file.now.bytes file.now.t cells.old slots.old fr e.0 result cells.new slots.new }
 {
-    let aim = target_of(bytes, t, cells, slots, fr, e)?;
+    let aim = target_of(file, cells, slots, fr, e)?;
     match aim.needed {
         None => Ok(false),
         Some(p) => {
-            take(bytes, t, types, cells, slots, fr, aim.target, p)?;
+            take(file, types, cells, slots, fr, aim.target, p)?;
             Ok(true)
         }
     }

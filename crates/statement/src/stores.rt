@@ -9,7 +9,8 @@ ghost use Rattle.statement.specs.Fields.{StoreKind, fields_of, store_fields, Fie
 
 use crate::ask::{answer, then_ask, then_maybe};
 use crate::store::store;
-use access::kinded::{Kinded, expression_operand, optional_expression};
+use access::file::File;
+use access::kinded::Kinded;
 use memory::layout::{ALL, ASK, EXIST};
 use module::handles::ExpressionHandle;
 use module::kinds::StatementKind;
@@ -25,17 +26,17 @@ pub struct Fields {
     pub value: ExpressionHandle,
 }
 
-fn store_fields(bytes: &[u8], row: Kinded) -> Fields
-    ensures { fields_of result ≡ store_fields row.kind (operand_at bytes.now row) }
+fn store_fields(file: &File, row: Kinded) -> Fields
+    ensures { fields_of result ≡ store_fields row.kind (operand_at file.now.bytes row) }
 {
-    let pointer = expression_operand(bytes, row, 0);
-    let next = expression_operand(bytes, row, 1);
+    let pointer = file.expression_operand(row, 0);
+    let next = file.expression_operand(row, 1);
     match StatementKind::try_from(row.kind) {
         Ok(StatementKind::ImageStore) => Fields {
             pointer,
             coordinate: Some(next),
-            index: optional_expression(bytes, row, 2),
-            value: expression_operand(bytes, row, 3),
+            index: file.optional_expression(row, 2),
+            value: file.expression_operand(row, 3),
         },
         _ => Fields {
             pointer,
@@ -48,27 +49,25 @@ fn store_fields(bytes: &[u8], row: Kinded) -> Fields
 
 // What a store asks once its target is taken out.
 fn ask_fields(
-    bytes: &[u8],
-    t: &[u32],
+    file: &File,
     cells: &mut [u32],
     slots: &mut [u32],
     fr: Frame,
     x: Fields,
     tally: Tally,
 ) -> Walked
-    requires { Fielding bytes.now t.now cells.old slots.old fr (fields_of x) tally.sum }
-    ensures { Fielded bytes.now t.now cells.old slots.old fr (fields_of x) tally.visits result cells.new slots.new }
+    requires { Fielding file.now.bytes file.now.t cells.old slots.old fr (fields_of x) tally.sum }
+    ensures { Fielded file.now.bytes file.now.t cells.old slots.old fr (fields_of x) tally.visits result cells.new slots.new }
 {
-    let a = then_ask(bytes, t, cells, slots, fr, Ok(tally), x.pointer, EXIST);
-    let b = then_maybe(bytes, t, cells, slots, fr, a, x.coordinate, ALL);
-    let c = then_maybe(bytes, t, cells, slots, fr, b, x.index, EXIST);
-    then_ask(bytes, t, cells, slots, fr, c, x.value, ASK)
+    let a = then_ask(file, cells, slots, fr, Ok(tally), x.pointer, EXIST);
+    let b = then_maybe(file, cells, slots, fr, a, x.coordinate, ALL);
+    let c = then_maybe(file, cells, slots, fr, b, x.index, EXIST);
+    then_ask(file, cells, slots, fr, c, x.value, ASK)
 }
 
 // A store of which nothing is needed is not required.
 pub fn add_store(
-    bytes: &[u8],
-    t: &[u32],
+    file: &File,
     types: &[u32],
     cells: &mut [u32],
     slots: &mut [u32],
@@ -76,19 +75,19 @@ pub fn add_store(
     row: Kinded,
     tally: Tally,
 ) -> Answered
-    requires arm { Arm bytes.now t.now cells.old slots.old fr row tally.sum }
-    requires types_value { types_of types.now ≡ (module_of bytes.now t.now).types }
+    requires arm { Arm file.now.bytes file.now.t cells.old slots.old fr row tally.sum }
+    requires types_value { types_of types.now ≡ (module_of file.now.bytes file.now.t).types }
     requires store_kind { StoreKind row.kind }
-    ensures { Leaves bytes.now t.now cells.old slots.old fr (statement_of row.kind (operand_at bytes.now row)) tally.visits result cells.new slots.new }
+    ensures { Leaves file.now.bytes file.now.t cells.old slots.old fr (statement_of row.kind (operand_at file.now.bytes row)) tally.visits result cells.new slots.new }
 {
-    let x = store_fields(bytes, row);
-    let needed = store(bytes, t, types, cells, slots, fr, x.pointer)?;
+    let x = store_fields(file, row);
+    let needed = store(file, types, cells, slots, fr, x.pointer)?;
     if !needed {
         return Ok(Answer {
             tally,
             required: false,
         });
     }
-    let r = ask_fields(bytes, t, cells, slots, fr, x, tally);
+    let r = ask_fields(file, cells, slots, fr, x, tally);
     answer(r, true)
 }

@@ -8,21 +8,21 @@ ghost use Rattle.judge.specs.Blamed.{blamed};
 
 use crate::blocks::strays;
 use crate::lower::lower_of;
+use access::file::File;
 use judge::statements::unfit_statement;
 use module::handles::FunctionHandle;
 
 // A statement that does not fit, or leaves where it is not allowed, whatever the marks.
 pub fn blamed_statement(
-    bytes: &[u8],
-    t: &[u32],
+    file: &File,
     f: FunctionHandle,
     types: &[u32],
     alike: &[u32],
     paths: &[u32],
 ) -> Option<u32>
-    requires { Given bytes.now t.now f.0 types.now alike.now paths.now }
-    ensures { (marks : List ℕ) → blamed result ≡ blamed_statement (scope_at bytes.now t.now f.0) (body_tree (function_of bytes.now t.now f.0) marks) }
+    requires { Given file.now.bytes file.now.t f.0 types.now alike.now paths.now }
+    ensures { (marks : List ℕ) → blamed result ≡ blamed_statement (scope_at file.now.bytes file.now.t f.0) (body_tree (function_of file.now.bytes file.now.t f.0) marks) }
 {
-    let unfit = unfit_statement(bytes, t, f, types, alike, paths);
-    lower_of(unfit, strays(bytes, t, f))
+    let unfit = unfit_statement(file, f, types, alike, paths);
+    lower_of(unfit, strays(file, f))
 }

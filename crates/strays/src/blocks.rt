@@ -12,28 +12,27 @@ ghost use Rattle.strays.specs.Places.{BlockOf, StatementIn, CasesIn, stray_block
 
 use crate::exits::{Exits, at_top, in_body, in_case, none};
 use crate::lower::lower_unless;
-use access::function::{block, body_block};
-use access::kinded::{Kinded, block_operand, operand, statement};
+use access::file::File;
+use access::kinded::Kinded;
 use module::handles::{BlockHandle, FunctionHandle};
 use module::kinds::{NoKind, StatementKind};
 
 #[cycle(stray_block_stray_cases_stray_statement)]
 fn stray_cases(
-    bytes: &[u8],
-    t: &[u32],
+    file: &File,
     f: FunctionHandle,
     b: BlockHandle,
     row: Kinded,
     e: Exits<bool>,
     low: Option<u32>,
 ) -> Option<u32>
-    requires { CasesIn bytes.now t.now f.0 b.0 row }
-    ensures { blamed result ≡ lower_of (lowest (stray_cases (function_of bytes.now t.now f.0) (operand_at bytes.now row) (operand_at bytes.now row 1) (exits_of e))) (blamed low) }
+    requires { CasesIn file.now.bytes file.now.t f.0 b.0 row }
+    ensures { blamed result ≡ lower_of (lowest (stray_cases (function_of file.now.bytes file.now.t f.0) (operand_at file.now.bytes row) (operand_at file.now.bytes row 1) (exits_of e))) (blamed low) }
 {
-    let n = operand(bytes, row, 1) as u32;
+    let n = file.operand(row, 1) as u32;
     let mut low = low;
     for i in 0..n {
-        low = stray_block(bytes, t, f, block_operand(bytes, row, 3 + 2 * i), e, low);
+        low = stray_block(file, f, file.block_operand(row, 3 + 2 * i), e, low);
     }
     low
 }
@@ -41,30 +40,29 @@ fn stray_cases(
 // The statement s of the block b.
 #[cycle(stray_block_stray_cases_stray_statement)]
 fn stray_statement(
-    bytes: &[u8],
-    t: &[u32],
+    file: &File,
     f: FunctionHandle,
     b: BlockHandle,
     s: u32,
     e: Exits<bool>,
     low: Option<u32>,
 ) -> Option<u32>
-    requires { StatementIn bytes.now t.now f.0 b.0 s }
-    ensures { blamed result ≡ lower_of (lowest (stray_statement (function_of bytes.now t.now f.0) b.0 s (exits_of e))) (blamed low) }
+    requires { StatementIn file.now.bytes file.now.t f.0 b.0 s }
+    ensures { blamed result ≡ lower_of (lowest (stray_statement (function_of file.now.bytes file.now.t f.0) b.0 s (exits_of e))) (blamed low) }
 {
-    let row = statement(bytes, t, f, s);
+    let row = file.statement(f, s);
     match StatementKind::try_from(row.kind) {
-        Ok(StatementKind::Block) => stray_block(bytes, t, f, block_operand(bytes, row, 0), e, low),
+        Ok(StatementKind::Block) => stray_block(file, f, file.block_operand(row, 0), e, low),
         Ok(StatementKind::If) => {
-            let rejected = stray_block(bytes, t, f, block_operand(bytes, row, 2), e, low);
-            stray_block(bytes, t, f, block_operand(bytes, row, 1), e, rejected)
+            let rejected = stray_block(file, f, file.block_operand(row, 2), e, low);
+            stray_block(file, f, file.block_operand(row, 1), e, rejected)
         }
-        Ok(StatementKind::Switch) => stray_cases(bytes, t, f, b, row, in_case(e), low),
+        Ok(StatementKind::Switch) => stray_cases(file, f, b, row, in_case(e), low),
         Ok(StatementKind::Loop) => {
-            let last = block_operand(bytes, row, 1);
-            let continuing = stray_block(bytes, t, f, last, none(), low);
-            let body = block_operand(bytes, row, 0);
-            stray_block(bytes, t, f, body, in_body(e), continuing)
+            let last = file.block_operand(row, 1);
+            let continuing = stray_block(file, f, last, none(), low);
+            let body = file.block_operand(row, 0);
+            stray_block(file, f, body, in_body(e), continuing)
         }
         Ok(StatementKind::Continue) => lower_unless(e.continued, s, low),
         Ok(StatementKind::Return) => lower_unless(e.returned, s, low),
@@ -76,30 +74,29 @@ fn stray_statement(
 
 #[cycle(stray_block_stray_cases_stray_statement)]
 fn stray_block(
-    bytes: &[u8],
-    t: &[u32],
+    file: &File,
     f: FunctionHandle,
     b: BlockHandle,
     e: Exits<bool>,
     low: Option<u32>,
 ) -> Option<u32>
-    requires { BlockOf bytes.now t.now f.0 b.0 }
-    ensures { blamed result ≡ lower_of (lowest (stray_block (function_of bytes.now t.now f.0) b.0 (exits_of e))) (blamed low) }
+    requires { BlockOf file.now.bytes file.now.t f.0 b.0 }
+    ensures { blamed result ≡ lower_of (lowest (stray_block (function_of file.now.bytes file.now.t f.0) b.0 (exits_of e))) (blamed low) }
 {
-    let range = block(t, f, b);
+    let range = file.block(f, b);
     let first = range.first;
     let mut low = low;
     for k in (0..range.count).rev() {
-        low = stray_statement(bytes, t, f, b, first + k, e, low);
+        low = stray_statement(file, f, b, first + k, e, low);
     }
     low
 }
 
 // Of the body of f, whatever its marks.
-pub fn strays(bytes: &[u8], t: &[u32], f: FunctionHandle) -> Option<u32>
-    requires { There bytes.now t.now f.0 }
-    ensures { (marks : List ℕ) → blamed result ≡ lowest (straysOf (body_tree (function_of bytes.now t.now f.0) marks) at_top) }
+pub fn strays(file: &File, f: FunctionHandle) -> Option<u32>
+    requires { There file.now.bytes file.now.t f.0 }
+    ensures { (marks : List ℕ) → blamed result ≡ lowest (straysOf (body_tree (function_of file.now.bytes file.now.t f.0) marks) at_top) }
 {
-    let b = body_block(t, f);
-    stray_block(bytes, t, f, b, at_top(), None)
+    let b = file.body_block(f);
+    stray_block(file, f, b, at_top(), None)
 }

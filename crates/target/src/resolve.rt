@@ -7,7 +7,7 @@ ghost use Rattle.module.specs.Tables.{module_of};
 ghost use Rattle.walk.specs.Resolve.{function_at};
 ghost use Rattle.target.specs.Target.{Resolves};
 
-use access::kinded::{expression, expression_operand, global_operand, local_operand, operand};
+use access::file::File;
 use context::required_context::VarRef;
 use module::handles::{ExpressionHandle, FunctionHandle};
 use module::kinds::ExpressionKind;
@@ -22,42 +22,41 @@ pub struct Target {
 
 // `resolve_var`: none where the pointer names no variable.
 pub fn resolve_var(
-    bytes: &[u8],
-    t: &[u32],
+    file: &File,
     cells: &mut [u32],
     f: FunctionHandle,
     e: ExpressionHandle,
 ) -> Option<Target>
-    requires bytes_value { read_module bytes.now ≡ accepted (module_of bytes.now t.now) }
-    requires e_in_bounds { e.0 < length (function_at (module_of bytes.now t.now) f.0).expressions }
+    requires bytes_value { read_module file.now.bytes ≡ accepted (module_of file.now.bytes file.now.t) }
+    requires e_in_bounds { e.0 < length (function_at (module_of file.now.bytes file.now.t) f.0).expressions }
     requires good { Good cells.old }
     requires room { Room cells.old max_expressions }
-    ensures { Resolves (module_of bytes.now t.now) f.0 e.0 cells.old cells.new result }
+    ensures { Resolves (module_of file.now.bytes file.now.t) f.0 e.0 cells.old cells.new result }
 {
     let mut x = e;
     let mut p = ALL_PIECE;
     loop {
-        let row = expression(bytes, t, f, x);
+        let row = file.expression(f, x);
         match ExpressionKind::try_from(row.kind) {
             Ok(ExpressionKind::GlobalVariable) => {
                 return Some(Target {
-                    var: VarRef::Global(global_operand(bytes, row, 0)),
+                    var: VarRef::Global(file.global_operand(row, 0)),
                     part: p,
                 });
             }
             Ok(ExpressionKind::LocalVariable) => {
                 return Some(Target {
-                    var: VarRef::Local(local_operand(bytes, row, 0)),
+                    var: VarRef::Local(file.local_operand(row, 0)),
                     part: p,
                 });
             }
             // an index wraps the part, and an access by a value takes all
             Ok(ExpressionKind::AccessIndex) => {
-                p = make(cells, operand(bytes, row, 1) as u32, p, EMPTY_PIECE);
+                p = make(cells, file.operand(row, 1) as u32, p, EMPTY_PIECE);
             }
             Ok(ExpressionKind::Access) => p = ALL_PIECE,
             _ => return None,
         }
-        x = expression_operand(bytes, row, 0);
+        x = file.expression_operand(row, 0);
     }
 }

@@ -12,8 +12,7 @@ ghost use Rattle.walk.specs.Resolve.{function_at, check_part, store_required};
 ghost use Rattle.target.specs.Target.{Sees, HasTarget, subpart_of, HasFound};
 
 use crate::resolve::Target;
-use access::function::local;
-use access::whole::global;
+use access::file::File;
 use context::required_context::{RequiredContext, VarRef};
 use module::handles::{FunctionHandle, TypeHandle};
 use part::req::get;
@@ -58,36 +57,35 @@ pub fn store_required(cells: &[u32], c: RequiredContext, target: Target) -> Opti
 }
 
 // The type of a variable.
-fn variable_type(bytes: &[u8], t: &[u32], f: FunctionHandle, var: VarRef) -> TypeHandle
-    requires f_in_bounds { f.0 < length (module_of bytes.now t.now).functions }
-    requires sees { Sees (module_of bytes.now t.now) f.0 (variable_of var) }
-    ensures { result.0 ≡ variable_type (module_of bytes.now t.now) (function_at (module_of bytes.now t.now) f.0) (variable_of var) }
+fn variable_type(file: &File, f: FunctionHandle, var: VarRef) -> TypeHandle
+    requires f_in_bounds { f.0 < length (module_of file.now.bytes file.now.t).functions }
+    requires sees { Sees (module_of file.now.bytes file.now.t) f.0 (variable_of var) }
+    ensures { result.0 ≡ variable_type (module_of file.now.bytes file.now.t) (function_at (module_of file.now.bytes file.now.t) f.0) (variable_of var) }
 {
     match var {
-        VarRef::Global(g) => global(bytes, t, g),
-        VarRef::Local(l) => local(bytes, t, f, l),
+        VarRef::Global(g) => file.global(g),
+        VarRef::Local(l) => file.local(f, l),
     }
 }
 
 // `remove`: the context without the target; or the panic at a struct member that is not there.
 pub fn take_out(
-    bytes: &[u8],
-    t: &[u32],
+    file: &File,
     cells: &mut [u32],
     types: &[u32],
     f: FunctionHandle,
     c: RequiredContext,
     target: Target,
 ) -> Option<RequiredContext>
-    requires bytes_value { read_module bytes.now ≡ accepted (module_of bytes.now t.now) }
-    requires f_in_bounds { f.0 < length (module_of bytes.now t.now).functions }
-    requires types_value { types_of types.now ≡ (module_of bytes.now t.now).types }
+    requires bytes_value { read_module file.now.bytes ≡ accepted (module_of file.now.bytes file.now.t) }
+    requires f_in_bounds { f.0 < length (module_of file.now.bytes file.now.t).functions }
+    requires types_value { types_of types.now ≡ (module_of file.now.bytes file.now.t).types }
     requires good { Good cells.old }
-    requires has_context { HasContext cells.old c × HasTarget (module_of bytes.now t.now) f.0 cells.old target }
+    requires has_context { HasContext cells.old c × HasTarget (module_of file.now.bytes file.now.t) f.0 cells.old target }
     requires room { Room cells.old (take_room (context_of cells.old c) (part cells.old target.part)) }
-    ensures { TookContext cells.old cells.new (remove_var (module_of bytes.now t.now) (function_at (module_of bytes.now t.now) f.0) (context_of cells.old c) (variable_of target.var) (part cells.old target.part)) (take_room (context_of cells.old c) (part cells.old target.part)) result }
+    ensures { TookContext cells.old cells.new (remove_var (module_of file.now.bytes file.now.t) (function_at (module_of file.now.bytes file.now.t) f.0) (context_of cells.old c) (variable_of target.var) (part cells.old target.part)) (take_room (context_of cells.old c) (part cells.old target.part)) result }
 {
     let var = target.var;
-    let ty = variable_type(bytes, t, f, var);
+    let ty = variable_type(file, f, var);
     c.remove(cells, types, var, ty, target.part)
 }

@@ -9,6 +9,7 @@ ghost use Rattle.checking.specs.Word.{said};
 ghost use Rattle.state.specs.Ready.{WasRead};
 
 use crate::verdict::check_read;
+use access::file::File;
 use checking::words::Verdict;
 use context::remove::TYPE_WORDS;
 use field::limits::{MAX_EXPRESSIONS, MAX_STATEMENTS, MAX_TYPES};
@@ -19,16 +20,15 @@ const PATH: usize = MAX_EXPRESSIONS + 2;
 
 // A walk's memory, of whatever contents, is room for the check.
 pub fn check_in(
-    bytes: &[u8],
-    t: &[u32],
+    file: &File,
     cells: &mut [u32; CELLS],
     slots: &mut [u32; SLOTS],
     request: &[u8],
     report: &[u8],
     context: &[u8],
 ) -> Verdict
-    requires { WasRead bytes.now t.now }
-    ensures { said result ≡ answer_to (meaning_by (module_of bytes.now t.now) report.now (request_of request.now) (context_of context.now)) }
+    requires { WasRead file.now.bytes file.now.t }
+    ensures { said result ≡ answer_to (meaning_by (module_of file.now.bytes file.now.t) report.now (request_of request.now) (context_of context.now)) }
 {
     let mut rows: [u32; TYPE_WORDS * MAX_TYPES] = [0; TYPE_WORDS * MAX_TYPES];
     let mut alike: [u32; MAX_TYPES] = [0; MAX_TYPES];
@@ -37,8 +37,7 @@ pub fn check_in(
     let mut firsts: [u32; MAX_STATEMENTS] = [0; MAX_STATEMENTS];
     let mut path: [u32; PATH] = [0; PATH];
     check_read(
-        bytes,
-        t,
+        file,
         &mut rows,
         &mut alike,
         &mut held,

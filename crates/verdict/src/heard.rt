@@ -10,8 +10,7 @@ ghost use Rattle.valid.specs.There.{There};
 ghost use Rattle.state.specs.Ready.{WasRead};
 ghost use Rattle.verdict.specs.Heard.{Store, Loaded, ValuePiece, refused_first, Hears};
 
-use access::function::{arguments, locals};
-use access::whole::{functions, globals};
+use access::file::File;
 use context_bytes::check::{check_context, without_function};
 use field::field::get;
 use field::limits::MIN_REPORT;
@@ -64,32 +63,31 @@ fn refused_first(e: Refusal, context: &[u8]) -> Refusal
 }
 
 // Whether a context is one for the function f.
-fn context_status(bytes: &[u8], t: &[u32], f: FunctionHandle, context: &[u8]) -> Result<(), Refusal>
-    requires { There bytes.now t.now f.0 }
-    ensures { status result ≡ status_of (read_context (module_of bytes.now t.now) (function_at (module_of bytes.now t.now) f.0) context.now) }
+fn context_status(file: &File, f: FunctionHandle, context: &[u8]) -> Result<(), Refusal>
+    requires { There file.now.bytes file.now.t f.0 }
+    ensures { status result ≡ status_of (read_context (module_of file.now.bytes file.now.t) (function_at (module_of file.now.bytes file.now.t) f.0) context.now) }
 {
-    let all = globals(t);
-    let given = arguments(t, f);
-    let own = locals(t, f);
+    let all = file.globals();
+    let given = file.arguments(f);
+    let own = file.locals(f);
     check_context(context, all, given, own)
 }
 
 pub fn hear(
-    bytes: &[u8],
-    t: &[u32],
+    file: &File,
     cells: &mut [u32],
     request: &[u8],
     context: &[u8],
 ) -> Result<Heard, Refusal>
-    requires { WasRead bytes.now t.now × Store cells.old }
-    ensures { Hears (module_of bytes.now t.now) request.now context.now cells.new result }
+    requires { WasRead file.now.bytes file.now.t × Store cells.old }
+    ensures { Hears (module_of file.now.bytes file.now.t) request.now context.now cells.new result }
 {
-    let n = functions(t);
-    let q = match load_request(cells, request, n, globals(t)) {
+    let n = file.functions();
+    let q = match load_request(cells, request, n, file.globals()) {
         Ok(q) => q,
         Err(e) => return Err(refused_first(e, context)),
     };
-    context_status(bytes, t, q.function, context)?;
+    context_status(file, q.function, context)?;
     let value = value_piece(q.retval);
     Ok(Heard {
         function: q.function,

@@ -2,6 +2,7 @@
 ghost use Rattle.valid.specs.There.{There};
 ghost use Rattle.verdict.specs.Tables.{Sized, Tables};
 
+use access::file::File;
 use judge::alike::fill_alike;
 use judge::paths::fill_paths;
 use judge::unsized_types::fill_unsized;
@@ -9,19 +10,18 @@ use module::handles::FunctionHandle;
 use type_table::fill;
 
 pub fn fill_tables(
-    bytes: &[u8],
-    t: &[u32],
+    file: &File,
     f: FunctionHandle,
     types: &mut [u32],
     alike: &mut [u32],
     held: &mut [u32],
     paths: &mut [u32],
 )
-    requires { There bytes.now t.now f.0 × Sized bytes.now t.now f.0 types.old alike.old held.old paths.old }
-    ensures { Tables bytes.now t.now f.0 types.new alike.new held.new paths.new }
+    requires { There file.now.bytes file.now.t f.0 × Sized file.now.bytes file.now.t f.0 types.old alike.old held.old paths.old }
+    ensures { Tables file.now.bytes file.now.t f.0 types.new alike.new held.new paths.new }
 {
-    fill(bytes, t, types);
+    fill(file, types);
     fill_alike(types, alike);
     fill_unsized(types, held);
-    fill_paths(bytes, t, f, paths);
+    fill_paths(file, f, paths);
 }

@@ -11,8 +11,7 @@ ghost use Rattle.verdict.specs.Checks.{Working, Asked, Marked, MarksChecked, Rep
 use crate::heard::hear;
 use crate::judged::unjudged;
 use crate::tables::fill_tables;
-use access::function::expressions;
-use access::whole::types;
+use access::file::File;
 use checking::firsts::fill_firsts;
 use checking::shape::marks_shape;
 use checking::words::Verdict;
@@ -23,8 +22,7 @@ use rounds::settle::settle;
 
 // Marks that have the function's shape: whether it is judged, and then the rounds.
 fn check_marks(
-    bytes: &[u8],
-    t: &[u32],
+    file: &File,
     f: FunctionHandle,
     types: &mut [u32],
     alike: &mut [u32],
@@ -39,24 +37,22 @@ fn check_marks(
     marks: &[u8],
     context: &[u8],
 ) -> Verdict
-    requires { Marked bytes.now t.now f.0 types.old alike.old held.old paths.old firsts.old cells.old roots.old path.old globals value }
-    ensures { MarksChecked bytes.now t.now f.0 cells.old globals value marks.now context.now (said result) }
+    requires { Marked file.now.bytes file.now.t f.0 types.old alike.old held.old paths.old firsts.old cells.old roots.old path.old globals value }
+    ensures { MarksChecked file.now.bytes file.now.t f.0 cells.old globals value marks.now context.now (said result) }
 {
-    fill_tables(bytes, t, f, types, alike, held, paths);
-    if let Some(verdict) = unjudged(bytes, t, f, types, alike, held, paths) {
+    fill_tables(file, f, types, alike, held, paths);
+    if let Some(verdict) = unjudged(file, f, types, alike, held, paths) {
         return verdict;
     }
-    fill_firsts(bytes, t, f, firsts);
+    fill_firsts(file, f, firsts);
     settle(
-        bytes, t, f, types, alike, paths, marks, firsts, cells, roots, path, globals, value,
-        context,
+        file, f, types, alike, paths, marks, firsts, cells, roots, path, globals, value, context,
     )
 }
 
 // The marks of f in the report buffer.
 fn check_report(
-    bytes: &[u8],
-    t: &[u32],
+    file: &File,
     f: FunctionHandle,
     rows: &mut [u32],
     alike: &mut [u32],
@@ -71,17 +67,16 @@ fn check_report(
     report: &[u8],
     context: &[u8],
 ) -> Verdict
-    requires { Asked bytes.now t.now f.0 rows.old alike.old held.old paths.old firsts.old cells.old roots.old path.old globals value }
-    ensures { ReportChecked (module_of bytes.now t.now) cells.old f.0 globals value report.now context.now (said result) }
+    requires { Asked file.now.bytes file.now.t f.0 rows.old alike.old held.old paths.old firsts.old cells.old roots.old path.old globals value }
+    ensures { ReportChecked (module_of file.now.bytes file.now.t) cells.old f.0 globals value report.now context.now (said result) }
 {
-    let Ok(marks) = marks_shape(bytes, t, f, report) else {
+    let Ok(marks) = marks_shape(file, f, report) else {
         return Verdict::Refused(Refusal::MarksUnfit);
     };
-    let n = types(t) as usize;
-    let e = expressions(t, f) as usize;
+    let n = file.types() as usize;
+    let e = file.expressions(f) as usize;
     check_marks(
-        bytes,
-        t,
+        file,
         f,
         &mut rows[0..TYPE_WORDS * n],
         &mut alike[0..n],
@@ -100,8 +95,7 @@ fn check_report(
 
 // Nothing is written but the working arrays, of whatever contents.
 pub fn check_read(
-    bytes: &[u8],
-    t: &[u32],
+    file: &File,
     rows: &mut [u32],
     alike: &mut [u32],
     held: &mut [u32],
@@ -114,14 +108,13 @@ pub fn check_read(
     report: &[u8],
     context: &[u8],
 ) -> Verdict
-    requires { WasRead bytes.now t.now × Working rows.old alike.old held.old paths.old firsts.old cells.old roots.old path.old }
-    ensures { said result ≡ answer_to (meaning_by (module_of bytes.now t.now) report.now (request_of request.now) (context_of context.now)) }
+    requires { WasRead file.now.bytes file.now.t × Working rows.old alike.old held.old paths.old firsts.old cells.old roots.old path.old }
+    ensures { said result ≡ answer_to (meaning_by (module_of file.now.bytes file.now.t) report.now (request_of request.now) (context_of context.now)) }
 {
-    match hear(bytes, t, cells, request, context) {
+    match hear(file, cells, request, context) {
         Err(refusal) => Verdict::Refused(refusal),
         Ok(heard) => check_report(
-            bytes,
-            t,
+            file,
             heard.function,
             rows,
             alike,

@@ -28,7 +28,7 @@ returns-then-not-take_out c =
 pub ask_operands-requires : goal.ask_operands-requires
 ask_operands-requires c =
     let given = operands_given c.requires.act_given c.requires.e_in_bounds (needs_some c.emit_overlap-a.ensures c.is_some.ensures c.if-not-is_some.false) c.evaluated_path.ensures.is c.take_out.ensures c.if-not-take_out.false in
-    record { operands_given = given; path_room = path_room given _ (omega (arith, c.requires.act_given.room, c.evaluated_path.ensures.long, c.emit_overlap-a.ensures.long)) _ (c.expressions.ensures c.args.bytes.now) }
+    record { operands_given = given; path_room = path_room given _ (omega (arith, c.requires.act_given.room, c.evaluated_path.ensures.long, c.emit_overlap-a.ensures.long)) _ c.expressions.ensures }
 
 pub returns-then-not-ask_operands : goal.returns-then-not-ask_operands
 returns-then-not-ask_operands c =

@@ -3,4 +3,4 @@ use Rattle.bindings_request.proofs.Filled.{Filled}
 use Rattle.bindings_request.proofs.input.fill.Given as goal
 
 abbrev pub invariant-loop-i : goal.invariant-loop-i
-invariant-loop-i l = Filled l.bytes l.t l.f.0 l.initial.args l.args l.i
+invariant-loop-i l = Filled l.file.bytes l.file.t l.f.0 l.initial.args l.args l.i

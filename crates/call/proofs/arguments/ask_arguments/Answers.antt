@@ -26,7 +26,7 @@ loop-i-preserved c =
 pub returns-in_err-tally : goal.returns-in_err-tally
 returns-in_err-tally c =
     rw (passed c.from_residual.ensures.1)
-    (arguments_stop (operand_at c.args.bytes.now c.args.row 1 - (c.loop-i.i + 1)) (arguments_next c.loop-i.invariant.0 refl c.expression_operand-e.ensures c.in_err-tally.ensures) (omega (arith, c.operand-n.ensures)))
+    (arguments_stop (operand_at c.args.file.now.bytes c.args.row 1 - (c.loop-i.i + 1)) (arguments_next c.loop-i.invariant.0 refl c.expression_operand-e.ensures c.in_err-tally.ensures) (omega (arith, c.operand-n.ensures)))
 
 pub returns : goal.returns
 returns c =

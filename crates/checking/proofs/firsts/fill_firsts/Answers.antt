@@ -8,8 +8,8 @@ loop-s-init c = (counted_none, filled_none)
 
 pub overflow_add-at : goal.overflow_add-at
 overflow_add-at c =
-    omega (arith, counted_small c.requires.0 c.loop-s.invariant.0 (c.statements-n.ensures _) c.loop-s-test.true c.mark_count-at.ensures)
+    omega (arith, counted_small c.requires.0 c.loop-s.invariant.0 c.statements-n.ensures c.loop-s-test.true c.mark_count-at.ensures)
 
 pub loop-s-preserved : goal.loop-s-preserved
 loop-s-preserved c =
-    (counted_more c.requires.0 c.loop-s.invariant.0 (c.statements-n.ensures _) c.loop-s-test.true c.mark_count-at.ensures, filled_more (omega (arith, c.loop-s-test.true, c.statements-n.ensures c.args.bytes.now, c.requires.1, c.loop-s.auto.firsts)) c.loop-s.invariant.0.is c.loop-s.invariant.1)
+    (counted_more c.requires.0 c.loop-s.invariant.0 c.statements-n.ensures c.loop-s-test.true c.mark_count-at.ensures, filled_more (omega (arith, c.loop-s-test.true, c.statements-n.ensures, c.requires.1, c.loop-s.auto.firsts)) c.loop-s.invariant.0.is c.loop-s.invariant.1)

@@ -4,4 +4,4 @@ use Rattle.checking.proofs.Counting.{Counted, FilledTo}
 use Rattle.checking.proofs.firsts.fill_firsts.Given as goal
 
 abbrev pub invariant-loop-s : goal.invariant-loop-s
-invariant-loop-s l = Counted l.bytes l.t l.f.0 l.n l.at l.s × FilledTo (function_of l.bytes l.t l.f.0).statements l.firsts l.s
+invariant-loop-s l = Counted l.file.bytes l.file.t l.f.0 l.n l.at l.s × FilledTo (function_of l.file.bytes l.file.t l.f.0).statements l.firsts l.s

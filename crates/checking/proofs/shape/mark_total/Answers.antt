@@ -8,11 +8,11 @@ loop-s-init c = counted_none
 
 pub overflow_add-at : goal.overflow_add-at
 overflow_add-at c =
-    omega (arith, counted_small c.requires c.loop-s.invariant (c.statements-n.ensures _) c.loop-s-test.true c.mark_count-at.ensures)
+    omega (arith, counted_small c.requires c.loop-s.invariant c.statements-n.ensures c.loop-s-test.true c.mark_count-at.ensures)
 
 pub loop-s-preserved : goal.loop-s-preserved
 loop-s-preserved c =
-    counted_more c.requires c.loop-s.invariant (c.statements-n.ensures _) c.loop-s-test.true c.mark_count-at.ensures
+    counted_more c.requires c.loop-s.invariant c.statements-n.ensures c.loop-s-test.true c.mark_count-at.ensures
 
 pub returns : goal.returns
-returns c = counted_all c.requires c.loop-s.invariant (c.statements-n.ensures _) c.loop-s-test.false
+returns c = counted_all c.requires c.loop-s.invariant c.statements-n.ensures c.loop-s-test.false

@@ -3,4 +3,4 @@ use Rattle.checking.proofs.Counting.{Counted}
 use Rattle.checking.proofs.shape.mark_total.Given as goal
 
 abbrev pub invariant-loop-s : goal.invariant-loop-s
-invariant-loop-s l = Counted l.bytes l.t l.f.0 l.n l.at l.s
+invariant-loop-s l = Counted l.file.bytes l.file.t l.f.0 l.n l.at l.s

@@ -3,4 +3,4 @@ use Rattle.checking.proofs.Counting.{Started}
 use Rattle.checking.proofs.shape.marks_start.Given as goal
 
 abbrev pub invariant-loop-g : goal.invariant-loop-g
-invariant-loop-g l = Started l.bytes l.t l.n l.at l.g
+invariant-loop-g l = Started l.file.bytes l.file.t l.n l.at l.g

@@ -16,7 +16,7 @@ look-x-requires t c = record { good = c.requires.good; lt_n = (c.if-p-lt3.false,
 
 pub trim_part-c-requires : goal.trim_part-c-requires
 trim_part-c-requires t c =
-    let q9 = child_asks _ (c.requires.good, (c.requires.lower, c.requires.p_bound)) (globals_shape c.args.bytes.now c.args.t.now c.args.types.now) c.look-x.ensures in
+    let q9 = child_asks _ (c.requires.good, (c.requires.lower, c.requires.p_bound)) (globals_shape c.args.file.now.bytes c.args.file.now.t c.args.types.now) c.look-x.ensures in
     record { good = q9.0; lower = q9.1.0; p_bound = q9.1.1 }
 
 pub trim_map-r-requires : goal.trim_map-r-requires

@@ -6,8 +6,8 @@ pub returns-then-i-lt-SPINE : goal.returns-then-i-lt-SPINE
 returns-then-i-lt-SPINE c = global_low _ _ _ c.if-i-lt-SPINE.true
 
 pub returns-then-globals-g : goal.returns-then-globals-g
-returns-then-globals-g c = global_past _ _ _ c.if-i-lt-SPINE.false (c.globals.ensures _) c.if-globals-g.true
+returns-then-globals-g c = global_past _ _ _ c.if-i-lt-SPINE.false c.globals.ensures c.if-globals-g.true
 
 pub returns : goal.returns
 returns c =
-    global_there _ _ _ c.if-i-lt-SPINE.false (c.globals.ensures _) c.if-globals-g.false c.global.ensures
+    global_there _ _ _ c.if-i-lt-SPINE.false c.globals.ensures c.if-globals-g.false c.global.ensures

@@ -98,25 +98,25 @@ add_function-overflow_add-at t c = omega (arith, c.requires.base_bound)
 
 pub add_function-add_block-requires : goal.add_function-add_block-requires
 add_function-add_block-requires t c =
-    (omega (arith, c.decreases, body_below c.requires.function_entered (c.body_block-b.ensures _)), body_enters c.requires.function_entered (c.body_block-b.ensures _))
+    (omega (arith, c.decreases, body_below c.requires.function_entered c.body_block-b.ensures), body_enters c.requires.function_entered c.body_block-b.ensures)
 
 pub add_function-add_total-requires : goal.add_function-add_total-requires
 add_function-add_total-requires t c =
-    body_asked c.requires.function_entered (c.body_block-b.ensures _) c.args.here c.add_block.ensures c.in_ok-a.was
+    body_asked c.requires.function_entered c.body_block-b.ensures c.args.here c.add_block.ensures c.in_ok-a.was
 
 pub add_function-returns-in_err-a : goal.add_function-returns-in_err-a
 add_function-returns-in_err-a t c =
     rw (passed c.from_residual.ensures.1)
-    (function_halt c.requires.function_entered (c.body_block-b.ensures _) c.args.here c.add_block.ensures c.in_err-a.was)
+    (function_halt c.requires.function_entered c.body_block-b.ensures c.args.here c.add_block.ensures c.in_err-a.was)
 
 pub add_function-returns-in_err-tally : goal.add_function-returns-in_err-tally
 add_function-returns-in_err-tally t c =
     rw (passed c.from_residual-in_err-tally.ensures.1)
-    (function_halt_2 c.requires.function_entered (c.body_block-b.ensures _) c.args.here c.add_block.ensures c.in_ok-a.was c.add_total.ensures c.in_err-tally.was)
+    (function_halt_2 c.requires.function_entered c.body_block-b.ensures c.args.here c.add_block.ensures c.in_ok-a.was c.add_total.ensures c.in_err-tally.was)
 
 pub add_function-returns : goal.add_function-returns
 add_function-returns t c =
-    function_ends c.requires.function_entered (c.body_block-b.ensures _) c.args.here c.add_block.ensures c.in_ok-a.was c.add_total.ensures c.in_ok-tally.was
+    function_ends c.requires.function_entered c.body_block-b.ensures c.args.here c.add_block.ensures c.in_ok-a.was c.add_total.ensures c.in_ok-tally.was
 
 pub add_holder-returns-in-Ok-Block : goal.add_holder-returns-in-Ok-Block
 add_holder-returns-in-Ok-Block t c =

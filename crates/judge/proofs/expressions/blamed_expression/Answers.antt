@@ -8,15 +8,15 @@ loop-e-init c = each_none _
 
 pub judged_expression-requires : goal.judged_expression-requires
 judged_expression-requires c =
-    record { given = c.requires.given; unsized_table = c.requires.unsized_table; e_in_bounds = there_below (c.expressions-n.ensures _) c.loop-e-test.true }
+    record { given = c.requires.given; unsized_table = c.requires.unsized_table; e_in_bounds = there_below c.expressions-n.ensures c.loop-e-test.true }
 
 pub returns-then-not-judged_expression : goal.returns-then-not-judged_expression
 returns-then-not-judged_expression c =
-    blamed_at _ (c.expressions-n.ensures _) c.loop-e-test.true c.loop-e.invariant c.judged_expression.ensures c.if-not-judged_expression.true
+    blamed_at _ c.expressions-n.ensures c.loop-e-test.true c.loop-e.invariant c.judged_expression.ensures c.if-not-judged_expression.true
 
 pub loop-e-preserved : goal.loop-e-preserved
 loop-e-preserved c =
     each_next _ c.judged_expression.ensures c.if-not-judged_expression.false c.loop-e.invariant
 
 pub returns : goal.returns
-returns c = blamed_none _ (c.expressions-n.ensures _) c.loop-e-test.false c.loop-e.invariant
+returns c = blamed_none _ c.expressions-n.ensures c.loop-e-test.false c.loop-e.invariant

@@ -6,4 +6,4 @@ use Rattle.judge.proofs.ValueRows.{Each}
 use Rattle.judge.proofs.made.letters_below.Given as goal
 
 abbrev pub invariant-loop-i : goal.invariant-loop-i
-invariant-loop-i l = Each (λ k. ltb (operand_at l.bytes l.row (2 + k)) l.n) l.i
+invariant-loop-i l = Each (λ k. ltb (operand_at l.file.bytes l.row (2 + k)) l.n) l.i

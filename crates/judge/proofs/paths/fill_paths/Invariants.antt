@@ -5,4 +5,4 @@ use Rattle.judge.proofs.PathSteps.{path_among}
 use Rattle.judge.proofs.paths.fill_paths.Given as goal
 
 abbrev pub invariant-loop-e : goal.invariant-loop-e
-invariant-loop-e l = Marks (path_among (function_of l.bytes l.t l.f.0).expressions) l.table l.e
+invariant-loop-e l = Marks (path_among (function_of l.file.bytes l.file.t l.f.0).expressions) l.table l.e

@@ -18,7 +18,7 @@ clear_context-requires-2 c =
 
 pub shape_of-slots : goal.shape_of-slots
 shape_of-slots c =
-    ap length (left_is c.records_of-own.ensures c.args.slots.now _ _ _ c.args.base c.args.at c.forget.ensures c.clear_context.ensures c.clear_context-2.ensures) ∙ left_long c.args.t.now c.args.slots.now c.args.f.0 c.args.base c.args.at
+    ap length (left_is c.records_of-own.ensures c.args.slots.now _ _ _ c.args.base c.args.at c.forget.ensures c.clear_context.ensures c.clear_context-2.ensures) ∙ left_long c.args.file.now.t c.args.slots.now c.args.f.0 c.args.base c.args.at
 
 pub returns : goal.returns
 returns c =

@@ -20,4 +20,4 @@ shape_of-places c =
 
 pub returns : goal.returns
 returns c =
-    let e : c.loop-f.f ≡ c.functions-n.result = omega arith in places-made _ _ c.requires.0 _ c.requires.1 _ _ _ _ _ (c.functions-n.ensures c.args.bytes.now) (rw e at c.loop-f.invariant.0) (rw e at c.loop-f.invariant.1) refl c.put-2.ensures
+    let e : c.loop-f.f ≡ c.functions-n.result = omega arith in places-made _ _ c.requires.0 _ c.requires.1 _ _ _ _ _ c.functions-n.ensures (rw e at c.loop-f.invariant.0) (rw e at c.loop-f.invariant.1) refl c.put-2.ensures

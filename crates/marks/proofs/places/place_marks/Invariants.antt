@@ -6,4 +6,4 @@ use Rattle.marks.proofs.Placed.{placed_to}
 use Rattle.marks.proofs.places.place_marks.Given as goal
 
 abbrev pub invariant-loop-f : goal.invariant-loop-f
-invariant-loop-f l = (l.places ≡ placed_to l.bytes l.t l.initial.places l.f) × (l.at ≡ start_of (module_of l.bytes l.t) l.f)
+invariant-loop-f l = (l.places ≡ placed_to l.file.bytes l.file.t l.initial.places l.f) × (l.at ≡ start_of (module_of l.file.bytes l.file.t) l.f)

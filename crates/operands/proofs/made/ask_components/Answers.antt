@@ -8,16 +8,16 @@ use Rattle.operands.proofs.made.ask_components.Goals as goal
 
 pub loop-k-init : goal.loop-k-init
 loop-k-init c =
-    loop_start (components-each (operand_at c.args.bytes.now c.args.row) _) c.requires c.operand-k.ensures
+    loop_start (components-each (operand_at c.args.file.now.bytes c.args.row) _) c.requires c.operand-k.ensures
 
 pub ask_component-requires : goal.ask_component-requires
 ask_component-requires c =
-    record { list_given = loop_given (components-each (operand_at c.args.bytes.now c.args.row) _) c.requires (c.loop-k.k - 1) (omega arith) (omega arith) c.loop-k.invariant; k_bound = omega arith }
+    record { list_given = loop_given (components-each (operand_at c.args.file.now.bytes c.args.row) _) c.requires (c.loop-k.k - 1) (omega arith) (omega arith) c.loop-k.invariant; k_bound = omega arith }
 
 pub returns-then-not-ask_component : goal.returns-then-not-ask_component
 returns-then-not-ask_component c =
-    loop_full (components-each (operand_at c.args.bytes.now c.args.row) _) c.requires (c.loop-k.k - 1) (omega arith) (omega arith) c.loop-k.invariant c.ask_component.ensures c.if-not-ask_component.true
+    loop_full (components-each (operand_at c.args.file.now.bytes c.args.row) _) c.requires (c.loop-k.k - 1) (omega arith) (omega arith) c.loop-k.invariant c.ask_component.ensures c.if-not-ask_component.true
 
 pub loop-k-preserved : goal.loop-k-preserved
 loop-k-preserved c =
-    loop_more (components-each (operand_at c.args.bytes.now c.args.row) _) c.requires (c.loop-k.k - 1) (omega arith) (omega arith) c.loop-k.invariant c.ask_component.ensures c.if-not-ask_component.false
+    loop_more (components-each (operand_at c.args.file.now.bytes c.args.row) _) c.requires (c.loop-k.k - 1) (omega arith) (omega arith) c.loop-k.invariant c.ask_component.ensures c.if-not-ask_component.false

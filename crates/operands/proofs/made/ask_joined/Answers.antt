@@ -8,16 +8,16 @@ use Rattle.operands.proofs.made.ask_joined.Goals as goal
 
 pub loop-k-init : goal.loop-k-init
 loop-k-init c =
-    loop_start (joined_each (operand_at c.args.bytes.now c.args.row) _) c.requires c.operand-k.ensures
+    loop_start (joined_each (operand_at c.args.file.now.bytes c.args.row) _) c.requires c.operand-k.ensures
 
 pub ask_whole-requires : goal.ask_whole-requires
 ask_whole-requires c =
-    loop_given (joined_each (operand_at c.args.bytes.now c.args.row) _) c.requires (c.loop-k.k - 1) (omega arith) (omega arith) c.loop-k.invariant
+    loop_given (joined_each (operand_at c.args.file.now.bytes c.args.row) _) c.requires (c.loop-k.k - 1) (omega arith) (omega arith) c.loop-k.invariant
 
 pub returns-then-not-ask_whole : goal.returns-then-not-ask_whole
 returns-then-not-ask_whole c =
-    loop_full (joined_each (operand_at c.args.bytes.now c.args.row) _) c.requires (c.loop-k.k - 1) (omega arith) (omega arith) c.loop-k.invariant c.ask_whole.ensures c.if-not-ask_whole.true
+    loop_full (joined_each (operand_at c.args.file.now.bytes c.args.row) _) c.requires (c.loop-k.k - 1) (omega arith) (omega arith) c.loop-k.invariant c.ask_whole.ensures c.if-not-ask_whole.true
 
 pub loop-k-preserved : goal.loop-k-preserved
 loop-k-preserved c =
-    loop_more (joined_each (operand_at c.args.bytes.now c.args.row) _) c.requires (c.loop-k.k - 1) (omega arith) (omega arith) c.loop-k.invariant c.ask_whole.ensures c.if-not-ask_whole.false
+    loop_more (joined_each (operand_at c.args.file.now.bytes c.args.row) _) c.requires (c.loop-k.k - 1) (omega arith) (omega arith) c.loop-k.invariant c.ask_whole.ensures c.if-not-ask_whole.false

@@ -8,16 +8,16 @@ use Rattle.operands.proofs.made.ask_letters.Goals as goal
 
 pub loop-k-init : goal.loop-k-init
 loop-k-init c =
-    loop_start (letters-each (operand_at c.args.bytes.now c.args.row) _) c.requires.list_given c.operand-k.ensures
+    loop_start (letters-each (operand_at c.args.file.now.bytes c.args.row) _) c.requires.list_given c.operand-k.ensures
 
 pub ask_letter-requires : goal.ask_letter-requires
 ask_letter-requires c =
-    record { list_given = loop_given (letters-each (operand_at c.args.bytes.now c.args.row) _) c.requires.list_given (c.loop-k.k - 1) (omega arith) (omega arith) c.loop-k.invariant; k_bound = omega arith }
+    record { list_given = loop_given (letters-each (operand_at c.args.file.now.bytes c.args.row) _) c.requires.list_given (c.loop-k.k - 1) (omega arith) (omega arith) c.loop-k.invariant; k_bound = omega arith }
 
 pub returns-then-not-ask_letter : goal.returns-then-not-ask_letter
 returns-then-not-ask_letter c =
-    loop_full (letters-each (operand_at c.args.bytes.now c.args.row) _) c.requires.list_given (c.loop-k.k - 1) (omega arith) (omega arith) c.loop-k.invariant c.ask_letter.ensures c.if-not-ask_letter.true
+    loop_full (letters-each (operand_at c.args.file.now.bytes c.args.row) _) c.requires.list_given (c.loop-k.k - 1) (omega arith) (omega arith) c.loop-k.invariant c.ask_letter.ensures c.if-not-ask_letter.true
 
 pub loop-k-preserved : goal.loop-k-preserved
 loop-k-preserved c =
-    loop_more (letters-each (operand_at c.args.bytes.now c.args.row) _) c.requires.list_given (c.loop-k.k - 1) (omega arith) (omega arith) c.loop-k.invariant c.ask_letter.ensures c.if-not-ask_letter.false
+    loop_more (letters-each (operand_at c.args.file.now.bytes c.args.row) _) c.requires.list_given (c.loop-k.k - 1) (omega arith) (omega arith) c.loop-k.invariant c.ask_letter.ensures c.if-not-ask_letter.false

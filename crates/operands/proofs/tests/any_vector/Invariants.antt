@@ -5,4 +5,4 @@ use Rattle.operands.proofs.Vectors.{NoVector}
 use Rattle.operands.proofs.tests.any_vector.Given as goal
 
 abbrev pub invariant-loop-i : goal.invariant-loop-i
-invariant-loop-i l = NoVector (scope_at l.bytes l.t l.f.0) (operand_at l.bytes l.row) l.i
+invariant-loop-i l = NoVector (scope_at l.file.bytes l.file.t l.f.0) (operand_at l.file.bytes l.row) l.i

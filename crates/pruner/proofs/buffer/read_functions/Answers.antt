@@ -9,16 +9,16 @@ loop-f-init c =
 
 pub read_total-requires : goal.read_total-requires
 read_total-requires c =
-    record { has_totals = (through_has c.requires.has_totals.0.was_read c.loop-f.invariant (omega (arith, c.functions-f-end.ensures c.args.bytes.now, c.loop-f-test.true)) c.requires.has_totals.0, (omega (arith, c.functions-f-end.ensures c.args.bytes.now, c.loop-f-test.true)), through_flag c.requires.has_totals.0.was_read c.loop-f.invariant (omega (arith, c.functions-f-end.ensures c.args.bytes.now, c.loop-f-test.true))); at_in_bounds = (c.loop-f.invariant.spent.inside, through_room c.requires.has_totals.0.was_read c.loop-f.invariant (omega (arith, c.functions-f-end.ensures c.args.bytes.now, c.loop-f-test.true)) c.requires.at_in_bounds.1, c.loop-f.invariant.low) }
+    record { has_totals = (through_has c.requires.has_totals.0.was_read c.loop-f.invariant (omega (arith, c.functions-f-end.ensures, c.loop-f-test.true)) c.requires.has_totals.0, (omega (arith, c.functions-f-end.ensures, c.loop-f-test.true)), through_flag c.requires.has_totals.0.was_read c.loop-f.invariant (omega (arith, c.functions-f-end.ensures, c.loop-f-test.true))); at_in_bounds = (c.loop-f.invariant.spent.inside, through_room c.requires.has_totals.0.was_read c.loop-f.invariant (omega (arith, c.functions-f-end.ensures, c.loop-f-test.true)) c.requires.at_in_bounds.1, c.loop-f.invariant.low) }
 
 pub returns-in_err-end : goal.returns-in_err-end
 returns-in_err-end c =
-    rw c.from_residual.ensures (through_refused c.requires.has_totals.0.was_read c.loop-f.invariant (omega (arith, c.functions-f-end.ensures c.args.bytes.now, c.loop-f-test.true)) c.read_total.ensures c.in_err-end.was)
+    rw c.from_residual.ensures (through_refused c.requires.has_totals.0.was_read c.loop-f.invariant (omega (arith, c.functions-f-end.ensures, c.loop-f-test.true)) c.read_total.ensures c.in_err-end.was)
 
 pub loop-f-preserved : goal.loop-f-preserved
 loop-f-preserved c =
-    through_more c.requires.has_totals.0.was_read c.loop-f.invariant (omega (arith, c.functions-f-end.ensures c.args.bytes.now, c.loop-f-test.true)) c.read_total.ensures c.in_ok-end.was
+    through_more c.requires.has_totals.0.was_read c.loop-f.invariant (omega (arith, c.functions-f-end.ensures, c.loop-f-test.true)) c.read_total.ensures c.in_ok-end.was
 
 pub returns : goal.returns
 returns c =
-    through_done c.requires.has_totals.0.was_read c.loop-f.invariant (omega (arith, c.functions-f-end.ensures c.args.bytes.now, c.loop-f-test.false))
+    through_done c.requires.has_totals.0.was_read c.loop-f.invariant (omega (arith, c.functions-f-end.ensures, c.loop-f-test.false))

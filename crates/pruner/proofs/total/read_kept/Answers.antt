@@ -27,21 +27,21 @@ returns-then-not-read_marks c =
 
 pub read_context-requires : goal.read_context-requires
 read_context-requires c =
-    record { memory = (c.requires.has_totals.0.memory, (context_inside c.requires.has_totals.0 c.args.f.0 c.requires.has_totals.1).0, (context_inside c.requires.has_totals.0 c.args.f.0 c.requires.has_totals.1).1); at_in_bounds = (lists-inside c.requires.has_totals.0 c.args.f.0 c.requires.has_totals.1 c.start-from.ensures c.start.ensures c.args.sum c.read_marks.ensures c.if-not-read_marks.false, lists-room c.requires.has_totals.0 c.args.f.0 c.requires.has_totals.1 c.start-from.ensures c.start.ensures c.args.sum c.read_marks.ensures c.if-not-read_marks.false c.requires.at_in_bounds.1, c.requires.at_in_bounds.2); limits = limits c.requires.has_totals.0 c.args.f.0 c.requires.has_totals.1 (c.globals-g.ensures c.args.bytes.now) (c.arguments-a.ensures c.args.bytes.now) (c.locals-l.ensures c.args.bytes.now) }
+    record { memory = (c.requires.has_totals.0.memory, (context_inside c.requires.has_totals.0 c.args.f.0 c.requires.has_totals.1).0, (context_inside c.requires.has_totals.0 c.args.f.0 c.requires.has_totals.1).1); at_in_bounds = (lists-inside c.requires.has_totals.0 c.args.f.0 c.requires.has_totals.1 c.start-from.ensures c.start.ensures c.args.sum c.read_marks.ensures c.if-not-read_marks.false, lists-room c.requires.has_totals.0 c.args.f.0 c.requires.has_totals.1 c.start-from.ensures c.start.ensures c.args.sum c.read_marks.ensures c.if-not-read_marks.false c.requires.at_in_bounds.1, c.requires.at_in_bounds.2); limits = limits c.requires.has_totals.0 c.args.f.0 c.requires.has_totals.1 c.globals-g.ensures c.arguments-a.ensures c.locals-l.ensures }
 
 pub returns-in_err-next : goal.returns-in_err-next
 returns-in_err-next c =
-    rw c.from_residual.ensures (kept_no_context c.requires.has_totals.0 c.args.f.0 c.requires.has_totals.1 c.start-from.ensures c.start.ensures c.args.sum c.read_marks.ensures c.if-not-read_marks.false (c.globals-g.ensures c.args.bytes.now) (c.arguments-a.ensures c.args.bytes.now) (c.locals-l.ensures c.args.bytes.now) c.read_context.ensures c.in_err-next.was)
+    rw c.from_residual.ensures (kept_no_context c.requires.has_totals.0 c.args.f.0 c.requires.has_totals.1 c.start-from.ensures c.start.ensures c.args.sum c.read_marks.ensures c.if-not-read_marks.false c.globals-g.ensures c.arguments-a.ensures c.locals-l.ensures c.read_context.ensures c.in_err-next.was)
 
 pub overflow_add-base : goal.overflow_add-base
 overflow_add-base c =
-    omega (arith, base_inside c.requires.has_totals.0 c.args.f.0 c.requires.has_totals.1 c.start-from.ensures c.start.ensures c.args.sum c.read_marks.ensures c.if-not-read_marks.false (c.globals-g.ensures c.args.bytes.now) (c.arguments-a.ensures c.args.bytes.now) (c.locals-l.ensures c.args.bytes.now) c.read_context.ensures c.in_ok-next.was c.records_of-records.ensures)
+    omega (arith, base_inside c.requires.has_totals.0 c.args.f.0 c.requires.has_totals.1 c.start-from.ensures c.start.ensures c.args.sum c.read_marks.ensures c.if-not-read_marks.false c.globals-g.ensures c.arguments-a.ensures c.locals-l.ensures c.read_context.ensures c.in_ok-next.was c.records_of-records.ensures)
 
 pub read_records-requires : goal.read_records-requires
 read_records-requires c =
-    let r = records_from c.requires.has_totals.0 c.args.f.0 c.requires.has_totals.1 c.start-from.ensures c.start.ensures c.args.sum c.read_marks.ensures c.if-not-read_marks.false (c.globals-g.ensures c.args.bytes.now) (c.arguments-a.ensures c.args.bytes.now) (c.locals-l.ensures c.args.bytes.now) c.read_context.ensures c.in_ok-next.was in
-    record { memory = (context_memory c.requires.has_totals.0 c.args.f.0 c.requires.has_totals.1 c.start-from.ensures c.start.ensures c.args.sum c.read_marks.ensures c.if-not-read_marks.false (c.globals-g.ensures c.args.bytes.now) (c.arguments-a.ensures c.args.bytes.now) (c.locals-l.ensures c.args.bytes.now) c.read_context.ensures c.in_ok-next.was, omega arith, base_inside c.requires.has_totals.0 c.args.f.0 c.requires.has_totals.1 c.start-from.ensures c.start.ensures c.args.sum c.read_marks.ensures c.if-not-read_marks.false (c.globals-g.ensures c.args.bytes.now) (c.arguments-a.ensures c.args.bytes.now) (c.locals-l.ensures c.args.bytes.now) c.read_context.ensures c.in_ok-next.was c.records_of-records.ensures); at_in_bounds = (r.0, omega (arith, r.1 c.requires.at_in_bounds.1, c.records_of-records.ensures.n), context_few c.requires.has_totals.0 c.args.f.0 c.requires.has_totals.1 c.start-from.ensures c.start.ensures c.args.sum c.read_marks.ensures c.if-not-read_marks.false (c.globals-g.ensures c.args.bytes.now) (c.arguments-a.ensures c.args.bytes.now) (c.locals-l.ensures c.args.bytes.now) c.read_context.ensures c.in_ok-next.was) }
+    let r = records_from c.requires.has_totals.0 c.args.f.0 c.requires.has_totals.1 c.start-from.ensures c.start.ensures c.args.sum c.read_marks.ensures c.if-not-read_marks.false c.globals-g.ensures c.arguments-a.ensures c.locals-l.ensures c.read_context.ensures c.in_ok-next.was in
+    record { memory = (context_memory c.requires.has_totals.0 c.args.f.0 c.requires.has_totals.1 c.start-from.ensures c.start.ensures c.args.sum c.read_marks.ensures c.if-not-read_marks.false c.globals-g.ensures c.arguments-a.ensures c.locals-l.ensures c.read_context.ensures c.in_ok-next.was, omega arith, base_inside c.requires.has_totals.0 c.args.f.0 c.requires.has_totals.1 c.start-from.ensures c.start.ensures c.args.sum c.read_marks.ensures c.if-not-read_marks.false c.globals-g.ensures c.arguments-a.ensures c.locals-l.ensures c.read_context.ensures c.in_ok-next.was c.records_of-records.ensures); at_in_bounds = (r.0, omega (arith, r.1 c.requires.at_in_bounds.1, c.records_of-records.ensures.n), context_few c.requires.has_totals.0 c.args.f.0 c.requires.has_totals.1 c.start-from.ensures c.start.ensures c.args.sum c.read_marks.ensures c.if-not-read_marks.false c.globals-g.ensures c.arguments-a.ensures c.locals-l.ensures c.read_context.ensures c.in_ok-next.was) }
 
 pub returns : goal.returns
 returns c =
-    kept_read c.requires.has_totals.0 c.args.f.0 c.requires.has_totals.1 c.start-from.ensures c.start.ensures c.args.sum c.read_marks.ensures c.if-not-read_marks.false (c.globals-g.ensures c.args.bytes.now) (c.arguments-a.ensures c.args.bytes.now) (c.locals-l.ensures c.args.bytes.now) c.read_context.ensures c.in_ok-next.was c.records_of-records.ensures _ _ c.read_records.ensures
+    kept_read c.requires.has_totals.0 c.args.f.0 c.requires.has_totals.1 c.start-from.ensures c.start.ensures c.args.sum c.read_marks.ensures c.if-not-read_marks.false c.globals-g.ensures c.arguments-a.ensures c.locals-l.ensures c.read_context.ensures c.in_ok-next.was c.records_of-records.ensures _ _ c.read_records.ensures

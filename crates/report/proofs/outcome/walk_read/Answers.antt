@@ -5,7 +5,7 @@ use borrow.Author.Rules.{rules}
 use Rattle.report.proofs.outcome.walk_read.Goals as goal
 
 pub slice_bounds-table-end : goal.slice_bounds-table-end
-slice_bounds-table-end c = rows_end c.requires (c.types-n.ensures c.args.bytes.now) (omega arith)
+slice_bounds-table-end c = rows_end c.requires c.types-n.ensures (omega arith)
 
 pub walk_request-requires : goal.walk_request-requires
-walk_request-requires c = (c.requires, rows_part c.requires (c.types-n.ensures c.args.bytes.now) _ (search rules))
+walk_request-requires c = (c.requires, rows_part c.requires c.types-n.ensures _ (search rules))

@@ -7,28 +7,28 @@ use Rattle.requests.proofs.begin.begin_request.Goals as goal
 
 pub returns-then-not-read_pruner : goal.returns-then-not-read_pruner
 returns-then-not-read_pruner c =
-    begins_19 c.requires c.args.report c.args.request.now c.args.pruner.now (c.functions.ensures c.args.bytes.now) (c.globals.ensures c.args.bytes.now) c.load_request.ensures c.in_ok-function.was c.read_pruner.ensures (not-true c.read_pruner.result c.if-not-read_pruner.true-raw)
+    begins_19 c.requires c.args.report c.args.request.now c.args.pruner.now c.functions.ensures c.globals.ensures c.load_request.ensures c.in_ok-function.was c.read_pruner.ensures (not-true c.read_pruner.result c.if-not-read_pruner.true-raw)
 
 pub clear_marks-requires : goal.clear_marks-requires
 clear_marks-requires c =
-    clear_asks c.requires c.args.report c.args.request.now c.args.pruner.now (c.functions.ensures c.args.bytes.now) (c.globals.ensures c.args.bytes.now) c.load_request.ensures c.in_ok-function.was c.read_pruner.ensures (not-false c.read_pruner.result c.if-not-read_pruner.false-raw)
+    clear_asks c.requires c.args.report c.args.request.now c.args.pruner.now c.functions.ensures c.globals.ensures c.load_request.ensures c.in_ok-function.was c.read_pruner.ensures (not-false c.read_pruner.result c.if-not-read_pruner.false-raw)
 
 pub weigh_totals-sum-requires : goal.weigh_totals-sum-requires
 weigh_totals-sum-requires c =
-    weighs c.requires c.args.report c.args.request.now c.args.pruner.now (c.functions.ensures c.args.bytes.now) (c.globals.ensures c.args.bytes.now) c.load_request.ensures c.in_ok-function.was c.read_pruner.ensures (not-false c.read_pruner.result c.if-not-read_pruner.false-raw) c.tidy.ensures c.load_request.auto.slots
+    weighs c.requires c.args.report c.args.request.now c.args.pruner.now c.functions.ensures c.globals.ensures c.load_request.ensures c.in_ok-function.was c.read_pruner.ensures (not-false c.read_pruner.result c.if-not-read_pruner.false-raw) c.tidy.ensures c.load_request.auto.slots
 
 pub returns-in_err-function : goal.returns-in_err-function
 returns-in_err-function c =
-    rw (passed c.from_residual.ensures.1) (begins_refused c.requires c.args.report c.args.request.now c.args.pruner.now (c.functions.ensures c.args.bytes.now) (c.globals.ensures c.args.bytes.now) c.load_request.ensures c.in_err-function.was)
+    rw (passed c.from_residual.ensures.1) (begins_refused c.requires c.args.report c.args.request.now c.args.pruner.now c.functions.ensures c.globals.ensures c.load_request.ensures c.in_err-function.was)
 
 pub returns : goal.returns
 returns c =
-    begins c.requires c.args.report c.args.request.now c.args.pruner.now (c.functions.ensures c.args.bytes.now) (c.globals.ensures c.args.bytes.now) c.load_request.ensures c.in_ok-function.was c.read_pruner.ensures (not-false c.read_pruner.result c.if-not-read_pruner.false-raw) c.tidy.ensures c.load_request.auto.slots c.clear_marks.ensures c.weigh_totals-sum.ensures
+    begins c.requires c.args.report c.args.request.now c.args.pruner.now c.functions.ensures c.globals.ensures c.load_request.ensures c.in_ok-function.was c.read_pruner.ensures (not-false c.read_pruner.result c.if-not-read_pruner.false-raw) c.tidy.ensures c.load_request.auto.slots c.clear_marks.ensures c.weigh_totals-sum.ensures
 
 pub load_request-requires-clause-slot_count_in_bounds : goal.load_request-requires-clause-slot_count_in_bounds
 load_request-requires-clause-slot_count_in_bounds c =
-    (c.requires.slots_long, omega (arith, few_globals c.requires, c.globals.ensures c.args.bytes.now))
+    (c.requires.slots_long, omega (arith, few_globals c.requires, c.globals.ensures))
 
 pub tidy-requires-clause-slots_bound : goal.tidy-requires-clause-slots_bound
 tidy-requires-clause-slots_bound c =
-    (tidy_asks c.requires c.args.report c.args.request.now c.args.pruner.now (c.functions.ensures c.args.bytes.now) (c.globals.ensures c.args.bytes.now) c.load_request.ensures c.in_ok-function.was c.read_pruner.ensures (not-false c.read_pruner.result c.if-not-read_pruner.false-raw) c.load_request.auto.slots).1
+    (tidy_asks c.requires c.args.report c.args.request.now c.args.pruner.now c.functions.ensures c.globals.ensures c.load_request.ensures c.in_ok-function.was c.read_pruner.ensures (not-false c.read_pruner.result c.if-not-read_pruner.false-raw) c.load_request.auto.slots).1

@@ -6,9 +6,9 @@ use Rattle.statement.proofs.rays.gather_fields.Goals as goal
 pub returns-then-mode-eq1 : goal.returns-then-mode-eq1
 unfolding handle_in
 returns-then-mode-eq1 c =
-    broadcast_fields (operand_at c.args.bytes.now c.args.row) c.operand-mode.ensures c.expression_operand-first.ensures c.expression_operand-second.ensures c.if-mode-eq1.true c.expression_operand.ensures
+    broadcast_fields (operand_at c.args.file.now.bytes c.args.row) c.operand-mode.ensures c.expression_operand-first.ensures c.expression_operand-second.ensures c.if-mode-eq1.true c.expression_operand.ensures
 
 pub returns : goal.returns
 unfolding handle_in
 returns c =
-    first-fields (operand_at c.args.bytes.now c.args.row) c.operand-mode.ensures c.expression_operand-first.ensures c.expression_operand-second.ensures c.if-mode-eq1.false
+    first-fields (operand_at c.args.file.now.bytes c.args.row) c.operand-mode.ensures c.expression_operand-first.ensures c.expression_operand-second.ensures c.if-mode-eq1.false

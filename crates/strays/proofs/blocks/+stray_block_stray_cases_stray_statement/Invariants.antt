@@ -10,10 +10,10 @@ use Rattle.strays.proofs.Steps.{Lowers, later}
 use Rattle.strays.proofs.blocks.+stray_block_stray_cases_stray_statement.Given as goal
 
 abbrev pub invariant-stray_block-loop-k : goal.invariant-stray_block-loop-k
-invariant-stray_block-loop-k l = Lowers (later (function_of l.bytes l.t l.f.0) l.b.0 l.first l.initial.k (exits_of l.e) l.k) (blamed l.initial.low) (blamed l.low)
+invariant-stray_block-loop-k l = Lowers (later (function_of l.file.bytes l.file.t l.f.0) l.b.0 l.first l.initial.k (exits_of l.e) l.k) (blamed l.initial.low) (blamed l.low)
 
 abbrev pub invariant-stray_cases-loop-i : goal.invariant-stray_cases-loop-i
-invariant-stray_cases-loop-i l = Lowers (stray_cases (function_of l.bytes l.t l.f.0) (operand_at l.bytes l.row) l.i (exits_of l.e)) (blamed l.initial.low) (blamed l.low)
+invariant-stray_cases-loop-i l = Lowers (stray_cases (function_of l.file.bytes l.file.t l.f.0) (operand_at l.file.bytes l.row) l.i (exits_of l.e)) (blamed l.initial.low) (blamed l.low)
 
 abbrev pub decreases-stray_block : goal.decreases-stray_block
 decreases-stray_block l = 3 * l.b.0 + 2

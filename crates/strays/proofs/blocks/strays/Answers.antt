@@ -5,8 +5,8 @@ use native.Mathlib.Omega.{arith}
 use Rattle.strays.proofs.blocks.strays.Goals as goal
 
 pub stray_block-requires : goal.stray_block-requires
-stray_block-requires c = body_there c.requires (omega (arith, c.body_block-b.ensures c.args.bytes.now))
+stray_block-requires c = body_there c.requires (omega (arith, c.body_block-b.ensures))
 
 pub returns : goal.returns
 returns c =
-    body_strays _ _ _ _ (omega (arith, c.body_block-b.ensures c.args.bytes.now)) c.at_top.ensures c.stray_block.ensures
+    body_strays _ _ _ _ (omega (arith, c.body_block-b.ensures)) c.at_top.ensures c.stray_block.ensures

@@ -4,4 +4,4 @@ use Rattle.verdict.proofs.heard.context_status.Goals as goal
 
 pub returns : goal.returns
 returns c =
-    status_is c.args.context.now c.requires (c.globals-all.ensures c.args.bytes.now) (c.arguments-given.ensures c.args.bytes.now) (c.locals-own.ensures c.args.bytes.now) c.check_context.ensures
+    status_is c.args.context.now c.requires c.globals-all.ensures c.arguments-given.ensures c.locals-own.ensures c.check_context.ensures

@@ -9,22 +9,22 @@ use Rattle.verdict.proofs.heard.hear.Goals as goal
 
 pub load_request-requires : goal.load_request-requires
 load_request-requires c =
-    (c.requires.1, omega (arith, c.globals.ensures c.args.bytes.now, (valid _ _ c.requires.0.module_is).few_globals))
+    (c.requires.1, omega (arith, c.globals.ensures, (valid _ _ c.requires.0.module_is).few_globals))
 
 pub context_status-requires : goal.context_status-requires
 context_status-requires c =
-    record { read = c.requires.0.module_is; there = function-there _ _ c.requires.0.module_is c.args.request.now c.args.context.now (c.functions-n.ensures c.args.bytes.now) (c.globals.ensures c.args.bytes.now) c.load_request.ensures c.in-Ok.is }
+    record { read = c.requires.0.module_is; there = function-there _ _ c.requires.0.module_is c.args.request.now c.args.context.now c.functions-n.ensures c.globals.ensures c.load_request.ensures c.in-Ok.is }
 
 pub returns-in_err-context_status : goal.returns-in_err-context_status
 returns-in_err-context_status c =
     let p = err_from_is_err_and c.from_residual.result c.from_residual.ensures.1 in
     rw (p.1, p.2)
-    (hears_refused _ _ c.requires.0.module_is c.args.request.now c.args.context.now (c.functions-n.ensures c.args.bytes.now) (c.globals.ensures c.args.bytes.now) c.load_request.ensures c.in-Ok.is (ap status (sym c.in_err-context_status.was) ∙ c.context_status.ensures))
+    (hears_refused _ _ c.requires.0.module_is c.args.request.now c.args.context.now c.functions-n.ensures c.globals.ensures c.load_request.ensures c.in-Ok.is (ap status (sym c.in_err-context_status.was) ∙ c.context_status.ensures))
 
 pub returns-in-Err : goal.returns-in-Err
 returns-in-Err c =
-    hears_first _ c.args.request.now c.args.context.now (c.functions-n.ensures c.args.bytes.now) (c.globals.ensures c.args.bytes.now) c.load_request.ensures c.in-Err.is c.refused_first.ensures
+    hears_first _ c.args.request.now c.args.context.now c.functions-n.ensures c.globals.ensures c.load_request.ensures c.in-Err.is c.refused_first.ensures
 
 pub returns : goal.returns
 returns c =
-    hears _ _ c.requires.0.module_is c.args.request.now c.args.context.now (c.functions-n.ensures c.args.bytes.now) (c.globals.ensures c.args.bytes.now) c.load_request.ensures c.in-Ok.is (ap status (sym c.in_ok-context_status.was) ∙ c.context_status.ensures) c.value_piece-value.ensures
+    hears _ _ c.requires.0.module_is c.args.request.now c.args.context.now c.functions-n.ensures c.globals.ensures c.load_request.ensures c.in-Ok.is (ap status (sym c.in_ok-context_status.was) ∙ c.context_status.ensures) c.value_piece-value.ensures
