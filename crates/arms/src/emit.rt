@@ -10,6 +10,7 @@ use state::answer::{Answer, Answered, Tally};
 use state::frame::Frame;
 
 // `Emit`, with its marks: which of its expressions have a record. It is required if any has.
+#[inline(never)]
 pub fn add_emit(
     file: &File,
     places: &[u32],

@@ -219,30 +219,20 @@ fn add_holder(
     requires le_kind { (1 ≤ row.kind) × (row.kind ≤ 4) }
     ensures { StatementEnds file.now.bytes file.now.t types.now places.now cells.old slots.old «open».old totals.old fr (marked (module_of file.now.bytes file.now.t) (frame_of cells.old slots.old fr) (add_statement (module_of file.now.bytes file.now.t) (add_function (module_of file.now.bytes file.now.t)) (block_in file.now.bytes file.now.t fr.function.0) (frame_of cells.old slots.old fr) (statement_of row.kind (operand_at file.now.bytes row)) (state_in file.now.bytes file.now.t cells.old slots.old «open».old totals.old fr.function.0 fr.at tally.visits))) (λ b. b) result cells.new slots.new «open».new totals.new }
 {
-    match StatementKind::try_from(row.kind) {
-        Ok(StatementKind::Block) => {
-            let r = add_nested(
-                file, types, places, cells, slots, open, totals, fr, b, row, tally,
-            );
-            return mark_statement(file, places, open, fr, row, r);
-        }
-        Ok(StatementKind::If) => {
-            let r = add_if(
-                file, types, places, cells, slots, open, totals, fr, b, row, tally,
-            );
-            return mark_statement(file, places, open, fr, row, r);
-        }
-        Ok(StatementKind::Switch) => {
-            let r = add_switch(
-                file, types, places, cells, slots, open, totals, fr, b, row, tally,
-            );
-            return mark_statement(file, places, open, fr, row, r);
-        }
-        _ => {}
-    }
-    let r = add_loop(
-        file, types, places, cells, slots, open, totals, fr, b, row, tally,
-    );
+    let r = match StatementKind::try_from(row.kind) {
+        Ok(StatementKind::Block) => add_nested(
+            file, types, places, cells, slots, open, totals, fr, b, row, tally,
+        ),
+        Ok(StatementKind::If) => add_if(
+            file, types, places, cells, slots, open, totals, fr, b, row, tally,
+        ),
+        Ok(StatementKind::Switch) => add_switch(
+            file, types, places, cells, slots, open, totals, fr, b, row, tally,
+        ),
+        _ => add_loop(
+            file, types, places, cells, slots, open, totals, fr, b, row, tally,
+        ),
+    };
     mark_statement(file, places, open, fr, row, r)
 }
 
@@ -453,6 +443,7 @@ pub fn add_switch(
 
 // `Loop`: the first pass, and the turns where it is required.
 #[cycle(walk)]
+#[inline(never)]
 pub fn add_loop(
     file: &File,
     types: &[u32],
@@ -563,6 +554,7 @@ fn add_turns(
 
 // `Call`, with its marks.
 #[cycle(walk)]
+#[inline(never)]
 pub fn add_call(
     file: &File,
     types: &[u32],

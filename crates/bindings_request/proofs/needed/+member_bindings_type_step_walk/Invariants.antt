@@ -7,13 +7,13 @@ use Rattle.bindings_request.proofs.Walking.{Left}
 use Rattle.bindings_request.proofs.needed.+member_bindings_type_step_walk.Given as goal
 
 abbrev pub invariant-type_step-loop-i : goal.invariant-type_step-loop-i
-invariant-type_step-loop-i l = Left (lower (types_of l.types) l.sets l.file.t.0) l.types l.file.t.0 (part_at l.context l.at l.depth) l.i l.r
+invariant-type_step-loop-i l = Left (lower (types_of l.types) l.sets l.t.0) l.types l.t.0 (part_at l.context l.at l.depth) l.i l.r
 
 abbrev pub decreases-member_bindings : goal.decreases-member_bindings
-decreases-member_bindings l = 3 * l.file.t.0 + 1
+decreases-member_bindings l = 3 * l.t.0 + 1
 
 abbrev pub decreases-type_step : goal.decreases-type_step
-decreases-type_step l = 3 * l.file.t.0 + 2
+decreases-type_step l = 3 * l.t.0 + 2
 
 abbrev pub decreases-walk : goal.decreases-walk
-decreases-walk l = 3 * l.file.t.0
+decreases-walk l = 3 * l.t.0

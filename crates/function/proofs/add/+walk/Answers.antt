@@ -17,6 +17,7 @@ use Rattle.std.proofs.Common.{rules}
 use native.Mathlib.Omega.{arith}
 use borrow.Author.Tests.{not-true, not-false}
 use Rattle.function.proofs.add.+walk.Goals as goal
+use Rattle.function.proofs.add.+walk.Goals.{add_holder-in-Ok-Block, add_holder-in-Ok-If, add_holder-in-Ok-Switch, add_holder-in_default}
 
 pub add_arm-returns : goal.add_arm-returns
 add_arm-returns t c = mark_ends c.requires c.mark_statement.ensures (leaf_ends c.requires _ c.add_leaf-r.ensures)
@@ -118,21 +119,15 @@ pub add_function-returns : goal.add_function-returns
 add_function-returns t c =
     function_ends c.requires.function_entered c.body_block-b.ensures c.args.here c.add_block.ensures c.in_ok-a.was c.add_total.ensures c.in_ok-tally.was
 
-pub add_holder-returns-in-Ok-Block : goal.add_holder-returns-in-Ok-Block
-add_holder-returns-in-Ok-Block t c =
-    mark_ends c.requires.arms c.mark_statement.ensures (nested_arm c.requires.arms (search rules) c.add_nested-r.ensures)
-
-pub add_holder-returns-in-Ok-If : goal.add_holder-returns-in-Ok-If
-add_holder-returns-in-Ok-If t c =
-    mark_ends c.requires.arms c.mark_statement-in-Ok-If.ensures (if_arm c.requires.arms (search rules) c.add_if-r.ensures)
-
-pub add_holder-returns-in-Ok-Switch : goal.add_holder-returns-in-Ok-Switch
-add_holder-returns-in-Ok-Switch t c =
-    mark_ends c.requires.arms c.mark_statement-in-Ok-Switch.ensures (switch_arm c.requires.arms (search rules) c.add_switch-r.ensures)
-
 pub add_holder-returns : goal.add_holder-returns
 add_holder-returns t c =
-    mark_ends c.requires.arms c.mark_statement-2.ensures (loop_arm c.requires.arms (search rules) c.add_loop-r.ensures)
+    mark_ends c.requires.arms c.mark_statement.ensures
+    (elim c.match-try_from.branch [
+      | add_holder-in-Ok-Block w ↦ rw (w.r-is, w.cells-is, w.slots-is, w.open-is, w.totals-is) (nested_arm c.requires.arms (search rules) w.add_nested-r.ensures)
+      | add_holder-in-Ok-If w ↦ rw (w.r-is, w.cells-is, w.slots-is, w.open-is, w.totals-is) (if_arm c.requires.arms (search rules) w.add_if-r.ensures)
+      | add_holder-in-Ok-Switch w ↦ rw (w.r-is, w.cells-is, w.slots-is, w.open-is, w.totals-is) (switch_arm c.requires.arms (search rules) w.add_switch-r.ensures)
+      | add_holder-in_default w ↦ rw (w.r-is, w.cells-is, w.slots-is, w.open-is, w.totals-is) (loop_arm c.requires.arms (search rules) w.add_loop-r.ensures)
+    ])
 
 pub add_if-weigh-requires : goal.add_if-weigh-requires
 add_if-weigh-requires t c =
