@@ -51,12 +51,16 @@ answers {a = a} {r} G e = record { is = e ∙ word_said r ∙ (rw G.is (word_tol
 pub was_read : (bytes t : List ℕ) {n : ℕ} → Reads bytes t n → n ≡ 0 → read_module bytes ≡ accepted (module_of bytes t)
 was_read bytes t R z = (R.accepts z).0
 
+-- the same of the value that was made of both
+pub file_was_read : {bytes t b s : List ℕ} {n : ℕ} → b ≡ bytes → s ≡ t → Reads bytes t n → n ≡ 0 → read_module b ≡ accepted (module_of b s)
+file_was_read e q R z = rw (e, q) (was_read _ _ R z)
+
 -- a file that is refused, and one that is read
 module _ (bytes : List ℕ) (k : Module → bindings.Answer (List ℕ)) {o : List ℕ} where
   pub file_refused : {n : Refusal} → read_module bytes ≡ refused (number n) → Gave o o (of_module (read_module bytes) k) (Err (refused_by n))
   unfolding of_module
   file_refused {n} h = gave_refused n (rw h)
 
-  pub file_read : {t types p : List ℕ} {r : Result ℕ Refused} → Tables bytes t types → Gave o p (k (module_of bytes t)) r → Gave o p (of_module (read_module bytes) k) r
+  pub file_read : {b t types p : List ℕ} {r : Result ℕ Refused} → b ≡ bytes → Tables b t types → Gave o p (k (module_of b t)) r → Gave o p (of_module (read_module bytes) k) r
   unfolding of_module
-  file_read T G = rw T.read G
+  file_read e T G = rw (← e, T.read) G

@@ -8,7 +8,6 @@ ghost use Rattle.context.specs.Types.{type_words};
 ghost use Rattle.bindings_request.specs.Boundary.{Gave};
 ghost use Rattle.boundary.specs.Answers.{Answers, add_answer};
 
-use access::file::File;
 use crate::answer::word_of;
 use crate::output::OUTPUT_WORDS;
 use crate::rows::read_rows;
@@ -37,11 +36,10 @@ fn add_of(
     requires cells_len_bound { (length cells.old ≤ store_words) × (cell_words * (5 + max_members * max_types + max_pieces) + table_words + 2 * (4 + 65535) ≤ length cells.old) }
     ensures { Gave out.old out.new (add_answer bytes.now (length out.old) b request.now) result }
 {
-    let rows = read_rows(bytes, t, seen, held, table)?;
-    let file = File::new(bytes, t);
+    let (file, rows) = read_rows(bytes, t, seen, held, table)?;
     check_length(request)?;
     let n = file.types() as usize;
-    add_binding_bytes(file, rows, cells, &mut parts[0..n], request, b, out)
+    add_binding_bytes(&file, rows, cells, &mut parts[0..n], request, b, out)
 }
 
 // Of any bytes, with room for whatever they say.

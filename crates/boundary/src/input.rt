@@ -7,7 +7,6 @@ ghost use Rattle.context.specs.Types.{type_words};
 ghost use Rattle.bindings_request.specs.Boundary.{Gave};
 ghost use Rattle.boundary.specs.Answers.{Answers, input_answer};
 
-use access::file::File;
 use crate::answer::word_of;
 use crate::rows::read_rows;
 use access::whole::Bound;
@@ -32,10 +31,9 @@ fn input_of(
     requires max_types_in_bounds { (type_words * max_types ≤ length table.old) × ((max_types ≤ length sets.old) × (max_arguments ≤ length args.old)) }
     ensures { Gave out.old out.new (input_answer bytes.now (length out.old) f.0 context.now) result }
 {
-    let rows = read_rows(bytes, t, seen, held, table)?;
-    let file = File::new(bytes, t);
+    let (file, rows) = read_rows(bytes, t, seen, held, table)?;
     let n = file.types() as usize;
-    input_to_bindings_bytes(file, rows, &mut sets[0..n], args, f, context, out)
+    input_to_bindings_bytes(&file, rows, &mut sets[0..n], args, f, context, out)
 }
 
 // Of any bytes, with room for whatever they say.

@@ -8,7 +8,6 @@ ghost use Rattle.context.specs.Types.{type_words};
 ghost use Rattle.bindings_request.specs.Boundary.{Gave};
 ghost use Rattle.boundary.specs.Answers.{Answers, output_answer};
 
-use access::file::File;
 use crate::answer::word_of;
 use crate::rows::read_rows;
 use bindings_request::answer::Refused;
@@ -39,10 +38,9 @@ fn output_of(
     requires cells_len_bound { (length cells.old ≤ store_words) × (cell_words * (5 + max_members * max_types + max_pieces) + table_words ≤ length cells.old) }
     ensures { Gave out.old out.new (output_answer bytes.now (length out.old) f.0 list.now) result }
 {
-    let rows = read_rows(bytes, t, seen, held, table)?;
-    let file = File::new(bytes, t);
+    let (file, rows) = read_rows(bytes, t, seen, held, table)?;
     let n = file.types() as usize;
-    output_from_bindings_bytes(file, rows, cells, &mut parts[0..n], f, list, out)
+    output_from_bindings_bytes(&file, rows, cells, &mut parts[0..n], f, list, out)
 }
 
 // Of any bytes, with room for whatever they say.

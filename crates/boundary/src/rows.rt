@@ -1,4 +1,4 @@
-// A module file read, with a row for each of its types: what each operation on bindings begins with.
+// A module file that is read, with a row for each of its types: what each operation on bindings begins with.
 ghost use Rattle.std.specs.Prelude.{◌*◌, ◌≤◌, length};
 ghost use Rattle.field.specs.Limits.{max_types};
 ghost use Rattle.module.specs.Scan.{values};
@@ -12,22 +12,22 @@ use field::refusal::Refusal;
 use reading::read::read;
 use type_table::fill;
 
-// The rows of its types, or what refuses the file.
+// The module and the rows of its types, or what refuses the file.
 pub fn read_rows<'a>(
-    bytes: &[u8],
-    t: &mut [u32],
+    bytes: &'a [u8],
+    t: &'a mut [u32],
     seen: &mut [u32],
     held: &mut [u32],
     table: &'a mut [u32],
-) -> Result<&'a [u32], Refusal>
+) -> Result<(File<'a>, &'a [u32]), Refusal>
     requires words_in_bounds { (words ≤ length t.old) × ((values ≤ length seen.old) × (max_items ≤ length held.old)) }
     requires table_len { type_words * max_types ≤ length table.old }
-    ensures { RowsRead bytes.now t.new result }
+    ensures { RowsRead bytes.now result }
 {
     read(bytes, t, seen, held)?;
     let file = File::new(bytes, t);
     let e = TYPE_WORDS * (file.types() as usize);
     let rows = &mut table[0..e];
     fill(&file, rows);
-    Ok(rows)
+    Ok((file, rows))
 }

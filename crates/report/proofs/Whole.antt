@@ -38,43 +38,38 @@ module _ (input : List ℕ) {at : ℕ} (e : at ≡ module_bytes input 0) where
   pub split_inside : at ≤ length input
   split_inside = omega (arith, within input 0)
 
-  front : take (at - 0) input ≡ module_in input
-  front = rw (sub-zero at, e)
+  pub front_is : take (at - 0) input ≡ module_in input
+  front_is = rw (sub-zero at, e)
 
-  back : take (length input - at) (drop at input) ≡ request_in input
-  back = take_all (length input - at) (drop at input) (omega (arith, length-drop at input)) ∙ rw e
+  pub behind_is : take (length input - at) (drop at input) ≡ request_in input
+  behind_is = take_all (length input - at) (drop at input) (omega (arith, length-drop at input)) ∙ rw e
 
-  pub front_read : {t : List ℕ} {n : ℕ} → Reads (take (at - 0) input) t n → Reads (module_in input) t n
-  front_read R = rw (← front) R
-
-  module _ {t : List ℕ} (w : WasRead (module_in input) t) where
-    pub input-read : WasRead (take (at - 0) input) t
-    input-read = rw front w
-
-    pub input-walked : {places s rs open_marks : List ℕ} {r : Result Reported Refusal}
-        → TextIs (request_text (module_of (take (at - 0) input) t) (read_request (module_of (take (at - 0) input) t) min_report (take (length input - at) (drop at input)))) (take (at - 0) input) t (take (length input - at) (drop at input)) places s rs open_marks r
-        → TextIs (report_input input) (module_in input) t (request_in input) places s rs open_marks r
-    unfolding report_input module_text
-    input-walked {places} {s} {rs} {open_marks} {r} T = rw w.module_is (rw (front, back) at T)
+-- the request of a module that was read, both as the code has them
+module _ (input : List ℕ) {b t asked : List ℕ} (e : b ≡ module_in input) (q : asked ≡ request_in input) where
+  pub input-walked : {places s rs open_marks : List ℕ} {r : Result Reported Refusal} → WasRead b t
+      → TextIs (request_text (module_of b t) (read_request (module_of b t) min_report asked)) b t asked places s rs open_marks r
+      → TextIs (report_input input) b t (request_in input) places s rs open_marks r
+  unfolding report_input module_text
+  input-walked w T = rw (← e, w.module_is) (rw q at T)
 
 -- what a front of a list has room for
 pub front_long : (xs : List ℕ) (n : ℕ) → n ≤ length xs → n ≤ length (take (n - 0) xs)
 front_long xs n l = rw (sub-zero n, length-take n xs) (omega (arith, l))
 
-pub input-refused : (input : List ℕ) {t places s rs open_marks : List ℕ} {e : Refusal} → Reads (module_in input) t (number e)
-    → TextIs (report_input input) (module_in input) t (request_in input) places s rs open_marks (Err e)
+pub input-refused : (input : List ℕ) {t b u places s rs open_marks : List ℕ} {e : Refusal} → Reads (module_in input) t (number e)
+    → TextIs (report_input input) b u (request_in input) places s rs open_marks (Err e)
 unfolding report_input module_text
 input-refused input {e = e} R = record { by = rw (R.refuses (some_number e)) }
 
-pub was_read : (input : List ℕ) {t : List ℕ} {n : ℕ} → Reads (module_in input) t n → n ≡ 0 → WasRead (module_in input) t
-was_read input R z = record { module_is = (R.accepts z).0; laid = (R.accepts z).1 }
+pub was_read : {bytes t : List ℕ} {n : ℕ} → Reads bytes t n → n ≡ 0 → WasRead bytes t
+was_read R z = record { module_is = (R.accepts z).0; laid = (R.accepts z).1 }
 
 -- the text is written
 module _ {text bytes t asked-bytes places s rs open_marks : List ℕ} {a : Result Reported Refusal} (T : TextIs text bytes t asked-bytes places s rs open_marks a) where
   pub wrote_refused : {before after : List ℕ} {e : Refusal} {r : ℕ} → a ≡ Err e → Front before after (refused_text (number e)) r → Front before after text r
   wrote_refused {e = e} z F = let is : text ≡ refused_text (number e) = rw z at T.by in rw is F
 
-  reported : {f : Handle} {required : Bool} → a ≡ Ok (record { function = f; required = required }) → Shows text bytes t asked-bytes places s rs open_marks f.0 required
+  pub reported : {f : Handle} {required : Bool} → a ≡ Ok (record { function = f; required = required }) → Shows text bytes t asked-bytes places s rs open_marks f.0 required
   reported e = rw e at T.by
 
 -- a text behind a text
@@ -118,8 +113,3 @@ module _ {text bytes t asked-bytes places s rs open_marks : List ℕ} {f : ℕ} 
 
       pub wrote_whole : {after : List ℕ} {r : ℕ} → max_text + max_line ≤ length before → Wrote between after n (check_line (said v)) r → Front before after text r
       wrote_whole room W = rw whole (front-then F W (omega (arith, line_long (said v) C.roomy, text_long S.reporting required)))
-
-module _ (input : List ℕ) {at : ℕ} (split : at ≡ module_bytes input 0) {text t places s rs open_marks : List ℕ} {a : Result Reported Refusal} (T : TextIs text (module_in input) t (request_in input) places s rs open_marks a)
-    {f : Handle} {required : Bool} (e : a ≡ Ok (record { function = f; required = required })) where
-  pub text-shows : Shows text (take (at - 0) input) t (take (length input - at) (drop at input)) places s rs open_marks f.0 required
-  text-shows = rw (front input split, back input split) (reported T e)

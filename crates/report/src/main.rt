@@ -5,11 +5,11 @@ mod outcome;
 mod text;
 
 ghost use Rattle.std.specs.Prelude.{◌≡◌, ◌≤◌, length, take};
-ghost use Rattle.report_text.specs.Split.{module_in, request_in};
+ghost use Rattle.report_text.specs.Split.{request_in};
 ghost use Rattle.report_text.specs.Input.{max_input, report_input};
 ghost use Rattle.report.specs.Outcome.{TextIs};
 
-use crate::outcome::{Outcome, read_front, walk_input};
+use crate::outcome::{Outcome, behind, front, read_front, walk_read};
 use crate::text::write_text;
 use access::file::File;
 use check_text::line::MAX_LINE;
@@ -63,7 +63,7 @@ fn print(
     open: &[u8],
     outcome: Outcome,
 ) -> io::Result<()>
-    requires { TextIs (report_input input.now) (module_in input.now) file.now.t (request_in input.now) places.now cells.old slots.old «open».now outcome }
+    requires { TextIs (report_input input.now) file.now.bytes file.now.t (request_in input.now) places.now cells.old slots.old «open».now outcome }
 {
     let mut text: [u8; MAX_TEXT + MAX_LINE] = [0; MAX_TEXT + MAX_LINE];
     let n = write_text(&mut text, input, file, places, cells, slots, open, outcome);
@@ -79,11 +79,13 @@ fn answer(
     slots: &mut [u32; SLOTS],
     open: &mut [u8; MIN_REPORT],
 ) -> io::Result<()> {
-    if let Err(refusal) = read_front(input, t, cells, slots) {
-        return print(rt, input, file, places, cells, slots, open, Err(refusal));
+    let read = read_front(input, t, cells, slots);
+    let file = File::new(front(input), t);
+    if let Err(refusal) = read {
+        return print(rt, input, &file, places, cells, slots, open, Err(refusal));
     }
-    let outcome = walk_input(input, file, places, cells, slots, open);
-    print(rt, input, file, places, cells, slots, open, outcome)
+    let outcome = walk_read(&file, places, cells, slots, open, behind(input));
+    print(rt, input, &file, places, cells, slots, open, outcome)
 }
 
 fn report(rt: &impl Print, input: &[u8]) -> io::Result<()> {

@@ -9,7 +9,7 @@ ghost use Rattle.request.specs.Request.{read_request};
 ghost use Rattle.reading.specs.Reads.{Reads};
 ghost use Rattle.state.specs.Ready.{WasRead};
 ghost use Rattle.report_text.specs.Split.{module_in, request_in};
-ghost use Rattle.report_text.specs.Input.{request_text, report_input};
+ghost use Rattle.report_text.specs.Input.{request_text};
 ghost use Rattle.report.specs.Outcome.{TextIs, Asked, Walked};
 
 use access::file::File;
@@ -113,8 +113,8 @@ fn walk_request(
     )
 }
 
-// The request of a module that was read.
-fn walk_read(
+// The request of a module that was read, asked of a fresh pruner.
+pub fn walk_read(
     file: &File,
     places: &mut [u32; PLACES],
     cells: &mut [u32; CELLS],
@@ -141,7 +141,24 @@ fn walk_read(
     )
 }
 
-// The module in front of the request. The walk's memory is room for its reading.
+// The module of an input, in front of the request.
+pub fn front(input: &[u8]) -> &[u8]
+    ensures { result.now ≡ module_in input.now }
+{
+    let at = split(input);
+    &input[0..at]
+}
+
+// The request, behind the module.
+pub fn behind(input: &[u8]) -> &[u8]
+    ensures { result.now ≡ request_in input.now }
+{
+    let n = input.len();
+    let at = split(input);
+    &input[at..n]
+}
+
+// Reads the module. The walk's memory is room for its reading.
 pub fn read_front(
     input: &[u8],
     t: &mut [u32],
@@ -152,23 +169,5 @@ pub fn read_front(
     requires values_in_bounds { (values ≤ length cells.old) × (max_items ≤ length slots.old) }
     ensures { Reads (module_in input.now) t.new (number_of result) }
 {
-    let at = split(input);
-    read(&input[0..at], t, &mut cells[0..SEEN], &mut slots[0..HELD])
-}
-
-// The request behind a module that was read, asked of a fresh pruner.
-pub fn walk_input(
-    input: &[u8],
-    file: &File,
-    places: &mut [u32; PLACES],
-    cells: &mut [u32; CELLS],
-    slots: &mut [u32; SLOTS],
-    open: &mut [u8; MIN_REPORT],
-) -> Outcome
-    requires { WasRead (module_in input.now) file.now.t }
-    ensures { TextIs (report_input input.now) (module_in input.now) file.now.t (request_in input.now) places.new cells.new slots.new «open».new result }
-{
-    let n = input.len();
-    let at = split(input);
-    walk_read(file, places, cells, slots, open, &input[at..n])
+    read(front(input), t, &mut cells[0..SEEN], &mut slots[0..HELD])
 }

@@ -2,18 +2,17 @@
 ghost use Rattle.std.specs.Prelude.{◌+◌, ◌≤◌, length};
 ghost use Rattle.lines.specs.Reported.{max_text};
 ghost use Rattle.lines.specs.Wrote.{Front};
-ghost use Rattle.report_text.specs.Split.{module_in, request_in};
+ghost use Rattle.report_text.specs.Split.{request_in};
 ghost use Rattle.report_text.specs.Input.{report_input};
 ghost use Rattle.check_text.specs.Checked.{max_line};
 ghost use Rattle.report.specs.Outcome.{TextIs};
 
-use crate::outcome::Outcome;
+use crate::outcome::{Outcome, behind};
 use access::file::File;
 use check_text::check::check_report;
 use check_text::line::write_check;
 use lines::report::{write_refused, write_report_text};
 use memory::layout::{CELLS, SLOTS, STACK};
-use report_text::split::split;
 
 // What `report` prints for the input, from what its walk has left; the answer is how long it is. The check comes last: it works in the walk's memory.
 pub fn write_text(
@@ -26,15 +25,13 @@ pub fn write_text(
     open: &[u8],
     outcome: Outcome,
 ) -> usize
-    requires text_is { TextIs (report_input input.now) (module_in input.now) file.now.t (request_in input.now) places.now cells.old slots.old «open».now outcome }
+    requires text_is { TextIs (report_input input.now) file.now.bytes file.now.t (request_in input.now) places.now cells.old slots.old «open».now outcome }
     requires max_line_in_bounds { max_text + max_line ≤ length out.old }
     ensures { Front out.old out.new (report_input input.now) result }
 {
     match outcome {
         Err(refusal) => write_refused(out, u32::from(refusal)),
         Ok(reported) => {
-            let n = input.len();
-            let at = split(input);
             let k = STACK + 4;
             let end = write_report_text(
                 out,
@@ -47,7 +44,7 @@ pub fn write_text(
                 k,
                 reported.required,
             );
-            let verdict = check_report(file, cells, slots, open, k, &input[at..n]);
+            let verdict = check_report(file, cells, slots, open, k, behind(input));
             write_check(out, end, verdict)
         }
     }

@@ -3,7 +3,7 @@ use Rattle.std.proofs.lemmas.Result.{err_from_is_err_and}
 use native.Mathlib.Omega.{arith}
 use mathlib.Core.Path.{refl}
 use Rattle.field.proofs.Refusals.{some_number}
-use Rattle.boundary.proofs.Answers.{was_read}
+use Rattle.boundary.proofs.Answers.{file_was_read}
 use Rattle.boundary.proofs.Types.{types-few, fill_asks, rows_part, tables}
 use Rattle.boundary.proofs.rows.read_rows.Goals as goal
 
@@ -14,13 +14,14 @@ returns-in_err-read c =
 
 pub slice_bounds-table-end : goal.slice_bounds-table-end
 slice_bounds-table-end c =
-    omega (arith, c.requires.table_len, c.types.ensures c.args.bytes.now, types-few _ _ (was_read _ _ c.in_ok-read.ensures refl))
+    omega (arith, c.requires.table_len, c.types.ensures, types-few _ _ (file_was_read c.new-file.ensures.bytes c.new-file.ensures.tables c.in_ok-read.ensures refl))
 
 pub fill-requires : goal.fill-requires
 fill-requires c =
-    let was = was_read _ _ c.in_ok-read.ensures refl in
-    let q9 = fill_asks c.args.bytes.now _ was (rows_part _ _ was (c.types.ensures c.args.bytes.now) _ c.requires.table_len) in
+    let was = file_was_read c.new-file.ensures.bytes c.new-file.ensures.tables c.in_ok-read.ensures refl in
+    let q9 = fill_asks _ _ was (rows_part _ _ was c.types.ensures _ c.requires.table_len) in
     record { table_len = q9.0; table_len_bound = q9.1.0; all_sized = q9.1.1 }
 
 pub returns : goal.returns
-returns c = tables _ _ (was_read _ _ c.in_ok-read.ensures refl) _ c.fill.ensures
+returns c =
+    (c.new-file.ensures.bytes, tables _ _ (file_was_read c.new-file.ensures.bytes c.new-file.ensures.tables c.in_ok-read.ensures refl) _ c.fill.ensures)

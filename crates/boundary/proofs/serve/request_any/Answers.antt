@@ -8,7 +8,8 @@ returns-in-Err c =
     requests_refused c.in-Err.ensures c.in-Err.refusal refl (rw c.nowhere.ensures at c.reply_word.ensures)
 
 pub request_in-requires : goal.request_in-requires
-request_in-requires c = file_read c.in_default.ensures refl
+request_in-requires c = rw (c.new.ensures.bytes, c.new.ensures.tables) (file_read c.in_default.ensures refl)
 
 pub returns : goal.returns
-returns c = requests_of c.in_default.ensures refl c.request_in.ensures
+returns c =
+    requests_of c.in_default.ensures refl (rw (c.new.ensures.bytes, c.new.ensures.tables) at c.request_in.ensures)

@@ -13,8 +13,8 @@ returns-in-Err c =
     file_refused c.in-Err.ensures c.args.request.now c.args.report.now c.args.context.now (some_number _)
 
 pub check_in-requires : goal.check_in-requires
-check_in-requires c = file_read c.in_default.ensures refl
+check_in-requires c = rw (c.new.ensures.bytes, c.new.ensures.tables) (file_read c.in_default.ensures refl)
 
 pub returns : goal.returns
 returns c =
-    file_checked c.in_default.ensures c.args.request.now c.args.report.now c.args.context.now refl c.check_in.ensures
+    file_checked c.in_default.ensures c.args.request.now c.args.report.now c.args.context.now refl (rw (c.new.ensures.bytes, c.new.ensures.tables) at c.check_in.ensures)
