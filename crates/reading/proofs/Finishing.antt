@@ -1,5 +1,5 @@
 -- The end of a file: its last function ends, and the answer is the definition's.
-use mathlib.Core.Path.{◌≡◌, refl, sym, ap, subst, ◌∙◌}
+use mathlib.Core.Path.{◌≡◌, refl, sym, subst, ◌∙◌}
 use mathlib.Core.Bool.{Bool, true, false}
 use mathlib.Core.List.{List}
 use Prim.Native.Nat.{ℕ, ◌<◌, ◌≤◌}
@@ -12,7 +12,7 @@ use Rattle.module.specs.File.{ended, Answer, refused, answer_of, read_module}
 use Rattle.module.specs.Tables.{reading_of}
 use Rattle.std.specs.Prelude.{Result, Ok, Err}
 use Rattle.field.specs.declared.refusal.Refusal.{Refusal}
-use Rattle.field.specs.declared.refusal.Refusal.TheVariants.{ModuleTooLong, ValueNotAllowed}
+use Rattle.field.specs.declared.refusal.Refusal.TheVariants.{ValueNotAllowed}
 use Rattle.field.specs.Refusal.{number}
 use Rattle.reading.specs.Progress.{Used, Progress}
 use Rattle.reading.specs.Ends.{next_of, step_by, is_open, rule_of, step_ended, table_ended}

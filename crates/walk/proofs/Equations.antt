@@ -3,7 +3,6 @@ use mathlib.Core.Path.{◌≡◌, refl, sym, ap, ◌∙◌, fun_ext}
 use mathlib.Core.List.{List, [], ◌∷◌, ◌++◌}
 use mathlib.Core.Option.{some, none as nothing, none-ne-some, some-injective}
 use lib.ListN.{get_elem?, drop}
-use Rattle.context.specs.Swizzle.{asks}
 use Rattle.walk.specs.Lower.{LowerExpression}
 use Prim.Native.Nat.{ℕ, zero, suc}
 use Rattle.part.specs.PartReq.{PartReq, get_subpart}

@@ -14,7 +14,6 @@ use Rattle.context.specs.Remove.{Removed, left, panic, remove}
 use Rattle.context.proofs.Removal.{Left}
 use Rattle.walk.specs.State.{Records, FunctionReq}
 use Rattle.walk.specs.Resolve.{function_at, store_required}
-use Rattle.walk.specs.Expression.{with_locals}
 use Rattle.walk.specs.StatementReq.{StatementReq, mark, marks_of, own_marks}
 use Rattle.walk.specs.Marks.{stretch, write_marks, add_mark, add_marks}
 use Rattle.walk.specs.Statement.{retval_of}

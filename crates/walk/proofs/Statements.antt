@@ -10,7 +10,7 @@ use Rattle.field.specs.Limits.{max_turns}
 use Rattle.part.specs.PartReq.{PartReq, all, exist, none, Subpart, gone, there, get_subpart}
 use Rattle.module.specs.Module.{ExpressionHandle, FunctionHandle, BlockHandle, Module, GatherMode, BroadcastFirst, Broadcast, SwitchCase, Statement, Emit, Block, If, Switch, Loop, Break, Continue, Return, Kill, ControlBarrier, MemoryBarrier, ImageAtomic, Store, AtomicStatement, Call, ImageStore, RayQuery, WorkGroupUniformLoad, SubgroupBallot, SubgroupGather, SubgroupCollectiveOperation}
 use Rattle.context.specs.RequiredContext.{RequiredContext, merge_context, contains_context, pieces, variable, VarRef, RemovedContext, left_context, panic_context, remove_var}
-use Rattle.walk.specs.State.{Records, State, Place, went, Walk, ◌>>=◌, ◌>>◌, visited, with_context, with_marks, record_pieces, count}
+use Rattle.walk.specs.State.{Records, State, Place, went, Walk, ◌>>=◌, ◌>>◌, visited, with_context, with_marks, record_pieces}
 use Rattle.walk.specs.Resolve.{function_at, VarRefPart, resolved, unresolved, resolve_var, store_required, is_there}
 use Rattle.walk.specs.StatementReq.{StatementReq, required, own_marks}
 use Rattle.module.specs.Marks.{marks_before}

@@ -1,5 +1,4 @@
 -- `report_text::split::split` meets its contract. Up to `at` there is no request.
-use Prim.Native.Nat.{◌-◌}
 use Rattle.report_text.proofs.Splitting.{passed_none, passed_found, passed_end, passed_cut, passed_next}
 use native.Mathlib.Omega.{arith}
 use Rattle.report_text.proofs.split.split.Goals as goal
