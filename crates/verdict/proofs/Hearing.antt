@@ -42,7 +42,6 @@ use Rattle.valid.specs.There.{There}
 use Rattle.checking.proofs.Meaning as meaning
 use Rattle.rounds.specs.Settling.{asked_by}
 use Rattle.verdict.specs.Heard.{Store, Pieces, Loaded, ValuePiece, refused_first, Accepted, Hears}
-use Rattle.verdict.specs.declared.heard.Heard.{Heard}
 
 -- the piece of the value
 pub value_piece : (o : Maybe ℕ) → ValuePiece o (unwrap_or o 2)
