@@ -22,6 +22,7 @@ use Rattle.place.specs.Target.{Pointer}
 use Rattle.standing.specs.Slots.{Ready}
 use Rattle.standing.specs.Standing.{Stepped}
 use Rattle.standing.specs.World.{World}
+use Rattle.judge.specs.declared.subject.Subject.{Subject}
 
 -- what an act is given: slots for what it asks, and a path that its place fits
 pub record ActGiven (bytes t : List ℕ) (f : ℕ) (types alike paths s rs path : List ℕ) (n : ℕ) : Type 0 where
@@ -29,6 +30,9 @@ pub record ActGiven (bytes t : List ℕ) (f : ℕ) (types alike paths s rs path 
   pub ready : Ready (scope_at bytes t f) s rs n
   pub spare : n + 6 ≤ length rs
   pub room : length (function_of bytes t f).expressions + 2 ≤ length path
+
+abbrev pub ActGivenOf : Subject → List ℕ → List ℕ → List ℕ → ℕ → Type 0
+ActGivenOf j s rs path n = ActGiven j.file.now.bytes j.file.now.t j.f.0 j.types.now j.alike.now j.paths.now s rs path n
 
 -- a store of the function that fits
 pub record StoreOf (S : Scope) (p v : ExpressionHandle) : Type 0 where

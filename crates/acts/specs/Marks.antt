@@ -10,6 +10,7 @@ use Rattle.standing.specs.Standing.{Targets, inside, Walked}
 use Rattle.standing.specs.World.{World}
 use Rattle.standing.specs.declared.passing.Passing.{Passing}
 use Rattle.standing.specs.Exits.{Exits}
+use Rattle.judge.specs.declared.subject.Subject.{Subject}
 
 -- the statement l; a copy of the needs at hand takes one slot more than an act
 pub record PassGiven (bytes t : List ℕ) (f : ℕ) (types alike paths s rs path : List ℕ) (n : ℕ) (p : Passing) (l : ℕ) : Type 0 where
@@ -19,6 +20,9 @@ pub record PassGiven (bytes t : List ℕ) (f : ℕ) (types alike paths s rs path
   pub spare : n + 7 ≤ length rs
   pub room : length (function_of bytes t f).expressions + 2 ≤ length path
   pub low : l < absent
+
+abbrev pub PassGivenOf : Subject → List ℕ → List ℕ → List ℕ → ℕ → Passing → ℕ → Type 0
+PassGivenOf j s rs path n p l = PassGiven j.file.now.bytes j.file.now.t j.f.0 j.types.now j.alike.now j.paths.now s rs path n p l
 
 -- the act x of the statement l, with the mark m, whatever the mark's position and the exits; a lent path is as long as it was
 pub record ByMark (S : Scope) (l : ℕ) (m : Bool) (x : Act) (s rs : List ℕ) (n : ℕ) (p : Passing) (t us before after : List ℕ) (q : Passing) : Type 0 where

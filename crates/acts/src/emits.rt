@@ -1,18 +1,17 @@
 // An emit: what is needed of the expression is taken out, and its operands are asked. The expressions of an emit are passed from the last to the first, each with its mark.
 ghost use Rattle.std.specs.Prelude.{◌≡◌, ◌+◌, ◌-◌, ◌<◌, ◌≤◌, length};
 ghost use Rattle.module.specs.Marks.{marks_before};
-ghost use Rattle.module.specs.Tables.{function_of};
 ghost use Rattle.clearance.specs.Tree.{emit};
-ghost use Rattle.judge.specs.Given.{scope_at};
-ghost use Rattle.acts.specs.Acts.{ActGiven, Acted};
-ghost use Rattle.acts.specs.Marks.{PassGiven, ByMark, EmitsPassed};
+ghost use Rattle.acts.specs.Acts.{ActGivenOf, Acted};
+ghost use Rattle.acts.specs.Marks.{PassGivenOf, ByMark, EmitsPassed};
+ghost use Rattle.judge.specs.Subject.{scope_of, function_in};
 
 use crate::marks::mark_at;
 use crate::take::take_out;
-use access::file::File;
 use ends::notes::{blame, note};
 use hold::hold::copy;
-use module::handles::{ExpressionHandle, FunctionHandle};
+use judge::subject::Subject;
+use module::handles::ExpressionHandle;
 use operands::expression::ask_operands;
 use place::slots::evaluated_path;
 use quiet::acts::{emit_idle, emit_overlap, is_some};
@@ -20,36 +19,41 @@ use standing::passing::{Passing, filled};
 
 // The needs before an emit of the expression e. Its operands are lent as much of the path as the function's pointers take. Says whether the needs are within the bound.
 pub fn act_emit(
-    file: &File,
-    f: FunctionHandle,
-    types: &[u32],
-    alike: &[u32],
-    paths: &[u32],
+    subject: &Subject,
     cells: &mut [u32],
     roots: &mut [u32],
     path: &mut [u32],
     n: usize,
     e: ExpressionHandle,
 ) -> bool
-    requires act_given { ActGiven file.now.bytes file.now.t f.0 types.now alike.now paths.now cells.old roots.old path.old n }
-    requires e_in_bounds { e.0 < length (function_of file.now.bytes file.now.t f.0).expressions }
-    ensures { Acted (scope_at file.now.bytes file.now.t f.0) (emit e.0) cells.old roots.old n cells.new roots.new path.old path.new result }
+    requires act_given { ActGivenOf subject.now cells.old roots.old path.old n }
+    requires e_in_bounds { e.0 < length (function_in subject.now).expressions }
+    ensures { Acted (scope_of subject.now) (emit e.0) cells.old roots.old n cells.new roots.new path.old path.new result }
 {
     let last = n - 1;
     let left = n + 1;
     let asked = n + 2;
     let hand = roots[last];
-    let a = emit_overlap(file, f, types, alike, paths, cells, path, hand, e);
+    let a = emit_overlap(subject, cells, path, hand, e);
     if !is_some(a) {
         return true;
     }
     evaluated_path(path, e);
-    if !take_out(file, f, types, cells, roots, n, &path[0..2], a) {
+    if !take_out(
+        subject.file,
+        subject.f,
+        subject.types,
+        cells,
+        roots,
+        n,
+        &path[0..2],
+        a,
+    ) {
         return false;
     }
-    let size = (file.expressions(f) as usize) + 2;
+    let size = (subject.file.expressions(subject.f) as usize) + 2;
     let part = &mut path[..size];
-    if !ask_operands(file, f, types, alike, paths, cells, roots, part, asked, e) {
+    if !ask_operands(subject, cells, roots, part, asked, e) {
         return false;
     }
     copy(roots, left, last);
@@ -59,11 +63,7 @@ pub fn act_emit(
 // Stays: a store does the same around its own act. One function over both would take the act apart twice, each time in one more function with all these parameters.
 // The expression e of the emit l, in a pass.
 fn pass_emit(
-    file: &File,
-    f: FunctionHandle,
-    types: &[u32],
-    alike: &[u32],
-    paths: &[u32],
+    subject: &Subject,
     cells: &mut [u32],
     roots: &mut [u32],
     path: &mut [u32],
@@ -73,24 +73,24 @@ fn pass_emit(
     marked: bool,
     e: ExpressionHandle,
 ) -> Passing
-    requires pass_given { PassGiven file.now.bytes file.now.t f.0 types.now alike.now paths.now cells.old roots.old path.old n p l }
-    requires e_in_bounds { e.0 < length (function_of file.now.bytes file.now.t f.0).expressions }
-    ensures { ByMark (scope_at file.now.bytes file.now.t f.0) l marked (emit e.0) cells.old roots.old n p cells.new roots.new path.old path.new result }
+    requires pass_given { PassGivenOf subject.now cells.old roots.old path.old n p l }
+    requires e_in_bounds { e.0 < length (function_in subject.now).expressions }
+    ensures { ByMark (scope_of subject.now) l marked (emit e.0) cells.old roots.old n p cells.new roots.new path.old path.new result }
 {
     let last = n - 1;
     let above = n + 1;
     if marked {
-        if act_emit(file, f, types, alike, paths, cells, roots, path, n, e) {
+        if act_emit(subject, cells, roots, path, n, e) {
             return p;
         }
         return filled();
     }
     let hand = roots[last];
-    if emit_idle(file, f, types, alike, paths, cells, path, hand, e) {
+    if emit_idle(subject, cells, path, hand, e) {
         return p;
     }
     copy(roots, last, n);
-    if !act_emit(file, f, types, alike, paths, cells, roots, path, above, e) {
+    if !act_emit(subject, cells, roots, path, above, e) {
         return filled();
     }
     copy(roots, n, last);
@@ -99,11 +99,7 @@ fn pass_emit(
 
 // The statement l, an emit of the expressions from the first to the last, whose marks begin at `begin`, in a pass.
 pub fn pass_emits(
-    file: &File,
-    f: FunctionHandle,
-    types: &[u32],
-    alike: &[u32],
-    paths: &[u32],
+    subject: &Subject,
     marks: &[u8],
     cells: &mut [u32],
     roots: &mut [u32],
@@ -115,10 +111,10 @@ pub fn pass_emits(
     first: ExpressionHandle,
     last: ExpressionHandle,
 ) -> Passing
-    requires pass_given { PassGiven file.now.bytes file.now.t f.0 types.now alike.now paths.now cells.old roots.old path.old n p l }
-    requires begin_value { begin ≡ marks_before (function_of file.now.bytes file.now.t f.0).statements l }
-    requires last_in_bounds { last.0 < length (function_of file.now.bytes file.now.t f.0).expressions }
-    ensures { EmitsPassed (scope_at file.now.bytes file.now.t f.0) marks.now l first.0 last.0 cells.old roots.old n p cells.new roots.new path.old path.new result }
+    requires pass_given { PassGivenOf subject.now cells.old roots.old path.old n p l }
+    requires begin_value { begin ≡ marks_before (function_in subject.now).statements l }
+    requires last_in_bounds { last.0 < length (function_in subject.now).expressions }
+    ensures { EmitsPassed (scope_of subject.now) marks.now l first.0 last.0 cells.old roots.old n p cells.new roots.new path.old path.new result }
 {
     let mut q = p;
     let count = (last.0 + 1).saturating_sub(first.0);
@@ -126,9 +122,7 @@ pub fn pass_emits(
         let at = note(cells, roots, n, q);
         let marked = mark_at(marks, (begin as usize) + (k as usize));
         let e = ExpressionHandle(first.0 + k);
-        q = pass_emit(
-            file, f, types, alike, paths, cells, roots, path, n, at, l, marked, e,
-        );
+        q = pass_emit(subject, cells, roots, path, n, at, l, marked, e);
         if q.full {
             return q;
         }

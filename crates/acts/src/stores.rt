@@ -7,14 +7,16 @@ ghost use Rattle.judge.specs.Given.{scope_at};
 ghost use Rattle.hold.specs.Hold.{in_slot};
 ghost use Rattle.place.specs.Steps.{indexes_of};
 ghost use Rattle.standing.specs.Standing.{Stepped};
-ghost use Rattle.acts.specs.Acts.{ActGiven, StoreOf, leaving, Acted, PlaceGiven, SomewhereGiven};
-ghost use Rattle.acts.specs.Marks.{PassGiven, ByMark};
+ghost use Rattle.acts.specs.Acts.{ActGivenOf, StoreOf, leaving, Acted, PlaceGiven, SomewhereGiven};
+ghost use Rattle.acts.specs.Marks.{PassGivenOf, ByMark};
+ghost use Rattle.judge.specs.Subject.{scope_of};
 
 use crate::take::take_out;
 use access::file::File;
 use asking::ask::ask_value;
 use ends::notes::blame;
 use hold::hold::copy;
+use judge::subject::Subject;
 use module::handles::{ExpressionHandle, FunctionHandle};
 use operands::load::ask_indexes;
 use place::target::find_target;
@@ -76,11 +78,7 @@ fn store_somewhere(
 
 // The needs before a store of the value v to the pointer p. Says whether the needs are within the bound.
 pub fn act_store(
-    file: &File,
-    f: FunctionHandle,
-    types: &[u32],
-    alike: &[u32],
-    paths: &[u32],
+    subject: &Subject,
     cells: &mut [u32],
     roots: &mut [u32],
     path: &mut [u32],
@@ -88,30 +86,36 @@ pub fn act_store(
     p: ExpressionHandle,
     v: ExpressionHandle,
 ) -> bool
-    requires act_given { ActGiven file.now.bytes file.now.t f.0 types.now alike.now paths.now cells.old roots.old path.old n }
-    requires store_of { StoreOf (scope_at file.now.bytes file.now.t f.0) p.0 v.0 }
-    ensures { Acted (scope_at file.now.bytes file.now.t f.0) (store p.0 v.0) cells.old roots.old n cells.new roots.new path.old path.new result }
+    requires act_given { ActGivenOf subject.now cells.old roots.old path.old n }
+    requires store_of { StoreOf (scope_of subject.now) p.0 v.0 }
+    ensures { Acted (scope_of subject.now) (store p.0 v.0) cells.old roots.old n cells.new roots.new path.old path.new result }
 {
     let hand = roots[n - 1];
-    let a = store_overlap(file, f, types, alike, paths, cells, path, hand, p);
+    let a = store_overlap(subject, cells, path, hand, p);
     if !is_some(a) {
         return true;
     }
-    let target = find_target(file, f, path, p);
+    let target = find_target(subject.file, subject.f, path, p);
     if target.dynamic {
-        return store_somewhere(file, f, cells, roots, n, p, v);
+        return store_somewhere(subject.file, subject.f, cells, roots, n, p, v);
     }
     let place = &path[target.from..target.to];
-    store_at(file, f, types, cells, roots, n, place, a, v)
+    store_at(
+        subject.file,
+        subject.f,
+        subject.types,
+        cells,
+        roots,
+        n,
+        place,
+        a,
+        v,
+    )
 }
 
 // The statement l, a store of the value v to the pointer a, in a pass.
 pub fn pass_store(
-    file: &File,
-    f: FunctionHandle,
-    types: &[u32],
-    alike: &[u32],
-    paths: &[u32],
+    subject: &Subject,
     cells: &mut [u32],
     roots: &mut [u32],
     path: &mut [u32],
@@ -122,26 +126,24 @@ pub fn pass_store(
     a: ExpressionHandle,
     v: ExpressionHandle,
 ) -> Passing
-    requires pass_given { PassGiven file.now.bytes file.now.t f.0 types.now alike.now paths.now cells.old roots.old path.old n p l }
-    requires store_of { StoreOf (scope_at file.now.bytes file.now.t f.0) a.0 v.0 }
-    ensures { ByMark (scope_at file.now.bytes file.now.t f.0) l marked (store a.0 v.0) cells.old roots.old n p cells.new roots.new path.old path.new result }
+    requires pass_given { PassGivenOf subject.now cells.old roots.old path.old n p l }
+    requires store_of { StoreOf (scope_of subject.now) a.0 v.0 }
+    ensures { ByMark (scope_of subject.now) l marked (store a.0 v.0) cells.old roots.old n p cells.new roots.new path.old path.new result }
 {
     let last = n - 1;
     let above = n + 1;
     if marked {
-        if act_store(file, f, types, alike, paths, cells, roots, path, n, a, v) {
+        if act_store(subject, cells, roots, path, n, a, v) {
             return p;
         }
         return filled();
     }
     let hand = roots[last];
-    if store_idle(file, f, types, alike, paths, cells, path, hand, a) {
+    if store_idle(subject, cells, path, hand, a) {
         return p;
     }
     copy(roots, last, n);
-    if !act_store(
-        file, f, types, alike, paths, cells, roots, path, above, a, v,
-    ) {
+    if !act_store(subject, cells, roots, path, above, a, v) {
         return filled();
     }
     copy(roots, n, last);

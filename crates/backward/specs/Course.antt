@@ -17,6 +17,7 @@ use Rattle.standing.specs.Standing.{Targets, Stretch, Walked}
 use Rattle.standing.specs.World.{World}
 use Rattle.standing.specs.declared.passing.Passing.{Passing}
 use Rattle.standing.specs.Exits.{Exits}
+use Rattle.judge.specs.declared.subject.Subject.{Subject}
 
 -- the function, the needs in memory, where the exits lead, what is carried so far, and a path that every place fits
 pub record Course (bytes t : List ℕ) (f : ℕ) (types alike paths firsts s rs path : List ℕ) (n : ℕ) (x : Exits) (p : Passing) : Type 0 where
@@ -27,6 +28,9 @@ pub record Course (bytes t : List ℕ) (f : ℕ) (types alike paths firsts s rs 
   pub going : p.full ≡ false
   pub long : length (function_of bytes t f).expressions + 2 ≤ length path
 
+abbrev pub CourseOf : Subject → List ℕ → List ℕ → List ℕ → List ℕ → ℕ → Exits → Passing → Type 0
+CourseOf j firsts s rs path n x p = Course j.file.now.bytes j.file.now.t j.f.0 j.types.now j.alike.now j.paths.now firsts s rs path n x p
+
 -- it was walked; a lent path is as long as it was
 pub record Passes (S : Scope) (o : Stretch) (s rs : List ℕ) (n : ℕ) (x : Exits) (p : Passing) (t us before after : List ℕ) (q : Passing) : Type 0 where
   pub walked : Walked S o s rs n x p t us q
@@ -36,6 +40,9 @@ pub record Passes (S : Scope) (o : Stretch) (s rs : List ℕ) (n : ℕ) (x : Exi
 pub record RowIn (bytes t : List ℕ) (f b s : ℕ) (row : Kinded) : Type 0 where
   pub statement : StatementIn bytes t f b s
   pub is : row ≡ statement_row bytes t f s
+
+abbrev pub RowInOf : Subject → ℕ → ℕ → Kinded → Type 0
+RowInOf j b s row = RowIn j.file.now.bytes j.file.now.t j.f.0 b s row
 
 -- the blocks that a statement of the block b may hold: the lower ones
 abbrev pub blocks_under : Function → (marks : List ℕ) → BlockHandle → BlockHandle → Tree

@@ -1,25 +1,24 @@
 // A pass over blocks and the statements that hold some, last statement first. Piece numbers change as the store is collected: a slot is read again after each call.
 ghost use Rattle.std.specs.Prelude.{◌≡◌, ◌+◌, ◌-◌, ◌*◌, ◌<◌, ◌≤◌, length};
 ghost use Rattle.part.specs.PartReq.{none};
-ghost use Rattle.module.specs.Tables.{function_of};
 ghost use Rattle.access.specs.Access.{operand_at};
-ghost use Rattle.judge.specs.Given.{scope_at};
 ghost use Rattle.hold.specs.Hold.{in_slot};
 ghost use Rattle.quiet.specs.Places.{tree_of, statement_tree};
 ghost use Rattle.strays.specs.Places.{BlockOf, StatementIn};
 ghost use Rattle.standing.specs.Standing.{inside, around, cases};
-ghost use Rattle.backward.specs.Course.{Course, Passes, RowIn, blocks_under, case_block, if_tree, switch_tree, loop_tree, bare_tree};
+ghost use Rattle.backward.specs.Course.{CourseOf, Passes, RowInOf, blocks_under, case_block, if_tree, switch_tree, loop_tree, bare_tree};
+ghost use Rattle.judge.specs.Subject.{scope_of, function_in};
 
 use crate::plain::pass_plain;
 use crate::slots::{exchange, in_body, in_switch};
-use access::file::File;
 use access::kinded::Kinded;
 use acts::marks::mark_at;
 use ends::held::{begin_loop, end_if, end_switch};
 use ends::merge::{end_loop, merge};
 use ends::notes::{blame, note};
 use hold::hold::copy;
-use module::handles::{BlockHandle, FunctionHandle};
+use judge::subject::Subject;
+use module::handles::BlockHandle;
 use module::kinds::StatementKind;
 use quiet::blocks::obeys;
 use standing::passing::{Exits, Passing, filled};
@@ -27,11 +26,7 @@ use standing::passing::{Exits, Passing, filled};
 // The cases of a switch: their union stands in the last slot, none at first. The needs after the switch stand where a break leads.
 #[cycle(blocks)]
 fn pass_cases(
-    file: &File,
-    f: FunctionHandle,
-    types: &[u32],
-    alike: &[u32],
-    paths: &[u32],
+    subject: &Subject,
     marks: &[u8],
     firsts: &[u32],
     cells: &mut [u32],
@@ -44,24 +39,20 @@ fn pass_cases(
     s: u32,
     row: Kinded,
 ) -> Passing
-    requires course { Course file.now.bytes file.now.t f.0 types.now alike.now paths.now firsts.now cells.old roots.old path.old n x p }
+    requires course { CourseOf subject.now firsts.now cells.old roots.old path.old n x p }
     requires b_in_bounds { n + (3 * b.0 + 10) ≤ length roots.old }
-    requires row_in { RowIn file.now.bytes file.now.t f.0 b.0 s row }
+    requires row_in { RowInOf subject.now b.0 s row }
     requires kind_value { row.kind ≡ 3 }
     requires n_value { in_slot cells.old roots.old (n - 1) ≡ none }
-    ensures { Passes (scope_at file.now.bytes file.now.t f.0) (cases (operand_at file.now.bytes row 1) (case_block (function_of file.now.bytes file.now.t f.0) marks.now (operand_at file.now.bytes row))) cells.old roots.old n x p cells.new roots.new path.old path.new result }
+    ensures { Passes (scope_of subject.now) (cases (operand_at subject.now.file.now.bytes row 1) (case_block (function_in subject.now) marks.now (operand_at subject.now.file.now.bytes row))) cells.old roots.old n x p cells.new roots.new path.old path.new result }
 {
-    let count = file.operand(row, 1) as u32;
+    let count = subject.file.operand(row, 1) as u32;
     let mut q = p;
     for i in 0..count {
         copy(roots, x.broke, n);
-        let case = file.block_operand(row, 3 + 2 * i);
+        let case = subject.file.block_operand(row, 3 + 2 * i);
         q = pass_around(
-            file,
-            f,
-            types,
-            alike,
-            paths,
+            subject,
             marks,
             firsts,
             cells,
@@ -84,11 +75,7 @@ fn pass_cases(
 
 #[cycle(blocks)]
 fn pass_switch(
-    file: &File,
-    f: FunctionHandle,
-    types: &[u32],
-    alike: &[u32],
-    paths: &[u32],
+    subject: &Subject,
     marks: &[u8],
     firsts: &[u32],
     cells: &mut [u32],
@@ -101,20 +88,16 @@ fn pass_switch(
     s: u32,
     row: Kinded,
 ) -> Passing
-    requires course { Course file.now.bytes file.now.t f.0 types.now alike.now paths.now firsts.now cells.old roots.old path.old n x p }
+    requires course { CourseOf subject.now firsts.now cells.old roots.old path.old n x p }
     requires b_in_bounds { n + (3 * b.0 + 11) ≤ length roots.old }
-    requires row_in { RowIn file.now.bytes file.now.t f.0 b.0 s row }
+    requires row_in { RowInOf subject.now b.0 s row }
     requires kind_value { row.kind ≡ 3 }
-    ensures { Passes (scope_at file.now.bytes file.now.t f.0) (inside (switch_tree (blocks_under (function_of file.now.bytes file.now.t f.0) marks.now b.0) (operand_at file.now.bytes row))) cells.old roots.old n x p cells.new roots.new path.old path.new result }
+    ensures { Passes (scope_of subject.now) (inside (switch_tree (blocks_under (function_in subject.now) marks.now b.0) (operand_at subject.now.file.now.bytes row))) cells.old roots.old n x p cells.new roots.new path.old path.new result }
 {
     roots[n] = 2;
     let y = in_switch(n, x);
     let q = pass_cases(
-        file,
-        f,
-        types,
-        alike,
-        paths,
+        subject,
         marks,
         firsts,
         cells,
@@ -130,8 +113,8 @@ fn pass_switch(
     if q.full {
         return q;
     }
-    let selector = file.expression_operand(row, 0);
-    if end_switch(file, f, cells, roots, n, selector) {
+    let selector = subject.file.expression_operand(row, 0);
+    if end_switch(subject.file, subject.f, cells, roots, n, selector) {
         return q;
     }
     filled()
@@ -139,11 +122,7 @@ fn pass_switch(
 
 #[cycle(blocks)]
 fn pass_if(
-    file: &File,
-    f: FunctionHandle,
-    types: &[u32],
-    alike: &[u32],
-    paths: &[u32],
+    subject: &Subject,
     marks: &[u8],
     firsts: &[u32],
     cells: &mut [u32],
@@ -156,21 +135,17 @@ fn pass_if(
     s: u32,
     row: Kinded,
 ) -> Passing
-    requires course { Course file.now.bytes file.now.t f.0 types.now alike.now paths.now firsts.now cells.old roots.old path.old n x p }
+    requires course { CourseOf subject.now firsts.now cells.old roots.old path.old n x p }
     requires b_in_bounds { n + (3 * b.0 + 11) ≤ length roots.old }
-    requires row_in { RowIn file.now.bytes file.now.t f.0 b.0 s row }
+    requires row_in { RowInOf subject.now b.0 s row }
     requires kind_value { row.kind ≡ 2 }
-    ensures { Passes (scope_at file.now.bytes file.now.t f.0) (inside (if_tree (blocks_under (function_of file.now.bytes file.now.t f.0) marks.now b.0) (operand_at file.now.bytes row))) cells.old roots.old n x p cells.new roots.new path.old path.new result }
+    ensures { Passes (scope_of subject.now) (inside (if_tree (blocks_under (function_in subject.now) marks.now b.0) (operand_at subject.now.file.now.bytes row))) cells.old roots.old n x p cells.new roots.new path.old path.new result }
 {
     let last = n - 1;
     copy(roots, last, n);
-    let reject = file.block_operand(row, 2);
+    let reject = subject.file.block_operand(row, 2);
     let q = pass_around(
-        file,
-        f,
-        types,
-        alike,
-        paths,
+        subject,
         marks,
         firsts,
         cells,
@@ -185,13 +160,9 @@ fn pass_if(
         return q;
     }
     exchange(roots, n);
-    let accept = file.block_operand(row, 1);
+    let accept = subject.file.block_operand(row, 1);
     let o = pass_around(
-        file,
-        f,
-        types,
-        alike,
-        paths,
+        subject,
         marks,
         firsts,
         cells,
@@ -205,8 +176,8 @@ fn pass_if(
     if o.full {
         return o;
     }
-    let condition = file.expression_operand(row, 0);
-    if end_if(file, f, cells, roots, n, condition) {
+    let condition = subject.file.expression_operand(row, 0);
+    if end_if(subject.file, subject.f, cells, roots, n, condition) {
         return o;
     }
     filled()
@@ -214,11 +185,7 @@ fn pass_if(
 
 #[cycle(blocks)]
 fn pass_loop(
-    file: &File,
-    f: FunctionHandle,
-    types: &[u32],
-    alike: &[u32],
-    paths: &[u32],
+    subject: &Subject,
     marks: &[u8],
     firsts: &[u32],
     cells: &mut [u32],
@@ -231,25 +198,21 @@ fn pass_loop(
     s: u32,
     row: Kinded,
 ) -> Passing
-    requires course { Course file.now.bytes file.now.t f.0 types.now alike.now paths.now firsts.now cells.old roots.old path.old n x p }
+    requires course { CourseOf subject.now firsts.now cells.old roots.old path.old n x p }
     requires b_in_bounds { n + (3 * b.0 + 11) ≤ length roots.old }
-    requires row_in { RowIn file.now.bytes file.now.t f.0 b.0 s row }
+    requires row_in { RowInOf subject.now b.0 s row }
     requires kind_value { row.kind ≡ 4 }
-    ensures { Passes (scope_at file.now.bytes file.now.t f.0) (inside (loop_tree (blocks_under (function_of file.now.bytes file.now.t f.0) marks.now b.0) s (operand_at file.now.bytes row))) cells.old roots.old n x p cells.new roots.new path.old path.new result }
+    ensures { Passes (scope_of subject.now) (inside (loop_tree (blocks_under (function_in subject.now) marks.now b.0) s (operand_at subject.now.file.now.bytes row))) cells.old roots.old n x p cells.new roots.new path.old path.new result }
 {
     let l = s as usize;
-    let break_if = file.optional_expression(row, 2);
-    if !begin_loop(file, f, cells, roots, n, l, break_if) {
+    let break_if = subject.file.optional_expression(row, 2);
+    if !begin_loop(subject.file, subject.f, cells, roots, n, l, break_if) {
         return filled();
     }
     let y = in_switch(n, x);
-    let continuing = file.block_operand(row, 1);
+    let continuing = subject.file.block_operand(row, 1);
     let q = pass_around(
-        file,
-        f,
-        types,
-        alike,
-        paths,
+        subject,
         marks,
         firsts,
         cells,
@@ -266,13 +229,9 @@ fn pass_loop(
     let above = n + 1;
     copy(roots, n, above);
     let z = in_body(n, x);
-    let body = file.block_operand(row, 0);
+    let body = subject.file.block_operand(row, 0);
     let o = pass_around(
-        file,
-        f,
-        types,
-        alike,
-        paths,
+        subject,
         marks,
         firsts,
         cells,
@@ -292,11 +251,7 @@ fn pass_loop(
 // What has the mark of the statement s of the block b: an if, a switch or a loop.
 #[cycle(blocks)]
 fn pass_bare(
-    file: &File,
-    f: FunctionHandle,
-    types: &[u32],
-    alike: &[u32],
-    paths: &[u32],
+    subject: &Subject,
     marks: &[u8],
     firsts: &[u32],
     cells: &mut [u32],
@@ -309,21 +264,21 @@ fn pass_bare(
     s: u32,
     row: Kinded,
 ) -> Passing
-    requires course { Course file.now.bytes file.now.t f.0 types.now alike.now paths.now firsts.now cells.old roots.old path.old n x p }
+    requires course { CourseOf subject.now firsts.now cells.old roots.old path.old n x p }
     requires b_in_bounds { n + (3 * b.0 + 11) ≤ length roots.old }
-    requires row_in { RowIn file.now.bytes file.now.t f.0 b.0 s row }
+    requires row_in { RowInOf subject.now b.0 s row }
     requires lt_kind { (1 < row.kind) × (row.kind < 5) }
-    ensures { Passes (scope_at file.now.bytes file.now.t f.0) (inside (bare_tree (blocks_under (function_of file.now.bytes file.now.t f.0) marks.now b.0) s row.kind (operand_at file.now.bytes row))) cells.old roots.old n x p cells.new roots.new path.old path.new result }
+    ensures { Passes (scope_of subject.now) (inside (bare_tree (blocks_under (function_in subject.now) marks.now b.0) s row.kind (operand_at subject.now.file.now.bytes row))) cells.old roots.old n x p cells.new roots.new path.old path.new result }
 {
     match StatementKind::try_from(row.kind) {
         Ok(StatementKind::If) => pass_if(
-            file, f, types, alike, paths, marks, firsts, cells, roots, path, n, x, p, b, s, row,
+            subject, marks, firsts, cells, roots, path, n, x, p, b, s, row,
         ),
         Ok(StatementKind::Switch) => pass_switch(
-            file, f, types, alike, paths, marks, firsts, cells, roots, path, n, x, p, b, s, row,
+            subject, marks, firsts, cells, roots, path, n, x, p, b, s, row,
         ),
         _ => pass_loop(
-            file, f, types, alike, paths, marks, firsts, cells, roots, path, n, x, p, b, s, row,
+            subject, marks, firsts, cells, roots, path, n, x, p, b, s, row,
         ),
     }
 }
@@ -331,11 +286,7 @@ fn pass_bare(
 // One that breaks its rule is walked as if marked, and what is needed after it is needed before it too.
 #[cycle(blocks)]
 fn pass_holder(
-    file: &File,
-    f: FunctionHandle,
-    types: &[u32],
-    alike: &[u32],
-    paths: &[u32],
+    subject: &Subject,
     marks: &[u8],
     firsts: &[u32],
     cells: &mut [u32],
@@ -348,30 +299,26 @@ fn pass_holder(
     s: u32,
     row: Kinded,
 ) -> Passing
-    requires course { Course file.now.bytes file.now.t f.0 types.now alike.now paths.now firsts.now cells.old roots.old path.old n x p }
+    requires course { CourseOf subject.now firsts.now cells.old roots.old path.old n x p }
     requires b_in_bounds { n + (3 * b.0 + 12) ≤ length roots.old }
-    requires row_in { RowIn file.now.bytes file.now.t f.0 b.0 s row }
+    requires row_in { RowInOf subject.now b.0 s row }
     requires lt_kind { (1 < row.kind) × (row.kind < 5) }
-    ensures { Passes (scope_at file.now.bytes file.now.t f.0) (inside (statement_tree (function_of file.now.bytes file.now.t f.0) marks.now b.0 s)) cells.old roots.old n x p cells.new roots.new path.old path.new result }
+    ensures { Passes (scope_of subject.now) (inside (statement_tree (function_in subject.now) marks.now b.0 s)) cells.old roots.old n x p cells.new roots.new path.old path.new result }
 {
     let last = n - 1;
     let begin = firsts[s as usize] as usize;
     if mark_at(marks, begin) {
         return pass_bare(
-            file, f, types, alike, paths, marks, firsts, cells, roots, path, n, x, p, b, s, row,
+            subject, marks, firsts, cells, roots, path, n, x, p, b, s, row,
         );
     }
     let hand = roots[last];
-    if obeys(file, f, types, alike, paths, cells, path, hand, b, s) {
+    if obeys(subject, cells, path, hand, b, s) {
         return p;
     }
     copy(roots, last, n);
     let q = pass_bare(
-        file,
-        f,
-        types,
-        alike,
-        paths,
+        subject,
         marks,
         firsts,
         cells,
@@ -397,11 +344,7 @@ fn pass_holder(
 // The statement s of the block b.
 #[cycle(blocks)]
 fn pass_statement(
-    file: &File,
-    f: FunctionHandle,
-    types: &[u32],
-    alike: &[u32],
-    paths: &[u32],
+    subject: &Subject,
     marks: &[u8],
     firsts: &[u32],
     cells: &mut [u32],
@@ -413,35 +356,29 @@ fn pass_statement(
     b: BlockHandle,
     s: u32,
 ) -> Passing
-    requires course { Course file.now.bytes file.now.t f.0 types.now alike.now paths.now firsts.now cells.old roots.old path.old n x p }
+    requires course { CourseOf subject.now firsts.now cells.old roots.old path.old n x p }
     requires b_in_bounds { n + (3 * b.0 + 12) ≤ length roots.old }
-    requires statement_in { StatementIn file.now.bytes file.now.t f.0 b.0 s }
-    ensures { Passes (scope_at file.now.bytes file.now.t f.0) (inside (statement_tree (function_of file.now.bytes file.now.t f.0) marks.now b.0 s)) cells.old roots.old n x p cells.new roots.new path.old path.new result }
+    requires statement_in { StatementIn subject.now.file.now.bytes subject.now.file.now.t subject.now.f.0 b.0 s }
+    ensures { Passes (scope_of subject.now) (inside (statement_tree (function_in subject.now) marks.now b.0 s)) cells.old roots.old n x p cells.new roots.new path.old path.new result }
 {
-    let row = file.statement(f, s);
+    let row = subject.file.statement(subject.f, s);
     match StatementKind::try_from(row.kind) {
         Ok(StatementKind::Block) => {
-            let inner = file.block_operand(row, 0);
-            pass_block(
-                file, f, types, alike, paths, marks, firsts, cells, roots, path, n, x, p, inner,
-            )
+            let inner = subject.file.block_operand(row, 0);
+            pass_block(subject, marks, firsts, cells, roots, path, n, x, p, inner)
         }
         Ok(StatementKind::If | StatementKind::Switch | StatementKind::Loop) => pass_holder(
-            file, f, types, alike, paths, marks, firsts, cells, roots, path, n, x, p, b, s, row,
+            subject, marks, firsts, cells, roots, path, n, x, p, b, s, row,
         ),
         _ => pass_plain(
-            file, f, types, alike, paths, marks, firsts, cells, roots, path, n, x, p, b, s, row,
+            subject, marks, firsts, cells, roots, path, n, x, p, b, s, row,
         ),
     }
 }
 
 #[cycle(blocks)]
 fn pass_block(
-    file: &File,
-    f: FunctionHandle,
-    types: &[u32],
-    alike: &[u32],
-    paths: &[u32],
+    subject: &Subject,
     marks: &[u8],
     firsts: &[u32],
     cells: &mut [u32],
@@ -452,22 +389,18 @@ fn pass_block(
     p: Passing,
     b: BlockHandle,
 ) -> Passing
-    requires course { Course file.now.bytes file.now.t f.0 types.now alike.now paths.now firsts.now cells.old roots.old path.old n x p }
+    requires course { CourseOf subject.now firsts.now cells.old roots.old path.old n x p }
     requires b_in_bounds { n + (3 * b.0 + 12) ≤ length roots.old }
-    requires block_of { BlockOf file.now.bytes file.now.t f.0 b.0 }
-    ensures { Passes (scope_at file.now.bytes file.now.t f.0) (inside (tree_of (function_of file.now.bytes file.now.t f.0) marks.now b.0)) cells.old roots.old n x p cells.new roots.new path.old path.new result }
+    requires block_of { BlockOf subject.now.file.now.bytes subject.now.file.now.t subject.now.f.0 b.0 }
+    ensures { Passes (scope_of subject.now) (inside (tree_of (function_in subject.now) marks.now b.0)) cells.old roots.old n x p cells.new roots.new path.old path.new result }
 {
-    let range = file.block(f, b);
+    let range = subject.file.block(subject.f, b);
     let first = range.first;
     let mut q = p;
     for k in (0..range.count).rev() {
         let at = note(cells, roots, n, q);
         q = pass_statement(
-            file,
-            f,
-            types,
-            alike,
-            paths,
+            subject,
             marks,
             firsts,
             cells,
@@ -489,11 +422,7 @@ fn pass_block(
 // A block with the points after and before it.
 #[cycle(blocks)]
 pub fn pass_around(
-    file: &File,
-    f: FunctionHandle,
-    types: &[u32],
-    alike: &[u32],
-    paths: &[u32],
+    subject: &Subject,
     marks: &[u8],
     firsts: &[u32],
     cells: &mut [u32],
@@ -504,15 +433,13 @@ pub fn pass_around(
     p: Passing,
     b: BlockHandle,
 ) -> Passing
-    requires course { Course file.now.bytes file.now.t f.0 types.now alike.now paths.now firsts.now cells.old roots.old path.old n x p }
+    requires course { CourseOf subject.now firsts.now cells.old roots.old path.old n x p }
     requires b_in_bounds { n + (3 * b.0 + 12) ≤ length roots.old }
-    requires block_of { BlockOf file.now.bytes file.now.t f.0 b.0 }
-    ensures { Passes (scope_at file.now.bytes file.now.t f.0) (around (tree_of (function_of file.now.bytes file.now.t f.0) marks.now b.0)) cells.old roots.old n x p cells.new roots.new path.old path.new result }
+    requires block_of { BlockOf subject.now.file.now.bytes subject.now.file.now.t subject.now.f.0 b.0 }
+    ensures { Passes (scope_of subject.now) (around (tree_of (function_in subject.now) marks.now b.0)) cells.old roots.old n x p cells.new roots.new path.old path.new result }
 {
     let at = note(cells, roots, n, p);
-    let q = pass_block(
-        file, f, types, alike, paths, marks, firsts, cells, roots, path, n, x, at, b,
-    );
+    let q = pass_block(subject, marks, firsts, cells, roots, path, n, x, at, b);
     if q.full {
         return q;
     }

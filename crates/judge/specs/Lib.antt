@@ -5,3 +5,4 @@ pub mod Paths
 pub mod Shapes
 pub mod Given
 pub mod Blamed
+pub mod Subject

@@ -1,52 +1,42 @@
 // A function's expressions: whether each fits, and the lowest that is not judged.
 ghost use Rattle.std.specs.Prelude.{◌≡◌, ◌<◌, length};
-ghost use Rattle.module.specs.Tables.{function_of};
 ghost use Rattle.context.specs.Types.{types_of};
 ghost use Rattle.clearance.specs.Judged.{judged_expression, blamed_expression};
 ghost use Rattle.judge.specs.Unsized.{UnsizedTable};
-ghost use Rattle.judge.specs.Given.{scope_at, Given, Fits};
 ghost use Rattle.judge.specs.Blamed.{blamed};
+ghost use Rattle.judge.specs.Subject.{GivenOf, scope_of, function_in, FitsOf};
 
 use crate::indexes::fits_index;
 use crate::made::fits_made;
 use crate::named::fits_named;
 use crate::operators::fits_operator;
+use crate::subject::Subject;
 use crate::unsized_types::holds_either;
 use crate::values::{is_value, type_of};
-use access::file::File;
-use module::handles::{ExpressionHandle, FunctionHandle};
+use module::handles::ExpressionHandle;
 use module::kinds::ExpressionKind;
 
 // Whether the expression e fits, by the group of its kind. A kind past the last is a literal's.
-pub fn fits_expression(
-    file: &File,
-    f: FunctionHandle,
-    types: &[u32],
-    alike: &[u32],
-    paths: &[u32],
-    e: ExpressionHandle,
-) -> bool
-    requires given { Given file.now.bytes file.now.t f.0 types.now alike.now paths.now }
-    requires e_in_bounds { e.0 < length (function_of file.now.bytes file.now.t f.0).expressions }
-    ensures { Fits file.now.bytes file.now.t f.0 e.0 result }
+pub fn fits_expression(subject: &Subject, e: ExpressionHandle) -> bool
+    requires given { GivenOf subject.now }
+    requires e_in_bounds { e.0 < length (function_in subject.now).expressions }
+    ensures { FitsOf subject.now e.0 result }
 {
-    let row = file.expression(f, e);
+    let row = subject.file.expression(subject.f, e);
     match ExpressionKind::try_from(row.kind) {
         Ok(ExpressionKind::Literal | ExpressionKind::ZeroValue | ExpressionKind::Constant) => {
-            is_value(file, f, types, paths, e)
+            is_value(subject, e)
         }
-        Ok(ExpressionKind::AccessIndex | ExpressionKind::Access) => {
-            fits_index(file, f, types, alike, paths, row, e)
-        }
+        Ok(ExpressionKind::AccessIndex | ExpressionKind::Access) => { fits_index(subject, row, e) }
         Ok(ExpressionKind::Splat | ExpressionKind::Swizzle | ExpressionKind::Compose) => {
-            fits_made(file, f, types, alike, paths, row, e)
+            fits_made(subject, row, e)
         }
         Ok(
             ExpressionKind::FunctionArgument
             | ExpressionKind::GlobalVariable
             | ExpressionKind::LocalVariable
             | ExpressionKind::Load,
-        ) => fits_named(file, f, types, alike, paths, row, e),
+        ) => fits_named(subject, row, e),
         Ok(
             ExpressionKind::Unary
             | ExpressionKind::Binary
@@ -55,50 +45,35 @@ pub fn fits_expression(
             | ExpressionKind::Relational
             | ExpressionKind::Math
             | ExpressionKind::As,
-        ) => fits_operator(file, f, types, alike, paths, row, e),
+        ) => fits_operator(subject, row, e),
         Ok(_) => false,
-        Err(_) => is_value(file, f, types, paths, e),
+        Err(_) => is_value(subject, e),
     }
 }
 
 // Whether the expression e fits and neither its type nor its pointee holds an unsized array.
-pub fn judged_expression(
-    file: &File,
-    f: FunctionHandle,
-    types: &[u32],
-    alike: &[u32],
-    held: &[u32],
-    paths: &[u32],
-    e: ExpressionHandle,
-) -> bool
-    requires given { Given file.now.bytes file.now.t f.0 types.now alike.now paths.now }
-    requires unsized_table { UnsizedTable (types_of types.now) held.now }
-    requires e_in_bounds { e.0 < length (function_of file.now.bytes file.now.t f.0).expressions }
-    ensures { result ≡ judged_expression (scope_at file.now.bytes file.now.t f.0) e.0 }
+pub fn judged_expression(subject: &Subject, held: &[u32], e: ExpressionHandle) -> bool
+    requires given { GivenOf subject.now }
+    requires unsized_table { UnsizedTable (types_of subject.now.types.now) held.now }
+    requires e_in_bounds { e.0 < length (function_in subject.now).expressions }
+    ensures { result ≡ judged_expression (scope_of subject.now) e.0 }
 {
-    let own = type_of(file, f, e);
-    if holds_either(types, held, own) {
+    let own = type_of(subject.file, subject.f, e);
+    if holds_either(subject.types, held, own) {
         return false;
     }
-    fits_expression(file, f, types, alike, paths, e)
+    fits_expression(subject, e)
 }
 
 // The lowest expression that is not judged.
-pub fn blamed_expression(
-    file: &File,
-    f: FunctionHandle,
-    types: &[u32],
-    alike: &[u32],
-    held: &[u32],
-    paths: &[u32],
-) -> Option<u32>
-    requires given { Given file.now.bytes file.now.t f.0 types.now alike.now paths.now }
-    requires unsized_table { UnsizedTable (types_of types.now) held.now }
-    ensures { blamed result ≡ blamed_expression (scope_at file.now.bytes file.now.t f.0) }
+pub fn blamed_expression(subject: &Subject, held: &[u32]) -> Option<u32>
+    requires given { GivenOf subject.now }
+    requires unsized_table { UnsizedTable (types_of subject.now.types.now) held.now }
+    ensures { blamed result ≡ blamed_expression (scope_of subject.now) }
 {
-    let n = file.expressions(f);
+    let n = subject.file.expressions(subject.f);
     for e in 0..n {
-        if !judged_expression(file, f, types, alike, held, paths, ExpressionHandle(e)) {
+        if !judged_expression(subject, held, ExpressionHandle(e)) {
             return Some(e);
         }
     }

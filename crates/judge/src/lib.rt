@@ -11,5 +11,6 @@ pub mod paths;
 pub mod rows;
 pub mod shapes;
 pub mod statements;
+pub mod subject;
 pub mod unsized_types;
 pub mod values;

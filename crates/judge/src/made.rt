@@ -7,10 +7,12 @@ ghost use Rattle.access.specs.Access.{operand_at};
 ghost use Rattle.context.specs.Types.{types_of};
 ghost use Rattle.clearance.specs.Scope.{inner, inner_of, is_scalar, is_vector};
 ghost use Rattle.clearance.specs.Judged.{every, part_type, same_part, component_count, count_components};
-ghost use Rattle.judge.specs.Given.{scope_at, Row, Fits};
+ghost use Rattle.judge.specs.Given.{scope_at};
+ghost use Rattle.judge.specs.Subject.{RowOf, scope_of, FitsOf};
 
 use crate::rows::kind_at;
 use crate::shapes::{is_vector_of, part_count, same_part};
+use crate::subject::Subject;
 use crate::values::{all_values, is_value, type_of};
 use access::file::File;
 use access::kinded::Kinded;
@@ -34,28 +36,20 @@ fn letters_below(file: &File, row: Kinded, n: u32) -> bool
 }
 
 // Letters of a vector that is a value, and a vector of as many.
-fn fits_swizzle(
-    file: &File,
-    f: FunctionHandle,
-    types: &[u32],
-    alike: &[u32],
-    paths: &[u32],
-    row: Kinded,
-    e: ExpressionHandle,
-) -> bool
-    requires row { Row file.now.bytes file.now.t f.0 types.now alike.now paths.now e.0 row }
+fn fits_swizzle(subject: &Subject, row: Kinded, e: ExpressionHandle) -> bool
+    requires row { RowOf subject.now e.0 row }
     requires kind_value { row.kind ≡ 7 }
-    ensures { Fits file.now.bytes file.now.t f.0 e.0 result }
+    ensures { FitsOf subject.now e.0 result }
 {
-    let vector = file.expression_operand(row, 0);
-    let a = type_of(file, f, vector);
-    if kind_at(types, a) != TypeKind::Vector {
+    let vector = subject.file.expression_operand(row, 0);
+    let a = type_of(subject.file, subject.f, vector);
+    if kind_at(subject.types, a) != TypeKind::Vector {
         return false;
     }
-    let letters = file.operand(row, 1) as u32;
-    is_value(file, f, types, paths, vector)
-        && letters_below(file, row, first_word(types, a))
-        && is_vector_of(types, letters, type_of(file, f, e))
+    let letters = subject.file.operand(row, 1) as u32;
+    is_value(subject, vector)
+        && letters_below(subject.file, row, first_word(subject.types, a))
+        && is_vector_of(subject.types, letters, type_of(subject.file, subject.f, e))
 }
 
 // How many components the type a gives: a scalar or a vector.
@@ -88,25 +82,20 @@ fn joins(file: &File, f: FunctionHandle, types: &[u32], row: Kinded, n: u32) -> 
 }
 
 // Whether each component is of the shape of the type a's part of its number.
-fn parts_fit(
-    file: &File,
-    f: FunctionHandle,
-    types: &[u32],
-    alike: &[u32],
-    paths: &[u32],
-    row: Kinded,
-    e: ExpressionHandle,
-    a: TypeHandle,
-) -> bool
-    requires row { Row file.now.bytes file.now.t f.0 types.now alike.now paths.now e.0 row }
+fn parts_fit(subject: &Subject, row: Kinded, e: ExpressionHandle, a: TypeHandle) -> bool
+    requires row { RowOf subject.now e.0 row }
     requires kind_value { row.kind ≡ 8 }
-    requires a_in_bounds { a.0 < length (types_of types.now) }
-    ensures { result ≡ every (λ i. same_part (scope_at file.now.bytes file.now.t f.0) (part_type (scope_at file.now.bytes file.now.t f.0) (inner (scope_at file.now.bytes file.now.t f.0) a.0) i) (inner_of (scope_at file.now.bytes file.now.t f.0) (operand_at file.now.bytes row (1 + i)))) (tab (operand_at file.now.bytes row 0) (λ i. i)) }
+    requires a_in_bounds { a.0 < length (types_of subject.now.types.now) }
+    ensures { result ≡ every (λ i. same_part (scope_of subject.now) (part_type (scope_of subject.now) (inner (scope_of subject.now) a.0) i) (inner_of (scope_of subject.now) (operand_at subject.now.file.now.bytes row (1 + i)))) (tab (operand_at subject.now.file.now.bytes row 0) (λ i. i)) }
 {
-    let count = file.operand(row, 0);
+    let count = subject.file.operand(row, 0);
     for i in 0..count {
-        let b = type_of(file, f, file.expression_operand(row, 1 + i));
-        if !same_part(types, alike, a, i as u32, b) {
+        let b = type_of(
+            subject.file,
+            subject.f,
+            subject.file.expression_operand(row, 1 + i),
+        );
+        if !same_part(subject.types, subject.alike, a, i as u32, b) {
             return false;
         }
     }
@@ -114,57 +103,48 @@ fn parts_fit(
 }
 
 // A value of its components: a vector of scalars and vectors, or a matrix, an array or a struct of its parts.
-fn fits_compose(
-    file: &File,
-    f: FunctionHandle,
-    types: &[u32],
-    alike: &[u32],
-    paths: &[u32],
-    row: Kinded,
-    e: ExpressionHandle,
-) -> bool
-    requires row { Row file.now.bytes file.now.t f.0 types.now alike.now paths.now e.0 row }
+fn fits_compose(subject: &Subject, row: Kinded, e: ExpressionHandle) -> bool
+    requires row { RowOf subject.now e.0 row }
     requires kind_value { row.kind ≡ 8 }
-    ensures { Fits file.now.bytes file.now.t f.0 e.0 result }
+    ensures { FitsOf subject.now e.0 result }
 {
-    let values = all_values(file, f, types, paths, row);
-    let a = type_of(file, f, e);
-    match kind_at(types, a) {
-        TypeKind::Vector => values && joins(file, f, types, row, first_word(types, a)),
+    let values = all_values(subject, row);
+    let a = type_of(subject.file, subject.f, e);
+    match kind_at(subject.types, a) {
+        TypeKind::Vector => values
+            && joins(
+                subject.file,
+                subject.f,
+                subject.types,
+                row,
+                first_word(subject.types, a),
+            ),
         TypeKind::Matrix | TypeKind::Array | TypeKind::Struct => {
             values
-                && part_count(types, a) == file.operand(row, 0) as u32
-                && parts_fit(file, f, types, alike, paths, row, e, a)
+                && part_count(subject.types, a) == subject.file.operand(row, 0) as u32
+                && parts_fit(subject, row, e, a)
         }
         _ => false,
     }
 }
 
 // A vector of one scalar, letters of a vector, or components.
-pub fn fits_made(
-    file: &File,
-    f: FunctionHandle,
-    types: &[u32],
-    alike: &[u32],
-    paths: &[u32],
-    row: Kinded,
-    e: ExpressionHandle,
-) -> bool
-    requires row { Row file.now.bytes file.now.t f.0 types.now alike.now paths.now e.0 row }
+pub fn fits_made(subject: &Subject, row: Kinded, e: ExpressionHandle) -> bool
+    requires row { RowOf subject.now e.0 row }
     requires le_kind { 6 ≤ row.kind }
     requires kind_bound { row.kind ≤ 8 }
-    ensures { Fits file.now.bytes file.now.t f.0 e.0 result }
+    ensures { FitsOf subject.now e.0 result }
 {
     match ExpressionKind::try_from(row.kind) {
-        Ok(ExpressionKind::Swizzle) => fits_swizzle(file, f, types, alike, paths, row, e),
+        Ok(ExpressionKind::Swizzle) => fits_swizzle(subject, row, e),
         Ok(ExpressionKind::Splat) => {
-            let value = file.expression_operand(row, 0);
-            let a = type_of(file, f, value);
-            let b = type_of(file, f, e);
-            is_value(file, f, types, paths, value)
-                && kind_at(types, a) == TypeKind::Scalar
-                && kind_at(types, b) == TypeKind::Vector
+            let value = subject.file.expression_operand(row, 0);
+            let a = type_of(subject.file, subject.f, value);
+            let b = type_of(subject.file, subject.f, e);
+            is_value(subject, value)
+                && kind_at(subject.types, a) == TypeKind::Scalar
+                && kind_at(subject.types, b) == TypeKind::Vector
         }
-        _ => fits_compose(file, f, types, alike, paths, row, e),
+        _ => fits_compose(subject, row, e),
     }
 }

@@ -4,9 +4,11 @@ ghost use Rattle.module.specs.Decode.{tab};
 ghost use Rattle.access.specs.Access.{operand_at, handle_in};
 ghost use Rattle.clearance.specs.Scope.{type_of, is_path};
 ghost use Rattle.clearance.specs.Judged.{every, presently, is_value};
-ghost use Rattle.judge.specs.Given.{scope_at, Values};
+ghost use Rattle.judge.specs.Given.{scope_at};
+ghost use Rattle.judge.specs.Subject.{ValuesOf, scope_of};
 
 use crate::rows::kind_at;
+use crate::subject::Subject;
 use access::file::File;
 use access::kinded::Kinded;
 use bindings::types::word;
@@ -24,59 +26,42 @@ pub fn type_of(file: &File, f: FunctionHandle, e: ExpressionHandle) -> TypeHandl
 }
 
 // Whether the expression e is a path.
-pub fn is_path(
-    file: &File,
-    f: FunctionHandle,
-    types: &[u32],
-    paths: &[u32],
-    e: ExpressionHandle,
-) -> bool
-    requires { Values file.now.bytes file.now.t f.0 types.now paths.now }
-    ensures { result ≡ is_path (scope_at file.now.bytes file.now.t f.0) e.0 }
+pub fn is_path(subject: &Subject, e: ExpressionHandle) -> bool
+    requires { ValuesOf subject.now }
+    ensures { result ≡ is_path (scope_of subject.now) e.0 }
 {
-    word(paths, e.0 as usize) == 1
+    word(subject.paths, e.0 as usize) == 1
 }
 
 // Whether the expression e is a value.
-pub fn is_value(
-    file: &File,
-    f: FunctionHandle,
-    types: &[u32],
-    paths: &[u32],
-    e: ExpressionHandle,
-) -> bool
-    requires { Values file.now.bytes file.now.t f.0 types.now paths.now }
-    ensures { result ≡ is_value (scope_at file.now.bytes file.now.t f.0) e.0 }
+pub fn is_value(subject: &Subject, e: ExpressionHandle) -> bool
+    requires { ValuesOf subject.now }
+    ensures { result ≡ is_value (scope_of subject.now) e.0 }
 {
-    !is_path(file, f, types, paths, e) && kind_at(types, type_of(file, f, e)) != TypeKind::Pointer
+    !is_path(subject, e)
+        && kind_at(subject.types, type_of(subject.file, subject.f, e)) != TypeKind::Pointer
 }
 
 // Whether the operand v is absent or a value.
-pub fn maybe_value(
-    file: &File,
-    f: FunctionHandle,
-    types: &[u32],
-    paths: &[u32],
-    v: Option<ExpressionHandle>,
-) -> bool
-    requires { Values file.now.bytes file.now.t f.0 types.now paths.now }
-    ensures { result ≡ presently (is_value (scope_at file.now.bytes file.now.t f.0)) (handle_in v) }
+pub fn maybe_value(subject: &Subject, v: Option<ExpressionHandle>) -> bool
+    requires { ValuesOf subject.now }
+    ensures { result ≡ presently (is_value (scope_of subject.now)) (handle_in v) }
 {
     match v {
         None => true,
-        Some(e) => is_value(file, f, types, paths, e),
+        Some(e) => is_value(subject, e),
     }
 }
 
 // Whether the operands after the first, which is their count, are values.
-pub fn all_values(file: &File, f: FunctionHandle, types: &[u32], paths: &[u32], row: Kinded) -> bool
-    requires { Values file.now.bytes file.now.t f.0 types.now paths.now }
-    ensures { result ≡ every (is_value (scope_at file.now.bytes file.now.t f.0)) (tab (operand_at file.now.bytes row 0) (λ i. operand_at file.now.bytes row (1 + i))) }
+pub fn all_values(subject: &Subject, row: Kinded) -> bool
+    requires { ValuesOf subject.now }
+    ensures { result ≡ every (is_value (scope_of subject.now)) (tab (operand_at subject.now.file.now.bytes row 0) (λ i. operand_at subject.now.file.now.bytes row (1 + i))) }
 {
-    let n = file.operand(row, 0);
+    let n = subject.file.operand(row, 0);
     for i in 0..n {
-        let c = file.expression_operand(row, 1 + i);
-        if !is_value(file, f, types, paths, c) {
+        let c = subject.file.expression_operand(row, 1 + i);
+        if !is_value(subject, c) {
             return false;
         }
     }

@@ -11,6 +11,7 @@ use Rattle.standing.specs.Standing.{Targets, inside, Walked}
 use Rattle.standing.specs.World.{World}
 use Rattle.standing.specs.declared.passing.Passing.{Passing}
 use Rattle.standing.specs.Exits.{Exits}
+use Rattle.judge.specs.declared.subject.Subject.{Subject}
 
 pub record LeaveGiven (bytes t : List ℕ) (f : ℕ) (types alike paths s rs : List ℕ) (n : ℕ) (x : Exits) (p : Passing) (l : ℕ) (row : Kinded) : Type 0 where
   pub world : World bytes t f types alike paths
@@ -20,6 +21,9 @@ pub record LeaveGiven (bytes t : List ℕ) (f : ℕ) (types alike paths s rs : L
   pub spare : n + 2 ≤ length rs
   pub there : l < length (function_of bytes t f).statements
   pub is : row ≡ statement_row bytes t f l
+
+abbrev pub LeaveGivenOf : Subject → List ℕ → List ℕ → ℕ → Exits → Passing → ℕ → Kinded → Type 0
+LeaveGivenOf j s rs n x p l row = LeaveGiven j.file.now.bytes j.file.now.t j.f.0 j.types.now j.alike.now j.paths.now s rs n x p l row
 
 pub record Leaves (bytes t : List ℕ) (f : ℕ) (s rs : List ℕ) (n : ℕ) (x : Exits) (p : Passing) (l : ℕ) (u ws : List ℕ) (q : Passing) : Type 0 where
   pub is : (marks : List ℕ) (block : BlockHandle → Tree) →

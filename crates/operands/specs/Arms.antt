@@ -11,6 +11,7 @@ use Rattle.framed.specs.Kept.{Kept}
 use Rattle.hold.specs.Hold.{in_slot, Live}
 use Rattle.standing.specs.World.{World}
 use Rattle.operands.specs.AsksAll.{wanted_in, ListGiven, AsksAll}
+use Rattle.judge.specs.declared.subject.Subject.{Subject}
 
 -- what the need a of the expression e asks
 abbrev pub asks_of : Scope → ℕ → PartReq → List Ask
@@ -27,11 +28,17 @@ pub record OperandsGiven (bytes t : List ℕ) (f : ℕ) (types alike paths : Lis
   pub need : Kept (scope_at bytes t f) (in_slot s rs (n - 1))
   pub wanted : IsNeed (shape_of (scope_at bytes t f) (type_of (scope_at bytes t f) e)) (wanted_in s rs n)
 
+abbrev pub OperandsGivenOf : Subject → List ℕ → List ℕ → ℕ → ℕ → Type 0
+OperandsGivenOf j s rs n e = OperandsGiven j.file.now.bytes j.file.now.t j.f.0 j.types.now j.alike.now j.paths.now s rs n e
+
 -- the same, with the expression's row
 pub record ArmGiven (bytes t : List ℕ) (f : ℕ) (types alike paths : List ℕ) (e : ℕ) (row : Kinded) (s rs : List ℕ) (n : ℕ) : Type 0 where
   pub expression : Row bytes t f types alike paths e row
   pub gives : gives (arm (scope_at bytes t f) e) ≡ true
   pub asks : ListGiven (scope_at bytes t f) (asks_of (scope_at bytes t f) e (wanted_in s rs n)) s rs n
+
+abbrev pub ArmGivenOf : Subject → ℕ → Kinded → List ℕ → List ℕ → ℕ → Type 0
+ArmGivenOf j e row s rs n = ArmGiven j.file.now.bytes j.file.now.t j.f.0 j.types.now j.alike.now j.paths.now e row s rs n
 
 -- all of it was asked
 abbrev pub AsksOperands : List ℕ → List ℕ → (f e : ℕ) → (s rs : List ℕ) → ℕ → (u us : List ℕ) → Bool → Type 0

@@ -4,40 +4,34 @@ ghost use Rattle.module.specs.Tables.{module_of};
 ghost use Rattle.access.specs.Access.{operand_at};
 ghost use Rattle.context.specs.Types.{types_of};
 ghost use Rattle.clearance.specs.Scope.{inner_of, is_vector, any_vector, by_part};
-ghost use Rattle.judge.specs.Given.{scope_at, Row};
+ghost use Rattle.judge.specs.Given.{scope_at};
 ghost use Rattle.operands.specs.Lists.{components};
+ghost use Rattle.judge.specs.Subject.{RowOf, scope_of};
 
 use access::file::File;
 use access::kinded::Kinded;
 use judge::rows::kind_at;
 use judge::shapes::is_alike;
+use judge::subject::Subject;
 use judge::values::type_of;
 use module::handles::{ExpressionHandle, FunctionHandle};
 use module::kinds::TypeKind;
 
 // Whether a binary operator is by part: both operands have the result's type, a scalar or a vector.
-pub fn by_part(
-    file: &File,
-    f: FunctionHandle,
-    types: &[u32],
-    alike: &[u32],
-    paths: &[u32],
-    row: Kinded,
-    e: ExpressionHandle,
-) -> bool
-    requires row { Row file.now.bytes file.now.t f.0 types.now alike.now paths.now e.0 row }
+pub fn by_part(subject: &Subject, row: Kinded, e: ExpressionHandle) -> bool
+    requires row { RowOf subject.now e.0 row }
     requires kind_value { row.kind ≡ 17 }
-    ensures { result ≡ by_part (scope_at file.now.bytes file.now.t f.0) e.0 (operand_at file.now.bytes row 0) (operand_at file.now.bytes row 1) }
+    ensures { result ≡ by_part (scope_of subject.now) e.0 (operand_at subject.now.file.now.bytes row 0) (operand_at subject.now.file.now.bytes row 1) }
 {
-    let own = type_of(file, f, e);
-    match kind_at(types, own) {
+    let own = type_of(subject.file, subject.f, e);
+    match kind_at(subject.types, own) {
         TypeKind::Scalar | TypeKind::Vector => {}
         _ => return false,
     }
-    let x = file.expression_operand(row, 0);
-    let y = file.expression_operand(row, 1);
-    let first = is_alike(alike, type_of(file, f, x), own);
-    let second = is_alike(alike, type_of(file, f, y), own);
+    let x = subject.file.expression_operand(row, 0);
+    let y = subject.file.expression_operand(row, 1);
+    let first = is_alike(subject.alike, type_of(subject.file, subject.f, x), own);
+    let second = is_alike(subject.alike, type_of(subject.file, subject.f, y), own);
     first && second
 }
 

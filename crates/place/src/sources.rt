@@ -2,10 +2,12 @@
 ghost use Rattle.std.specs.Prelude.{◌≡◌};
 ghost use Rattle.clearance.specs.Scope.{arm, source};
 ghost use Rattle.clearance.specs.Needs.{gives};
-ghost use Rattle.judge.specs.Given.{scope_at, Values};
+ghost use Rattle.judge.specs.Given.{scope_at};
 ghost use Rattle.place.specs.Sources.{source_by, gives_kind};
+ghost use Rattle.judge.specs.Subject.{ValuesOf, scope_of};
 
 use access::file::File;
+use judge::subject::Subject;
 use judge::values::is_path;
 use module::handles::{ExpressionHandle, FunctionHandle};
 use module::kinds::ExpressionKind;
@@ -58,24 +60,16 @@ fn gives_kind(kind: u16) -> bool
 }
 
 // Whether an emit gives the expression e its value.
-pub fn gives_value(
-    file: &File,
-    f: FunctionHandle,
-    types: &[u32],
-    paths: &[u32],
-    e: ExpressionHandle,
-) -> bool
-    requires { Values file.now.bytes file.now.t f.0 types.now paths.now }
-    ensures { result ≡ gives (arm (scope_at file.now.bytes file.now.t f.0) e.0) }
+pub fn gives_value(subject: &Subject, e: ExpressionHandle) -> bool
+    requires { ValuesOf subject.now }
+    ensures { result ≡ gives (arm (scope_of subject.now) e.0) }
 {
-    if file.expressions(f) <= e.0 {
+    if subject.file.expressions(subject.f) <= e.0 {
         return false;
     }
-    let row = file.expression(f, e);
+    let row = subject.file.expression(subject.f, e);
     match ExpressionKind::try_from(row.kind) {
-        Ok(ExpressionKind::AccessIndex | ExpressionKind::Access) => {
-            !is_path(file, f, types, paths, e)
-        }
+        Ok(ExpressionKind::AccessIndex | ExpressionKind::Access) => { !is_path(subject, e) }
         _ => gives_kind(row.kind),
     }
 }

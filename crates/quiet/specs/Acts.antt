@@ -10,6 +10,7 @@ use Rattle.judge.specs.Given.{scope_at}
 use Rattle.needs.specs.Path.{Piece}
 use Rattle.framed.specs.Kept.{Kept}
 use Rattle.standing.specs.World.{World}
+use Rattle.judge.specs.declared.subject.Subject.{Subject}
 
 -- a need, as the piece m of a store
 pub record Needing (bytes t : List ℕ) (f : ℕ) (types alike paths cells : List ℕ) (m : ℕ) : Type 0 where
@@ -17,6 +18,9 @@ pub record Needing (bytes t : List ℕ) (f : ℕ) (types alike paths cells : Lis
   pub store : Good cells
   pub there : m < top cells
   pub kept : Kept (scope_at bytes t f) (part cells m)
+
+abbrev pub NeedingOf : Subject → List ℕ → ℕ → Type 0
+NeedingOf j cells m = Needing j.file.now.bytes j.file.now.t j.f.0 j.types.now j.alike.now j.paths.now cells m
 
 -- the piece r of the store s is what is needed of what an act gives; a lent path is as long as it was
 pub record Overlap (S : Scope) (x : Act) (s : List ℕ) (n : PartReq) (before after : List ℕ) (r : ℕ) : Type 0 where

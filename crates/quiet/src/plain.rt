@@ -1,50 +1,35 @@
 // Statements that hold no blocks.
 ghost use Rattle.std.specs.Prelude.{◌≡◌, ℕ, ◌+◌, ◌-◌, ◌<◌, ◌≤◌, length};
 ghost use Rattle.part.specs.Store.{part};
-ghost use Rattle.module.specs.Tables.{function_of};
 ghost use Rattle.access.specs.Access.{statement_row};
-ghost use Rattle.judge.specs.Given.{scope_at};
 ghost use Rattle.strays.specs.Exits.{exits_of};
-ghost use Rattle.quiet.specs.Acts.{Needing, IdleFrom};
+ghost use Rattle.quiet.specs.Acts.{NeedingOf, IdleFrom};
 ghost use Rattle.quiet.specs.Places.{quiet_statement, Says};
+ghost use Rattle.judge.specs.Subject.{scope_of, function_in};
 
 use crate::acts::{emit_idle, store_idle};
-use access::file::File;
 use access::kinded::Kinded;
-use module::handles::{ExpressionHandle, FunctionHandle};
+use judge::subject::Subject;
+use module::handles::ExpressionHandle;
 use module::kinds::{NoKind, StatementKind};
 use strays::exits::Exits;
 
 // Whether none of the emitted expressions, from the first to the last, gives anything that is needed.
 fn quiet_emits(
-    file: &File,
-    f: FunctionHandle,
-    types: &[u32],
-    alike: &[u32],
-    paths: &[u32],
+    subject: &Subject,
     cells: &[u32],
     path: &mut [u32],
     m: u32,
     first: ExpressionHandle,
     last: ExpressionHandle,
 ) -> bool
-    requires needing { Needing file.now.bytes file.now.t f.0 types.now alike.now paths.now cells.now m }
-    requires last_in_bounds { last.0 < length (function_of file.now.bytes file.now.t f.0).expressions }
+    requires needing { NeedingOf subject.now cells.now m }
+    requires last_in_bounds { last.0 < length (function_in subject.now).expressions }
     requires in_bounds { 2 ≤ length path.old }
-    ensures { IdleFrom (scope_at file.now.bytes file.now.t f.0) (part cells.now m) first.0 ((last.0 + 1) - first.0) path.old path.new result }
+    ensures { IdleFrom (scope_of subject.now) (part cells.now m) first.0 ((last.0 + 1) - first.0) path.old path.new result }
 {
     for e in first.0..=last.0 {
-        if !emit_idle(
-            file,
-            f,
-            types,
-            alike,
-            paths,
-            cells,
-            path,
-            m,
-            ExpressionHandle(e),
-        ) {
+        if !emit_idle(subject, cells, path, m, ExpressionHandle(e)) {
             return false;
         }
     }
@@ -53,11 +38,7 @@ fn quiet_emits(
 
 // The statement s, by its row, whatever block it is in.
 pub fn quiet_plain(
-    file: &File,
-    f: FunctionHandle,
-    types: &[u32],
-    alike: &[u32],
-    paths: &[u32],
+    subject: &Subject,
     cells: &[u32],
     path: &mut [u32],
     m: u32,
@@ -65,22 +46,22 @@ pub fn quiet_plain(
     row: Kinded,
     e: Exits<bool>,
 ) -> bool
-    requires needing { Needing file.now.bytes file.now.t f.0 types.now alike.now paths.now cells.now m }
-    requires f_in_bounds { length (function_of file.now.bytes file.now.t f.0).expressions + 2 ≤ length path.old }
-    requires s_in_bounds { s < length (function_of file.now.bytes file.now.t f.0).statements }
-    requires row_value { row ≡ statement_row file.now.bytes file.now.t f.0 s }
+    requires needing { NeedingOf subject.now cells.now m }
+    requires f_in_bounds { length (function_in subject.now).expressions + 2 ≤ length path.old }
+    requires s_in_bounds { s < length (function_in subject.now).statements }
+    requires row_value { row ≡ statement_row subject.now.file.now.bytes subject.now.file.now.t subject.now.f.0 s }
     requires lt_kind { (row.kind ≡ 0 → ⊥) → 4 < row.kind }
-    ensures { (b : ℕ) → Says (quiet_statement (scope_at file.now.bytes file.now.t f.0) (part cells.now m) b s (exits_of e)) path.old path.new result }
+    ensures { (b : ℕ) → Says (quiet_statement (scope_of subject.now) (part cells.now m) b s (exits_of e)) path.old path.new result }
 {
     match StatementKind::try_from(row.kind) {
         Ok(StatementKind::Emit) => {
-            let first = file.expression_operand(row, 0);
-            let last = file.expression_operand(row, 1);
-            quiet_emits(file, f, types, alike, paths, cells, path, m, first, last)
+            let first = subject.file.expression_operand(row, 0);
+            let last = subject.file.expression_operand(row, 1);
+            quiet_emits(subject, cells, path, m, first, last)
         }
         Ok(StatementKind::Store) => {
-            let p = file.expression_operand(row, 0);
-            store_idle(file, f, types, alike, paths, cells, path, m, p)
+            let p = subject.file.expression_operand(row, 0);
+            store_idle(subject, cells, path, m, p)
         }
         Ok(StatementKind::Continue) => e.continued,
         Ok(StatementKind::Return) => e.returned,

@@ -1,20 +1,18 @@
 // Rounds until each loop's needs hold, and the answer.
 ghost use Rattle.std.specs.Prelude.{◌<◌};
 ghost use Rattle.part.specs.Store.{top, Good};
-ghost use Rattle.module.specs.Tables.{function_of};
 ghost use Rattle.clearance.specs.Tree.{body_tree};
 ghost use Rattle.checking.specs.Word.{said};
-ghost use Rattle.judge.specs.Given.{scope_at};
-ghost use Rattle.rounds.specs.Settling.{Settling, Settled, asked_by};
-ghost use Rattle.rounds.specs.Rounds.{Rounding, Rounded, Answers, Settles};
+ghost use Rattle.rounds.specs.Settling.{SettlingOf, Settled, asked_by};
+ghost use Rattle.rounds.specs.Rounds.{RoundingOf, Rounded, Answers, Settles};
+ghost use Rattle.judge.specs.Subject.{scope_of, function_in};
 
 use crate::begin::{begin, renew};
-use access::file::File;
 use backward::blocks::pass_around;
 use checking::words::Verdict;
 use context_bytes::starts::context_covers;
 use field::refusal::Refusal;
-use module::handles::FunctionHandle;
+use judge::subject::Subject;
 use standing::passing::{END, Exits, Passing, STACK};
 
 // The most rounds.
@@ -22,19 +20,15 @@ const ROUNDS: u32 = 65536;
 
 // One pass over the body, with the needs at the function's end where each exit leads.
 fn round(
-    file: &File,
-    f: FunctionHandle,
-    types: &[u32],
-    alike: &[u32],
-    paths: &[u32],
+    subject: &Subject,
     marks: &[u8],
     firsts: &[u32],
     cells: &mut [u32],
     roots: &mut [u32],
     path: &mut [u32],
 ) -> Passing
-    requires { Rounding file.now.bytes file.now.t f.0 types.now alike.now paths.now firsts.now cells.old roots.old path.old }
-    ensures { Rounded (scope_at file.now.bytes file.now.t f.0) (body_tree (function_of file.now.bytes file.now.t f.0) marks.now) cells.old roots.old cells.new roots.new path.old path.new result }
+    requires { RoundingOf subject.now firsts.now cells.old roots.old path.old }
+    ensures { Rounded (scope_of subject.now) (body_tree (function_in subject.now) marks.now) cells.old roots.old cells.new roots.new path.old path.new result }
 {
     let x = Exits {
         broke: END,
@@ -48,13 +42,9 @@ fn round(
         deep: false,
         wide: false,
     };
-    let b = file.body_block(f);
+    let b = subject.file.body_block(subject.f);
     pass_around(
-        file,
-        f,
-        types,
-        alike,
-        paths,
+        subject,
         marks,
         firsts,
         cells,
@@ -90,11 +80,7 @@ fn answer(cells: &[u32], n: u32, q: Passing, context: &[u8]) -> Verdict
 
 // Rounds until each loop's needs hold; past the most of them the answer is 26.
 fn settle_rounds(
-    file: &File,
-    f: FunctionHandle,
-    types: &[u32],
-    alike: &[u32],
-    paths: &[u32],
+    subject: &Subject,
     marks: &[u8],
     firsts: &[u32],
     cells: &mut [u32],
@@ -102,13 +88,11 @@ fn settle_rounds(
     path: &mut [u32],
     context: &[u8],
 ) -> Verdict
-    requires { Rounding file.now.bytes file.now.t f.0 types.now alike.now paths.now firsts.now cells.old roots.old path.old }
-    ensures { Settles (scope_at file.now.bytes file.now.t f.0) marks.now context.now cells.old roots.old (said result) }
+    requires { RoundingOf subject.now firsts.now cells.old roots.old path.old }
+    ensures { Settles (scope_of subject.now) marks.now context.now cells.old roots.old (said result) }
 {
     for _ in 0..ROUNDS {
-        let q = round(
-            file, f, types, alike, paths, marks, firsts, cells, roots, path,
-        );
+        let q = round(subject, marks, firsts, cells, roots, path);
         if q.full {
             return Verdict::Refused(Refusal::CheckBound);
         }
@@ -122,11 +106,7 @@ fn settle_rounds(
 
 // The answer, of a judged function and what is asked of it.
 pub fn settle(
-    file: &File,
-    f: FunctionHandle,
-    types: &[u32],
-    alike: &[u32],
-    paths: &[u32],
+    subject: &Subject,
     marks: &[u8],
     firsts: &[u32],
     cells: &mut [u32],
@@ -136,11 +116,17 @@ pub fn settle(
     value: u32,
     context: &[u8],
 ) -> Verdict
-    requires { Settling file.now.bytes file.now.t f.0 types.now alike.now paths.now firsts.now cells.old roots.old path.old globals value }
-    ensures { Settled (scope_at file.now.bytes file.now.t f.0) (asked_by cells.old globals value) marks.now context.now (said result) }
+    requires { SettlingOf subject.now firsts.now cells.old roots.old path.old globals value }
+    ensures { Settled (scope_of subject.now) (asked_by cells.old globals value) marks.now context.now (said result) }
 {
-    begin(file, f, types, cells, roots, globals, value);
-    settle_rounds(
-        file, f, types, alike, paths, marks, firsts, cells, roots, path, context,
-    )
+    begin(
+        subject.file,
+        subject.f,
+        subject.types,
+        cells,
+        roots,
+        globals,
+        value,
+    );
+    settle_rounds(subject, marks, firsts, cells, roots, path, context)
 }

@@ -8,6 +8,7 @@ use Rattle.clearance.specs.Judged.{blamed_expression, blamed_statement}
 use Rattle.clearance.specs.Verdict.{Answer, unjudged_expression, unjudged_statement}
 use Rattle.judge.specs.Unsized.{UnsizedTable}
 use Rattle.judge.specs.Given.{scope_at, Given}
+use Rattle.judge.specs.declared.subject.Subject.{Subject}
 use Rattle.checking.specs.Word.{said}
 use Rattle.checking.specs.declared.words.Verdict.{Verdict}
 
@@ -21,6 +22,9 @@ pub record Sized (bytes t : List ℕ) (f : ℕ) (types alike held paths : List �
 pub record Tables (bytes t : List ℕ) (f : ℕ) (types alike held paths : List ℕ) : Type 0 where
   pub given : Given bytes t f types alike paths
   pub unsized : UnsizedTable (types_of types) held
+
+abbrev pub TablesOf : Subject → List ℕ → Type 0
+TablesOf j held = Tables j.file.now.bytes j.file.now.t j.f.0 j.types.now j.alike.now held j.paths.now
 
 -- the answer where something is not judged
 unfoldable pub unjudged : (expression statement : Option ℕ) → Option Answer
@@ -36,3 +40,6 @@ said_if (Some v) = some (said v)
 -- r is that of the function f, whatever its marks
 pub record Judges (bytes t : List ℕ) (f : ℕ) (r : Maybe Verdict) : Type 0 where
   pub is : (marks : List ℕ) → said_if r ≡ unjudged (blamed_expression (scope_at bytes t f)) (blamed_statement (scope_at bytes t f) (body_tree (function_of bytes t f) marks))
+
+abbrev pub JudgesOf : Subject → Maybe Verdict → Type 0
+JudgesOf j r = Judges j.file.now.bytes j.file.now.t j.f.0 r

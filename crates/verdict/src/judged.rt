@@ -1,27 +1,19 @@
 // Whether a function is judged: the lowest expression that is not, else the lowest statement.
-ghost use Rattle.verdict.specs.Tables.{Tables, Judges};
+ghost use Rattle.verdict.specs.Tables.{TablesOf, JudgesOf};
 
-use access::file::File;
 use checking::words::Verdict;
 use judge::expressions::blamed_expression;
-use module::handles::FunctionHandle;
+use judge::subject::Subject;
 use strays::blame::blamed_statement;
 
 // The answer where something is not judged.
-pub fn unjudged(
-    file: &File,
-    f: FunctionHandle,
-    types: &[u32],
-    alike: &[u32],
-    held: &[u32],
-    paths: &[u32],
-) -> Option<Verdict>
-    requires { Tables file.now.bytes file.now.t f.0 types.now alike.now held.now paths.now }
-    ensures { Judges file.now.bytes file.now.t f.0 result }
+pub fn unjudged(subject: &Subject, held: &[u32]) -> Option<Verdict>
+    requires { TablesOf subject.now held.now }
+    ensures { JudgesOf subject.now result }
 {
-    if let Some(e) = blamed_expression(file, f, types, alike, held, paths) {
+    if let Some(e) = blamed_expression(subject, held) {
         return Some(Verdict::UnjudgedExpression(e));
     }
-    let s = blamed_statement(file, f, types, alike, paths)?;
+    let s = blamed_statement(subject)?;
     Some(Verdict::UnjudgedStatement(s))
 }

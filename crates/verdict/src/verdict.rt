@@ -17,6 +17,7 @@ use checking::shape::marks_shape;
 use checking::words::Verdict;
 use context::remove::TYPE_WORDS;
 use field::refusal::Refusal;
+use judge::subject::Subject;
 use module::handles::FunctionHandle;
 use rounds::settle::settle;
 
@@ -41,12 +42,19 @@ fn check_marks(
     ensures { MarksChecked file.now.bytes file.now.t f.0 cells.old globals value marks.now context.now (said result) }
 {
     fill_tables(file, f, types, alike, held, paths);
-    if let Some(verdict) = unjudged(file, f, types, alike, held, paths) {
+    let subject = Subject {
+        file,
+        f,
+        types,
+        alike,
+        paths,
+    };
+    if let Some(verdict) = unjudged(&subject, held) {
         return verdict;
     }
     fill_firsts(file, f, firsts);
     settle(
-        file, f, types, alike, paths, marks, firsts, cells, roots, path, globals, value, context,
+        &subject, marks, firsts, cells, roots, path, globals, value, context,
     )
 }
 

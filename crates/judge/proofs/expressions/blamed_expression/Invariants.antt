@@ -5,4 +5,4 @@ use Rattle.judge.proofs.ValueRows.{Each}
 use Rattle.judge.proofs.expressions.blamed_expression.Given as goal
 
 abbrev pub invariant-loop-e : goal.invariant-loop-e
-invariant-loop-e l = Each (judged_expression (scope_at l.file.bytes l.file.t l.f.0)) l.e
+invariant-loop-e l = Each (judged_expression (scope_at l.subject.file.now.bytes l.subject.file.now.t l.subject.f.0)) l.e

@@ -6,4 +6,4 @@ use Rattle.judge.proofs.ValueRows.{Each}
 use Rattle.judge.proofs.statements.unfit_statement.Given as goal
 
 abbrev pub invariant-loop-s : goal.invariant-loop-s
-invariant-loop-s l = Each (λ k. fits_statement (scope_at l.file.bytes l.file.t l.f.0) (statement_at l.file.bytes l.file.t l.f.0 k)) l.s
+invariant-loop-s l = Each (λ k. fits_statement (scope_at l.subject.file.now.bytes l.subject.file.now.t l.subject.f.0) (statement_at l.subject.file.now.bytes l.subject.file.now.t l.subject.f.0 k)) l.s

@@ -7,4 +7,4 @@ use Rattle.judge.proofs.ValueRows.{Each}
 use Rattle.judge.proofs.values.all_values.Given as goal
 
 abbrev pub invariant-loop-i : goal.invariant-loop-i
-invariant-loop-i l = Each (λ k. is_value (scope_at l.file.bytes l.file.t l.f.0) (operand_at l.file.bytes l.row (1 + k))) l.i
+invariant-loop-i l = Each (λ k. is_value (scope_at l.subject.file.now.bytes l.subject.file.now.t l.subject.f.0) (operand_at l.subject.file.now.bytes l.row (1 + k))) l.i

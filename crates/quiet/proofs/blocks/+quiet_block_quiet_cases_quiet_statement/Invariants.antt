@@ -10,10 +10,10 @@ use Rattle.quiet.proofs.Steps.{Left, later}
 use Rattle.quiet.proofs.blocks.+quiet_block_quiet_cases_quiet_statement.Given as goal
 
 abbrev pub invariant-quiet_block-loop-k : goal.invariant-quiet_block-loop-k
-invariant-quiet_block-loop-k l = Left (quiet_block (scope_at l.file.bytes l.file.t l.f.0) (part l.cells l.m) l.b.0 (exits_of l.e)) (later (scope_at l.file.bytes l.file.t l.f.0) (part l.cells l.m) l.b.0 l.first l.k-end (exits_of l.e) l.k) l.initial.path l.path
+invariant-quiet_block-loop-k l = Left (quiet_block (scope_at l.subject.file.now.bytes l.subject.file.now.t l.subject.f.0) (part l.cells l.m) l.b.0 (exits_of l.e)) (later (scope_at l.subject.file.now.bytes l.subject.file.now.t l.subject.f.0) (part l.cells l.m) l.b.0 l.first l.k-end (exits_of l.e) l.k) l.initial.path l.path
 
 abbrev pub invariant-quiet_cases-loop-i : goal.invariant-quiet_cases-loop-i
-invariant-quiet_cases-loop-i l = Left (quiet_cases (scope_at l.file.bytes l.file.t l.f.0) (part l.cells l.m) (operand_at l.file.bytes l.row) (operand_at l.file.bytes l.row 1) (exits_of l.e)) (quiet_cases (scope_at l.file.bytes l.file.t l.f.0) (part l.cells l.m) (operand_at l.file.bytes l.row) l.i (exits_of l.e)) l.initial.path l.path
+invariant-quiet_cases-loop-i l = Left (quiet_cases (scope_at l.subject.file.now.bytes l.subject.file.now.t l.subject.f.0) (part l.cells l.m) (operand_at l.subject.file.now.bytes l.row) (operand_at l.subject.file.now.bytes l.row 1) (exits_of l.e)) (quiet_cases (scope_at l.subject.file.now.bytes l.subject.file.now.t l.subject.f.0) (part l.cells l.m) (operand_at l.subject.file.now.bytes l.row) l.i (exits_of l.e)) l.initial.path l.path
 
 abbrev pub decreases-quiet_block : goal.decreases-quiet_block
 decreases-quiet_block l = 3 * l.b.0 + 2

@@ -6,4 +6,4 @@ use Rattle.quiet.proofs.Leaves.{Passed}
 use Rattle.quiet.proofs.plain.quiet_emits.Given as goal
 
 abbrev pub invariant-loop-e : goal.invariant-loop-e
-invariant-loop-e l = Passed (scope_at l.file.bytes l.file.t l.f.0) (part l.cells l.m) l.fn.first.0 ((l.fn.last.0 + 1) - l.fn.first.0) l.e ((l.fn.last.0 + 1) - l.e) l.initial.path l.path
+invariant-loop-e l = Passed (scope_at l.subject.file.now.bytes l.subject.file.now.t l.subject.f.0) (part l.cells l.m) l.fn.first.0 ((l.fn.last.0 + 1) - l.fn.first.0) l.e ((l.fn.last.0 + 1) - l.e) l.initial.path l.path

@@ -8,4 +8,4 @@ use Rattle.rounds.proofs.Turns.{Turning}
 use Rattle.rounds.proofs.settle.settle_rounds.Given as goal
 
 abbrev pub invariant-loop : goal.invariant-loop
-invariant-loop l = Turning (scope_at l.file.bytes l.file.t l.f.0) (body_tree (function_of l.file.bytes l.file.t l.f.0) l.marks) l.initial.cells l.initial.roots (max_rounds - l.counter) l.cells l.roots
+invariant-loop l = Turning (scope_at l.subject.file.now.bytes l.subject.file.now.t l.subject.f.0) (body_tree (function_of l.subject.file.now.bytes l.subject.file.now.t l.subject.f.0) l.marks) l.initial.cells l.initial.roots (max_rounds - l.counter) l.cells l.roots

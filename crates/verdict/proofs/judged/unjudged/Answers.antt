@@ -7,15 +7,15 @@ blamed_expression-requires c = record { given = c.requires.given; unsized_table 
 
 pub returns-in-Some : goal.returns-in-Some
 returns-in-Some c =
-    at-expression c.args.file.now.bytes c.args.file.now.t c.args.f.0 c.blamed_expression.ensures c.in-Some.is
+    at-expression c.args.subject.now.file.now.bytes c.args.subject.now.file.now.t c.args.subject.now.f.0 c.blamed_expression.ensures c.in-Some.is
 
 pub blamed_statement-requires : goal.blamed_statement-requires
 blamed_statement-requires c = c.requires.given
 
 pub returns-in_err-s : goal.returns-in_err-s
 returns-in_err-s c =
-    rw c.from_residual.ensures (all_judged c.args.file.now.bytes c.args.file.now.t c.args.f.0 c.blamed_expression.ensures c.in_default.is c.blamed_statement.ensures c.in_err-s.was)
+    rw c.from_residual.ensures (all_judged c.args.subject.now.file.now.bytes c.args.subject.now.file.now.t c.args.subject.now.f.0 c.blamed_expression.ensures c.in_default.is c.blamed_statement.ensures c.in_err-s.was)
 
 pub returns : goal.returns
 returns c =
-    at-statement c.args.file.now.bytes c.args.file.now.t c.args.f.0 c.blamed_expression.ensures c.in_default.is c.blamed_statement.ensures c.in_ok-s.was
+    at-statement c.args.subject.now.file.now.bytes c.args.subject.now.file.now.t c.args.subject.now.f.0 c.blamed_expression.ensures c.in_default.is c.blamed_statement.ensures c.in_ok-s.was
