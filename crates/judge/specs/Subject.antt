@@ -5,19 +5,13 @@ use Rattle.module.specs.Tables.{function_of}
 use Rattle.access.specs.declared.kinded.Kinded.{Kinded}
 use Rattle.clearance.specs.Scope.{Scope}
 use Rattle.judge.specs.declared.subject.Subject.{Subject}
-use Rattle.judge.specs.Given.{scope_at, Values, Given, Row, Fits, FitsStatement}
+use Rattle.judge.specs.Given.{scope_at, Row, Fits, FitsStatement}
 
 abbrev pub scope_of : Subject → Scope
 scope_of j = scope_at j.file.now.bytes j.file.now.t j.f.0
 
 abbrev pub function_in : Subject → Function
 function_in j = function_of j.file.now.bytes j.file.now.t j.f.0
-
-abbrev pub ValuesOf : Subject → Type 0
-ValuesOf j = Values j.file.now.bytes j.file.now.t j.f.0 j.types.now j.paths.now
-
-abbrev pub GivenOf : Subject → Type 0
-GivenOf j = Given j.file.now.bytes j.file.now.t j.f.0 j.types.now j.alike.now j.paths.now
 
 abbrev pub RowOf : Subject → ℕ → Kinded → Type 0
 RowOf j e row = Row j.file.now.bytes j.file.now.t j.f.0 j.types.now j.alike.now j.paths.now e row

@@ -4,7 +4,7 @@ ghost use Rattle.context.specs.Types.{types_of};
 ghost use Rattle.clearance.specs.Judged.{judged_expression, blamed_expression};
 ghost use Rattle.judge.specs.Unsized.{UnsizedTable};
 ghost use Rattle.judge.specs.Blamed.{blamed};
-ghost use Rattle.judge.specs.Subject.{GivenOf, scope_of, function_in, FitsOf};
+ghost use Rattle.judge.specs.Subject.{scope_of, function_in, FitsOf};
 
 use crate::indexes::fits_index;
 use crate::made::fits_made;
@@ -18,7 +18,6 @@ use module::kinds::ExpressionKind;
 
 // Whether the expression e fits, by the group of its kind. A kind past the last is a literal's.
 pub fn fits_expression(subject: &Subject, e: ExpressionHandle) -> bool
-    requires given { GivenOf subject.now }
     requires e_in_bounds { e.0 < length (function_in subject.now).expressions }
     ensures { FitsOf subject.now e.0 result }
 {
@@ -53,7 +52,6 @@ pub fn fits_expression(subject: &Subject, e: ExpressionHandle) -> bool
 
 // Whether the expression e fits and neither its type nor its pointee holds an unsized array.
 pub fn judged_expression(subject: &Subject, held: &[u32], e: ExpressionHandle) -> bool
-    requires given { GivenOf subject.now }
     requires unsized_table { UnsizedTable (types_of subject.now.types.now) held.now }
     requires e_in_bounds { e.0 < length (function_in subject.now).expressions }
     ensures { result ≡ judged_expression (scope_of subject.now) e.0 }
@@ -67,7 +65,6 @@ pub fn judged_expression(subject: &Subject, held: &[u32], e: ExpressionHandle) -
 
 // The lowest expression that is not judged.
 pub fn blamed_expression(subject: &Subject, held: &[u32]) -> Option<u32>
-    requires given { GivenOf subject.now }
     requires unsized_table { UnsizedTable (types_of subject.now.types.now) held.now }
     ensures { blamed result ≡ blamed_expression (scope_of subject.now) }
 {

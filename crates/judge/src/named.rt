@@ -4,7 +4,7 @@ ghost use Rattle.context.specs.Types.{types_of};
 ghost use Rattle.clearance.specs.Scope.{inner, inner_of, is_path, is_pointer};
 ghost use Rattle.clearance.specs.Judged.{pointee, pointee_type, same};
 ghost use Rattle.judge.specs.Shapes.{InTypes, Shapes};
-ghost use Rattle.judge.specs.Subject.{GivenOf, RowOf, scope_of, function_in, FitsOf};
+ghost use Rattle.judge.specs.Subject.{RowOf, scope_of, function_in, FitsOf};
 
 use crate::rows::kind_at;
 use crate::shapes::{is_alike, pointee};
@@ -26,7 +26,6 @@ fn fits_variable(types: &[u32], alike: &[u32], a: TypeHandle, b: TypeHandle) -> 
 
 // Whether p is a path that leads to what has v's shape.
 pub fn leads_to(subject: &Subject, p: ExpressionHandle, v: ExpressionHandle) -> bool
-    requires given { GivenOf subject.now }
     requires p_in_bounds { p.0 < length (function_in subject.now).expressions }
     requires v_in_bounds { v.0 < length (function_in subject.now).expressions }
     ensures { result ≡ (is_path (scope_of subject.now) p.0 && same (scope_of subject.now) (pointee (scope_of subject.now) p.0) (inner_of (scope_of subject.now) v.0)) }

@@ -4,7 +4,7 @@ ghost use Rattle.access.specs.Access.{handle_in};
 ghost use Rattle.valid.specs.Valid.{MaybeBelow};
 ghost use Rattle.clearance.specs.Judged.{presently, is_value, fits_return, fits_statement, failing, lowest};
 ghost use Rattle.judge.specs.Blamed.{blamed};
-ghost use Rattle.judge.specs.Subject.{GivenOf, scope_of, function_in, FitsStatementOf};
+ghost use Rattle.judge.specs.Subject.{scope_of, function_in, FitsStatementOf};
 
 use crate::named::leads_to;
 use crate::shapes::is_alike;
@@ -15,7 +15,6 @@ use module::kinds::StatementKind;
 
 // A returned value is of the result's shape; there may be none.
 fn fits_return(subject: &Subject, v: Option<ExpressionHandle>) -> bool
-    requires given { GivenOf subject.now }
     requires maybe_below { MaybeBelow (length (function_in subject.now).expressions) (handle_in v) }
     ensures { result ≡ presently (λ v. is_value (scope_of subject.now) v && fits_return (scope_of subject.now) (function_in subject.now).result v) (handle_in v) }
 {
@@ -35,7 +34,6 @@ fn fits_return(subject: &Subject, v: Option<ExpressionHandle>) -> bool
 
 // Whether the statement s fits, by its kind. A kind past the last is a break's.
 pub fn fits_statement(subject: &Subject, s: u32) -> bool
-    requires given { GivenOf subject.now }
     requires s_in_bounds { s < length (function_in subject.now).statements }
     ensures { FitsStatementOf subject.now s result }
 {
@@ -71,7 +69,6 @@ pub fn fits_statement(subject: &Subject, s: u32) -> bool
 
 // The lowest statement that does not fit.
 pub fn unfit_statement(subject: &Subject) -> Option<u32>
-    requires { GivenOf subject.now }
     ensures { blamed result ≡ lowest (failing (λ n x. fits_statement (scope_of subject.now) x) 0 (function_in subject.now).statements) }
 {
     let n = subject.file.statements(subject.f);

@@ -1,4 +1,6 @@
 // What a check is about: a function of a module that was read, with the tables that were filled for it.
+ghost use Rattle.judge.specs.Given.{Given};
+
 use access::file::File;
 use module::handles::FunctionHandle;
 
@@ -10,4 +12,5 @@ pub struct Subject<'a> {
     pub types: &'a [u32],
     pub alike: &'a [u32],
     pub paths: &'a [u32],
+    pub ghost given: { Given file.now.bytes file.now.t f.0 types.now alike.now paths.now },
 }

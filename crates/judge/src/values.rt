@@ -5,7 +5,7 @@ ghost use Rattle.access.specs.Access.{operand_at, handle_in};
 ghost use Rattle.clearance.specs.Scope.{type_of, is_path};
 ghost use Rattle.clearance.specs.Judged.{every, presently, is_value};
 ghost use Rattle.judge.specs.Given.{scope_at};
-ghost use Rattle.judge.specs.Subject.{ValuesOf, scope_of};
+ghost use Rattle.judge.specs.Subject.{scope_of};
 
 use crate::rows::kind_at;
 use crate::subject::Subject;
@@ -27,7 +27,6 @@ pub fn type_of(file: &File, f: FunctionHandle, e: ExpressionHandle) -> TypeHandl
 
 // Whether the expression e is a path.
 pub fn is_path(subject: &Subject, e: ExpressionHandle) -> bool
-    requires { ValuesOf subject.now }
     ensures { result ≡ is_path (scope_of subject.now) e.0 }
 {
     word(subject.paths, e.0 as usize) == 1
@@ -35,7 +34,6 @@ pub fn is_path(subject: &Subject, e: ExpressionHandle) -> bool
 
 // Whether the expression e is a value.
 pub fn is_value(subject: &Subject, e: ExpressionHandle) -> bool
-    requires { ValuesOf subject.now }
     ensures { result ≡ is_value (scope_of subject.now) e.0 }
 {
     !is_path(subject, e)
@@ -44,7 +42,6 @@ pub fn is_value(subject: &Subject, e: ExpressionHandle) -> bool
 
 // Whether the operand v is absent or a value.
 pub fn maybe_value(subject: &Subject, v: Option<ExpressionHandle>) -> bool
-    requires { ValuesOf subject.now }
     ensures { result ≡ presently (is_value (scope_of subject.now)) (handle_in v) }
 {
     match v {
@@ -55,7 +52,6 @@ pub fn maybe_value(subject: &Subject, v: Option<ExpressionHandle>) -> bool
 
 // Whether the operands after the first, which is their count, are values.
 pub fn all_values(subject: &Subject, row: Kinded) -> bool
-    requires { ValuesOf subject.now }
     ensures { result ≡ every (is_value (scope_of subject.now)) (tab (operand_at subject.now.file.now.bytes row 0) (λ i. operand_at subject.now.file.now.bytes row (1 + i))) }
 {
     let n = subject.file.operand(row, 0);

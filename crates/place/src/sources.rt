@@ -4,7 +4,7 @@ ghost use Rattle.clearance.specs.Scope.{arm, source};
 ghost use Rattle.clearance.specs.Needs.{gives};
 ghost use Rattle.judge.specs.Given.{scope_at};
 ghost use Rattle.place.specs.Sources.{source_by, gives_kind};
-ghost use Rattle.judge.specs.Subject.{ValuesOf, scope_of};
+ghost use Rattle.judge.specs.Subject.{scope_of};
 
 use access::file::File;
 use judge::subject::Subject;
@@ -61,7 +61,6 @@ fn gives_kind(kind: u16) -> bool
 
 // Whether an emit gives the expression e its value.
 pub fn gives_value(subject: &Subject, e: ExpressionHandle) -> bool
-    requires { ValuesOf subject.now }
     ensures { result ≡ gives (arm (scope_of subject.now) e.0) }
 {
     if subject.file.expressions(subject.f) <= e.0 {

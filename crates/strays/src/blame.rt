@@ -3,7 +3,7 @@ ghost use Rattle.std.specs.Prelude.{◌≡◌, List, ℕ};
 ghost use Rattle.clearance.specs.Tree.{body_tree};
 ghost use Rattle.clearance.specs.Judged.{blamed_statement};
 ghost use Rattle.judge.specs.Blamed.{blamed};
-ghost use Rattle.judge.specs.Subject.{GivenOf, scope_of, function_in};
+ghost use Rattle.judge.specs.Subject.{scope_of, function_in};
 
 use crate::blocks::strays;
 use crate::lower::lower_of;
@@ -12,7 +12,6 @@ use judge::subject::Subject;
 
 // A statement that does not fit, or leaves where it is not allowed, whatever the marks.
 pub fn blamed_statement(subject: &Subject) -> Option<u32>
-    requires { GivenOf subject.now }
     ensures { (marks : List ℕ) → blamed result ≡ blamed_statement (scope_of subject.now) (body_tree (function_in subject.now) marks) }
 {
     let unfit = unfit_statement(subject);

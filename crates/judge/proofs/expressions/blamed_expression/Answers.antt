@@ -8,7 +8,7 @@ loop-e-init c = each_none _
 
 pub judged_expression-requires : goal.judged_expression-requires
 judged_expression-requires c =
-    record { given = c.requires.given; unsized_table = c.requires.unsized_table; e_in_bounds = there_below c.expressions-n.ensures c.loop-e-test.true }
+    record { unsized_table = c.requires.unsized_table; e_in_bounds = there_below c.expressions-n.ensures c.loop-e-test.true }
 
 pub returns-then-not-judged_expression : goal.returns-then-not-judged_expression
 returns-then-not-judged_expression c =

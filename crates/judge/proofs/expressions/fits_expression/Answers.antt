@@ -5,12 +5,12 @@ use Rattle.judge.proofs.expressions.fits_expression.Goals as goal
 
 pub returns-in-Ok-Literal : goal.returns-in-Ok-Literal
 returns-in-Ok-Literal c =
-    fits_fixed (record { given = c.requires.given; there = c.requires.e_in_bounds; is = c.expression-row.ensures }) (search rules) c.is_value.ensures
+    fits_fixed (record { given = c.args.subject.now.given; there = c.requires.e_in_bounds; is = c.expression-row.ensures }) (search rules) c.is_value.ensures
 
 pub returns-in-Ok : goal.returns-in-Ok
 returns-in-Ok c =
-    fits_unjudged (record { given = c.requires.given; there = c.requires.e_in_bounds; is = c.expression-row.ensures }) (search rules) (λ h. search rules) (λ h. search rules) (search rules)
+    fits_unjudged (record { given = c.args.subject.now.given; there = c.requires.e_in_bounds; is = c.expression-row.ensures }) (search rules) (λ h. search rules) (λ h. search rules) (search rules)
 
 pub returns-in-Err : goal.returns-in-Err
 returns-in-Err c =
-    fits_last (record { given = c.requires.given; there = c.requires.e_in_bounds; is = c.expression-row.ensures }) (search rules) c.is_value-in-Err.ensures
+    fits_last (record { given = c.args.subject.now.given; there = c.requires.e_in_bounds; is = c.expression-row.ensures }) (search rules) c.is_value-in-Err.ensures

@@ -4,11 +4,11 @@ use Rattle.judge.proofs.expressions.judged_expression.Goals as goal
 
 pub returns-then-holds_either : goal.returns-then-holds_either
 returns-then-holds_either c =
-    judged_unsized c.requires.given c.requires.unsized_table _ c.requires.e_in_bounds c.type_of-own.ensures c.holds_either.ensures c.if-holds_either.true
+    judged_unsized c.args.subject.now.given c.requires.unsized_table _ c.requires.e_in_bounds c.type_of-own.ensures c.holds_either.ensures c.if-holds_either.true
 
 pub fits_expression-requires : goal.fits_expression-requires
-fits_expression-requires c = record { given = c.requires.given; e_in_bounds = c.requires.e_in_bounds }
+fits_expression-requires c = record { e_in_bounds = c.requires.e_in_bounds }
 
 pub returns : goal.returns
 returns c =
-    judged_fits c.requires.given c.requires.unsized_table _ c.requires.e_in_bounds c.type_of-own.ensures c.holds_either.ensures c.if-holds_either.false c.fits_expression.ensures
+    judged_fits c.args.subject.now.given c.requires.unsized_table _ c.requires.e_in_bounds c.type_of-own.ensures c.holds_either.ensures c.if-holds_either.false c.fits_expression.ensures

@@ -30,7 +30,7 @@ returns-else-is_value c = fits_argument c.requires.row c.type_of-own.ensures c.o
 pub leads_to-requires : goal.leads_to-requires
 leads_to-requires c =
     let low = load_low c.requires.row c.type_of-own.ensures c.expression_operand-pointer.ensures (search rules) in
-    record { given = c.requires.row.given; p_in_bounds = low.0; v_in_bounds = low.1 }
+    record { p_in_bounds = low.0; v_in_bounds = low.1 }
 
 pub returns-then-is_value-2 : goal.returns-then-is_value-2
 returns-then-is_value-2 c = fits_load c.requires.row c.type_of-own.ensures c.expression_operand-pointer.ensures (search rules) (search rules)

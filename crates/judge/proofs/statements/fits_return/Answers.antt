@@ -11,14 +11,14 @@ returns-in_default c = search rules
 
 pub returns-in_default-result : goal.returns-in_default-result
 unfolding handle_in presently
-returns-in_default-result c = rw c.in-Some.is (return_none c.requires.given _ c.result.ensures c.in_default-result.is)
+returns-in_default-result c = rw c.in-Some.is (return_none c.args.subject.now.given _ c.result.ensures c.in_default-result.is)
 
 pub returns-then-is_value : goal.returns-then-is_value
 unfolding handle_in presently
 returns-then-is_value c =
-    rw c.in-Some.is (return_some c.requires.given _ c.result.ensures _ c.in-Some-result.is (rw c.in-Some.is at c.requires.maybe_below) (search rules))
+    rw c.in-Some.is (return_some c.args.subject.now.given _ c.result.ensures _ c.in-Some-result.is (rw c.in-Some.is at c.requires.maybe_below) (search rules))
 
 pub returns-else-is_value : goal.returns-else-is_value
 unfolding handle_in presently
 returns-else-is_value c =
-    rw c.in-Some.is (return_some c.requires.given _ c.result.ensures _ c.in-Some-result.is (rw c.in-Some.is at c.requires.maybe_below) (search rules))
+    rw c.in-Some.is (return_some c.args.subject.now.given _ c.result.ensures _ c.in-Some-result.is (rw c.in-Some.is at c.requires.maybe_below) (search rules))

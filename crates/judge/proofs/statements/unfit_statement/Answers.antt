@@ -8,7 +8,7 @@ loop-s-init c = each_none _
 
 pub fits_statement-requires : goal.fits_statement-requires
 fits_statement-requires c =
-    record { given = c.requires; s_in_bounds = there_below c.statements-n.ensures c.loop-s-test.true }
+    record { s_in_bounds = there_below c.statements-n.ensures c.loop-s-test.true }
 
 pub returns-then-not-fits_statement : goal.returns-then-not-fits_statement
 returns-then-not-fits_statement c =

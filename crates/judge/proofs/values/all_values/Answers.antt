@@ -7,9 +7,6 @@ use Rattle.judge.proofs.values.all_values.Goals as goal
 pub loop-i-init : goal.loop-i-init
 loop-i-init c = each_none _
 
-pub is_value-requires : goal.is_value-requires
-is_value-requires c = c.requires
-
 pub returns-then-not-is_value : goal.returns-then-not-is_value
 returns-then-not-is_value c =
     each_fails _ _ _ c.operand-n.ensures c.loop-i-test.true (c.is_value.ensures ∙ ap (is_value _) c.expression_operand-c.ensures) c.if-not-is_value.true
