@@ -23,9 +23,6 @@ pub record Tables (bytes t : List ℕ) (f : ℕ) (types alike held paths : List 
   pub given : Given bytes t f types alike paths
   pub unsized : UnsizedTable (types_of types) held
 
-abbrev pub TablesOf : Subject → List ℕ → Type 0
-TablesOf j held = Tables j.file.now.bytes j.file.now.t j.f.0 j.types.now j.alike.now held j.paths.now
-
 -- the answer where something is not judged
 unfoldable pub unjudged : (expression statement : Option ℕ) → Option Answer
 unjudged (some e) s = some (unjudged_expression e)

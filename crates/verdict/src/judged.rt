@@ -1,5 +1,7 @@
 // Whether a function is judged: the lowest expression that is not, else the lowest statement.
-ghost use Rattle.verdict.specs.Tables.{TablesOf, JudgesOf};
+ghost use Rattle.context.specs.Types.{types_of};
+ghost use Rattle.judge.specs.Unsized.{UnsizedTable};
+ghost use Rattle.verdict.specs.Tables.{JudgesOf};
 
 use checking::words::Verdict;
 use judge::expressions::blamed_expression;
@@ -8,7 +10,7 @@ use strays::blame::blamed_statement;
 
 // The answer where something is not judged.
 pub fn unjudged(subject: &Subject, held: &[u32]) -> Option<Verdict>
-    requires { TablesOf subject.now held.now }
+    requires { UnsizedTable (types_of subject.now.types.now) held.now }
     ensures { JudgesOf subject.now result }
 {
     if let Some(e) = blamed_expression(subject, held) {

@@ -7,7 +7,7 @@ pub fill_tables-requires : goal.fill_tables-requires
 fill_tables-requires c = (there c.requires, c.requires.sized)
 
 pub unjudged-requires : goal.unjudged-requires
-unjudged-requires c = c.fill_tables.ensures
+unjudged-requires c = c.fill_tables.ensures.unsized
 
 pub returns-in-Some : goal.returns-in-Some
 returns-in-Some c = not_judged c.requires c.args.marks.now c.args.context.now c.unjudged.ensures c.in-Some.is
