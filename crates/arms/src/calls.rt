@@ -11,7 +11,7 @@ use access::kinded::Kinded;
 use block::call::enter;
 use call::ends::end_call;
 use leave::leave::{leave, own_pieces};
-use marks::places::place;
+use marks::places::{PLACES, place};
 use marks::set::set_call;
 use memory::layout::RESULT;
 use memory::memory::{tidy, weigh};
@@ -43,7 +43,7 @@ fn asked_of(cells: &mut [u32], found: Option<u32>) -> u32
 // The called function's base is put above the current context.
 pub fn begin_call(
     file: &File,
-    places: &[u32],
+    places: &[u32; PLACES],
     cells: &mut [u32],
     slots: &mut [u32],
     open: &mut [u8],
@@ -112,7 +112,7 @@ fn mark_call(open: &mut [u8], at: usize, res: bool, r: Answered) -> Answered
 // The call ends, once its function was walked: whether that is required.
 pub fn return_call(
     file: &File,
-    places: &[u32],
+    places: &[u32; PLACES],
     cells: &mut [u32],
     slots: &mut [u32],
     open: &mut [u8],

@@ -3,7 +3,7 @@ ghost use Rattle.arms.specs.Emit.{EmitAsked, EmitEnds};
 
 use access::file::File;
 use access::kinded::Kinded;
-use marks::places::place;
+use marks::places::{PLACES, place};
 use marks::set::set_emit;
 use memory::layout::EXPRS;
 use state::answer::{Answer, Answered, Tally};
@@ -13,7 +13,7 @@ use state::frame::Frame;
 #[inline(never)]
 pub fn add_emit(
     file: &File,
-    places: &[u32],
+    places: &[u32; PLACES],
     cells: &[u32],
     slots: &[u32],
     open: &mut [u8],

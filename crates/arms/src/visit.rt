@@ -9,7 +9,7 @@ use access::file::File;
 use access::kinded::Kinded;
 use expression::visit::allowed;
 use field::refusal::Refusal;
-use marks::places::place;
+use marks::places::{PLACES, place};
 use marks::set::set_mark;
 use module::kinds::StatementKind;
 use state::answer::{Answer, Answered};
@@ -55,7 +55,7 @@ fn required(kind: u16, b: bool) -> bool
 // An arm's answer, once its mark is written: whether the statement is required.
 pub fn mark_statement(
     file: &File,
-    places: &[u32],
+    places: &[u32; PLACES],
     open: &mut [u8],
     fr: Frame,
     row: Kinded,

@@ -10,3 +10,4 @@ pub mod Left
 pub mod Visiting
 pub mod Pairing
 pub mod Functions
+pub mod World

@@ -4,6 +4,7 @@ ghost use Rattle.block.specs.AddTotal.{TotalAsked, TotalEnds};
 use crate::added::{first_total, later_total};
 use access::file::File;
 use field::refusal::Refusal;
+use marks::places::PLACES;
 use marks::ray::first_ray;
 use module::handles::FunctionHandle;
 use state::answer::{Halt, Place, Tally, Walked};
@@ -11,7 +12,7 @@ use state::answer::{Halt, Place, Tally, Walked};
 // `here` is where f was called.
 pub fn add_total(
     file: &File,
-    places: &[u32],
+    places: &[u32; PLACES],
     cells: &mut [u32],
     slots: &mut [u32],
     open: &[u8],

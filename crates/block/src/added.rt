@@ -8,13 +8,14 @@ ghost use Rattle.block.specs.Adding.{Adding, FirstTotal, IsLater};
 
 use crate::total::{join_total, keep_total, weigh_total};
 use access::file::File;
+use marks::places::PLACES;
 use marks::set::{add_marks, keep_marks};
 use module::handles::FunctionHandle;
 
 // The first total of f.
 pub fn first_total(
     file: &File,
-    places: &[u32],
+    places: &[u32; PLACES],
     cells: &[u32],
     slots: &mut [u32],
     open: &[u8],
@@ -36,7 +37,7 @@ pub fn first_total(
 // A later one: joined to the total of f. None where that passes a limit.
 pub fn later_total(
     file: &File,
-    places: &[u32],
+    places: &[u32; PLACES],
     cells: &mut [u32],
     slots: &mut [u32],
     open: &[u8],

@@ -8,3 +8,4 @@ pub mod branches;
 pub mod call;
 pub mod stack;
 pub mod total;
+pub mod world;

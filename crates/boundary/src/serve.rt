@@ -10,6 +10,7 @@ ghost use Rattle.boundary.specs.Requests.{RequestsRead, Requests};
 
 use crate::answer::refused_word;
 use access::file::File;
+use block::world::World;
 use context::remove::TYPE_WORDS;
 use field::limits::MAX_TYPES;
 use marks::places::{PLACES, place_marks};
@@ -58,7 +59,12 @@ fn request_of(
 {
     fill(file, table);
     place_marks(file, places);
-    let r = serve_read(file, table, places, request, pruner, report, answer);
+    let world = World {
+        file,
+        types: table,
+        places,
+    };
+    let r = serve_read(&world, request, pruner, report, answer);
     reply_word(r)
 }
 

@@ -1,25 +1,23 @@
 // The walk of functions, blocks and statements: they call each other, and have one proof.
 ghost use Rattle.std.specs.Prelude.{◌+◌, ◌≤◌, get_or, ◌≡◌};
 ghost use Rattle.part.specs.PartReq.{none};
-ghost use Rattle.module.specs.Tables.{module_of};
 ghost use Rattle.walk.specs.Function.{add_function};
 ghost use Rattle.memory.specs.Layout.{slot_count};
 ghost use Rattle.memory.specs.Memory.{read, context_at};
 ghost use Rattle.state.specs.State.{place_of};
-ghost use Rattle.block.specs.Standing.{state_in};
-ghost use Rattle.block.specs.Functions.{FunctionEntered, FunctionEnds};
-ghost use Rattle.block.specs.Blocks.{context_in, Entered, BlockEnds, StatementEnds};
-ghost use Rattle.block.specs.Visiting.{block_in, marked, Visits, Arms, VisitEnds};
+ghost use Rattle.block.specs.Functions.{FunctionEnteredOf, FunctionEndsOf};
+ghost use Rattle.block.specs.Blocks.{context_in, EnteredOf, BlockEndsOf, StatementEndsOf};
+ghost use Rattle.block.specs.Visiting.{marked, VisitsOf, ArmsOf, VisitEndsOf};
 ghost use Rattle.module.specs.Decode.{statement_of, tab, case_of, option_of};
 ghost use Rattle.access.specs.Access.{operand_at};
 ghost use Rattle.walk.specs.Statement.{add_statement, visit_statement, add_nested, add_if, add_switch, add_loop, turns};
 ghost use Rattle.state.specs.Frame.{frame_of};
 ghost use Rattle.walk.specs.StatementReq.{StatementReq};
-ghost use Rattle.block.specs.Pairing.{add_pair, Paired, PairEnds};
+ghost use Rattle.block.specs.Pairing.{add_pair, PairedOf, PairEndsOf};
 ghost use Rattle.field.specs.Limits.{max_turns};
-ghost use Rattle.arms.specs.Loops.{Turning};
+ghost use Rattle.arms.specs.Loops.{TurningOf};
+ghost use Rattle.block.specs.World.{module_by, blocks_by, state_by};
 
-use access::file::File;
 use access::kinded::Kinded;
 use arms::calls::{begin_call, leave_call, return_call};
 use arms::emit::add_emit;
@@ -30,10 +28,10 @@ use arms::visit::{end_statement, mark_statement};
 use block::add_total::add_total;
 use block::branches::drop_both;
 use block::stack::lower;
+use block::world::World;
 use expression::visit::allowed;
 use field::limits::{MAX_TURNS, MAX_VISITS, MIN_REPORT};
 use field::refusal::Refusal;
-use marks::places::PLACES;
 use marks::report::TOTALS_SIZE;
 use memory::layout::{CELLS, SLOTS};
 use memory::memory::weigh;
@@ -47,9 +45,7 @@ use statement::leaf::add_leaf;
 // `add_function_ref`: f, whose base context stands in the slots from `base` on, and which was called at `here`. Its context is left behind that.
 #[cycle(walk)]
 pub fn add_function(
-    file: &File,
-    types: &[u32],
-    places: &[u32; PLACES],
+    world: &World,
     cells: &mut [u32; CELLS],
     slots: &mut [u32; SLOTS],
     open: &mut [u8; MIN_REPORT],
@@ -60,17 +56,26 @@ pub fn add_function(
     held: usize,
     tally: Tally,
 ) -> Answered
-    requires function_entered { FunctionEntered file.now.bytes file.now.t types.now places.now cells.old slots.old «open».old totals.old f.0 base held tally.sum tally.visits }
+    requires function_entered { FunctionEnteredOf world.now cells.old slots.old «open».old totals.old f.0 base held tally.sum tally.visits }
     requires base_bound { base + 4 ≤ slot_count }
-    ensures { FunctionEnds file.now.bytes file.now.t types.now places.now cells.old slots.old «open».old totals.old f.0 base held (add_function (module_of file.now.bytes file.now.t) f.0 (place_of here) held (get_or (read cells.old slots.old) base none) (get_or (read cells.old slots.old) (base + 3) none) (state_in file.now.bytes file.now.t cells.old slots.old «open».old totals.old f.0 base tally.visits)) result cells.new slots.new «open».new totals.new }
+    ensures { FunctionEndsOf world.now cells.old slots.old «open».old totals.old f.0 base held (add_function (module_by world.now) f.0 (place_of here) held (get_or (read cells.old slots.old) base none) (get_or (read cells.old slots.old) (base + 3) none) (state_by world.now cells.old slots.old «open».old totals.old f.0 base tally.visits)) result cells.new slots.new «open».new totals.new }
 {
-    let b = file.body_block(f);
+    let b = world.file.body_block(f);
     let at = base + 4;
     let a = add_block(
-        file, types, places, cells, slots, open, totals, f, b, base, at, held, false, tally,
+        world, cells, slots, open, totals, f, b, base, at, held, false, tally,
     )?;
     let tally = add_total(
-        file, places, cells, slots, open, totals, f, at, here, a.tally,
+        world.file,
+        world.places,
+        cells,
+        slots,
+        open,
+        totals,
+        f,
+        at,
+        here,
+        a.tally,
     )?;
     Ok(Answer {
         tally,
@@ -81,9 +86,7 @@ pub fn add_function(
 // `add_block`: the block b of f, whose base stands in the slots from `base` on. Its context is left in those from `at` on.
 #[cycle(walk)]
 pub fn add_block(
-    file: &File,
-    types: &[u32],
-    places: &[u32; PLACES],
+    world: &World,
     cells: &mut [u32; CELLS],
     slots: &mut [u32; SLOTS],
     open: &mut [u8; MIN_REPORT],
@@ -96,10 +99,10 @@ pub fn add_block(
     break_required: bool,
     began: Tally,
 ) -> Answered
-    requires { Entered file.now.bytes file.now.t types.now places.now cells.old slots.old «open».old totals.old f.0 b.0 base at held (held + context_in cells.old slots.old base) began.sum began.visits }
-    ensures { BlockEnds file.now.bytes file.now.t types.now places.now cells.old slots.old «open».old totals.old f.0 base at held (held + context_in cells.old slots.old base) began.sum (block_in file.now.bytes file.now.t f.0 b.0 held (context_at (read cells.old slots.old) base) break_required (state_in file.now.bytes file.now.t cells.old slots.old «open».old totals.old f.0 at began.visits)) result cells.new slots.new «open».new totals.new }
+    requires { EnteredOf world.now cells.old slots.old «open».old totals.old f.0 b.0 base at held (held + context_in cells.old slots.old base) began.sum began.visits }
+    ensures { BlockEndsOf world.now cells.old slots.old «open».old totals.old f.0 base at held (held + context_in cells.old slots.old base) began.sum (blocks_by world.now f.0 b.0 held (context_at (read cells.old slots.old) base) break_required (state_by world.now cells.old slots.old «open».old totals.old f.0 at began.visits)) result cells.new slots.new «open».new totals.new }
 {
-    let range = file.block(f, b);
+    let range = world.file.block(f, b);
     let first = range.first;
     let inner = held + weigh(cells, slots, base, 4);
     copy_context(slots, base, at);
@@ -115,9 +118,7 @@ pub fn add_block(
             held: inner,
             break_required: behind,
         };
-        let a = add_statement(
-            file, types, places, cells, slots, open, totals, fr, b, tally,
-        )?;
+        let a = add_statement(world, cells, slots, open, totals, fr, b, tally)?;
         tally = a.tally;
         behind |= a.required;
         required |= a.required;
@@ -128,9 +129,7 @@ pub fn add_block(
 // `add_statement`, as a visit: 17, 16, the arm with its marks, and 16 again. The statement stands in the block b.
 #[cycle(walk)]
 pub fn add_statement(
-    file: &File,
-    types: &[u32],
-    places: &[u32; PLACES],
+    world: &World,
     cells: &mut [u32; CELLS],
     slots: &mut [u32; SLOTS],
     open: &mut [u8; MIN_REPORT],
@@ -139,8 +138,8 @@ pub fn add_statement(
     b: BlockHandle,
     tally: Tally,
 ) -> Answered
-    requires { Visits file.now.bytes file.now.t types.now places.now cells.old slots.old «open».old totals.old fr b.0 tally.sum tally.visits }
-    ensures { VisitEnds file.now.bytes file.now.t types.now places.now cells.old slots.old «open».old totals.old fr (visit_statement (module_of file.now.bytes file.now.t) (add_function (module_of file.now.bytes file.now.t)) (block_in file.now.bytes file.now.t fr.function.0) (frame_of cells.old slots.old fr) (state_in file.now.bytes file.now.t cells.old slots.old «open».old totals.old fr.function.0 fr.at tally.visits)) result cells.new slots.new «open».new totals.new }
+    requires { VisitsOf world.now cells.old slots.old «open».old totals.old fr b.0 tally.sum tally.visits }
+    ensures { VisitEndsOf world.now cells.old slots.old «open».old totals.old fr (visit_statement (module_by world.now) (add_function (module_by world.now)) (blocks_by world.now fr.function.0) (frame_of cells.old slots.old fr) (state_by world.now cells.old slots.old «open».old totals.old fr.function.0 fr.at tally.visits)) result cells.new slots.new «open».new totals.new }
 {
     let f = fr.function;
     if MAX_VISITS <= tally.visits {
@@ -149,23 +148,19 @@ pub fn add_statement(
     if !allowed(cells, slots, fr.at, fr.held, tally.sum) {
         return Err(fr.halt(Refusal::PiecesLimit));
     }
-    let row = file.statement(f, fr.statement);
+    let row = world.file.statement(f, fr.statement);
     let counted = Tally {
         visits: tally.visits + 1,
         ..tally
     };
-    let r = add_arm(
-        file, types, places, cells, slots, open, totals, fr, b, row, counted,
-    );
+    let r = add_arm(world, cells, slots, open, totals, fr, b, row, counted);
     end_statement(cells, slots, fr, r)
 }
 
 // The arm with its marks.
 #[cycle(walk)]
 fn add_arm(
-    file: &File,
-    types: &[u32],
-    places: &[u32; PLACES],
+    world: &World,
     cells: &mut [u32; CELLS],
     slots: &mut [u32; SLOTS],
     open: &mut [u8; MIN_REPORT],
@@ -175,37 +170,31 @@ fn add_arm(
     row: Kinded,
     tally: Tally,
 ) -> Answered
-    requires { Arms file.now.bytes file.now.t types.now places.now cells.old slots.old «open».old totals.old fr b.0 row tally.sum tally.visits }
-    ensures { StatementEnds file.now.bytes file.now.t types.now places.now cells.old slots.old «open».old totals.old fr (marked (module_of file.now.bytes file.now.t) (frame_of cells.old slots.old fr) (add_statement (module_of file.now.bytes file.now.t) (add_function (module_of file.now.bytes file.now.t)) (block_in file.now.bytes file.now.t fr.function.0) (frame_of cells.old slots.old fr) (statement_of row.kind (operand_at file.now.bytes row)) (state_in file.now.bytes file.now.t cells.old slots.old «open».old totals.old fr.function.0 fr.at tally.visits))) (λ b. b) result cells.new slots.new «open».new totals.new }
+    requires { ArmsOf world.now cells.old slots.old «open».old totals.old fr b.0 row tally.sum tally.visits }
+    ensures { StatementEndsOf world.now cells.old slots.old «open».old totals.old fr (marked (module_by world.now) (frame_of cells.old slots.old fr) (add_statement (module_by world.now) (add_function (module_by world.now)) (blocks_by world.now fr.function.0) (frame_of cells.old slots.old fr) (statement_of row.kind (operand_at world.now.file.now.bytes row)) (state_by world.now cells.old slots.old «open».old totals.old fr.function.0 fr.at tally.visits))) (λ b. b) result cells.new slots.new «open».new totals.new }
 {
     match StatementKind::try_from(row.kind) {
         Ok(StatementKind::Emit) => {
-            return add_emit(file, places, cells, slots, open, fr, row, tally);
+            return add_emit(world.file, world.places, cells, slots, open, fr, row, tally);
         }
         Ok(StatementKind::Call) => {
-            return add_call(
-                file, types, places, cells, slots, open, totals, fr, b, row, tally,
-            );
+            return add_call(world, cells, slots, open, totals, fr, b, row, tally);
         }
         Ok(
             StatementKind::Block | StatementKind::If | StatementKind::Switch | StatementKind::Loop,
         ) => {
-            return add_holder(
-                file, types, places, cells, slots, open, totals, fr, b, row, tally,
-            );
+            return add_holder(world, cells, slots, open, totals, fr, b, row, tally);
         }
         _ => {}
     }
-    let r = add_leaf(file, types, cells, slots, fr, row, tally);
-    mark_statement(file, places, open, fr, row, r)
+    let r = add_leaf(world.file, world.types, cells, slots, fr, row, tally);
+    mark_statement(world.file, world.places, open, fr, row, r)
 }
 
 // The arm of a statement that holds blocks, with its marks: each takes them by itself, so that no answer of a walk waits beside those of the others.
 #[cycle(walk)]
 fn add_holder(
-    file: &File,
-    types: &[u32],
-    places: &[u32; PLACES],
+    world: &World,
     cells: &mut [u32; CELLS],
     slots: &mut [u32; SLOTS],
     open: &mut [u8; MIN_REPORT],
@@ -215,33 +204,27 @@ fn add_holder(
     row: Kinded,
     tally: Tally,
 ) -> Answered
-    requires arms { Arms file.now.bytes file.now.t types.now places.now cells.old slots.old «open».old totals.old fr b.0 row tally.sum tally.visits }
+    requires arms { ArmsOf world.now cells.old slots.old «open».old totals.old fr b.0 row tally.sum tally.visits }
     requires le_kind { (1 ≤ row.kind) × (row.kind ≤ 4) }
-    ensures { StatementEnds file.now.bytes file.now.t types.now places.now cells.old slots.old «open».old totals.old fr (marked (module_of file.now.bytes file.now.t) (frame_of cells.old slots.old fr) (add_statement (module_of file.now.bytes file.now.t) (add_function (module_of file.now.bytes file.now.t)) (block_in file.now.bytes file.now.t fr.function.0) (frame_of cells.old slots.old fr) (statement_of row.kind (operand_at file.now.bytes row)) (state_in file.now.bytes file.now.t cells.old slots.old «open».old totals.old fr.function.0 fr.at tally.visits))) (λ b. b) result cells.new slots.new «open».new totals.new }
+    ensures { StatementEndsOf world.now cells.old slots.old «open».old totals.old fr (marked (module_by world.now) (frame_of cells.old slots.old fr) (add_statement (module_by world.now) (add_function (module_by world.now)) (blocks_by world.now fr.function.0) (frame_of cells.old slots.old fr) (statement_of row.kind (operand_at world.now.file.now.bytes row)) (state_by world.now cells.old slots.old «open».old totals.old fr.function.0 fr.at tally.visits))) (λ b. b) result cells.new slots.new «open».new totals.new }
 {
     let r = match StatementKind::try_from(row.kind) {
         Ok(StatementKind::Block) => add_nested(
-            file, types, places, cells, slots, open, totals, fr, b, row, tally,
+            world, cells, slots, open, totals, fr, b, row, tally,
         ),
-        Ok(StatementKind::If) => add_if(
-            file, types, places, cells, slots, open, totals, fr, b, row, tally,
-        ),
+        Ok(StatementKind::If) => add_if(world, cells, slots, open, totals, fr, b, row, tally),
         Ok(StatementKind::Switch) => add_switch(
-            file, types, places, cells, slots, open, totals, fr, b, row, tally,
+            world, cells, slots, open, totals, fr, b, row, tally,
         ),
-        _ => add_loop(
-            file, types, places, cells, slots, open, totals, fr, b, row, tally,
-        ),
+        _ => add_loop(world, cells, slots, open, totals, fr, b, row, tally),
     };
-    mark_statement(file, places, open, fr, row, r)
+    mark_statement(world.file, world.places, open, fr, row, r)
 }
 
 // Two blocks one after the other, both from the base in the slots from `base` on. Their contexts are left in the slots from `at` on, and behind them. A statement of the block b holds them.
 #[cycle(walk)]
 pub fn add_pair(
-    file: &File,
-    types: &[u32],
-    places: &[u32; PLACES],
+    world: &World,
     cells: &mut [u32; CELLS],
     slots: &mut [u32; SLOTS],
     open: &mut [u8; MIN_REPORT],
@@ -256,13 +239,11 @@ pub fn add_pair(
     break_required: bool,
     tally: Tally,
 ) -> Answered
-    requires { Paired file.now.bytes file.now.t types.now places.now cells.old slots.old «open».old totals.old f.0 b.0 first.0 second.0 base at held tally.sum tally.visits }
-    ensures { PairEnds file.now.bytes file.now.t types.now places.now cells.old slots.old «open».old totals.old f.0 base at held (add_pair (block_in file.now.bytes file.now.t f.0) first.0 second.0 held (context_at (read cells.old slots.old) base) break_required (state_in file.now.bytes file.now.t cells.old slots.old «open».old totals.old f.0 at tally.visits)) result cells.new slots.new «open».new totals.new }
+    requires { PairedOf world.now cells.old slots.old «open».old totals.old f.0 b.0 first.0 second.0 base at held tally.sum tally.visits }
+    ensures { PairEndsOf world.now cells.old slots.old «open».old totals.old f.0 base at held (add_pair (blocks_by world.now f.0) first.0 second.0 held (context_at (read cells.old slots.old) base) break_required (state_by world.now cells.old slots.old «open».old totals.old f.0 at tally.visits)) result cells.new slots.new «open».new totals.new }
 {
     let a = add_block(
-        file,
-        types,
-        places,
+        world,
         cells,
         slots,
         open,
@@ -277,9 +258,7 @@ pub fn add_pair(
     )?;
     let more = held + weigh(cells, slots, at, 4);
     let c = add_block(
-        file,
-        types,
-        places,
+        world,
         cells,
         slots,
         open,
@@ -301,9 +280,7 @@ pub fn add_pair(
 // `Block`.
 #[cycle(walk)]
 pub fn add_nested(
-    file: &File,
-    types: &[u32],
-    places: &[u32; PLACES],
+    world: &World,
     cells: &mut [u32; CELLS],
     slots: &mut [u32; SLOTS],
     open: &mut [u8; MIN_REPORT],
@@ -313,18 +290,16 @@ pub fn add_nested(
     row: Kinded,
     tally: Tally,
 ) -> Answered
-    requires arms { Arms file.now.bytes file.now.t types.now places.now cells.old slots.old «open».old totals.old fr b.0 row tally.sum tally.visits }
+    requires arms { ArmsOf world.now cells.old slots.old «open».old totals.old fr b.0 row tally.sum tally.visits }
     requires kind_value { row.kind ≡ 1 }
-    ensures { StatementEnds file.now.bytes file.now.t types.now places.now cells.old slots.old «open».old totals.old fr (add_nested (block_in file.now.bytes file.now.t fr.function.0) (frame_of cells.old slots.old fr) (operand_at file.now.bytes row 0) (state_in file.now.bytes file.now.t cells.old slots.old «open».old totals.old fr.function.0 fr.at tally.visits)) StatementReq.BlockStmt result cells.new slots.new «open».new totals.new }
+    ensures { StatementEndsOf world.now cells.old slots.old «open».old totals.old fr (add_nested (blocks_by world.now fr.function.0) (frame_of cells.old slots.old fr) (operand_at world.now.file.now.bytes row 0) (state_by world.now cells.old slots.old «open».old totals.old fr.function.0 fr.at tally.visits)) StatementReq.BlockStmt result cells.new slots.new «open».new totals.new }
 {
     let f = fr.function;
     let at = fr.at;
-    let inner = file.block_operand(row, 0);
+    let inner = world.file.block_operand(row, 0);
     let held = fr.held + weigh(cells, slots, at, 4);
     let a = add_block(
-        file,
-        types,
-        places,
+        world,
         cells,
         slots,
         open,
@@ -344,9 +319,7 @@ pub fn add_nested(
 // `If`.
 #[cycle(walk)]
 pub fn add_if(
-    file: &File,
-    types: &[u32],
-    places: &[u32; PLACES],
+    world: &World,
     cells: &mut [u32; CELLS],
     slots: &mut [u32; SLOTS],
     open: &mut [u8; MIN_REPORT],
@@ -356,19 +329,17 @@ pub fn add_if(
     row: Kinded,
     tally: Tally,
 ) -> Answered
-    requires arms { Arms file.now.bytes file.now.t types.now places.now cells.old slots.old «open».old totals.old fr b.0 row tally.sum tally.visits }
+    requires arms { ArmsOf world.now cells.old slots.old «open».old totals.old fr b.0 row tally.sum tally.visits }
     requires kind_value { row.kind ≡ 2 }
-    ensures { StatementEnds file.now.bytes file.now.t types.now places.now cells.old slots.old «open».old totals.old fr (add_if (module_of file.now.bytes file.now.t) (block_in file.now.bytes file.now.t fr.function.0) (frame_of cells.old slots.old fr) (operand_at file.now.bytes row 0) (operand_at file.now.bytes row 1) (operand_at file.now.bytes row 2) (state_in file.now.bytes file.now.t cells.old slots.old «open».old totals.old fr.function.0 fr.at tally.visits)) StatementReq.If result cells.new slots.new «open».new totals.new }
+    ensures { StatementEndsOf world.now cells.old slots.old «open».old totals.old fr (add_if (module_by world.now) (blocks_by world.now fr.function.0) (frame_of cells.old slots.old fr) (operand_at world.now.file.now.bytes row 0) (operand_at world.now.file.now.bytes row 1) (operand_at world.now.file.now.bytes row 2) (state_by world.now cells.old slots.old «open».old totals.old fr.function.0 fr.at tally.visits)) StatementReq.If result cells.new slots.new «open».new totals.new }
 {
     let f = fr.function;
     let at = fr.at;
-    let accept = file.block_operand(row, 1);
-    let reject = file.block_operand(row, 2);
+    let accept = world.file.block_operand(row, 1);
+    let reject = world.file.block_operand(row, 2);
     let held = fr.held + weigh(cells, slots, at, 4);
     let a = add_pair(
-        file,
-        types,
-        places,
+        world,
         cells,
         slots,
         open,
@@ -383,16 +354,14 @@ pub fn add_if(
         fr.break_required,
         tally,
     )?;
-    let condition = file.expression_operand(row, 0);
-    end_if(file, cells, slots, fr, condition, a.required, a.tally)
+    let condition = world.file.expression_operand(row, 0);
+    end_if(world.file, cells, slots, fr, condition, a.required, a.tally)
 }
 
 // `Switch`: the cases, the last first, joined behind the current context.
 #[cycle(walk)]
 pub fn add_switch(
-    file: &File,
-    types: &[u32],
-    places: &[u32; PLACES],
+    world: &World,
     cells: &mut [u32; CELLS],
     slots: &mut [u32; SLOTS],
     open: &mut [u8; MIN_REPORT],
@@ -402,9 +371,9 @@ pub fn add_switch(
     row: Kinded,
     began: Tally,
 ) -> Answered
-    requires arms { Arms file.now.bytes file.now.t types.now places.now cells.old slots.old «open».old totals.old fr b.0 row began.sum began.visits }
+    requires arms { ArmsOf world.now cells.old slots.old «open».old totals.old fr b.0 row began.sum began.visits }
     requires kind_value { row.kind ≡ 3 }
-    ensures { StatementEnds file.now.bytes file.now.t types.now places.now cells.old slots.old «open».old totals.old fr (add_switch (module_of file.now.bytes file.now.t) (block_in file.now.bytes file.now.t fr.function.0) (frame_of cells.old slots.old fr) (operand_at file.now.bytes row 0) (tab (operand_at file.now.bytes row 1) (case_of (operand_at file.now.bytes row))) (state_in file.now.bytes file.now.t cells.old slots.old «open».old totals.old fr.function.0 fr.at began.visits)) StatementReq.Switch result cells.new slots.new «open».new totals.new }
+    ensures { StatementEndsOf world.now cells.old slots.old «open».old totals.old fr (add_switch (module_by world.now) (blocks_by world.now fr.function.0) (frame_of cells.old slots.old fr) (operand_at world.now.file.now.bytes row 0) (tab (operand_at world.now.file.now.bytes row 1) (case_of (operand_at world.now.file.now.bytes row))) (state_by world.now cells.old slots.old «open».old totals.old fr.function.0 fr.at began.visits)) StatementReq.Switch result cells.new slots.new «open».new totals.new }
 {
     let f = fr.function;
     let at = fr.at;
@@ -412,13 +381,11 @@ pub fn add_switch(
     copy_context(slots, at, at + 4);
     let mut tally = began;
     let mut any = false;
-    for k in (0..file.operand(row, 1)).rev() {
-        let body = case_body(file, row, k);
+    for k in (0..world.file.operand(row, 1)).rev() {
+        let body = case_body(world.file, row, k);
         let held = outside + weigh(cells, slots, at + 4, 4);
         let a = add_block(
-            file,
-            types,
-            places,
+            world,
             cells,
             slots,
             open,
@@ -437,17 +404,15 @@ pub fn add_switch(
         tally = a.tally;
         any |= a.required;
     }
-    let selector = file.expression_operand(row, 0);
-    end_switch(file, cells, slots, fr, selector, any, tally)
+    let selector = world.file.expression_operand(row, 0);
+    end_switch(world.file, cells, slots, fr, selector, any, tally)
 }
 
 // `Loop`: the first pass, and the turns where it is required.
 #[cycle(walk)]
 #[inline(never)]
 pub fn add_loop(
-    file: &File,
-    types: &[u32],
-    places: &[u32; PLACES],
+    world: &World,
     cells: &mut [u32; CELLS],
     slots: &mut [u32; SLOTS],
     open: &mut [u8; MIN_REPORT],
@@ -457,19 +422,17 @@ pub fn add_loop(
     row: Kinded,
     tally: Tally,
 ) -> Answered
-    requires arms { Arms file.now.bytes file.now.t types.now places.now cells.old slots.old «open».old totals.old fr b.0 row tally.sum tally.visits }
+    requires arms { ArmsOf world.now cells.old slots.old «open».old totals.old fr b.0 row tally.sum tally.visits }
     requires kind_value { row.kind ≡ 4 }
-    ensures { StatementEnds file.now.bytes file.now.t types.now places.now cells.old slots.old «open».old totals.old fr (add_loop (module_of file.now.bytes file.now.t) (block_in file.now.bytes file.now.t fr.function.0) (frame_of cells.old slots.old fr) (operand_at file.now.bytes row 0) (operand_at file.now.bytes row 1) (option_of (operand_at file.now.bytes row 2)) (state_in file.now.bytes file.now.t cells.old slots.old «open».old totals.old fr.function.0 fr.at tally.visits)) StatementReq.Loop result cells.new slots.new «open».new totals.new }
+    ensures { StatementEndsOf world.now cells.old slots.old «open».old totals.old fr (add_loop (module_by world.now) (blocks_by world.now fr.function.0) (frame_of cells.old slots.old fr) (operand_at world.now.file.now.bytes row 0) (operand_at world.now.file.now.bytes row 1) (option_of (operand_at world.now.file.now.bytes row 2)) (state_by world.now cells.old slots.old «open».old totals.old fr.function.0 fr.at tally.visits)) StatementReq.Loop result cells.new slots.new «open».new totals.new }
 {
     let f = fr.function;
     let at = fr.at;
-    let body = file.block_operand(row, 0);
-    let continuing = file.block_operand(row, 1);
+    let body = world.file.block_operand(row, 0);
+    let continuing = world.file.block_operand(row, 1);
     let held = fr.held + weigh(cells, slots, at, 4);
     let a = add_pair(
-        file,
-        types,
-        places,
+        world,
         cells,
         slots,
         open,
@@ -488,19 +451,17 @@ pub fn add_loop(
         drop_both(slots, at);
         return Ok(a);
     }
-    let break_if = file.optional_expression(row, 2);
-    let left = end_pass(file, cells, slots, fr, break_if, a.tally)?;
+    let break_if = world.file.optional_expression(row, 2);
+    let left = end_pass(world.file, cells, slots, fr, break_if, a.tally)?;
     add_turns(
-        file, types, places, cells, slots, open, totals, fr, b, body, continuing, left,
+        world, cells, slots, open, totals, fr, b, body, continuing, left,
     )
 }
 
 // The turns, each from the working context behind the current one, until that contains what a turn leaves.
 #[cycle(walk)]
 fn add_turns(
-    file: &File,
-    types: &[u32],
-    places: &[u32; PLACES],
+    world: &World,
     cells: &mut [u32; CELLS],
     slots: &mut [u32; SLOTS],
     open: &mut [u8; MIN_REPORT],
@@ -511,8 +472,8 @@ fn add_turns(
     continuing: BlockHandle,
     began: Tally,
 ) -> Answered
-    requires { Turning file.now.bytes file.now.t types.now places.now cells.old slots.old «open».old totals.old fr b.0 body.0 continuing.0 began.sum began.visits }
-    ensures { StatementEnds file.now.bytes file.now.t types.now places.now cells.old slots.old «open».old totals.old fr (turns (block_in file.now.bytes file.now.t fr.function.0) (frame_of cells.old slots.old fr) (fr.held + context_in cells.old slots.old fr.at + context_in cells.old slots.old (fr.at + 4)) body.0 continuing.0 (context_at (read cells.old slots.old) (fr.at + 4)) max_turns (state_in file.now.bytes file.now.t cells.old slots.old «open».old totals.old fr.function.0 (fr.at + 4) began.visits)) StatementReq.Loop result cells.new slots.new «open».new totals.new }
+    requires { TurningOf world.now cells.old slots.old «open».old totals.old fr b.0 body.0 continuing.0 began.sum began.visits }
+    ensures { StatementEndsOf world.now cells.old slots.old «open».old totals.old fr (turns (blocks_by world.now fr.function.0) (frame_of cells.old slots.old fr) (fr.held + context_in cells.old slots.old fr.at + context_in cells.old slots.old (fr.at + 4)) body.0 continuing.0 (context_at (read cells.old slots.old) (fr.at + 4)) max_turns (state_by world.now cells.old slots.old «open».old totals.old fr.function.0 (fr.at + 4) began.visits)) StatementReq.Loop result cells.new slots.new «open».new totals.new }
 {
     let f = fr.function;
     let at = fr.at;
@@ -520,9 +481,7 @@ fn add_turns(
     let mut tally = began;
     for left in (0..MAX_TURNS).rev() {
         let a = add_pair(
-            file,
-            types,
-            places,
+            world,
             cells,
             slots,
             open,
@@ -556,9 +515,7 @@ fn add_turns(
 #[cycle(walk)]
 #[inline(never)]
 pub fn add_call(
-    file: &File,
-    types: &[u32],
-    places: &[u32; PLACES],
+    world: &World,
     cells: &mut [u32; CELLS],
     slots: &mut [u32; SLOTS],
     open: &mut [u8; MIN_REPORT],
@@ -568,23 +525,30 @@ pub fn add_call(
     row: Kinded,
     tally: Tally,
 ) -> Answered
-    requires arms { Arms file.now.bytes file.now.t types.now places.now cells.old slots.old «open».old totals.old fr b.0 row tally.sum tally.visits }
+    requires arms { ArmsOf world.now cells.old slots.old «open».old totals.old fr b.0 row tally.sum tally.visits }
     requires kind_value { row.kind ≡ 14 }
-    ensures { StatementEnds file.now.bytes file.now.t types.now places.now cells.old slots.old «open».old totals.old fr (marked (module_of file.now.bytes file.now.t) (frame_of cells.old slots.old fr) (add_statement (module_of file.now.bytes file.now.t) (add_function (module_of file.now.bytes file.now.t)) (block_in file.now.bytes file.now.t fr.function.0) (frame_of cells.old slots.old fr) (statement_of row.kind (operand_at file.now.bytes row)) (state_in file.now.bytes file.now.t cells.old slots.old «open».old totals.old fr.function.0 fr.at tally.visits))) (λ b. b) result cells.new slots.new «open».new totals.new }
+    ensures { StatementEndsOf world.now cells.old slots.old «open».old totals.old fr (marked (module_by world.now) (frame_of cells.old slots.old fr) (add_statement (module_by world.now) (add_function (module_by world.now)) (blocks_by world.now fr.function.0) (frame_of cells.old slots.old fr) (statement_of row.kind (operand_at world.now.file.now.bytes row)) (state_by world.now cells.old slots.old «open».old totals.old fr.function.0 fr.at tally.visits))) (λ b. b) result cells.new slots.new «open».new totals.new }
 {
     let f = fr.function;
     let at = fr.at;
-    let g = file.function_operand(row, 0);
-    let begun = begin_call(file, places, cells, slots, open, fr, row, tally.sum);
+    let g = world.file.function_operand(row, 0);
+    let begun = begin_call(
+        world.file,
+        world.places,
+        cells,
+        slots,
+        open,
+        fr,
+        row,
+        tally.sum,
+    );
     let own = begun.own;
     let others = Tally {
         sum: tally.sum - own,
         ..tally
     };
     let a = add_function(
-        file,
-        types,
-        places,
+        world,
         cells,
         slots,
         open,
@@ -595,10 +559,10 @@ pub fn add_call(
         begun.held,
         others,
     )?;
-    let sum = leave_call(file, cells, slots, g, at, a.tally.sum + own);
+    let sum = leave_call(world.file, cells, slots, g, at, a.tally.sum + own);
     return_call(
-        file,
-        places,
+        world.file,
+        world.places,
         cells,
         slots,
         open,

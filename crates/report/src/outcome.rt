@@ -10,9 +10,10 @@ ghost use Rattle.reading.specs.Reads.{Reads};
 ghost use Rattle.state.specs.Ready.{WasRead};
 ghost use Rattle.report_text.specs.Split.{module_in, request_in};
 ghost use Rattle.report_text.specs.Input.{request_text};
-ghost use Rattle.report.specs.Outcome.{TextIs, Asked, Walked};
+ghost use Rattle.report.specs.Outcome.{TextIs, AskedOf, WalkedOf};
 
 use access::file::File;
+use block::world::World;
 use context::remove::TYPE_WORDS;
 use field::limits::{MAX_TYPES, MIN_REPORT};
 use field::refusal::Refusal;
@@ -39,9 +40,7 @@ pub type Outcome = Result<Reported, Refusal>;
 
 // The walk of f, and 16 at its end.
 fn walk_function(
-    file: &File,
-    types: &[u32],
-    places: &[u32; PLACES],
+    world: &World,
     cells: &mut [u32; CELLS],
     slots: &mut [u32; SLOTS],
     open: &mut [u8; MIN_REPORT],
@@ -49,13 +48,11 @@ fn walk_function(
     f: FunctionHandle,
     sum: usize,
 ) -> Outcome
-    requires { Asked file.now.bytes file.now.t types.now places.now cells.old slots.old «open».old totals.old f.0 sum }
-    ensures { Walked file.now.bytes file.now.t types.now places.now cells.old slots.old «open».old totals.old f.0 cells.new slots.new «open».new result }
+    requires { AskedOf world.now cells.old slots.old «open».old totals.old f.0 sum }
+    ensures { WalkedOf world.now cells.old slots.old «open».old totals.old f.0 cells.new slots.new «open».new result }
 {
     match add_function(
-        file,
-        types,
-        places,
+        world,
         cells,
         slots,
         open,
@@ -68,7 +65,7 @@ fn walk_function(
     ) {
         Err(h) => Err(h.refusal),
         Ok(a) => {
-            if totals_over(file, cells, slots, f, a.tally.sum) {
+            if totals_over(world.file, cells, slots, f, a.tally.sum) {
                 return Err(Refusal::PiecesLimit);
             }
             Ok(Reported {
@@ -95,15 +92,26 @@ fn walk_request(
 {
     place_marks(file, places);
     fill(file, table);
+    let world = World {
+        file,
+        types: table,
+        places,
+    };
     // a fresh pruner
     let pruner = b"\0\0";
     let begun = begin_request(
-        file, places, cells, slots, open, totals, request, pruner, MIN_REPORT,
+        file,
+        world.places,
+        cells,
+        slots,
+        open,
+        totals,
+        request,
+        pruner,
+        MIN_REPORT,
     )?;
     walk_function(
-        file,
-        table,
-        places,
+        &world,
         cells,
         slots,
         open,

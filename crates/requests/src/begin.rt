@@ -12,6 +12,7 @@ use access::file::File;
 use context::required_context::RequiredContext;
 use field::field::get;
 use field::refusal::Refusal;
+use marks::places::PLACES;
 use marks::set::clear_marks;
 use memory::layout::{GLOBALS, STACK, TOTALS};
 use memory::memory::{init_memory, tidy, weigh};
@@ -85,7 +86,7 @@ fn weigh_totals(cells: &[u32], slots: &[u32]) -> usize
 // From here `add_function` walks the asked function, its base at STACK.
 pub fn begin_request(
     file: &File,
-    places: &[u32],
+    places: &[u32; PLACES],
     cells: &mut [u32],
     slots: &mut [u32],
     open: &mut [u8],

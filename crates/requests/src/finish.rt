@@ -11,6 +11,7 @@ use access::file::File;
 use field::limits::MAX_PIECES;
 use field::refusal::Refusal;
 use leave::leave::own_pieces;
+use marks::places::PLACES;
 use marks::report::write_report;
 use module::handles::FunctionHandle;
 use pruner::totals::write_pruner;
@@ -42,7 +43,7 @@ pub fn totals_over(file: &File, cells: &[u32], slots: &[u32], f: FunctionHandle,
 // The walk of f has ended, with its context behind the base.
 pub fn finish_request(
     file: &File,
-    places: &[u32],
+    places: &[u32; PLACES],
     cells: &[u32],
     slots: &[u32],
     open: &[u8],

@@ -1,19 +1,13 @@
 // A request of a module that was read, from bytes to bytes.
-ghost use Rattle.std.specs.Prelude.{◌≡◌};
-ghost use Rattle.module.specs.Tables.{module_of};
-ghost use Rattle.context.specs.Types.{types_of};
-ghost use Rattle.marks.specs.Places.{Places};
-ghost use Rattle.state.specs.Ready.{WasRead};
-ghost use Rattle.requests.specs.Served.{Walking, Walked, Served};
+ghost use Rattle.requests.specs.Served.{WalkingOf, WalkedOf, ServedOf};
 
 use crate::answer::MIN_ANSWER;
 use crate::begin::begin_request;
 use crate::finish::{Reply, finish_request, nowhere};
-use access::file::File;
+use block::world::World;
 use field::limits::MIN_REPORT;
 use field::refusal::Refusal;
 use function::add::add_function;
-use marks::places::PLACES;
 use marks::report::TOTALS_SIZE;
 use memory::layout::{CELLS, SLOTS, STACK};
 use module::handles::FunctionHandle;
@@ -22,9 +16,7 @@ use state::answer::{Place, Tally};
 
 // The walk of f, and how it ends.
 fn walk_request(
-    file: &File,
-    types: &[u32],
-    places: &[u32; PLACES],
+    world: &World,
     cells: &mut [u32; CELLS],
     slots: &mut [u32; SLOTS],
     open: &mut [u8; MIN_REPORT],
@@ -35,13 +27,11 @@ fn walk_request(
     report: &mut [u8],
     answer: &mut [u8],
 ) -> Reply
-    requires { Walking file.now.bytes file.now.t types.now places.now cells.old slots.old «open».old totals.old f.0 sum pruner.old report.old answer.old }
-    ensures { Walked file.now.bytes file.now.t types.now places.now cells.old slots.old «open».old totals.old f.0 sum pruner.old report.old answer.old result pruner.new report.new answer.new }
+    requires { WalkingOf world.now cells.old slots.old «open».old totals.old f.0 sum pruner.old report.old answer.old }
+    ensures { WalkedOf world.now cells.old slots.old «open».old totals.old f.0 sum pruner.old report.old answer.old result pruner.new report.new answer.new }
 {
     let walked = add_function(
-        file,
-        types,
-        places,
+        world,
         cells,
         slots,
         open,
@@ -53,15 +43,24 @@ fn walk_request(
         Tally { visits: 0, sum },
     )?;
     finish_request(
-        file, places, cells, slots, open, totals, f, STACK, walked, pruner, report, answer,
+        world.file,
+        world.places,
+        cells,
+        slots,
+        open,
+        totals,
+        f,
+        STACK,
+        walked,
+        pruner,
+        report,
+        answer,
     )
 }
 
 // The request in a walk's memory. A refusal leaves the three buffers.
 fn serve_in(
-    file: &File,
-    types: &[u32],
-    places: &[u32; PLACES],
+    world: &World,
     cells: &mut [u32; CELLS],
     slots: &mut [u32; SLOTS],
     open: &mut [u8; MIN_REPORT],
@@ -71,12 +70,11 @@ fn serve_in(
     report: &mut [u8],
     answer: &mut [u8],
 ) -> Reply
-    requires { WasRead file.now.bytes file.now.t × Places file.now.bytes file.now.t places.now × (types_of types.now ≡ (module_of file.now.bytes file.now.t).types) }
-    ensures { Served file.now.bytes file.now.t request.now pruner.old report.old answer.old result pruner.new report.new answer.new }
+    ensures { ServedOf world.now request.now pruner.old report.old answer.old result pruner.new report.new answer.new }
 {
     let begun = match begin_request(
-        file,
-        places,
+        world.file,
+        world.places,
         cells,
         slots,
         open,
@@ -95,9 +93,7 @@ fn serve_in(
         return Err(nowhere(Refusal::AnswerTooShort));
     }
     walk_request(
-        file,
-        types,
-        places,
+        world,
         cells,
         slots,
         open,
@@ -112,25 +108,20 @@ fn serve_in(
 
 // The same with a memory of its own.
 pub fn serve_read(
-    file: &File,
-    types: &[u32],
-    places: &[u32; PLACES],
+    world: &World,
     request: &[u8],
     pruner: &mut [u8],
     report: &mut [u8],
     answer: &mut [u8],
 ) -> Reply
-    requires { WasRead file.now.bytes file.now.t × Places file.now.bytes file.now.t places.now × (types_of types.now ≡ (module_of file.now.bytes file.now.t).types) }
-    ensures { Served file.now.bytes file.now.t request.now pruner.old report.old answer.old result pruner.new report.new answer.new }
+    ensures { ServedOf world.now request.now pruner.old report.old answer.old result pruner.new report.new answer.new }
 {
     let mut cells: [u32; CELLS] = [0; CELLS];
     let mut slots: [u32; SLOTS] = [0; SLOTS];
     let mut open: [u8; MIN_REPORT] = [0; MIN_REPORT];
     let mut totals: [u8; TOTALS_SIZE] = [0; TOTALS_SIZE];
     serve_in(
-        file,
-        types,
-        places,
+        world,
         &mut cells,
         &mut slots,
         &mut open,

@@ -12,8 +12,5 @@ fill-requires c =
 pub place_marks-requires : goal.place_marks-requires
 place_marks-requires c = (c.requires.0, search rules)
 
-pub serve_read-r-requires : goal.serve_read-r-requires
-serve_read-r-requires c = (c.requires.0, c.place_marks.ensures, c.fill.ensures)
-
 pub returns : goal.returns
 returns c = requests_read c.serve_read-r.ensures c.reply_word.ensures

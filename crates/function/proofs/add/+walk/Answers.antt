@@ -63,7 +63,7 @@ add_call-begin_call-begun-requires t c = call_begins c.requires.arms c.requires.
 
 pub add_call-overflow_add-at : goal.add_call-overflow_add-at
 add_call-overflow_add-at t c =
-    omega (arith, call_high c.requires.arms c.requires.kind_value, c.begin_call-arg-4-1.given.0.1)
+    omega (arith, call_high c.requires.arms c.requires.kind_value, c.begin_call-arg-3-1.given.0.1)
 
 pub add_call-overflow_sub-others : goal.add_call-overflow_sub-others
 add_call-overflow_sub-others t c =
@@ -71,7 +71,7 @@ add_call-overflow_sub-others t c =
 
 pub add_call-add_function-requires : goal.add_call-add_function-requires
 add_call-add_function-requires t c =
-    (omega (arith, c.decreases, callee_below c.requires.arms c.requires.kind_value, c.function_operand-g.ensures), (function_enters c.requires.arms c.requires.kind_value c.function_operand-g.ensures c.begin_call-begun.ensures, omega (arith, call_high c.requires.arms c.requires.kind_value, c.begin_call-arg-4-1.given.0.1)))
+    (omega (arith, c.decreases, callee_below c.requires.arms c.requires.kind_value, c.function_operand-g.ensures), (function_enters c.requires.arms c.requires.kind_value c.function_operand-g.ensures c.begin_call-begun.ensures, omega (arith, call_high c.requires.arms c.requires.kind_value, c.begin_call-arg-3-1.given.0.1)))
 
 pub add_call-overflow_add-a : goal.add_call-overflow_add-a
 add_call-overflow_add-a t c =

@@ -12,7 +12,7 @@ returns-then-answer-lt-MIN_ANSWER c =
 
 pub walk_request-requires : goal.walk_request-requires
 walk_request-requires c =
-    serve_walking c.args.report.now c.args.answer.now c.begin_request.ensures c.in-Ok.is c.requires.2 c.if-pruner-lt-MIN_PRUNER.false c.if-answer-lt-MIN_ANSWER.false
+    serve_walking c.args.report.now c.args.answer.now c.begin_request.ensures c.in-Ok.is c.args.world.now.rows c.if-pruner-lt-MIN_PRUNER.false c.if-answer-lt-MIN_ANSWER.false
 
 pub returns-in-Err : goal.returns-in-Err
 returns-in-Err c =
@@ -20,4 +20,4 @@ returns-in-Err c =
 
 pub returns : goal.returns
 returns c =
-    served c.args.report.now c.args.answer.now c.begin_request.ensures c.in-Ok.is c.requires.2 c.if-pruner-lt-MIN_PRUNER.false c.if-answer-lt-MIN_ANSWER.false c.walk_request.ensures
+    served c.args.report.now c.args.answer.now c.begin_request.ensures c.in-Ok.is c.args.world.now.rows c.if-pruner-lt-MIN_PRUNER.false c.if-answer-lt-MIN_ANSWER.false c.walk_request.ensures
