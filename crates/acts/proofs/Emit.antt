@@ -26,7 +26,7 @@ use Rattle.operands.specs.AsksAll.{wanted_in, AsksAll}
 use Rattle.operands.specs.Arms.{OperandsGiven, AsksOperands, PathRoom}
 use Rattle.acts.specs.Acts.{ActGiven, act_of, TakeGiven, TakenOut}
 use Rattle.acts.proofs.Places.{world_framing, world_few, slot-rooted}
-use Rattle.acts.proofs.Steps.{hand_kept, taken_opened, opened_full, asked_full, copy_asks, left, acted}
+use Rattle.acts.proofs.Steps.{hand_kept, taken_opened, opened_full, asked_full, left, acted}
 
 -- as much of the path as the function's pointers take
 pub path_room : {bytes tab : List ℕ} {f : ℕ} {types alike paths s rs : List ℕ} {n e : ℕ} → OperandsGiven bytes tab f types alike paths s rs n e → (path : List ℕ) →
@@ -111,9 +111,6 @@ module _ {bytes tab : List ℕ} {f : ℕ} {types alike paths s rs path : List �
           pub operands_full : b ≡ false → Stepped S (act_of S (emit e)) s rs n u ws false
           unfolding act_leaves act_asks
           operands_full h = acted (emit e) w refl refl (asked_full g.ready (taken_opened g.ready out) _ z (omega arith) asked h)
-
-          pub emit_copy : b ≡ true → (n + 1 < length ws) × (n - 1 < length ws)
-          emit_copy h = copy_asks g.ready (taken_opened g.ready out) _ z (omega arith) asked h (n + 1) (omega arith)
 
           pub emit-left : b ≡ true → {ys : List ℕ} → ys ≡ set ws (n - 1) (get_or ws (n + 1) 0) → Stepped S (act_of S (emit e)) s rs n u ys true
           unfolding act_leaves act_asks

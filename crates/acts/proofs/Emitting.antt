@@ -6,7 +6,6 @@ use mathlib.Core.Path.{◌≡◌, refl, sym, ap, ◌∙◌}
 use mathlib.Core.Bool.{Bool, true, false}
 use mathlib.Core.List.{List}
 use lib.ListN.{length}
-use Rattle.part.specs.PartReq.{PartReq}
 use Rattle.part.proofs.Equations.{never}
 use Rattle.module.specs.Module.{Statement}
 use Rattle.module.specs.Marks.{marks_before}
@@ -20,8 +19,7 @@ use Rattle.standing.specs.Standing.{setting_of, Targets, Walked, Noted, inside}
 use Rattle.standing.specs.declared.passing.Passing.{Passing}
 use Rattle.standing.specs.Exits.{Exits}
 use Rattle.standing.proofs.Walks.{walked_full, walked_nop, walked_seq}
-use Rattle.judge.specs.Given.{scope_at}
-use Rattle.acts.specs.Marks.{PassGiven, ByMark, EmitsPassed}
+use Rattle.acts.specs.Marks.{ByMark, EmitsPassed}
 use Rattle.acts.proofs.Marked.{walked_mark}
 
 seq-full : {S : Scope} (a : Tree) {b : Tree} {s rs : List ℕ} {n : ℕ} {x : Exits} {p : Passing} {t us : List ℕ} {q : Passing} → q.full ≡ true → Walked S (inside b) s rs n x p t us q → Walked S (inside (seq a b)) s rs n x p t us q
@@ -108,15 +106,3 @@ back {i = i} h d = let e : i ≡ suc (i - 1) = omega arith in rw e at d
 
 pub mark_is : (ss : List Statement) (marks : List ℕ) (l b i : ℕ) {m : Bool} → b ≡ marks_before ss l → m ≡ mark_at marks (b + i) → m ≡ mark_at marks (marks_before ss l + i)
 mark_is ss marks l b i e h = rw e at h
-
-pub next_given : {bytes tab : List ℕ} {f : ℕ} {types alike paths s rs path : List ℕ} {n : ℕ} {p : Passing} {l : ℕ} → PassGiven bytes tab f types alike paths s rs path n p l →
-    {marks : List ℕ} {first count i : ℕ} {t us : List ℕ} {q : Passing} → Emitted (scope_at bytes tab f) marks l first count i s rs n p t us q → {m : PartReq} {q' : Passing} → Noted m q q' →
-    {after : List ℕ} → length after ≡ length path → PassGiven bytes tab f types alike paths t us after n q' l
-next_given g d o e = record {
-  world = g.world;
-  ready = d.ready;
-  going = o.full ∙ d.going;
-  spare = omega (arith, g.spare, d.slots);
-  room = omega (arith, g.room);
-  low = g.low;
-}

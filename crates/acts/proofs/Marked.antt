@@ -41,14 +41,6 @@ module _ {bytes tab : List ℕ} {f : ℕ} {types alike paths s rs path : List �
   pub above_asks : (n - 1 < length rs) × (n < length rs)
   above_asks = (omega (arith, g.spare), omega (arith, g.spare))
 
-  pub above_given : {ys after : List ℕ} → ys ≡ set rs n (get_or rs (n - 1) 0) → length after ≡ length path → ActGiven bytes tab f types alike paths s ys after (n + 1)
-  above_given y e = rw y record {
-    world = g.world;
-    ready = above_ready g.ready above_asks.1;
-    spare = omega (arith, g.spare, length-set rs n (get_or rs (n - 1) 0));
-    room = omega (arith, g.room);
-  }
-
 act-inside : {S : Scope} {x : Act} {s rs : List ℕ} {n : ℕ} {e : Exits} {p : Passing} {t us : List ℕ} {q : Passing} → Walked S (step (act_of S x)) s rs n e p t us q → Walked S (inside (act x)) s rs n e p t us q
 unfolding pass_inside
 act-inside w = record { cells = w.cells; slots = w.slots; ready = w.ready; kept = w.kept; is = w.is }

@@ -34,7 +34,7 @@ use Rattle.acts.specs.Acts.{ActGiven, StoreOf, act_of, leaving, TakenOut, PlaceG
 use Rattle.operands.specs.AsksAll.{ListGiven, AsksAll}
 use Rattle.operands.proofs.Lists.{given_right, all_full, list_next, list_then, value_given, value_all, all_piece}
 use Rattle.acts.proofs.Places.{world_framing, world_few, target-rooted, target-short, target-placed}
-use Rattle.acts.proofs.Steps.{hand_kept, above_ready, taken_opened, copied_opened, opened_full, asked_full, copy_asks, left, acted}
+use Rattle.acts.proofs.Steps.{hand_kept, above_ready, taken_opened, copied_opened, opened_full, asked_full, left, acted}
 
 -- What is needed of the place is asked of the value
 module _ {bytes tab : List ℕ} {f : ℕ} {types s rs : List ℕ} {n : ℕ} {q : Place} {a v : ℕ} (g : PlaceGiven bytes tab f types s rs n q a v) where
@@ -72,9 +72,6 @@ module _ {bytes tab : List ℕ} {f : ℕ} {types s rs : List ℕ} {n : ℕ} {q :
 
         pub value_full : b ≡ false → Stepped S (leaving S (without S q (in_slot s rs (n - 1))) (of_value v needed ∷ [])) s rs n u ws false
         value_full z = asked_full g.take.ready (taken_opened g.take.ready w) _ e (omega arith) asked z
-
-        pub value_copy : b ≡ true → (n + 1 < length ws) × (n - 1 < length ws)
-        value_copy z = copy_asks g.take.ready (taken_opened g.take.ready w) _ e (omega arith) asked z (n + 1) (omega arith)
 
         pub known_left : b ≡ true → {ys : List ℕ} → ys ≡ set ws (n - 1) (get_or ws (n + 1) 0) →
             Stepped S (leaving S (without S q (in_slot s rs (n - 1))) (of_value v needed ∷ [])) s rs n u ys true
@@ -130,9 +127,6 @@ module _ {bytes tab : List ℕ} {f : ℕ} {s rs : List ℕ} {n p v : ℕ} (g : S
 
         pub stored_full : b ≡ false → Stepped (scope_at bytes tab f) (leaving (scope_at bytes tab f) (in_slot s rs (n - 1)) (ask_whole v ∷ map ask_whole (indexes_of bytes tab f p))) s rs n u ws false
         stored_full z = asked_full g.ready (copied_opened g.ready same_asks.1) _ refl (omega arith) asked_both z
-
-        pub stored_copy : b ≡ true → (n < length ws) × (n - 1 < length ws)
-        stored_copy z = copy_asks g.ready (copied_opened g.ready same_asks.1) _ refl (omega arith) asked_both z n refl
 
         pub somewhere_left : b ≡ true → {zs : List ℕ} → zs ≡ set ws (n - 1) (get_or ws n 0) →
             Stepped (scope_at bytes tab f) (leaving (scope_at bytes tab f) (in_slot s rs (n - 1)) (ask_whole v ∷ map ask_whole (indexes_of bytes tab f p))) s rs n u zs true

@@ -19,6 +19,7 @@ use hold::hold::copy;
 use judge::subject::Subject;
 use module::handles::{ExpressionHandle, FunctionHandle};
 use operands::load::ask_indexes;
+use part::store::ALL_PIECE;
 use place::target::find_target;
 use quiet::acts::{is_some, store_idle, store_overlap};
 use standing::passing::{Passing, filled};
@@ -69,7 +70,7 @@ fn store_somewhere(
     if !ask_indexes(file, f, cells, roots, n + 1, p) {
         return false;
     }
-    if !ask_value(file, f, cells, roots, n + 1, v, 0) {
+    if !ask_value(file, f, cells, roots, n + 1, v, ALL_PIECE) {
         return false;
     }
     copy(roots, n, last);

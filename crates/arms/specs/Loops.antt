@@ -29,6 +29,7 @@ use Rattle.block.specs.Pairing.{Branched}
 use Rattle.arms.specs.declared.loops.Turn.{Turn}
 use Rattle.arms.specs.declared.loops.Turn.TheVariants.{Over, Settled, Again}
 use Rattle.block.specs.declared.world.World.{World}
+use Rattle.block.specs.declared.workspace.Workspace.{Workspace}
 
 -- The end of a first pass that is required. It leaves the join of both blocks' contexts, and answers the context that `break_if` was asked in.
 unfoldable pub end_pass : Module → walk.Frame → Option ExpressionHandle → (before walked : RequiredContext) → Walk RequiredContext
@@ -99,8 +100,8 @@ pub record Turning (bytes t types places s rs open_marks totals : List ℕ) (fr 
   pub continuing_deep : Deep bytes t rs fr.function.0 continuing (fr.at + 12)
   pub roomy : Room s room
 
-abbrev pub TurningOf : World → List ℕ → List ℕ → List ℕ → List ℕ → Frame → BlockHandle → BlockHandle → BlockHandle → ℕ → ℕ → Type 0
-TurningOf w s rs open_marks totals fr b body continuing sum visits = Turning w.file.now.bytes w.file.now.t w.types.now w.places.now s rs open_marks totals fr b body continuing sum visits
+abbrev pub TurningOf : World → Workspace → Frame → BlockHandle → BlockHandle → BlockHandle → ℕ → ℕ → Type 0
+TurningOf w m fr b body continuing sum visits = Turning w.file.now.bytes w.file.now.t w.types.now w.places.now m.cells m.slots m.open m.totals fr b body continuing sum visits
 
 -- the turns from the memory s rs on, at most n, where the state is st
 abbrev pub turns_in : (bytes t s rs : List ℕ) → Frame → (body continuing : BlockHandle) → (n : ℕ) → Walk StatementReq

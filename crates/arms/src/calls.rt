@@ -17,7 +17,7 @@ use memory::layout::RESULT;
 use memory::memory::{tidy, weigh};
 use module::handles::FunctionHandle;
 use part::limits::SPINE;
-use part::store::make;
+use part::store::{EMPTY_PIECE, make};
 use state::answer::{Answer, Answered, Tally};
 use state::frame::Frame;
 use statement::atomic::record_of;
@@ -35,8 +35,8 @@ fn asked_of(cells: &mut [u32], found: Option<u32>) -> u32
     ensures { Made cells.old cells.new (retval_of (found_part cells.old found)) 1 result }
 {
     match found {
-        None => 2,
-        Some(p) => make(cells, SPINE, p, 2),
+        None => EMPTY_PIECE,
+        Some(p) => make(cells, SPINE, p, EMPTY_PIECE),
     }
 }
 

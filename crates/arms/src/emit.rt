@@ -9,7 +9,8 @@ use memory::layout::EXPRS;
 use state::answer::{Answer, Answered, Tally};
 use state::frame::Frame;
 
-// `Emit`, with its marks: which of its expressions have a record. It is required if any has.
+// `Emit`, with its marks: which of its expressions have a record. It is required if any has. It is not inlined: the walk calls itself,
+// and would hold its frame on every level of blocks.
 #[inline(never)]
 pub fn add_emit(
     file: &File,

@@ -10,7 +10,7 @@ use lib.Dec.{eqb, ltb}
 use lib.ListN.{length, get_or, set, length-set}
 use borrow.Author.Tests.{ltb-true, lt-ltb, ne_eqb, not-false}
 use Rattle.part.specs.PartReq.{PartReq, all, exist, none, more, is_exist, add}
-use Rattle.part.specs.Store.{top, part, means, Good, Room, Made, Seen}
+use Rattle.part.specs.Store.{top, part, means, Made, Seen}
 use Rattle.part.specs.Collect.{reached, cells_of}
 use Rattle.part.proofs.Pieces.{part-1, part-2}
 use Rattle.part.proofs.Distinct.{untrue, once_monotone}
@@ -25,7 +25,7 @@ use Rattle.framed.specs.Kept.{Kept}
 use Rattle.framed.proofs.Kept.{kept_need}
 use Rattle.hold.specs.Hold.{held_by, in_slot, Loose, Live, Pushed}
 use Rattle.hold.proofs.Reach.{tail_in, reach_cells, reach_cons}
-use Rattle.hold.proofs.Slots.{slot_set, slot_other, loose_kept, live_within, live_room, live_less, live_set, pushed_reach}
+use Rattle.hold.proofs.Slots.{slot_set, slot_other, loose_kept, live_within, live_less, live_set, pushed_reach}
 use Rattle.hold.proofs.Pushes.{pushed_made}
 use Rattle.standing.specs.Standing.{passed_by}
 use Rattle.asking.specs.Asks.{Asks, AskGiven, step_of, Adds, AsksAt}
@@ -127,13 +127,7 @@ module _ {s rs : List ℕ} {n : ℕ} {q : List ℕ} {a : ℕ} (g : AskGiven s rs
   pub asks_none : wanted asked ≡ false → AsksAt q asked s rs n s rs true
   asks_none w = record { each = λ S x d k. asks_idle S x g.live k (adds_none w d) }
 
-  pub wanted_asks : Good s × (a < top s)
-  wanted_asks = (g.live.loose.good, g.piece)
-
   -- Something is asked. The part is made:
-  pub under_asks : Good s × ((a < top s) × Room s (length q))
-  under_asks = (g.live.loose.good, (g.piece, omega (arith, live_room g.live, g.short)))
-
   module _ {t : List ℕ} {u : ℕ} (d : Made s t (under q asked) (length q) u) where
     pub push_asks : Loose t rs n × ((n < length rs) × (u < top t))
     push_asks = (loose_kept g.live.loose d.kept, (omega (arith, g.spare), d.piece))

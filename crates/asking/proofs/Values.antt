@@ -18,7 +18,7 @@ use Rattle.framed.specs.Kept.{Deep}
 use Rattle.place.specs.declared.sources.Source as answer
 use Rattle.place.specs.Sources.{source_by}
 use Rattle.place.specs.Slots.{Written}
-use Rattle.asking.specs.Asks.{Asks, AskGiven, step_of, Adds, AsksAt, ValueGiven}
+use Rattle.asking.specs.Asks.{Asks, step_of, Adds, AsksAt, ValueGiven}
 use Rattle.asking.proofs.Steps.{asks_idle}
 
 pub place_adds : (S : Scope) → Read S → Judged S → (q : List ℕ) (p : PartReq) → Within S (of_place q p) → Deep q → Ascending p → Adds S (of_place q p) q p
@@ -53,9 +53,6 @@ module _ {S : Scope} {s rs : List ℕ} {n v a : ℕ} (g : ValueGiven S s rs n v 
     module _ {before after : List ℕ} (w : Written q before after) (two : length before ≡ 2) where
       path_is : after ≡ q
       path_is = sym (two_taken after (w.long ∙ two)) ∙ w.is
-
-      pub path_asks : AskGiven s rs n after a
-      path_asks = record { live = g.live; hand = g.hand; spare = g.spare; piece = g.piece; short = omega (arith, w.long, two) }
 
       pub value_asks : {t us : List ℕ} {r : Bool} → AsksAt after (part s a) s rs n t us r → Asks S (step_of S (of_value v (part s a))) s rs n t us r
       value_asks {t} {us} {r} d = (rw path_is at d).each S (of_value v (part s a)) value_adds g.need

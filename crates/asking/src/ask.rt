@@ -15,7 +15,7 @@ use access::file::File;
 use hold::hold::{copy, push, push_sum};
 use module::handles::{ExpressionHandle, FunctionHandle};
 use needs::path::under;
-use part::store::look;
+use part::store::{ALL_PIECE, EMPTY_PIECE, EXIST_PIECE, look};
 use place::slots::{argument_path, evaluated_path};
 use place::sources::{Source, source_of};
 use standing::passing::ASKED;
@@ -26,14 +26,11 @@ fn is_wanted(cells: &[u32], a: u32) -> bool
     requires a_bound { a < top cells.now }
     ensures { result ≡ wanted (part cells.now a) }
 {
-    if a < 3 {
-        return a == 0;
+    if a <= EMPTY_PIECE {
+        return a == ALL_PIECE;
     }
     let x = look(cells, a);
-    if x.child == 1 {
-        return false;
-    }
-    x.child != 2
+    x.child != EXIST_PIECE && x.child != EMPTY_PIECE
 }
 
 // The part a is asked at the path. Says whether the needs are within the bound.
@@ -95,7 +92,7 @@ pub fn ask_whole(
     requires { StepGiven (scope_at file.now.bytes file.now.t f.0) cells.old roots.old n v.0 }
     ensures { Stepped (scope_at file.now.bytes file.now.t f.0) (step_of (scope_at file.now.bytes file.now.t f.0) (ask_whole v.0)) cells.old roots.old n cells.new roots.new result }
 {
-    ask_value(file, f, cells, roots, n, v, 0)
+    ask_value(file, f, cells, roots, n, v, ALL_PIECE)
 }
 
 // Of the value v, which is returned, the part is asked that is asked of the function's value.

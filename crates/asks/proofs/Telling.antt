@@ -5,7 +5,7 @@ use mathlib.Core.Bool.{Bool, true, false, cond, true≢false, false≢true}
 use mathlib.Core.List.{List, [], ◌∷◌}
 use mathlib.Core.Option.{Option, some, none as nothing}
 use Rattle.std.specs.Prelude as std
-use Rattle.std.specs.Prelude.{Some, None, IsSomeAnd}
+use Rattle.std.specs.Prelude.{Some, None, IsSomeAnd, MatchOption, unwrap_or}
 use Prim.Native.Nat.{ℕ, zero, suc, ◌<◌, ◌≤◌}
 use native.Mathlib.Omega.{arith}
 use native.Mathlib.Nat.{le_of_suc-le-suc}
@@ -125,11 +125,9 @@ module _ {s rs : List ℕ} {w : Want} (j : ℕ) where
   swizzle_after a x h = told_end (none_after (swizzle_asks a x) j (swizzle_few a x) h)
 
 -- the letters of a pattern
-pub letter_at : (n : ℕ) (f : ℕ → ℕ) (i : ℕ) {x : ℕ} → x ≡ f i → i < n → x ≡ get_or (tab n f) i 0
-letter_at n f i e h = e ∙ sym (get_d_tab n f i 0 h)
-
-pub letter_past : (n : ℕ) (f : ℕ → ℕ) (i : ℕ) → n ≤ i → 0 ≡ get_or (tab n f) i 0
-letter_past n f i h = sym (tab-past n f i 0 h)
+pub letter_filled : (n : ℕ) (f : ℕ → ℕ) (i : ℕ) (r : std.Option ℕ) → MatchOption r (n ≤ i) (λ x. (i < n) × (x ≡ f i)) → unwrap_or r 0 ≡ get_or (tab n f) i 0
+letter_filled n f i None h = sym (tab-past n f i 0 h)
+letter_filled n f i (Some x) h = h.1 ∙ sym (get_d_tab n f i 0 h.0)
 
 pub lettered : {pattern : List ℕ} {a b c d : ℕ} → a ≡ get_or pattern 0 0 → b ≡ get_or pattern 1 0 → c ≡ get_or pattern 2 0 → d ≡ get_or pattern 3 0 → Lettered pattern (a ∷ b ∷ c ∷ d ∷ [])
 lettered {pattern} {a} {b} {c} {d} p q r s = record { same = go }

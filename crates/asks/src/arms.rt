@@ -1,5 +1,5 @@
 // The arms whose asks an index, a pattern or the part decides.
-ghost use Rattle.std.specs.Prelude.{◌≡◌, ◌+◌, ◌<◌, get_or};
+ghost use Rattle.std.specs.Prelude.{◌≡◌, ◌+◌, ◌≤◌, ◌<◌, MatchOption};
 ghost use Rattle.part.specs.PartReq.{none, more};
 ghost use Rattle.module.specs.Decode.{tab};
 ghost use Rattle.access.specs.Access.{operand_at};
@@ -58,25 +58,25 @@ pub fn constant(cells: &[u32], slots: &[u32], w: Want, j: u32) -> Option<Ask>
     Some(Ask::Refuse(Refusal::Panic))
 }
 
-// The letter i of a swizzle, 0 where its pattern has none.
-fn letter(file: &File, row: Kinded, i: u16) -> u32
+// The letter i of a swizzle, where its pattern has one.
+fn letter(file: &File, row: Kinded, i: u16) -> Option<u32>
     requires { i < 4 }
-    ensures { result ≡ get_or (tab (operand_at file.now.bytes row 1) (λ k. operand_at file.now.bytes row (2 + k))) i 0 }
+    ensures { MatchOption result (operand_at file.now.bytes row 1 ≤ i) (λ x. (i < operand_at file.now.bytes row 1) × (x ≡ operand_at file.now.bytes row (2 + i))) }
 {
     if i < file.operand(row, 1) {
-        return file.operand(row, 2 + i) as u32;
+        return Some(file.operand(row, 2 + i) as u32);
     }
-    0
+    None
 }
 
-// Its four letters.
+// Its four letters: a shorter pattern is filled up with the letter 0.
 fn letters(file: &File, row: Kinded) -> [u32; 4]
     ensures { Lettered (tab (operand_at file.now.bytes row 1) (λ k. operand_at file.now.bytes row (2 + k))) result }
 {
-    let a = letter(file, row, 0);
-    let b = letter(file, row, 1);
-    let c = letter(file, row, 2);
-    let d = letter(file, row, 3);
+    let a = letter(file, row, 0).unwrap_or(0);
+    let b = letter(file, row, 1).unwrap_or(0);
+    let c = letter(file, row, 2).unwrap_or(0);
+    let d = letter(file, row, 3).unwrap_or(0);
     [a, b, c, d]
 }
 

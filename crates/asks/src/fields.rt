@@ -14,6 +14,13 @@ use memory::want::{Want, want_of};
 use module::handles::ExpressionHandle;
 use module::kinds::ExpressionKind;
 
+// The codes of a sample's level that handles follow: two behind a gradient, one behind the others.
+const EXACT: u16 = 2;
+
+const BIAS: u16 = 3;
+
+const GRADIENT: u16 = 4;
+
 // How a field is asked: not at all, the part that is asked of the expression, all, exist, or all where the operand is there.
 #[derive(Clone, Copy)]
 enum Way {
@@ -29,7 +36,7 @@ fn sample_ways(code: u16) -> &'static [Way]
     ensures { WaysOf 13 code result.now }
 {
     match code {
-        2 | 3 => &[
+        EXACT | BIAS => &[
             Way::All,
             Way::All,
             Way::All,
@@ -38,7 +45,7 @@ fn sample_ways(code: u16) -> &'static [Way]
             Way::All,
             Way::Maybe,
         ],
-        4 => &[
+        GRADIENT => &[
             Way::All,
             Way::All,
             Way::All,
@@ -122,8 +129,7 @@ pub fn field_ask(
 {
     let mut skip = j;
     let ways = ways(file, row);
-    for k in 0..ways.len() {
-        let way = ways[k];
+    for (k, &way) in ways.iter().enumerate() {
         if let Some(x) = chosen(file, row, k as u16, way) {
             if skip == 0 {
                 return Some(Ask::Operand(x, want_by(cells, slots, w, way)));

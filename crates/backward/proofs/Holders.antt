@@ -18,19 +18,17 @@ use Rattle.clearance.specs.Tree.{Tree, mark_at, unmarked}
 use Rattle.clearance.specs.Needs.{obeys, kept}
 use Rattle.judge.specs.Given.{scope_at}
 use Rattle.pass.specs.Pass.{within}
-use Rattle.hold.specs.Hold.{in_slot, Live}
+use Rattle.hold.specs.Hold.{in_slot}
 use Rattle.quiet.specs.Acts.{Needing}
 use Rattle.quiet.specs.Places.{statement_tree, Obeys}
 use Rattle.strays.proofs.Found.{in_function, statement_small}
 use Rattle.standing.specs.Standing.{Walked, Closed, Blames, inside}
 use Rattle.standing.specs.declared.passing.Passing.{Passing}
 use Rattle.standing.specs.Exits.{Exits}
-use Rattle.standing.proofs.Arms.{copied_ready, targets_more}
 use Rattle.standing.proofs.Taken.{walked_obeys, broken_full, walked_broken, broken_end_full}
 use Rattle.ends.specs.Merged.{Merged}
 use Rattle.ends.proofs.Merges.{broken_closed}
 use Rattle.backward.specs.Course.{Course, Passes, RowIn, blocks_under, if_tree, switch_tree, loop_tree, bare_tree}
-use Rattle.backward.proofs.Course.{course_on}
 use Rattle.backward.proofs.Trees.{if_is, switch_is, loop_is, held_is, marked_is, unmarked-is}
 
 -- what has a mark and holds blocks keeps the needs after it
@@ -111,10 +109,6 @@ module _ {bytes t : List ℕ} {f : ℕ} {types alike paths firsts s rs path : Li
             above_long : length us ≡ length rs
             above_long = ap length c ∙ length-set rs n _
 
-            pub bare_asks : Course bytes t f types alike paths firsts s us path₀ (n + 1) x p × ((n + 1) + (3 * b + 11) ≤ length us)
-            bare_asks =
-                (course_on g (rw c (copied_ready g.ready g.targets holder_copy.1)) (targets_more g.targets (omega arith)) g.going q.long, omega (arith, above_long))
-
             module _ {t₁ us₁ path₁ : List ℕ} {q₁ : Passing} (one : Passes S (inside bare) s us (n + 1) x p t₁ us₁ path₀ path₁ q₁) where
               walked_one : Walked S (inside bare) s (set rs n (get_or rs (n - 1) 0)) (n + 1) x p t₁ us₁ q₁
               walked_one = rw c at one.walked
@@ -126,9 +120,6 @@ module _ {bytes t : List ℕ} {f : ℕ} {types alike paths firsts s rs path : Li
               }
 
               module _ (g₁ : q₁.full ≡ false) where
-                pub holder_merge : Live t₁ us₁ (n + 1) × (((0 < n) × (n + 1 < length us₁)) × ((n - 1 < n + 1) × (n < n + 1)))
-                holder_merge = ((one.walked.ready g₁).live, ((omega (arith, g.ready.high), omega (arith, one.walked.slots, above_long)), (omega arith, omega arith)))
-
                 module _ {k' : ℕ} (same : k' ≡ l) {q₂ : Passing} (y : Blames k' q₁ q₂) {t₂ us₂ : List ℕ} {z : Bool} (last : Merged t₁ us₁ n (n - 1) n t₂ us₂ z) where
                   kept-both : Closed S (λ aside m i c. within (m ∷ i ∷ aside) (kept bare m i) c) t₁ us₁ n t₂ us₂ z
                   kept-both = broken_closed (one.walked.ready g₁) g.ready.high bare (bare_kept w l row.kind o) last

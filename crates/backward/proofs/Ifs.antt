@@ -74,9 +74,6 @@ module _ {bytes t : List ℕ} {f : ℕ} {types alike paths firsts s rs path : Li
         slots_one : length us₁ ≡ length rs
         slots_one = first.walked.slots ∙ first_long
 
-        pub if_exchange : (0 < n) × (n < length us₁)
-        if_exchange = (omega (arith, g.ready.high), omega (arith, slots_one))
-
         module _ {vs : List ℕ} (d : vs ≡ exchanged us₁ n) where
           second_long : length vs ≡ length rs
           second_long = ap length d ∙ length-set (set us₁ n (get_or us₁ (n - 1) 0)) (n - 1) _ ∙ length-set us₁ n _ ∙ slots_one

@@ -1,10 +1,9 @@
 -- A block's statements, the last first, with a point before each; the points around a block; and a statement by its kind.
-use Prim.Native.Nat.{ℕ, zero, suc, ◌+◌, ◌-◌, ◌*◌, ◌<◌, ◌≤◌}
+use Prim.Native.Nat.{ℕ, zero, suc, ◌+◌, ◌-◌, ◌≤◌}
 use native.Mathlib.Omega.{arith}
 use mathlib.Core.Path.{◌≡◌, refl, ap, ◌∙◌}
 use mathlib.Core.Bool.{true, false}
 use mathlib.Core.List.{List}
-use lib.ListN.{length}
 use Rattle.module.specs.Module.{BlockRange, Function}
 use Rattle.module.specs.Tables.{function_of}
 use Rattle.access.specs.declared.kinded.Kinded.{Kinded}
@@ -15,7 +14,7 @@ use Rattle.clearance.specs.Tree.{Tree}
 use Rattle.clearance.specs.Needs.{Exit, upon, Setting}
 use Rattle.pass.specs.Pass.{Carried, full, ◌>>=◌, point, pass_inside}
 use Rattle.judge.specs.Given.{scope_at}
-use Rattle.hold.specs.Hold.{in_slot, Live}
+use Rattle.hold.specs.Hold.{in_slot}
 use Rattle.quiet.specs.Places.{tree_of, statement_tree}
 use Rattle.strays.specs.Places.{BlockOf, StatementIn}
 use Rattle.standing.specs.Standing.{setting_of, Noted, inside, around}
@@ -23,7 +22,7 @@ use Rattle.standing.specs.declared.passing.Passing.{Passing}
 use Rattle.standing.specs.Exits.{Exits}
 use Rattle.standing.proofs.Walks.{walked_full, walked_nop, walked_seq, walked_pointed, pointed_full}
 use Rattle.backward.specs.Course.{Course, Passes, RowIn}
-use Rattle.backward.proofs.Course.{course_on, point_asks}
+use Rattle.backward.proofs.Course.{course_on}
 use Rattle.backward.proofs.Trees.{later, none_later, one_more, all_later, inner_is}
 
 -- where a block's later statements pass the bound, all do
@@ -70,16 +69,7 @@ module _ {bytes t : List ℕ} {f : ℕ} {types alike paths firsts s rs path : Li
   }
 
   module _ {b : ℕ} {marks : List ℕ} {first count k : ℕ} {t₁ us₁ path₁ : List ℕ} {q₁ : Passing} (a : Later bytes t f b marks s rs path n x p first count k t₁ us₁ path₁ q₁) where
-    pub later_point : Live t₁ us₁ n × (0 < n)
-    later_point = point_asks (a.passes.walked.ready a.going)
-
     module _ {q₂ : Passing} (d : Noted (in_slot t₁ us₁ (n - 1)) q₁ q₂) where
-      pub statement_asks : n + (3 * b + 12) ≤ length rs → Course bytes t f types alike paths firsts t₁ us₁ path₁ n x q₂ × (n + (3 * b + 12) ≤ length us₁)
-      statement_asks room = (
-        course_on g (a.passes.walked.ready a.going) g.targets (d.full ∙ a.going) a.passes.long,
-        omega (arith, a.passes.walked.slots),
-      )
-
       module _ (j : ℕ) (e : k ≡ j + 1) {t₃ us₃ path₃ : List ℕ} {q₃ : Passing} (one : Passes S (inside (statement_tree F marks b (first + j))) t₁ us₁ n x q₂ t₃ us₃ path₁ path₃ q₃) where
         joined : Passes S (inside (later F marks b first count j)) s rs n x p t₃ us₃ path path₃ q₃
         joined = record {

@@ -17,7 +17,7 @@ use Rattle.clearance.specs.Tree.{Tree}
 use Rattle.clearance.specs.Needs.{broke, upon}
 use Rattle.judge.specs.Given.{scope_at}
 use Rattle.pass.specs.Pass.{Carried, Passed, full, ◌>>=◌, pointed, joining, pass_cases, pass_inside}
-use Rattle.hold.specs.Hold.{in_slot, Live}
+use Rattle.hold.specs.Hold.{in_slot}
 use Rattle.quiet.specs.Places.{tree_of}
 use Rattle.strays.specs.Places.{BlockOf}
 use Rattle.strays.proofs.Found.{cases_in}
@@ -130,9 +130,6 @@ module _ {bytes t : List ℕ} {f : ℕ} {types alike paths firsts s rs path : Li
         module _ (g₁ : q₁.full ≡ false) where
           slots_one : length us₁ ≡ length rs
           slots_one = one.walked.slots ∙ case_long
-
-          pub merge_asks : Live t₁ us₁ (n + 1) × (((0 < n) × (n + 1 < length us₁)) × ((n < n + 1) × (n - 1 < n + 1)))
-          merge_asks = ((one.walked.ready g₁).live, ((omega (arith, g.ready.high), omega (arith, slots_one)), (omega arith, omega arith)))
 
           module _ {t₂ us₂ : List ℕ} {k : Bool} (last : Merged t₁ us₁ n n (n - 1) t₂ us₂ k) where
             pub case_more : k ≡ true → Union S (i + 1) (case_block F marks o) s rs n x p t₂ us₂ path path₁ q₁

@@ -10,7 +10,7 @@ ghost use Rattle.backward.specs.Course.{CourseOf, Passes, RowInOf, blocks_under,
 ghost use Rattle.judge.specs.Subject.{scope_of, function_in};
 
 use crate::plain::pass_plain;
-use crate::slots::{exchange, in_body, in_switch};
+use crate::slots::exchange;
 use access::kinded::Kinded;
 use acts::marks::mark_at;
 use ends::held::{begin_loop, end_if, end_switch};
@@ -20,6 +20,7 @@ use hold::hold::copy;
 use judge::subject::Subject;
 use module::handles::BlockHandle;
 use module::kinds::StatementKind;
+use part::store::EMPTY_PIECE;
 use quiet::blocks::obeys;
 use standing::passing::{Exits, Passing, filled};
 
@@ -94,8 +95,8 @@ fn pass_switch(
     requires kind_value { row.kind ≡ 3 }
     ensures { Passes (scope_of subject.now) (inside (switch_tree (blocks_under (function_in subject.now) marks.now b.0) (operand_at subject.now.file.now.bytes row))) cells.old roots.old n x p cells.new roots.new path.old path.new result }
 {
-    roots[n] = 2;
-    let y = in_switch(n, x);
+    roots[n] = EMPTY_PIECE;
+    let y = x.in_case(n - 1);
     let q = pass_cases(
         subject,
         marks,
@@ -209,7 +210,7 @@ fn pass_loop(
     if !begin_loop(subject.file, subject.f, cells, roots, n, l, break_if) {
         return filled();
     }
-    let y = in_switch(n, x);
+    let y = x.in_case(n - 1);
     let continuing = subject.file.block_operand(row, 1);
     let q = pass_around(
         subject,
@@ -228,7 +229,7 @@ fn pass_loop(
     }
     let above = n + 1;
     copy(roots, n, above);
-    let z = in_body(n, x);
+    let z = x.in_body(n - 1, n);
     let body = subject.file.block_operand(row, 0);
     let o = pass_around(
         subject,

@@ -24,7 +24,7 @@ use field::refusal::Refusal;
 use module::handles::TypeHandle;
 use part::limits::SPINE;
 use part::req::join;
-use part::store::{entries, make, measure, over};
+use part::store::{ALL_PIECE, EMPTY_PIECE, entries, make, measure, over};
 
 // The piece of what has this binding, or else this type, which is one of the first t types.
 pub fn from_binding(parts: &[u32], required: u64, x: Bound, t: u32) -> u32
@@ -35,13 +35,13 @@ pub fn from_binding(parts: &[u32], required: u64, x: Bound, t: u32) -> u32
     match x.binding {
         Some(b) => {
             if contains(required, b) {
-                return 0;
+                return ALL_PIECE;
             }
-            2
+            EMPTY_PIECE
         }
         None => {
             if t <= x.ty.0 {
-                return 2;
+                return EMPTY_PIECE;
             }
             parts[x.ty.0 as usize]
         }
@@ -56,11 +56,12 @@ fn from_type(cells: &mut [u32], types: &[u32], parts: &[u32], required: u64, t: 
     requires held { Held cells.old parts.now t.0 × Room cells.old max_members }
     ensures { From cells.old cells.new (step_from (types_of types.now) required (lower_part cells.old parts.now t.0) t.0) max_members result }
 {
-    let mut r: u32 = 2;
+    let mut r = EMPTY_PIECE;
+    // Stays: by number, since it is the index of the member's entry.
     for i in (0..member_count(types, t)).rev() {
         let m = member_at(types, t, i);
         let q = from_binding(parts, required, m, t.0);
-        if q != 2 {
+        if q != EMPTY_PIECE {
             r = make(cells, i, q, r);
         }
     }
@@ -76,6 +77,7 @@ pub fn from_table(cells: &mut [u32], types: &[u32], required: u64, parts: &mut [
     requires room { Room cells.old (max_members * length parts.old) × (length parts.old ≤ 4294967295) }
     ensures { Parts cells.old cells.new (types_of types.now) required parts.new (max_members * length parts.old) }
 {
+    // Stays: by index, since a type's piece is made of those that stand below it in the same table.
     for t in 0..parts.len() {
         let r = from_type(cells, types, parts, required, TypeHandle(t as u32));
         parts[t] = r;
@@ -98,14 +100,14 @@ fn returned_from(
     ensures { Made cells.old cells.new (return_entry (result_from (types_of types.now) required (result_in declared))) (output_cells parts.old) result }
 {
     let Some(x) = declared else {
-        return 2;
+        return EMPTY_PIECE;
     };
     from_table(cells, types, required, parts);
     let q = from_binding(parts, required, x, parts.len() as u32);
-    if q == 2 {
-        return 2;
+    if q == EMPTY_PIECE {
+        return EMPTY_PIECE;
     }
-    make(cells, SPINE, q, 2)
+    make(cells, SPINE, q, EMPTY_PIECE)
 }
 
 // What refuses a request, by whether what is new passes a limit and whether the request does, and by the request's entries: 15, then 16.

@@ -4,7 +4,7 @@ ghost use Rattle.part.specs.PartReq.{add};
 ghost use Rattle.part.specs.Store.{top, part, Measures, Good};
 
 use part::req::join_plain;
-use part::store::{Sizes, look, measure, sizes_of};
+use part::store::{EMPTY_PIECE, Sizes, look, measure, sizes_of};
 
 // It goes along both lists at once, and calls itself where both have an entry.
 pub fn sum_sizes(cells: &[u32], a: u32, b: u32) -> Sizes
@@ -15,10 +15,10 @@ pub fn sum_sizes(cells: &[u32], a: u32, b: u32) -> Sizes
     if a == b {
         return measure(cells, a);
     }
-    if a < 3 {
+    if a <= EMPTY_PIECE {
         return measure(cells, join_plain(a, b));
     }
-    if b < 3 {
+    if b <= EMPTY_PIECE {
         return measure(cells, join_plain(b, a));
     }
     let x = look(cells, a);

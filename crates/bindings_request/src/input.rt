@@ -7,7 +7,7 @@ ghost use Rattle.module.specs.Tables.{function_of, module_of};
 ghost use Rattle.context.specs.Types.{type_count};
 ghost use Rattle.bindings.specs.Rows.{args_of};
 ghost use Rattle.bindings_request.specs.Boundary.{Tables, Gave};
-ghost use Rattle.bindings_request.specs.Inputs.{Accepts, ListGiven, input_bytes};
+ghost use Rattle.bindings_request.specs.Inputs.{ListGiven, input_bytes};
 
 use crate::answer::Refused;
 use crate::needed::{all_table, input_to_bindings};
@@ -28,8 +28,8 @@ fn fill(file: &File, f: FunctionHandle, args: &mut [Bound])
     requires args_len_bound { length args.old ≤ max_arguments }
     ensures { args_of args.new ≡ (function_of file.now.bytes file.now.t f.0).arguments }
 {
-    for i in 0..args.len() {
-        args[i] = file.argument(f, i as u32);
+    for (i, x) in args.iter_mut().enumerate() {
+        *x = file.argument(f, i as u32);
     }
 }
 
@@ -42,31 +42,6 @@ fn write_list(s: u64, context: &[u8], out: &mut [u8]) -> Result<usize, Refused>
         return Err(Refusal::PiecesLimit.into());
     }
     Ok(list(s, out))
-}
-
-// What is needed of the function f by a context that is accepted, where there is a place for each argument.
-fn list_needed(
-    file: &File,
-    types: &[u32],
-    sets: &mut [u64],
-    args: &mut [Bound],
-    f: FunctionHandle,
-    context: &[u8],
-    out: &mut [u8],
-) -> Result<usize, Refused>
-    requires tables { Tables file.now.bytes file.now.t types.now }
-    requires sets_len { (length sets.old ≡ type_count types.now) × (f.0 < length (module_of file.now.bytes file.now.t).functions) }
-    requires args_len { length args.old ≡ length (function_of file.now.bytes file.now.t f.0).arguments }
-    requires accepts { Accepts (module_of file.now.bytes file.now.t) (function_of file.now.bytes file.now.t f.0) context.now }
-    ensures { Gave out.old out.new (input_bytes (module_of file.now.bytes file.now.t) (length out.old) f.0 context.now) result }
-{
-    if out.len() < BINDINGS as usize {
-        return Err(Refusal::AnswerTooShort.into());
-    }
-    fill(file, f, args);
-    all_table(types, sets);
-    let s = input_to_bindings(context, args_at(context), types, sets, args)?;
-    write_list(s, context, out)
 }
 
 // The bindings list of a context's bytes, written from the slice's first byte on.
@@ -89,5 +64,12 @@ pub fn input_to_bindings_bytes(
     let n = file.arguments(f);
     let l = file.locals(f);
     check_context(context, file.globals(), n, l)?;
-    list_needed(file, types, sets, &mut args[0..n as usize], f, context, out)
+    if out.len() < BINDINGS as usize {
+        return Err(Refusal::AnswerTooShort.into());
+    }
+    let own = &mut args[0..n as usize];
+    fill(file, f, own);
+    all_table(types, sets);
+    let s = input_to_bindings(context, args_at(context), types, sets, own)?;
+    write_list(s, context, out)
 }

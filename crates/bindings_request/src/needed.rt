@@ -115,6 +115,7 @@ fn type_step(
         return walk(context, at, depth, types, sets, base, t);
     }
     let mut r: u64 = 0;
+    // Stays: by number, since the context names a member by it.
     for i in (0..member_count(types, t)).rev() {
         let m = member_bindings(context, at, depth, types, sets, t, i);
         r = m | r;
@@ -138,6 +139,7 @@ pub fn all_table(types: &[u32], sets: &mut [u64])
     requires sets_len_bound { length sets.old ≤ 4294967295 }
     ensures { sets.new ≡ all_table (types_of types.now) }
 {
+    // Stays: by index, since a type's set is made of those that stand below it in the same table.
     for t in 0..sets.len() {
         let r = type_all(types, sets, TypeHandle(t as u32));
         sets[t] = r;
@@ -208,8 +210,8 @@ pub fn input_to_bindings(
     ensures { needed_of result ≡ args_bindings (types_of types.now) (list_at context.now args) 0 (args_of arguments.now) }
 {
     let mut s: u64 = 0;
-    for i in 0..arguments.len() {
-        let a = arg_bindings(context, args, types, sets, i as u32, arguments[i])?;
+    for (i, x) in arguments.iter().enumerate() {
+        let a = arg_bindings(context, args, types, sets, i as u32, *x)?;
         s = s | a;
     }
     Ok(s)

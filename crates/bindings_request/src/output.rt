@@ -11,7 +11,7 @@ use bindings::outputs::output_from_bindings;
 use field::limits::MIN_REPORT;
 use field::refusal::Refusal;
 use module::handles::FunctionHandle;
-use part::store::init;
+use part::store::{EMPTY_PIECE, init};
 
 // The request that asks for these bindings of the function f, written from the slice's first byte on.
 pub fn output_from_bindings_bytes(
@@ -39,5 +39,5 @@ pub fn output_from_bindings_bytes(
     init(cells);
     let declared = file.result(f);
     let a = output_from_bindings(cells, types, s, declared, parts);
-    write_asking(cells, f, 2, a, out)
+    write_asking(cells, f, EMPTY_PIECE, a, out)
 }

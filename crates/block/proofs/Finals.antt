@@ -27,7 +27,7 @@ use Rattle.marks.proofs.Write.{write_long}
 use Rattle.marks.proofs.Sums.{total_there, total_missing, kept-own, kept-other, added-own, added-other}
 use Rattle.state.specs.State.{records_in}
 use Rattle.block.specs.Standing.{total_of, total_in, functions_in, state_in, Standing}
-use Rattle.block.specs.Adding.{FirstTotal, joint, LaterTotal}
+use Rattle.block.proofs.Adds.{FirstTotal, joint, LaterTotal}
 use Rattle.block.proofs.Keeping.{total_state, total_standing}
 
 -- records that count for nothing are extended to the later ones

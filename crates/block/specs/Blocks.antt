@@ -20,6 +20,7 @@ use Rattle.state.specs.declared.answer.Halt.{Halt}
 use Rattle.state.specs.declared.answer.Answer.{Answer}
 use Rattle.block.specs.Standing.{state_in, Standing}
 use Rattle.block.specs.declared.world.World.{World}
+use Rattle.block.specs.declared.workspace.Workspace.{Workspace}
 
 -- what 16 counts of the context in four slots
 abbrev pub context_in : (s rs : List ℕ) → ℕ → ℕ
@@ -43,8 +44,8 @@ pub record Entered (bytes t types places s rs open_marks totals : List ℕ) (f :
   pub deep : Deep bytes t rs f b at
   pub roomy : Room s room
 
-abbrev pub EnteredOf : World → List ℕ → List ℕ → List ℕ → List ℕ → FunctionHandle → BlockHandle → ℕ → ℕ → ℕ → ℕ → ℕ → ℕ → Type 0
-EnteredOf w s rs open_marks totals f b base at held own sum visits = Entered w.file.now.bytes w.file.now.t w.types.now w.places.now s rs open_marks totals f b base at held own sum visits
+abbrev pub EnteredOf : World → Workspace → FunctionHandle → BlockHandle → ℕ → ℕ → ℕ → ℕ → ℕ → ℕ → Type 0
+EnteredOf w m f b base at held own sum visits = Entered w.file.now.bytes w.file.now.t w.types.now w.places.now m.cells m.slots m.open m.totals f b base at held own sum visits
 
 -- What the arm of a statement asks that may hold blocks; b is the block that it stands in.
 pub record Begins (bytes t types places s rs open_marks totals : List ℕ) (fr : Frame) (b : BlockHandle) (sum visits : ℕ) : Type 0 where
@@ -86,8 +87,8 @@ BlockEnding bytes t types places s rs open_marks totals f base at held own sum t
 pub record BlockEnds (bytes t types places s rs open_marks totals : List ℕ) (f : FunctionHandle) (base at held own sum : ℕ) (total : Out Bool) (r : Result Answer Halt) (u us open_after totals-after : List ℕ) : Type 0 where
   pub by : BlockEnding bytes t types places s rs open_marks totals f base at held own sum total r u us open_after totals-after
 
-abbrev pub BlockEndsOf : World → List ℕ → List ℕ → List ℕ → List ℕ → FunctionHandle → ℕ → ℕ → ℕ → ℕ → ℕ → Out Bool → Result Answer Halt → List ℕ → List ℕ → List ℕ → List ℕ → Type 0
-BlockEndsOf w s rs open_marks totals f base at held own sum total r u us open_after totals-after = BlockEnds w.file.now.bytes w.file.now.t w.types.now w.places.now s rs open_marks totals f base at held own sum total r u us open_after totals-after
+abbrev pub BlockEndsOf : World → Workspace → FunctionHandle → ℕ → ℕ → ℕ → ℕ → ℕ → Out Bool → Result Answer Halt → Workspace → Type 0
+BlockEndsOf w m f base at held own sum total r n = BlockEnds w.file.now.bytes w.file.now.t w.types.now w.places.now m.cells m.slots m.open m.totals f base at held own sum total r n.cells n.slots n.open n.totals
 
 -- a statement, or its arm, went as `total` says, with `answer` for its answer b
 pub record StatementEnded {A : Type 0} (bytes t types places s rs open_marks totals : List ℕ) (fr : Frame) (total : Out A) (answer : Bool → A) (visits sum : ℕ) (b : Bool) (u us open_after totals-after : List ℕ) : Type 0 where
@@ -103,5 +104,5 @@ StatementEnding bytes t types places s rs open_marks totals fr total answer (Err
 pub record StatementEnds {A : Type 0} (bytes t types places s rs open_marks totals : List ℕ) (fr : Frame) (total : Out A) (answer : Bool → A) (r : Result Answer Halt) (u us open_after totals-after : List ℕ) : Type 0 where
   pub by : StatementEnding bytes t types places s rs open_marks totals fr total answer r u us open_after totals-after
 
-abbrev pub StatementEndsOf : {A : Type 0} → World → List ℕ → List ℕ → List ℕ → List ℕ → Frame → Out A → (Bool → A) → Result Answer Halt → List ℕ → List ℕ → List ℕ → List ℕ → Type 0
-StatementEndsOf w s rs open_marks totals fr total answer r u us open_after totals-after = StatementEnds w.file.now.bytes w.file.now.t w.types.now w.places.now s rs open_marks totals fr total answer r u us open_after totals-after
+abbrev pub StatementEndsOf : {A : Type 0} → World → Workspace → Frame → Out A → (Bool → A) → Result Answer Halt → Workspace → Type 0
+StatementEndsOf w m fr total answer r n = StatementEnds w.file.now.bytes w.file.now.t w.types.now w.places.now m.cells m.slots m.open m.totals fr total answer r n.cells n.slots n.open n.totals

@@ -19,6 +19,7 @@ use Rattle.state.specs.declared.answer.Answer.{Answer}
 use Rattle.block.specs.Standing.{state_in, Standing}
 use Rattle.block.specs.Blocks.{context_in, Deep, Beside}
 use Rattle.block.specs.declared.world.World.{World}
+use Rattle.block.specs.declared.workspace.Workspace.{Workspace}
 
 -- Its base context stands in the slots from `base` on: of the globals and of the return value alone. It has no record and no mark yet.
 pub record FunctionEntered (bytes t types places s rs open_marks totals : List ℕ) (f : FunctionHandle) (base held sum visits : ℕ) : Type 0 where
@@ -33,8 +34,8 @@ pub record FunctionEntered (bytes t types places s rs open_marks totals : List �
   pub deep : Deep bytes t rs f (body_of (module_of bytes t) f) (base + 4)
   pub roomy : Room s room
 
-abbrev pub FunctionEnteredOf : World → List ℕ → List ℕ → List ℕ → List ℕ → FunctionHandle → ℕ → ℕ → ℕ → ℕ → Type 0
-FunctionEnteredOf w s rs open_marks totals f base held sum visits = FunctionEntered w.file.now.bytes w.file.now.t w.types.now w.places.now s rs open_marks totals f base held sum visits
+abbrev pub FunctionEnteredOf : World → Workspace → FunctionHandle → ℕ → ℕ → ℕ → ℕ → Type 0
+FunctionEnteredOf w m f base held sum visits = FunctionEntered w.file.now.bytes w.file.now.t w.types.now w.places.now m.cells m.slots m.open m.totals f base held sum visits
 
 -- Its context stands behind the base. What it needs of its arguments was counted by 16, or is nothing.
 pub record FunctionEnded (bytes t types places s rs open_marks totals : List ℕ) (f : FunctionHandle) (base held : ℕ) (total : Out Bool) (visits sum : ℕ) (b : Bool) (u us open_after totals-after : List ℕ) : Type 0 where
@@ -53,5 +54,5 @@ FunctionEnding bytes t types places s rs open_marks totals f base held total (Er
 pub record FunctionEnds (bytes t types places s rs open_marks totals : List ℕ) (f : FunctionHandle) (base held : ℕ) (total : Out Bool) (r : Result Answer Halt) (u us open_after totals-after : List ℕ) : Type 0 where
   pub by : FunctionEnding bytes t types places s rs open_marks totals f base held total r u us open_after totals-after
 
-abbrev pub FunctionEndsOf : World → List ℕ → List ℕ → List ℕ → List ℕ → FunctionHandle → ℕ → ℕ → Out Bool → Result Answer Halt → List ℕ → List ℕ → List ℕ → List ℕ → Type 0
-FunctionEndsOf w s rs open_marks totals f base held total r u us open_after totals-after = FunctionEnds w.file.now.bytes w.file.now.t w.types.now w.places.now s rs open_marks totals f base held total r u us open_after totals-after
+abbrev pub FunctionEndsOf : World → Workspace → FunctionHandle → ℕ → ℕ → Out Bool → Result Answer Halt → Workspace → Type 0
+FunctionEndsOf w m f base held total r n = FunctionEnds w.file.now.bytes w.file.now.t w.types.now w.places.now m.cells m.slots m.open m.totals f base held total r n.cells n.slots n.open n.totals

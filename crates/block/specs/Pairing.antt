@@ -18,6 +18,7 @@ use Rattle.state.specs.declared.answer.Answer.{Answer}
 use Rattle.block.specs.Standing.{state_in, Standing}
 use Rattle.block.specs.Blocks.{context_in, Deep, Beside}
 use Rattle.block.specs.declared.world.World.{World}
+use Rattle.block.specs.declared.workspace.Workspace.{Workspace}
 
 -- The first one's context is held while the second is walked. The answer has that context, and whether either is required.
 unfoldable pub add_pair : BlockWalk → (first second : BlockHandle) → (held : ℕ) → (base : RequiredContext) → (break_required : Bool) → Walk (RequiredContext × Bool)
@@ -41,8 +42,8 @@ pub record Paired (bytes t types places s rs open_marks totals : List ℕ) (f : 
   pub second_deep : Deep bytes t rs f second (at + 4)
   pub roomy : Room s room
 
-abbrev pub PairedOf : World → List ℕ → List ℕ → List ℕ → List ℕ → FunctionHandle → BlockHandle → BlockHandle → BlockHandle → ℕ → ℕ → ℕ → ℕ → ℕ → Type 0
-PairedOf w s rs open_marks totals f b first second base at held sum visits = Paired w.file.now.bytes w.file.now.t w.types.now w.places.now s rs open_marks totals f b first second base at held sum visits
+abbrev pub PairedOf : World → Workspace → FunctionHandle → BlockHandle → BlockHandle → BlockHandle → ℕ → ℕ → ℕ → ℕ → ℕ → Type 0
+PairedOf w m f b first second base at held sum visits = Paired w.file.now.bytes w.file.now.t w.types.now w.places.now m.cells m.slots m.open m.totals f b first second base at held sum visits
 
 pub record PairEnded (bytes t types places s rs open_marks totals : List ℕ) (f : FunctionHandle) (base at held : ℕ) (total : Out (RequiredContext × Bool)) (visits sum : ℕ) (b : Bool) (u us open_after totals-after : List ℕ) : Type 0 where
   pub is : went (state_in bytes t u us open_after totals-after f (at + 4) visits) (context_at (read u us) at, b) ≡ total
@@ -61,8 +62,8 @@ PairEnding bytes t types places s rs open_marks totals f base at held total (Err
 pub record PairEnds (bytes t types places s rs open_marks totals : List ℕ) (f : FunctionHandle) (base at held : ℕ) (total : Out (RequiredContext × Bool)) (r : Result Answer Halt) (u us open_after totals-after : List ℕ) : Type 0 where
   pub by : PairEnding bytes t types places s rs open_marks totals f base at held total r u us open_after totals-after
 
-abbrev pub PairEndsOf : World → List ℕ → List ℕ → List ℕ → List ℕ → FunctionHandle → ℕ → ℕ → ℕ → Out (RequiredContext × Bool) → Result Answer Halt → List ℕ → List ℕ → List ℕ → List ℕ → Type 0
-PairEndsOf w s rs open_marks totals f base at held total r u us open_after totals-after = PairEnds w.file.now.bytes w.file.now.t w.types.now w.places.now s rs open_marks totals f base at held total r u us open_after totals-after
+abbrev pub PairEndsOf : World → Workspace → FunctionHandle → ℕ → ℕ → ℕ → Out (RequiredContext × Bool) → Result Answer Halt → Workspace → Type 0
+PairEndsOf w m f base at held total r n = PairEnds w.file.now.bytes w.file.now.t w.types.now w.places.now m.cells m.slots m.open m.totals f base at held total r n.cells n.slots n.open n.totals
 
 -- What the end of an If and of a loop's first pass finds: the statement's context, and above it those that its two blocks have left.
 pub record Branched (bytes t types places s rs open_marks totals : List ℕ) (fr : Frame) (sum visits : ℕ) : Type 0 where

@@ -26,6 +26,7 @@ use Rattle.state.specs.declared.answer.Answer.{Answer}
 use Rattle.block.specs.Standing.{state_in, Standing}
 use Rattle.block.specs.Blocks.{context_in, Deep, Begins, Beside}
 use Rattle.block.specs.declared.world.World.{World}
+use Rattle.block.specs.declared.workspace.Workspace.{Workspace}
 
 -- the definition's walk of the blocks of f
 abbrev pub block_in : (bytes t : List ℕ) → FunctionHandle → BlockWalk
@@ -46,8 +47,8 @@ pub record Visits (bytes t types places s rs open_marks totals : List ℕ) (fr :
   pub base_held : context_in s rs fr.base ≤ fr.held
   pub deep : Deep bytes t rs fr.function.0 b fr.at
 
-abbrev pub VisitsOf : World → List ℕ → List ℕ → List ℕ → List ℕ → Frame → BlockHandle → ℕ → ℕ → Type 0
-VisitsOf w s rs open_marks totals fr b sum visits = Visits w.file.now.bytes w.file.now.t w.types.now w.places.now s rs open_marks totals fr b sum visits
+abbrev pub VisitsOf : World → Workspace → Frame → BlockHandle → ℕ → ℕ → Type 0
+VisitsOf w m fr b sum visits = Visits w.file.now.bytes w.file.now.t w.types.now w.places.now m.cells m.slots m.open m.totals fr b sum visits
 
 -- what its arm asks, once the visit has begun: the row is the statement's
 pub record Arms (bytes t types places s rs open_marks totals : List ℕ) (fr : Frame) (b : BlockHandle) (row : Kinded) (sum visits : ℕ) : Type 0 where
@@ -55,8 +56,8 @@ pub record Arms (bytes t types places s rs open_marks totals : List ℕ) (fr : F
   pub within : StatementIn bytes t fr.function.0 b fr.statement
   pub is : row ≡ statement_row bytes t fr.function.0 fr.statement
 
-abbrev pub ArmsOf : World → List ℕ → List ℕ → List ℕ → List ℕ → Frame → BlockHandle → Kinded → ℕ → ℕ → Type 0
-ArmsOf w s rs open_marks totals fr b row sum visits = Arms w.file.now.bytes w.file.now.t w.types.now w.places.now s rs open_marks totals fr b row sum visits
+abbrev pub ArmsOf : World → Workspace → Frame → BlockHandle → Kinded → ℕ → ℕ → Type 0
+ArmsOf w m fr b row sum visits = Arms w.file.now.bytes w.file.now.t w.types.now w.places.now m.cells m.slots m.open m.totals fr b row sum visits
 
 -- the visit went as `total` says, and 16 was asked as it ended
 pub record VisitEnded (bytes t types places s rs open_marks totals : List ℕ) (fr : Frame) (total : Out Bool) (visits sum : ℕ) (b : Bool) (u us open_after totals-after : List ℕ) : Type 0 where
@@ -74,5 +75,5 @@ VisitEnding bytes t types places s rs open_marks totals fr total (Err h) u us op
 pub record VisitEnds (bytes t types places s rs open_marks totals : List ℕ) (fr : Frame) (total : Out Bool) (r : Result Answer Halt) (u us open_after totals-after : List ℕ) : Type 0 where
   pub by : VisitEnding bytes t types places s rs open_marks totals fr total r u us open_after totals-after
 
-abbrev pub VisitEndsOf : World → List ℕ → List ℕ → List ℕ → List ℕ → Frame → Out Bool → Result Answer Halt → List ℕ → List ℕ → List ℕ → List ℕ → Type 0
-VisitEndsOf w s rs open_marks totals fr total r u us open_after totals-after = VisitEnds w.file.now.bytes w.file.now.t w.types.now w.places.now s rs open_marks totals fr total r u us open_after totals-after
+abbrev pub VisitEndsOf : World → Workspace → Frame → Out Bool → Result Answer Halt → Workspace → Type 0
+VisitEndsOf w m fr total r n = VisitEnds w.file.now.bytes w.file.now.t w.types.now w.places.now m.cells m.slots m.open m.totals fr total r n.cells n.slots n.open n.totals

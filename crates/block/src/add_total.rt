@@ -1,15 +1,16 @@
-// The walk just done put into the totals, as `add_function_ref` ends.
+// The walk just done put into the totals, as `add_function_ref` ends: the slots, the marks, and what records and totals count for.
 ghost use Rattle.block.specs.AddTotal.{TotalAsked, TotalEnds};
 
-use crate::added::{first_total, later_total};
+use crate::total::{join_total, keep_total, weigh_total};
 use access::file::File;
 use field::refusal::Refusal;
 use marks::places::PLACES;
 use marks::ray::first_ray;
+use marks::set::{add_marks, keep_marks};
 use module::handles::FunctionHandle;
 use state::answer::{Halt, Place, Tally, Walked};
 
-// `here` is where f was called.
+// A first total is kept, a later one joined to that of f. `here` is where f was called.
 pub fn add_total(
     file: &File,
     places: &[u32; PLACES],
@@ -25,29 +26,29 @@ pub fn add_total(
     requires { TotalAsked file.now.bytes file.now.t places.now cells.old slots.old «open».now totals.old f.0 at tally.sum }
     ensures { TotalEnds file.now.bytes file.now.t places.now cells.old slots.old «open».now totals.old f.0 at tally.sum tally.visits here result cells.new slots.new totals.new }
 {
-    let i = f.0 as usize;
-    if totals[i] == 0 {
-        let first = first_total(file, places, cells, slots, open, totals, f, at, tally.sum);
-        return Ok(Tally {
-            sum: first,
-            ..tally
-        });
+    let less = weigh_total(file, cells, slots, f);
+    // Stays: a byte of the caller's memory, 0 where f has no total.
+    if totals[f.0 as usize] == 0 {
+        keep_total(file, slots, f, at);
+        keep_marks(totals, open, places, f);
+    } else {
+        if let Some(s) = first_ray(file, f) {
+            return Err(Halt {
+                refusal: Refusal::Panic,
+                place: Place::Statement(f, s),
+            });
+        }
+        if join_total(file, cells, slots, f, at) {
+            return Err(Halt {
+                refusal: Refusal::PartLimit,
+                place: here,
+            });
+        }
+        add_marks(totals, open, places, f);
     }
-    let ray = first_ray(file, f);
-    if let Some(s) = ray {
-        return Err(Halt {
-            refusal: Refusal::Panic,
-            place: Place::Statement(f, s),
-        });
-    }
-    match later_total(file, places, cells, slots, open, totals, f, at, tally.sum) {
-        None => Err(Halt {
-            refusal: Refusal::PartLimit,
-            place: here,
-        }),
-        Some(later) => Ok(Tally {
-            sum: later,
-            ..tally
-        }),
-    }
+    let more = weigh_total(file, cells, slots, f);
+    Ok(Tally {
+        sum: tally.sum - less + more,
+        ..tally
+    })
 }

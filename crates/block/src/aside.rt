@@ -13,7 +13,7 @@ use memory::layout::RESULT;
 use memory::stretches::{load_context, save_context};
 use part::limits::SPINE;
 use part::req::get;
-use part::store::make;
+use part::store::{EMPTY_PIECE, make};
 
 // The context at k.
 pub fn put_aside(cells: &mut [u32], slots: &mut [u32], k: usize)
@@ -21,7 +21,7 @@ pub fn put_aside(cells: &mut [u32], slots: &mut [u32], k: usize)
     ensures { Aside cells.old slots.old k cells.new slots.new }
 {
     let c = load_context(slots, k);
-    let retval = make(cells, SPINE + 3, c.retval, 2);
+    let retval = make(cells, SPINE + 3, c.retval, EMPTY_PIECE);
     let args = make(cells, SPINE + 2, c.args, retval);
     let locals = make(cells, SPINE + 1, c.locals, args);
     let globals = make(cells, SPINE, c.globals, locals);
@@ -35,7 +35,7 @@ fn map_of(cells: &[u32], a: u32, i: u32) -> u32
     ensures { Entry cells.now (or_none (get_subpart (part cells.now a) (variable i))) result }
 {
     let f = get(cells, a, SPINE + i);
-    f.unwrap_or(2)
+    f.unwrap_or(EMPTY_PIECE)
 }
 
 // Back to k.

@@ -9,6 +9,7 @@ use marks::places::PLACES;
 use marks::set::clear_marks;
 use memory::stretches::save_context;
 use module::handles::FunctionHandle;
+use part::store::EMPTY_PIECE;
 
 // The base context of the called function g, above the current one at `at`: what is needed of the globals, and of the result. No mark of g is set.
 pub fn enter(
@@ -26,8 +27,8 @@ pub fn enter(
 {
     let c = RequiredContext {
         globals: slots[at],
-        locals: 2,
-        args: 2,
+        locals: EMPTY_PIECE,
+        args: EMPTY_PIECE,
         retval,
     };
     save_context(slots, at + 4, c);

@@ -2,10 +2,10 @@
 #![tactic(auto)]
 
 pub mod add_total;
-pub mod added;
 pub mod aside;
 pub mod branches;
 pub mod call;
 pub mod stack;
 pub mod total;
+pub mod workspace;
 pub mod world;

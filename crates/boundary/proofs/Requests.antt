@@ -1,7 +1,7 @@
 -- A request across the boundary: the reply as a number, the file's refusal first, and what is left of the lent slices.
 use Prim.Native.Nat.{ℕ, ◌+◌, ◌*◌, ◌%◌, ◌≤◌}
 use native.Mathlib.Omega.{arith}
-use mathlib.Core.Path.{◌≡◌, ap, ◌∙◌}
+use mathlib.Core.Path.{◌≡◌, ◌∙◌}
 use mathlib.Core.List.{List}
 use Rattle.module.specs.declared.handles.ExpressionHandle.{ExpressionHandle as Expression}
 use Rattle.module.specs.declared.handles.FunctionHandle.{FunctionHandle as Handle}
@@ -15,9 +15,8 @@ use Rattle.state.specs.Ready.{WasRead}
 use Rattle.state.specs.declared.answer.Halt.{Halt}
 use Rattle.state.specs.declared.answer.Place.{Place}
 use Rattle.state.specs.declared.answer.Place.TheVariants as place
-use Rattle.requests.specs.Serve.{Lent, Reply, on_module, serve, place_word, reply_word}
+use Rattle.requests.specs.Serve.{on_module, serve, place_word, reply_word}
 use Rattle.requests.specs.Finish.{nowhere, reply_of}
-use Rattle.requests.specs.Served.{Served}
 use Rattle.requests.proofs.Numbers.{place_small}
 use Rattle.boundary.specs.Requests.{RequestsRead, Requests}
 
@@ -45,15 +44,6 @@ word_visits e = rw e
 pub word_refused : {r : Result ℕ Halt} {h : Halt} {n w : ℕ} → r ≡ Err h → n ≡ number h.refusal → w ≡ place_word (place_of h.place) → 4294967296 * (n % 65536) + w ≡ reply_word (reply_of r)
 unfolding reply_word
 word_refused e i h = rw (e, i, h)
-
--- of a module that was read
-pub requests_read : {bytes t asked pruner report answer pruner-after report-after answer-after : List ℕ} {r : Result ℕ Halt} {w : ℕ}
-    → Served bytes t asked pruner report answer r pruner-after report-after answer-after → w ≡ reply_word (reply_of r)
-    → RequestsRead bytes t asked pruner report answer w pruner-after report-after answer-after
-requests_read S e = record {
-  number = e ∙ ap (λ (x : Reply × Lent). reply_word x.0) S.is;
-  left = ap (λ (x : Reply × Lent). x.1) S.is;
-}
 
 module _ {bytes t : List ℕ} {n : ℕ} (R : Reads bytes t n) where
   pub file_read : n ≡ 0 → WasRead bytes t

@@ -5,42 +5,16 @@ ghost use Rattle.part.specs.StoreLimits.{cell_words, store_words, table_words};
 ghost use Rattle.module.specs.Scan.{values};
 ghost use Rattle.module.specs.Tables.{words, max_items};
 ghost use Rattle.context.specs.Types.{type_words};
-ghost use Rattle.bindings_request.specs.Boundary.{Gave};
 ghost use Rattle.boundary.specs.Answers.{Answers, add_answer};
 
 use crate::answer::word_of;
 use crate::output::OUTPUT_WORDS;
 use crate::rows::read_rows;
 use bindings_request::add::add_binding_bytes;
-use bindings_request::answer::Refused;
 use requests::begin::check_length;
 
 // The words of a store that has room for a request too, whose length has 16 bits.
 pub const ADD_WORDS: usize = OUTPUT_WORDS + 2 * (4 + 65535);
-
-// What is answered of the file, once it was read.
-fn add_of(
-    bytes: &[u8],
-    t: &mut [u32],
-    seen: &mut [u32],
-    held: &mut [u32],
-    table: &mut [u32],
-    cells: &mut [u32],
-    parts: &mut [u32],
-    request: &[u8],
-    b: u32,
-    out: &mut [u8],
-) -> Result<usize, Refused>
-    requires words_in_bounds { (words ≤ length t.old) × ((values ≤ length seen.old) × (max_items ≤ length held.old)) }
-    requires max_types_in_bounds { (type_words * max_types ≤ length table.old) × (max_types ≤ length parts.old) }
-    requires cells_len_bound { (length cells.old ≤ store_words) × (cell_words * (5 + max_members * max_types + max_pieces) + table_words + 2 * (4 + 65535) ≤ length cells.old) }
-    ensures { Gave out.old out.new (add_answer bytes.now (length out.old) b request.now) result }
-{
-    let (file, rows) = read_rows(bytes, t, seen, held, table)?;
-    check_length(request)?;
-    let n = file.types() as usize;
-    add_binding_bytes(&file, rows, cells, &mut parts[0..n], request, b, out)
-}
 
 // Of any bytes, with room for whatever they say.
 pub fn add_in(
@@ -60,5 +34,13 @@ pub fn add_in(
     requires cells_len_bound { (length cells.old ≤ store_words) × (cell_words * (5 + max_members * max_types + max_pieces) + table_words + 2 * (4 + 65535) ≤ length cells.old) }
     ensures { Answers out.old out.new (add_answer bytes.now (length out.old) b request.now) result }
 {
-    word_of(add_of(bytes, t, seen, held, table, cells, parts, request, b, out))
+    let (file, rows) = match read_rows(bytes, t, seen, held, table) {
+        Ok(read) => read,
+        Err(refusal) => return word_of(Err(refusal.into())),
+    };
+    if let Err(refusal) = check_length(request) {
+        return word_of(Err(refusal.into()));
+    }
+    let n = file.types() as usize;
+    word_of(add_binding_bytes(&file, rows, cells, &mut parts[0..n], request, b, out))
 }

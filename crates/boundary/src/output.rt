@@ -5,12 +5,10 @@ ghost use Rattle.part.specs.StoreLimits.{cell_words, store_words, table_words};
 ghost use Rattle.module.specs.Scan.{values};
 ghost use Rattle.module.specs.Tables.{words, max_items};
 ghost use Rattle.context.specs.Types.{type_words};
-ghost use Rattle.bindings_request.specs.Boundary.{Gave};
 ghost use Rattle.boundary.specs.Answers.{Answers, output_answer};
 
 use crate::answer::word_of;
 use crate::rows::read_rows;
-use bindings_request::answer::Refused;
 use bindings_request::output::output_from_bindings_bytes;
 use field::limits::{MAX_MEMBERS, MAX_PIECES, MAX_TYPES};
 use module::handles::FunctionHandle;
@@ -19,29 +17,6 @@ use part::limits::{CELL_WORDS, TABLE_WORDS};
 // The words of a store for the pieces of types and for what is asked.
 pub const OUTPUT_WORDS: usize = CELL_WORDS * (5 + MAX_MEMBERS * MAX_TYPES + MAX_PIECES)
     + TABLE_WORDS;
-
-// What is answered of the file, once it was read.
-fn output_of(
-    bytes: &[u8],
-    t: &mut [u32],
-    seen: &mut [u32],
-    held: &mut [u32],
-    table: &mut [u32],
-    cells: &mut [u32],
-    parts: &mut [u32],
-    f: FunctionHandle,
-    list: &[u8],
-    out: &mut [u8],
-) -> Result<usize, Refused>
-    requires words_in_bounds { (words ≤ length t.old) × ((values ≤ length seen.old) × (max_items ≤ length held.old)) }
-    requires max_types_in_bounds { (type_words * max_types ≤ length table.old) × (max_types ≤ length parts.old) }
-    requires cells_len_bound { (length cells.old ≤ store_words) × (cell_words * (5 + max_members * max_types + max_pieces) + table_words ≤ length cells.old) }
-    ensures { Gave out.old out.new (output_answer bytes.now (length out.old) f.0 list.now) result }
-{
-    let (file, rows) = read_rows(bytes, t, seen, held, table)?;
-    let n = file.types() as usize;
-    output_from_bindings_bytes(&file, rows, cells, &mut parts[0..n], f, list, out)
-}
 
 // Of any bytes, with room for whatever they say.
 pub fn output_in(
@@ -61,5 +36,10 @@ pub fn output_in(
     requires cells_len_bound { (length cells.old ≤ store_words) × (cell_words * (5 + max_members * max_types + max_pieces) + table_words ≤ length cells.old) }
     ensures { Answers out.old out.new (output_answer bytes.now (length out.old) f.0 list.now) result }
 {
-    word_of(output_of(bytes, t, seen, held, table, cells, parts, f, list, out))
+    let (file, rows) = match read_rows(bytes, t, seen, held, table) {
+        Ok(read) => read,
+        Err(refusal) => return word_of(Err(refusal.into())),
+    };
+    let n = file.types() as usize;
+    word_of(output_from_bindings_bytes(&file, rows, cells, &mut parts[0..n], f, list, out))
 }

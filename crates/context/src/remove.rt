@@ -11,7 +11,7 @@ ghost use Rattle.context.specs.Reduced.{typed, subtype_at, subtyped, Took, entri
 use field::limits::MAX_MEMBERS;
 use module::handles::TypeHandle;
 use module::kinds::TypeKind;
-use part::store::{look, make, remake};
+use part::store::{ALL_PIECE, EMPTY_PIECE, EXIST_PIECE, look, make, remake};
 
 // The words of a type's row.
 pub const TYPE_WORDS: usize = 2 + 2 * MAX_MEMBERS;
@@ -41,7 +41,7 @@ fn each(cells: &mut [u32], n: u32, child: u32) -> u32
     requires room { Room cells.old n × (child < top cells.old) }
     ensures { Made cells.old cells.new (each 0 n (part cells.old child)) n result }
 {
-    let mut r = 2;
+    let mut r = EMPTY_PIECE;
     for k in (0..n).rev() {
         r = make(cells, k, child, r);
     }
@@ -58,19 +58,19 @@ fn type_to_parts(cells: &mut [u32], types: &[u32], t: TypeHandle) -> u32
     match type_kind(types, t) {
         TypeKind::Vector => {
             let size = type_word(types, t, 1);
-            each(cells, size, 0)
+            each(cells, size, ALL_PIECE)
         }
         TypeKind::Matrix => {
             let columns = type_word(types, t, 1);
             let rows = type_word(types, t, 2);
-            let column = each(cells, rows, 0);
+            let column = each(cells, rows, ALL_PIECE);
             each(cells, columns, column)
         }
         TypeKind::Struct => {
             let members = type_word(types, t, 1);
-            each(cells, members, 0)
+            each(cells, members, ALL_PIECE)
         }
-        _ => 0,
+        _ => ALL_PIECE,
     }
 }
 
@@ -84,7 +84,7 @@ fn split(cells: &mut [u32], types: &[u32], t: Option<TypeHandle>, p: u32) -> u32
     let Some(h) = t else {
         return p;
     };
-    if 0 < p {
+    if p != ALL_PIECE {
         return p;
     }
     type_to_parts(cells, types, h)
@@ -125,7 +125,7 @@ fn take_entries(
     requires room { Room cells.old (entries_room (part cells.old p) (part cells.old q)) }
     ensures { Took cells.old cells.new (take_entries (types_of types.now) (part cells.old q) (subtypes_of (types_of types.now) (typed t)) (part cells.old p)) (entries_room (part cells.old p) (part cells.old q)) result }
 {
-    if q < 3 || p < 3 {
+    if q <= EMPTY_PIECE || p <= EMPTY_PIECE {
         return Some(p);
     }
     let x = look(cells, p);
@@ -158,10 +158,10 @@ pub fn remove(
     requires room { Room cells.old (remove_room (part cells.old p) (part cells.old q)) }
     ensures { Took cells.old cells.new (remove (types_of types.now) (part cells.old p) (part cells.old q) (typed t)) (remove_room (part cells.old p) (part cells.old q)) result }
 {
-    if q == 0 {
-        return Some(1);
+    if q == ALL_PIECE {
+        return Some(EXIST_PIECE);
     }
-    if q == 1 {
+    if q == EXIST_PIECE {
         return Some(p);
     }
     let s = split(cells, types, t, p);

@@ -16,7 +16,7 @@ use crate::remove::remove;
 use module::handles::{GlobalHandle, LocalHandle, TypeHandle};
 use part::limits::SPINE;
 use part::req::{add, contains, get};
-use part::store::{look, over, remake};
+use part::store::{EMPTY_PIECE, look, over, remake};
 
 // A context, by the pieces of its maps.
 #[derive(Clone, Copy)]
@@ -41,7 +41,7 @@ fn alter(cells: &mut [u32], types: &[u32], m: u32, i: u32, t: TypeHandle, q: u32
     requires room { Room cells.old (remove_room (part cells.old m) (part cells.old q)) }
     ensures { Took cells.old cells.new (alter i (λ p. remove (types_of types.now) p (part cells.old q) (some t.0)) (part cells.old m)) (remove_room (part cells.old m) (part cells.old q)) result }
 {
-    if m < 3 {
+    if m <= EMPTY_PIECE {
         return Some(m);
     }
     let x = look(cells, m);

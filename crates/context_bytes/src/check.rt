@@ -12,7 +12,7 @@ ghost use Rattle.context_bytes.specs.Checked.{Skips, Checks, EntriesChecked, Lis
 use field::field::read_word;
 use field::limits::MAX_DEPTH;
 use field::refusal::Refusal;
-use request::codes::{Code, entry_index, part_code};
+use request::codes::{Code, NO_RETURN, entry_index, part_code};
 use request::record::{ends, field, is_record};
 
 // A part at most `depth` deep: where the next field stands.
@@ -61,7 +61,7 @@ pub fn skip_return(bytes: &[u8], at: usize) -> Option<usize>
     requires { at ≤ length bytes.now }
     ensures { Skips bytes.now at (read_return (from bytes.now at)) result }
 {
-    if field(bytes, at)? == 3 {
+    if field(bytes, at)? == NO_RETURN {
         return Some(at + 2);
     }
     skip_part(bytes, at, MAX_DEPTH)

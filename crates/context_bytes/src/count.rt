@@ -6,7 +6,7 @@ ghost use Rattle.context_bytes.specs.Counted.{counted, counted_return, Counts, E
 
 use crate::check::is_context;
 use field::limits::MAX_DEPTH;
-use request::codes::{Code, entry_index, part_code};
+use request::codes::{Code, NO_RETURN, entry_index, part_code};
 use request::record::field;
 
 // The entries of a part at most `depth` deep: how many there are, and where the next field stands.
@@ -46,7 +46,7 @@ fn count_return(bytes: &[u8], at: usize) -> Option<(usize, usize)>
     requires { (2 ≤ at) × (at ≤ length bytes.now) }
     ensures { Counts bytes.now (at - 2) (counted_return (read_return (from bytes.now at))) result }
 {
-    if field(bytes, at)? == 3 {
+    if field(bytes, at)? == NO_RETURN {
         return Some((0, at + 2));
     }
     let (k, next) = count_part(bytes, at, MAX_DEPTH)?;

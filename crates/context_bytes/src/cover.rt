@@ -9,7 +9,7 @@ ghost use Rattle.context_bytes.specs.Covered.{covers, Covers, AsksPieces};
 
 use field::limits::MAX_DEPTH;
 use part::limits::SPINE;
-use part::store::look;
+use part::store::{ALL_PIECE, EMPTY_PIECE, EXIST_PIECE, look};
 use request::codes::{Code, entry_index, part_code};
 use request::record::field;
 
@@ -19,15 +19,15 @@ fn ask(cells: &[u32], n: u32, i: u32) -> Option<(u32, u32)>
     requires n_bound { n < top cells.now }
     ensures { AsksPieces cells.now n i result }
 {
-    if n == 0 {
+    if n == ALL_PIECE {
         return None;
     }
-    if n < 3 {
-        return Some((1, n));
+    if n <= EMPTY_PIECE {
+        return Some((EXIST_PIECE, n));
     }
     let x = look(cells, n);
     if i < x.index {
-        return Some((1, n));
+        return Some((EXIST_PIECE, n));
     }
     if x.index < i {
         return None;
@@ -45,7 +45,7 @@ fn covers_part(cells: &[u32], n: u32, bytes: &[u8], at: usize, depth: usize) -> 
     match part_code(bytes, at, depth)? {
         Code::All => Some(at + 2),
         Code::Exist => {
-            if n == 1 {
+            if n == EXIST_PIECE {
                 return Some(at + 2);
             }
             None
@@ -80,7 +80,7 @@ fn covers_entries(
         next = end;
         least = i + 1;
     }
-    if m == 0 || m >= 3 {
+    if m == ALL_PIECE || EMPTY_PIECE < m {
         return None;
     }
     Some(next)

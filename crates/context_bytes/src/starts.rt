@@ -12,7 +12,7 @@ use crate::check::{is_context, skip_return};
 use crate::cover::covers_variables;
 use needs::path::below;
 use part::limits::SPINE;
-use part::store::look;
+use part::store::{ALL_PIECE, EMPTY_PIECE, look};
 
 // Whether an evaluated expression is needed.
 fn needs_expression(cells: &[u32], n: u32) -> bool
@@ -21,14 +21,15 @@ fn needs_expression(cells: &[u32], n: u32) -> bool
     ensures { result ≡ needs_expression (part cells.now n) }
 {
     let mut m = n;
-    while 2 < m {
+    // Stays: the list goes by the numbers in its cells, and the piece at its end is what answers; an iterator would not give that.
+    while EMPTY_PIECE < m {
         let x = look(cells, m);
         if SPINE + 3 < x.index {
             return true;
         }
         m = x.rest;
     }
-    m == 0
+    m == ALL_PIECE
 }
 
 // What the need n asks of the entry j.

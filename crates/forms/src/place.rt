@@ -13,12 +13,13 @@ ghost use Rattle.forms.specs.Frames.{Framing, Rooted, place_cells};
 use crate::form::Form;
 use crate::take::{change_entry, take_out};
 use access::file::File;
+use judge::frame::{EVALUATED, GLOBALS, LOCALS, MAP_EXPRESSIONS};
 use judge::values::type_of;
 use module::handles::{ExpressionHandle, FunctionHandle, GlobalHandle, LocalHandle};
 use part::limits::SPINE;
 use part::req::get;
 
-// The shape of the variable v of the kind k: a global (0), a local (1), or an evaluated expression, 32 to a kind (from 4 on).
+// The shape of the variable v of the frame's map k: a global, a local, or an evaluated expression.
 fn place_form(file: &File, f: FunctionHandle, types: &[u32], k: u32, v: u32) -> Form
     requires framing { Framing file.now.bytes file.now.t f.0 types.now }
     requires fact { (k ≡ 2 → ⊥) × (k ≡ 3 → ⊥) }
@@ -26,9 +27,13 @@ fn place_form(file: &File, f: FunctionHandle, types: &[u32], k: u32, v: u32) -> 
     ensures { shape_by types.now result ≡ member (kind_shape (scope_at file.now.bytes file.now.t f.0) k) (variable v) }
 {
     match k {
-        0 => Form::Of(file.global(GlobalHandle(v))),
-        1 => Form::Of(file.local(f, LocalHandle(v))),
-        _ => Form::Of(type_of(file, f, ExpressionHandle(32 * (k - 4) + v))),
+        GLOBALS => Form::Of(file.global(GlobalHandle(v))),
+        LOCALS => Form::Of(file.local(f, LocalHandle(v))),
+        _ => Form::Of(type_of(
+            file,
+            f,
+            ExpressionHandle(MAP_EXPRESSIONS * (k - EVALUATED) + v),
+        )),
     }
 }
 

@@ -12,7 +12,7 @@ ghost use Rattle.forms.specs.Narrow.{level_cells, Narrow, or_all};
 
 use crate::form::{Form, is_whole, member_form, split_of};
 use part::req::get;
-use part::store::{look, make};
+use part::store::{ALL_PIECE, EMPTY_PIECE, EXIST_PIECE, look, make};
 
 // The entry index: child before those of rest; rest alone, where the child needs nothing.
 pub fn keep(cells: &mut [u32], index: u32, child: u32, rest: u32) -> u32
@@ -22,7 +22,7 @@ pub fn keep(cells: &mut [u32], index: u32, child: u32, rest: u32) -> u32
     ensures { Made cells.old cells.new (keep index (part cells.old child) (part cells.old rest)) 1 result }
 {
     match child {
-        1 | 2 => rest,
+        EXIST_PIECE | EMPTY_PIECE => rest,
         _ => make(cells, index, child, rest),
     }
 }
@@ -34,7 +34,7 @@ pub fn change_entry(cells: &mut [u32], p: u32, i: u32, d: u32) -> u32
     requires room { Room cells.old (width (part cells.old p)) }
     ensures { Made cells.old cells.new (change i (λ c. part cells.old d) (part cells.old p)) (width (part cells.old p)) result }
 {
-    if p < 3 {
+    if p <= EMPTY_PIECE {
         return p;
     }
     let x = look(cells, p);
@@ -58,7 +58,7 @@ fn put_member(cells: &mut [u32], k: u32, i: u32, d: u32, r: u32) -> u32
     if k == i {
         return keep(cells, k, d, r);
     }
-    make(cells, k, 0, r)
+    make(cells, k, ALL_PIECE, r)
 }
 
 // All of each of n members, with d for the member i.
@@ -67,7 +67,7 @@ fn members_around(cells: &mut [u32], n: u32, i: u32, d: u32) -> u32
     requires room { Room cells.old n × (d < top cells.old) }
     ensures { Made cells.old cells.new (change i (λ c. part cells.old d) (members 0 n)) n result }
 {
-    let mut r = 2;
+    let mut r = EMPTY_PIECE;
     for k in (0..n).rev() {
         r = put_member(cells, k, i, d, r);
     }
@@ -82,10 +82,10 @@ fn take_all(cells: &mut [u32], types: &[u32], form: Form, path: &[u32]) -> u32
     ensures { Made cells.old cells.new (leaves (shape_by types.now form) all path.now) (level_cells * length path.now) result }
 {
     let Some((i, rest)) = path.split_first() else {
-        return 2;
+        return EMPTY_PIECE;
     };
     let Some(n) = split_of(types, form) else {
-        return 0;
+        return ALL_PIECE;
     };
     let m = member_form(types, form, *i);
     let d = take_all(cells, types, m, rest);
@@ -101,9 +101,9 @@ pub fn take_out(cells: &mut [u32], types: &[u32], form: Form, p: u32, path: &[u3
     ensures { Made cells.old cells.new (leaves (shape_by types.now form) (part cells.old p) path.now) (level_cells * length path.now) result }
 {
     let Some((i, rest)) = path.split_first() else {
-        return 2;
+        return EMPTY_PIECE;
     };
-    if p == 0 {
+    if p == ALL_PIECE {
         return take_all(cells, types, form, path);
     }
     if is_whole(types, form) {

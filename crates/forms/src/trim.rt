@@ -14,9 +14,10 @@ ghost use Rattle.forms.specs.Frames.{globals_shape, trim_globals};
 use crate::form::{Form, is_void, member_form};
 use crate::take::keep;
 use access::file::File;
+use judge::frame::GLOBALS;
 use module::handles::{FunctionHandle, GlobalHandle};
 use part::limits::SPINE;
-use part::store::look;
+use part::store::{ALL_PIECE, EMPTY_PIECE, look};
 
 // What is left of the requirement p in its shape.
 pub fn trim_part(cells: &mut [u32], types: &[u32], form: Form, p: u32) -> u32
@@ -25,14 +26,14 @@ pub fn trim_part(cells: &mut [u32], types: &[u32], form: Form, p: u32) -> u32
     requires p_bound { (p < top cells.old) × Room cells.old (entries (part cells.old p)) }
     ensures { Made cells.old cells.new (trim (part cells.old p) (shape_by types.now form)) (entries (part cells.old p)) result }
 {
-    if p == 0 {
+    if p == ALL_PIECE {
         if is_void(types, form) {
-            return 2;
+            return EMPTY_PIECE;
         }
-        return 0;
+        return ALL_PIECE;
     }
-    if p < 3 {
-        return 2;
+    if p <= EMPTY_PIECE {
+        return EMPTY_PIECE;
     }
     let x = look(cells, p);
     let m = member_form(types, form, x.index);
@@ -62,11 +63,11 @@ fn trim_map(cells: &mut [u32], file: &File, types: &[u32], p: u32) -> u32
     requires p_bound { (p < top cells.old) × Room cells.old (entries (part cells.old p)) }
     ensures { Made cells.old cells.new (trim (part cells.old p) (globals_shape file.now.bytes file.now.t types.now)) (entries (part cells.old p)) result }
 {
-    if p == 0 {
-        return 0;
+    if p == ALL_PIECE {
+        return ALL_PIECE;
     }
-    if p < 3 {
-        return 2;
+    if p <= EMPTY_PIECE {
+        return EMPTY_PIECE;
     }
     let x = look(cells, p);
     let m = global_form(file, types, x.index);
@@ -83,7 +84,7 @@ pub fn trim_globals(cells: &mut [u32], file: &File, types: &[u32], p: u32) -> u3
     ensures { Made cells.old cells.new (trim_globals file.now.bytes file.now.t types.now (part cells.old p)) (1 + entries (part cells.old p)) result }
 {
     let m = trim_map(cells, file, types, p);
-    keep(cells, SPINE, m, 2)
+    keep(cells, SPINE + GLOBALS, m, EMPTY_PIECE)
 }
 
 // The shape of a function's result.

@@ -28,12 +28,11 @@ use arms::visit::{end_statement, mark_statement};
 use block::add_total::add_total;
 use block::branches::drop_both;
 use block::stack::lower;
+use block::workspace::Workspace;
 use block::world::World;
 use expression::visit::allowed;
-use field::limits::{MAX_TURNS, MAX_VISITS, MIN_REPORT};
+use field::limits::{MAX_TURNS, MAX_VISITS};
 use field::refusal::Refusal;
-use marks::report::TOTALS_SIZE;
-use memory::layout::{CELLS, SLOTS};
 use memory::memory::weigh;
 use memory::stretches::copy_context;
 use module::handles::{BlockHandle, FunctionHandle};
@@ -46,32 +45,27 @@ use statement::leaf::add_leaf;
 #[cycle(walk)]
 pub fn add_function(
     world: &World,
-    cells: &mut [u32; CELLS],
-    slots: &mut [u32; SLOTS],
-    open: &mut [u8; MIN_REPORT],
-    totals: &mut [u8; TOTALS_SIZE],
+    space: &mut Workspace,
     f: FunctionHandle,
     base: usize,
     here: Place,
     held: usize,
     tally: Tally,
 ) -> Answered
-    requires function_entered { FunctionEnteredOf world.now cells.old slots.old «open».old totals.old f.0 base held tally.sum tally.visits }
+    requires function_entered { FunctionEnteredOf world.now space.old f.0 base held tally.sum tally.visits }
     requires base_bound { base + 4 ≤ slot_count }
-    ensures { FunctionEndsOf world.now cells.old slots.old «open».old totals.old f.0 base held (add_function (module_by world.now) f.0 (place_of here) held (get_or (read cells.old slots.old) base none) (get_or (read cells.old slots.old) (base + 3) none) (state_by world.now cells.old slots.old «open».old totals.old f.0 base tally.visits)) result cells.new slots.new «open».new totals.new }
+    ensures { FunctionEndsOf world.now space.old f.0 base held (add_function (module_by world.now) f.0 (place_of here) held (get_or (read space.old.cells space.old.slots) base none) (get_or (read space.old.cells space.old.slots) (base + 3) none) (state_by world.now space.old f.0 base tally.visits)) result space.new }
 {
     let b = world.file.body_block(f);
     let at = base + 4;
-    let a = add_block(
-        world, cells, slots, open, totals, f, b, base, at, held, false, tally,
-    )?;
+    let a = add_block(world, space, f, b, base, at, held, false, tally)?;
     let tally = add_total(
         world.file,
         world.places,
-        cells,
-        slots,
-        open,
-        totals,
+        &mut space.cells,
+        &mut space.slots,
+        &space.open,
+        &mut space.totals,
         f,
         at,
         here,
@@ -87,10 +81,7 @@ pub fn add_function(
 #[cycle(walk)]
 pub fn add_block(
     world: &World,
-    cells: &mut [u32; CELLS],
-    slots: &mut [u32; SLOTS],
-    open: &mut [u8; MIN_REPORT],
-    totals: &mut [u8; TOTALS_SIZE],
+    space: &mut Workspace,
     f: FunctionHandle,
     b: BlockHandle,
     base: usize,
@@ -99,13 +90,13 @@ pub fn add_block(
     break_required: bool,
     began: Tally,
 ) -> Answered
-    requires { EnteredOf world.now cells.old slots.old «open».old totals.old f.0 b.0 base at held (held + context_in cells.old slots.old base) began.sum began.visits }
-    ensures { BlockEndsOf world.now cells.old slots.old «open».old totals.old f.0 base at held (held + context_in cells.old slots.old base) began.sum (blocks_by world.now f.0 b.0 held (context_at (read cells.old slots.old) base) break_required (state_by world.now cells.old slots.old «open».old totals.old f.0 at began.visits)) result cells.new slots.new «open».new totals.new }
+    requires { EnteredOf world.now space.old f.0 b.0 base at held (held + context_in space.old.cells space.old.slots base) began.sum began.visits }
+    ensures { BlockEndsOf world.now space.old f.0 base at held (held + context_in space.old.cells space.old.slots base) began.sum (blocks_by world.now f.0 b.0 held (context_at (read space.old.cells space.old.slots) base) break_required (state_by world.now space.old f.0 at began.visits)) result space.new }
 {
     let range = world.file.block(f, b);
     let first = range.first;
-    let inner = held + weigh(cells, slots, base, 4);
-    copy_context(slots, base, at);
+    let inner = held + weigh(&space.cells, &space.slots, base, 4);
+    copy_context(&mut space.slots, base, at);
     let mut tally = began;
     let mut behind = break_required;
     let mut required = false;
@@ -118,7 +109,7 @@ pub fn add_block(
             held: inner,
             break_required: behind,
         };
-        let a = add_statement(world, cells, slots, open, totals, fr, b, tally)?;
+        let a = add_statement(world, space, fr, b, tally)?;
         tally = a.tally;
         behind |= a.required;
         required |= a.required;
@@ -130,22 +121,25 @@ pub fn add_block(
 #[cycle(walk)]
 pub fn add_statement(
     world: &World,
-    cells: &mut [u32; CELLS],
-    slots: &mut [u32; SLOTS],
-    open: &mut [u8; MIN_REPORT],
-    totals: &mut [u8; TOTALS_SIZE],
+    space: &mut Workspace,
     fr: Frame,
     b: BlockHandle,
     tally: Tally,
 ) -> Answered
-    requires { VisitsOf world.now cells.old slots.old «open».old totals.old fr b.0 tally.sum tally.visits }
-    ensures { VisitEndsOf world.now cells.old slots.old «open».old totals.old fr (visit_statement (module_by world.now) (add_function (module_by world.now)) (blocks_by world.now fr.function.0) (frame_of cells.old slots.old fr) (state_by world.now cells.old slots.old «open».old totals.old fr.function.0 fr.at tally.visits)) result cells.new slots.new «open».new totals.new }
+    requires { VisitsOf world.now space.old fr b.0 tally.sum tally.visits }
+    ensures { VisitEndsOf world.now space.old fr (visit_statement (module_by world.now) (add_function (module_by world.now)) (blocks_by world.now fr.function.0) (frame_of space.old.cells space.old.slots fr) (state_by world.now space.old fr.function.0 fr.at tally.visits)) result space.new }
 {
     let f = fr.function;
     if MAX_VISITS <= tally.visits {
         return Err(fr.halt(Refusal::VisitsLimit));
     }
-    if !allowed(cells, slots, fr.at, fr.held, tally.sum) {
+    if !allowed(
+        &mut space.cells,
+        &mut space.slots,
+        fr.at,
+        fr.held,
+        tally.sum,
+    ) {
         return Err(fr.halt(Refusal::PiecesLimit));
     }
     let row = world.file.statement(f, fr.statement);
@@ -153,82 +147,86 @@ pub fn add_statement(
         visits: tally.visits + 1,
         ..tally
     };
-    let r = add_arm(world, cells, slots, open, totals, fr, b, row, counted);
-    end_statement(cells, slots, fr, r)
+    let r = add_arm(world, space, fr, b, row, counted);
+    end_statement(&mut space.cells, &mut space.slots, fr, r)
 }
 
 // The arm with its marks.
 #[cycle(walk)]
 fn add_arm(
     world: &World,
-    cells: &mut [u32; CELLS],
-    slots: &mut [u32; SLOTS],
-    open: &mut [u8; MIN_REPORT],
-    totals: &mut [u8; TOTALS_SIZE],
+    space: &mut Workspace,
     fr: Frame,
     b: BlockHandle,
     row: Kinded,
     tally: Tally,
 ) -> Answered
-    requires { ArmsOf world.now cells.old slots.old «open».old totals.old fr b.0 row tally.sum tally.visits }
-    ensures { StatementEndsOf world.now cells.old slots.old «open».old totals.old fr (marked (module_by world.now) (frame_of cells.old slots.old fr) (add_statement (module_by world.now) (add_function (module_by world.now)) (blocks_by world.now fr.function.0) (frame_of cells.old slots.old fr) (statement_of row.kind (operand_at world.now.file.now.bytes row)) (state_by world.now cells.old slots.old «open».old totals.old fr.function.0 fr.at tally.visits))) (λ b. b) result cells.new slots.new «open».new totals.new }
+    requires { ArmsOf world.now space.old fr b.0 row tally.sum tally.visits }
+    ensures { StatementEndsOf world.now space.old fr (marked (module_by world.now) (frame_of space.old.cells space.old.slots fr) (add_statement (module_by world.now) (add_function (module_by world.now)) (blocks_by world.now fr.function.0) (frame_of space.old.cells space.old.slots fr) (statement_of row.kind (operand_at world.now.file.now.bytes row)) (state_by world.now space.old fr.function.0 fr.at tally.visits))) (λ b. b) result space.new }
 {
     match StatementKind::try_from(row.kind) {
         Ok(StatementKind::Emit) => {
-            return add_emit(world.file, world.places, cells, slots, open, fr, row, tally);
+            return add_emit(
+                world.file,
+                world.places,
+                &space.cells,
+                &space.slots,
+                &mut space.open,
+                fr,
+                row,
+                tally,
+            );
         }
         Ok(StatementKind::Call) => {
-            return add_call(world, cells, slots, open, totals, fr, b, row, tally);
+            return add_call(world, space, fr, b, row, tally);
         }
         Ok(
             StatementKind::Block | StatementKind::If | StatementKind::Switch | StatementKind::Loop,
         ) => {
-            return add_holder(world, cells, slots, open, totals, fr, b, row, tally);
+            return add_holder(world, space, fr, b, row, tally);
         }
         _ => {}
     }
-    let r = add_leaf(world.file, world.types, cells, slots, fr, row, tally);
-    mark_statement(world.file, world.places, open, fr, row, r)
+    let r = add_leaf(
+        world.file,
+        world.types,
+        &mut space.cells,
+        &mut space.slots,
+        fr,
+        row,
+        tally,
+    );
+    mark_statement(world.file, world.places, &mut space.open, fr, row, r)
 }
 
-// The arm of a statement that holds blocks, with its marks: each takes them by itself, so that no answer of a walk waits beside those of the others.
+// The arm of a statement that holds blocks, with its marks. What was walked is one variable, so that the answers of the four do not lie beside each other.
 #[cycle(walk)]
 fn add_holder(
     world: &World,
-    cells: &mut [u32; CELLS],
-    slots: &mut [u32; SLOTS],
-    open: &mut [u8; MIN_REPORT],
-    totals: &mut [u8; TOTALS_SIZE],
+    space: &mut Workspace,
     fr: Frame,
     b: BlockHandle,
     row: Kinded,
     tally: Tally,
 ) -> Answered
-    requires arms { ArmsOf world.now cells.old slots.old «open».old totals.old fr b.0 row tally.sum tally.visits }
+    requires arms { ArmsOf world.now space.old fr b.0 row tally.sum tally.visits }
     requires le_kind { (1 ≤ row.kind) × (row.kind ≤ 4) }
-    ensures { StatementEndsOf world.now cells.old slots.old «open».old totals.old fr (marked (module_by world.now) (frame_of cells.old slots.old fr) (add_statement (module_by world.now) (add_function (module_by world.now)) (blocks_by world.now fr.function.0) (frame_of cells.old slots.old fr) (statement_of row.kind (operand_at world.now.file.now.bytes row)) (state_by world.now cells.old slots.old «open».old totals.old fr.function.0 fr.at tally.visits))) (λ b. b) result cells.new slots.new «open».new totals.new }
+    ensures { StatementEndsOf world.now space.old fr (marked (module_by world.now) (frame_of space.old.cells space.old.slots fr) (add_statement (module_by world.now) (add_function (module_by world.now)) (blocks_by world.now fr.function.0) (frame_of space.old.cells space.old.slots fr) (statement_of row.kind (operand_at world.now.file.now.bytes row)) (state_by world.now space.old fr.function.0 fr.at tally.visits))) (λ b. b) result space.new }
 {
     let r = match StatementKind::try_from(row.kind) {
-        Ok(StatementKind::Block) => add_nested(
-            world, cells, slots, open, totals, fr, b, row, tally,
-        ),
-        Ok(StatementKind::If) => add_if(world, cells, slots, open, totals, fr, b, row, tally),
-        Ok(StatementKind::Switch) => add_switch(
-            world, cells, slots, open, totals, fr, b, row, tally,
-        ),
-        _ => add_loop(world, cells, slots, open, totals, fr, b, row, tally),
+        Ok(StatementKind::Block) => add_nested(world, space, fr, b, row, tally),
+        Ok(StatementKind::If) => add_if(world, space, fr, b, row, tally),
+        Ok(StatementKind::Switch) => add_switch(world, space, fr, b, row, tally),
+        _ => add_loop(world, space, fr, b, row, tally),
     };
-    mark_statement(world.file, world.places, open, fr, row, r)
+    mark_statement(world.file, world.places, &mut space.open, fr, row, r)
 }
 
 // Two blocks one after the other, both from the base in the slots from `base` on. Their contexts are left in the slots from `at` on, and behind them. A statement of the block b holds them.
 #[cycle(walk)]
 pub fn add_pair(
     world: &World,
-    cells: &mut [u32; CELLS],
-    slots: &mut [u32; SLOTS],
-    open: &mut [u8; MIN_REPORT],
-    totals: &mut [u8; TOTALS_SIZE],
+    space: &mut Workspace,
     f: FunctionHandle,
     b: BlockHandle,
     first: BlockHandle,
@@ -239,15 +237,12 @@ pub fn add_pair(
     break_required: bool,
     tally: Tally,
 ) -> Answered
-    requires { PairedOf world.now cells.old slots.old «open».old totals.old f.0 b.0 first.0 second.0 base at held tally.sum tally.visits }
-    ensures { PairEndsOf world.now cells.old slots.old «open».old totals.old f.0 base at held (add_pair (blocks_by world.now f.0) first.0 second.0 held (context_at (read cells.old slots.old) base) break_required (state_by world.now cells.old slots.old «open».old totals.old f.0 at tally.visits)) result cells.new slots.new «open».new totals.new }
+    requires { PairedOf world.now space.old f.0 b.0 first.0 second.0 base at held tally.sum tally.visits }
+    ensures { PairEndsOf world.now space.old f.0 base at held (add_pair (blocks_by world.now f.0) first.0 second.0 held (context_at (read space.old.cells space.old.slots) base) break_required (state_by world.now space.old f.0 at tally.visits)) result space.new }
 {
     let a = add_block(
         world,
-        cells,
-        slots,
-        open,
-        totals,
+        space,
         f,
         first,
         base,
@@ -256,13 +251,10 @@ pub fn add_pair(
         break_required,
         tally,
     )?;
-    let more = held + weigh(cells, slots, at, 4);
+    let more = held + weigh(&space.cells, &space.slots, at, 4);
     let c = add_block(
         world,
-        cells,
-        slots,
-        open,
-        totals,
+        space,
         f,
         second,
         base,
@@ -281,29 +273,23 @@ pub fn add_pair(
 #[cycle(walk)]
 pub fn add_nested(
     world: &World,
-    cells: &mut [u32; CELLS],
-    slots: &mut [u32; SLOTS],
-    open: &mut [u8; MIN_REPORT],
-    totals: &mut [u8; TOTALS_SIZE],
+    space: &mut Workspace,
     fr: Frame,
     b: BlockHandle,
     row: Kinded,
     tally: Tally,
 ) -> Answered
-    requires arms { ArmsOf world.now cells.old slots.old «open».old totals.old fr b.0 row tally.sum tally.visits }
+    requires arms { ArmsOf world.now space.old fr b.0 row tally.sum tally.visits }
     requires kind_value { row.kind ≡ 1 }
-    ensures { StatementEndsOf world.now cells.old slots.old «open».old totals.old fr (add_nested (blocks_by world.now fr.function.0) (frame_of cells.old slots.old fr) (operand_at world.now.file.now.bytes row 0) (state_by world.now cells.old slots.old «open».old totals.old fr.function.0 fr.at tally.visits)) StatementReq.BlockStmt result cells.new slots.new «open».new totals.new }
+    ensures { StatementEndsOf world.now space.old fr (add_nested (blocks_by world.now fr.function.0) (frame_of space.old.cells space.old.slots fr) (operand_at world.now.file.now.bytes row 0) (state_by world.now space.old fr.function.0 fr.at tally.visits)) StatementReq.BlockStmt result space.new }
 {
     let f = fr.function;
     let at = fr.at;
     let inner = world.file.block_operand(row, 0);
-    let held = fr.held + weigh(cells, slots, at, 4);
+    let held = fr.held + weigh(&space.cells, &space.slots, at, 4);
     let a = add_block(
         world,
-        cells,
-        slots,
-        open,
-        totals,
+        space,
         f,
         inner,
         at,
@@ -312,7 +298,7 @@ pub fn add_nested(
         fr.break_required,
         tally,
     )?;
-    lower(slots, at);
+    lower(&mut space.slots, at);
     Ok(a)
 }
 
@@ -320,30 +306,24 @@ pub fn add_nested(
 #[cycle(walk)]
 pub fn add_if(
     world: &World,
-    cells: &mut [u32; CELLS],
-    slots: &mut [u32; SLOTS],
-    open: &mut [u8; MIN_REPORT],
-    totals: &mut [u8; TOTALS_SIZE],
+    space: &mut Workspace,
     fr: Frame,
     b: BlockHandle,
     row: Kinded,
     tally: Tally,
 ) -> Answered
-    requires arms { ArmsOf world.now cells.old slots.old «open».old totals.old fr b.0 row tally.sum tally.visits }
+    requires arms { ArmsOf world.now space.old fr b.0 row tally.sum tally.visits }
     requires kind_value { row.kind ≡ 2 }
-    ensures { StatementEndsOf world.now cells.old slots.old «open».old totals.old fr (add_if (module_by world.now) (blocks_by world.now fr.function.0) (frame_of cells.old slots.old fr) (operand_at world.now.file.now.bytes row 0) (operand_at world.now.file.now.bytes row 1) (operand_at world.now.file.now.bytes row 2) (state_by world.now cells.old slots.old «open».old totals.old fr.function.0 fr.at tally.visits)) StatementReq.If result cells.new slots.new «open».new totals.new }
+    ensures { StatementEndsOf world.now space.old fr (add_if (module_by world.now) (blocks_by world.now fr.function.0) (frame_of space.old.cells space.old.slots fr) (operand_at world.now.file.now.bytes row 0) (operand_at world.now.file.now.bytes row 1) (operand_at world.now.file.now.bytes row 2) (state_by world.now space.old fr.function.0 fr.at tally.visits)) StatementReq.If result space.new }
 {
     let f = fr.function;
     let at = fr.at;
     let accept = world.file.block_operand(row, 1);
     let reject = world.file.block_operand(row, 2);
-    let held = fr.held + weigh(cells, slots, at, 4);
+    let held = fr.held + weigh(&space.cells, &space.slots, at, 4);
     let a = add_pair(
         world,
-        cells,
-        slots,
-        open,
-        totals,
+        space,
         f,
         b,
         accept,
@@ -355,88 +335,82 @@ pub fn add_if(
         tally,
     )?;
     let condition = world.file.expression_operand(row, 0);
-    end_if(world.file, cells, slots, fr, condition, a.required, a.tally)
+    end_if(
+        world.file,
+        &mut space.cells,
+        &mut space.slots,
+        fr,
+        condition,
+        a.required,
+        a.tally,
+    )
 }
 
 // `Switch`: the cases, the last first, joined behind the current context.
 #[cycle(walk)]
 pub fn add_switch(
     world: &World,
-    cells: &mut [u32; CELLS],
-    slots: &mut [u32; SLOTS],
-    open: &mut [u8; MIN_REPORT],
-    totals: &mut [u8; TOTALS_SIZE],
+    space: &mut Workspace,
     fr: Frame,
     b: BlockHandle,
     row: Kinded,
     began: Tally,
 ) -> Answered
-    requires arms { ArmsOf world.now cells.old slots.old «open».old totals.old fr b.0 row began.sum began.visits }
+    requires arms { ArmsOf world.now space.old fr b.0 row began.sum began.visits }
     requires kind_value { row.kind ≡ 3 }
-    ensures { StatementEndsOf world.now cells.old slots.old «open».old totals.old fr (add_switch (module_by world.now) (blocks_by world.now fr.function.0) (frame_of cells.old slots.old fr) (operand_at world.now.file.now.bytes row 0) (tab (operand_at world.now.file.now.bytes row 1) (case_of (operand_at world.now.file.now.bytes row))) (state_by world.now cells.old slots.old «open».old totals.old fr.function.0 fr.at began.visits)) StatementReq.Switch result cells.new slots.new «open».new totals.new }
+    ensures { StatementEndsOf world.now space.old fr (add_switch (module_by world.now) (blocks_by world.now fr.function.0) (frame_of space.old.cells space.old.slots fr) (operand_at world.now.file.now.bytes row 0) (tab (operand_at world.now.file.now.bytes row 1) (case_of (operand_at world.now.file.now.bytes row))) (state_by world.now space.old fr.function.0 fr.at began.visits)) StatementReq.Switch result space.new }
 {
     let f = fr.function;
     let at = fr.at;
-    let outside = fr.held + weigh(cells, slots, at, 4);
-    copy_context(slots, at, at + 4);
+    let outside = fr.held + weigh(&space.cells, &space.slots, at, 4);
+    copy_context(&mut space.slots, at, at + 4);
     let mut tally = began;
     let mut any = false;
     for k in (0..world.file.operand(row, 1)).rev() {
         let body = case_body(world.file, row, k);
-        let held = outside + weigh(cells, slots, at + 4, 4);
-        let a = add_block(
-            world,
-            cells,
-            slots,
-            open,
-            totals,
-            f,
-            body,
-            at,
-            at + 8,
-            held,
-            false,
-            tally,
-        )?;
-        if end_case(cells, slots, at + 4) {
+        let held = outside + weigh(&space.cells, &space.slots, at + 4, 4);
+        let a = add_block(world, space, f, body, at, at + 8, held, false, tally)?;
+        if end_case(&mut space.cells, &mut space.slots, at + 4) {
             return Err(fr.halt(Refusal::PartLimit));
         }
         tally = a.tally;
         any |= a.required;
     }
     let selector = world.file.expression_operand(row, 0);
-    end_switch(world.file, cells, slots, fr, selector, any, tally)
+    end_switch(
+        world.file,
+        &mut space.cells,
+        &mut space.slots,
+        fr,
+        selector,
+        any,
+        tally,
+    )
 }
 
-// `Loop`: the first pass, and the turns where it is required.
+// `Loop`: the first pass, and the turns where it is required. It is not inlined: the walk calls itself, and would hold its frame on every level of blocks.
 #[cycle(walk)]
 #[inline(never)]
 pub fn add_loop(
     world: &World,
-    cells: &mut [u32; CELLS],
-    slots: &mut [u32; SLOTS],
-    open: &mut [u8; MIN_REPORT],
-    totals: &mut [u8; TOTALS_SIZE],
+    space: &mut Workspace,
     fr: Frame,
     b: BlockHandle,
     row: Kinded,
     tally: Tally,
 ) -> Answered
-    requires arms { ArmsOf world.now cells.old slots.old «open».old totals.old fr b.0 row tally.sum tally.visits }
+    requires arms { ArmsOf world.now space.old fr b.0 row tally.sum tally.visits }
     requires kind_value { row.kind ≡ 4 }
-    ensures { StatementEndsOf world.now cells.old slots.old «open».old totals.old fr (add_loop (module_by world.now) (blocks_by world.now fr.function.0) (frame_of cells.old slots.old fr) (operand_at world.now.file.now.bytes row 0) (operand_at world.now.file.now.bytes row 1) (option_of (operand_at world.now.file.now.bytes row 2)) (state_by world.now cells.old slots.old «open».old totals.old fr.function.0 fr.at tally.visits)) StatementReq.Loop result cells.new slots.new «open».new totals.new }
+    ensures { StatementEndsOf world.now space.old fr (add_loop (module_by world.now) (blocks_by world.now fr.function.0) (frame_of space.old.cells space.old.slots fr) (operand_at world.now.file.now.bytes row 0) (operand_at world.now.file.now.bytes row 1) (option_of (operand_at world.now.file.now.bytes row 2)) (state_by world.now space.old fr.function.0 fr.at tally.visits)) StatementReq.Loop result space.new }
 {
     let f = fr.function;
     let at = fr.at;
     let body = world.file.block_operand(row, 0);
     let continuing = world.file.block_operand(row, 1);
-    let held = fr.held + weigh(cells, slots, at, 4);
+    let held = fr.held + weigh(&space.cells, &space.slots, at, 4);
     let a = add_pair(
         world,
-        cells,
-        slots,
-        open,
-        totals,
+        space,
         f,
         b,
         body,
@@ -448,44 +422,45 @@ pub fn add_loop(
         tally,
     )?;
     if !a.required {
-        drop_both(slots, at);
+        drop_both(&mut space.slots, at);
         return Ok(a);
     }
     let break_if = world.file.optional_expression(row, 2);
-    let left = end_pass(world.file, cells, slots, fr, break_if, a.tally)?;
-    add_turns(
-        world, cells, slots, open, totals, fr, b, body, continuing, left,
-    )
+    let left = end_pass(
+        world.file,
+        &mut space.cells,
+        &mut space.slots,
+        fr,
+        break_if,
+        a.tally,
+    )?;
+    add_turns(world, space, fr, b, body, continuing, left)
 }
 
 // The turns, each from the working context behind the current one, until that contains what a turn leaves.
 #[cycle(walk)]
 fn add_turns(
     world: &World,
-    cells: &mut [u32; CELLS],
-    slots: &mut [u32; SLOTS],
-    open: &mut [u8; MIN_REPORT],
-    totals: &mut [u8; TOTALS_SIZE],
+    space: &mut Workspace,
     fr: Frame,
     b: BlockHandle,
     body: BlockHandle,
     continuing: BlockHandle,
     began: Tally,
 ) -> Answered
-    requires { TurningOf world.now cells.old slots.old «open».old totals.old fr b.0 body.0 continuing.0 began.sum began.visits }
-    ensures { StatementEndsOf world.now cells.old slots.old «open».old totals.old fr (turns (blocks_by world.now fr.function.0) (frame_of cells.old slots.old fr) (fr.held + context_in cells.old slots.old fr.at + context_in cells.old slots.old (fr.at + 4)) body.0 continuing.0 (context_at (read cells.old slots.old) (fr.at + 4)) max_turns (state_by world.now cells.old slots.old «open».old totals.old fr.function.0 (fr.at + 4) began.visits)) StatementReq.Loop result cells.new slots.new «open».new totals.new }
+    requires { TurningOf world.now space.old fr b.0 body.0 continuing.0 began.sum began.visits }
+    ensures { StatementEndsOf world.now space.old fr (turns (blocks_by world.now fr.function.0) (frame_of space.old.cells space.old.slots fr) (fr.held + context_in space.old.cells space.old.slots fr.at + context_in space.old.cells space.old.slots (fr.at + 4)) body.0 continuing.0 (context_at (read space.old.cells space.old.slots) (fr.at + 4)) max_turns (state_by world.now space.old fr.function.0 (fr.at + 4) began.visits)) StatementReq.Loop result space.new }
 {
     let f = fr.function;
     let at = fr.at;
-    let held = fr.held + weigh(cells, slots, at, 4) + weigh(cells, slots, at + 4, 4);
+    let held = fr.held
+        + weigh(&space.cells, &space.slots, at, 4)
+        + weigh(&space.cells, &space.slots, at + 4, 4);
     let mut tally = began;
     for left in (0..MAX_TURNS).rev() {
         let a = add_pair(
             world,
-            cells,
-            slots,
-            open,
-            totals,
+            space,
             f,
             b,
             body,
@@ -497,7 +472,7 @@ fn add_turns(
             tally,
         )?;
         tally = a.tally;
-        match end_turn(cells, slots, at) {
+        match end_turn(&mut space.cells, &mut space.slots, at) {
             Turn::Over => return Err(fr.halt(Refusal::PartLimit)),
             Turn::Settled => {
                 return Ok(Answer {
@@ -511,23 +486,20 @@ fn add_turns(
     Err(fr.halt(Refusal::Unsettled))
 }
 
-// `Call`, with its marks.
+// `Call`, with its marks. It is not inlined: the walk calls itself, and would hold its frame on every level of blocks.
 #[cycle(walk)]
 #[inline(never)]
 pub fn add_call(
     world: &World,
-    cells: &mut [u32; CELLS],
-    slots: &mut [u32; SLOTS],
-    open: &mut [u8; MIN_REPORT],
-    totals: &mut [u8; TOTALS_SIZE],
+    space: &mut Workspace,
     fr: Frame,
     b: BlockHandle,
     row: Kinded,
     tally: Tally,
 ) -> Answered
-    requires arms { ArmsOf world.now cells.old slots.old «open».old totals.old fr b.0 row tally.sum tally.visits }
+    requires arms { ArmsOf world.now space.old fr b.0 row tally.sum tally.visits }
     requires kind_value { row.kind ≡ 14 }
-    ensures { StatementEndsOf world.now cells.old slots.old «open».old totals.old fr (marked (module_by world.now) (frame_of cells.old slots.old fr) (add_statement (module_by world.now) (add_function (module_by world.now)) (blocks_by world.now fr.function.0) (frame_of cells.old slots.old fr) (statement_of row.kind (operand_at world.now.file.now.bytes row)) (state_by world.now cells.old slots.old «open».old totals.old fr.function.0 fr.at tally.visits))) (λ b. b) result cells.new slots.new «open».new totals.new }
+    ensures { StatementEndsOf world.now space.old fr (marked (module_by world.now) (frame_of space.old.cells space.old.slots fr) (add_statement (module_by world.now) (add_function (module_by world.now)) (blocks_by world.now fr.function.0) (frame_of space.old.cells space.old.slots fr) (statement_of row.kind (operand_at world.now.file.now.bytes row)) (state_by world.now space.old fr.function.0 fr.at tally.visits))) (λ b. b) result space.new }
 {
     let f = fr.function;
     let at = fr.at;
@@ -535,9 +507,9 @@ pub fn add_call(
     let begun = begin_call(
         world.file,
         world.places,
-        cells,
-        slots,
-        open,
+        &mut space.cells,
+        &mut space.slots,
+        &mut space.open,
         fr,
         row,
         tally.sum,
@@ -549,23 +521,27 @@ pub fn add_call(
     };
     let a = add_function(
         world,
-        cells,
-        slots,
-        open,
-        totals,
+        space,
         g,
         at + 4,
         Place::Statement(f, fr.statement),
         begun.held,
         others,
     )?;
-    let sum = leave_call(world.file, cells, slots, g, at, a.tally.sum + own);
+    let sum = leave_call(
+        world.file,
+        &space.cells,
+        &mut space.slots,
+        g,
+        at,
+        a.tally.sum + own,
+    );
     return_call(
         world.file,
         world.places,
-        cells,
-        slots,
-        open,
+        &mut space.cells,
+        &mut space.slots,
+        &mut space.open,
         fr,
         row,
         a.required,

@@ -71,6 +71,7 @@ fn lowest(types: &[u32], table: &[u32], k: TypeHandle) -> TypeHandle
 }
 
 // The table: lowest first, since a type is made of lower ones.
+// Stays: by number, since an entry is made from the entries below it, and an iterator that writes would hold them all lent.
 pub fn fill_alike(types: &[u32], table: &mut [u32])
     requires lower { Lower (types_of types.now) }
     requires table_len { length table.old ≡ type_count types.now }

@@ -3,6 +3,7 @@
 
 pub mod alike;
 pub mod expressions;
+pub mod frame;
 pub mod indexes;
 pub mod made;
 pub mod named;

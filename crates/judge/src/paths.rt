@@ -28,6 +28,7 @@ fn path_entry(file: &File, f: FunctionHandle, table: &[u32], e: ExpressionHandle
 }
 
 // The table: lowest first, since an expression's operands are lower.
+// Stays: by number, since an entry is made from the entries below it, and an iterator that writes would hold them all lent.
 pub fn fill_paths(file: &File, f: FunctionHandle, table: &mut [u32])
     requires bytes_value { read_module file.now.bytes ≡ accepted (module_of file.now.bytes file.now.t) }
     requires f_in_bounds { f.0 < length (module_of file.now.bytes file.now.t).functions }

@@ -16,6 +16,7 @@ use module::handles::{ExpressionHandle, FunctionHandle, TypeHandle};
 use module::kinds::TypeKind;
 
 // The type of the expression e; 0, where there is none.
+// Stays: 0 is what the definition says of an expression that is not there, and an Option would be opened to it at each of the calls.
 pub fn type_of(file: &File, f: FunctionHandle, e: ExpressionHandle) -> TypeHandle
     ensures { result.0 ≡ type_of (scope_at file.now.bytes file.now.t f.0) e.0 }
 {

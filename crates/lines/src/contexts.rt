@@ -10,7 +10,7 @@ use crate::parts::write_part;
 use crate::text::{write_byte, write_number, write_word};
 use context::required_context::RequiredContext;
 use part::limits::SPINE;
-use part::store::look;
+use part::store::{EMPTY_PIECE, look};
 
 // A line of a number and its requirement p.
 pub fn write_line(out: &mut [u8], at: usize, cells: &[u32], word: &[u8], n: u32, p: u32) -> usize
@@ -41,7 +41,7 @@ pub fn write_variables(out: &mut [u8], at: usize, cells: &[u32], word: &[u8], ma
     let mut n = map;
     let mut next = at;
     // Stays: an entry names the next.
-    while 2 < n {
+    while EMPTY_PIECE < n {
         let x = look(cells, n);
         let k = variable_of(x.index);
         next = write_line(out, next, cells, word, k, x.child);
@@ -56,7 +56,7 @@ pub fn write_retval(out: &mut [u8], at: usize, cells: &[u32], map: u32) -> usize
     requires map_bound { (map < top cells.now) × Fits at (retval_text (part cells.now map)) }
     ensures { Wrote out.old out.new at (retval_text (part cells.now map)) result }
 {
-    if map < 3 {
+    if map <= EMPTY_PIECE {
         return at;
     }
     let x = look(cells, map);

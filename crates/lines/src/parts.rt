@@ -5,7 +5,7 @@ ghost use Rattle.lines.specs.Text.{text_from, part_text, whole_text, plain_text}
 ghost use Rattle.lines.specs.Wrote.{Fits, Wrote};
 
 use crate::text::{write_byte, write_number, write_word};
-use part::store::look;
+use part::store::{ALL_PIECE, EMPTY_PIECE, EXIST_PIECE, look};
 
 fn opening(whole: bool) -> u8
     ensures { result ≡ cond whole 123 44 }
@@ -21,8 +21,8 @@ fn write_whole(out: &mut [u8], at: usize, n: u32) -> usize
     ensures { Wrote out.old out.new at (whole_text n) result }
 {
     match n {
-        0 => write_word(out, at, b"all"),
-        1 => write_word(out, at, b"exist"),
+        ALL_PIECE => write_word(out, at, b"all"),
+        EXIST_PIECE => write_word(out, at, b"exist"),
         _ => write_word(out, at, b"{}"),
     }
 }
@@ -43,7 +43,7 @@ fn write_from(out: &mut [u8], at: usize, cells: &[u32], n: u32, whole: bool) -> 
     requires n_bound { (n < top cells.now) × Fits at (text_from (part cells.now n) whole) }
     ensures { Wrote out.old out.new at (text_from (part cells.now n) whole) result }
 {
-    if n < 3 {
+    if n <= EMPTY_PIECE {
         return write_plain(out, at, n, whole);
     }
     let x = look(cells, n);

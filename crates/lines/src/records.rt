@@ -7,7 +7,7 @@ ghost use Rattle.lines.specs.Wrote.{longest, Fits, Wrote};
 
 use crate::contexts::write_line;
 use module::handles::ExpressionHandle;
-use part::store::look;
+use part::store::{EMPTY_PIECE, look};
 
 // The line of expression e, whose slot has the piece p: the empty part, or an entry with what is recorded.
 fn write_record(out: &mut [u8], at: usize, cells: &[u32], e: ExpressionHandle, p: u32) -> usize
@@ -15,7 +15,7 @@ fn write_record(out: &mut [u8], at: usize, cells: &[u32], e: ExpressionHandle, p
     requires p_bound { (p < top cells.now) × Fits at (record_text e.0 (record_of (part cells.now p))) }
     ensures { Wrote out.old out.new at (record_text e.0 (record_of (part cells.now p))) result }
 {
-    if p < 3 {
+    if p <= EMPTY_PIECE {
         return at;
     }
     let x = look(cells, p);

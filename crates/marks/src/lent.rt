@@ -31,7 +31,7 @@ pub fn add(part: &mut [u8], marks: &[u8], at: usize)
     requires { at + length part.old ≤ length marks.now }
     ensures { part.new ≡ add_marks part.old (slice marks.now at (length part.old)) }
 {
-    for k in 0..part.len() {
-        part[k] = add_mark(part[k], marks[at + k]);
+    for (k, mark) in part.iter_mut().enumerate() {
+        *mark = add_mark(*mark, marks[at + k]);
     }
 }

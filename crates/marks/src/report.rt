@@ -15,6 +15,11 @@ pub const TOTALS: usize = MAX_FUNCTIONS;
 
 pub const TOTALS_SIZE: usize = TOTALS + MIN_REPORT;
 
+// The flag of a function: whether it has a total.
+pub const NO_TOTAL: u8 = 0;
+
+pub const HAS_TOTAL: u8 = 1;
+
 fn write_part(
     part: &mut [u8],
     places: &[u32],
@@ -32,7 +37,7 @@ fn write_part(
         copy(part, marks, from);
         return;
     }
-    if totals[i] == 0 {
+    if totals[i] == NO_TOTAL {
         clear(part);
         return;
     }

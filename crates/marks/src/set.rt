@@ -8,8 +8,9 @@ ghost use Rattle.marks.specs.Report.{totals_at, Sized};
 
 use crate::lent::{add, clear, copy};
 use crate::places::start;
-use crate::report::TOTALS;
+use crate::report::{HAS_TOTAL, TOTALS};
 use module::handles::FunctionHandle;
+use part::store::EMPTY_PIECE;
 
 pub fn set_mark(marks: &mut [u8], at: usize, b: bool)
     requires { at < length marks.old }
@@ -34,7 +35,7 @@ pub fn set_emit(marks: &mut [u8], at: usize, slots: &[u32], from: usize, n: usiz
 {
     let mut found = false;
     for k in 0..n {
-        let recorded = slots[from + k] != 2;
+        let recorded = slots[from + k] != EMPTY_PIECE;
         set_mark(marks, at + k, recorded);
         found |= recorded;
     }
@@ -60,7 +61,7 @@ pub fn keep_marks(totals: &mut [u8], marks: &[u8], places: &[u32], f: FunctionHa
     let i = f.0 as usize;
     let from = start(places, i);
     let to = start(places, i + 1);
-    totals[i] = 1;
+    totals[i] = HAS_TOTAL;
     let first = TOTALS + from;
     let last = TOTALS + to;
     copy(&mut totals[first..last], marks, from);

@@ -21,6 +21,13 @@ pub const FLAT: usize = 5;
 
 pub const FLATS: usize = 81;
 
+// The digits of such a code: a component is not asked, is asked whole, or is asked to be there.
+pub const UNASKED: usize = 0;
+
+pub const WHOLE: usize = 1;
+
+pub const THERE: usize = 2;
+
 // The pruner's total of globals.
 pub const GLOBALS: usize = FLAT + FLATS;
 

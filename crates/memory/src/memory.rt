@@ -12,7 +12,7 @@ ghost use Rattle.memory.specs.Flat.{flat_from};
 ghost use Rattle.memory.specs.Want.{asked};
 ghost use Rattle.memory.specs.Memory.{read, sum_from, counted, Recorded, Memory, Tidied, Flats, Empty, Putting, Noting, Noted, join_room, Joining, Totalling, Totalled};
 
-use crate::layout::{ALL, EXIST, FLAT, FLATS, GLOBALS, LIVE};
+use crate::layout::{ALL, EXIST, FLAT, FLATS, GLOBALS, LIVE, UNASKED, WHOLE};
 use crate::want::{Want, piece};
 use module::handles::GlobalHandle;
 use part::collect::collect;
@@ -22,7 +22,7 @@ use part::req::{get, insert};
 use part::store::{ALL_PIECE, EMPTY_PIECE, EXIST_PIECE, entries, init, look, make};
 
 // The flat part of n digits of the code c, from the component k on.
-fn flat(cells: &mut [u32], k: u32, n: u32, c: u32) -> u32
+fn flat(cells: &mut [u32], k: u32, n: u32, c: usize) -> u32
     requires good { Good cells.old }
     requires room { Room cells.old n × (k + n < 256) }
     ensures { Made cells.old cells.new (flat_from k n c) n result }
@@ -31,11 +31,11 @@ fn flat(cells: &mut [u32], k: u32, n: u32, c: u32) -> u32
         return EMPTY_PIECE;
     }
     let r = flat(cells, k + 1, n - 1, c / 3);
-    let d = c % 3;
-    if d == 0 {
-        return r;
+    match c % 3 {
+        UNASKED => r,
+        WHOLE => make(cells, k, ALL_PIECE, r),
+        _ => make(cells, k, EXIST_PIECE, r),
     }
-    make(cells, k, d - 1, r)
 }
 
 // All flat parts, in their slots.
@@ -45,7 +45,7 @@ fn flats(cells: &mut [u32], slots: &mut [u32])
     ensures { Flats cells.old slots.old cells.new slots.new flat_count }
 {
     for c in 0..FLATS {
-        let r = flat(cells, 0, 4, c as u32);
+        let r = flat(cells, 0, 4, c);
         slots[FLAT + c] = r;
     }
 }

@@ -9,7 +9,7 @@ ghost use Rattle.memory.specs.Layout.{flat_slot};
 ghost use Rattle.memory.specs.Picks.{digit_of, some_digit, Letters, FourDigits, Picks};
 ghost use Rattle.context.specs.Swizzle.{swizzled};
 
-use crate::layout::{ALL, EXIST, FLAT, PATH};
+use crate::layout::{ALL, EXIST, FLAT, PATH, THERE, UNASKED, WHOLE};
 use field::limits::{MAX_DEPTH, MAX_ENTRIES};
 use part::store::{ALL_PIECE, EMPTY_PIECE, EXIST_PIECE, depth, look, make};
 
@@ -219,16 +219,16 @@ pub fn child(cells: &[u32], slots: &[u32], w: Want, k: u32) -> Want
     w.into(k)
 }
 
-// How a component is asked, as a digit of a flat part's code: 1 whole, 2 to be there. None where it is neither.
+// How a component is asked, as a digit of a flat part's code: whole, or to be there. None where it is neither.
 fn digit(cells: &[u32], slots: &[u32], w: Want) -> Option<usize>
     requires { Memory cells.now slots.now × Wants cells.now slots.now w }
     ensures { result ≡ some_digit (digit_of (asked cells.now slots.now w)) }
 {
     if is_all(cells, slots, w) {
-        return Some(1);
+        return Some(WHOLE);
     }
     if is_exist(cells, slots, w) {
-        return Some(2);
+        return Some(THERE);
     }
     None
 }
@@ -265,7 +265,7 @@ pub fn swizzle(cells: &[u32], slots: &[u32], w: Want, pattern: [u32; 4]) -> Opti
     if is_exist(cells, slots, w) {
         return Some(EXIST);
     }
-    let mut digits: [usize; 4] = [0; 4];
+    let mut digits: [usize; 4] = [UNASKED; 4];
     let mut k = 0;
     // Stays: the entries end where one is missing; a `for` would need a count of them, which nothing else asks for, and a way out beside.
     while let Some(i) = entry(cells, slots, w, k) {

@@ -5,7 +5,7 @@ ghost use Rattle.clearance.specs.Shape.{below, under};
 ghost use Rattle.needs.specs.Path.{Piece};
 
 use part::req::get;
-use part::store::make;
+use part::store::{EMPTY_PIECE, make};
 
 // What the need n asks of the part at the path.
 pub fn below(cells: &[u32], n: u32, path: &[u32]) -> u32
@@ -16,7 +16,7 @@ pub fn below(cells: &[u32], n: u32, path: &[u32]) -> u32
     let mut m = n;
     for i in path {
         let f = get(cells, m, *i);
-        m = f.unwrap_or(2);
+        m = f.unwrap_or(EMPTY_PIECE);
     }
     m
 }
@@ -29,7 +29,7 @@ pub fn under(cells: &mut [u32], path: &[u32], a: u32) -> u32
 {
     let mut m = a;
     for k in (0..path.len()).rev() {
-        m = make(cells, path[k], m, 2);
+        m = make(cells, path[k], m, EMPTY_PIECE);
     }
     m
 }

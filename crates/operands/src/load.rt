@@ -11,10 +11,12 @@ ghost use Rattle.operands.specs.Lists.{load_of};
 use access::file::File;
 use asking::ask::{ask_place, ask_value};
 use module::handles::{ExpressionHandle, FunctionHandle};
+use part::store::ALL_PIECE;
 use place::steps::{Step, step_down};
 use place::target::find_target;
 
 // The dynamic indexes of the pointer p, each whole.
+// Stays: a loop by hand, since the next step is that of the base which this one names; nothing is counted.
 pub fn ask_indexes(
     file: &File,
     f: FunctionHandle,
@@ -33,7 +35,7 @@ pub fn ask_indexes(
             Step::Variable => return true,
             Step::Constant(base) => h = base,
             Step::Dynamic(base, index) => {
-                if !ask_value(file, f, cells, roots, n, index, 0) {
+                if !ask_value(file, f, cells, roots, n, index, ALL_PIECE) {
                     return false;
                 }
                 h = base;
@@ -46,7 +48,7 @@ pub fn ask_indexes(
 fn loaded(a: u32, dynamic: bool) -> u32
     ensures { result ≡ cond dynamic 0 a }
 {
-    if dynamic { 0 } else { a }
+    if dynamic { ALL_PIECE } else { a }
 }
 
 // What stands where the pointer p leads.

@@ -14,6 +14,7 @@ use access::kinded::Kinded;
 use asking::ask::ask_value;
 use module::handles::FunctionHandle;
 use part::req::get;
+use part::store::EMPTY_PIECE;
 
 // The part k of a; nothing, where a has none.
 fn subpart(cells: &[u32], a: u32, k: u32) -> u32
@@ -21,7 +22,7 @@ fn subpart(cells: &[u32], a: u32, k: u32) -> u32
     requires a_bound { a < top cells.now }
     ensures { SubpartOf cells.now a k result }
 {
-    get(cells, a, k).unwrap_or(2)
+    get(cells, a, k).unwrap_or(EMPTY_PIECE)
 }
 
 // The part k of the result, of the component that the letter k names.

@@ -9,8 +9,10 @@ use access::file::File;
 use access::kinded::Kinded;
 use asking::ask::ask_value;
 use module::handles::FunctionHandle;
+use part::store::ALL_PIECE;
 
 // Of the operand j the same part.
+// Stays: apart from `ask_whole`. One function for both would take the part, whose number is read anew before each ask, or a flag in place of two names.
 pub fn ask_same(
     file: &File,
     f: FunctionHandle,
@@ -42,7 +44,7 @@ pub fn ask_whole(
     ensures { AsksAll (scope_at file.now.bytes file.now.t f.0) (whole_of (operand_at file.now.bytes row) j) cells.old roots.old n cells.new roots.new result }
 {
     let v = file.expression_operand(row, j);
-    ask_value(file, f, cells, roots, n, v, 0)
+    ask_value(file, f, cells, roots, n, v, ALL_PIECE)
 }
 
 // All of the operand j, if it is there.
@@ -60,11 +62,12 @@ fn ask_present(
 {
     match file.optional_expression(row, j) {
         None => true,
-        Some(v) => ask_value(file, f, cells, roots, n, v, 0),
+        Some(v) => ask_value(file, f, cells, roots, n, v, ALL_PIECE),
     }
 }
 
 // Of both operands the same part.
+// Stays: apart from `ask_both_whole`, as `ask_same` is from `ask_whole`.
 pub fn ask_both_same(
     file: &File,
     f: FunctionHandle,

@@ -4,7 +4,7 @@ ghost use Rattle.part.specs.PartReq.{none, more, contains, add, entries};
 ghost use Rattle.part.specs.Store.{top, part, Good, Room, Made};
 
 use crate::req::{contains, join};
-use crate::store::{look, make, remake};
+use crate::store::{ALL_PIECE, EMPTY_PIECE, EXIST_PIECE, look, make, remake};
 
 // Whether m contains {i: p}.
 pub fn contains_entry(cells: &[u32], m: u32, i: u32, p: u32) -> bool
@@ -13,20 +13,21 @@ pub fn contains_entry(cells: &[u32], m: u32, i: u32, p: u32) -> bool
     ensures { result ≡ contains (part cells.now m) (more i (part cells.now p) none) }
 {
     let mut n = m;
-    while 2 < n {
+    // Stays: the list goes by the numbers in its cells, and the piece at its end is what answers; an iterator would not give that.
+    while EMPTY_PIECE < n {
         let x = look(cells, n);
         if i < x.index {
             return false;
         }
         if i == x.index {
-            if x.rest == 1 {
+            if x.rest == EXIST_PIECE {
                 return false;
             }
             return contains(cells, x.child, p);
         }
         n = x.rest;
     }
-    n == 0
+    n == ALL_PIECE
 }
 
 // The sum of m and {i: p}.
@@ -36,11 +37,11 @@ fn join_entry(cells: &mut [u32], m: u32, i: u32, p: u32) -> u32
     requires room { Room cells.old (entries (part cells.old m) + entries (part cells.old p) + 1) }
     ensures { Made cells.old cells.new (add (part cells.old m) (more i (part cells.old p) none)) (entries (part cells.old m) + entries (part cells.old p) + 1) result }
 {
-    if m == 0 {
-        return 0;
+    if m == ALL_PIECE {
+        return ALL_PIECE;
     }
-    if m < 3 {
-        return make(cells, i, p, 2);
+    if m <= EMPTY_PIECE {
+        return make(cells, i, p, EMPTY_PIECE);
     }
     let x = look(cells, m);
     if i < x.index {
@@ -51,7 +52,7 @@ fn join_entry(cells: &mut [u32], m: u32, i: u32, p: u32) -> u32
         return remake(cells, m, x, x.child, r);
     }
     let c = join(cells, x.child, p);
-    let r = join(cells, x.rest, 2);
+    let r = join(cells, x.rest, EMPTY_PIECE);
     remake(cells, m, x, c, r)
 }
 

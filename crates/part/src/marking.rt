@@ -6,7 +6,7 @@ ghost use Rattle.part.specs.Store.{top, Formed, Below};
 ghost use Rattle.part.specs.Collect.{Cleared, Rooted, Marking};
 ghost use Rattle.part.specs.Exact.{Raised, Mapped, Walked};
 
-use crate::store::{peek, set_word, word};
+use crate::store::{FIRST_CELL, peek, set_word, word};
 
 // Takes all marks away.
 pub(crate) fn clear(cells: &mut [u32])
@@ -51,7 +51,7 @@ pub(crate) fn mark_down(cells: &mut [u32])
     ensures walked { Walked cells.old cells.new 3 }
 {
     let end = cells[0];
-    for n in (3..end).rev() {
+    for n in (FIRST_CELL..end).rev() {
         if 0 < word(cells, n, 6) {
             let x = peek(cells, n);
             raise(cells, x.child, 2);

@@ -17,6 +17,8 @@ pub const EXIST_PIECE: u32 = 1;
 
 pub const EMPTY_PIECE: u32 = 2;
 
+pub(crate) const FIRST_CELL: u32 = 3;
+
 // An entry and those after it.
 #[derive(Clone, Copy, PartialEq, Eq)]
 pub struct Cell {
@@ -89,7 +91,7 @@ fn relink(cells: &mut [u32])
     ensures { Rebuilt cells.old cells.new }
 {
     let end = cells[0];
-    for n in 3..end {
+    for n in FIRST_CELL..end {
         link(cells, n);
     }
 }
@@ -110,7 +112,7 @@ pub fn init(cells: &mut [u32])
     ensures { Good cells.new × (top cells.new ≡ 3) × (length cells.new ≡ length cells.old) }
 {
     empty(cells);
-    cells[0] = 3;
+    cells[0] = FIRST_CELL;
 }
 
 // What stands in the cell n.
@@ -141,7 +143,7 @@ pub fn measure(cells: &[u32], n: u32) -> Sizes
     requires n_bound { n < top cells.now }
     ensures { Measures (part cells.now n) result.entries result.depth result.width result.over }
 {
-    if n < 2 {
+    if n <= EXIST_PIECE {
         return Sizes {
             entries: 0,
             depth: 0,
@@ -149,7 +151,7 @@ pub fn measure(cells: &[u32], n: u32) -> Sizes
             over: false,
         };
     }
-    if n == 2 {
+    if n == EMPTY_PIECE {
         return Sizes {
             entries: 0,
             depth: 1,
@@ -246,7 +248,8 @@ pub(crate) fn find(cells: &[u32], index: u32, child: u32, rest: u32) -> Option<u
     let h = hash(index, child, rest);
     let at = cells.len() - TABLE_WORDS + h;
     let mut n = cells[at];
-    while 2 < n {
+    // Stays: a chain goes by the numbers in its cells, and nothing says how long it is.
+    while EMPTY_PIECE < n {
         let x = look(cells, n);
         if x == (Cell { index, child, rest }) {
             return Some(n);

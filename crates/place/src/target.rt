@@ -6,6 +6,7 @@ ghost use Rattle.judge.specs.Given.{scope_at};
 ghost use Rattle.place.specs.Target.{Pointer, IndexesPassed, TargetFound};
 
 use access::file::File;
+use judge::frame::{GLOBALS, LOCALS};
 use module::handles::{ExpressionHandle, FunctionHandle};
 use module::kinds::ExpressionKind;
 use part::limits::SPINE;
@@ -59,8 +60,8 @@ fn variable_kind(kind: u16) -> u32
     ensures { result ≡ cond (eqb kind 11) (variable 1) (variable 0) }
 {
     match ExpressionKind::try_from(kind) {
-        Ok(ExpressionKind::LocalVariable) => SPINE + 1,
-        _ => SPINE,
+        Ok(ExpressionKind::LocalVariable) => SPINE + LOCALS,
+        _ => SPINE + GLOBALS,
     }
 }
 

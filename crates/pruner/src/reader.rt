@@ -13,7 +13,7 @@ ghost use Rattle.pruner.specs.Reading.{single, mapped, RoomBeside, PieceWasRead,
 use context::required_context::RequiredContext;
 use field::field::read;
 use part::limits::SPINE;
-use part::store::make;
+use part::store::{EMPTY_PIECE, make};
 use request::lists::{read_return, read_variables};
 use request::record::ends;
 
@@ -25,9 +25,9 @@ pub fn read_single(cells: &mut [u32], pruner: &[u8], at: usize, index: u32) -> O
 {
     let (o, next) = read_return(cells, pruner, at)?;
     let Some(p) = o else {
-        return Some((2, next));
+        return Some((EMPTY_PIECE, next));
     };
-    Some((make(cells, index, p, 2), next))
+    Some((make(cells, index, p, EMPTY_PIECE), next))
 }
 
 // A list of variables, each of which is below `limit`.

@@ -33,6 +33,7 @@ fn write_function(
     ensures { Written out.old out.new at (write_total (total_in (module_of file.now.bytes file.now.t) file.now.t (read cells.now slots.now) totals.now f.0)) result }
 {
     let i = f.0 as usize;
+    // Stays: a flag is a byte of lent memory, 0 where f has no total.
     if totals[i] == 0 {
         write(out, at, 0);
         return at + 2;

@@ -10,6 +10,7 @@ ghost use Rattle.judge.specs.Subject.{scope_of, function_in};
 use judge::subject::Subject;
 use module::handles::ExpressionHandle;
 use needs::path::below;
+use part::store::{ALL_PIECE, EMPTY_PIECE};
 use place::slots::evaluated_path;
 use place::sources::gives_value;
 use place::target::find_target;
@@ -18,10 +19,7 @@ use place::target::find_target;
 pub fn is_some(p: u32) -> bool
     ensures { (s : List ℕ) → result ≡ some (part s p) }
 {
-    if p == 0 {
-        return true;
-    }
-    2 < p
+    p == ALL_PIECE || EMPTY_PIECE < p
 }
 
 // What the need m asks of the expression e, if an emit gives it its value.
@@ -38,7 +36,7 @@ pub fn emit_overlap(
     ensures { Overlap (scope_of subject.now) (emit e.0) cells.now (part cells.now m) path.old path.new result }
 {
     if !gives_value(subject, e) {
-        return 2;
+        return EMPTY_PIECE;
     }
     evaluated_path(path, e);
     below(cells, m, &path[0..2])

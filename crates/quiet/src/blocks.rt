@@ -13,7 +13,7 @@ use access::kinded::Kinded;
 use judge::subject::Subject;
 use module::handles::BlockHandle;
 use module::kinds::StatementKind;
-use strays::exits::{Exits, in_body, in_case, none};
+use strays::exits::{Exits, none};
 
 #[cycle(quiet_block_quiet_cases_quiet_statement)]
 fn quiet_cases(
@@ -69,15 +69,15 @@ fn quiet_statement(
                 && quiet_block(subject, cells, path, m, reject, e)
         }
         Ok(StatementKind::Switch) => {
-            let x = in_case(e);
+            let x = e.in_case(true);
             quiet_cases(subject, cells, path, m, b, row, x)
         }
         Ok(StatementKind::Loop) => {
             let body = subject.file.block_operand(row, 0);
-            let x = in_body(e);
+            let x = e.in_body(true, true);
             // a continue that leaves a continuing block is one of the loop around
             let last = subject.file.block_operand(row, 1);
-            let y = in_case(e);
+            let y = e.in_case(true);
             quiet_block(subject, cells, path, m, body, x)
                 && quiet_block(subject, cells, path, m, last, y)
         }

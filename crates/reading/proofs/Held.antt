@@ -9,14 +9,11 @@ use Rattle.module.specs.Module.{BlockHandle, SwitchCase, Break}
 use Rattle.module.specs.Decode.{tab, case_of, statement_of, st_of}
 use Rattle.module.specs.Blocks.{held}
 use Rattle.module.proofs.Each.{each}
-use Rattle.module.proofs.Tab.{map-tab, tab-same, get_d_tab, tab-past}
+use Rattle.module.proofs.Tab.{map-tab, tab-same, get_d_tab}
 use Rattle.reading.specs.declared.blocks.Holding.{Holding}
-use Rattle.reading.specs.Holding.{holding_of, field_of, fields_of, kind_of, held_at}
+use Rattle.reading.specs.Holding.{holding_of, field_of, fields_of, held_at}
 use Rattle.module.specs.declared.tables.Row.{Row}
 use Rattle.module.specs.Tables.{open_of}
-use borrow.Author.Tests.{lt-ltb, le-ltb, ltb-true, ltb-false}
-use mathlib.Core.Bool.{Bool, true, false}
-use lib.Dec.{ltb}
 
 -- the blocks that the fields name
 abbrev pub named : List ℕ → Holding → List BlockHandle
@@ -67,20 +64,9 @@ first_small (suc (suc (suc zero))) cases = omega arith
 first_small (suc (suc (suc (suc zero)))) cases = omega arith
 first_small (suc (suc (suc (suc (suc kind))))) cases = omega arith
 
-past : (bytes t : List ℕ) (row : Row) (s : ℕ) → row.statements ≤ s → held_at bytes t row s ≡ named (fields_of bytes t row s) (holding_of (kind_of bytes t row s) (get_or (fields_of bytes t row s) 2 0))
-unfolding open_of kind_of held holding_of tab
-past bytes t row s h = rw (tab-past row.statements (λ i. st_of (fields_of bytes t row i)) s Break h, le-ltb s row.statements h)
-
-there : (bytes t : List ℕ) (row : Row) (s : ℕ) → s < row.statements → held_at bytes t row s ≡ named (fields_of bytes t row s) (holding_of (kind_of bytes t row s) (get_or (fields_of bytes t row s) 2 0))
-unfolding open_of kind_of
-there bytes t row s h = rw (get_d_tab row.statements (λ i. st_of (fields_of bytes t row i)) s Break h, lt-ltb s row.statements h) (held_is (fields_of bytes t row s))
-
-by_test : (bytes t : List ℕ) (row : Row) (s : ℕ) (test : Bool) → ltb s row.statements ≡ test → held_at bytes t row s ≡ named (fields_of bytes t row s) (holding_of (kind_of bytes t row s) (get_or (fields_of bytes t row s) 2 0))
-by_test bytes t row s true e = there bytes t row s (ltb-true s row.statements e)
-by_test bytes t row s false e = past bytes t row s (ltb-false s row.statements e)
-
-pub held-at : (bytes t : List ℕ) (row : Row) (s kind cases : ℕ) (h : Holding) → h ≡ holding_of kind cases → kind ≡ kind_of bytes t row s → cases ≡ get_or (fields_of bytes t row s) 2 0 → held_at bytes t row s ≡ named (fields_of bytes t row s) h
-held-at bytes t row s kind cases h e k n = rw (e, k, n) (by_test bytes t row s (ltb s row.statements) refl)
+pub held-at : (bytes t : List ℕ) (row : Row) (s kind cases : ℕ) (h : Holding) → s < row.statements → h ≡ holding_of kind cases → kind ≡ get_or (fields_of bytes t row s) 0 0 → cases ≡ get_or (fields_of bytes t row s) 2 0 → held_at bytes t row s ≡ named (fields_of bytes t row s) h
+unfolding open_of
+held-at bytes t row s kind cases h l e k n = rw (e, k, n, get_d_tab row.statements (λ i. st_of (fields_of bytes t row i)) s Break l) (held_is (fields_of bytes t row s))
 
 pub fits_mul : (h : Holding) (kind cases i : ℕ) → h ≡ holding_of kind cases → i < 65536 → h.stride * i < 4294967296
 fits_mul h kind cases i e l = rw e (omega (arith, stride-small kind cases i))

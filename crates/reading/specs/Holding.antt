@@ -44,15 +44,12 @@ unfoldable pub ones : ℕ → List ℕ → Bool
 ones zero seen = true
 ones (suc n) seen = eqb (get_or seen n 0) 1 && ones n seen
 
--- of the function that a row stands for: its statements, the fields and the kind of one of them (past the last, a break's), and what that holds
+-- of the function that a row stands for: its statements, the fields of one of them, and what that holds
 abbrev pub statements_of : List ℕ → List ℕ → Row → List Statement
 statements_of bytes t row = (open_of bytes t row).statements
 
 abbrev pub fields_of : List ℕ → List ℕ → Row → ℕ → List ℕ
 fields_of bytes t row s = item_body bytes t (statements_from row + s)
-
-unfoldable pub kind_of : List ℕ → List ℕ → Row → ℕ → ℕ
-kind_of bytes t row s = cond (ltb s row.statements) (get_or (fields_of bytes t row s) 0 0) 5
 
 abbrev pub held_at : List ℕ → List ℕ → Row → ℕ → List BlockHandle
 held_at bytes t row s = held (get_or (statements_of bytes t row) s Break)

@@ -4,6 +4,7 @@ ghost use Rattle.module.specs.Record.{body_at};
 ghost use Rattle.module.specs.Tables.{items_to};
 ghost use Rattle.reading.specs.Progress.{Fits, mark_by, with_item, stage_by, row_with, counts_with, table_with};
 
+use module::kinds::StatementKind;
 use module::record::{Mark, body};
 use module::tables::{BLOCKS, Counts, GLOBALS, ITEMS, MARKS, Row, Stage, TYPES, put};
 
@@ -11,7 +12,7 @@ use module::tables::{BLOCKS, Counts, GLOBALS, ITEMS, MARKS, Row, Stage, TYPES, p
 fn emit(bytes: &[u8], t: &mut [u32], at: u32)
     ensures { t.new ≡ mark_by (body_at bytes.now at) t.old }
 {
-    if body(bytes, at, 0) == 0 {
+    if body(bytes, at, 0) == StatementKind::Emit as u16 {
         let first = body(bytes, at, 1) as usize;
         let last = body(bytes, at, 2) as usize;
         for e in first..last + 1 {

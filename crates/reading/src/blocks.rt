@@ -3,10 +3,11 @@ ghost use Rattle.std.specs.Prelude.{◌≡◌, ◌<◌, ◌≤◌, length, get_o
 ghost use Rattle.module.specs.Blocks.{all_below, holders_above, held_in_all, block_rule};
 ghost use Rattle.module.specs.Reading.{closed};
 ghost use Rattle.module.specs.Tables.{open_of};
-ghost use Rattle.reading.specs.Holding.{holding_of, more, counted, cleared, ones, kind_of, held_at, held_by, statements_of, blocks_of};
+ghost use Rattle.reading.specs.Holding.{holding_of, more, counted, cleared, ones, held_at, held_by, statements_of, blocks_of};
 
 use module::access::{block_range, statement_field};
 use module::handles::BlockHandle;
+use module::kinds::StatementKind;
 use module::tables::{Row, put, word};
 
 // The blocks that a statement holds: `count` of them, the first in the field `first`, the next ones `stride` fields on.
@@ -21,23 +22,23 @@ pub struct Holding {
 pub fn held_by(kind: u16, cases: u16) -> Holding
     ensures { result ≡ holding_of kind cases }
 {
-    match kind {
-        1 => Holding {
+    match StatementKind::try_from(kind) {
+        Ok(StatementKind::Block) => Holding {
             count: 1,
             first: 1,
             stride: 1,
         },
-        2 => Holding {
+        Ok(StatementKind::If) => Holding {
             count: 2,
             first: 2,
             stride: 1,
         },
-        3 => Holding {
+        Ok(StatementKind::Switch) => Holding {
             count: cases,
             first: 4,
             stride: 2,
         },
-        4 => Holding {
+        Ok(StatementKind::Loop) => Holding {
             count: 2,
             first: 1,
             stride: 1,
@@ -48,16 +49,6 @@ pub fn held_by(kind: u16, cases: u16) -> Holding
             stride: 0,
         },
     }
-}
-
-// Of a statement of the function; past the last one, a break's.
-fn kind_of(bytes: &[u8], t: &[u32], row: Row, s: u32) -> u16
-    ensures { result ≡ kind_of bytes.now t.now row s }
-{
-    if s < row.statements {
-        return statement_field(bytes, t, row, s, 0);
-    }
-    5
 }
 
 // How often a block is held is counted up to 2: more than once is refused.
@@ -77,29 +68,23 @@ fn count(seen: &mut [u32], k: u16)
     put(seen, k as usize, times);
 }
 
-// Counts the blocks that the statement s holds; whether all of them are below b.
-fn hold(bytes: &[u8], t: &[u32], row: Row, s: u32, b: u32, seen: &mut [u32]) -> bool
+// Counts the blocks that the statement s holds, where there is one; whether all of them are below b.
+fn hold_at(bytes: &[u8], t: &[u32], row: Row, s: usize, b: u32, seen: &mut [u32]) -> bool
     ensures { (result ≡ all_below b (held_at bytes.now t.now row s)) × (seen.new ≡ counted seen.old (held_at bytes.now t.now row s)) }
 {
-    let kind = kind_of(bytes, t, row, s);
-    let h = held_by(kind, statement_field(bytes, t, row, s, 2));
+    if (row.statements as usize) <= s {
+        return true;
+    }
+    let n = s as u32;
+    let kind = statement_field(bytes, t, row, n, 0);
+    let h = held_by(kind, statement_field(bytes, t, row, n, 2));
     let mut below = true;
     for i in 0..h.count {
-        let k = statement_field(bytes, t, row, s, h.first + h.stride * (i as u32));
+        let k = statement_field(bytes, t, row, n, h.first + h.stride * (i as u32));
         count(seen, k);
         below &= (k as u32) < b;
     }
     below
-}
-
-// The same of a statement that there may be none of.
-fn hold_at(bytes: &[u8], t: &[u32], row: Row, s: usize, b: u32, seen: &mut [u32]) -> bool
-    ensures { (result ≡ all_below b (held_at bytes.now t.now row s)) × (seen.new ≡ counted seen.old (held_at bytes.now t.now row s)) }
-{
-    if s < (row.statements as usize) {
-        return hold(bytes, t, row, s as u32, b, seen);
-    }
-    true
 }
 
 // Counts the blocks that the statements of the block b hold; whether all of them are below b.

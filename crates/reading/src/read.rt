@@ -57,6 +57,7 @@ fn records(
     seen.fill(0);
     let mut c = no_counts(bytes.len() as u32);
     let mut at: u32 = 0;
+    // Stays: a record says where the next one begins, and the first that is refused ends the loop.
     while (at as usize) < bytes.len() {
         c = record_next(bytes, t, seen, held, at, c)?;
         at += 4 + (field::field::get(bytes, (at as usize) + 2) as u32);

@@ -2,4 +2,3 @@ pub mod Shown
 pub mod Walking
 pub mod Requesting
 pub mod Whole
-pub mod Printing

@@ -5,7 +5,6 @@ use mathlib.Core.Path.{◌≡◌, refl, sym, ap, ◌∙◌}
 use mathlib.Core.Bool.{Bool}
 use mathlib.Core.List.{List, ◌++◌}
 use Rattle.std.specs.Prelude.{Result, Ok, Err}
-use Rattle.field.specs.Refusal.{number}
 use Rattle.field.specs.declared.refusal.Refusal.TheVariants.{PiecesLimit}
 use Rattle.field.specs.Limits.{max_pieces, min_report}
 use Rattle.part.specs.PartReq.{none}

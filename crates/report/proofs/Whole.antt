@@ -5,7 +5,7 @@ use native.Mathlib.Nat.{sub-zero, zero-add}
 use mathlib.Core.Path.{◌≡◌, sym, ap, ◌∙◌}
 use mathlib.Core.Bool.{Bool}
 use mathlib.Core.List.{List, ◌++◌}
-use lib.ListN.{length, take, drop, length-append, length-drop, length-take}
+use lib.ListN.{length, take, drop, length-append, length-drop}
 use lib.Seq.{sets-eq, take_all}
 use Rattle.std.specs.Prelude.{Result, Ok, Err}
 use Rattle.field.specs.Limits.{min_report}
@@ -51,10 +51,6 @@ module _ (input : List ℕ) {b t asked : List ℕ} (e : b ≡ module_in input) (
       → TextIs (report_input input) b t (request_in input) places s rs open_marks r
   unfolding report_input module_text
   input-walked w T = rw (← e, w.module_is) (rw q at T)
-
--- what a front of a list has room for
-pub front_long : (xs : List ℕ) (n : ℕ) → n ≤ length xs → n ≤ length (take (n - 0) xs)
-front_long xs n l = rw (sub-zero n, length-take n xs) (omega (arith, l))
 
 pub input-refused : (input : List ℕ) {t b u places s rs open_marks : List ℕ} {e : Refusal} → Reads (module_in input) t (number e)
     → TextIs (report_input input) b u (request_in input) places s rs open_marks (Err e)

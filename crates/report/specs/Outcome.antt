@@ -16,6 +16,7 @@ use Rattle.checking.specs.Line.{check_line}
 use Rattle.report_text.specs.Input.{check_of, answer_text}
 use Rattle.report.specs.declared.outcome.Reported.{Reported}
 use Rattle.block.specs.declared.world.World.{World}
+use Rattle.block.specs.declared.workspace.Workspace.{Workspace}
 
 -- Memory has the report on the function f that the request asks for, its context behind the base. The text is the report's lines and that of its check.
 pub record Shows (text bytes t asked-bytes places s rs open_marks : List ℕ) (f : ℕ) (required : Bool) : Type 0 where
@@ -40,8 +41,8 @@ pub record Asked (bytes t types places s rs open_marks totals : List ℕ) (f sum
   pub sum_is : sum ≡ pruner_pieces (fresh (module_of bytes t))
   pub loaded : Loaded bytes t types places s rs open_marks totals q (fresh (module_of bytes t))
 
-abbrev pub AskedOf : World → List ℕ → List ℕ → List ℕ → List ℕ → ℕ → ℕ → Type 0
-AskedOf w s rs open_marks totals f sum = Asked w.file.now.bytes w.file.now.t w.types.now w.places.now s rs open_marks totals f sum
+abbrev pub AskedOf : World → Workspace → ℕ → ℕ → Type 0
+AskedOf w m f sum = Asked w.file.now.bytes w.file.now.t w.types.now w.places.now m.cells m.slots m.open m.totals f sum
 
 -- the text is that of whatever request was read and loaded
 pub record Walked (bytes t types places s rs open_marks totals : List ℕ) (f : ℕ) (u us open_after : List ℕ) (r : Result Reported Refusal) : Type 0 where
@@ -49,5 +50,5 @@ pub record Walked (bytes t types places s rs open_marks totals : List ℕ) (f : 
       → Loaded bytes t types places s rs open_marks totals q (fresh (module_of bytes t))
       → TextIs (answer_text (module_of bytes t) q (request (module_of bytes t) (fresh (module_of bytes t)) q).0) bytes t asked-bytes places u us open_after r
 
-abbrev pub WalkedOf : World → List ℕ → List ℕ → List ℕ → List ℕ → ℕ → List ℕ → List ℕ → List ℕ → Result Reported Refusal → Type 0
-WalkedOf w s rs open_marks totals f u us open_after r = Walked w.file.now.bytes w.file.now.t w.types.now w.places.now s rs open_marks totals f u us open_after r
+abbrev pub WalkedOf : World → Workspace → ℕ → List ℕ → List ℕ → List ℕ → Result Reported Refusal → Type 0
+WalkedOf w m f u us open_after r = Walked w.file.now.bytes w.file.now.t w.types.now w.places.now m.cells m.slots m.open m.totals f u us open_after r

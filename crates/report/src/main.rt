@@ -4,7 +4,7 @@
 mod outcome;
 mod text;
 
-ghost use Rattle.std.specs.Prelude.{◌≡◌, ◌≤◌, length, take};
+ghost use Rattle.std.specs.Prelude.{◌≡◌, ◌≤◌, ◌<◌, length, take, IfSome};
 ghost use Rattle.report_text.specs.Split.{request_in};
 ghost use Rattle.report_text.specs.Input.{max_input, report_input};
 ghost use Rattle.report.specs.Outcome.{TextIs};
@@ -12,24 +12,27 @@ ghost use Rattle.report.specs.Outcome.{TextIs};
 use crate::outcome::{Outcome, behind, front, read_front, walk_read};
 use crate::text::write_text;
 use access::file::File;
+use block::workspace::Workspace;
 use check_text::line::MAX_LINE;
 use field::limits::MIN_REPORT;
 use lines::report::MAX_TEXT;
 use marks::places::PLACES;
+use marks::report::TOTALS_SIZE;
 use memory::layout::{CELLS, SLOTS};
 use module::tables::WORDS;
 use report_text::split::MAX_INPUT;
 use std::io;
 use std::io::Read;
 
-// What one read puts at the start of input; 0 where the input ends or the read fails.
-fn read_some(reader: &mut impl Read, input: &mut [u8]) -> usize
-    ensures in_bounds { result ≤ length input.new }
-    ensures prefix_len { result ≡ length (take result input.new) }
+// What one read puts at the start of input; none where the input ends or the read fails.
+fn read_some(reader: &mut impl Read, input: &mut [u8]) -> Option<usize>
+    ensures in_bounds { IfSome result (λ n. n ≤ length input.new) }
+    ensures prefix_len { IfSome result (λ n. n ≡ length (take n input.new)) }
+    ensures some { IfSome result (λ n. 0 < n) }
 {
     match reader.read(input) {
-        Ok(n) => n,
-        Err(_) => 0,
+        Ok(0) | Err(_) => None,
+        Ok(n) => Some(n),
     }
 }
 
@@ -42,31 +45,28 @@ fn read_input(reader: &mut impl Read, input: &mut [u8]) -> usize
     let mut done = 0;
     // Stays: each read says how far the next begins.
     while done < input.len() {
-        let n = read_some(reader, &mut input[done..]);
-        if n == 0 {
+        let Some(n) = read_some(reader, &mut input[done..]) else {
             break;
-        }
+        };
         done += n;
     }
     done
 }
 
-// The arrays of the text and of the check are needed only when the walk has ended. Called from two places, this stays a function of its own, so that they are not on
-// the stack during the walk.
+// The arrays of the text and of the check are needed only when the walk has ended: inlined, they would be on the stack during the walk.
+#[inline(never)]
 fn print(
     rt: &impl Print,
     input: &[u8],
     file: &File,
     places: &[u32],
-    cells: &mut [u32; CELLS],
-    slots: &mut [u32; SLOTS],
-    open: &[u8],
+    space: &mut Workspace,
     outcome: Outcome,
 ) -> io::Result<()>
-    requires { TextIs (report_input input.now) file.now.bytes file.now.t (request_in input.now) places.now cells.old slots.old «open».now outcome }
+    requires { TextIs (report_input input.now) file.now.bytes file.now.t (request_in input.now) places.now space.old.cells space.old.slots space.old.open outcome }
 {
     let mut text: [u8; MAX_TEXT + MAX_LINE] = [0; MAX_TEXT + MAX_LINE];
-    let n = write_text(&mut text, input, file, places, cells, slots, open, outcome);
+    let n = write_text(&mut text, input, file, places, space, outcome);
     rt.write_all(&text[0..n])
 }
 
@@ -75,34 +75,27 @@ fn answer(
     input: &[u8],
     t: &mut [u32; WORDS],
     places: &mut [u32; PLACES],
-    cells: &mut [u32; CELLS],
-    slots: &mut [u32; SLOTS],
-    open: &mut [u8; MIN_REPORT],
+    space: &mut Workspace,
 ) -> io::Result<()> {
-    let read = read_front(input, t, cells, slots);
+    let read = read_front(input, t, &mut space.cells, &mut space.slots);
     let file = File::new(front(input), t);
-    if let Err(refusal) = read {
-        return print(rt, input, &file, places, cells, slots, open, Err(refusal));
-    }
-    let outcome = walk_read(&file, places, cells, slots, open, behind(input));
-    print(rt, input, &file, places, cells, slots, open, outcome)
+    let outcome = match read {
+        Err(refusal) => Err(refusal),
+        Ok(()) => walk_read(&file, places, space, behind(input)),
+    };
+    print(rt, input, &file, places, space, outcome)
 }
 
 fn report(rt: &impl Print, input: &[u8]) -> io::Result<()> {
     let mut t: [u32; WORDS] = [0; WORDS];
     let mut places: [u32; PLACES] = [0; PLACES];
-    let mut cells: [u32; CELLS] = [0; CELLS];
-    let mut slots: [u32; SLOTS] = [0; SLOTS];
-    let mut open: [u8; MIN_REPORT] = [0; MIN_REPORT];
-    answer(
-        rt,
-        input,
-        &mut t,
-        &mut places,
-        &mut cells,
-        &mut slots,
-        &mut open,
-    )
+    let mut space = Workspace {
+        cells: [0; CELLS],
+        slots: [0; SLOTS],
+        open: [0; MIN_REPORT],
+        totals: [0; TOTALS_SIZE],
+    };
+    answer(rt, input, &mut t, &mut places, &mut space)
 }
 
 fn main(rt: HostRuntime) -> io::Result<()> {

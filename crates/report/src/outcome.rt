@@ -13,14 +13,14 @@ ghost use Rattle.report_text.specs.Input.{request_text};
 ghost use Rattle.report.specs.Outcome.{TextIs, AskedOf, WalkedOf};
 
 use access::file::File;
+use block::workspace::Workspace;
 use block::world::World;
 use context::remove::TYPE_WORDS;
 use field::limits::{MAX_TYPES, MIN_REPORT};
 use field::refusal::Refusal;
 use function::add::add_function;
 use marks::places::{PLACES, place_marks};
-use marks::report::TOTALS_SIZE;
-use memory::layout::{CELLS, SLOTS, STACK};
+use memory::layout::STACK;
 use module::handles::FunctionHandle;
 use reading::read::{HELD, SEEN, read};
 use report_text::split::split;
@@ -39,24 +39,14 @@ pub struct Reported {
 pub type Outcome = Result<Reported, Refusal>;
 
 // The walk of f, and 16 at its end.
-fn walk_function(
-    world: &World,
-    cells: &mut [u32; CELLS],
-    slots: &mut [u32; SLOTS],
-    open: &mut [u8; MIN_REPORT],
-    totals: &mut [u8; TOTALS_SIZE],
-    f: FunctionHandle,
-    sum: usize,
-) -> Outcome
-    requires { AskedOf world.now cells.old slots.old «open».old totals.old f.0 sum }
-    ensures { WalkedOf world.now cells.old slots.old «open».old totals.old f.0 cells.new slots.new «open».new result }
+// Stays: `walk_request` of crate requests begins with the same call, which is all that both have; it ends by writing three buffers that are not here.
+fn walk_function(world: &World, space: &mut Workspace, f: FunctionHandle, sum: usize) -> Outcome
+    requires { AskedOf world.now space.old f.0 sum }
+    ensures { WalkedOf world.now space.old f.0 space.new.cells space.new.slots space.new.open result }
 {
     match add_function(
         world,
-        cells,
-        slots,
-        open,
-        totals,
+        space,
         f,
         STACK,
         Place::Nowhere,
@@ -65,7 +55,7 @@ fn walk_function(
     ) {
         Err(h) => Err(h.refusal),
         Ok(a) => {
-            if totals_over(world.file, cells, slots, f, a.tally.sum) {
+            if totals_over(world.file, &space.cells, &space.slots, f, a.tally.sum) {
                 return Err(Refusal::PiecesLimit);
             }
             Ok(Reported {
@@ -81,14 +71,11 @@ fn walk_request(
     file: &File,
     table: &mut [u32],
     places: &mut [u32; PLACES],
-    cells: &mut [u32; CELLS],
-    slots: &mut [u32; SLOTS],
-    open: &mut [u8; MIN_REPORT],
-    totals: &mut [u8; TOTALS_SIZE],
+    space: &mut Workspace,
     request: &[u8],
 ) -> Outcome
     requires { WasRead file.now.bytes file.now.t × (length table.old ≡ type_words * length (module_of file.now.bytes file.now.t).types) }
-    ensures { TextIs (request_text (module_of file.now.bytes file.now.t) (read_request (module_of file.now.bytes file.now.t) min_report request.now)) file.now.bytes file.now.t request.now places.new cells.new slots.new «open».new result }
+    ensures { TextIs (request_text (module_of file.now.bytes file.now.t) (read_request (module_of file.now.bytes file.now.t) min_report request.now)) file.now.bytes file.now.t request.now places.new space.new.cells space.new.slots space.new.open result }
 {
     place_marks(file, places);
     fill(file, table);
@@ -102,51 +89,31 @@ fn walk_request(
     let begun = begin_request(
         file,
         world.places,
-        cells,
-        slots,
-        open,
-        totals,
+        &mut space.cells,
+        &mut space.slots,
+        &mut space.open,
+        &mut space.totals,
         request,
         pruner,
         MIN_REPORT,
     )?;
-    walk_function(
-        &world,
-        cells,
-        slots,
-        open,
-        totals,
-        begun.function,
-        begun.sum,
-    )
+    walk_function(&world, space, begun.function, begun.sum)
 }
 
 // The request of a module that was read, asked of a fresh pruner.
 pub fn walk_read(
     file: &File,
     places: &mut [u32; PLACES],
-    cells: &mut [u32; CELLS],
-    slots: &mut [u32; SLOTS],
-    open: &mut [u8; MIN_REPORT],
+    space: &mut Workspace,
     request: &[u8],
 ) -> Outcome
     requires { WasRead file.now.bytes file.now.t }
-    ensures { TextIs (request_text (module_of file.now.bytes file.now.t) (read_request (module_of file.now.bytes file.now.t) min_report request.now)) file.now.bytes file.now.t request.now places.new cells.new slots.new «open».new result }
+    ensures { TextIs (request_text (module_of file.now.bytes file.now.t) (read_request (module_of file.now.bytes file.now.t) min_report request.now)) file.now.bytes file.now.t request.now places.new space.new.cells space.new.slots space.new.open result }
 {
     let mut table: [u32; TYPE_WORDS * MAX_TYPES] = [0; TYPE_WORDS * MAX_TYPES];
-    let mut totals: [u8; TOTALS_SIZE] = [0; TOTALS_SIZE];
     let n = file.types() as usize;
     let e = TYPE_WORDS * n;
-    walk_request(
-        file,
-        &mut table[0..e],
-        places,
-        cells,
-        slots,
-        open,
-        &mut totals,
-        request,
-    )
+    walk_request(file, &mut table[0..e], places, space, request)
 }
 
 // The module of an input, in front of the request.

@@ -9,10 +9,11 @@ ghost use Rattle.report.specs.Outcome.{TextIs};
 
 use crate::outcome::{Outcome, behind};
 use access::file::File;
+use block::workspace::Workspace;
 use check_text::check::check_report;
 use check_text::line::write_check;
 use lines::report::{write_refused, write_report_text};
-use memory::layout::{CELLS, SLOTS, STACK};
+use memory::layout::STACK;
 
 // What `report` prints for the input, from what its walk has left; the answer is how long it is. The check comes last: it works in the walk's memory.
 pub fn write_text(
@@ -20,12 +21,10 @@ pub fn write_text(
     input: &[u8],
     file: &File,
     places: &[u32],
-    cells: &mut [u32; CELLS],
-    slots: &mut [u32; SLOTS],
-    open: &[u8],
+    space: &mut Workspace,
     outcome: Outcome,
 ) -> usize
-    requires text_is { TextIs (report_input input.now) file.now.bytes file.now.t (request_in input.now) places.now cells.old slots.old «open».now outcome }
+    requires text_is { TextIs (report_input input.now) file.now.bytes file.now.t (request_in input.now) places.now space.old.cells space.old.slots space.old.open outcome }
     requires max_line_in_bounds { max_text + max_line ≤ length out.old }
     ensures { Front out.old out.new (report_input input.now) result }
 {
@@ -37,14 +36,21 @@ pub fn write_text(
                 out,
                 file,
                 places,
-                cells,
-                slots,
-                open,
+                &space.cells,
+                &space.slots,
+                &space.open,
                 reported.function,
                 k,
                 reported.required,
             );
-            let verdict = check_report(file, cells, slots, open, k, behind(input));
+            let verdict = check_report(
+                file,
+                &mut space.cells,
+                &mut space.slots,
+                &space.open,
+                k,
+                behind(input),
+            );
             write_check(out, end, verdict)
         }
     }

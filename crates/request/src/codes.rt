@@ -5,7 +5,17 @@ ghost use Rattle.request.specs.Codes.{CodeWasRead, IndexWasRead};
 use crate::record::field;
 use field::limits::{ABSENT, MAX_ENTRIES};
 
-// What a part's code says: of code 2, how many entries follow it.
+// What stands where a part's code does.
+pub const ALL_CODE: u16 = 0;
+
+pub const EXIST_CODE: u16 = 1;
+
+pub const ENTRIES_CODE: u16 = 2;
+
+// Of a return part alone: nothing is returned.
+pub const NO_RETURN: u16 = 3;
+
+// What a part's code says: of `ENTRIES_CODE`, how many entries follow it.
 #[derive(Clone, Copy, PartialEq, Eq)]
 pub enum Code {
     All,
@@ -19,13 +29,13 @@ pub fn part_code(bytes: &[u8], at: usize, depth: usize) -> Option<Code>
     ensures { CodeWasRead bytes.now at depth result }
 {
     let code = field(bytes, at)?;
-    if code == 0 {
+    if code == ALL_CODE {
         return Some(Code::All);
     }
-    if code == 1 {
+    if code == EXIST_CODE {
         return Some(Code::Exist);
     }
-    if code != 2 || depth == 0 {
+    if code != ENTRIES_CODE || depth == 0 {
         return None;
     }
     let count = field(bytes, at + 2)? as usize;

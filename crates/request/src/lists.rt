@@ -8,12 +8,12 @@ ghost use Rattle.context.specs.RequiredContext.{return_entry};
 ghost use Rattle.request.specs.Part.{read_part, read_entries, read_return, read_variables};
 ghost use Rattle.request.specs.Answers.{from, optional, sorted, skimmed, Held, RoomFor, OptionWasRead};
 
-use crate::codes::entry_index;
+use crate::codes::{NO_RETURN, entry_index};
 use crate::parts::read_part;
 use crate::record::field;
 use field::limits::MAX_DEPTH;
 use part::limits::SPINE;
-use part::store::make;
+use part::store::{EMPTY_PIECE, make};
 
 // The return part: its piece, where there is one, and where the next field stands.
 pub fn read_return(cells: &mut [u32], bytes: &[u8], at: usize) -> Option<(Option<u32>, usize)>
@@ -21,7 +21,7 @@ pub fn read_return(cells: &mut [u32], bytes: &[u8], at: usize) -> Option<(Option
     requires at_in_bounds { (at ≤ length bytes.now) × RoomFor cells.old bytes.now at }
     ensures { OptionWasRead cells.old cells.new bytes.now at (read_return (from bytes.now at)) result }
 {
-    if field(bytes, at)? == 3 {
+    if field(bytes, at)? == NO_RETURN {
         return Some((None, at + 2));
     }
     let (p, next) = read_part(cells, bytes, at, MAX_DEPTH)?;
@@ -66,7 +66,7 @@ fn read_known(
     ensures { OptionWasRead cells.old cells.new bytes.now at (sorted limit (read_entries (read_part max_depth) spine low n (from bytes.now at))) result }
 {
     if n == 0 {
-        return Some((Some(2), at));
+        return Some((Some(EMPTY_PIECE), at));
     }
     let i = entry_index(bytes, at, low)?;
     if limit <= i {
@@ -103,7 +103,7 @@ pub fn returned(cells: &mut [u32], retval: Option<u32>) -> u32
     ensures { Made cells.old cells.new (return_entry (optional cells.old retval)) 1 result }
 {
     match retval {
-        None => 2,
-        Some(p) => make(cells, SPINE, p, 2),
+        None => EMPTY_PIECE,
+        Some(p) => make(cells, SPINE, p, EMPTY_PIECE),
     }
 }

@@ -6,7 +6,7 @@ ghost use Rattle.request.specs.Part.{read_part, read_entries};
 ghost use Rattle.request.specs.Answers.{from, RoomFor, PartWasRead};
 
 use crate::codes::{Code, entry_index, part_code};
-use part::store::make;
+use part::store::{ALL_PIECE, EMPTY_PIECE, EXIST_PIECE, make};
 
 // A part at most `depth` deep, from the byte `at` on: its piece, and where the next field stands.
 #[cycle(read_entries_read_part)]
@@ -16,8 +16,8 @@ pub fn read_part(cells: &mut [u32], bytes: &[u8], at: usize, depth: usize) -> Op
     ensures { PartWasRead cells.old cells.new bytes.now (at + 2) (read_part depth (from bytes.now at)) result }
 {
     match part_code(bytes, at, depth)? {
-        Code::All => Some((0, at + 2)),
-        Code::Exist => Some((1, at + 2)),
+        Code::All => Some((ALL_PIECE, at + 2)),
+        Code::Exist => Some((EXIST_PIECE, at + 2)),
         Code::Entries(n) => read_entries(cells, bytes, at + 2 + 2, depth - 1, 0, n),
     }
 }
@@ -37,7 +37,7 @@ fn read_entries(
     ensures { PartWasRead cells.old cells.new bytes.now at (read_entries (read_part depth) 0 low n (from bytes.now at)) result }
 {
     if n == 0 {
-        return Some((2, at));
+        return Some((EMPTY_PIECE, at));
     }
     let i = entry_index(bytes, at, low)?;
     let (p, next) = read_part(cells, bytes, at + 2, depth)?;

@@ -10,10 +10,11 @@ ghost use Rattle.request.specs.Context.{write_context};
 ghost use Rattle.request.specs.Request.{write_request};
 ghost use Rattle.request.specs.Written.{Fits, Written};
 
+use crate::codes::{ENTRIES_CODE, NO_RETURN};
 use context::required_context::RequiredContext;
 use field::field::{write, write_word};
 use module::handles::FunctionHandle;
-use part::store::{look, width};
+use part::store::{EMPTY_PIECE, EXIST_PIECE, look, width};
 
 // The lowest 16 bits.
 fn field_of(x: u32) -> u16
@@ -30,11 +31,12 @@ pub fn write_part(cells: &[u32], n: u32, out: &mut [u8], at: usize) -> usize
     requires fits { Fits out.old at (write_part (part cells.now n)) }
     ensures { Written out.old out.new at (write_part (part cells.now n)) result }
 {
-    if n < 2 {
+    // all and exist have their number for a code
+    if n <= EXIST_PIECE {
         write(out, at, n as u16);
         return at + 2;
     }
-    write(out, at, 2);
+    write(out, at, ENTRIES_CODE);
     write(out, at + 2, field_of(width(cells, n)));
     write_entries(cells, n, out, at + 4)
 }
@@ -49,7 +51,8 @@ fn write_entries(cells: &[u32], n: u32, out: &mut [u8], at: usize) -> usize
 {
     let mut m = n;
     let mut next = at;
-    while 2 < m {
+    // Stays: the list goes by the numbers in its cells, and nothing says how long it is.
+    while EMPTY_PIECE < m {
         let x = look(cells, m);
         write(out, next, field_of(x.index));
         next = write_part(cells, x.child, out, next + 2);
@@ -64,8 +67,8 @@ pub fn write_return(cells: &[u32], n: u32, out: &mut [u8], at: usize) -> usize
     requires fits { Fits out.old at (write_return (part cells.now n)) }
     ensures { Written out.old out.new at (write_return (part cells.now n)) result }
 {
-    if n < 3 {
-        write(out, at, 3);
+    if n <= EMPTY_PIECE {
+        write(out, at, NO_RETURN);
         return at + 2;
     }
     let x = look(cells, n);

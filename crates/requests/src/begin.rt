@@ -18,6 +18,7 @@ use memory::layout::{GLOBALS, STACK, TOTALS};
 use memory::memory::{init_memory, tidy, weigh};
 use memory::stretches::save_context;
 use module::handles::FunctionHandle;
+use part::store::EMPTY_PIECE;
 use pruner::lent::read_pruner;
 use request::lists::returned;
 use request::requests::{Request, read_request};
@@ -38,8 +39,8 @@ fn load_base(cells: &mut [u32], slots: &mut [u32], q: Request)
     let entry = returned(cells, retval);
     let base = RequiredContext {
         globals: q.globals,
-        locals: 2,
-        args: 2,
+        locals: EMPTY_PIECE,
+        args: EMPTY_PIECE,
         retval: entry,
     };
     save_context(slots, STACK, base);

@@ -4,6 +4,7 @@ ghost use Rattle.requests.specs.Served.{WalkingOf, WalkedOf, ServedOf};
 use crate::answer::MIN_ANSWER;
 use crate::begin::begin_request;
 use crate::finish::{Reply, finish_request, nowhere};
+use block::workspace::Workspace;
 use block::world::World;
 use field::limits::MIN_REPORT;
 use field::refusal::Refusal;
@@ -17,25 +18,19 @@ use state::answer::{Place, Tally};
 // The walk of f, and how it ends.
 fn walk_request(
     world: &World,
-    cells: &mut [u32; CELLS],
-    slots: &mut [u32; SLOTS],
-    open: &mut [u8; MIN_REPORT],
-    totals: &mut [u8; TOTALS_SIZE],
+    space: &mut Workspace,
     f: FunctionHandle,
     sum: usize,
     pruner: &mut [u8],
     report: &mut [u8],
     answer: &mut [u8],
 ) -> Reply
-    requires { WalkingOf world.now cells.old slots.old «open».old totals.old f.0 sum pruner.old report.old answer.old }
-    ensures { WalkedOf world.now cells.old slots.old «open».old totals.old f.0 sum pruner.old report.old answer.old result pruner.new report.new answer.new }
+    requires { WalkingOf world.now space.old f.0 sum pruner.old report.old answer.old }
+    ensures { WalkedOf world.now space.old f.0 sum pruner.old report.old answer.old result pruner.new report.new answer.new }
 {
     let walked = add_function(
         world,
-        cells,
-        slots,
-        open,
-        totals,
+        space,
         f,
         STACK,
         Place::Nowhere,
@@ -45,10 +40,10 @@ fn walk_request(
     finish_request(
         world.file,
         world.places,
-        cells,
-        slots,
-        open,
-        totals,
+        &space.cells,
+        &space.slots,
+        &space.open,
+        &space.totals,
         f,
         STACK,
         walked,
@@ -61,10 +56,7 @@ fn walk_request(
 // The request in a walk's memory. A refusal leaves the three buffers.
 fn serve_in(
     world: &World,
-    cells: &mut [u32; CELLS],
-    slots: &mut [u32; SLOTS],
-    open: &mut [u8; MIN_REPORT],
-    totals: &mut [u8; TOTALS_SIZE],
+    space: &mut Workspace,
     request: &[u8],
     pruner: &mut [u8],
     report: &mut [u8],
@@ -75,10 +67,10 @@ fn serve_in(
     let begun = match begin_request(
         world.file,
         world.places,
-        cells,
-        slots,
-        open,
-        totals,
+        &mut space.cells,
+        &mut space.slots,
+        &mut space.open,
+        &mut space.totals,
         request,
         pruner,
         report.len(),
@@ -94,10 +86,7 @@ fn serve_in(
     }
     walk_request(
         world,
-        cells,
-        slots,
-        open,
-        totals,
+        space,
         begun.function,
         begun.sum,
         pruner,
@@ -116,19 +105,11 @@ pub fn serve_read(
 ) -> Reply
     ensures { ServedOf world.now request.now pruner.old report.old answer.old result pruner.new report.new answer.new }
 {
-    let mut cells: [u32; CELLS] = [0; CELLS];
-    let mut slots: [u32; SLOTS] = [0; SLOTS];
-    let mut open: [u8; MIN_REPORT] = [0; MIN_REPORT];
-    let mut totals: [u8; TOTALS_SIZE] = [0; TOTALS_SIZE];
-    serve_in(
-        world,
-        &mut cells,
-        &mut slots,
-        &mut open,
-        &mut totals,
-        request,
-        pruner,
-        report,
-        answer,
-    )
+    let mut space = Workspace {
+        cells: [0; CELLS],
+        slots: [0; SLOTS],
+        open: [0; MIN_REPORT],
+        totals: [0; TOTALS_SIZE],
+    };
+    serve_in(world, &mut space, request, pruner, report, answer)
 }

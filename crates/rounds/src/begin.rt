@@ -9,6 +9,7 @@ use access::file::File;
 use forms::trim::{trim_globals, trim_value};
 use hold::hold::copy;
 use module::handles::FunctionHandle;
+use part::store::EMPTY_PIECE;
 use standing::passing::{ASKED, END, STACK, TABLE};
 
 // Neither table has needs.
@@ -17,7 +18,7 @@ fn clear_tables(roots: &mut [u32])
     ensures { Cleared roots.old roots.new }
 {
     for j in 0..ASKED {
-        roots[j] = 2;
+        roots[j] = EMPTY_PIECE;
     }
 }
 

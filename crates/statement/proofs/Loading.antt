@@ -78,7 +78,7 @@ module _ {bytes t s rs : List ℕ} {fr : Frame} {result : Option ℕ} (q : Loadi
           ∙ ap (λ (k : ℕ). memory.record_of (get_or (read s rs) k none)) z
           ∙ ap memory.record_of (read_at s rs (exprs_slot + n) slot.0)))
 
-      pub load_none : {x : ℕ} → x ≡ get_or rs (exprs_slot + n) 0 → x < 3 → record_of (records_in t exprs_slot fr.function.0 (read s rs)) result ≡ gone
+      pub load_none : {x : ℕ} → x ≡ get_or rs (exprs_slot + n) 0 → x ≤ 2 → record_of (records_in t exprs_slot fr.function.0 (read s rs)) result ≡ gone
       load_none {x} h l = is ∙ low_gone s (get_or rs (exprs_slot + n) 0) (omega (arith, h, l))
 
       pub load_there : {c : ℕ} → 3 ≤ get_or rs (exprs_slot + n) 0 → (c < top s) × (part s c ≡ kid (part s (get_or rs (exprs_slot + n) 0)))

@@ -17,6 +17,7 @@ use access::kinded::Kinded;
 use memory::layout::{ASK, EXPRS, RESULT};
 use memory::want::kid;
 use module::handles::ExpressionHandle;
+use part::store::EMPTY_PIECE;
 use state::answer::{Answered, Tally};
 use state::frame::Frame;
 
@@ -35,7 +36,7 @@ pub fn record_of(
     let f = fr.function;
     let number = file.expression_number(f, e);
     let n = slots[EXPRS + number];
-    if n < 3 {
+    if n <= EMPTY_PIECE {
         return None;
     }
     Some(kid(cells, n))

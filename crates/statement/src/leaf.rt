@@ -21,6 +21,7 @@ use state::answer::{Answered, Tally};
 use state::frame::Frame;
 
 // `add_statement`, of a leaf. A break and a continue leave the block, as does a kind past the last: it is a break's.
+// It is not inlined: the walk calls itself, and would hold its frame on every level of blocks.
 #[inline(never)]
 pub fn add_leaf(
     file: &File,

@@ -16,6 +16,9 @@ use module::kinds::StatementKind;
 use state::answer::{Answered, Tally};
 use state::frame::Frame;
 
+// The mode of a gather that names an expression.
+const BROADCAST: u16 = 1;
+
 // The target, and what is asked of where it is needed, absent where a kind has no such field.
 #[derive(Clone, Copy)]
 pub struct Ray {
@@ -31,7 +34,7 @@ fn gather_fields(file: &File, row: Kinded) -> Ray
     let mode = file.operand(row, 0);
     let first = file.expression_operand(row, 1);
     let second = file.expression_operand(row, 2);
-    if mode == 1 {
+    if mode == BROADCAST {
         return Ray {
             target: file.expression_operand(row, 3),
             first: Some(first),

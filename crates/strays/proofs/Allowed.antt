@@ -20,11 +20,11 @@ pub none_is : exits_of (record { broke = false; continued = false; returned = fa
 unfolding exits_of only_next
 none_is = fun_ext (by_exit _ _ refl refl refl refl)
 
-module _ (e : Exits Bool) where
-  pub case_is : exits_of (case_to true e) ≡ in_case (exits_of e)
+module _ (e : Exits Bool) {x : Exits Bool} where
+  pub case_is : x ≡ case_to true e → exits_of x ≡ in_case (exits_of e)
   unfolding exits_of in_case
-  case_is = fun_ext (by_exit _ _ refl refl refl refl)
+  case_is h = rw h (fun_ext (by_exit _ _ refl refl refl refl))
 
-  pub body_is : exits_of (body_to true true e) ≡ in_body (exits_of e)
+  pub body_is : x ≡ body_to true true e → exits_of x ≡ in_body (exits_of e)
   unfolding exits_of in_body
-  body_is = fun_ext (by_exit _ _ refl refl refl refl)
+  body_is h = rw h (fun_ext (by_exit _ _ refl refl refl refl))

@@ -10,7 +10,7 @@ ghost use Rattle.strays.specs.Lower.{lower_of};
 ghost use Rattle.strays.specs.Exits.{exits_of};
 ghost use Rattle.strays.specs.Places.{BlockOf, StatementIn, CasesIn, stray_block, stray_statement, stray_cases};
 
-use crate::exits::{Exits, at_top, in_body, in_case, none};
+use crate::exits::{Exits, at_top, none};
 use crate::lower::lower_unless;
 use access::file::File;
 use access::kinded::Kinded;
@@ -57,12 +57,12 @@ fn stray_statement(
             let rejected = stray_block(file, f, file.block_operand(row, 2), e, low);
             stray_block(file, f, file.block_operand(row, 1), e, rejected)
         }
-        Ok(StatementKind::Switch) => stray_cases(file, f, b, row, in_case(e), low),
+        Ok(StatementKind::Switch) => stray_cases(file, f, b, row, e.in_case(true), low),
         Ok(StatementKind::Loop) => {
             let last = file.block_operand(row, 1);
             let continuing = stray_block(file, f, last, none(), low);
             let body = file.block_operand(row, 0);
-            stray_block(file, f, body, in_body(e), continuing)
+            stray_block(file, f, body, e.in_body(true, true), continuing)
         }
         Ok(StatementKind::Continue) => lower_unless(e.continued, s, low),
         Ok(StatementKind::Return) => lower_unless(e.returned, s, low),

@@ -1,7 +1,7 @@
 // Something for each exit of a stretch: whether it has a target, or the slot of its target's needs.
 ghost use Rattle.std.specs.Prelude.{◌≡◌};
 ghost use Rattle.clearance.specs.Needs.{only_next};
-ghost use Rattle.clearance.specs.Judged.{at_top, in_case, in_body};
+ghost use Rattle.clearance.specs.Judged.{at_top};
 ghost use Rattle.strays.specs.Exits.{exits_of, case_to, body_to};
 
 #[derive(Clone, Copy)]
@@ -41,18 +41,6 @@ pub fn at_top() -> Exits<bool>
         continued: false,
         returned: true,
     }
-}
-
-pub fn in_case(e: Exits<bool>) -> Exits<bool>
-    ensures { exits_of result ≡ in_case (exits_of e) }
-{
-    e.in_case(true)
-}
-
-pub fn in_body(e: Exits<bool>) -> Exits<bool>
-    ensures { exits_of result ≡ in_body (exits_of e) }
-{
-    e.in_body(true, true)
 }
 
 // Nothing leaves a continuing block.

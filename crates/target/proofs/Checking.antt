@@ -21,7 +21,7 @@ use Rattle.walk.specs.Resolve.{needed, needed_at, check_part, store_required}
 use Rattle.walk.proofs.Keeps.{Needs}
 use Rattle.walk.proofs.Limits.{Few, store_few}
 use Rattle.walk.proofs.Proper.{proper, asked_fine, fine_context}
-use Rattle.target.specs.Target.{subpart_of, HasFound}
+use Rattle.target.specs.Target.{subpart_of}
 use Rattle.target.specs.declared.resolve.Target.{Target}
 
 -- where nothing is needed of the whole, nothing is needed of a part
@@ -52,10 +52,6 @@ got_is : (s : List ℕ) (p : Subpart) (f : Option ℕ) → Got s p f → subpart
 got_is s p None h = sym h
 got_is s p (Some n) h = sym h.1
 
-got_has : (s : List ℕ) (p : Subpart) (f : Option ℕ) → Got s p f → HasFound s f
-got_has s p None h = tt
-got_has s p (Some n) h = h.0
-
 -- of the part q the piece n is left, and p is needed of what has that part
 pub record Checking (s : List ℕ) (q whole n p : ℕ) : Type 0 where
   pub left_in : n < top s
@@ -65,9 +61,6 @@ pub record Checking (s : List ℕ) (q whole n p : ℕ) : Type 0 where
 module _ (s : List ℕ) (q : ℕ) (f : Option ℕ) where
   pub checking_none : f ≡ None → check_part (part s q) (subpart_of s f) ≡ gone
   checking_none e = rw e (check_gone (part s q))
-
-  pub checking_start : {whole : ℕ} → q < top s → HasFound s f → f ≡ Some whole → Checking s q whole q whole
-  checking_start l h e = record { left_in = l; right_in = subst (HasFound s) e h; is = refl }
 
 module _ {s : List ℕ} {q whole n p : ℕ} {f : Option ℕ} (e : f ≡ Some whole) (a : Checking s q whole n p) where
   answer : (r : Option ℕ) → Got s (check_part (part s n) (there (part s p))) r → Got s (check_part (part s q) (subpart_of s f)) r
@@ -117,9 +110,6 @@ store_is c (Global g) q = refl
 store_is c (Local l) q = refl
 
 module _ (s : List ℕ) (c : Pieces) (x : Target) (g : Option ℕ) (h : Got s (required (context_of s c) (variable_of x.var)) g) where
-  pub store_asks : Good s → x.part < top s → Good s × ((x.part < top s) × HasFound s g)
-  store_asks good l = (good, (l, got_has s _ g h))
-
   pub store_checks : (r : Option ℕ) → Got s (check_part (part s x.part) (subpart_of s g)) r → Got s (store_required (context_of s c) (variable_of x.var) (part s x.part)) r
   store_checks r = subst (λ (p : Subpart). Got s p r) (rw (got_is s _ g h) (sym (store_is (context_of s c) (variable_of x.var) (part s x.part))))
 

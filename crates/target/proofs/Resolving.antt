@@ -10,7 +10,7 @@ use lib.Seq.{get_or_at}
 use Rattle.field.specs.Limits.{max_depth, max_expressions}
 use Rattle.part.specs.PartReq.{PartReq, all, none, more, from_first, from_indexes, entries, over, spine}
 use Rattle.part.specs.Limited.{Plain}
-use Rattle.part.specs.Store.{top, part, Good, Kept, Room, Made}
+use Rattle.part.specs.Store.{top, part, Good, Kept, Made}
 use Rattle.part.proofs.Pieces.{part-0, part-2}
 use Rattle.part.proofs.Indexes.{from_indexes-path}
 use Rattle.part.proofs.Sizes.{limited}
@@ -125,11 +125,6 @@ module _ (bytes words : List ℕ) (read : read_module bytes ≡ accepted (module
     | index k ↦ rw q (operands k).0
     | value k ↦ rw q (operands k).0
   ]
-
-  pub base_asks : r.kind ≡ 3 → Room s max_expressions → Good t × (Room t 1 × ((n < top t) × (2 < top t)))
-  base_asks k room =
-      let below = falls (index k) refl in
-      (a.kept.good, (omega (arith, below, a.cost, a.few, a.kept.long), (a.piece, omega (arith, a.kept.good.base))))
 
   next : {u : List ℕ} {b k : ℕ} {p : PartReq} (indexes : List ℕ) → b < e → Made t u p 1 k → p ≡ from_indexes indexes → Plain (from_indexes indexes) → resolve_var (module_of bytes words) f b indexes ≡ resolve_var (module_of bytes words) f whole [] → Resolving (module_of bytes words) f whole s u b k
   next indexes l d same plain rest =

@@ -3,27 +3,22 @@ use Prim.Native.Nat.{ℕ, ◌<◌}
 use mathlib.Core.Path.{◌≡◌, sym, ap, ◌∙◌, subst}
 use mathlib.Core.List.{List}
 use lib.ListN.{length, get_or}
-use Rattle.part.specs.PartReq.{PartReq, spine}
-use Rattle.part.specs.Store.{top, part, Good, Room}
+use Rattle.part.specs.PartReq.{PartReq}
 use Rattle.module.specs.Module.{FunctionHandle, Function, TypeInner}
 use Rattle.module.specs.declared.handles.GlobalHandle.{GlobalHandle}
 use Rattle.module.specs.declared.handles.LocalHandle.{LocalHandle}
-use Rattle.module.specs.File.{accepted, read_module}
 use Rattle.module.specs.Tables.{function_of, module_of}
 use Rattle.access.specs.Access.{global_at, local_at}
 use Rattle.access.proofs.Access.{global_is, function_is, local_is}
-use Rattle.valid.proofs.Accepted.{valid}
-use Rattle.context.specs.Types.{types_of, AllSized}
-use Rattle.context.specs.RequiredContext.{RequiredContext, VarRef, handle, variable_type, remove_typed, remove_var}
-use Rattle.context.specs.Contexts.{context_of, HasContext, variable_of, TookContext, take_room}
+use Rattle.context.specs.Types.{types_of}
+use Rattle.context.specs.RequiredContext.{RequiredContext, VarRef, variable_type, remove_typed, remove_var}
+use Rattle.context.specs.Contexts.{variable_of, TookContext}
 use Rattle.context.specs.declared.required_context.RequiredContext.{RequiredContext as Pieces}
 use Rattle.context.specs.declared.required_context.VarRef.{VarRef as Variable}
 use Rattle.context.specs.declared.required_context.VarRef.TheVariants as variables
 use Rattle.std.specs.Prelude.{Option}
-use Rattle.type_table.proofs.AllSized.{all_sized}
 use Rattle.walk.specs.Resolve.{function_at}
-use Rattle.target.specs.Target.{Sees, HasTarget}
-use Rattle.target.specs.declared.resolve.Target.{Target}
+use Rattle.target.specs.Target.{Sees}
 
 module _ (bytes t : List ℕ) (f : FunctionHandle) {var : Variable} {r : ℕ} where
   pub global-type : {g : GlobalHandle} → var ≡ variables.Global g → Sees (module_of bytes t) f (variable_of var) → r ≡ global_at bytes t g.0 → r ≡ variable_type (module_of bytes t) (function_at (module_of bytes t) f) (variable_of var)
@@ -38,12 +33,6 @@ module _ (bytes t : List ℕ) (f : FunctionHandle) {var : Variable} {r : ℕ} wh
       let there : l.0 < length (function_at (module_of bytes t) f).locals = rw e at h in
       let inside : l.0 < length (function_of bytes t f).locals = subst (λ (x : Function). l.0 < length x.locals) same there in
       rw e (q ∙ sym (ap (λ (x : Function). get_or x.locals l.0 0) same ∙ local_is bytes t f l.0 0 inside))
-
-module _ (bytes t types : List ℕ) (table : types_of types ≡ (module_of bytes t).types) {s : List ℕ} {c : Pieces} {f : FunctionHandle} {x : Target} where
-  pub take_asks : read_module bytes ≡ accepted (module_of bytes t) → Good s → HasContext s c → HasTarget (module_of bytes t) f s x → Room s (take_room (context_of s c) (part s x.part))
-      → Good s × (AllSized (types_of types) × ((HasContext s c × ((handle (variable_of x.var) < spine) × (x.part < top s))) × Room s (take_room (context_of s c) (part s x.part))))
-  take_asks read g h a room =
-      (g, (rw table (all_sized (module_of bytes t) (valid bytes (module_of bytes t) read)), ((h, (a.low, a.piece)), room)))
 
 module _ (bytes t types : List ℕ) (table : types_of types ≡ (module_of bytes t).types) (f : FunctionHandle) (d : RequiredContext) (var : VarRef) (q : PartReq) where
   pub taken : {s u : List ℕ} {k ty : ℕ} {r : Option Pieces} → ty ≡ variable_type (module_of bytes t) (function_at (module_of bytes t) f) var → TookContext s u (remove_typed (types_of types) d var ty q) k r → TookContext s u (remove_var (module_of bytes t) (function_at (module_of bytes t) f) d var q) k r

@@ -35,6 +35,7 @@ pub fn resolve_var(
 {
     let mut x = e;
     let mut p = ALL_PIECE;
+    // Stays: each pointer names the next; nothing is counted.
     loop {
         let row = file.expression(f, x);
         match ExpressionKind::try_from(row.kind) {

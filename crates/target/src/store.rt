@@ -27,6 +27,7 @@ pub fn check_part(cells: &[u32], q: u32, required: Option<u32>) -> Option<u32>
     let whole = required?;
     let mut n = q;
     let mut p = whole;
+    // Stays: an entry names the next, below it; nothing is counted.
     while EMPTY_PIECE < n {
         let x = look(cells, n);
         if p == ALL_PIECE {

@@ -11,6 +11,7 @@ use module::tables::WORDS;
 use reading::read::{HELD, SEEN};
 
 // The bindings list of a context of the function f.
+// Stays: the function comes in as a number, as C has it. It is one of the module's only once the module is read, which is tested there.
 #[unsafe(no_mangle)]
 pub extern "C" fn tickingtor_input_to_bindings(
     bytes: &[u8],

@@ -10,6 +10,7 @@ use module::tables::WORDS;
 use reading::read::{HELD, SEEN};
 
 // The request that asks for these bindings of the function f.
+// Stays: the function comes in as a number, as C has it. It is one of the module's only once the module is read, which is tested there.
 #[unsafe(no_mangle)]
 pub extern "C" fn tickingtor_output_from_bindings(
     bytes: &[u8],

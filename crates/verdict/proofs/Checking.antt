@@ -133,9 +133,6 @@ module _ (S : Scope) (R : Request) (P : Report) where
   checked-shaped h = rw (h, checked)
 
 module _ {bytes t : List ℕ} {f : ℕ} {rows alike held paths firsts s rs path : List ℕ} {g v : ℕ} (A : Asked bytes t f rows alike held paths firsts s rs path g v) where
-  pub asked_there : There bytes t f
-  asked_there = record { read = A.was_read.module_is; there = A.stored.there }
-
   same_scope : scope_of (module_of bytes t) f ≡ scope_at bytes t f
   unfolding function_at
   same_scope = rw (function_is bytes t f _ A.stored.there)
@@ -197,9 +194,6 @@ module _ {m : Module} {request context u : List ℕ} {a : Result Heard Refusal} 
 
   heard_is : {h : Heard} → a ≡ Ok h → Accepted m request context u h.function.0 h.globals h.value
   heard_is e = rw e at H.by
-
-  pub read_checked : {h : Heard} {w : Answer} → a ≡ Ok h → ReportChecked m u h.function.0 h.globals h.value report context w → w ≡ answer_to (meaning_by m report (request_of request) (context_of context))
-  read_checked e C = let A = heard_is e in rw (A.is report) (C.is A.given A.given_is)
 
   pub read_asks : {bytes t : List ℕ} {h : Heard} {rows alike held paths firsts s rs path : List ℕ} → WasRead bytes t → Working rows alike held paths firsts s rs path → module_of bytes t ≡ m → length u ≡ length s →
       a ≡ Ok h → Asked bytes t h.function.0 rows alike held paths firsts u rs path h.globals h.value

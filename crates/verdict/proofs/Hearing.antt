@@ -22,7 +22,7 @@ use Rattle.context.specs.RequiredContext.{RequiredContext, pieces, return_entry}
 use Rattle.request.specs.Fields.{refused, accepted}
 use Rattle.request.specs.Request.{Request, asking, request_of, known, judge}
 use Rattle.request.specs.Context.{context_of, known_context, judge_context, read_context}
-use Rattle.request.specs.Answers.{optional, RequestHeld, RequestWasRead}
+use Rattle.request.specs.Answers.{optional, RequestHeld}
 use Rattle.std.specs.Prelude.{Option as Maybe, Some, None, Result, Ok, Err, unwrap_or}
 use Rattle.field.specs.Refusal.{number}
 use Rattle.field.specs.declared.refusal.Refusal.{Refusal}
@@ -78,8 +78,8 @@ status_is {bytes} {t} {f} context T hg ha hl e = rw (function_is bytes t f _ T.t
 
 -- The request
 
-pub loaded_long : {s : List ℕ} (functions globals : ℕ) (request : List ℕ) → Good s → 4 + field_at request 2 < length request → Loaded functions globals request s (Err Malformed)
-loaded_long functions globals request G h = record { good = G; is = sym (long_refused functions globals min_report request h); pieces = tt }
+pub loaded_long : {s : List ℕ} {e : Refusal} (functions globals : ℕ) (request : List ℕ) → Good s → (number e ≡ 12) × (4 + field_at request 2 < length request) → Loaded functions globals request s (Err e)
+loaded_long functions globals request G h = record { good = G; is = rw h.0 (sym (long_refused functions globals min_report request h.1)); pieces = tt }
 
 pub reading_room : {s : List ℕ} (request : List ℕ) {k : ℕ} → k ≡ length s → Store s → length request ≤ 4 + absent → {n : ℕ} → n ≡ 3 → cell_words * n + table_words + 2 * length request ≤ k + 2 * 0
 reading_room request e S h z = omega (arith, S.long)
@@ -87,10 +87,6 @@ reading_room request e S h z = omega (arith, S.long)
 held_pieces : (s t : List ℕ) (n : ℕ) (a : Result declared.Request Refusal) → top s ≡ 3 → n ≤ 4 + absent → RequestHeld s t n a → Pieces t n a
 held_pieces s t n (Err r) e l h = tt
 held_pieces s t n (Ok q) e l h = (h.0, h.1, omega (arith, h.2), l)
-
-pub loaded_read : {s t : List ℕ} {a : Result declared.Request Refusal} (functions globals : ℕ) (request : List ℕ) → top s ≡ 3 → length request ≤ 4 + absent →
-    RequestWasRead s t (length request) (judge functions globals min_report (request_of request)) a → Loaded functions globals request t a
-loaded_read {s} {t} {a} functions globals request e l W = record { good = W.kept.good; is = W.is; pieces = held_pieces s t (length request) a e l W.held }
 
 -- What the request's answer says of it
 

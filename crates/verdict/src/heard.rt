@@ -12,12 +12,12 @@ ghost use Rattle.verdict.specs.Heard.{Store, Loaded, ValuePiece, refused_first, 
 
 use access::file::File;
 use context_bytes::check::{check_context, without_function};
-use field::field::get;
 use field::limits::MIN_REPORT;
 use field::refusal::Refusal;
 use module::handles::FunctionHandle;
-use part::store::init;
+use part::store::{EMPTY_PIECE, init};
 use request::requests::{Request, read_request};
+use requests::begin::check_length;
 
 // The asked function, and the pieces that are asked of the globals and of the value.
 #[derive(Clone, Copy)]
@@ -38,10 +38,7 @@ fn load_request(
     ensures { Loaded functions globals request.now cells.new result }
 {
     init(cells);
-    // a request that is longer than it says is none
-    if 4 + (get(request, 2) as usize) < request.len() {
-        return Err(Refusal::Malformed);
-    }
+    check_length(request)?;
     read_request(cells, request, functions, globals, MIN_REPORT)
 }
 
@@ -49,7 +46,7 @@ fn load_request(
 fn value_piece(retval: Option<u32>) -> u32
     ensures { ValuePiece retval result }
 {
-    retval.unwrap_or(2)
+    retval.unwrap_or(EMPTY_PIECE)
 }
 
 // What refuses a request and a context, where e refuses the request: of what is not there, 12 of the context comes first.

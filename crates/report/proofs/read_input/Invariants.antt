@@ -1,5 +1,5 @@
 -- The loop keeps within the input, and each turn leaves less of it.
-use Rattle.std.proofs.Common.{length, ◌-◌, ◌≤◌, ◌≡◌, take, ℕ, ◌+◌, ◌*◌, ◌<◌}
+use Rattle.std.proofs.Common.{length, ◌-◌, ◌≤◌}
 use Rattle.report.proofs.read_input.Given as goal
 
 abbrev pub invariant-loop-done : goal.invariant-loop-done

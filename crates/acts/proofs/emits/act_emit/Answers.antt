@@ -1,21 +1,13 @@
 -- `acts::emits::act_emit` meets its contract: nothing is needed, or the expression's slot is taken out and its operands are asked (Emit).
 use mathlib.Core.Path.{◌∙◌}
 use Rattle.acts.proofs.Steps.{needs_some, acted_none}
-use Rattle.acts.proofs.Storing.{act_needing}
-use Rattle.acts.proofs.Emit.{path_room, lent-long, emit-take, emit-full, operands_given, operands_full, emit_copy, emit-left}
+use Rattle.acts.proofs.Emit.{path_room, lent-long, emit-take, emit-full, operands_given, operands_full, emit-left}
 use native.Mathlib.Omega.{arith}
 use Rattle.acts.proofs.emits.act_emit.Goals as goal
-
-pub emit_overlap-a-requires : goal.emit_overlap-a-requires
-emit_overlap-a-requires c =
-    record { needing = act_needing c.requires.act_given; e_in_bounds = c.requires.e_in_bounds; in_bounds = omega (arith, c.requires.act_given.room) }
 
 pub returns-then-not-is_some : goal.returns-then-not-is_some
 returns-then-not-is_some c =
     acted_none c.requires.act_given.ready c.emit_overlap-a.ensures c.is_some.ensures c.if-not-is_some.true
-
-pub evaluated_path-requires : goal.evaluated_path-requires
-evaluated_path-requires c = omega (arith, c.requires.act_given.room, c.emit_overlap-a.ensures.long)
 
 pub take_out-requires : goal.take_out-requires
 take_out-requires c =
@@ -33,10 +25,6 @@ ask_operands-requires c =
 pub returns-then-not-ask_operands : goal.returns-then-not-ask_operands
 returns-then-not-ask_operands c =
     record { step = operands_full c.requires.act_given c.requires.e_in_bounds (needs_some c.emit_overlap-a.ensures c.is_some.ensures c.if-not-is_some.false) c.evaluated_path.ensures.is c.take_out.ensures c.if-not-take_out.false c.ask_operands.ensures c.if-not-ask_operands.true; long = lent-long _ _ _ _ c.ask_operands.auto.path (c.evaluated_path.ensures.long ∙ c.emit_overlap-a.ensures.long) }
-
-pub copy-requires : goal.copy-requires
-copy-requires c =
-    emit_copy c.requires.act_given c.requires.e_in_bounds (needs_some c.emit_overlap-a.ensures c.is_some.ensures c.if-not-is_some.false) c.evaluated_path.ensures.is c.take_out.ensures c.if-not-take_out.false c.ask_operands.ensures c.if-not-ask_operands.false
 
 pub returns : goal.returns
 returns c =

@@ -1,7 +1,7 @@
 -- `acts::emits::pass_emits` meets its contract. The invariant: the expressions from the k-th on were walked (Emitting).
 use mathlib.Core.Path.{refl, ◌∙◌}
 use Rattle.acts.proofs.Places.{world_few}
-use Rattle.acts.proofs.Emitting.{emitted_none, emitted_on, emitted_full, emitted_all, back, mark_is, next_given}
+use Rattle.acts.proofs.Emitting.{emitted_none, emitted_on, emitted_full, emitted_all, back, mark_is}
 use native.Mathlib.Omega.{arith}
 use Rattle.acts.proofs.emits.pass_emits.Goals as goal
 
@@ -10,14 +10,6 @@ overflow_add-last c = omega (arith, c.requires.last_in_bounds, world_few c.requi
 
 pub loop-k-init : goal.loop-k-init
 loop-k-init c = (emitted_none _ _ _ _ _ c.requires.pass_given.ready c.requires.pass_given.going, refl)
-
-pub note-at-requires : goal.note-at-requires
-note-at-requires c =
-    record { live = c.loop-k.invariant.0.ready.live; n_nonzero = omega (arith, c.requires.pass_given.ready.high) }
-
-pub pass_emit-q-requires : goal.pass_emit-q-requires
-pass_emit-q-requires c =
-    record { pass_given = next_given c.requires.pass_given c.loop-k.invariant.0 c.note-at.ensures c.loop-k.invariant.1; e_in_bounds = omega (arith, c.saturating_sub-count.ensures, c.loop-k.invariant.0.low, c.requires.last_in_bounds) }
 
 pub returns-then-q : goal.returns-then-q
 returns-then-q c =

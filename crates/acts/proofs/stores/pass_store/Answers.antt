@@ -1,10 +1,7 @@
 -- `acts::stores::pass_store` meets its contract: marked, idle, or walked and blamed (Marked).
 use Rattle.acts.proofs.Storing.{store_pointer}
-use Rattle.acts.proofs.Marked.{here_given, hand_needing, above_asks, above_given, marked_on, marked_full, obeys_on, breaks_full, back_asks, breaks_on}
+use Rattle.acts.proofs.Marked.{here_given, hand_needing, above_asks, marked_on, marked_full, obeys_on, breaks_full, breaks_on}
 use Rattle.acts.proofs.stores.pass_store.Goals as goal
-
-pub act_store-requires : goal.act_store-requires
-act_store-requires c = record { act_given = here_given c.requires.pass_given; store_of = c.requires.store_of }
 
 pub returns-then-act_store : goal.returns-then-act_store
 returns-then-act_store c =
@@ -22,23 +19,9 @@ pub returns-then-store_idle : goal.returns-then-store_idle
 returns-then-store_idle c =
     obeys_on c.requires.pass_given.ready _ (c.store_idle.ensures c.args.v.0) c.if-marked.false c.requires.pass_given.going c.if-store_idle.true
 
-pub copy-requires : goal.copy-requires
-copy-requires c = above_asks c.requires.pass_given
-
-pub act_store-requires-2 : goal.act_store-requires-2
-act_store-requires-2 c =
-    record { act_given = above_given c.requires.pass_given c.copy.ensures (c.store_idle.ensures 0).long; store_of = c.requires.store_of }
-
 pub returns-then-not-act_store : goal.returns-then-not-act_store
 returns-then-not-act_store c =
     breaks_full c.requires.pass_given.ready _ (c.store_idle.ensures c.args.v.0) c.if-store_idle.false (above_asks c.requires.pass_given).1 c.copy.ensures c.act_store-2.ensures c.if-marked.false c.if-not-act_store.true c.filled-then-not-act_store.ensures
-
-pub copy-requires-2 : goal.copy-requires-2
-copy-requires-2 c =
-    back_asks c.requires.pass_given.ready c.args.l (c.store_idle.ensures c.args.v.0) c.if-store_idle.false (above_asks c.requires.pass_given).1 c.copy.ensures c.act_store-2.ensures c.if-not-act_store.false
-
-pub blame-requires : goal.blame-requires
-blame-requires c = c.requires.pass_given.low
 
 pub returns : goal.returns
 returns c =

@@ -1,9 +1,6 @@
 -- `acts::stores::store_at` meets its contract: a place taken out, and one ask (Storing).
-use Rattle.acts.proofs.Storing.{known_full, known_given, value_full, value_copy, known_left}
+use Rattle.acts.proofs.Storing.{known_full, known_given, value_full, known_left}
 use Rattle.acts.proofs.stores.store_at.Goals as goal
-
-pub take_out-requires : goal.take_out-requires
-take_out-requires c = c.requires.take
 
 pub returns-then-not-take_out : goal.returns-then-not-take_out
 returns-then-not-take_out c = known_full c.requires c.take_out.ensures c.if-not-take_out.true
@@ -14,10 +11,6 @@ ask_value-requires c = known_given c.requires c.take_out.ensures c.if-not-take_o
 pub returns-then-not-ask_value : goal.returns-then-not-ask_value
 returns-then-not-ask_value c =
     value_full c.requires c.take_out.ensures c.if-not-take_out.false c.ask_value.ensures c.if-not-ask_value.true
-
-pub copy-requires : goal.copy-requires
-copy-requires c =
-    value_copy c.requires c.take_out.ensures c.if-not-take_out.false c.ask_value.ensures c.if-not-ask_value.false
 
 pub returns : goal.returns
 returns c =

@@ -1,9 +1,6 @@
 -- `acts::stores::store_somewhere` meets its contract: a copy of the needs, and asks (Storing).
-use Rattle.acts.proofs.Storing.{same_asks, indexes_given, indexes_full, stored_given, stored_full, stored_copy, somewhere_left}
+use Rattle.acts.proofs.Storing.{indexes_given, indexes_full, stored_given, stored_full, somewhere_left}
 use Rattle.acts.proofs.stores.store_somewhere.Goals as goal
-
-pub copy-requires : goal.copy-requires
-copy-requires c = same_asks c.requires
 
 pub ask_indexes-requires : goal.ask_indexes-requires
 ask_indexes-requires c =
@@ -18,10 +15,6 @@ ask_value-requires c = stored_given c.requires c.copy.ensures c.ask_indexes.ensu
 pub returns-then-not-ask_value : goal.returns-then-not-ask_value
 returns-then-not-ask_value c =
     stored_full c.requires c.copy.ensures c.ask_indexes.ensures c.if-not-ask_indexes.false c.ask_value.ensures c.if-not-ask_value.true
-
-pub copy-requires-2 : goal.copy-requires-2
-copy-requires-2 c =
-    stored_copy c.requires c.copy.ensures c.ask_indexes.ensures c.if-not-ask_indexes.false c.ask_value.ensures c.if-not-ask_value.false
 
 pub returns : goal.returns
 returns c =

@@ -1,12 +1,13 @@
 -- `asking::ask::is_wanted` meets its contract.
 use Rattle.asking.proofs.Steps.{low_wanted, one_unwanted, cell_wanted}
+use native.Mathlib.Omega.{arith}
 use Rattle.asking.proofs.ask.is_wanted.Goals as goal
 
-pub returns-then-a-lt3 : goal.returns-then-a-lt3
-returns-then-a-lt3 c = low_wanted _ _ c.if-a-lt3.true
+pub returns-then-a-le-EMPTY_PIECE : goal.returns-then-a-le-EMPTY_PIECE
+returns-then-a-le-EMPTY_PIECE c = low_wanted _ _ (omega (arith, c.if-a-le-EMPTY_PIECE.true))
 
-pub returns-then-x-eq1 : goal.returns-then-x-eq1
-returns-then-x-eq1 c = one_unwanted c.look-x.ensures c.if-x-eq1.true
+pub returns-then-x-ne-EXIST_PIECE : goal.returns-then-x-ne-EXIST_PIECE
+returns-then-x-ne-EXIST_PIECE c = cell_wanted c.look-x.ensures c.if-x-ne-EXIST_PIECE.true
 
-pub returns : goal.returns
-returns c = cell_wanted c.look-x.ensures c.if-x-eq1.false
+pub returns-else-x-ne-EXIST_PIECE : goal.returns-else-x-ne-EXIST_PIECE
+returns-else-x-ne-EXIST_PIECE c = rw c.if-x-ne-EXIST_PIECE.false (one_unwanted c.look-x.ensures c.if-x-ne-EXIST_PIECE.false)

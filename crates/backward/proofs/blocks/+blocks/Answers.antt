@@ -3,55 +3,28 @@ use Prim.Native.Nat.{◌-◌}
 use borrow.Author.Rules.{rules}
 use mathlib.Core.Path.{refl}
 use Rattle.strays.proofs.Found.{statement_in, statement_small, there, block_low}
-use Rattle.backward.proofs.Course.{point_asks}
-use Rattle.backward.proofs.Statements.{at-point, around-full, around-on, no_statement, later_point, statement_asks, later_full, later_more, all_walked, row_in, inner_passes}
-use Rattle.backward.proofs.Holders.{bare-if, bare-switch, bare-loop, first_there, holder_marked, hand_needing, holder_obeys, holder_copy, bare_asks, holder_full, holder_merge, holder_ends, holder_ends_full, low_number}
-use Rattle.backward.proofs.Ifs.{if_copy, reject_asks, if_rejected, if_exchange, accept_asks, if_accepted, if_end_asks, if_ends, if_ends_full}
-use Rattle.backward.proofs.Switches.{no_case, case_copy, case_asks, case_passes, merge_asks, case_more, case_ends_full, all_cases, cases_ask, switch_passes, switch_end_asks, switch-ends, switch_ends_full}
-use Rattle.backward.proofs.Loops.{begin_asks, loop_begun_full, continuing_asks, loop_continuing, body_copy, body_asks, loop_body, end_asks, loop_ends}
+use Rattle.backward.proofs.Statements.{around-full, around-on, no_statement, later_full, later_more, all_walked, row_in, inner_passes}
+use Rattle.backward.proofs.Holders.{bare-if, bare-switch, bare-loop, first_there, holder_marked, holder_obeys, holder_full, holder_ends, holder_ends_full, low_number}
+use Rattle.backward.proofs.Ifs.{reject_asks, if_rejected, accept_asks, if_accepted, if_end_asks, if_ends, if_ends_full}
+use Rattle.backward.proofs.Switches.{no_case, case_asks, case_passes, case_more, case_ends_full, all_cases, cases_ask, switch_passes, switch_end_asks, switch-ends, switch_ends_full}
+use Rattle.backward.proofs.Loops.{begin_asks, loop_begun_full, continuing_asks, loop_continuing, body_asks, loop_body, end_asks, loop_ends}
 use native.Mathlib.Omega.{arith}
 use Rattle.backward.proofs.blocks.+blocks.Goals as goal
 
-pub pass_around-note-at-requires : goal.pass_around-note-at-requires
-pass_around-note-at-requires t c =
-    let q9 = point_asks c.requires.course.ready in
-    record { live = q9.0; n_nonzero = q9.1 }
-
-pub pass_around-pass_block-q-requires : goal.pass_around-pass_block-q-requires
-pass_around-pass_block-q-requires t c =
-    (omega (arith, c.decreases), (at-point c.requires.course c.note-at.ensures, (c.requires.b_in_bounds, c.requires.block_of)))
-
 pub pass_around-returns-then-q : goal.pass_around-returns-then-q
 pass_around-returns-then-q t c = around-full c.requires.course c.note-at.ensures c.pass_block-q.ensures c.if-q.true
-
-pub pass_around-note-requires : goal.pass_around-note-requires
-pass_around-note-requires t c =
-    let q9 = point_asks (c.pass_block-q.ensures.walked.ready c.if-q.false) in
-    record { live = q9.0; n_nonzero = q9.1 }
 
 pub pass_around-returns : goal.pass_around-returns
 pass_around-returns t c =
     around-on c.requires.course c.note-at.ensures c.pass_block-q.ensures c.if-q.false c.note.ensures
 
-pub pass_bare-pass_if-requires : goal.pass_bare-pass_if-requires
-pass_bare-pass_if-requires t c =
-    (omega (arith, c.decreases), (c.requires.course, (c.requires.b_in_bounds, (c.requires.row_in, (search rules)))))
-
 pub pass_bare-returns-in-Ok-If : goal.pass_bare-returns-in-Ok-If
 pass_bare-returns-in-Ok-If t c =
     bare-if c.requires.course c.requires.row_in c.args.marks.now (search rules) c.pass_if.ensures
 
-pub pass_bare-pass_switch-requires : goal.pass_bare-pass_switch-requires
-pass_bare-pass_switch-requires t c =
-    (omega (arith, c.decreases), (c.requires.course, (c.requires.b_in_bounds, (c.requires.row_in, (search rules)))))
-
 pub pass_bare-returns-in-Ok-Switch : goal.pass_bare-returns-in-Ok-Switch
 pass_bare-returns-in-Ok-Switch t c =
     bare-switch c.requires.course c.requires.row_in c.args.marks.now (search rules) c.pass_switch.ensures
-
-pub pass_bare-pass_loop-requires : goal.pass_bare-pass_loop-requires
-pass_bare-pass_loop-requires t c =
-    (omega (arith, c.decreases), (c.requires.course, (c.requires.b_in_bounds, (c.requires.row_in, search rules))))
 
 pub pass_bare-returns-in_default : goal.pass_bare-returns-in_default
 pass_bare-returns-in_default t c =
@@ -60,18 +33,9 @@ pass_bare-returns-in_default t c =
 pub pass_block-loop-k-init : goal.pass_block-loop-k-init
 pass_block-loop-k-init t c = no_statement c.requires.course c.args.b.0 c.args.marks.now _ _ _ refl
 
-pub pass_block-note-at-requires : goal.pass_block-note-at-requires
-pass_block-note-at-requires t c =
-    let q9 = later_point c.requires.course c.loop-k.invariant in
-    record { live = q9.0; n_nonzero = q9.1 }
-
 pub pass_block-overflow_add-first : goal.pass_block-overflow_add-first
 pass_block-overflow_add-first t c =
     omega (arith, statement_small (statement_in c.requires.block_of _ (c.loop-k.k - 1) c.block-range.ensures (omega (arith, c.loop-k.invariant.within))))
-
-pub pass_block-pass_statement-q-requires : goal.pass_block-pass_statement-q-requires
-pass_block-pass_statement-q-requires t c =
-    let z = statement_asks c.requires.course c.loop-k.invariant c.note-at.ensures c.requires.b_in_bounds in (omega (arith, c.decreases), (z.0, (z.1, statement_in c.requires.block_of _ _ c.block-range.ensures (omega (arith, c.loop-k.invariant.within)))))
 
 pub pass_block-returns-then-q : goal.pass_block-returns-then-q
 pass_block-returns-then-q t c =
@@ -89,10 +53,6 @@ pub pass_cases-loop-i-init : goal.pass_cases-loop-i-init
 pass_cases-loop-i-init t c =
     no_case c.requires.course c.requires.row_in c.requires.kind_value c.args.marks.now c.requires.n_value
 
-pub pass_cases-copy-requires : goal.pass_cases-copy-requires
-pass_cases-copy-requires t c =
-    case_copy c.requires.course c.requires.row_in c.requires.kind_value c.args.marks.now c.requires.b_in_bounds _ c.loop-i.invariant
-
 pub pass_cases-pass_around-q-requires : goal.pass_cases-pass_around-q-requires
 pass_cases-pass_around-q-requires t c =
     let z = case_asks c.requires.course c.requires.row_in c.requires.kind_value c.args.marks.now c.requires.b_in_bounds _ c.loop-i.invariant (omega (arith, c.loop-i-test.true, c.operand-count.ensures)) c.copy.ensures c.block_operand-case.ensures in (omega (arith, z.0, c.decreases), z.1)
@@ -100,11 +60,6 @@ pass_cases-pass_around-q-requires t c =
 pub pass_cases-returns-then-q : goal.pass_cases-returns-then-q
 pass_cases-returns-then-q t c =
     case_passes c.requires.course c.requires.row_in c.requires.kind_value c.args.marks.now c.requires.b_in_bounds _ c.loop-i.invariant (omega (arith, c.loop-i-test.true, c.operand-count.ensures)) c.copy.ensures c.block_operand-case.ensures c.pass_around-q.ensures c.if-q.true
-
-pub pass_cases-merge-requires : goal.pass_cases-merge-requires
-pass_cases-merge-requires t c =
-    let q9 = merge_asks c.requires.course c.requires.row_in c.requires.kind_value c.args.marks.now c.requires.b_in_bounds _ c.loop-i.invariant (omega (arith, c.loop-i-test.true, c.operand-count.ensures)) c.copy.ensures c.block_operand-case.ensures c.pass_around-q.ensures c.if-q.false in
-    record { live = q9.0; n_nonzero = q9.1.0; i_bound = q9.1.1 }
 
 pub pass_cases-returns-then-not-merge : goal.pass_cases-returns-then-not-merge
 pass_cases-returns-then-not-merge t c =
@@ -122,29 +77,13 @@ pub pass_holder-bounds-firsts-s : goal.pass_holder-bounds-firsts-s
 pass_holder-bounds-firsts-s t c =
     first_there c.requires.course c.requires.row_in c.args.marks.now c.requires.b_in_bounds c.requires.lt_kind
 
-pub pass_holder-pass_bare-requires : goal.pass_holder-pass_bare-requires
-pass_holder-pass_bare-requires t c =
-    (omega (arith, c.decreases), (c.requires.course, (omega (arith, c.requires.b_in_bounds), (c.requires.row_in, c.requires.lt_kind))))
-
 pub pass_holder-returns-then-mark_at : goal.pass_holder-returns-then-mark_at
 pass_holder-returns-then-mark_at t c =
     holder_marked c.requires.course c.requires.row_in c.args.marks.now c.requires.b_in_bounds c.requires.lt_kind refl c.mark_at.ensures c.if-mark_at.true c.pass_bare.ensures
 
-pub pass_holder-obeys-requires : goal.pass_holder-obeys-requires
-pass_holder-obeys-requires t c =
-    record { needing = hand_needing c.requires.course c.requires.row_in c.args.marks.now c.requires.b_in_bounds c.requires.lt_kind refl c.mark_at.ensures; f_in_bounds = c.requires.course.long; statement_in = c.requires.row_in.statement }
-
 pub pass_holder-returns-then-obeys : goal.pass_holder-returns-then-obeys
 pass_holder-returns-then-obeys t c =
     holder_obeys c.requires.course c.requires.row_in c.args.marks.now c.requires.b_in_bounds c.requires.lt_kind refl c.mark_at.ensures c.if-mark_at.false c.obeys.ensures c.if-obeys.true
-
-pub pass_holder-copy-requires : goal.pass_holder-copy-requires
-pass_holder-copy-requires t c =
-    holder_copy c.requires.course c.requires.row_in c.args.marks.now c.requires.b_in_bounds c.requires.lt_kind refl c.mark_at.ensures c.if-mark_at.false c.obeys.ensures
-
-pub pass_holder-pass_bare-q-requires : goal.pass_holder-pass_bare-q-requires
-pass_holder-pass_bare-q-requires t c =
-    let z = bare_asks c.requires.course c.requires.row_in c.args.marks.now c.requires.b_in_bounds c.requires.lt_kind refl c.mark_at.ensures c.if-mark_at.false c.obeys.ensures c.if-obeys.false c.copy.ensures in (omega (arith, c.decreases), (z.0, (z.1, (c.requires.row_in, c.requires.lt_kind))))
 
 pub pass_holder-returns-then-q : goal.pass_holder-returns-then-q
 pass_holder-returns-then-q t c =
@@ -157,11 +96,6 @@ pub pass_holder-blame-blamed-requires : goal.pass_holder-blame-blamed-requires
 pass_holder-blame-blamed-requires t c =
     low_number c.requires.course c.requires.row_in c.args.marks.now c.requires.b_in_bounds c.requires.lt_kind refl
 
-pub pass_holder-merge-requires : goal.pass_holder-merge-requires
-pass_holder-merge-requires t c =
-    let q9 = holder_merge c.requires.course c.requires.row_in c.args.marks.now c.requires.b_in_bounds c.requires.lt_kind refl c.mark_at.ensures c.if-mark_at.false c.obeys.ensures c.if-obeys.false c.copy.ensures c.pass_bare-q.ensures c.if-q.false in
-    record { live = q9.0; n_nonzero = q9.1.0; i_bound = q9.1.1 }
-
 pub pass_holder-returns-then-merge : goal.pass_holder-returns-then-merge
 pass_holder-returns-then-merge t c =
     holder_ends c.requires.course c.requires.row_in c.args.marks.now c.requires.b_in_bounds c.requires.lt_kind refl c.mark_at.ensures c.if-mark_at.false c.obeys.ensures c.if-obeys.false c.copy.ensures c.pass_bare-q.ensures c.if-q.false refl c.blame-blamed.ensures c.merge.ensures c.if-merge.true
@@ -170,10 +104,6 @@ pub pass_holder-returns : goal.pass_holder-returns
 pass_holder-returns t c =
     holder_ends_full c.requires.course c.requires.row_in c.args.marks.now c.requires.b_in_bounds c.requires.lt_kind refl c.mark_at.ensures c.if-mark_at.false c.obeys.ensures c.if-obeys.false c.copy.ensures c.pass_bare-q.ensures c.if-q.false refl c.blame-blamed.ensures c.merge.ensures c.if-merge.false c.filled.ensures
 
-pub pass_if-copy-requires : goal.pass_if-copy-requires
-pass_if-copy-requires t c =
-    if_copy c.requires.course c.requires.b_in_bounds c.requires.row_in c.requires.kind_value c.args.marks.now
-
 pub pass_if-pass_around-q-requires : goal.pass_if-pass_around-q-requires
 pass_if-pass_around-q-requires t c =
     let z = reject_asks c.requires.course c.requires.b_in_bounds c.requires.row_in c.requires.kind_value c.args.marks.now c.copy.ensures c.block_operand-reject.ensures in (omega (arith, z.0, c.decreases), z.1)
@@ -181,10 +111,6 @@ pass_if-pass_around-q-requires t c =
 pub pass_if-returns-then-q : goal.pass_if-returns-then-q
 pass_if-returns-then-q t c =
     if_rejected c.requires.course c.requires.b_in_bounds c.requires.row_in c.requires.kind_value c.args.marks.now c.copy.ensures c.block_operand-reject.ensures c.pass_around-q.ensures c.if-q.true
-
-pub pass_if-exchange-requires : goal.pass_if-exchange-requires
-pass_if-exchange-requires t c =
-    if_exchange c.requires.course c.requires.b_in_bounds c.requires.row_in c.requires.kind_value c.args.marks.now c.copy.ensures c.block_operand-reject.ensures c.pass_around-q.ensures c.if-q.false
 
 pub pass_if-pass_around-o-requires : goal.pass_if-pass_around-o-requires
 pass_if-pass_around-o-requires t c =
@@ -214,40 +140,30 @@ pub pass_loop-returns-then-not-begin_loop : goal.pass_loop-returns-then-not-begi
 pass_loop-returns-then-not-begin_loop t c =
     loop_begun_full c.requires.course c.requires.b_in_bounds c.requires.row_in c.requires.kind_value c.args.marks.now c.optional_expression-break_if.ensures c.begin_loop.ensures c.if-not-begin_loop.true c.filled.ensures
 
-pub pass_loop-in_switch-y-requires : goal.pass_loop-in_switch-y-requires
-pass_loop-in_switch-y-requires t c = omega (arith, c.requires.course.ready.high)
-
 pub pass_loop-pass_around-q-requires : goal.pass_loop-pass_around-q-requires
 pass_loop-pass_around-q-requires t c =
-    let z = continuing_asks c.requires.course c.requires.b_in_bounds c.requires.row_in c.requires.kind_value c.args.marks.now c.optional_expression-break_if.ensures c.begin_loop.ensures c.if-not-begin_loop.false c.in_switch-y.ensures c.block_operand-continuing.ensures in (omega (arith, z.0, c.decreases), z.1)
+    let z = continuing_asks c.requires.course c.requires.b_in_bounds c.requires.row_in c.requires.kind_value c.args.marks.now c.optional_expression-break_if.ensures c.begin_loop.ensures c.if-not-begin_loop.false c.in_case-y.ensures c.block_operand-continuing.ensures in (omega (arith, z.0, c.decreases), z.1)
 
 pub pass_loop-returns-then-q : goal.pass_loop-returns-then-q
 pass_loop-returns-then-q t c =
-    loop_continuing c.requires.course c.requires.b_in_bounds c.requires.row_in c.requires.kind_value c.args.marks.now c.optional_expression-break_if.ensures c.begin_loop.ensures c.if-not-begin_loop.false c.in_switch-y.ensures c.block_operand-continuing.ensures c.pass_around-q.ensures c.if-q.true
-
-pub pass_loop-copy-requires : goal.pass_loop-copy-requires
-pass_loop-copy-requires t c =
-    body_copy c.requires.course c.requires.b_in_bounds c.requires.row_in c.requires.kind_value c.args.marks.now c.optional_expression-break_if.ensures c.begin_loop.ensures c.if-not-begin_loop.false c.in_switch-y.ensures c.block_operand-continuing.ensures c.pass_around-q.ensures c.if-q.false
-
-pub pass_loop-in_body-z-requires : goal.pass_loop-in_body-z-requires
-pass_loop-in_body-z-requires t c = omega (arith, c.requires.course.ready.high)
+    loop_continuing c.requires.course c.requires.b_in_bounds c.requires.row_in c.requires.kind_value c.args.marks.now c.optional_expression-break_if.ensures c.begin_loop.ensures c.if-not-begin_loop.false c.in_case-y.ensures c.block_operand-continuing.ensures c.pass_around-q.ensures c.if-q.true
 
 pub pass_loop-pass_around-o-requires : goal.pass_loop-pass_around-o-requires
 pass_loop-pass_around-o-requires t c =
-    let z = body_asks c.requires.course c.requires.b_in_bounds c.requires.row_in c.requires.kind_value c.args.marks.now c.optional_expression-break_if.ensures c.begin_loop.ensures c.if-not-begin_loop.false c.in_switch-y.ensures c.block_operand-continuing.ensures c.pass_around-q.ensures c.if-q.false c.copy.ensures c.in_body-z.ensures c.block_operand-body.ensures in (omega (arith, z.0, c.decreases), z.1)
+    let z = body_asks c.requires.course c.requires.b_in_bounds c.requires.row_in c.requires.kind_value c.args.marks.now c.optional_expression-break_if.ensures c.begin_loop.ensures c.if-not-begin_loop.false c.in_case-y.ensures c.block_operand-continuing.ensures c.pass_around-q.ensures c.if-q.false c.copy.ensures c.in_body-z.ensures c.block_operand-body.ensures in (omega (arith, z.0, c.decreases), z.1)
 
 pub pass_loop-returns-then-o : goal.pass_loop-returns-then-o
 pass_loop-returns-then-o t c =
-    loop_body c.requires.course c.requires.b_in_bounds c.requires.row_in c.requires.kind_value c.args.marks.now c.optional_expression-break_if.ensures c.begin_loop.ensures c.if-not-begin_loop.false c.in_switch-y.ensures c.block_operand-continuing.ensures c.pass_around-q.ensures c.if-q.false c.copy.ensures c.in_body-z.ensures c.block_operand-body.ensures c.pass_around-o.ensures c.if-o.true
+    loop_body c.requires.course c.requires.b_in_bounds c.requires.row_in c.requires.kind_value c.args.marks.now c.optional_expression-break_if.ensures c.begin_loop.ensures c.if-not-begin_loop.false c.in_case-y.ensures c.block_operand-continuing.ensures c.pass_around-q.ensures c.if-q.false c.copy.ensures c.in_body-z.ensures c.block_operand-body.ensures c.pass_around-o.ensures c.if-o.true
 
 pub pass_loop-end_loop-requires : goal.pass_loop-end_loop-requires
 pass_loop-end_loop-requires t c =
-    let q9 = end_asks c.requires.course c.requires.b_in_bounds c.requires.row_in c.requires.kind_value c.args.marks.now c.optional_expression-break_if.ensures c.begin_loop.ensures c.if-not-begin_loop.false c.in_switch-y.ensures c.block_operand-continuing.ensures c.pass_around-q.ensures c.if-q.false c.copy.ensures c.in_body-z.ensures c.block_operand-body.ensures c.pass_around-o.ensures c.if-o.false in
+    let q9 = end_asks c.requires.course c.requires.b_in_bounds c.requires.row_in c.requires.kind_value c.args.marks.now c.optional_expression-break_if.ensures c.begin_loop.ensures c.if-not-begin_loop.false c.in_case-y.ensures c.block_operand-continuing.ensures c.pass_around-q.ensures c.if-q.false c.copy.ensures c.in_body-z.ensures c.block_operand-body.ensures c.pass_around-o.ensures c.if-o.false in
     record { live = q9.0; stack_slot_lt_n = q9.1 }
 
 pub pass_loop-returns : goal.pass_loop-returns
 pass_loop-returns t c =
-    loop_ends c.requires.course c.requires.b_in_bounds c.requires.row_in c.requires.kind_value c.args.marks.now c.optional_expression-break_if.ensures c.begin_loop.ensures c.if-not-begin_loop.false c.in_switch-y.ensures c.block_operand-continuing.ensures c.pass_around-q.ensures c.if-q.false c.copy.ensures c.in_body-z.ensures c.block_operand-body.ensures c.pass_around-o.ensures c.if-o.false c.end_loop.ensures
+    loop_ends c.requires.course c.requires.b_in_bounds c.requires.row_in c.requires.kind_value c.args.marks.now c.optional_expression-break_if.ensures c.begin_loop.ensures c.if-not-begin_loop.false c.in_case-y.ensures c.block_operand-continuing.ensures c.pass_around-q.ensures c.if-q.false c.copy.ensures c.in_body-z.ensures c.block_operand-body.ensures c.pass_around-o.ensures c.if-o.false c.end_loop.ensures
 
 pub pass_statement-pass_block-requires : goal.pass_statement-pass_block-requires
 pass_statement-pass_block-requires t c =
@@ -257,33 +173,22 @@ pub pass_statement-returns-in-Ok-Block : goal.pass_statement-returns-in-Ok-Block
 pass_statement-returns-in-Ok-Block t c =
     inner_passes (row_in c.requires.statement_in c.statement-row.ensures) c.args.marks.now (search rules) c.block_operand-inner.ensures c.pass_block.ensures
 
-pub pass_statement-pass_holder-requires : goal.pass_statement-pass_holder-requires
-pass_statement-pass_holder-requires t c =
-    (omega (arith, c.decreases), (c.requires.course, (c.requires.b_in_bounds, (row_in c.requires.statement_in c.statement-row.ensures, search rules))))
-
-pub pass_statement-pass_plain-requires : goal.pass_statement-pass_plain-requires
-pass_statement-pass_plain-requires t c =
-    record { course = c.requires.course; n_in_bounds = omega (arith, c.requires.b_in_bounds); row_in = row_in c.requires.statement_in c.statement-row.ensures; lt_kind = λ l. search (rules, l) }
-
-pub pass_switch-in_switch-y-requires : goal.pass_switch-in_switch-y-requires
-pass_switch-in_switch-y-requires t c = omega (arith, c.requires.course.ready.high)
-
 pub pass_switch-pass_cases-q-requires : goal.pass_switch-pass_cases-q-requires
 pass_switch-pass_cases-q-requires t c =
-    let z = cases_ask c.requires.course c.requires.row_in c.requires.kind_value c.args.marks.now c.requires.b_in_bounds refl c.in_switch-y.ensures in (omega (arith, c.decreases), (z.0, (z.1.0, (c.requires.row_in, (c.requires.kind_value, z.1.1)))))
+    let z = cases_ask c.requires.course c.requires.row_in c.requires.kind_value c.args.marks.now c.requires.b_in_bounds refl c.in_case-y.ensures in (omega (arith, c.decreases), (z.0, (z.1.0, (c.requires.row_in, (c.requires.kind_value, z.1.1)))))
 
 pub pass_switch-returns-then-q : goal.pass_switch-returns-then-q
 pass_switch-returns-then-q t c =
-    switch_passes c.requires.course c.requires.row_in c.requires.kind_value c.args.marks.now c.requires.b_in_bounds refl c.in_switch-y.ensures c.pass_cases-q.ensures c.if-q.true
+    switch_passes c.requires.course c.requires.row_in c.requires.kind_value c.args.marks.now c.requires.b_in_bounds refl c.in_case-y.ensures c.pass_cases-q.ensures c.if-q.true
 
 pub pass_switch-end_switch-requires : goal.pass_switch-end_switch-requires
 pass_switch-end_switch-requires t c =
-    switch_end_asks c.requires.course c.requires.row_in c.requires.kind_value c.args.marks.now c.requires.b_in_bounds refl c.in_switch-y.ensures c.pass_cases-q.ensures c.if-q.false c.expression_operand-selector.ensures
+    switch_end_asks c.requires.course c.requires.row_in c.requires.kind_value c.args.marks.now c.requires.b_in_bounds refl c.in_case-y.ensures c.pass_cases-q.ensures c.if-q.false c.expression_operand-selector.ensures
 
 pub pass_switch-returns-then-end_switch : goal.pass_switch-returns-then-end_switch
 pass_switch-returns-then-end_switch t c =
-    switch-ends c.requires.course c.requires.row_in c.requires.kind_value c.args.marks.now c.requires.b_in_bounds refl c.in_switch-y.ensures c.pass_cases-q.ensures c.if-q.false c.expression_operand-selector.ensures c.end_switch.ensures c.if-end_switch.true
+    switch-ends c.requires.course c.requires.row_in c.requires.kind_value c.args.marks.now c.requires.b_in_bounds refl c.in_case-y.ensures c.pass_cases-q.ensures c.if-q.false c.expression_operand-selector.ensures c.end_switch.ensures c.if-end_switch.true
 
 pub pass_switch-returns : goal.pass_switch-returns
 pass_switch-returns t c =
-    switch_ends_full c.requires.course c.requires.row_in c.requires.kind_value c.args.marks.now c.requires.b_in_bounds refl c.in_switch-y.ensures c.pass_cases-q.ensures c.if-q.false c.expression_operand-selector.ensures c.end_switch.ensures c.if-end_switch.false c.filled.ensures
+    switch_ends_full c.requires.course c.requires.row_in c.requires.kind_value c.args.marks.now c.requires.b_in_bounds refl c.in_case-y.ensures c.pass_cases-q.ensures c.if-q.false c.expression_operand-selector.ensures c.end_switch.ensures c.if-end_switch.false c.filled.ensures

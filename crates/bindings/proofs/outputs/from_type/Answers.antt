@@ -12,13 +12,13 @@ make-r-requires c =
     let q9 = making_asks _ _ _ _ _ c.loop-i-test.true c.loop-i.invariant c.member_at-m.ensures c.from_binding-q.ensures (count_small _ _ c.requires.all_sized) c.requires.held.1 c.requires.good.base c.requires.held.0 in
     record { good = q9.0; room = q9.1.0; child_bound = q9.1.1 }
 
-pub loop-i-preserved-then-q-ne2 : goal.loop-i-preserved-then-q-ne2
-loop-i-preserved-then-q-ne2 c =
-    making_more _ _ _ _ _ c.loop-i-test.true c.loop-i.invariant c.member_at-m.ensures c.from_binding-q.ensures c.requires.good.base c.requires.held.0 c.if-q-ne2.true c.make-r.ensures
+pub loop-i-preserved-then-q-ne-EMPTY_PIECE : goal.loop-i-preserved-then-q-ne-EMPTY_PIECE
+loop-i-preserved-then-q-ne-EMPTY_PIECE c =
+    making_more _ _ _ _ _ c.loop-i-test.true c.loop-i.invariant c.member_at-m.ensures c.from_binding-q.ensures c.requires.good.base c.requires.held.0 c.if-q-ne-EMPTY_PIECE.true c.make-r.ensures
 
 pub loop-i-preserved : goal.loop-i-preserved
 loop-i-preserved c =
-    making_skip _ _ _ _ _ c.loop-i-test.true c.loop-i.invariant c.member_at-m.ensures c.from_binding-q.ensures (omega (arith, c.if-q-ne2.false))
+    making_skip _ _ _ _ _ c.loop-i-test.true c.loop-i.invariant c.member_at-m.ensures c.from_binding-q.ensures (omega (arith, c.if-q-ne-EMPTY_PIECE.false))
 
 pub returns : goal.returns
 returns c =

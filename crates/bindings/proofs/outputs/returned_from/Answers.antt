@@ -9,10 +9,10 @@ returns-in_default c = no_result _ _ _ c.requires.good c.in_default.is
 pub from_binding-q-requires-clause-bound : goal.from_binding-q-requires-clause-bound
 from_binding-q-requires-clause-bound c = bound_result _ c.in-Some.is c.requires.bound_result.0
 
-pub returns-then-q-eq2 : goal.returns-then-q-eq2
-returns-then-q-eq2 c =
-    entry_none _ _ _ c.from_table.ensures c.from_binding-q.ensures (search rules) c.in-Some.is (search rules) c.if-q-eq2.true
+pub returns-then-q-eq-EMPTY_PIECE : goal.returns-then-q-eq-EMPTY_PIECE
+returns-then-q-eq-EMPTY_PIECE c =
+    entry_none _ _ _ c.from_table.ensures c.from_binding-q.ensures (search rules) c.in-Some.is (search rules) c.if-q-eq-EMPTY_PIECE.true
 
 pub returns : goal.returns
 returns c =
-    entry_made _ _ _ c.from_table.ensures c.from_binding-q.ensures (search rules) c.in-Some.is (search rules) c.if-q-eq2.false c.make.ensures
+    entry_made _ _ _ c.from_table.ensures c.from_binding-q.ensures (search rules) c.in-Some.is (search rules) c.if-q-eq-EMPTY_PIECE.false c.make.ensures

@@ -1,5 +1,4 @@
 -- `bindings_request::listed::set_of` meets its contract: from the last of the list to the first.
-use native.Mathlib.Omega.{arith}
 use mathlib.Core.Path.{refl}
 use Rattle.bindings_request.proofs.Sets.{reading_none, reading_malformed, reading_more}
 use Rattle.bindings_request.proofs.listed.set_of.Goals as goal
@@ -9,9 +8,6 @@ loop-i-init c = reading_none _ refl
 
 pub returns-then-after-b : goal.returns-then-after-b
 returns-then-after-b c = reading_malformed _ c.loop-i.invariant c.loop-i-test.true c.from-b.ensures c.if-after-b.true
-
-pub own_binding-own-requires : goal.own_binding-own-requires
-own_binding-own-requires c = omega (arith, c.if-after-b.false, c.loop-i.invariant.few)
 
 pub loop-i-preserved : goal.loop-i-preserved
 loop-i-preserved c =

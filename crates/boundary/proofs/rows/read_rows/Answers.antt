@@ -1,16 +1,9 @@
 -- `boundary::rows::read_rows` meets its contract: the file's refusal, or the rows filled in.
-use Rattle.std.proofs.lemmas.Result.{err_from_is_err_and}
 use native.Mathlib.Omega.{arith}
 use mathlib.Core.Path.{refl}
-use Rattle.field.proofs.Refusals.{some_number}
 use Rattle.boundary.proofs.Answers.{file_was_read}
-use Rattle.boundary.proofs.Types.{types-few, fill_asks, rows_part, tables}
+use Rattle.boundary.proofs.Types.{types-few, fill_asks, rows_part}
 use Rattle.boundary.proofs.rows.read_rows.Goals as goal
-
-pub returns-in_err-read : goal.returns-in_err-read
-returns-in_err-read c =
-    let p = err_from_is_err_and c.from_residual.result c.from_residual.ensures.1 in
-    rw (p.1, p.2) (c.in_err-read.ensures.refuses (some_number _))
 
 pub slice_bounds-table-end : goal.slice_bounds-table-end
 slice_bounds-table-end c =
@@ -21,7 +14,3 @@ fill-requires c =
     let was = file_was_read c.new-file.ensures.bytes c.new-file.ensures.tables c.in_ok-read.ensures refl in
     let q9 = fill_asks _ _ was (rows_part _ _ was c.types.ensures _ c.requires.table_len) in
     record { table_len = q9.0; table_len_bound = q9.1.0; all_sized = q9.1.1 }
-
-pub returns : goal.returns
-returns c =
-    (c.new-file.ensures.bytes, tables _ _ (file_was_read c.new-file.ensures.bytes c.new-file.ensures.tables c.in_ok-read.ensures refl) _ c.fill.ensures)

@@ -1,14 +1,11 @@
 -- `boundary::serve::request_any` meets its contract: the file's refusal, or what is answered of the module that was read.
 use mathlib.Core.Path.{refl}
-use Rattle.boundary.proofs.Requests.{file_read, requests_refused, requests_of}
+use Rattle.boundary.proofs.Requests.{requests_refused, requests_of}
 use Rattle.boundary.proofs.serve.request_any.Goals as goal
 
 pub returns-in-Err : goal.returns-in-Err
 returns-in-Err c =
     requests_refused c.in-Err.ensures c.in-Err.refusal refl (rw c.nowhere.ensures at c.reply_word.ensures)
-
-pub request_in-requires : goal.request_in-requires
-request_in-requires c = rw (c.new.ensures.bytes, c.new.ensures.tables) (file_read c.in_default.ensures refl)
 
 pub returns : goal.returns
 returns c =

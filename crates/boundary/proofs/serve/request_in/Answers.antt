@@ -1,15 +1,7 @@
 -- `boundary::serve::request_in` meets its contract: it is `request_of` over tables of its own.
 use native.Mathlib.Omega.{arith}
-use Rattle.boundary.proofs.Types.{types-few, rows_part}
-use borrow.Author.Rules.{rules}
+use Rattle.boundary.proofs.Types.{types-few}
 use Rattle.boundary.proofs.serve.request_in.Goals as goal
 
 pub slice_bounds-table-end : goal.slice_bounds-table-end
 slice_bounds-table-end c = omega (arith, c.types.ensures, types-few _ _ c.requires.module_is)
-
-pub request_of-requires : goal.request_of-requires
-request_of-requires c =
-    (c.requires, rows_part _ _ c.requires.module_is c.types.ensures _ (search rules))
-
-pub returns : goal.returns
-returns c = c.request_of.ensures

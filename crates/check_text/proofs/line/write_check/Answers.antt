@@ -3,9 +3,6 @@ use Rattle.lines.proofs.Writing.{rooms_first, rooms_then}
 use Rattle.check_text.proofs.Saying.{line_rooms, line_wrote}
 use Rattle.check_text.proofs.line.write_check.Goals as goal
 
-pub write_word-answer-requires : goal.write_word-answer-requires
-write_word-answer-requires c = rooms_first (line_rooms _ c.requires.0 c.requires.1)
-
 pub write_answer-end-requires : goal.write_answer-end-requires
 write_answer-end-requires c = rooms_first (rooms_then (line_rooms _ c.requires.0 c.requires.1) c.write_word-answer.ensures)
 

@@ -7,13 +7,13 @@ use mathlib.Core.Path.{refl}
 use native.Mathlib.Omega.{arith}
 use Rattle.context.proofs.remove.+remove_take_entries.Goals as goal
 
-pub remove-returns-then-q-eq0 : goal.remove-returns-then-q-eq0
-remove-returns-then-q-eq0 t c =
-    done_all _ c.args.t (c.requires.good, (c.requires.all_sized, (c.requires.p_bound, c.requires.room))) c.if-q-eq0.true
+pub remove-returns-then-q-eq-ALL_PIECE : goal.remove-returns-then-q-eq-ALL_PIECE
+remove-returns-then-q-eq-ALL_PIECE t c =
+    done_all _ c.args.t (c.requires.good, (c.requires.all_sized, (c.requires.p_bound, c.requires.room))) c.if-q-eq-ALL_PIECE.true
 
-pub remove-returns-then-q-eq1 : goal.remove-returns-then-q-eq1
-remove-returns-then-q-eq1 t c =
-    done_exist _ c.args.t (c.requires.good, (c.requires.all_sized, (c.requires.p_bound, c.requires.room))) c.if-q-eq1.true
+pub remove-returns-then-q-eq-EXIST_PIECE : goal.remove-returns-then-q-eq-EXIST_PIECE
+remove-returns-then-q-eq-EXIST_PIECE t c =
+    done_exist _ c.args.t (c.requires.good, (c.requires.all_sized, (c.requires.p_bound, c.requires.room))) c.if-q-eq-EXIST_PIECE.true
 
 pub remove-split-s-requires : goal.remove-split-s-requires
 remove-split-s-requires t c =
@@ -26,20 +26,14 @@ remove-take_entries-requires t c =
 
 pub remove-returns : goal.remove-returns
 remove-returns t c =
-    done_part _ c.args.t (c.requires.good, (c.requires.all_sized, (c.requires.p_bound, c.requires.room))) c.split-s.ensures c.if-q-eq0.false c.if-q-eq1.false c.take_entries.ensures
+    done_part _ c.args.t (c.requires.good, (c.requires.all_sized, (c.requires.p_bound, c.requires.room))) c.split-s.ensures c.if-q-eq-ALL_PIECE.false c.if-q-eq-EXIST_PIECE.false c.take_entries.ensures
 
-pub take_entries-returns-then-q-lt3 : goal.take_entries-returns-then-q-lt3
-take_entries-returns-then-q-lt3 t c =
-    elim c.then-q-lt3.either [
-      | inl h ↦ done_by_low _ c.args.t (c.requires.good, (c.requires.all_sized, (c.requires.p_bound, c.requires.room))) h
-      | inr h ↦ done_of_low _ c.args.t (c.requires.good, (c.requires.all_sized, (c.requires.p_bound, c.requires.room))) h.1
+pub take_entries-returns-then-q-le-EMPTY_PIECE : goal.take_entries-returns-then-q-le-EMPTY_PIECE
+take_entries-returns-then-q-le-EMPTY_PIECE t c =
+    elim c.then-q-le-EMPTY_PIECE.either [
+      | inl h ↦ done_by_low _ c.args.t (c.requires.good, (c.requires.all_sized, (c.requires.p_bound, c.requires.room))) (omega (arith, h))
+      | inr h ↦ done_of_low _ c.args.t (c.requires.good, (c.requires.all_sized, (c.requires.p_bound, c.requires.room))) (omega (arith, h.1))
     ]
-
-pub take_entries-look-x-requires : goal.take_entries-look-x-requires
-take_entries-look-x-requires t c = record { good = c.requires.good; lt_n = (c.if-p-lt3.false, c.requires.p_bound.0) }
-
-pub take_entries-look-y-requires : goal.take_entries-look-y-requires
-take_entries-look-y-requires t c = record { good = c.requires.good; lt_n = (c.if-q-lt3.false, c.requires.p_bound.1) }
 
 pub take_entries-take_entries-requires : goal.take_entries-take_entries-requires
 take_entries-take_entries-requires t c =

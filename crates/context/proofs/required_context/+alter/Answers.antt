@@ -4,12 +4,9 @@ use mathlib.Core.Path.{refl}
 use native.Mathlib.Omega.{arith}
 use Rattle.context.proofs.required_context.+alter.Goals as goal
 
-pub returns-then-m-lt3 : goal.returns-then-m-lt3
-returns-then-m-lt3 t c =
-    plain_done _ c.args.i c.args.t.0 (c.requires.good, (c.requires.all_sized, (c.requires.m_bound, c.requires.room))) c.if-m-lt3.true
-
-pub look-x-requires : goal.look-x-requires
-look-x-requires t c = record { good = c.requires.good; lt_n = (c.if-m-lt3.false, c.requires.m_bound.0) }
+pub returns-then-m-le-EMPTY_PIECE : goal.returns-then-m-le-EMPTY_PIECE
+returns-then-m-le-EMPTY_PIECE t c =
+    plain_done _ c.args.i c.args.t.0 (c.requires.good, (c.requires.all_sized, (c.requires.m_bound, c.requires.room))) (omega (arith, c.if-m-le-EMPTY_PIECE.true))
 
 pub returns-then-i-x : goal.returns-then-i-x
 returns-then-i-x t c =

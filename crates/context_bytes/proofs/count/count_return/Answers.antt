@@ -5,11 +5,11 @@ use Rattle.context_bytes.proofs.count.count_return.Goals as goal
 pub returns-in_err-field : goal.returns-in_err-field
 returns-in_err-field c = rw c.from_residual.ensures (return_ends _ _ c.in_err-field.ensures)
 
-pub returns-then-branch-eq3 : goal.returns-then-branch-eq3
-returns-then-branch-eq3 c = return-nothing c.in_ok-field.ensures c.if-branch-eq3.true
+pub returns-then-branch-eq-NO_RETURN : goal.returns-then-branch-eq-NO_RETURN
+returns-then-branch-eq-NO_RETURN c = return-nothing c.in_ok-field.ensures c.if-branch-eq-NO_RETURN.true
 
 pub returns-in_err-k : goal.returns-in_err-k
-returns-in_err-k c = rw c.from_residual-in_err-k.ensures (return_malformed c.in_ok-field.ensures c.if-branch-eq3.false c.in_err-k.ensures)
+returns-in_err-k c = rw c.from_residual-in_err-k.ensures (return_malformed c.in_ok-field.ensures c.if-branch-eq-NO_RETURN.false c.in_err-k.ensures)
 
 pub returns : goal.returns
-returns c = return_counted c.in_ok-field.ensures c.if-branch-eq3.false c.in_ok-k.ensures c.requires.0
+returns c = return_counted c.in_ok-field.ensures c.if-branch-eq-NO_RETURN.false c.in_ok-k.ensures c.requires.0

@@ -36,15 +36,15 @@ pub covers_entries-loop-preserved : goal.covers_entries-loop-preserved
 covers_entries-loop-preserved t c =
     cover_again c.loop.invariant (index_read (omega arith) c.in_ok-i.ensures) c.in_ok-c.ensures c.in_ok-end.ensures
 
-pub covers_entries-returns-then-m-eq0 : goal.covers_entries-returns-then-m-eq0
-covers_entries-returns-then-m-eq0 t c =
-    elim c.then-m-eq0.either [
+pub covers_entries-returns-then-m-eq-ALL_PIECE : goal.covers_entries-returns-then-m-eq-ALL_PIECE
+covers_entries-returns-then-m-eq-ALL_PIECE t c =
+    elim c.then-m-eq-ALL_PIECE.either [
       | inl h ↦ cover_all c.loop.invariant (omega arith) h
       | inr h ↦ cover_more c.loop.invariant (omega arith) c.requires.good h.0 h.1
     ]
 
 pub covers_entries-returns : goal.covers_entries-returns
-covers_entries-returns t c = cover_done c.loop.invariant (omega arith) c.requires.good c.if-m-eq0.false c.if-m-ge3.false
+covers_entries-returns t c = cover_done c.loop.invariant (omega arith) c.requires.good c.if-m-eq-ALL_PIECE.false (omega (arith, c.if-m-gt-EMPTY_PIECE.false))
 
 pub covers_part-returns-in_err-part_code : goal.covers_part-returns-in_err-part_code
 covers_part-returns-in_err-part_code t c = rw c.from_residual.ensures (part_no _ _ c.in_err-part_code.ensures)
@@ -52,8 +52,8 @@ covers_part-returns-in_err-part_code t c = rw c.from_residual.ensures (part_no _
 pub covers_part-returns-in-All : goal.covers_part-returns-in-All
 covers_part-returns-in-All t c = part_all _ _ (rw c.in-All.is at c.in_ok-part_code.ensures)
 
-pub covers_part-returns-then-n-eq1 : goal.covers_part-returns-then-n-eq1
-covers_part-returns-then-n-eq1 t c = part_exist _ _ (rw c.in-Exist.is at c.in_ok-part_code.ensures) c.if-n-eq1.true
+pub covers_part-returns-then-n-eq-EXIST_PIECE : goal.covers_part-returns-then-n-eq-EXIST_PIECE
+covers_part-returns-then-n-eq-EXIST_PIECE t c = part_exist _ _ (rw c.in-Exist.is at c.in_ok-part_code.ensures) c.if-n-eq-EXIST_PIECE.true
 
-pub covers_part-returns-else-n-eq1 : goal.covers_part-returns-else-n-eq1
-covers_part-returns-else-n-eq1 t c = part_more _ _ (rw c.in-Exist.is at c.in_ok-part_code.ensures) c.if-n-eq1.false
+pub covers_part-returns-else-n-eq-EXIST_PIECE : goal.covers_part-returns-else-n-eq-EXIST_PIECE
+covers_part-returns-else-n-eq-EXIST_PIECE t c = part_more _ _ (rw c.in-Exist.is at c.in_ok-part_code.ensures) c.if-n-eq-EXIST_PIECE.false

@@ -1,12 +1,13 @@
 -- `context_bytes::cover::ask` meets its contract: one law for each way.
 use Rattle.context_bytes.proofs.Covered.{ask-all, ask_plain, ask_later, ask_passed, ask_here}
+use native.Mathlib.Omega.{arith}
 use Rattle.context_bytes.proofs.cover.ask.Goals as goal
 
-pub returns-then-n-eq0 : goal.returns-then-n-eq0
-returns-then-n-eq0 c = ask-all _ c.requires.good c.requires.n_bound c.if-n-eq0.true
+pub returns-then-n-eq-ALL_PIECE : goal.returns-then-n-eq-ALL_PIECE
+returns-then-n-eq-ALL_PIECE c = ask-all _ c.requires.good c.requires.n_bound c.if-n-eq-ALL_PIECE.true
 
-pub returns-then-n-lt3 : goal.returns-then-n-lt3
-returns-then-n-lt3 c = ask_plain _ c.requires.good c.requires.n_bound c.if-n-lt3.true c.if-n-eq0.false
+pub returns-then-n-le-EMPTY_PIECE : goal.returns-then-n-le-EMPTY_PIECE
+returns-then-n-le-EMPTY_PIECE c = ask_plain _ c.requires.good c.requires.n_bound (omega (arith, c.if-n-le-EMPTY_PIECE.true)) c.if-n-eq-ALL_PIECE.false
 
 pub returns-then-i-x : goal.returns-then-i-x
 returns-then-i-x c = ask_later _ c.requires.good c.requires.n_bound c.look-x.ensures c.if-i-x.true

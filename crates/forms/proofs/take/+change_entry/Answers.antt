@@ -1,12 +1,13 @@
 -- `forms::take::change_entry` meets its contract. The measure is the number of the entries.
 use Rattle.forms.proofs.Taking.{changed_low, changed_before, keep_asks, changed_at, change_call, change_makes, changed_after}
+use native.Mathlib.Omega.{arith}
 use Rattle.forms.proofs.take.+change_entry.Goals as goal
 
-pub returns-then-p-lt3 : goal.returns-then-p-lt3
-returns-then-p-lt3 t c = changed_low (c.requires.good, (c.requires.p_bound, c.requires.room)) _ c.if-p-lt3.true
+pub returns-then-p-le-EMPTY_PIECE : goal.returns-then-p-le-EMPTY_PIECE
+returns-then-p-le-EMPTY_PIECE t c = changed_low (c.requires.good, (c.requires.p_bound, c.requires.room)) _ (omega (arith, c.if-p-le-EMPTY_PIECE.true))
 
 pub look-x-requires : goal.look-x-requires
-look-x-requires t c = record { good = c.requires.good; lt_n = (c.if-p-lt3.false, c.requires.p_bound.0) }
+look-x-requires t c = record { good = c.requires.good; lt_n = (omega (arith, c.if-p-le-EMPTY_PIECE.false), c.requires.p_bound.0) }
 
 pub returns-then-i-x : goal.returns-then-i-x
 returns-then-i-x t c =

@@ -1,18 +1,19 @@
 -- `forms::trim::trim_map` meets its contract. The measure is the map's number.
 use Rattle.forms.proofs.Trimming.{globals_all, trimmed_low, child_asks, rest_call, keep_asks, trimmed_entry}
 use Rattle.forms.specs.Frames.{globals_shape}
+use native.Mathlib.Omega.{arith}
 use Rattle.forms.proofs.trim.+trim_map.Goals as goal
 
-pub returns-then-p-eq0 : goal.returns-then-p-eq0
-returns-then-p-eq0 t c =
-    globals_all _ _ _ (c.requires.good, (c.requires.lower, c.requires.p_bound)) c.if-p-eq0.true
+pub returns-then-p-eq-ALL_PIECE : goal.returns-then-p-eq-ALL_PIECE
+returns-then-p-eq-ALL_PIECE t c =
+    globals_all _ _ _ (c.requires.good, (c.requires.lower, c.requires.p_bound)) c.if-p-eq-ALL_PIECE.true
 
-pub returns-then-p-lt3 : goal.returns-then-p-lt3
-returns-then-p-lt3 t c =
-    trimmed_low _ (c.requires.good, (c.requires.lower, c.requires.p_bound)) _ c.if-p-eq0.false c.if-p-lt3.true
+pub returns-then-p-le-EMPTY_PIECE : goal.returns-then-p-le-EMPTY_PIECE
+returns-then-p-le-EMPTY_PIECE t c =
+    trimmed_low _ (c.requires.good, (c.requires.lower, c.requires.p_bound)) _ c.if-p-eq-ALL_PIECE.false (omega (arith, c.if-p-le-EMPTY_PIECE.true))
 
 pub look-x-requires : goal.look-x-requires
-look-x-requires t c = record { good = c.requires.good; lt_n = (c.if-p-lt3.false, c.requires.p_bound.0) }
+look-x-requires t c = record { good = c.requires.good; lt_n = (omega (arith, c.if-p-le-EMPTY_PIECE.false), c.requires.p_bound.0) }
 
 pub trim_part-c-requires : goal.trim_part-c-requires
 trim_part-c-requires t c =

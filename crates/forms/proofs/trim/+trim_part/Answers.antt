@@ -1,22 +1,23 @@
 -- `forms::trim::trim_part` meets its contract. The measure is the requirement's number.
 use Rattle.forms.proofs.Trimming.{trimmed_void, trimmed_all, trimmed_low, child_call, rest_call, keep_asks, trimmed_entry}
 use Rattle.forms.specs.ShapeBy.{shape_by}
+use native.Mathlib.Omega.{arith}
 use Rattle.forms.proofs.trim.+trim_part.Goals as goal
 
 pub returns-then-is_void : goal.returns-then-is_void
 returns-then-is_void t c =
-    trimmed_void _ (c.requires.good, (c.requires.lower, c.requires.p_bound)) _ c.if-p-eq0.true c.is_void.ensures c.if-is_void.true
+    trimmed_void _ (c.requires.good, (c.requires.lower, c.requires.p_bound)) _ c.if-p-eq-ALL_PIECE.true c.is_void.ensures c.if-is_void.true
 
-pub returns-then-p-eq0 : goal.returns-then-p-eq0
-returns-then-p-eq0 t c =
-    trimmed_all _ (c.requires.good, (c.requires.lower, c.requires.p_bound)) _ c.if-p-eq0.true c.is_void.ensures c.if-is_void.false
+pub returns-then-p-eq-ALL_PIECE : goal.returns-then-p-eq-ALL_PIECE
+returns-then-p-eq-ALL_PIECE t c =
+    trimmed_all _ (c.requires.good, (c.requires.lower, c.requires.p_bound)) _ c.if-p-eq-ALL_PIECE.true c.is_void.ensures c.if-is_void.false
 
-pub returns-then-p-lt3 : goal.returns-then-p-lt3
-returns-then-p-lt3 t c =
-    trimmed_low _ (c.requires.good, (c.requires.lower, c.requires.p_bound)) _ c.if-p-eq0.false c.if-p-lt3.true
+pub returns-then-p-le-EMPTY_PIECE : goal.returns-then-p-le-EMPTY_PIECE
+returns-then-p-le-EMPTY_PIECE t c =
+    trimmed_low _ (c.requires.good, (c.requires.lower, c.requires.p_bound)) _ c.if-p-eq-ALL_PIECE.false (omega (arith, c.if-p-le-EMPTY_PIECE.true))
 
 pub look-x-requires : goal.look-x-requires
-look-x-requires t c = record { good = c.requires.good; lt_n = (c.if-p-lt3.false, c.requires.p_bound.0) }
+look-x-requires t c = record { good = c.requires.good; lt_n = (omega (arith, c.if-p-le-EMPTY_PIECE.false), c.requires.p_bound.0) }
 
 pub member_form-m-requires : goal.member_form-m-requires
 member_form-m-requires t c = c.requires.lower

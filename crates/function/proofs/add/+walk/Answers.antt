@@ -123,10 +123,10 @@ pub add_holder-returns : goal.add_holder-returns
 add_holder-returns t c =
     mark_ends c.requires.arms c.mark_statement.ensures
     (elim c.match-try_from.branch [
-      | add_holder-in-Ok-Block w ↦ rw (w.r-is, w.cells-is, w.slots-is, w.open-is, w.totals-is) (nested_arm c.requires.arms (search rules) w.add_nested-r.ensures)
-      | add_holder-in-Ok-If w ↦ rw (w.r-is, w.cells-is, w.slots-is, w.open-is, w.totals-is) (if_arm c.requires.arms (search rules) w.add_if-r.ensures)
-      | add_holder-in-Ok-Switch w ↦ rw (w.r-is, w.cells-is, w.slots-is, w.open-is, w.totals-is) (switch_arm c.requires.arms (search rules) w.add_switch-r.ensures)
-      | add_holder-in_default w ↦ rw (w.r-is, w.cells-is, w.slots-is, w.open-is, w.totals-is) (loop_arm c.requires.arms (search rules) w.add_loop-r.ensures)
+      | add_holder-in-Ok-Block w ↦ rw (w.r-is, w.space-is) (nested_arm c.requires.arms (search rules) w.add_nested-r.ensures)
+      | add_holder-in-Ok-If w ↦ rw (w.r-is, w.space-is) (if_arm c.requires.arms (search rules) w.add_if-r.ensures)
+      | add_holder-in-Ok-Switch w ↦ rw (w.r-is, w.space-is) (switch_arm c.requires.arms (search rules) w.add_switch-r.ensures)
+      | add_holder-in_default w ↦ rw (w.r-is, w.space-is) (loop_arm c.requires.arms (search rules) w.add_loop-r.ensures)
     ])
 
 pub add_if-weigh-requires : goal.add_if-weigh-requires

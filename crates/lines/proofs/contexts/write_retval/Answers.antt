@@ -5,8 +5,8 @@ use Rattle.lines.proofs.Rows.{no_retval, retval_line, retval_rooms, wrote_none}
 use native.Mathlib.Omega.{arith}
 use Rattle.lines.proofs.contexts.write_retval.Goals as goal
 
-pub returns-then-map-lt3 : goal.returns-then-map-lt3
-returns-then-map-lt3 c = wrote_none (no_retval _ _ c.if-map-lt3.true)
+pub returns-then-map-le-EMPTY_PIECE : goal.returns-then-map-le-EMPTY_PIECE
+returns-then-map-le-EMPTY_PIECE c = wrote_none (no_retval _ _ (omega (arith, c.if-map-le-EMPTY_PIECE.true)))
 
 pub write_word-part-requires : goal.write_word-part-requires
 write_word-part-requires c = rooms_first (retval_rooms c.look-x.ensures c.requires.map_bound.1)

@@ -1,14 +1,15 @@
 -- `lines::parts::write_from` meets its contract. The measure is the requirement's number: a cell names lower ones.
+use native.Mathlib.Omega.{arith}
 use mathlib.Core.Path.{sym}
 use Rattle.lines.proofs.Writing.{fits_as, wrote_as, rooms_first, rooms_then}
 use Rattle.lines.proofs.Cells.{plain_is, cell_rooms, cell_wrote, child_call, rest_call}
 use Rattle.lines.proofs.parts.+write_from.Goals as goal
 
 pub write_plain-requires : goal.write_plain-requires
-write_plain-requires t c = fits_as (plain_is _ _ _ c.if-n-lt3.true) c.requires.n_bound.1
+write_plain-requires t c = fits_as (plain_is _ _ _ (omega (arith, c.if-n-le-EMPTY_PIECE.true))) c.requires.n_bound.1
 
-pub returns-then-n-lt3 : goal.returns-then-n-lt3
-returns-then-n-lt3 t c = wrote_as (sym (plain_is _ _ _ c.if-n-lt3.true)) c.write_plain.ensures
+pub returns-then-n-le-EMPTY_PIECE : goal.returns-then-n-le-EMPTY_PIECE
+returns-then-n-le-EMPTY_PIECE t c = wrote_as (sym (plain_is _ _ _ (omega (arith, c.if-n-le-EMPTY_PIECE.true)))) c.write_plain.ensures
 
 pub write_byte-index-requires : goal.write_byte-index-requires
 write_byte-index-requires t c = rooms_first (cell_rooms _ c.look-x.ensures c.opening-open.ensures c.requires.n_bound.1)

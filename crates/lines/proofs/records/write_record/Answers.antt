@@ -5,8 +5,8 @@ use Rattle.lines.proofs.Rows.{no_record, record_line, wrote_none}
 use native.Mathlib.Omega.{arith}
 use Rattle.lines.proofs.records.write_record.Goals as goal
 
-pub returns-then-p-lt3 : goal.returns-then-p-lt3
-returns-then-p-lt3 c = wrote_none (no_record _ _ _ c.if-p-lt3.true)
+pub returns-then-p-le-EMPTY_PIECE : goal.returns-then-p-le-EMPTY_PIECE
+returns-then-p-le-EMPTY_PIECE c = wrote_none (no_record _ _ _ (omega (arith, c.if-p-le-EMPTY_PIECE.true)))
 
 pub write_line-requires : goal.write_line-requires
 write_line-requires c =

@@ -6,10 +6,10 @@ pub returns-then-f-asked : goal.returns-then-f-asked
 returns-then-f-asked c =
     part_asked _ _ _ _ _ _ c.args.part.now _ c.requires.2 c.start-from.ensures c.if-f-asked.true c.copy.ensures
 
-pub returns-then-totals-i-eq0 : goal.returns-then-totals-i-eq0
-returns-then-totals-i-eq0 c =
-    part_none _ _ _ _ _ _ c.args.part.now _ c.requires.2 c.start-from.ensures c.if-f-asked.false c.if-totals-i-eq0.true c.clear.ensures
+pub returns-then-totals-i-eq-NO_TOTAL : goal.returns-then-totals-i-eq-NO_TOTAL
+returns-then-totals-i-eq-NO_TOTAL c =
+    part_none _ _ _ _ _ _ c.args.part.now _ c.requires.2 c.start-from.ensures c.if-f-asked.false c.if-totals-i-eq-NO_TOTAL.true c.clear.ensures
 
 pub returns : goal.returns
 returns c =
-    part-total _ _ _ _ _ _ c.args.part.now _ c.requires.2 c.start-from.ensures c.if-f-asked.false c.if-totals-i-eq0.false c.copy-2.ensures
+    part-total _ _ _ _ _ _ c.args.part.now _ c.requires.2 c.start-from.ensures c.if-f-asked.false c.if-totals-i-eq-NO_TOTAL.false c.copy-2.ensures

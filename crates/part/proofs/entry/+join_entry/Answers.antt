@@ -1,13 +1,14 @@
 -- `join_entry` meets its contract. The measure is the map's number.
+use native.Mathlib.Omega.{arith}
 use Rattle.part.proofs.Entries.{entry_all, entry_end, entry_before, entry_after, entry_joins, entry_rests, entry_remakes_at, entry_at}
 use Rattle.part.proofs.entry.+join_entry.Goals as goal
 
-pub returns-then-m-eq0 : goal.returns-then-m-eq0
-returns-then-m-eq0 t c = entry_all (c.requires.good, (c.requires.m_bound, c.requires.room)) _ c.if-m-eq0.true
+pub returns-then-m-eq-ALL_PIECE : goal.returns-then-m-eq-ALL_PIECE
+returns-then-m-eq-ALL_PIECE t c = entry_all (c.requires.good, (c.requires.m_bound, c.requires.room)) _ c.if-m-eq-ALL_PIECE.true
 
-pub returns-then-m-lt3 : goal.returns-then-m-lt3
-returns-then-m-lt3 t c =
-    entry_end (c.requires.good, (c.requires.m_bound, c.requires.room)) c.if-m-eq0.false c.if-m-lt3.true c.make.ensures
+pub returns-then-m-le-EMPTY_PIECE : goal.returns-then-m-le-EMPTY_PIECE
+returns-then-m-le-EMPTY_PIECE t c =
+    entry_end (c.requires.good, (c.requires.m_bound, c.requires.room)) c.if-m-eq-ALL_PIECE.false (omega (arith, c.if-m-le-EMPTY_PIECE.true)) c.make.ensures
 
 pub returns-then-i-x : goal.returns-then-i-x
 returns-then-i-x t c =

@@ -5,12 +5,12 @@ use Rattle.part.proofs.entry.contains_entry.Goals as goal
 pub returns-then-i-x : goal.returns-then-i-x
 returns-then-i-x c = passed_before c.loop-n.invariant c.look-x.ensures c.if-i-x.true
 
-pub returns-then-x-eq1 : goal.returns-then-x-eq1
-returns-then-x-eq1 c = passed_bare c.loop-n.invariant c.look-x.ensures c.if-i-x-2.true c.if-x-eq1.true
+pub returns-then-x-eq-EXIST_PIECE : goal.returns-then-x-eq-EXIST_PIECE
+returns-then-x-eq-EXIST_PIECE c = passed_bare c.loop-n.invariant c.look-x.ensures c.if-i-x-2.true c.if-x-eq-EXIST_PIECE.true
 
 pub returns-then-i-x-2 : goal.returns-then-i-x-2
 returns-then-i-x-2 c =
-    passed_at c.loop-n.invariant c.look-x.ensures c.if-i-x-2.true c.if-x-eq1.false c.contains.ensures
+    passed_at c.loop-n.invariant c.look-x.ensures c.if-i-x-2.true c.if-x-eq-EXIST_PIECE.false c.contains.ensures
 
 pub loop-n-preserved : goal.loop-n-preserved
 loop-n-preserved c = passed_after c.loop-n.invariant c.look-x.ensures c.if-i-x.false c.if-i-x-2.false

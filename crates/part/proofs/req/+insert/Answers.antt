@@ -1,10 +1,11 @@
 -- `insert` meets its contract. The measure is the map's number.
+use native.Mathlib.Omega.{arith}
 use Rattle.part.proofs.Making.{inserted_end, inserted_before, inserted_at, inserted_after}
 use Rattle.part.proofs.req.+insert.Goals as goal
 
-pub returns-then-m-lt3 : goal.returns-then-m-lt3
-returns-then-m-lt3 t c =
-    inserted_end (c.requires.good, (c.requires.m_bound, c.requires.room)) c.if-m-lt3.true c.make.ensures
+pub returns-then-m-le-EMPTY_PIECE : goal.returns-then-m-le-EMPTY_PIECE
+returns-then-m-le-EMPTY_PIECE t c =
+    inserted_end (c.requires.good, (c.requires.m_bound, c.requires.room)) (omega (arith, c.if-m-le-EMPTY_PIECE.true)) c.make.ensures
 
 pub returns-then-i-x : goal.returns-then-i-x
 returns-then-i-x t c =

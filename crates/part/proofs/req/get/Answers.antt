@@ -11,8 +11,8 @@ returns-then-j-x-2 c = get_at c.loop-n.invariant c.look-x.ensures c.if-j-x-2.tru
 pub loop-n-preserved : goal.loop-n-preserved
 loop-n-preserved c = get_after c.loop-n.invariant c.look-x.ensures c.if-j-x.false c.if-j-x-2.false
 
-pub returns-then-n-eq0 : goal.returns-then-n-eq0
-returns-then-n-eq0 c = get_all c.loop-n.invariant c.requires.good c.if-n-eq0.true
+pub returns-then-n-eq-ALL_PIECE : goal.returns-then-n-eq-ALL_PIECE
+returns-then-n-eq-ALL_PIECE c = get_all c.loop-n.invariant c.requires.good c.if-n-eq-ALL_PIECE.true
 
-pub returns-else-n-eq0 : goal.returns-else-n-eq0
-returns-else-n-eq0 c = get_none c.loop-n.invariant c.loop-n-test.false c.if-n-eq0.false
+pub returns-else-n-eq-ALL_PIECE : goal.returns-else-n-eq-ALL_PIECE
+returns-else-n-eq-ALL_PIECE c = get_none c.loop-n.invariant c.loop-n-test.false c.if-n-eq-ALL_PIECE.false

@@ -6,6 +6,7 @@ use borrow.Author.Rules.{rules}
 use Rattle.part.specs.Store.{part}
 use Rattle.strays.specs.Exits.{exits_of}
 use Rattle.strays.proofs.Found.{in_function, statement_in, statement_small, there, block_low, accept_low, reject_low, body_low, continuing_low, cases_in, case_there}
+use Rattle.strays.proofs.Allowed.{case_is, body_is}
 use Rattle.quiet.proofs.Steps.{at_first, stops, goes_on, ends, is_last, statement_first, no_statement, all_statements, case_first, no_case, all_cases, quiet_inner, quiet_if, quiet_loop, quiet_switch}
 use native.Mathlib.Omega.{arith}
 use Rattle.quiet.proofs.blocks.+quiet_block_quiet_cases_quiet_statement.Goals as goal
@@ -94,7 +95,7 @@ quiet_statement-quiet_cases-requires t c =
 
 pub quiet_statement-returns-in-Ok-Switch : goal.quiet_statement-returns-in-Ok-Switch
 quiet_statement-returns-in-Ok-Switch t c =
-    is_last (quiet_switch c.requires.statement_in c.statement-row.ensures _ _ (search rules) c.in_case-x.ensures _) c.quiet_cases.ensures
+    is_last (quiet_switch c.requires.statement_in c.statement-row.ensures _ _ (search rules) (case_is _ c.in_case-x.ensures) _) c.quiet_cases.ensures
 
 pub quiet_statement-quiet_block-requires-in-Ok-Loop : goal.quiet_statement-quiet_block-requires-in-Ok-Loop
 quiet_statement-quiet_block-requires-in-Ok-Loop t c =
@@ -106,11 +107,11 @@ quiet_statement-quiet_block-requires-then-quiet_block-2 t c =
 
 pub quiet_statement-returns-else-quiet_block-2 : goal.quiet_statement-returns-else-quiet_block-2
 quiet_statement-returns-else-quiet_block-2 t c =
-    rw c.if-quiet_block-2.false (stops (at_first _ _) (quiet_loop c.requires.statement_in c.statement-row.ensures _ _ (search rules) c.block_operand-body.ensures c.in_body-x.ensures c.block_operand-last.ensures c.in_case-y.ensures) c.quiet_block-in-Ok-Loop.ensures c.if-quiet_block-2.false)
+    rw c.if-quiet_block-2.false (stops (at_first _ _) (quiet_loop c.requires.statement_in c.statement-row.ensures _ _ (search rules) c.block_operand-body.ensures (body_is _ c.in_body-x.ensures) c.block_operand-last.ensures (case_is _ c.in_case-y.ensures)) c.quiet_block-in-Ok-Loop.ensures c.if-quiet_block-2.false)
 
 pub quiet_statement-returns-then-quiet_block-2 : goal.quiet_statement-returns-then-quiet_block-2
 quiet_statement-returns-then-quiet_block-2 t c =
-    is_last (goes_on (at_first _ _) (quiet_loop c.requires.statement_in c.statement-row.ensures _ _ (search rules) c.block_operand-body.ensures c.in_body-x.ensures c.block_operand-last.ensures c.in_case-y.ensures) c.quiet_block-in-Ok-Loop.ensures c.if-quiet_block-2.true) c.quiet_block-then-quiet_block-2.ensures
+    is_last (goes_on (at_first _ _) (quiet_loop c.requires.statement_in c.statement-row.ensures _ _ (search rules) c.block_operand-body.ensures (body_is _ c.in_body-x.ensures) c.block_operand-last.ensures (case_is _ c.in_case-y.ensures)) c.quiet_block-in-Ok-Loop.ensures c.if-quiet_block-2.true) c.quiet_block-then-quiet_block-2.ensures
 
 pub quiet_statement-quiet_plain-requires-clause-s_in_bounds : goal.quiet_statement-quiet_plain-requires-clause-s_in_bounds
 quiet_statement-quiet_plain-requires-clause-s_in_bounds t c =

@@ -15,7 +15,7 @@ shape_of-t c = rw (mark_done _ _ _ _ (omega (arith, c.loop-e-test.false)) c.loop
 
 pub returns-after-loop-e : goal.returns-after-loop-e
 returns-after-loop-e c =
-    mark_done _ _ _ _ (omega (arith, c.loop-e-test.false)) c.loop-e.invariant ∙ is_emit _ _ _ c.body.ensures _ _ c.if-body-eq0.true c.body-first.ensures c.body-last.ensures
+    mark_done _ _ _ _ (omega (arith, c.loop-e-test.false)) c.loop-e.invariant ∙ is_emit _ _ _ c.body.ensures _ _ c.if-body.true c.body-first.ensures c.body-last.ensures
 
-pub returns-else-body-eq0 : goal.returns-else-body-eq0
-returns-else-body-eq0 c = no_emit _ _ _ c.body.ensures c.if-body-eq0.false
+pub returns-else-body : goal.returns-else-body
+returns-else-body c = no_emit _ _ _ c.body.ensures c.if-body.false

@@ -1,33 +1,18 @@
 -- `report::outcome::walk_request` meets its contract: the request's refusal, or what its walk comes to.
-use native.Mathlib.Omega.{arith}
 use Rattle.requests.proofs.Basing.{passed}
 use Rattle.report.proofs.Requesting.{fill_asks, request_refused, request_asked, request_walked}
-use borrow.Author.Rules.{rules}
 use Rattle.report.proofs.outcome.walk_request.Goals as goal
-
-pub place_marks-requires : goal.place_marks-requires
-place_marks-requires c = (c.requires.0, search rules)
 
 pub fill-requires : goal.fill-requires
 fill-requires c =
     let q9 = fill_asks c.requires.0 c.requires.1 in
     record { table_len = q9.0; table_len_bound = q9.1.0; all_sized = q9.1.1 }
 
-pub begin_request-requires : goal.begin_request-requires
-begin_request-requires c =
-    record { was_read = c.requires.0; placed = c.place_marks.ensures; cells_long = search rules; cells_fit = search rules; slots_long = search rules; open_long = search rules; totals_long = search rules }
-
 pub walk_function-requires : goal.walk_function-requires
 walk_function-requires c = request_asked c.begin_request.ensures c.in_ok-begun.was c.fill.ensures
 
-pub shape_of-table-in_err-begun : goal.shape_of-table-in_err-begun
-shape_of-table-in_err-begun c = omega (arith, c.fill.auto)
-
 pub returns-in_err-begun : goal.returns-in_err-begun
 returns-in_err-begun c = rw (passed c.from_residual.ensures.1) (request_refused c.begin_request.ensures c.in_err-begun.was)
-
-pub shape_of-table : goal.shape_of-table
-shape_of-table c = omega (arith, c.fill.auto)
 
 pub returns : goal.returns
 returns c =

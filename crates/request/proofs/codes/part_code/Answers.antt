@@ -6,27 +6,27 @@ use Rattle.request.proofs.codes.part_code.Goals as goal
 pub returns-in_err-code : goal.returns-in_err-code
 returns-in_err-code c = rw c.from_residual.ensures (code_short _ _ _ c.in_err-code.ensures)
 
-pub returns-then-code-eq0 : goal.returns-then-code-eq0
-returns-then-code-eq0 c = code_all _ _ _ c.in_ok-code.ensures c.if-code-eq0.true
+pub returns-then-code-eq-ALL_CODE : goal.returns-then-code-eq-ALL_CODE
+returns-then-code-eq-ALL_CODE c = code_all _ _ _ c.in_ok-code.ensures c.if-code-eq-ALL_CODE.true
 
-pub returns-then-code-eq1 : goal.returns-then-code-eq1
-returns-then-code-eq1 c = code_exist _ _ _ c.in_ok-code.ensures c.if-code-eq1.true
+pub returns-then-code-eq-EXIST_CODE : goal.returns-then-code-eq-EXIST_CODE
+returns-then-code-eq-EXIST_CODE c = code_exist _ _ _ c.in_ok-code.ensures c.if-code-eq-EXIST_CODE.true
 
-pub returns-then-code-ne2 : goal.returns-then-code-ne2
-returns-then-code-ne2 c =
-    elim c.then-code-ne2.either [
-      | inl h ↦ code_unknown _ _ _ c.in_ok-code.ensures c.if-code-eq0.false c.if-code-eq1.false h
+pub returns-then-code-ne-ENTRIES_CODE : goal.returns-then-code-ne-ENTRIES_CODE
+returns-then-code-ne-ENTRIES_CODE c =
+    elim c.then-code-ne-ENTRIES_CODE.either [
+      | inl h ↦ code_unknown _ _ _ c.in_ok-code.ensures c.if-code-eq-ALL_CODE.false c.if-code-eq-EXIST_CODE.false h
       | inr h ↦ code_deep _ _ _ c.in_ok-code.ensures h.0 h.1
     ]
 
 pub returns-in_err-count : goal.returns-in_err-count
 returns-in_err-count c =
-    rw c.from_residual-in_err-count.ensures (code_ends _ _ _ c.in_ok-code.ensures c.if-code-ne2.false c.if-depth-eq0.false c.in_err-count.ensures)
+    rw c.from_residual-in_err-count.ensures (code_ends _ _ _ c.in_ok-code.ensures c.if-code-ne-ENTRIES_CODE.false c.if-depth-eq0.false c.in_err-count.ensures)
 
 pub returns-then-count-gt-MAX_ENTRIES : goal.returns-then-count-gt-MAX_ENTRIES
 returns-then-count-gt-MAX_ENTRIES c =
-    code_wide _ _ _ c.in_ok-code.ensures c.if-code-ne2.false c.if-depth-eq0.false c.in_ok-count.ensures c.if-count-gt-MAX_ENTRIES.true
+    code_wide _ _ _ c.in_ok-code.ensures c.if-code-ne-ENTRIES_CODE.false c.if-depth-eq0.false c.in_ok-count.ensures c.if-count-gt-MAX_ENTRIES.true
 
 pub returns : goal.returns
 returns c =
-    code_entries _ _ _ c.in_ok-code.ensures c.if-code-ne2.false c.if-depth-eq0.false c.in_ok-count.ensures c.if-count-gt-MAX_ENTRIES.false
+    code_entries _ _ _ c.in_ok-code.ensures c.if-code-ne-ENTRIES_CODE.false c.if-depth-eq0.false c.in_ok-count.ensures c.if-count-gt-MAX_ENTRIES.false

@@ -40,11 +40,11 @@ pub write_part-overflow_add-result : goal.write_part-overflow_add-result
 write_part-overflow_add-result t c =
     omega (arith, code_room c.args.cells.now c.args.out.now c.args.n c.args.at c.requires.fits)
 
-pub write_part-shape_of-out-then-n-lt2 : goal.write_part-shape_of-out-then-n-lt2
-write_part-shape_of-out-then-n-lt2 t c = written_long (code_written c.args.cells.now c.if-n-lt2.true c.write.ensures)
+pub write_part-shape_of-out-then-n-le-EXIST_PIECE : goal.write_part-shape_of-out-then-n-le-EXIST_PIECE
+write_part-shape_of-out-then-n-le-EXIST_PIECE t c = written_long (code_written c.args.cells.now (omega (arith, c.if-n-le-EXIST_PIECE.true)) c.write.ensures)
 
-pub write_part-returns-then-n-lt2 : goal.write_part-returns-then-n-lt2
-write_part-returns-then-n-lt2 t c = code_written _ c.if-n-lt2.true c.write.ensures
+pub write_part-returns-then-n-le-EXIST_PIECE : goal.write_part-returns-then-n-le-EXIST_PIECE
+write_part-returns-then-n-le-EXIST_PIECE t c = code_written _ (omega (arith, c.if-n-le-EXIST_PIECE.true)) c.write.ensures
 
 pub write_part-write-requires-2 : goal.write_part-write-requires-2
 write_part-write-requires-2 t c = code_room c.args.cells.now c.args.out.now c.args.n c.args.at c.requires.fits
@@ -58,20 +58,20 @@ write_part-width-requires t c = record { good = c.requires.good; n_bound = c.req
 
 pub write_part-write-requires-3 : goal.write_part-write-requires-3
 write_part-write-requires-3 t c =
-    omega (arith, count_room c.args.cells.now c.args.out.now c.args.n c.args.at c.requires.fits c.if-n-lt2.false, written_long (written_one c.write-2.ensures))
+    omega (arith, count_room c.args.cells.now c.args.out.now c.args.n c.args.at c.requires.fits (omega (arith, c.if-n-le-EXIST_PIECE.false)), written_long (written_one c.write-2.ensures))
 
 pub write_part-overflow_add-at-2 : goal.write_part-overflow_add-at-2
 write_part-overflow_add-at-2 t c =
-    omega (arith, count_room c.args.cells.now c.args.out.now c.args.n c.args.at c.requires.fits c.if-n-lt2.false)
+    omega (arith, count_room c.args.cells.now c.args.out.now c.args.n c.args.at c.requires.fits (omega (arith, c.if-n-le-EXIST_PIECE.false)))
 
 pub write_part-write_entries-requires : goal.write_part-write_entries-requires
 write_part-write_entries-requires t c =
-    (omega (arith, c.decreases), (c.requires.good, (c.requires.n_bound, omega (arith, count_room c.args.cells.now c.args.out.now c.args.n c.args.at c.requires.fits c.if-n-lt2.false, written_long (written_one c.write-2.ensures), written_long (written_one c.write-3.ensures)))))
+    (omega (arith, c.decreases), (c.requires.good, (c.requires.n_bound, omega (arith, count_room c.args.cells.now c.args.out.now c.args.n c.args.at c.requires.fits (omega (arith, c.if-n-le-EXIST_PIECE.false)), written_long (written_one c.write-2.ensures), written_long (written_one c.write-3.ensures)))))
 
 pub write_part-shape_of-out : goal.write_part-shape_of-out
 write_part-shape_of-out t c =
-    written_long (count_written c.args.cells.now c.if-n-lt2.false c.write-2.ensures c.width.ensures c.field_of.ensures c.write-3.ensures c.write_entries.ensures)
+    written_long (count_written c.args.cells.now (omega (arith, c.if-n-le-EXIST_PIECE.false)) c.write-2.ensures c.width.ensures c.field_of.ensures c.write-3.ensures c.write_entries.ensures)
 
 pub write_part-returns : goal.write_part-returns
 write_part-returns t c =
-    count_written _ c.if-n-lt2.false c.write-2.ensures c.width.ensures c.field_of.ensures c.write-3.ensures c.write_entries.ensures
+    count_written _ (omega (arith, c.if-n-le-EXIST_PIECE.false)) c.write-2.ensures c.width.ensures c.field_of.ensures c.write-3.ensures c.write_entries.ensures

@@ -5,14 +5,14 @@ use Rattle.request.proofs.write.write_return.Goals as goal
 
 pub write-requires : goal.write-requires
 write-requires c =
-    return_room c.args.cells.now c.args.out.now c.args.n c.args.at c.if-n-lt3.true c.requires.fits
+    return_room c.args.cells.now c.args.out.now c.args.n c.args.at (omega (arith, c.if-n-le-EMPTY_PIECE.true)) c.requires.fits
 
 pub overflow_add-result : goal.overflow_add-result
 overflow_add-result c =
-    omega (arith, return_room c.args.cells.now c.args.out.now c.args.n c.args.at c.if-n-lt3.true c.requires.fits)
+    omega (arith, return_room c.args.cells.now c.args.out.now c.args.n c.args.at (omega (arith, c.if-n-le-EMPTY_PIECE.true)) c.requires.fits)
 
-pub returns-then-n-lt3 : goal.returns-then-n-lt3
-returns-then-n-lt3 c = return_written _ _ _ _ c.if-n-lt3.true c.write.ensures
+pub returns-then-n-le-EMPTY_PIECE : goal.returns-then-n-le-EMPTY_PIECE
+returns-then-n-le-EMPTY_PIECE c = return_written _ _ _ _ (omega (arith, c.if-n-le-EMPTY_PIECE.true)) c.write.ensures
 
 pub write_part-requires : goal.write_part-requires
 write_part-requires c =

@@ -19,13 +19,13 @@ offset_bounds-slots-number c =
 pub bounds-slots-number : goal.bounds-slots-number
 bounds-slots-number c = load_slot c.requires (handle_there c.in_ok-e.was refl) c.expression_number-number.ensures
 
-pub returns-then-n-lt3 : goal.returns-then-n-lt3
-returns-then-n-lt3 c =
-    load_none c.requires (handle_there c.in_ok-e.was refl) c.expression_number-number.ensures refl c.if-n-lt3.true
+pub returns-then-n-le-EMPTY_PIECE : goal.returns-then-n-le-EMPTY_PIECE
+returns-then-n-le-EMPTY_PIECE c =
+    load_none c.requires (handle_there c.in_ok-e.was refl) c.expression_number-number.ensures refl c.if-n-le-EMPTY_PIECE.true
 
 pub kid-requires-clause-n_bound : goal.kid-requires-clause-n_bound
 kid-requires-clause-n_bound c = load_piece c.requires (handle_there c.in_ok-e.was refl) c.expression_number-number.ensures
 
 pub returns : goal.returns
 returns c =
-    load_there c.requires (handle_there c.in_ok-e.was refl) c.expression_number-number.ensures c.if-n-lt3.false c.kid.ensures
+    load_there c.requires (handle_there c.in_ok-e.was refl) c.expression_number-number.ensures c.if-n-le-EMPTY_PIECE.false c.kid.ensures

@@ -4,6 +4,7 @@ use Prim.Native.Nat.{◌-◌}
 use borrow.Author.Rules.{rules}
 use mathlib.Core.Path.{refl}
 use Rattle.strays.specs.Exits.{exits_of}
+use Rattle.strays.proofs.Allowed.{case_is, body_is}
 use Rattle.strays.proofs.Found.{statement_in, statement_small, there, block_low, accept_low, reject_low, body_low, continuing_low, cases_in}
 use Rattle.strays.proofs.Steps.{no_case, next_case, no_statement, next_statement, all_statements, stray-block, stray_if, stray_switch, stray_loop, stray_continue, stray_return, stray_break, stray_silent}
 use native.Mathlib.Omega.{arith}
@@ -53,7 +54,7 @@ pub stray_statement-stray_cases-requires : goal.stray_statement-stray_cases-requ
 stray_statement-stray_cases-requires t c = (omega (arith, c.decreases), cases_in c.requires c.statement-row.ensures (search rules))
 
 pub stray_statement-returns-in-Ok-Switch : goal.stray_statement-returns-in-Ok-Switch
-stray_statement-returns-in-Ok-Switch t c = stray_switch c.requires c.statement-row.ensures _ _ _ (search rules) c.in_case.ensures c.stray_cases.ensures
+stray_statement-returns-in-Ok-Switch t c = stray_switch c.requires c.statement-row.ensures _ _ _ (search rules) (case_is _ c.in_case.ensures) c.stray_cases.ensures
 
 pub stray_statement-stray_block-continuing-requires : goal.stray_statement-stray_block-continuing-requires
 stray_statement-stray_block-continuing-requires t c =
@@ -64,7 +65,7 @@ stray_statement-stray_block-requires-in-Ok-Loop t c =
     let h = there c.requires c.statement-row.ensures 0 c.block_operand-body.ensures (body_low c.requires c.statement-row.ensures (search rules)) in (omega (arith, h.0, c.decreases), h.1)
 
 pub stray_statement-returns-in-Ok-Loop : goal.stray_statement-returns-in-Ok-Loop
-stray_statement-returns-in-Ok-Loop t c = stray_loop c.requires c.statement-row.ensures _ _ _ _ (search rules) c.block_operand-last.ensures c.none.ensures c.stray_block-continuing.ensures c.block_operand-body.ensures c.in_body.ensures c.stray_block-in-Ok-Loop.ensures
+stray_statement-returns-in-Ok-Loop t c = stray_loop c.requires c.statement-row.ensures _ _ _ _ (search rules) c.block_operand-last.ensures c.none.ensures c.stray_block-continuing.ensures c.block_operand-body.ensures (body_is _ c.in_body.ensures) c.stray_block-in-Ok-Loop.ensures
 
 pub stray_statement-returns-in-Ok-Continue : goal.stray_statement-returns-in-Ok-Continue
 stray_statement-returns-in-Ok-Continue t c = stray_continue c.requires c.statement-row.ensures _ _ _ (search rules) c.lower_unless.ensures

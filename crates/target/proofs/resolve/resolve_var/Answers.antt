@@ -1,7 +1,7 @@
 -- `resolve_var` meets its contract. The invariant: what is left of the way gives the whole. The measure is the expression's number.
 use borrow.Author.Rules.{rules}
 use Rattle.valid.proofs.Accepted.{valid}
-use Rattle.target.proofs.Resolving.{resolving_start, index, value, falls, base_asks, again_index, again_all, found_global, found_local, found_none}
+use Rattle.target.proofs.Resolving.{resolving_start, index, value, falls, again_index, again_all, found_global, found_local, found_none}
 use Rattle.target.proofs.resolve.resolve_var.Goals as goal
 use Rattle.target.proofs.resolve.resolve_var.Goals.{in-Ok-AccessIndex, in-Ok-Access}
 
@@ -24,11 +24,6 @@ returns-in_default c =
 pub returns-in_default-2 : goal.returns-in_default-2
 returns-in_default-2 c =
     found_none _ _ c.requires.bytes_value c.loop-cells.invariant c.expression-row.ensures (record { index = search rules; value = search rules; global = search rules; local = search rules })
-
-pub make-p-requires : goal.make-p-requires
-make-p-requires c =
-    let q9 = base_asks _ _ c.requires.bytes_value c.loop-cells.invariant c.expression-row.ensures (search rules) c.requires.room in
-    record { good = q9.0; room = q9.1.0; child_bound = q9.1.1 }
 
 pub loop-cells-smaller : goal.loop-cells-smaller
 loop-cells-smaller c =

@@ -1,14 +1,11 @@
 -- `check_part` meets its contract. The invariant: what is left of the part, with what is needed there, gives the whole. The measure is the piece's number.
 use borrow.Author.Rules.{rules}
 use native.Mathlib.Omega.{arith}
-use Rattle.target.proofs.Checking.{checking_none, checking_start, checked_all, checked_gone, checking_next, checked_part, checked_exist, checked_whole}
+use Rattle.target.proofs.Checking.{checking_none, checked_all, checked_gone, checking_next, checked_part, checked_exist, checked_whole}
 use Rattle.target.proofs.store.check_part.Goals as goal
 
 pub returns-in_err-whole : goal.returns-in_err-whole
 returns-in_err-whole c = rw c.from_residual.ensures (checking_none _ _ _ c.in_err-whole.was)
-
-pub loop-n-init : goal.loop-n-init
-loop-n-init c = checking_start _ _ _ c.requires.q_bound.0 c.requires.q_bound.1 c.in_ok-whole.was
 
 pub returns-then-p-eq-ALL_PIECE : goal.returns-then-p-eq-ALL_PIECE
 returns-then-p-eq-ALL_PIECE c =

@@ -2,9 +2,6 @@
 use Rattle.verdict.proofs.Filling.{at-expression, at-statement, all_judged}
 use Rattle.verdict.proofs.judged.unjudged.Goals as goal
 
-pub blamed_expression-requires : goal.blamed_expression-requires
-blamed_expression-requires c = record { unsized_table = c.requires }
-
 pub returns-in-Some : goal.returns-in-Some
 returns-in-Some c =
     at-expression c.args.subject.now.file.now.bytes c.args.subject.now.file.now.t c.args.subject.now.f.0 c.blamed_expression.ensures c.in-Some.is

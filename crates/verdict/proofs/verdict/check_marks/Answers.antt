@@ -1,13 +1,6 @@
 -- `verdict::verdict::check_marks` meets its contract: what is not judged, or what the rounds answer of a judged function.
-use Rattle.verdict.proofs.Checking.{there, not_judged, firsts-asked, settling, settled}
-use native.Mathlib.Omega.{arith}
+use Rattle.verdict.proofs.Checking.{not_judged, firsts-asked, settling, settled}
 use Rattle.verdict.proofs.verdict.check_marks.Goals as goal
-
-pub fill_tables-requires : goal.fill_tables-requires
-fill_tables-requires c = (there c.requires, c.requires.sized)
-
-pub unjudged-requires : goal.unjudged-requires
-unjudged-requires c = c.fill_tables.ensures.unsized
 
 pub returns-in-Some : goal.returns-in-Some
 returns-in-Some c = not_judged c.requires c.args.marks.now c.args.context.now c.unjudged.ensures c.in-Some.is
@@ -18,15 +11,6 @@ fill_firsts-requires c = firsts-asked c.requires
 pub settle-requires : goal.settle-requires
 settle-requires c =
     settling c.requires c.unjudged.ensures c.in_default.is c.fill_tables.ensures c.fill_firsts.ensures
-
-pub shape_of-types : goal.shape_of-types
-shape_of-types c = omega (arith, c.fill_tables.auto)
-
-pub shape_of-alike : goal.shape_of-alike
-shape_of-alike c = omega (arith, c.fill_tables.auto)
-
-pub shape_of-held : goal.shape_of-held
-shape_of-held c = omega (arith, c.fill_tables.auto)
 
 pub returns : goal.returns
 returns c =

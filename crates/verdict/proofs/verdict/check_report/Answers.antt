@@ -1,10 +1,7 @@
 -- `verdict::verdict::check_report` meets its contract: 21, or what is answered of the marks.
-use Rattle.verdict.proofs.Checking.{asked_there, few_types, few_expressions, marked, refused_21, report-checked}
+use Rattle.verdict.proofs.Checking.{few_types, few_expressions, refused_21, report-checked}
 use native.Mathlib.Omega.{arith}
 use Rattle.verdict.proofs.verdict.check_report.Goals as goal
-
-pub marks_shape-requires : goal.marks_shape-requires
-marks_shape-requires c = asked_there c.requires
 
 pub returns-in_default : goal.returns-in_default
 returns-in_default c =
@@ -25,10 +22,6 @@ slice_bounds-check_marks-end-3 c =
 pub slice_bounds-check_marks-end-4 : goal.slice_bounds-check_marks-end-4
 slice_bounds-check_marks-end-4 c =
     omega (arith, few_expressions c.requires c.expressions-e.ensures, c.requires.working.paths_long)
-
-pub check_marks-requires : goal.check_marks-requires
-check_marks-requires c =
-    marked c.requires c.types-n.ensures c.expressions-e.ensures
 
 pub returns : goal.returns
 returns c =
