@@ -33,6 +33,6 @@ impl<'a> File<'a> {
     pub fn row(&self, f: FunctionHandle) -> Row
         ensures { result ≡ row_at self.now.t f.0 }
     {
-        row_at(self.t, f.0)
+        row_at(self.t, f)
     }
 }

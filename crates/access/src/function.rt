@@ -15,35 +15,35 @@ impl<'a> File<'a> {
     pub fn arguments(&self, f: FunctionHandle) -> u32
         ensures { result ≡ length (function_of self.now.bytes self.now.t f.0).arguments }
     {
-        let row = row_at(self.t, f.0);
+        let row = row_at(self.t, f);
         row.arguments
     }
 
     pub fn locals(&self, f: FunctionHandle) -> u32
         ensures { result ≡ length (function_of self.now.bytes self.now.t f.0).locals }
     {
-        let row = row_at(self.t, f.0);
+        let row = row_at(self.t, f);
         row.locals
     }
 
     pub fn expressions(&self, f: FunctionHandle) -> u32
         ensures { result ≡ length (function_of self.now.bytes self.now.t f.0).expressions }
     {
-        let row = row_at(self.t, f.0);
+        let row = row_at(self.t, f);
         row.expressions
     }
 
     pub fn statements(&self, f: FunctionHandle) -> u32
         ensures { result ≡ length (function_of self.now.bytes self.now.t f.0).statements }
     {
-        let row = row_at(self.t, f.0);
+        let row = row_at(self.t, f);
         row.statements
     }
 
     pub fn blocks(&self, f: FunctionHandle) -> u32
         ensures { result ≡ length (function_of self.now.bytes self.now.t f.0).blocks }
     {
-        let row = row_at(self.t, f.0);
+        let row = row_at(self.t, f);
         row.blocks
     }
 
@@ -58,7 +58,7 @@ impl<'a> File<'a> {
     pub fn result(&self, f: FunctionHandle) -> Option<Bound>
         ensures { result_from result ≡ (function_of self.now.bytes self.now.t f.0).result }
     {
-        let row = row_at(self.t, f.0);
+        let row = row_at(self.t, f);
         let ty = unless_absent(body(self.bytes, row.offset, 1) as u32)?;
         let binding = unless_absent(body(self.bytes, row.offset, 2) as u32);
         Some(Bound {
@@ -70,7 +70,7 @@ impl<'a> File<'a> {
     pub fn argument(&self, f: FunctionHandle, i: u32) -> Bound
         ensures { arg_from result ≡ argument_at self.now.bytes self.now.t f.0 i }
     {
-        let row = row_at(self.t, f.0);
+        let row = row_at(self.t, f);
         let offset = word(self.t, ITEMS + ((row.items as usize) + (i as usize)));
         let ty = TypeHandle(body(self.bytes, offset, 0) as u32);
         let binding = unless_absent(body(self.bytes, offset, 1) as u32);
@@ -80,7 +80,7 @@ impl<'a> File<'a> {
     pub fn local(&self, f: FunctionHandle, l: LocalHandle) -> TypeHandle
         ensures { result.0 ≡ local_at self.now.bytes self.now.t f.0 l.0 }
     {
-        let row = row_at(self.t, f.0);
+        let row = row_at(self.t, f);
         let offset = word(self.t, ITEMS + (row.locals_from() + (l.0 as usize)));
         TypeHandle(body(self.bytes, offset, 0) as u32)
     }
@@ -88,7 +88,7 @@ impl<'a> File<'a> {
     pub fn expression_type(&self, f: FunctionHandle, e: ExpressionHandle) -> TypeHandle
         ensures { result.0 ≡ (typed_at self.now.bytes self.now.t f.0 e.0).type }
     {
-        let row = row_at(self.t, f.0);
+        let row = row_at(self.t, f);
         let offset = word(self.t, ITEMS + (row.expressions_from() + (e.0 as usize)));
         TypeHandle(body(self.bytes, offset, 0) as u32)
     }
@@ -96,7 +96,7 @@ impl<'a> File<'a> {
     pub fn block(&self, f: FunctionHandle, b: BlockHandle) -> BlockRange
         ensures { range_from result ≡ range_at self.now.t f.0 b.0 }
     {
-        let row = row_at(self.t, f.0);
+        let row = row_at(self.t, f);
         block_range(self.t, row, b)
     }
 }

@@ -74,14 +74,14 @@ impl<'a> File<'a> {
     pub fn expression_number(&self, f: FunctionHandle, e: ExpressionHandle) -> usize
         ensures { result ≡ expression_number self.now.t f.0 e.0 }
     {
-        let row = row_at(self.t, f.0);
+        let row = row_at(self.t, f);
         row.expressions_from() + (e.0 as usize)
     }
 
     pub fn expression(&self, f: FunctionHandle, e: ExpressionHandle) -> Kinded
         ensures { result ≡ expression_row self.now.bytes self.now.t f.0 e.0 }
     {
-        let row = row_at(self.t, f.0);
+        let row = row_at(self.t, f);
         let offset = word(self.t, ITEMS + (row.expressions_from() + (e.0 as usize)));
         Kinded {
             kind: body(self.bytes, offset, 1),
@@ -93,7 +93,7 @@ impl<'a> File<'a> {
     pub fn statement(&self, f: FunctionHandle, s: u32) -> Kinded
         ensures { result ≡ statement_row self.now.bytes self.now.t f.0 s }
     {
-        let row = row_at(self.t, f.0);
+        let row = row_at(self.t, f);
         let offset = word(self.t, ITEMS + (row.statements_from() + (s as usize)));
         Kinded {
             kind: body(self.bytes, offset, 0),

@@ -2,14 +2,13 @@
 use mathlib.Core.Path.{◌≡◌, sym, ap, subst, ◌∙◌}
 use mathlib.Core.Bool.{Bool}
 use mathlib.Core.List.{List}
-use Prim.Native.Nat.{ℕ, ◌≤◌}
+use Prim.Native.Nat.{ℕ}
 use Rattle.std.specs.Prelude.{Result, Ok, Err}
 use Rattle.module.specs.Module.{Module, BlockHandle}
 use Rattle.module.specs.Decode.{tab, option_of, case_of, statement_of}
 use Rattle.module.specs.Tables.{module_of}
 use Rattle.access.specs.Access.{operand_at}
 use Rattle.access.specs.declared.kinded.Kinded.{Kinded}
-use Rattle.context.specs.Types.{types_of}
 use Rattle.walk.specs.State.{State, Out, went}
 use Rattle.walk.specs.StatementReq.{StatementReq}
 use Rattle.walk.specs.Statement.{add_statement, add_nested, add_if, add_switch, add_loop}
@@ -26,12 +25,10 @@ use Rattle.state.specs.declared.frame.Frame.{Frame}
 use Rattle.state.specs.declared.answer.Halt.{Halt}
 use Rattle.state.specs.declared.answer.Answer.{Answer}
 use Rattle.statement.specs.Leaf.{leaf_req, Arm, Leaves}
-use Rattle.statement.specs.LeafKinds.{LeafKind}
 use Rattle.block.specs.Standing.{rest_in, state_in}
 use Rattle.block.specs.Blocks.{StatementEnded, StatementEnds}
 use Rattle.block.specs.Visiting.{block_in, marked, Arms}
 use Rattle.block.proofs.Steps.{apart_state, apart_standing, beside_apart}
-use Rattle.arms.specs.Emit.{EmitAsked, EmitEnds}
 use Rattle.arms.specs.Visit.{MarkAsked, MarkEnds}
 
 -- the kinds of those that hold blocks
@@ -56,17 +53,6 @@ module _ {bytes t types places s rs open_marks totals : List ℕ} {fr : Frame} {
 
   arm : Arm bytes t s rs fr row sum
   arm = record { begun = A.begins.begun; is = A.is }
-
-  -- an emit
-  pub emit_asks : row.kind ≡ 0 → EmitAsked bytes t places s rs open_marks fr row sum
-  emit_asks e = record { arm = arm; kind = e; placed = A.begins.standing.placed; long = A.begins.standing.open_long }
-
-  pub emit_arm : {r : Result Answer Halt} {open_after : List ℕ} → EmitEnds bytes t places s rs open_marks fr row sum visits r open_after → Ends (marked m (frame_of s rs fr) (arm_of row.kind)) (λ b. b) r s rs open_after totals
-  emit_arm E = E.by types totals (add_function m) (block_in bytes t f) A.begins.standing
-
-  -- a leaf
-  pub leaf_asks : 5 ≤ row.kind → (row.kind ≡ 14 → ⊥) → Arm bytes t s rs fr row sum × ((types_of types ≡ (module_of bytes t).types) × LeafKind row.kind)
-  leaf_asks l n = (arm, (A.begins.standing.typed, record { low = l; no_call = n }))
 
   leaf_proper : (u us : List ℕ) {v : ℕ} {a : StatementReq} → went (state_in bytes t u us open_marks totals f fr.at v) a ≡ arm_of row.kind → ProperState m 0 f (state_in bytes t u us open_marks totals f fr.at v)
   leaf_proper u us {v} is =

@@ -118,9 +118,6 @@ pub record Fields (ways : List Way) (o : ℕ → ℕ) (p : PartReq) (total : Lis
   pub few : length ways ≤ fields
   pub rest : get_elem? (field_asks (fields - k) (pack (numbers (drop k ways))) o k p) skip ≡ get_elem? total j
 
-pub fields-first : {kind code : ℕ} {ways : List Way} (o : ℕ → ℕ) (p : PartReq) (j : ℕ) → WaysOf kind code ways → Fields ways o p (field_asks fields (ways_of kind code) o 0 p) j j 0
-fields-first o p j h = record { few = h.few; rest = rw h.is }
-
 module _ {ways : List Way} {o : ℕ → ℕ} {p : PartReq} {total : List Ask} {j skip k : ℕ} (h : Fields ways o p total j skip k) where
   pub fields-end : length ways ≤ k → get_elem? total j ≡ nothing
   unfolding numbers pack

@@ -5,7 +5,7 @@ use mathlib.Core.Bool.{Bool, true, false, cond, true≢false, false≢true}
 use mathlib.Core.List.{List, [], ◌∷◌}
 use mathlib.Core.Option.{Option, some, none as nothing}
 use Rattle.std.specs.Prelude as std
-use Rattle.std.specs.Prelude.{Some, None, IsSomeAnd, MatchOption, unwrap_or}
+use Rattle.std.specs.Prelude.{Some, None, MatchOption, unwrap_or}
 use Prim.Native.Nat.{ℕ, zero, suc, ◌<◌, ◌≤◌}
 use native.Mathlib.Omega.{arith}
 use native.Mathlib.Nat.{le_of_suc-le-suc}
@@ -236,10 +236,6 @@ by_entries cs (more i p r) h = refl
 
 entry_is : (cs : List ExpressionHandle) (p : PartReq) (j : ℕ) → false ≡ is_all p → {i : ℕ} → Some i ≡ first (tail p j) → get_elem? (compose_asks cs p) j ≡ some (component_ask (get_elem? cs i) (kid (tail p j)))
 entry_is cs p j h e = rw (by_entries cs p h) (entries_at cs p j _ e)
-
--- what `child` asks of the entry
-pub entry_low : {i : ℕ} {a : std.Option ℕ} → Some i ≡ a → i < spine → IsSomeAnd a (λ k. k < spine)
-entry_low e l = rw (← e) l
 
 by_components : (cs : List ExpressionHandle) (p : PartReq) → true ≡ is_all p → compose_asks cs p ≡ all_of_each cs
 unfolding compose_asks

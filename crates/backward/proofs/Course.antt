@@ -8,8 +8,6 @@ use lib.ListN.{length}
 use Rattle.access.specs.declared.kinded.Kinded.{Kinded}
 use Rattle.access.specs.Access.{operand_at}
 use Rattle.judge.specs.Given.{scope_at}
-use Rattle.clearance.specs.Scope.{Scope}
-use Rattle.hold.specs.Hold.{Live}
 use Rattle.strays.specs.Places.{BlockOf}
 use Rattle.strays.proofs.Found.{there}
 use Rattle.standing.specs.Slots.{Ready}
@@ -30,7 +28,3 @@ module _ {bytes t : List ℕ} {f : ℕ} {types alike paths firsts s rs path : Li
   block_asks r j e low k room up d y h l =
       let z = there r.statement r.is j e low in
       (z.0, (course_on d y h l, (omega (arith, z.0), z.1)))
-
--- what a point asks
-pub point_asks : {S : Scope} {s rs : List ℕ} {n : ℕ} → Ready S s rs n → Live s rs n × (0 < n)
-point_asks d = (d.live, omega (arith, d.high))

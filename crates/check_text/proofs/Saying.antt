@@ -4,21 +4,13 @@ use native.Mathlib.Omega.{arith}
 use mathlib.Core.List.{List, [], ◌∷◌, ◌++◌}
 use lib.ListN.{length, length-append}
 use Rattle.lines.specs.Text.{number, expr_word, stmt_word, refused_word}
-use Rattle.lines.specs.Wrote.{longest, Fits, Wrote}
+use Rattle.lines.specs.Wrote.{longest, Wrote}
 use Rattle.lines.proofs.Writing.{texts, Rooms, wrote_then}
 use Rattle.lines.proofs.Long.{ten_long}
 use Rattle.clearance.specs.Verdict.{Answer, clear, at_statement, at_start, unjudged_expression, unjudged_statement, refused}
 use Rattle.checking.specs.Word.{Roomy}
 use Rattle.checking.specs.Line.{check_name, unjudged_name, answer_text, check_line}
 use Rattle.check_text.specs.Checked.{max_line}
-
--- a name and a number
-module _ (name : List ℕ) (n : ℕ) {at : ℕ} (F : Fits at (name ++ number n)) where
-  pub named_first : Fits at name
-  named_first = record { room = omega (arith, length-append name (number n), F.room) }
-
-  pub named_next : {xs ys : List ℕ} {next : ℕ} → Wrote xs ys at name next → Fits next (number n)
-  named_next W = record { room = omega (arith, length-append name (number n), F.room, W.behind) }
 
 -- how long it is
 named_long : (word : List ℕ) (n : ℕ) → n < longest → length (word ++ number n) ≤ length word + 10

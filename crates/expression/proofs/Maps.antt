@@ -36,9 +36,6 @@ use Rattle.expression.specs.Visits.{Closing, Visiting, Mapping, Mapped, Meeting,
 
 -- `join`
 module _ {s rs : List ℕ} {k i : ℕ} {w : Want} (h : Mapping s rs k i w) {u : List ℕ} {q : PartReq} {r : ℕ} (a : Made s u q join_room r) where
-  pub join_over : {b : Bool} → b ≡ over (part u r) → b ≡ true → Meets s rs k q true u rs
-  join_over e g = record { by = ap over (sym a.is) ∙ sym e ∙ g }
-
   pub join_set : {b : Bool} → b ≡ over (part u r) → b ≡ false → Meets s rs k q false u (set rs k r)
   join_set e g = record {
     by = record {

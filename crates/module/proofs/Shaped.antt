@@ -44,16 +44,6 @@ stamped_on f l = record { same = refl; low = λ v. omega (arith, f.low v) }
 pub stamped_later : {first seen : List ℕ} {stamp later : ℕ} → Stamped first seen stamp → stamp ≤ later → Stamped first seen later
 stamped_later s l = record { same = s.same; low = λ v. omega (arith, s.low v) }
 
-pub shape_first : (bytes : List ℕ) (end : ℕ) (s : Scope) (seen : List ℕ) (stamp packed left : ℕ) → 2 * left ≤ end → Fresh seen stamp → Shaped bytes end s seen stamp (operands (unpack 6 packed) s (fields_to bytes end left)) seen packed 0 left
-shape_first bytes end s seen stamp packed left l f =
-    record {
-      few = omega arith;
-      fits = l;
-      same = refl;
-      fresh = record { room = f.room; low = λ v. omega (arith, f.low v) };
-      rest = refl;
-    }
-
 module _ {bytes : List ℕ} {end : ℕ} {s : Scope} {first : List ℕ} {stamp : ℕ} {whole : Bool} {seen : List ℕ} {packed k left : ℕ} (i : Shaped bytes end s first stamp whole seen packed k left) where
   module _ {after : List ℕ} (class : rattle.Option Class) {r : rattle.Option ℕ} (h : k < 6) (is : option_map meant class ≡ class_at (packed % 32)) (t : Took bytes end (class_taken class s (fields_to bytes end left)) r) (u : Stamped seen after (stamp + k)) where
     step : on_left (left_of bytes end r) (operands (unpack (6 - (k + 1)) (packed / 32)) s) ≡ whole

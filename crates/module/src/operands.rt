@@ -9,6 +9,7 @@ ghost use Rattle.module.specs.declared.shape.Class.TheVariants.{Cases};
 ghost use Rattle.module.specs.Tables.{scope_in, emitted_of};
 ghost use Rattle.module.specs.Scan.{pass_of, Took, Fresh, Stamped, class_taken};
 
+use crate::handles::FunctionHandle;
 use crate::record::body;
 use crate::shape::{Class, class_of};
 use crate::tables::{Counts, MARKS, put, row_at, word};
@@ -55,7 +56,7 @@ pub fn passes(bytes: &[u8], t: &[u32], test: Test, x: u16) -> bool
         Test::Any => true,
         Test::Callable(n) => {
             if wide < n {
-                let r = row_at(t, wide);
+                let r = row_at(t, FunctionHandle(wide));
                 return body(bytes, r.offset, 0) != 1;
             }
             false

@@ -5,6 +5,7 @@
 ghost use Rattle.std.specs.Prelude.{◌≡◌, get_or, set, ◌*◌, ◌+◌};
 ghost use Rattle.module.specs.Tables.{row_at, set_row, locals_from, expressions_from, statements_from, items_to};
 
+use crate::handles::FunctionHandle;
 use field::limits::{MAX_BYTES, MAX_EXPRESSIONS, MAX_FUNCTIONS, MAX_GLOBALS, MAX_TYPES};
 
 // A record has at least its header.
@@ -103,10 +104,10 @@ pub fn put(t: &mut [u32], i: usize, value: u32)
     }
 }
 
-pub fn row_at(t: &[u32], f: u32) -> Row
-    ensures { result ≡ row_at t.now f }
+pub fn row_at(t: &[u32], f: FunctionHandle) -> Row
+    ensures { result ≡ row_at t.now f.0 }
 {
-    let at = 8 * (f as usize);
+    let at = 8 * (f.0 as usize);
     Row {
         offset: word(t, at),
         items: word(t, at + 1),
@@ -119,10 +120,10 @@ pub fn row_at(t: &[u32], f: u32) -> Row
     }
 }
 
-pub fn set_row(t: &mut [u32], f: u32, r: Row)
-    ensures { t.new ≡ set_row t.old f r }
+pub fn set_row(t: &mut [u32], f: FunctionHandle, r: Row)
+    ensures { t.new ≡ set_row t.old f.0 r }
 {
-    let at = 8 * (f as usize);
+    let at = 8 * (f.0 as usize);
     put(t, at, r.offset);
     put(t, at + 1, r.items);
     put(t, at + 2, r.arguments);

@@ -183,9 +183,5 @@ module _ {S : Scope} {s rs : List ℕ} {n v : ℕ} {p : PartReq} (g : ListGiven 
   pub value_all : {t us : List ℕ} {r : Bool} → Asks S (step_of S (of_value x (part s a))) s rs n t us r → AsksAll S (of_value v p ∷ []) s rs n t us r
   value_all d = all_one g (rw (is, e) at d)
 
--- the part that is needed, and all
-pub wanted_piece : {S : Scope} {xs : List Ask} {s rs : List ℕ} {n : ℕ} → ListGiven S xs s rs n → get_or rs (n - 2) 0 < top s
-wanted_piece {n = n} g = g.live.loose.pieces (n - 2) (omega (arith, g.two))
-
 pub all_piece : {S : Scope} {xs : List Ask} {s rs : List ℕ} {n : ℕ} → ListGiven S xs s rs n → 0 < top s
 all_piece g = omega (arith, g.live.loose.good.base)

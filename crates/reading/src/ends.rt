@@ -4,6 +4,7 @@ ghost use Rattle.reading.specs.Ends.{step_ended, table_ended, step_at, table_at}
 
 use crate::blocks::block_rule;
 use field::refusal::Refusal;
+use module::handles::FunctionHandle;
 use module::record::Mark;
 use module::tables::{Counts, Stage, set_row};
 
@@ -19,7 +20,7 @@ pub fn ended(bytes: &[u8], t: &mut [u32], held: &mut [u32], c: Counts) -> Result
     }
     let row = c.row;
     if block_rule(bytes, t, row, held) {
-        set_row(t, c.functions, row);
+        set_row(t, FunctionHandle(c.functions), row);
         let mut d = c;
         d.functions = c.functions + 1;
         return Ok(d);

@@ -1,12 +1,12 @@
 -- A whole input: its module and its request are the parts that the code lends on, and the text is the definition's; written, it stands at the front of the buffer.
 use Prim.Native.Nat.{ℕ, ◌+◌, ◌-◌, ◌<◌, ◌≤◌}
 use native.Mathlib.Omega.{arith}
-use native.Mathlib.Nat.{sub-zero, zero-add}
+use native.Mathlib.Nat.{zero-add}
 use mathlib.Core.Path.{◌≡◌, sym, ap, ◌∙◌}
 use mathlib.Core.Bool.{Bool}
 use mathlib.Core.List.{List, ◌++◌}
-use lib.ListN.{length, take, drop, length-append, length-drop}
-use lib.Seq.{sets-eq, take_all}
+use lib.ListN.{length, drop, length-append}
+use lib.Seq.{sets-eq}
 use Rattle.std.specs.Prelude.{Result, Ok, Err}
 use Rattle.field.specs.Limits.{min_report}
 use Rattle.field.specs.Refusal.{number}
@@ -17,7 +17,6 @@ use Rattle.request.specs.Request.{read_request}
 use Rattle.reading.specs.Reads.{Reads}
 use Rattle.memory.specs.Layout.{stack_slot}
 use Rattle.state.specs.Ready.{WasRead}
-use Rattle.lines.specs.Text.{refused_text}
 use Rattle.lines.specs.Reported.{report_in, text_in, max_text}
 use Rattle.lines.specs.Wrote.{longest, Wrote, Front}
 use Rattle.lines.proofs.Writing.{wrote_then, wrote_front}
@@ -27,7 +26,7 @@ use Rattle.checking.specs.declared.words.Verdict.{Verdict}
 use Rattle.checking.specs.Line.{check_line}
 use Rattle.report_text.specs.Split.{module_bytes, module_in, request_in}
 use Rattle.report_text.specs.Input.{check_of, request_text, module_text, report_input}
-use Rattle.check_text.specs.Checked.{max_line, Judging, Checks}
+use Rattle.check_text.specs.Checked.{max_line, Checks}
 use Rattle.check_text.proofs.Saying.{line_long}
 use Rattle.report.specs.Outcome.{Shows, TextIs}
 use Rattle.report.specs.declared.outcome.Reported.{Reported}
@@ -37,12 +36,6 @@ use Rattle.field.proofs.Refusals.{some_number}
 module _ (input : List ℕ) {at : ℕ} (e : at ≡ module_bytes input 0) where
   pub split_inside : at ≤ length input
   split_inside = omega (arith, within input 0)
-
-  pub front_is : take (at - 0) input ≡ module_in input
-  front_is = rw (sub-zero at, e)
-
-  pub behind_is : take (length input - at) (drop at input) ≡ request_in input
-  behind_is = take_all (length input - at) (drop at input) (omega (arith, length-drop at input)) ∙ rw e
 
 -- the request of a module that was read, both as the code has them
 module _ (input : List ℕ) {b t asked : List ℕ} (e : b ≡ module_in input) (q : asked ≡ request_in input) where
@@ -62,9 +55,6 @@ was_read R z = record { module_is = (R.accepts z).0; laid = (R.accepts z).1 }
 
 -- the text is written
 module _ {text bytes t asked-bytes places s rs open_marks : List ℕ} {a : Result Reported Refusal} (T : TextIs text bytes t asked-bytes places s rs open_marks a) where
-  pub wrote_refused : {before after : List ℕ} {e : Refusal} {r : ℕ} → a ≡ Err e → Front before after (refused_text (number e)) r → Front before after text r
-  wrote_refused {e = e} z F = let is : text ≡ refused_text (number e) = rw z at T.by in rw is F
-
   pub reported : {f : Handle} {required : Bool} → a ≡ Ok (record { function = f; required = required }) → Shows text bytes t asked-bytes places s rs open_marks f.0 required
   reported e = rw e at T.by
 
@@ -77,20 +67,6 @@ front-then {xs} {ys} {zs} {text} {more} {n} {r} F W l =
 
 -- by what memory has, and its check
 module _ {text bytes t asked-bytes places s rs open_marks : List ℕ} {f : ℕ} {required : Bool} (S : Shows text bytes t asked-bytes places s rs open_marks f required) where
-  pub judging : Judging bytes t s rs open_marks (stack_slot + 4) asked-bytes
-  judging =
-      let h = S.reporting in
-      record {
-        was_read = h.marked.was_read;
-        q = S.q;
-        asks = S.asks;
-        memory = h.memory;
-        high = h.high;
-        context = rw S.function_is h.context;
-        few = omega (arith, h.few);
-        long = h.marked.long;
-      }
-
   module _ {v : Verdict} (C : Checks bytes t s rs open_marks (stack_slot + 4) asked-bytes v) where
     answers : said v ≡ check_of (module_of bytes t) S.q (report_in bytes t s rs open_marks f (stack_slot + 4) required)
     answers =

@@ -20,7 +20,6 @@ use Rattle.request.specs.Request.{Request, asking, is_request, request_of, judge
 use Rattle.request.specs.Answers.{optional, Held, RequestHeld, RequestWasRead}
 use Rattle.request.specs.declared.requests.Request as declared
 use Rattle.std.specs.Prelude.{Result, Ok, Err, IsErrAnd}
-use Rattle.field.specs.Refusal.{number}
 use Rattle.field.specs.declared.refusal.Refusal.{Refusal}
 use Rattle.memory.specs.Layout.{globals_slot, stack_slot}
 use Rattle.memory.specs.Stretches.{four_set}
@@ -85,22 +84,10 @@ module _ {s rs : List ℕ} (E : Empty s rs) (request : List ℕ) (functions glob
   reading_room = omega (arith, E.few, E.memory.fits)
 
   module _ {t : List ℕ} {a : Result declared.Request Refusal} (W : RequestWasRead s t (length request) (judge functions globals report (request_of request)) a) where
-    -- it is refused
-    pub load_refused : {e : Refusal} → a ≡ Err e → judge functions globals report (request_of request) ≡ refused (number e)
-    load_refused h = sym W.is ∙ rw h
-
     module _ {q : declared.Request} (e : a ≡ Ok q) where
       held : Held t q.retval × (q.globals < top t) × (4 * top t ≤ 4 * top s + length request)
       held = subst (RequestHeld s t (length request)) e W.held
 
-      pub load_bases : stack_slot + 4 ≤ length rs → Basing t rs q
-      load_bases l = record {
-        memory = kept_memory E.memory W.kept;
-        slots_long = l;
-        held = held.0;
-        globals = held.1;
-        roomy = omega (arith, held.2, E.few, E.memory.fits, W.kept.long);
-      }
 
       abbrev asked_for : Request
       asked_for = asking q.function.0 (optional t q.retval) (part t q.globals)

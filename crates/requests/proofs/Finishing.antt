@@ -135,9 +135,6 @@ module _ {bytes t places s rs open_marks totals : List ℕ} {f : FunctionHandle}
   pub finish_sub : own_in t s rs f ≤ sum
   finish_sub = own_few F.ended.standing
 
-  pub finish_high : base + 4 + 4 ≤ length rs
-  finish_high = F.ended.standing.ready.high
-
   pub finish_report : {n : ℕ} → n ≡ length (module_of bytes t).functions → AllInside places n min_report × Sized open_marks totals × (n ≤ totals_at) × (min_report ≤ length report)
   finish_report e =
       let S = F.ended.standing in

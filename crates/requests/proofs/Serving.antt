@@ -35,7 +35,7 @@ use Rattle.requests.specs.Answer.{min_answer}
 use Rattle.requests.specs.Loaded.{Loaded}
 use Rattle.requests.specs.Begin.{with_totals, after_request, beginning, Begins, Ready}
 use Rattle.requests.specs.Serve.{Lent, refused_at, finish, lent_pruner, on_pruner, on_request, serve_read}
-use Rattle.requests.specs.Finish.{nowhere as at_no_place, Finishing, Finished}
+use Rattle.requests.specs.Finish.{nowhere as at_no_place, Finished}
 use Rattle.requests.specs.Served.{Walking, Walked, Served}
 use Rattle.requests.specs.declared.begin.Begun.{Begun}
 use Rattle.requests.proofs.Begins.{enters, walks-request}
@@ -66,19 +66,6 @@ module _ {bytes t types places s rs open_marks totals : List ℕ} {f : ℕ} wher
         ended : FunctionEnded bytes t types places s rs open_marks totals f stack_slot 0 (walk_in bytes t s rs open_marks totals f) tally.visits tally.sum required u us open_after totals-after
         ended = rw e at E.by
 
-        pub walk_finishes : Finishing bytes t places u us open_after totals-after f stack_slot required tally.visits tally.sum pruner report answer
-        walk_finishes = record {
-          types = types;
-          cells_before = s;
-          slots_before = rs;
-          open_before = open_marks;
-          totals_before = totals;
-          total = walk_in bytes t s rs open_marks totals f;
-          ended = ended;
-          pruner_long = W.pruner_long;
-          report_long = W.report_long;
-          answer_long = W.answer_long;
-        }
 
         pub walk_finished : {r : Result ℕ Halt} {pruner-after report-after answer-after : List ℕ}
             → Finished bytes t places u us open_after totals-after f stack_slot required tally.visits tally.sum pruner report answer r pruner-after report-after answer-after

@@ -12,7 +12,7 @@ use Rattle.part.specs.Store.{part, Kept}
 use Rattle.part.specs.Found.{Got}
 use Rattle.module.specs.Tables.{module_of}
 use Rattle.context.specs.RequiredContext.{RequiredContext}
-use Rattle.context.specs.Contexts.{context_of, HasContext, variable_of}
+use Rattle.context.specs.Contexts.{context_of, variable_of}
 use Rattle.context.specs.declared.required_context.RequiredContext.{RequiredContext as Pieces}
 use Rattle.sound.proofs.Walks.{module_sound}
 use Rattle.walk.specs.State.{State, went, halt}
@@ -49,13 +49,6 @@ kept_ready {bytes} {t} {s} {rs} {u} {f} {at} {held} {sum} r x =
 
 -- the context by its pieces
 module _ {s rs : List ℕ} (m : Memory s rs) (at : ℕ) (high : at + 4 ≤ length rs) where
-  pub pieces_has : HasContext s (pieces_at rs at)
-  pieces_has = record {
-    globals = m.below at (omega arith);
-    locals = m.below (at + 1) (omega arith);
-    args = m.below (at + 2) (omega arith);
-    retval = m.below (at + 3) (omega arith);
-  }
 
   pub pieces_are : context_of s (pieces_at rs at) ≡ context_at (read s rs) at
   pieces_are =

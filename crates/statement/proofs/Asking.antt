@@ -6,13 +6,10 @@ use mathlib.Core.Bool.{Bool, false}
 use mathlib.Core.List.{List}
 use mathlib.Core.Option.{Option, some, none as nothing}
 use lib.ListN.{get_or}
-use borrow.Author.Tests.{ne_eqb}
 use Rattle.std.specs.Prelude.{Option as Optional, Some, None, Result, Ok, Err}
-use Rattle.field.specs.Limits.{absent}
 use Rattle.part.specs.PartReq.{PartReq, over}
 use Rattle.part.specs.Store.{part}
 use Rattle.module.specs.declared.handles.ExpressionHandle.{ExpressionHandle as Handle}
-use Rattle.module.specs.Decode.{option_of}
 use Rattle.module.specs.Tables.{module_of}
 use Rattle.access.specs.Access.{handle_in}
 use Rattle.valid.specs.Valid.{MaybeBelow}
@@ -110,10 +107,6 @@ handle_absent h g = sym g ∙ rw h refl
 pub handle_given : {e : Handle} {n : ℕ} → e.0 ≡ n → handle_in (Some e) ≡ some n
 unfolding handle_in
 handle_given h = ap (λ (n : ℕ). some n) h
-
-pub below_there : (n e : ℕ) → (e ≡ absent → ⊥) → MaybeBelow n (option_of e) → e < n
-unfolding option_of
-below_there n e h b = rw (ne_eqb e absent h) at b
 
 pub optional_is : (fr : walk.Frame) (m : _) (o : Option ℕ) (p : PartReq) (st : State) → maybe_ask m fr.function fr.held o p st ≡ ask_optional m fr o p st
 unfolding maybe_ask ask_optional
