@@ -11,6 +11,7 @@ use crate::take::take_out;
 use ends::notes::{blame, note};
 use hold::hold::copy;
 use judge::subject::Subject;
+use memory::parts::Parts;
 use module::handles::ExpressionHandle;
 use operands::expression::ask_operands;
 use place::slots::evaluated_path;
@@ -20,21 +21,20 @@ use standing::passing::{Passing, filled};
 // The needs before an emit of the expression e. Its operands are lent as much of the path as the function's pointers take. Says whether the needs are within the bound.
 pub fn act_emit(
     subject: &Subject,
-    cells: &mut [u32],
-    roots: &mut [u32],
+    parts: &mut Parts,
     path: &mut [u32],
     n: usize,
     e: ExpressionHandle,
 ) -> bool
-    requires act_given { ActGivenOf subject.now cells.old roots.old path.old n }
+    requires act_given { ActGivenOf subject.now parts.old.cells parts.old.slots path.old n }
     requires e_in_bounds { e.0 < length (function_in subject.now).expressions }
-    ensures { Acted (scope_of subject.now) (emit e.0) cells.old roots.old n cells.new roots.new path.old path.new result }
+    ensures { Acted (scope_of subject.now) (emit e.0) parts.old.cells parts.old.slots n parts.new.cells parts.new.slots path.old path.new result }
 {
     let last = n - 1;
     let left = n + 1;
     let asked = n + 2;
-    let hand = roots[last];
-    let a = emit_overlap(subject, cells, path, hand, e);
+    let hand = parts.slots[last];
+    let a = emit_overlap(subject, &parts.cells, path, hand, e);
     if !is_some(a) {
         return true;
     }
@@ -43,8 +43,7 @@ pub fn act_emit(
         subject.file,
         subject.f,
         subject.types,
-        cells,
-        roots,
+        parts,
         n,
         &path[0..2],
         a,
@@ -53,10 +52,10 @@ pub fn act_emit(
     }
     let size = (subject.file.expressions(subject.f) as usize) + 2;
     let part = &mut path[..size];
-    if !ask_operands(subject, cells, roots, part, asked, e) {
+    if !ask_operands(subject, parts, part, asked, e) {
         return false;
     }
-    copy(roots, left, last);
+    copy(&mut parts.slots, left, last);
     true
 }
 
@@ -64,8 +63,7 @@ pub fn act_emit(
 // The expression e of the emit l, in a pass.
 fn pass_emit(
     subject: &Subject,
-    cells: &mut [u32],
-    roots: &mut [u32],
+    parts: &mut Parts,
     path: &mut [u32],
     n: usize,
     p: Passing,
@@ -73,27 +71,27 @@ fn pass_emit(
     marked: bool,
     e: ExpressionHandle,
 ) -> Passing
-    requires pass_given { PassGivenOf subject.now cells.old roots.old path.old n p l }
+    requires pass_given { PassGivenOf subject.now parts.old.cells parts.old.slots path.old n p l }
     requires e_in_bounds { e.0 < length (function_in subject.now).expressions }
-    ensures { ByMark (scope_of subject.now) l marked (emit e.0) cells.old roots.old n p cells.new roots.new path.old path.new result }
+    ensures { ByMark (scope_of subject.now) l marked (emit e.0) parts.old.cells parts.old.slots n p parts.new.cells parts.new.slots path.old path.new result }
 {
     let last = n - 1;
     let above = n + 1;
     if marked {
-        if act_emit(subject, cells, roots, path, n, e) {
+        if act_emit(subject, parts, path, n, e) {
             return p;
         }
         return filled();
     }
-    let hand = roots[last];
-    if emit_idle(subject, cells, path, hand, e) {
+    let hand = parts.slots[last];
+    if emit_idle(subject, &parts.cells, path, hand, e) {
         return p;
     }
-    copy(roots, last, n);
-    if !act_emit(subject, cells, roots, path, above, e) {
+    copy(&mut parts.slots, last, n);
+    if !act_emit(subject, parts, path, above, e) {
         return filled();
     }
-    copy(roots, n, last);
+    copy(&mut parts.slots, n, last);
     blame(l, p)
 }
 
@@ -101,8 +99,7 @@ fn pass_emit(
 pub fn pass_emits(
     subject: &Subject,
     marks: &[u8],
-    cells: &mut [u32],
-    roots: &mut [u32],
+    parts: &mut Parts,
     path: &mut [u32],
     n: usize,
     p: Passing,
@@ -111,18 +108,18 @@ pub fn pass_emits(
     first: ExpressionHandle,
     last: ExpressionHandle,
 ) -> Passing
-    requires pass_given { PassGivenOf subject.now cells.old roots.old path.old n p l }
+    requires pass_given { PassGivenOf subject.now parts.old.cells parts.old.slots path.old n p l }
     requires begin_value { begin ≡ marks_before (function_in subject.now).statements l }
     requires last_in_bounds { last.0 < length (function_in subject.now).expressions }
-    ensures { EmitsPassed (scope_of subject.now) marks.now l first.0 last.0 cells.old roots.old n p cells.new roots.new path.old path.new result }
+    ensures { EmitsPassed (scope_of subject.now) marks.now l first.0 last.0 parts.old.cells parts.old.slots n p parts.new.cells parts.new.slots path.old path.new result }
 {
     let mut q = p;
     let count = (last.0 + 1).saturating_sub(first.0);
     for k in (0..count).rev() {
-        let at = note(cells, roots, n, q);
+        let at = note(parts, n, q);
         let marked = mark_at(marks, (begin as usize) + (k as usize));
         let e = ExpressionHandle(first.0 + k);
-        q = pass_emit(subject, cells, roots, path, n, at, l, marked, e);
+        q = pass_emit(subject, parts, path, n, at, l, marked, e);
         if q.full {
             return q;
         }

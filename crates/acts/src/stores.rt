@@ -17,6 +17,7 @@ use asking::ask::ask_value;
 use ends::notes::blame;
 use hold::hold::copy;
 use judge::subject::Subject;
+use memory::parts::Parts;
 use module::handles::{ExpressionHandle, FunctionHandle};
 use operands::load::ask_indexes;
 use part::store::ALL_PIECE;
@@ -29,26 +30,25 @@ fn store_at(
     file: &File,
     f: FunctionHandle,
     types: &[u32],
-    cells: &mut [u32],
-    roots: &mut [u32],
+    parts: &mut Parts,
     n: usize,
     place: &[u32],
     a: u32,
     v: ExpressionHandle,
 ) -> bool
-    requires { PlaceGiven file.now.bytes file.now.t f.0 types.now cells.old roots.old n place.now a v.0 }
-    ensures { Stepped (scope_at file.now.bytes file.now.t f.0) (leaving (scope_at file.now.bytes file.now.t f.0) (without (scope_at file.now.bytes file.now.t f.0) place.now (in_slot cells.old roots.old (n - 1))) (of_value v.0 (below (in_slot cells.old roots.old (n - 1)) place.now) ∷ [])) cells.old roots.old n cells.new roots.new result }
+    requires { PlaceGiven file.now.bytes file.now.t f.0 types.now parts.old.cells parts.old.slots n place.now a v.0 }
+    ensures { Stepped (scope_at file.now.bytes file.now.t f.0) (leaving (scope_at file.now.bytes file.now.t f.0) (without (scope_at file.now.bytes file.now.t f.0) place.now (in_slot parts.old.cells parts.old.slots (n - 1))) (of_value v.0 (below (in_slot parts.old.cells parts.old.slots (n - 1)) place.now) ∷ [])) parts.old.cells parts.old.slots n parts.new.cells parts.new.slots result }
 {
     let last = n - 1;
     let left = n + 1;
-    if !take_out(file, f, types, cells, roots, n, place, a) {
+    if !take_out(file, f, types, parts, n, place, a) {
         return false;
     }
-    let part = roots[n];
-    if !ask_value(file, f, cells, roots, n + 2, v, part) {
+    let part = parts.slots[n];
+    if !ask_value(file, f, parts, n + 2, v, part) {
         return false;
     }
-    copy(roots, left, last);
+    copy(&mut parts.slots, left, last);
     true
 }
 
@@ -56,57 +56,54 @@ fn store_at(
 fn store_somewhere(
     file: &File,
     f: FunctionHandle,
-    cells: &mut [u32],
-    roots: &mut [u32],
+    parts: &mut Parts,
     n: usize,
     p: ExpressionHandle,
     v: ExpressionHandle,
 ) -> bool
-    requires { SomewhereGiven file.now.bytes file.now.t f.0 cells.old roots.old n p.0 v.0 }
-    ensures { Stepped (scope_at file.now.bytes file.now.t f.0) (leaving (scope_at file.now.bytes file.now.t f.0) (in_slot cells.old roots.old (n - 1)) (ask_whole v.0 ∷ map ask_whole (indexes_of file.now.bytes file.now.t f.0 p.0))) cells.old roots.old n cells.new roots.new result }
+    requires { SomewhereGiven file.now.bytes file.now.t f.0 parts.old.cells parts.old.slots n p.0 v.0 }
+    ensures { Stepped (scope_at file.now.bytes file.now.t f.0) (leaving (scope_at file.now.bytes file.now.t f.0) (in_slot parts.old.cells parts.old.slots (n - 1)) (ask_whole v.0 ∷ map ask_whole (indexes_of file.now.bytes file.now.t f.0 p.0))) parts.old.cells parts.old.slots n parts.new.cells parts.new.slots result }
 {
     let last = n - 1;
-    copy(roots, last, n);
-    if !ask_indexes(file, f, cells, roots, n + 1, p) {
+    copy(&mut parts.slots, last, n);
+    if !ask_indexes(file, f, parts, n + 1, p) {
         return false;
     }
-    if !ask_value(file, f, cells, roots, n + 1, v, ALL_PIECE) {
+    if !ask_value(file, f, parts, n + 1, v, ALL_PIECE) {
         return false;
     }
-    copy(roots, n, last);
+    copy(&mut parts.slots, n, last);
     true
 }
 
 // The needs before a store of the value v to the pointer p. Says whether the needs are within the bound.
 pub fn act_store(
     subject: &Subject,
-    cells: &mut [u32],
-    roots: &mut [u32],
+    parts: &mut Parts,
     path: &mut [u32],
     n: usize,
     p: ExpressionHandle,
     v: ExpressionHandle,
 ) -> bool
-    requires act_given { ActGivenOf subject.now cells.old roots.old path.old n }
+    requires act_given { ActGivenOf subject.now parts.old.cells parts.old.slots path.old n }
     requires store_of { StoreOf (scope_of subject.now) p.0 v.0 }
-    ensures { Acted (scope_of subject.now) (store p.0 v.0) cells.old roots.old n cells.new roots.new path.old path.new result }
+    ensures { Acted (scope_of subject.now) (store p.0 v.0) parts.old.cells parts.old.slots n parts.new.cells parts.new.slots path.old path.new result }
 {
-    let hand = roots[n - 1];
-    let a = store_overlap(subject, cells, path, hand, p);
+    let hand = parts.slots[n - 1];
+    let a = store_overlap(subject, &parts.cells, path, hand, p);
     if !is_some(a) {
         return true;
     }
     let target = find_target(subject.file, subject.f, path, p);
     if target.dynamic {
-        return store_somewhere(subject.file, subject.f, cells, roots, n, p, v);
+        return store_somewhere(subject.file, subject.f, parts, n, p, v);
     }
     let place = &path[target.from..target.to];
     store_at(
         subject.file,
         subject.f,
         subject.types,
-        cells,
-        roots,
+        parts,
         n,
         place,
         a,
@@ -117,8 +114,7 @@ pub fn act_store(
 // The statement l, a store of the value v to the pointer a, in a pass.
 pub fn pass_store(
     subject: &Subject,
-    cells: &mut [u32],
-    roots: &mut [u32],
+    parts: &mut Parts,
     path: &mut [u32],
     n: usize,
     p: Passing,
@@ -127,26 +123,26 @@ pub fn pass_store(
     a: ExpressionHandle,
     v: ExpressionHandle,
 ) -> Passing
-    requires pass_given { PassGivenOf subject.now cells.old roots.old path.old n p l }
+    requires pass_given { PassGivenOf subject.now parts.old.cells parts.old.slots path.old n p l }
     requires store_of { StoreOf (scope_of subject.now) a.0 v.0 }
-    ensures { ByMark (scope_of subject.now) l marked (store a.0 v.0) cells.old roots.old n p cells.new roots.new path.old path.new result }
+    ensures { ByMark (scope_of subject.now) l marked (store a.0 v.0) parts.old.cells parts.old.slots n p parts.new.cells parts.new.slots path.old path.new result }
 {
     let last = n - 1;
     let above = n + 1;
     if marked {
-        if act_store(subject, cells, roots, path, n, a, v) {
+        if act_store(subject, parts, path, n, a, v) {
             return p;
         }
         return filled();
     }
-    let hand = roots[last];
-    if store_idle(subject, cells, path, hand, a) {
+    let hand = parts.slots[last];
+    if store_idle(subject, &parts.cells, path, hand, a) {
         return p;
     }
-    copy(roots, last, n);
-    if !act_store(subject, cells, roots, path, above, a, v) {
+    copy(&mut parts.slots, last, n);
+    if !act_store(subject, parts, path, above, a, v) {
         return filled();
     }
-    copy(roots, n, last);
+    copy(&mut parts.slots, n, last);
     blame(l, p)
 }

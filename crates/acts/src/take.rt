@@ -5,6 +5,7 @@ ghost use Rattle.acts.specs.Acts.{TakeGiven, TakenOut};
 use access::file::File;
 use forms::place::take_place;
 use hold::hold::push;
+use memory::parts::Parts;
 use module::handles::FunctionHandle;
 
 // The slot n has the piece a, and the next one the needs at hand without the place. Says whether the needs are within the bound.
@@ -12,17 +13,16 @@ pub fn take_out(
     file: &File,
     f: FunctionHandle,
     types: &[u32],
-    cells: &mut [u32],
-    roots: &mut [u32],
+    parts: &mut Parts,
     n: usize,
     place: &[u32],
     a: u32,
 ) -> bool
-    requires { TakeGiven file.now.bytes file.now.t f.0 types.now cells.old roots.old n place.now a }
-    ensures { TakenOut (scope_at file.now.bytes file.now.t f.0) place.now cells.old roots.old n cells.new roots.new result }
+    requires { TakeGiven file.now.bytes file.now.t f.0 types.now parts.old.cells parts.old.slots n place.now a }
+    ensures { TakenOut (scope_at file.now.bytes file.now.t f.0) place.now parts.old.cells parts.old.slots n parts.new.cells parts.new.slots result }
 {
-    let hand = roots[n - 1];
-    roots[n] = a;
-    let left = take_place(cells, file, f, types, hand, place);
-    push(cells, roots, n + 1, left)
+    let hand = parts.slots[n - 1];
+    parts.slots[n] = a;
+    let left = take_place(&mut parts.cells, file, f, types, hand, place);
+    push(parts, n + 1, left)
 }

@@ -6,6 +6,7 @@ use access::kinded::Kinded;
 use marks::places::{PLACES, place};
 use marks::set::set_emit;
 use memory::layout::EXPRS;
+use memory::parts::Parts;
 use state::answer::{Answer, Answered, Tally};
 use state::frame::Frame;
 
@@ -15,15 +16,14 @@ use state::frame::Frame;
 pub fn add_emit(
     file: &File,
     places: &[u32; PLACES],
-    cells: &[u32],
-    slots: &[u32],
+    parts: &Parts,
     open: &mut [u8],
     fr: Frame,
     row: Kinded,
     tally: Tally,
 ) -> Answered
-    requires { EmitAsked file.now.bytes file.now.t places.now cells.now slots.now «open».old fr row tally.sum }
-    ensures { EmitEnds file.now.bytes file.now.t places.now cells.now slots.now «open».old fr row tally.sum tally.visits result «open».new }
+    requires { EmitAsked file.now.bytes file.now.t places.now parts.now.cells parts.now.slots «open».old fr row tally.sum }
+    ensures { EmitEnds file.now.bytes file.now.t places.now parts.now.cells parts.now.slots «open».old fr row tally.sum tally.visits result «open».new }
 {
     let f = fr.function;
     let first = file.expression_operand(row, 0);
@@ -31,7 +31,7 @@ pub fn add_emit(
     let n = (last.0 as usize) + 1 - (first.0 as usize);
     let from = EXPRS + file.expression_number(f, first);
     let at = place(file, places, f, fr.statement);
-    let any = set_emit(open, at, slots, from, n);
+    let any = set_emit(open, at, &parts.slots, from, n);
     Ok(Answer {
         tally,
         required: any,

@@ -9,6 +9,7 @@ use block::branches::{drop_both, join_up};
 use expression::add::add_expression;
 use field::refusal::Refusal;
 use memory::layout::ALL;
+use memory::parts::Parts;
 use memory::want::want_of;
 use module::handles::ExpressionHandle;
 use state::answer::{Answer, Answered, Tally};
@@ -18,30 +19,29 @@ use statement::ask::answer;
 // Where either block is required, their contexts are joined in the place of the current one, and the condition is asked; else they are forgotten.
 pub fn end_if(
     file: &File,
-    cells: &mut [u32],
-    slots: &mut [u32],
+    parts: &mut Parts,
     fr: Frame,
     condition: ExpressionHandle,
     required: bool,
     tally: Tally,
 ) -> Answered
-    requires if_asked { IfAsked file.now.bytes file.now.t cells.old slots.old fr tally.sum tally.visits }
+    requires if_asked { IfAsked file.now.bytes file.now.t parts.old.cells parts.old.slots fr tally.sum tally.visits }
     requires condition_in_bounds { condition.0 < length (function_at (module_of file.now.bytes file.now.t) fr.function.0).expressions }
-    ensures { IfEnds file.now.bytes file.now.t cells.old slots.old fr condition.0 required tally.sum tally.visits result cells.new slots.new }
+    ensures { IfEnds file.now.bytes file.now.t parts.old.cells parts.old.slots fr condition.0 required tally.sum tally.visits result parts.new.cells parts.new.slots }
 {
     let f = fr.function;
     let at = fr.at;
     if !required {
-        drop_both(slots, at);
+        drop_both(&mut parts.slots, at);
         return Ok(Answer {
             tally,
             required: false,
         });
     }
-    if join_up(cells, slots, at) {
+    if join_up(parts, at) {
         return Err(fr.halt(Refusal::PartLimit));
     }
     let w = want_of(ALL);
-    let r = add_expression(file, cells, slots, f, at, fr.held, condition, w, tally);
+    let r = add_expression(file, parts, f, at, fr.held, condition, w, tally);
     answer(r, true)
 }

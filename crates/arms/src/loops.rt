@@ -8,6 +8,7 @@ use expression::add::add_expression;
 use field::refusal::Refusal;
 use memory::layout::ALL;
 use memory::memory::{tidy, weigh};
+use memory::parts::Parts;
 use memory::want::want_of;
 use module::handles::ExpressionHandle;
 use state::answer::{Tally, Walked};
@@ -24,14 +25,13 @@ pub enum Turn {
 // `break_if`, where there is one, is asked in the statement's context while those of both blocks are held.
 fn ask_break_if(
     file: &File,
-    cells: &mut [u32],
-    slots: &mut [u32],
+    parts: &mut Parts,
     fr: Frame,
     break_if: Option<ExpressionHandle>,
     tally: Tally,
 ) -> Walked
-    requires { Passing file.now.bytes file.now.t cells.old slots.old fr (handle_in break_if) tally.sum tally.visits }
-    ensures { BreakEnds file.now.bytes file.now.t cells.old slots.old fr (handle_in break_if) tally.sum tally.visits result cells.new slots.new }
+    requires { Passing file.now.bytes file.now.t parts.old.cells parts.old.slots fr (handle_in break_if) tally.sum tally.visits }
+    ensures { BreakEnds file.now.bytes file.now.t parts.old.cells parts.old.slots fr (handle_in break_if) tally.sum tally.visits result parts.new.cells parts.new.slots }
 {
     let Some(e) = break_if else {
         return Ok(tally);
@@ -39,49 +39,48 @@ fn ask_break_if(
     let f = fr.function;
     let at = fr.at;
     let k = at + 4;
-    let first = weigh(cells, slots, k, 4);
-    let second = weigh(cells, slots, k + 4, 4);
+    let first = weigh(parts, k, 4);
+    let second = weigh(parts, k + 4, 4);
     let held = fr.held + (first + second);
     let w = want_of(ALL);
-    add_expression(file, cells, slots, f, at, held, e, w, tally)
+    add_expression(file, parts, f, at, held, e, w, tally)
 }
 
 // A first pass that is required ends: `break_if`, and the join of both blocks' contexts, which is the working context then.
 pub fn end_pass(
     file: &File,
-    cells: &mut [u32],
-    slots: &mut [u32],
+    parts: &mut Parts,
     fr: Frame,
     break_if: Option<ExpressionHandle>,
     tally: Tally,
 ) -> Walked
-    requires { Passing file.now.bytes file.now.t cells.old slots.old fr (handle_in break_if) tally.sum tally.visits }
-    ensures { PassEnds file.now.bytes file.now.t cells.old slots.old fr (handle_in break_if) tally.sum tally.visits result cells.new slots.new }
+    requires { Passing file.now.bytes file.now.t parts.old.cells parts.old.slots fr (handle_in break_if) tally.sum tally.visits }
+    ensures { PassEnds file.now.bytes file.now.t parts.old.cells parts.old.slots fr (handle_in break_if) tally.sum tally.visits result parts.new.cells parts.new.slots }
 {
     let at = fr.at;
-    let tally = ask_break_if(file, cells, slots, fr, break_if, tally)?;
-    if join(cells, slots, at + 4) {
+    let tally = ask_break_if(file, parts, fr, break_if, tally)?;
+    if join(parts, at + 4) {
         return Err(fr.halt(Refusal::PartLimit));
     }
-    tidy(cells, slots);
+    tidy(parts);
     Ok(tally)
 }
 
 // A turn ends: its two contexts, above the working one and the statement's, are joined. Where the working context contains the join, it takes the place of the statement's.
-pub fn end_turn(cells: &mut [u32], slots: &mut [u32], at: usize) -> Turn
-    requires { TurnWalked cells.old slots.old at }
-    ensures { TurnEnds cells.old slots.old at result cells.new slots.new }
+pub fn end_turn(parts: &mut Parts, at: usize) -> Turn
+    requires { TurnWalked parts.old.cells parts.old.slots at }
+    ensures { TurnEnds parts.old.cells parts.old.slots at result parts.new.cells parts.new.slots }
 {
     let k = at + 4;
-    if join(cells, slots, k + 4) {
+    if join(parts, k + 4) {
         return Turn::Over;
     }
-    let done = settled(cells, slots, k);
-    drop(slots, k);
+    let done = settled(parts, k);
+    drop(&mut parts.slots, k);
     if done {
-        lower(slots, at);
+        lower(&mut parts.slots, at);
         return Turn::Settled;
     }
-    tidy(cells, slots);
+    tidy(parts);
     Turn::Again
 }

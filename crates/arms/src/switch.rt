@@ -10,6 +10,7 @@ use block::stack::{drop, join};
 use expression::add::add_expression;
 use memory::layout::ALL;
 use memory::memory::tidy;
+use memory::parts::Parts;
 use memory::want::want_of;
 use module::handles::{BlockHandle, ExpressionHandle};
 use state::answer::{Answer, Answered, Tally};
@@ -23,44 +24,43 @@ pub fn case_body(file: &File, row: Kinded, k: u16) -> BlockHandle
 }
 
 // A case was walked: its context, behind the one at k, is joined to that. Whether that passes a limit.
-pub fn end_case(cells: &mut [u32], slots: &mut [u32], k: usize) -> bool
-    requires { Casing cells.old slots.old k }
-    ensures { CaseEnds cells.old slots.old k result cells.new slots.new }
+pub fn end_case(parts: &mut Parts, k: usize) -> bool
+    requires { Casing parts.old.cells parts.old.slots k }
+    ensures { CaseEnds parts.old.cells parts.old.slots k result parts.new.cells parts.new.slots }
 {
-    if join(cells, slots, k) {
+    if join(parts, k) {
         return true;
     }
-    tidy(cells, slots);
+    tidy(parts);
     false
 }
 
 // All cases were walked, and are joined behind the statement's context. What the selector needs is not kept.
 pub fn end_switch(
     file: &File,
-    cells: &mut [u32],
-    slots: &mut [u32],
+    parts: &mut Parts,
     fr: Frame,
     selector: ExpressionHandle,
     required: bool,
     tally: Tally,
 ) -> Answered
-    requires { EndingSwitch file.now.bytes file.now.t cells.old slots.old fr selector.0 tally.sum tally.visits }
-    ensures { SwitchEnds file.now.bytes file.now.t cells.old slots.old fr selector.0 required tally.sum tally.visits result cells.new slots.new }
+    requires { EndingSwitch file.now.bytes file.now.t parts.old.cells parts.old.slots fr selector.0 tally.sum tally.visits }
+    ensures { SwitchEnds file.now.bytes file.now.t parts.old.cells parts.old.slots fr selector.0 required tally.sum tally.visits result parts.new.cells parts.new.slots }
 {
     let at = fr.at;
     if !required {
-        drop(slots, at);
+        drop(&mut parts.slots, at);
         return Ok(Answer {
             tally,
             required: false,
         });
     }
-    put_aside(cells, slots, at + 4);
-    drop(slots, at);
+    put_aside(parts, at + 4);
+    drop(&mut parts.slots, at);
     let f = fr.function;
     let w = want_of(ALL);
-    let tally = add_expression(file, cells, slots, f, at, fr.held, selector, w, tally)?;
-    take_back(cells, slots, at);
+    let tally = add_expression(file, parts, f, at, fr.held, selector, w, tally)?;
+    take_back(&parts.cells, &mut parts.slots, at);
     Ok(Answer {
         tally,
         required: true,

@@ -11,6 +11,7 @@ use expression::visit::allowed;
 use field::refusal::Refusal;
 use marks::places::{PLACES, place};
 use marks::set::set_mark;
+use memory::parts::Parts;
 use module::kinds::StatementKind;
 use state::answer::{Answer, Answered};
 use state::frame::Frame;
@@ -77,12 +78,12 @@ pub fn mark_statement(
 }
 
 // 16, as the visit ends, and room for the next one.
-pub fn end_statement(cells: &mut [u32], slots: &mut [u32], fr: Frame, r: Answered) -> Answered
-    requires { LastAsked cells.old slots.old fr r }
-    ensures { LastEnds cells.old slots.old fr r result cells.new slots.new }
+pub fn end_statement(parts: &mut Parts, fr: Frame, r: Answered) -> Answered
+    requires { LastAsked parts.old.cells parts.old.slots fr r }
+    ensures { LastEnds parts.old.cells parts.old.slots fr r result parts.new.cells parts.new.slots }
 {
     let a = r?;
-    if allowed(cells, slots, fr.at, fr.held, a.tally.sum) {
+    if allowed(parts, fr.at, fr.held, a.tally.sum) {
         return Ok(a);
     }
     Err(fr.halt(Refusal::PiecesLimit))

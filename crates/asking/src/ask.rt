@@ -13,6 +13,7 @@ ghost use Rattle.asking.specs.Asks.{Asks, AskGiven, step_of, AsksAt, ValueGiven,
 
 use access::file::File;
 use hold::hold::{copy, push, push_sum};
+use memory::parts::Parts;
 use module::handles::{ExpressionHandle, FunctionHandle};
 use needs::path::under;
 use part::store::{ALL_PIECE, EMPTY_PIECE, EXIST_PIECE, look};
@@ -34,21 +35,21 @@ fn is_wanted(cells: &[u32], a: u32) -> bool
 }
 
 // The part a is asked at the path. Says whether the needs are within the bound.
-pub fn ask_place(cells: &mut [u32], roots: &mut [u32], n: usize, path: &[u32], a: u32) -> bool
-    requires { AskGiven cells.old roots.old n path.now a }
-    ensures { AsksAt path.now (part cells.old a) cells.old roots.old n cells.new roots.new result }
+pub fn ask_place(parts: &mut Parts, n: usize, path: &[u32], a: u32) -> bool
+    requires { AskGiven parts.old.cells parts.old.slots n path.now a }
+    ensures { AsksAt path.now (part parts.old.cells a) parts.old.cells parts.old.slots n parts.new.cells parts.new.slots result }
 {
-    if !is_wanted(cells, a) {
+    if !is_wanted(&parts.cells, a) {
         return true;
     }
-    let u = under(cells, path, a);
-    if !push(cells, roots, n, u) {
+    let u = under(&mut parts.cells, path, a);
+    if !push(parts, n, u) {
         return false;
     }
-    if !push_sum(cells, roots, n + 1, n, n - 1) {
+    if !push_sum(parts, n + 1, n, n - 1) {
         return false;
     }
-    copy(roots, n + 1, n - 1);
+    copy(&mut parts.slots, n + 1, n - 1);
     true
 }
 
@@ -56,14 +57,13 @@ pub fn ask_place(cells: &mut [u32], roots: &mut [u32], n: usize, path: &[u32], a
 pub fn ask_value(
     file: &File,
     f: FunctionHandle,
-    cells: &mut [u32],
-    roots: &mut [u32],
+    parts: &mut Parts,
     n: usize,
     v: ExpressionHandle,
     a: u32,
 ) -> bool
-    requires { ValueGiven (scope_at file.now.bytes file.now.t f.0) cells.old roots.old n v.0 a }
-    ensures { Asks (scope_at file.now.bytes file.now.t f.0) (step_of (scope_at file.now.bytes file.now.t f.0) (of_value v.0 (part cells.old a))) cells.old roots.old n cells.new roots.new result }
+    requires { ValueGiven (scope_at file.now.bytes file.now.t f.0) parts.old.cells parts.old.slots n v.0 a }
+    ensures { Asks (scope_at file.now.bytes file.now.t f.0) (step_of (scope_at file.now.bytes file.now.t f.0) (of_value v.0 (part parts.old.cells a))) parts.old.cells parts.old.slots n parts.new.cells parts.new.slots result }
 {
     let source = source_of(file, f, v);
     let mut path: [u32; 2] = [0; 2];
@@ -71,11 +71,11 @@ pub fn ask_value(
         Source::Given => true,
         Source::Argument(i) => {
             argument_path(&mut path, i);
-            ask_place(cells, roots, n, &path, a)
+            ask_place(parts, n, &path, a)
         }
         Source::Evaluated => {
             evaluated_path(&mut path, v);
-            ask_place(cells, roots, n, &path, a)
+            ask_place(parts, n, &path, a)
         }
     }
 }
@@ -84,30 +84,28 @@ pub fn ask_value(
 pub fn ask_whole(
     file: &File,
     f: FunctionHandle,
-    cells: &mut [u32],
-    roots: &mut [u32],
+    parts: &mut Parts,
     n: usize,
     v: ExpressionHandle,
 ) -> bool
-    requires { StepGiven (scope_at file.now.bytes file.now.t f.0) cells.old roots.old n v.0 }
-    ensures { Stepped (scope_at file.now.bytes file.now.t f.0) (step_of (scope_at file.now.bytes file.now.t f.0) (ask_whole v.0)) cells.old roots.old n cells.new roots.new result }
+    requires { StepGiven (scope_at file.now.bytes file.now.t f.0) parts.old.cells parts.old.slots n v.0 }
+    ensures { Stepped (scope_at file.now.bytes file.now.t f.0) (step_of (scope_at file.now.bytes file.now.t f.0) (ask_whole v.0)) parts.old.cells parts.old.slots n parts.new.cells parts.new.slots result }
 {
-    ask_value(file, f, cells, roots, n, v, ALL_PIECE)
+    ask_value(file, f, parts, n, v, ALL_PIECE)
 }
 
 // Of the value v, which is returned, the part is asked that is asked of the function's value.
 pub fn ask_returned(
     file: &File,
     f: FunctionHandle,
-    cells: &mut [u32],
-    roots: &mut [u32],
+    parts: &mut Parts,
     n: usize,
     v: ExpressionHandle,
 ) -> bool
-    requires step_given { StepGiven (scope_at file.now.bytes file.now.t f.0) cells.old roots.old n v.0 }
+    requires step_given { StepGiven (scope_at file.now.bytes file.now.t f.0) parts.old.cells parts.old.slots n v.0 }
     requires v_value { fits_statement (scope_at file.now.bytes file.now.t f.0) (Return (some v.0)) ≡ true }
-    ensures { Valued (scope_at file.now.bytes file.now.t f.0) v.0 cells.old roots.old n cells.new roots.new result }
+    ensures { Valued (scope_at file.now.bytes file.now.t f.0) v.0 parts.old.cells parts.old.slots n parts.new.cells parts.new.slots result }
 {
-    let a = roots[ASKED];
-    ask_value(file, f, cells, roots, n, v, a)
+    let a = parts.slots[ASKED];
+    ask_value(file, f, parts, n, v, a)
 }

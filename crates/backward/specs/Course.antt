@@ -18,6 +18,7 @@ use Rattle.standing.specs.World.{World}
 use Rattle.standing.specs.declared.passing.Passing.{Passing}
 use Rattle.standing.specs.Exits.{Exits}
 use Rattle.judge.specs.declared.subject.Subject.{Subject}
+use Rattle.backward.specs.declared.marked.MarkedSubject.{MarkedSubject}
 
 -- the function, the needs in memory, where the exits lead, what is carried so far, and a path that every place fits
 pub record Course (bytes t : List ℕ) (f : ℕ) (types alike paths firsts s rs path : List ℕ) (n : ℕ) (x : Exits) (p : Passing) : Type 0 where
@@ -28,8 +29,8 @@ pub record Course (bytes t : List ℕ) (f : ℕ) (types alike paths firsts s rs 
   pub going : p.full ≡ false
   pub long : length (function_of bytes t f).expressions + 2 ≤ length path
 
-abbrev pub CourseOf : Subject → List ℕ → List ℕ → List ℕ → List ℕ → ℕ → Exits → Passing → Type 0
-CourseOf j firsts s rs path n x p = Course j.file.now.bytes j.file.now.t j.f.0 j.types.now j.alike.now j.paths.now firsts s rs path n x p
+abbrev pub CourseOf : MarkedSubject → List ℕ → List ℕ → List ℕ → ℕ → Exits → Passing → Type 0
+CourseOf m s rs path n x p = Course m.subject.now.file.now.bytes m.subject.now.file.now.t m.subject.now.f.0 m.subject.now.types.now m.subject.now.alike.now m.subject.now.paths.now m.firsts.now s rs path n x p
 
 -- it was walked; a lent path is as long as it was
 pub record Passes (S : Scope) (o : Stretch) (s rs : List ℕ) (n : ℕ) (x : Exits) (p : Passing) (t us before after : List ℕ) (q : Passing) : Type 0 where

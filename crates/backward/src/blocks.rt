@@ -9,6 +9,7 @@ ghost use Rattle.standing.specs.Standing.{inside, around, cases};
 ghost use Rattle.backward.specs.Course.{CourseOf, Passes, RowInOf, blocks_under, case_block, if_tree, switch_tree, loop_tree, bare_tree};
 ghost use Rattle.judge.specs.Subject.{scope_of, function_in};
 
+use crate::marked::MarkedSubject;
 use crate::plain::pass_plain;
 use crate::slots::exchange;
 use access::kinded::Kinded;
@@ -17,7 +18,7 @@ use ends::held::{begin_loop, end_if, end_switch};
 use ends::merge::{end_loop, merge};
 use ends::notes::{blame, note};
 use hold::hold::copy;
-use judge::subject::Subject;
+use memory::parts::Parts;
 use module::handles::BlockHandle;
 use module::kinds::StatementKind;
 use part::store::EMPTY_PIECE;
@@ -27,11 +28,8 @@ use standing::passing::{Exits, Passing, filled};
 // The cases of a switch: their union stands in the last slot, none at first. The needs after the switch stand where a break leads.
 #[cycle(blocks)]
 fn pass_cases(
-    subject: &Subject,
-    marks: &[u8],
-    firsts: &[u32],
-    cells: &mut [u32],
-    roots: &mut [u32],
+    marked: &MarkedSubject,
+    parts: &mut Parts,
     path: &mut [u32],
     n: usize,
     x: Exits,
@@ -40,34 +38,23 @@ fn pass_cases(
     s: u32,
     row: Kinded,
 ) -> Passing
-    requires course { CourseOf subject.now firsts.now cells.old roots.old path.old n x p }
-    requires b_in_bounds { n + (3 * b.0 + 10) ≤ length roots.old }
-    requires row_in { RowInOf subject.now b.0 s row }
+    requires course { CourseOf marked.now parts.old.cells parts.old.slots path.old n x p }
+    requires b_in_bounds { n + (3 * b.0 + 10) ≤ length parts.old.slots }
+    requires row_in { RowInOf marked.now.subject.now b.0 s row }
     requires kind_value { row.kind ≡ 3 }
-    requires n_value { in_slot cells.old roots.old (n - 1) ≡ none }
-    ensures { Passes (scope_of subject.now) (cases (operand_at subject.now.file.now.bytes row 1) (case_block (function_in subject.now) marks.now (operand_at subject.now.file.now.bytes row))) cells.old roots.old n x p cells.new roots.new path.old path.new result }
+    requires n_value { in_slot parts.old.cells parts.old.slots (n - 1) ≡ none }
+    ensures { Passes (scope_of marked.now.subject.now) (cases (operand_at marked.now.subject.now.file.now.bytes row 1) (case_block (function_in marked.now.subject.now) marked.now.marks.now (operand_at marked.now.subject.now.file.now.bytes row))) parts.old.cells parts.old.slots n x p parts.new.cells parts.new.slots path.old path.new result }
 {
-    let count = subject.file.operand(row, 1) as u32;
+    let count = marked.subject.file.operand(row, 1) as u32;
     let mut q = p;
     for i in 0..count {
-        copy(roots, x.broke, n);
-        let case = subject.file.block_operand(row, 3 + 2 * i);
-        q = pass_around(
-            subject,
-            marks,
-            firsts,
-            cells,
-            roots,
-            path,
-            n + 1,
-            x,
-            q,
-            case,
-        );
+        copy(&mut parts.slots, x.broke, n);
+        let case = marked.subject.file.block_operand(row, 3 + 2 * i);
+        q = pass_around(marked, parts, path, n + 1, x, q, case);
         if q.full {
             return q;
         }
-        if !merge(cells, roots, n, n, n - 1) {
+        if !merge(parts, n, n, n - 1) {
             return filled();
         }
     }
@@ -76,11 +63,8 @@ fn pass_cases(
 
 #[cycle(blocks)]
 fn pass_switch(
-    subject: &Subject,
-    marks: &[u8],
-    firsts: &[u32],
-    cells: &mut [u32],
-    roots: &mut [u32],
+    marked: &MarkedSubject,
+    parts: &mut Parts,
     path: &mut [u32],
     n: usize,
     x: Exits,
@@ -89,33 +73,20 @@ fn pass_switch(
     s: u32,
     row: Kinded,
 ) -> Passing
-    requires course { CourseOf subject.now firsts.now cells.old roots.old path.old n x p }
-    requires b_in_bounds { n + (3 * b.0 + 11) ≤ length roots.old }
-    requires row_in { RowInOf subject.now b.0 s row }
+    requires course { CourseOf marked.now parts.old.cells parts.old.slots path.old n x p }
+    requires b_in_bounds { n + (3 * b.0 + 11) ≤ length parts.old.slots }
+    requires row_in { RowInOf marked.now.subject.now b.0 s row }
     requires kind_value { row.kind ≡ 3 }
-    ensures { Passes (scope_of subject.now) (inside (switch_tree (blocks_under (function_in subject.now) marks.now b.0) (operand_at subject.now.file.now.bytes row))) cells.old roots.old n x p cells.new roots.new path.old path.new result }
+    ensures { Passes (scope_of marked.now.subject.now) (inside (switch_tree (blocks_under (function_in marked.now.subject.now) marked.now.marks.now b.0) (operand_at marked.now.subject.now.file.now.bytes row))) parts.old.cells parts.old.slots n x p parts.new.cells parts.new.slots path.old path.new result }
 {
-    roots[n] = EMPTY_PIECE;
+    parts.slots[n] = EMPTY_PIECE;
     let y = x.in_case(n - 1);
-    let q = pass_cases(
-        subject,
-        marks,
-        firsts,
-        cells,
-        roots,
-        path,
-        n + 1,
-        y,
-        p,
-        b,
-        s,
-        row,
-    );
+    let q = pass_cases(marked, parts, path, n + 1, y, p, b, s, row);
     if q.full {
         return q;
     }
-    let selector = subject.file.expression_operand(row, 0);
-    if end_switch(subject.file, subject.f, cells, roots, n, selector) {
+    let selector = marked.subject.file.expression_operand(row, 0);
+    if end_switch(marked.subject.file, marked.subject.f, parts, n, selector) {
         return q;
     }
     filled()
@@ -123,11 +94,8 @@ fn pass_switch(
 
 #[cycle(blocks)]
 fn pass_if(
-    subject: &Subject,
-    marks: &[u8],
-    firsts: &[u32],
-    cells: &mut [u32],
-    roots: &mut [u32],
+    marked: &MarkedSubject,
+    parts: &mut Parts,
     path: &mut [u32],
     n: usize,
     x: Exits,
@@ -136,49 +104,27 @@ fn pass_if(
     s: u32,
     row: Kinded,
 ) -> Passing
-    requires course { CourseOf subject.now firsts.now cells.old roots.old path.old n x p }
-    requires b_in_bounds { n + (3 * b.0 + 11) ≤ length roots.old }
-    requires row_in { RowInOf subject.now b.0 s row }
+    requires course { CourseOf marked.now parts.old.cells parts.old.slots path.old n x p }
+    requires b_in_bounds { n + (3 * b.0 + 11) ≤ length parts.old.slots }
+    requires row_in { RowInOf marked.now.subject.now b.0 s row }
     requires kind_value { row.kind ≡ 2 }
-    ensures { Passes (scope_of subject.now) (inside (if_tree (blocks_under (function_in subject.now) marks.now b.0) (operand_at subject.now.file.now.bytes row))) cells.old roots.old n x p cells.new roots.new path.old path.new result }
+    ensures { Passes (scope_of marked.now.subject.now) (inside (if_tree (blocks_under (function_in marked.now.subject.now) marked.now.marks.now b.0) (operand_at marked.now.subject.now.file.now.bytes row))) parts.old.cells parts.old.slots n x p parts.new.cells parts.new.slots path.old path.new result }
 {
     let last = n - 1;
-    copy(roots, last, n);
-    let reject = subject.file.block_operand(row, 2);
-    let q = pass_around(
-        subject,
-        marks,
-        firsts,
-        cells,
-        roots,
-        path,
-        n + 1,
-        x,
-        p,
-        reject,
-    );
+    copy(&mut parts.slots, last, n);
+    let reject = marked.subject.file.block_operand(row, 2);
+    let q = pass_around(marked, parts, path, n + 1, x, p, reject);
     if q.full {
         return q;
     }
-    exchange(roots, n);
-    let accept = subject.file.block_operand(row, 1);
-    let o = pass_around(
-        subject,
-        marks,
-        firsts,
-        cells,
-        roots,
-        path,
-        n + 1,
-        x,
-        q,
-        accept,
-    );
+    exchange(&mut parts.slots, n);
+    let accept = marked.subject.file.block_operand(row, 1);
+    let o = pass_around(marked, parts, path, n + 1, x, q, accept);
     if o.full {
         return o;
     }
-    let condition = subject.file.expression_operand(row, 0);
-    if end_if(subject.file, subject.f, cells, roots, n, condition) {
+    let condition = marked.subject.file.expression_operand(row, 0);
+    if end_if(marked.subject.file, marked.subject.f, parts, n, condition) {
         return o;
     }
     filled()
@@ -186,11 +132,8 @@ fn pass_if(
 
 #[cycle(blocks)]
 fn pass_loop(
-    subject: &Subject,
-    marks: &[u8],
-    firsts: &[u32],
-    cells: &mut [u32],
-    roots: &mut [u32],
+    marked: &MarkedSubject,
+    parts: &mut Parts,
     path: &mut [u32],
     n: usize,
     x: Exits,
@@ -199,64 +142,39 @@ fn pass_loop(
     s: u32,
     row: Kinded,
 ) -> Passing
-    requires course { CourseOf subject.now firsts.now cells.old roots.old path.old n x p }
-    requires b_in_bounds { n + (3 * b.0 + 11) ≤ length roots.old }
-    requires row_in { RowInOf subject.now b.0 s row }
+    requires course { CourseOf marked.now parts.old.cells parts.old.slots path.old n x p }
+    requires b_in_bounds { n + (3 * b.0 + 11) ≤ length parts.old.slots }
+    requires row_in { RowInOf marked.now.subject.now b.0 s row }
     requires kind_value { row.kind ≡ 4 }
-    ensures { Passes (scope_of subject.now) (inside (loop_tree (blocks_under (function_in subject.now) marks.now b.0) s (operand_at subject.now.file.now.bytes row))) cells.old roots.old n x p cells.new roots.new path.old path.new result }
+    ensures { Passes (scope_of marked.now.subject.now) (inside (loop_tree (blocks_under (function_in marked.now.subject.now) marked.now.marks.now b.0) s (operand_at marked.now.subject.now.file.now.bytes row))) parts.old.cells parts.old.slots n x p parts.new.cells parts.new.slots path.old path.new result }
 {
     let l = s as usize;
-    let break_if = subject.file.optional_expression(row, 2);
-    if !begin_loop(subject.file, subject.f, cells, roots, n, l, break_if) {
+    let break_if = marked.subject.file.optional_expression(row, 2);
+    if !begin_loop(marked.subject.file, marked.subject.f, parts, n, l, break_if) {
         return filled();
     }
     let y = x.in_case(n - 1);
-    let continuing = subject.file.block_operand(row, 1);
-    let q = pass_around(
-        subject,
-        marks,
-        firsts,
-        cells,
-        roots,
-        path,
-        n + 1,
-        y,
-        p,
-        continuing,
-    );
+    let continuing = marked.subject.file.block_operand(row, 1);
+    let q = pass_around(marked, parts, path, n + 1, y, p, continuing);
     if q.full {
         return q;
     }
     let above = n + 1;
-    copy(roots, n, above);
+    copy(&mut parts.slots, n, above);
     let z = x.in_body(n - 1, n);
-    let body = subject.file.block_operand(row, 0);
-    let o = pass_around(
-        subject,
-        marks,
-        firsts,
-        cells,
-        roots,
-        path,
-        above + 1,
-        z,
-        q,
-        body,
-    );
+    let body = marked.subject.file.block_operand(row, 0);
+    let o = pass_around(marked, parts, path, above + 1, z, q, body);
     if o.full {
         return o;
     }
-    end_loop(cells, roots, n, l, o)
+    end_loop(parts, n, l, o)
 }
 
 // What has the mark of the statement s of the block b: an if, a switch or a loop.
 #[cycle(blocks)]
 fn pass_bare(
-    subject: &Subject,
-    marks: &[u8],
-    firsts: &[u32],
-    cells: &mut [u32],
-    roots: &mut [u32],
+    marked: &MarkedSubject,
+    parts: &mut Parts,
     path: &mut [u32],
     n: usize,
     x: Exits,
@@ -265,33 +183,24 @@ fn pass_bare(
     s: u32,
     row: Kinded,
 ) -> Passing
-    requires course { CourseOf subject.now firsts.now cells.old roots.old path.old n x p }
-    requires b_in_bounds { n + (3 * b.0 + 11) ≤ length roots.old }
-    requires row_in { RowInOf subject.now b.0 s row }
+    requires course { CourseOf marked.now parts.old.cells parts.old.slots path.old n x p }
+    requires b_in_bounds { n + (3 * b.0 + 11) ≤ length parts.old.slots }
+    requires row_in { RowInOf marked.now.subject.now b.0 s row }
     requires lt_kind { (1 < row.kind) × (row.kind < 5) }
-    ensures { Passes (scope_of subject.now) (inside (bare_tree (blocks_under (function_in subject.now) marks.now b.0) s row.kind (operand_at subject.now.file.now.bytes row))) cells.old roots.old n x p cells.new roots.new path.old path.new result }
+    ensures { Passes (scope_of marked.now.subject.now) (inside (bare_tree (blocks_under (function_in marked.now.subject.now) marked.now.marks.now b.0) s row.kind (operand_at marked.now.subject.now.file.now.bytes row))) parts.old.cells parts.old.slots n x p parts.new.cells parts.new.slots path.old path.new result }
 {
     match StatementKind::try_from(row.kind) {
-        Ok(StatementKind::If) => pass_if(
-            subject, marks, firsts, cells, roots, path, n, x, p, b, s, row,
-        ),
-        Ok(StatementKind::Switch) => pass_switch(
-            subject, marks, firsts, cells, roots, path, n, x, p, b, s, row,
-        ),
-        _ => pass_loop(
-            subject, marks, firsts, cells, roots, path, n, x, p, b, s, row,
-        ),
+        Ok(StatementKind::If) => pass_if(marked, parts, path, n, x, p, b, s, row),
+        Ok(StatementKind::Switch) => pass_switch(marked, parts, path, n, x, p, b, s, row),
+        _ => pass_loop(marked, parts, path, n, x, p, b, s, row),
     }
 }
 
 // One that breaks its rule is walked as if marked, and what is needed after it is needed before it too.
 #[cycle(blocks)]
 fn pass_holder(
-    subject: &Subject,
-    marks: &[u8],
-    firsts: &[u32],
-    cells: &mut [u32],
-    roots: &mut [u32],
+    marked: &MarkedSubject,
+    parts: &mut Parts,
     path: &mut [u32],
     n: usize,
     x: Exits,
@@ -300,43 +209,28 @@ fn pass_holder(
     s: u32,
     row: Kinded,
 ) -> Passing
-    requires course { CourseOf subject.now firsts.now cells.old roots.old path.old n x p }
-    requires b_in_bounds { n + (3 * b.0 + 12) ≤ length roots.old }
-    requires row_in { RowInOf subject.now b.0 s row }
+    requires course { CourseOf marked.now parts.old.cells parts.old.slots path.old n x p }
+    requires b_in_bounds { n + (3 * b.0 + 12) ≤ length parts.old.slots }
+    requires row_in { RowInOf marked.now.subject.now b.0 s row }
     requires lt_kind { (1 < row.kind) × (row.kind < 5) }
-    ensures { Passes (scope_of subject.now) (inside (statement_tree (function_in subject.now) marks.now b.0 s)) cells.old roots.old n x p cells.new roots.new path.old path.new result }
+    ensures { Passes (scope_of marked.now.subject.now) (inside (statement_tree (function_in marked.now.subject.now) marked.now.marks.now b.0 s)) parts.old.cells parts.old.slots n x p parts.new.cells parts.new.slots path.old path.new result }
 {
     let last = n - 1;
-    let begin = firsts[s as usize] as usize;
-    if mark_at(marks, begin) {
-        return pass_bare(
-            subject, marks, firsts, cells, roots, path, n, x, p, b, s, row,
-        );
+    let begin = marked.firsts[s as usize] as usize;
+    if mark_at(marked.marks, begin) {
+        return pass_bare(marked, parts, path, n, x, p, b, s, row);
     }
-    let hand = roots[last];
-    if obeys(subject, cells, path, hand, b, s) {
+    let hand = parts.slots[last];
+    if obeys(marked.subject, &parts.cells, path, hand, b, s) {
         return p;
     }
-    copy(roots, last, n);
-    let q = pass_bare(
-        subject,
-        marks,
-        firsts,
-        cells,
-        roots,
-        path,
-        n + 1,
-        x,
-        p,
-        b,
-        s,
-        row,
-    );
+    copy(&mut parts.slots, last, n);
+    let q = pass_bare(marked, parts, path, n + 1, x, p, b, s, row);
     if q.full {
         return q;
     }
     let blamed = blame(s as u16, q);
-    if merge(cells, roots, n, last, n) {
+    if merge(parts, n, last, n) {
         return blamed;
     }
     filled()
@@ -345,11 +239,8 @@ fn pass_holder(
 // The statement s of the block b.
 #[cycle(blocks)]
 fn pass_statement(
-    subject: &Subject,
-    marks: &[u8],
-    firsts: &[u32],
-    cells: &mut [u32],
-    roots: &mut [u32],
+    marked: &MarkedSubject,
+    parts: &mut Parts,
     path: &mut [u32],
     n: usize,
     x: Exits,
@@ -357,62 +248,45 @@ fn pass_statement(
     b: BlockHandle,
     s: u32,
 ) -> Passing
-    requires course { CourseOf subject.now firsts.now cells.old roots.old path.old n x p }
-    requires b_in_bounds { n + (3 * b.0 + 12) ≤ length roots.old }
-    requires statement_in { StatementIn subject.now.file.now.bytes subject.now.file.now.t subject.now.f.0 b.0 s }
-    ensures { Passes (scope_of subject.now) (inside (statement_tree (function_in subject.now) marks.now b.0 s)) cells.old roots.old n x p cells.new roots.new path.old path.new result }
+    requires course { CourseOf marked.now parts.old.cells parts.old.slots path.old n x p }
+    requires b_in_bounds { n + (3 * b.0 + 12) ≤ length parts.old.slots }
+    requires statement_in { StatementIn marked.now.subject.now.file.now.bytes marked.now.subject.now.file.now.t marked.now.subject.now.f.0 b.0 s }
+    ensures { Passes (scope_of marked.now.subject.now) (inside (statement_tree (function_in marked.now.subject.now) marked.now.marks.now b.0 s)) parts.old.cells parts.old.slots n x p parts.new.cells parts.new.slots path.old path.new result }
 {
-    let row = subject.file.statement(subject.f, s);
+    let row = marked.subject.file.statement(marked.subject.f, s);
     match StatementKind::try_from(row.kind) {
         Ok(StatementKind::Block) => {
-            let inner = subject.file.block_operand(row, 0);
-            pass_block(subject, marks, firsts, cells, roots, path, n, x, p, inner)
+            let inner = marked.subject.file.block_operand(row, 0);
+            pass_block(marked, parts, path, n, x, p, inner)
         }
         Ok(StatementKind::If | StatementKind::Switch | StatementKind::Loop) => pass_holder(
-            subject, marks, firsts, cells, roots, path, n, x, p, b, s, row,
+            marked, parts, path, n, x, p, b, s, row,
         ),
-        _ => pass_plain(
-            subject, marks, firsts, cells, roots, path, n, x, p, b, s, row,
-        ),
+        _ => pass_plain(marked, parts, path, n, x, p, b, s, row),
     }
 }
 
 #[cycle(blocks)]
 fn pass_block(
-    subject: &Subject,
-    marks: &[u8],
-    firsts: &[u32],
-    cells: &mut [u32],
-    roots: &mut [u32],
+    marked: &MarkedSubject,
+    parts: &mut Parts,
     path: &mut [u32],
     n: usize,
     x: Exits,
     p: Passing,
     b: BlockHandle,
 ) -> Passing
-    requires course { CourseOf subject.now firsts.now cells.old roots.old path.old n x p }
-    requires b_in_bounds { n + (3 * b.0 + 12) ≤ length roots.old }
-    requires block_of { BlockOf subject.now.file.now.bytes subject.now.file.now.t subject.now.f.0 b.0 }
-    ensures { Passes (scope_of subject.now) (inside (tree_of (function_in subject.now) marks.now b.0)) cells.old roots.old n x p cells.new roots.new path.old path.new result }
+    requires course { CourseOf marked.now parts.old.cells parts.old.slots path.old n x p }
+    requires b_in_bounds { n + (3 * b.0 + 12) ≤ length parts.old.slots }
+    requires block_of { BlockOf marked.now.subject.now.file.now.bytes marked.now.subject.now.file.now.t marked.now.subject.now.f.0 b.0 }
+    ensures { Passes (scope_of marked.now.subject.now) (inside (tree_of (function_in marked.now.subject.now) marked.now.marks.now b.0)) parts.old.cells parts.old.slots n x p parts.new.cells parts.new.slots path.old path.new result }
 {
-    let range = subject.file.block(subject.f, b);
+    let range = marked.subject.file.block(marked.subject.f, b);
     let first = range.first;
     let mut q = p;
     for k in (0..range.count).rev() {
-        let at = note(cells, roots, n, q);
-        q = pass_statement(
-            subject,
-            marks,
-            firsts,
-            cells,
-            roots,
-            path,
-            n,
-            x,
-            at,
-            b,
-            first + k,
-        );
+        let at = note(parts, n, q);
+        q = pass_statement(marked, parts, path, n, x, at, b, first + k);
         if q.full {
             return q;
         }
@@ -423,26 +297,23 @@ fn pass_block(
 // A block with the points after and before it.
 #[cycle(blocks)]
 pub fn pass_around(
-    subject: &Subject,
-    marks: &[u8],
-    firsts: &[u32],
-    cells: &mut [u32],
-    roots: &mut [u32],
+    marked: &MarkedSubject,
+    parts: &mut Parts,
     path: &mut [u32],
     n: usize,
     x: Exits,
     p: Passing,
     b: BlockHandle,
 ) -> Passing
-    requires course { CourseOf subject.now firsts.now cells.old roots.old path.old n x p }
-    requires b_in_bounds { n + (3 * b.0 + 12) ≤ length roots.old }
-    requires block_of { BlockOf subject.now.file.now.bytes subject.now.file.now.t subject.now.f.0 b.0 }
-    ensures { Passes (scope_of subject.now) (around (tree_of (function_in subject.now) marks.now b.0)) cells.old roots.old n x p cells.new roots.new path.old path.new result }
+    requires course { CourseOf marked.now parts.old.cells parts.old.slots path.old n x p }
+    requires b_in_bounds { n + (3 * b.0 + 12) ≤ length parts.old.slots }
+    requires block_of { BlockOf marked.now.subject.now.file.now.bytes marked.now.subject.now.file.now.t marked.now.subject.now.f.0 b.0 }
+    ensures { Passes (scope_of marked.now.subject.now) (around (tree_of (function_in marked.now.subject.now) marked.now.marks.now b.0)) parts.old.cells parts.old.slots n x p parts.new.cells parts.new.slots path.old path.new result }
 {
-    let at = note(cells, roots, n, p);
-    let q = pass_block(subject, marks, firsts, cells, roots, path, n, x, at, b);
+    let at = note(parts, n, p);
+    let q = pass_block(marked, parts, path, n, x, at, b);
     if q.full {
         return q;
     }
-    note(cells, roots, n, q)
+    note(parts, n, q)
 }

@@ -2,5 +2,6 @@
 #![tactic(auto)]
 
 pub mod blocks;
+pub mod marked;
 pub mod plain;
 pub mod slots;

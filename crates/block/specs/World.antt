@@ -16,4 +16,4 @@ abbrev pub blocks_by : World → FunctionHandle → BlockWalk
 blocks_by w = block_in w.file.now.bytes w.file.now.t
 
 abbrev pub state_by : World → Workspace → FunctionHandle → (at visits : ℕ) → State
-state_by w m = state_in w.file.now.bytes w.file.now.t m.cells m.slots m.open m.totals
+state_by w m = state_in w.file.now.bytes w.file.now.t m.parts.cells m.parts.slots m.open m.totals

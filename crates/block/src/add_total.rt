@@ -7,6 +7,7 @@ use field::refusal::Refusal;
 use marks::places::PLACES;
 use marks::ray::first_ray;
 use marks::set::{add_marks, keep_marks};
+use memory::parts::Parts;
 use module::handles::FunctionHandle;
 use state::answer::{Halt, Place, Tally, Walked};
 
@@ -14,8 +15,7 @@ use state::answer::{Halt, Place, Tally, Walked};
 pub fn add_total(
     file: &File,
     places: &[u32; PLACES],
-    cells: &mut [u32],
-    slots: &mut [u32],
+    parts: &mut Parts,
     open: &[u8],
     totals: &mut [u8],
     f: FunctionHandle,
@@ -23,13 +23,13 @@ pub fn add_total(
     here: Place,
     tally: Tally,
 ) -> Walked
-    requires { TotalAsked file.now.bytes file.now.t places.now cells.old slots.old «open».now totals.old f.0 at tally.sum }
-    ensures { TotalEnds file.now.bytes file.now.t places.now cells.old slots.old «open».now totals.old f.0 at tally.sum tally.visits here result cells.new slots.new totals.new }
+    requires { TotalAsked file.now.bytes file.now.t places.now parts.old.cells parts.old.slots «open».now totals.old f.0 at tally.sum }
+    ensures { TotalEnds file.now.bytes file.now.t places.now parts.old.cells parts.old.slots «open».now totals.old f.0 at tally.sum tally.visits here result parts.new.cells parts.new.slots totals.new }
 {
-    let less = weigh_total(file, cells, slots, f);
+    let less = weigh_total(file, parts, f);
     // Stays: a byte of the caller's memory, 0 where f has no total.
     if totals[f.0 as usize] == 0 {
-        keep_total(file, slots, f, at);
+        keep_total(file, &mut parts.slots, f, at);
         keep_marks(totals, open, places, f);
     } else {
         if let Some(s) = first_ray(file, f) {
@@ -38,7 +38,7 @@ pub fn add_total(
                 place: Place::Statement(f, s),
             });
         }
-        if join_total(file, cells, slots, f, at) {
+        if join_total(file, parts, f, at) {
             return Err(Halt {
                 refusal: Refusal::PartLimit,
                 place: here,
@@ -46,7 +46,7 @@ pub fn add_total(
         }
         add_marks(totals, open, places, f);
     }
-    let more = weigh_total(file, cells, slots, f);
+    let more = weigh_total(file, parts, f);
     Ok(Tally {
         sum: tally.sum - less + more,
         ..tally

@@ -4,22 +4,21 @@ ghost use Rattle.check_text.specs.Checked.{Judging, Checks};
 use crate::record::{MAX_RECORD, write_record};
 use access::file::File;
 use checking::words::Verdict;
-use memory::layout::{CELLS, SLOTS};
+use memory::parts::Parts;
 use verdict::check::check_in;
 
 // The check of the request's report, whose context stands in the four slots from k on.
 pub fn check_report(
     file: &File,
-    cells: &mut [u32; CELLS],
-    slots: &mut [u32; SLOTS],
+    parts: &mut Parts,
     open: &[u8],
     k: usize,
     request: &[u8],
 ) -> Verdict
-    requires { Judging file.now.bytes file.now.t cells.old slots.old «open».now k request.now }
-    ensures { Checks file.now.bytes file.now.t cells.old slots.old «open».now k request.now result }
+    requires { Judging file.now.bytes file.now.t parts.old.cells parts.old.slots «open».now k request.now }
+    ensures { Checks file.now.bytes file.now.t parts.old.cells parts.old.slots «open».now k request.now result }
 {
     let mut context: [u8; MAX_RECORD] = [0; MAX_RECORD];
-    let n = write_record(cells, slots, k, &mut context);
-    check_in(file, cells, slots, request, open, &context[0..n])
+    let n = write_record(parts, k, &mut context);
+    check_in(file, parts, request, open, &context[0..n])
 }

@@ -11,61 +11,59 @@ use crate::merge::merge;
 use access::file::File;
 use asking::ask::ask_whole;
 use hold::hold::{copy, push_sum};
+use memory::parts::Parts;
 use module::handles::{ExpressionHandle, FunctionHandle};
 
 // The needs of both blocks are joined, and the condition is needed.
 pub fn end_if(
     file: &File,
     f: FunctionHandle,
-    cells: &mut [u32],
-    roots: &mut [u32],
+    parts: &mut Parts,
     n: usize,
     e: ExpressionHandle,
 ) -> bool
-    requires { EndGiven (scope_at file.now.bytes file.now.t f.0) cells.old roots.old n e.0 }
-    ensures { Closed (scope_at file.now.bytes file.now.t f.0) (ending (scope_at file.now.bytes file.now.t f.0) e.0) cells.old roots.old n cells.new roots.new result }
+    requires { EndGiven (scope_at file.now.bytes file.now.t f.0) parts.old.cells parts.old.slots n e.0 }
+    ensures { Closed (scope_at file.now.bytes file.now.t f.0) (ending (scope_at file.now.bytes file.now.t f.0) e.0) parts.old.cells parts.old.slots n parts.new.cells parts.new.slots result }
 {
-    if !merge(cells, roots, n, n, n - 1) {
+    if !merge(parts, n, n, n - 1) {
         return false;
     }
-    ask_whole(file, f, cells, roots, n, e)
+    ask_whole(file, f, parts, n, e)
 }
 
 // The cases' union takes the place of the needs after the switch, and the selector is needed.
 pub fn end_switch(
     file: &File,
     f: FunctionHandle,
-    cells: &mut [u32],
-    roots: &mut [u32],
+    parts: &mut Parts,
     n: usize,
     e: ExpressionHandle,
 ) -> bool
-    requires { EndGiven (scope_at file.now.bytes file.now.t f.0) cells.old roots.old n e.0 }
-    ensures { Closed (scope_at file.now.bytes file.now.t f.0) (switch_ends (scope_at file.now.bytes file.now.t f.0) e.0) cells.old roots.old n cells.new roots.new result }
+    requires { EndGiven (scope_at file.now.bytes file.now.t f.0) parts.old.cells parts.old.slots n e.0 }
+    ensures { Closed (scope_at file.now.bytes file.now.t f.0) (switch_ends (scope_at file.now.bytes file.now.t f.0) e.0) parts.old.cells parts.old.slots n parts.new.cells parts.new.slots result }
 {
-    copy(roots, n, n - 1);
-    ask_whole(file, f, cells, roots, n, e)
+    copy(&mut parts.slots, n, n - 1);
+    ask_whole(file, f, parts, n, e)
 }
 
 // After the continuing block of the loop l stand its re-entry needs, and with `break_if` also the needs after the loop and the condition.
 pub fn begin_loop(
     file: &File,
     f: FunctionHandle,
-    cells: &mut [u32],
-    roots: &mut [u32],
+    parts: &mut Parts,
     n: usize,
     l: usize,
     break_if: Option<ExpressionHandle>,
 ) -> bool
-    requires { BeginGiven (scope_at file.now.bytes file.now.t f.0) l cells.old roots.old n (handle_in break_if) }
-    ensures { Begun (scope_at file.now.bytes file.now.t f.0) l (handle_in break_if) cells.old roots.old n cells.new roots.new result }
+    requires { BeginGiven (scope_at file.now.bytes file.now.t f.0) l parts.old.cells parts.old.slots n (handle_in break_if) }
+    ensures { Begun (scope_at file.now.bytes file.now.t f.0) l (handle_in break_if) parts.old.cells parts.old.slots n parts.new.cells parts.new.slots result }
 {
     let Some(condition) = break_if else {
-        copy(roots, l, n);
+        copy(&mut parts.slots, l, n);
         return true;
     };
-    if !push_sum(cells, roots, n, n - 1, l) {
+    if !push_sum(parts, n, n - 1, l) {
         return false;
     }
-    ask_whole(file, f, cells, roots, n + 1, condition)
+    ask_whole(file, f, parts, n + 1, condition)
 }

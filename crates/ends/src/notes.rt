@@ -5,16 +5,17 @@ ghost use Rattle.hold.specs.Hold.{in_slot, Live};
 ghost use Rattle.standing.specs.Standing.{Noted, Blames};
 
 use field::limits::MAX_PIECES;
+use memory::parts::Parts;
 use part::store::measure;
 use standing::passing::Passing;
 
 // At a point, with the needs at hand: whether they pass 15, and 16.
-pub fn note(cells: &[u32], roots: &[u32], n: usize, p: Passing) -> Passing
-    requires live { Live cells.now roots.now n }
+pub fn note(parts: &Parts, n: usize, p: Passing) -> Passing
+    requires live { Live parts.now.cells parts.now.slots n }
     requires n_nonzero { 0 < n }
-    ensures { Noted (in_slot cells.now roots.now (n - 1)) p result }
+    ensures { Noted (in_slot parts.now.cells parts.now.slots (n - 1)) p result }
 {
-    let sizes = measure(cells, roots[n - 1]);
+    let sizes = measure(&parts.cells, parts.slots[n - 1]);
     let many = (MAX_PIECES as u32) < sizes.entries - sizes.width;
     Passing {
         deep: sizes.over || p.deep,

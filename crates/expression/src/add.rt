@@ -14,6 +14,7 @@ use asks::ask::ask;
 use asks::what::Ask;
 use field::limits::MAX_VISITS;
 use field::refusal::Refusal;
+use memory::parts::Parts;
 use memory::want::Want;
 use module::handles::{ExpressionHandle, FunctionHandle};
 use state::answer::{Halt, Place, Tally, Walked};
@@ -26,8 +27,7 @@ const ARGUMENTS: usize = 2;
 // `add_expression`: a visit of the expression e of f, of which w is asked, with the current context in the slots from `at` on.
 pub fn add_expression(
     file: &File,
-    cells: &mut [u32],
-    slots: &mut [u32],
+    parts: &mut Parts,
     f: FunctionHandle,
     at: usize,
     held: usize,
@@ -35,10 +35,10 @@ pub fn add_expression(
     w: Want,
     began: Tally,
 ) -> Walked
-    requires ready { Ready file.now.bytes file.now.t cells.old slots.old f.0 at held began.sum }
+    requires ready { Ready file.now.bytes file.now.t parts.old.cells parts.old.slots f.0 at held began.sum }
     requires e_in_bounds { e.0 < length (function_at (module_of file.now.bytes file.now.t) f.0).expressions }
-    requires wants { Wants cells.old slots.old w }
-    ensures { Walks file.now.bytes file.now.t f.0 at held cells.old slots.old (add_expression (module_of file.now.bytes file.now.t) f.0 held e.0 (asked cells.old slots.old w)) began.visits result cells.new slots.new }
+    requires wants { Wants parts.old.cells parts.old.slots w }
+    ensures { Walks file.now.bytes file.now.t f.0 at held parts.old.cells parts.old.slots (add_expression (module_of file.now.bytes file.now.t) f.0 held e.0 (asked parts.old.cells parts.old.slots w)) began.visits result parts.new.cells parts.new.slots }
 {
     let here = Place::Expression(f, e);
     if MAX_VISITS <= began.visits {
@@ -47,7 +47,7 @@ pub fn add_expression(
             place: here,
         });
     }
-    if !allowed(cells, slots, at, held, began.sum) {
+    if !allowed(parts, at, held, began.sum) {
         return Err(Halt {
             refusal: Refusal::PiecesLimit,
             place: here,
@@ -59,18 +59,16 @@ pub fn add_expression(
     };
     let mut j = 0;
     // Stays: the arm's answers end the loop, and no count; a `for` would need an end of its own.
-    while let Some(a) = ask(file, cells, slots, f, e, w, j) {
+    while let Some(a) = ask(file, parts, f, e, w, j) {
         match a {
             Ask::Operand(h, want) => {
-                tally = add_expression(file, cells, slots, f, at, held, h, want, tally)?;
+                tally = add_expression(file, parts, f, at, held, h, want, tally)?;
             }
             Ask::Argument(i) => {
-                return entry(file, cells, slots, f, at, held, e, ARGUMENTS, i, w, tally);
+                return entry(file, parts, f, at, held, e, ARGUMENTS, i, w, tally);
             }
-            Ask::Global(g) => return global(file, cells, slots, f, at, held, e, g, w, tally),
-            Ask::Local(l) => return entry(
-                file, cells, slots, f, at, held, e, LOCALS, l.0, w, tally,
-            ),
+            Ask::Global(g) => return global(file, parts, f, at, held, e, g, w, tally),
+            Ask::Local(l) => return entry(file, parts, f, at, held, e, LOCALS, l.0, w, tally),
             Ask::Refuse(refusal) => {
                 return Err(Halt {
                     refusal,
@@ -80,5 +78,5 @@ pub fn add_expression(
         }
         j += 1;
     }
-    close(file, cells, slots, f, at, held, e, w, tally)
+    close(file, parts, f, at, held, e, w, tally)
 }

@@ -1,5 +1,5 @@
 // What an arm asks of a variable, and the end of its visit: an arm that asks one asks nothing else.
-ghost use Rattle.std.specs.Prelude.{List, ℕ, ◌<◌, get_or};
+ghost use Rattle.std.specs.Prelude.{List, ℕ, ◌+◌, ◌<◌, get_or};
 ghost use Rattle.part.specs.PartReq.{spine};
 ghost use Rattle.part.specs.Store.{part};
 ghost use Rattle.walk.specs.Expression.{joined};
@@ -13,6 +13,7 @@ use access::file::File;
 use field::refusal::Refusal;
 use memory::layout::GLOBALS;
 use memory::memory::{ask_global, join_asked};
+use memory::parts::Parts;
 use memory::want::Want;
 use module::handles::{ExpressionHandle, FunctionHandle, GlobalHandle};
 use part::limits::SPINE;
@@ -20,25 +21,24 @@ use part::req::get;
 use part::store::over;
 use state::answer::{Halt, Place, Tally, Walked};
 
-// Joins what w asks to the entry of the variable i in the map of the slot k, where that passes no limit. Whether it does.
-fn join(cells: &mut [u32], slots: &mut [u32], k: usize, i: u32, w: Want) -> bool
-    requires { Mapping cells.old slots.old k i w }
-    ensures { Meets cells.old slots.old k (joined (part cells.old (get_or slots.old k 0)) i (asked cells.old slots.old w)) result cells.new slots.new }
+// Joins what w asks to the entry of the variable i in a map of the context in the slots from `at` on, where that passes no limit. Whether it does.
+fn join(parts: &mut Parts, at: usize, map: usize, i: u32, w: Want) -> bool
+    requires { Mapping parts.old.cells parts.old.slots (at + map) i w }
+    ensures { Meets parts.old.cells parts.old.slots (at + map) (joined (part parts.old.cells (get_or parts.old.slots (at + map) 0)) i (asked parts.old.cells parts.old.slots w)) result parts.new.cells parts.new.slots }
 {
-    let n = slots[k];
-    let r = join_asked(cells, slots, n, i, w);
-    if over(cells, r) {
+    let n = parts.slots[at + map];
+    let r = join_asked(&mut parts.cells, &parts.slots, n, i, w);
+    if over(&parts.cells, r) {
         return true;
     }
-    slots[k] = r;
+    parts.slots[at + map] = r;
     false
 }
 
 // The entry i of a map of the current context is asked w, and the visit ends: that of an argument, or of a local, by the map's place in the context.
 pub fn entry(
     file: &File,
-    cells: &mut [u32],
-    slots: &mut [u32],
+    parts: &mut Parts,
     f: FunctionHandle,
     at: usize,
     held: usize,
@@ -48,24 +48,23 @@ pub fn entry(
     w: Want,
     tally: Tally,
 ) -> Walked
-    requires visiting { Visiting file.now.t f.0 e.0 at held cells.old slots.old w tally.sum }
+    requires visiting { Visiting file.now.t f.0 e.0 at held parts.old.cells parts.old.slots w tally.sum }
     requires in_bounds { (map < 4) × (i < spine) }
-    ensures { (bytes : List ℕ) → Ready bytes file.now.t cells.old slots.old f.0 at held tally.sum → EntryWalks bytes file.now.t f.0 at held cells.old slots.old map e.0 i (asked cells.old slots.old w) tally.visits result cells.new slots.new }
+    ensures { (bytes : List ℕ) → Ready bytes file.now.t parts.old.cells parts.old.slots f.0 at held tally.sum → EntryWalks bytes file.now.t f.0 at held parts.old.cells parts.old.slots map e.0 i (asked parts.old.cells parts.old.slots w) tally.visits result parts.new.cells parts.new.slots }
 {
-    if join(cells, slots, at + map, i, w) {
+    if join(parts, at, map, i, w) {
         return Err(Halt {
             refusal: Refusal::PartLimit,
             place: Place::Expression(f, e),
         });
     }
-    close(file, cells, slots, f, at, held, e, w, tally)
+    close(file, parts, f, at, held, e, w, tally)
 }
 
 // The global g is asked w, and the visit ends. 15 is asked of the total, where it was joined.
 pub fn global(
     file: &File,
-    cells: &mut [u32],
-    slots: &mut [u32],
+    parts: &mut Parts,
     f: FunctionHandle,
     at: usize,
     held: usize,
@@ -74,30 +73,30 @@ pub fn global(
     w: Want,
     tally: Tally,
 ) -> Walked
-    requires visiting { Visiting file.now.t f.0 e.0 at held cells.old slots.old w tally.sum }
+    requires visiting { Visiting file.now.t f.0 e.0 at held parts.old.cells parts.old.slots w tally.sum }
     requires g_lt_spine { g.0 < spine }
-    ensures { (bytes : List ℕ) → Ready bytes file.now.t cells.old slots.old f.0 at held tally.sum → Walks bytes file.now.t f.0 at held cells.old slots.old (ending_global f.0 held e.0 g.0 (asked cells.old slots.old w)) tally.visits result cells.new slots.new }
+    ensures { (bytes : List ℕ) → Ready bytes file.now.t parts.old.cells parts.old.slots f.0 at held tally.sum → Walks bytes file.now.t f.0 at held parts.old.cells parts.old.slots (ending_global f.0 held e.0 g.0 (asked parts.old.cells parts.old.slots w)) tally.visits result parts.new.cells parts.new.slots }
 {
-    let seen = get(cells, slots[GLOBALS], SPINE + g.0);
-    let n = slots[at];
-    let r = ask_global(cells, slots, n, g, w, tally.sum);
+    let seen = get(&parts.cells, parts.slots[GLOBALS], SPINE + g.0);
+    let n = parts.slots[at];
+    let r = ask_global(parts, n, g, w, tally.sum);
     let counted = Tally {
         sum: r.sum,
         ..tally
     };
     match seen {
         None => {
-            slots[at] = r.globals;
-            close(file, cells, slots, f, at, held, e, w, counted)
+            parts.slots[at] = r.globals;
+            close(file, parts, f, at, held, e, w, counted)
         }
         Some(_) => {
-            if over(cells, slots[GLOBALS]) {
+            if over(&parts.cells, parts.slots[GLOBALS]) {
                 return Err(Halt {
                     refusal: Refusal::PartLimit,
                     place: Place::Expression(f, e),
                 });
             }
-            close(file, cells, slots, f, at, held, e, w, counted)
+            close(file, parts, f, at, held, e, w, counted)
         }
     }
 }

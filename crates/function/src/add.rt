@@ -54,7 +54,7 @@ pub fn add_function(
 ) -> Answered
     requires function_entered { FunctionEnteredOf world.now space.old f.0 base held tally.sum tally.visits }
     requires base_bound { base + 4 ≤ slot_count }
-    ensures { FunctionEndsOf world.now space.old f.0 base held (add_function (module_by world.now) f.0 (place_of here) held (get_or (read space.old.cells space.old.slots) base none) (get_or (read space.old.cells space.old.slots) (base + 3) none) (state_by world.now space.old f.0 base tally.visits)) result space.new }
+    ensures { FunctionEndsOf world.now space.old f.0 base held (add_function (module_by world.now) f.0 (place_of here) held (get_or (read space.old.parts.cells space.old.parts.slots) base none) (get_or (read space.old.parts.cells space.old.parts.slots) (base + 3) none) (state_by world.now space.old f.0 base tally.visits)) result space.new }
 {
     let b = world.file.body_block(f);
     let at = base + 4;
@@ -62,8 +62,7 @@ pub fn add_function(
     let tally = add_total(
         world.file,
         world.places,
-        &mut space.cells,
-        &mut space.slots,
+        &mut space.parts,
         &space.open,
         &mut space.totals,
         f,
@@ -90,13 +89,13 @@ pub fn add_block(
     break_required: bool,
     began: Tally,
 ) -> Answered
-    requires { EnteredOf world.now space.old f.0 b.0 base at held (held + context_in space.old.cells space.old.slots base) began.sum began.visits }
-    ensures { BlockEndsOf world.now space.old f.0 base at held (held + context_in space.old.cells space.old.slots base) began.sum (blocks_by world.now f.0 b.0 held (context_at (read space.old.cells space.old.slots) base) break_required (state_by world.now space.old f.0 at began.visits)) result space.new }
+    requires { EnteredOf world.now space.old f.0 b.0 base at held (held + context_in space.old.parts.cells space.old.parts.slots base) began.sum began.visits }
+    ensures { BlockEndsOf world.now space.old f.0 base at held (held + context_in space.old.parts.cells space.old.parts.slots base) began.sum (blocks_by world.now f.0 b.0 held (context_at (read space.old.parts.cells space.old.parts.slots) base) break_required (state_by world.now space.old f.0 at began.visits)) result space.new }
 {
     let range = world.file.block(f, b);
     let first = range.first;
-    let inner = held + weigh(&space.cells, &space.slots, base, 4);
-    copy_context(&mut space.slots, base, at);
+    let inner = held + weigh(&space.parts, base, 4);
+    copy_context(&mut space.parts.slots, base, at);
     let mut tally = began;
     let mut behind = break_required;
     let mut required = false;
@@ -127,19 +126,13 @@ pub fn add_statement(
     tally: Tally,
 ) -> Answered
     requires { VisitsOf world.now space.old fr b.0 tally.sum tally.visits }
-    ensures { VisitEndsOf world.now space.old fr (visit_statement (module_by world.now) (add_function (module_by world.now)) (blocks_by world.now fr.function.0) (frame_of space.old.cells space.old.slots fr) (state_by world.now space.old fr.function.0 fr.at tally.visits)) result space.new }
+    ensures { VisitEndsOf world.now space.old fr (visit_statement (module_by world.now) (add_function (module_by world.now)) (blocks_by world.now fr.function.0) (frame_of space.old.parts.cells space.old.parts.slots fr) (state_by world.now space.old fr.function.0 fr.at tally.visits)) result space.new }
 {
     let f = fr.function;
     if MAX_VISITS <= tally.visits {
         return Err(fr.halt(Refusal::VisitsLimit));
     }
-    if !allowed(
-        &mut space.cells,
-        &mut space.slots,
-        fr.at,
-        fr.held,
-        tally.sum,
-    ) {
+    if !allowed(&mut space.parts, fr.at, fr.held, tally.sum) {
         return Err(fr.halt(Refusal::PiecesLimit));
     }
     let row = world.file.statement(f, fr.statement);
@@ -148,7 +141,7 @@ pub fn add_statement(
         ..tally
     };
     let r = add_arm(world, space, fr, b, row, counted);
-    end_statement(&mut space.cells, &mut space.slots, fr, r)
+    end_statement(&mut space.parts, fr, r)
 }
 
 // The arm with its marks.
@@ -162,15 +155,14 @@ fn add_arm(
     tally: Tally,
 ) -> Answered
     requires { ArmsOf world.now space.old fr b.0 row tally.sum tally.visits }
-    ensures { StatementEndsOf world.now space.old fr (marked (module_by world.now) (frame_of space.old.cells space.old.slots fr) (add_statement (module_by world.now) (add_function (module_by world.now)) (blocks_by world.now fr.function.0) (frame_of space.old.cells space.old.slots fr) (statement_of row.kind (operand_at world.now.file.now.bytes row)) (state_by world.now space.old fr.function.0 fr.at tally.visits))) (λ b. b) result space.new }
+    ensures { StatementEndsOf world.now space.old fr (marked (module_by world.now) (frame_of space.old.parts.cells space.old.parts.slots fr) (add_statement (module_by world.now) (add_function (module_by world.now)) (blocks_by world.now fr.function.0) (frame_of space.old.parts.cells space.old.parts.slots fr) (statement_of row.kind (operand_at world.now.file.now.bytes row)) (state_by world.now space.old fr.function.0 fr.at tally.visits))) (λ b. b) result space.new }
 {
     match StatementKind::try_from(row.kind) {
         Ok(StatementKind::Emit) => {
             return add_emit(
                 world.file,
                 world.places,
-                &space.cells,
-                &space.slots,
+                &space.parts,
                 &mut space.open,
                 fr,
                 row,
@@ -187,15 +179,7 @@ fn add_arm(
         }
         _ => {}
     }
-    let r = add_leaf(
-        world.file,
-        world.types,
-        &mut space.cells,
-        &mut space.slots,
-        fr,
-        row,
-        tally,
-    );
+    let r = add_leaf(world.file, world.types, &mut space.parts, fr, row, tally);
     mark_statement(world.file, world.places, &mut space.open, fr, row, r)
 }
 
@@ -211,7 +195,7 @@ fn add_holder(
 ) -> Answered
     requires arms { ArmsOf world.now space.old fr b.0 row tally.sum tally.visits }
     requires le_kind { (1 ≤ row.kind) × (row.kind ≤ 4) }
-    ensures { StatementEndsOf world.now space.old fr (marked (module_by world.now) (frame_of space.old.cells space.old.slots fr) (add_statement (module_by world.now) (add_function (module_by world.now)) (blocks_by world.now fr.function.0) (frame_of space.old.cells space.old.slots fr) (statement_of row.kind (operand_at world.now.file.now.bytes row)) (state_by world.now space.old fr.function.0 fr.at tally.visits))) (λ b. b) result space.new }
+    ensures { StatementEndsOf world.now space.old fr (marked (module_by world.now) (frame_of space.old.parts.cells space.old.parts.slots fr) (add_statement (module_by world.now) (add_function (module_by world.now)) (blocks_by world.now fr.function.0) (frame_of space.old.parts.cells space.old.parts.slots fr) (statement_of row.kind (operand_at world.now.file.now.bytes row)) (state_by world.now space.old fr.function.0 fr.at tally.visits))) (λ b. b) result space.new }
 {
     let r = match StatementKind::try_from(row.kind) {
         Ok(StatementKind::Block) => add_nested(world, space, fr, b, row, tally),
@@ -238,7 +222,7 @@ pub fn add_pair(
     tally: Tally,
 ) -> Answered
     requires { PairedOf world.now space.old f.0 b.0 first.0 second.0 base at held tally.sum tally.visits }
-    ensures { PairEndsOf world.now space.old f.0 base at held (add_pair (blocks_by world.now f.0) first.0 second.0 held (context_at (read space.old.cells space.old.slots) base) break_required (state_by world.now space.old f.0 at tally.visits)) result space.new }
+    ensures { PairEndsOf world.now space.old f.0 base at held (add_pair (blocks_by world.now f.0) first.0 second.0 held (context_at (read space.old.parts.cells space.old.parts.slots) base) break_required (state_by world.now space.old f.0 at tally.visits)) result space.new }
 {
     let a = add_block(
         world,
@@ -251,7 +235,7 @@ pub fn add_pair(
         break_required,
         tally,
     )?;
-    let more = held + weigh(&space.cells, &space.slots, at, 4);
+    let more = held + weigh(&space.parts, at, 4);
     let c = add_block(
         world,
         space,
@@ -281,12 +265,12 @@ pub fn add_nested(
 ) -> Answered
     requires arms { ArmsOf world.now space.old fr b.0 row tally.sum tally.visits }
     requires kind_value { row.kind ≡ 1 }
-    ensures { StatementEndsOf world.now space.old fr (add_nested (blocks_by world.now fr.function.0) (frame_of space.old.cells space.old.slots fr) (operand_at world.now.file.now.bytes row 0) (state_by world.now space.old fr.function.0 fr.at tally.visits)) StatementReq.BlockStmt result space.new }
+    ensures { StatementEndsOf world.now space.old fr (add_nested (blocks_by world.now fr.function.0) (frame_of space.old.parts.cells space.old.parts.slots fr) (operand_at world.now.file.now.bytes row 0) (state_by world.now space.old fr.function.0 fr.at tally.visits)) StatementReq.BlockStmt result space.new }
 {
     let f = fr.function;
     let at = fr.at;
     let inner = world.file.block_operand(row, 0);
-    let held = fr.held + weigh(&space.cells, &space.slots, at, 4);
+    let held = fr.held + weigh(&space.parts, at, 4);
     let a = add_block(
         world,
         space,
@@ -298,7 +282,7 @@ pub fn add_nested(
         fr.break_required,
         tally,
     )?;
-    lower(&mut space.slots, at);
+    lower(&mut space.parts.slots, at);
     Ok(a)
 }
 
@@ -314,13 +298,13 @@ pub fn add_if(
 ) -> Answered
     requires arms { ArmsOf world.now space.old fr b.0 row tally.sum tally.visits }
     requires kind_value { row.kind ≡ 2 }
-    ensures { StatementEndsOf world.now space.old fr (add_if (module_by world.now) (blocks_by world.now fr.function.0) (frame_of space.old.cells space.old.slots fr) (operand_at world.now.file.now.bytes row 0) (operand_at world.now.file.now.bytes row 1) (operand_at world.now.file.now.bytes row 2) (state_by world.now space.old fr.function.0 fr.at tally.visits)) StatementReq.If result space.new }
+    ensures { StatementEndsOf world.now space.old fr (add_if (module_by world.now) (blocks_by world.now fr.function.0) (frame_of space.old.parts.cells space.old.parts.slots fr) (operand_at world.now.file.now.bytes row 0) (operand_at world.now.file.now.bytes row 1) (operand_at world.now.file.now.bytes row 2) (state_by world.now space.old fr.function.0 fr.at tally.visits)) StatementReq.If result space.new }
 {
     let f = fr.function;
     let at = fr.at;
     let accept = world.file.block_operand(row, 1);
     let reject = world.file.block_operand(row, 2);
-    let held = fr.held + weigh(&space.cells, &space.slots, at, 4);
+    let held = fr.held + weigh(&space.parts, at, 4);
     let a = add_pair(
         world,
         space,
@@ -337,8 +321,7 @@ pub fn add_if(
     let condition = world.file.expression_operand(row, 0);
     end_if(
         world.file,
-        &mut space.cells,
-        &mut space.slots,
+        &mut space.parts,
         fr,
         condition,
         a.required,
@@ -358,34 +341,26 @@ pub fn add_switch(
 ) -> Answered
     requires arms { ArmsOf world.now space.old fr b.0 row began.sum began.visits }
     requires kind_value { row.kind ≡ 3 }
-    ensures { StatementEndsOf world.now space.old fr (add_switch (module_by world.now) (blocks_by world.now fr.function.0) (frame_of space.old.cells space.old.slots fr) (operand_at world.now.file.now.bytes row 0) (tab (operand_at world.now.file.now.bytes row 1) (case_of (operand_at world.now.file.now.bytes row))) (state_by world.now space.old fr.function.0 fr.at began.visits)) StatementReq.Switch result space.new }
+    ensures { StatementEndsOf world.now space.old fr (add_switch (module_by world.now) (blocks_by world.now fr.function.0) (frame_of space.old.parts.cells space.old.parts.slots fr) (operand_at world.now.file.now.bytes row 0) (tab (operand_at world.now.file.now.bytes row 1) (case_of (operand_at world.now.file.now.bytes row))) (state_by world.now space.old fr.function.0 fr.at began.visits)) StatementReq.Switch result space.new }
 {
     let f = fr.function;
     let at = fr.at;
-    let outside = fr.held + weigh(&space.cells, &space.slots, at, 4);
-    copy_context(&mut space.slots, at, at + 4);
+    let outside = fr.held + weigh(&space.parts, at, 4);
+    copy_context(&mut space.parts.slots, at, at + 4);
     let mut tally = began;
     let mut any = false;
     for k in (0..world.file.operand(row, 1)).rev() {
         let body = case_body(world.file, row, k);
-        let held = outside + weigh(&space.cells, &space.slots, at + 4, 4);
+        let held = outside + weigh(&space.parts, at + 4, 4);
         let a = add_block(world, space, f, body, at, at + 8, held, false, tally)?;
-        if end_case(&mut space.cells, &mut space.slots, at + 4) {
+        if end_case(&mut space.parts, at + 4) {
             return Err(fr.halt(Refusal::PartLimit));
         }
         tally = a.tally;
         any |= a.required;
     }
     let selector = world.file.expression_operand(row, 0);
-    end_switch(
-        world.file,
-        &mut space.cells,
-        &mut space.slots,
-        fr,
-        selector,
-        any,
-        tally,
-    )
+    end_switch(world.file, &mut space.parts, fr, selector, any, tally)
 }
 
 // `Loop`: the first pass, and the turns where it is required. It is not inlined: the walk calls itself, and would hold its frame on every level of blocks.
@@ -401,13 +376,13 @@ pub fn add_loop(
 ) -> Answered
     requires arms { ArmsOf world.now space.old fr b.0 row tally.sum tally.visits }
     requires kind_value { row.kind ≡ 4 }
-    ensures { StatementEndsOf world.now space.old fr (add_loop (module_by world.now) (blocks_by world.now fr.function.0) (frame_of space.old.cells space.old.slots fr) (operand_at world.now.file.now.bytes row 0) (operand_at world.now.file.now.bytes row 1) (option_of (operand_at world.now.file.now.bytes row 2)) (state_by world.now space.old fr.function.0 fr.at tally.visits)) StatementReq.Loop result space.new }
+    ensures { StatementEndsOf world.now space.old fr (add_loop (module_by world.now) (blocks_by world.now fr.function.0) (frame_of space.old.parts.cells space.old.parts.slots fr) (operand_at world.now.file.now.bytes row 0) (operand_at world.now.file.now.bytes row 1) (option_of (operand_at world.now.file.now.bytes row 2)) (state_by world.now space.old fr.function.0 fr.at tally.visits)) StatementReq.Loop result space.new }
 {
     let f = fr.function;
     let at = fr.at;
     let body = world.file.block_operand(row, 0);
     let continuing = world.file.block_operand(row, 1);
-    let held = fr.held + weigh(&space.cells, &space.slots, at, 4);
+    let held = fr.held + weigh(&space.parts, at, 4);
     let a = add_pair(
         world,
         space,
@@ -422,18 +397,11 @@ pub fn add_loop(
         tally,
     )?;
     if !a.required {
-        drop_both(&mut space.slots, at);
+        drop_both(&mut space.parts.slots, at);
         return Ok(a);
     }
     let break_if = world.file.optional_expression(row, 2);
-    let left = end_pass(
-        world.file,
-        &mut space.cells,
-        &mut space.slots,
-        fr,
-        break_if,
-        a.tally,
-    )?;
+    let left = end_pass(world.file, &mut space.parts, fr, break_if, a.tally)?;
     add_turns(world, space, fr, b, body, continuing, left)
 }
 
@@ -449,13 +417,11 @@ fn add_turns(
     began: Tally,
 ) -> Answered
     requires { TurningOf world.now space.old fr b.0 body.0 continuing.0 began.sum began.visits }
-    ensures { StatementEndsOf world.now space.old fr (turns (blocks_by world.now fr.function.0) (frame_of space.old.cells space.old.slots fr) (fr.held + context_in space.old.cells space.old.slots fr.at + context_in space.old.cells space.old.slots (fr.at + 4)) body.0 continuing.0 (context_at (read space.old.cells space.old.slots) (fr.at + 4)) max_turns (state_by world.now space.old fr.function.0 (fr.at + 4) began.visits)) StatementReq.Loop result space.new }
+    ensures { StatementEndsOf world.now space.old fr (turns (blocks_by world.now fr.function.0) (frame_of space.old.parts.cells space.old.parts.slots fr) (fr.held + context_in space.old.parts.cells space.old.parts.slots fr.at + context_in space.old.parts.cells space.old.parts.slots (fr.at + 4)) body.0 continuing.0 (context_at (read space.old.parts.cells space.old.parts.slots) (fr.at + 4)) max_turns (state_by world.now space.old fr.function.0 (fr.at + 4) began.visits)) StatementReq.Loop result space.new }
 {
     let f = fr.function;
     let at = fr.at;
-    let held = fr.held
-        + weigh(&space.cells, &space.slots, at, 4)
-        + weigh(&space.cells, &space.slots, at + 4, 4);
+    let held = fr.held + weigh(&space.parts, at, 4) + weigh(&space.parts, at + 4, 4);
     let mut tally = began;
     for left in (0..MAX_TURNS).rev() {
         let a = add_pair(
@@ -472,7 +438,7 @@ fn add_turns(
             tally,
         )?;
         tally = a.tally;
-        match end_turn(&mut space.cells, &mut space.slots, at) {
+        match end_turn(&mut space.parts, at) {
             Turn::Over => return Err(fr.halt(Refusal::PartLimit)),
             Turn::Settled => {
                 return Ok(Answer {
@@ -499,7 +465,7 @@ pub fn add_call(
 ) -> Answered
     requires arms { ArmsOf world.now space.old fr b.0 row tally.sum tally.visits }
     requires kind_value { row.kind ≡ 14 }
-    ensures { StatementEndsOf world.now space.old fr (marked (module_by world.now) (frame_of space.old.cells space.old.slots fr) (add_statement (module_by world.now) (add_function (module_by world.now)) (blocks_by world.now fr.function.0) (frame_of space.old.cells space.old.slots fr) (statement_of row.kind (operand_at world.now.file.now.bytes row)) (state_by world.now space.old fr.function.0 fr.at tally.visits))) (λ b. b) result space.new }
+    ensures { StatementEndsOf world.now space.old fr (marked (module_by world.now) (frame_of space.old.parts.cells space.old.parts.slots fr) (add_statement (module_by world.now) (add_function (module_by world.now)) (blocks_by world.now fr.function.0) (frame_of space.old.parts.cells space.old.parts.slots fr) (statement_of row.kind (operand_at world.now.file.now.bytes row)) (state_by world.now space.old fr.function.0 fr.at tally.visits))) (λ b. b) result space.new }
 {
     let f = fr.function;
     let at = fr.at;
@@ -507,8 +473,7 @@ pub fn add_call(
     let begun = begin_call(
         world.file,
         world.places,
-        &mut space.cells,
-        &mut space.slots,
+        &mut space.parts,
         &mut space.open,
         fr,
         row,
@@ -528,19 +493,11 @@ pub fn add_call(
         begun.held,
         others,
     )?;
-    let sum = leave_call(
-        world.file,
-        &space.cells,
-        &mut space.slots,
-        g,
-        at,
-        a.tally.sum + own,
-    );
+    let sum = leave_call(world.file, &mut space.parts, g, at, a.tally.sum + own);
     return_call(
         world.file,
         world.places,
-        &mut space.cells,
-        &mut space.slots,
+        &mut space.parts,
         &mut space.open,
         fr,
         row,

@@ -6,30 +6,30 @@ use access::kinded::Kinded;
 use asking::ask::ask_returned;
 use hold::hold::copy;
 use judge::subject::Subject;
+use memory::parts::Parts;
 use module::kinds::StatementKind;
 use standing::passing::{Exits, Passing, filled};
 
 // A return.
 fn pass_return(
     subject: &Subject,
-    cells: &mut [u32],
-    roots: &mut [u32],
+    parts: &mut Parts,
     n: usize,
     x: Exits,
     p: Passing,
     l: u32,
     row: Kinded,
 ) -> Passing
-    requires leave_given { LeaveGivenOf subject.now cells.old roots.old n x p l row }
+    requires leave_given { LeaveGivenOf subject.now parts.old.cells parts.old.slots n x p l row }
     requires kind_value { row.kind ≡ 7 }
-    ensures { Leaves subject.now.file.now.bytes subject.now.file.now.t subject.now.f.0 cells.old roots.old n x p l cells.new roots.new result }
+    ensures { Leaves subject.now.file.now.bytes subject.now.file.now.t subject.now.f.0 parts.old.cells parts.old.slots n x p l parts.new.cells parts.new.slots result }
 {
     let last = n - 1;
-    copy(roots, x.returned, last);
+    copy(&mut parts.slots, x.returned, last);
     let Some(value) = subject.file.optional_expression(row, 0) else {
         return p;
     };
-    if ask_returned(subject.file, subject.f, cells, roots, n, value) {
+    if ask_returned(subject.file, subject.f, parts, n, value) {
         return p;
     }
     filled()
@@ -38,27 +38,26 @@ fn pass_return(
 // The statement l, of a kind past a loop's, that is no store. A kind past the last is a break's.
 pub fn pass_leaving(
     subject: &Subject,
-    cells: &mut [u32],
-    roots: &mut [u32],
+    parts: &mut Parts,
     n: usize,
     x: Exits,
     p: Passing,
     l: u32,
     row: Kinded,
 ) -> Passing
-    requires leave_given { LeaveGivenOf subject.now cells.old roots.old n x p l row }
+    requires leave_given { LeaveGivenOf subject.now parts.old.cells parts.old.slots n x p l row }
     requires lt_kind { (4 < row.kind) × (row.kind ≡ 12 → ⊥) }
-    ensures { Leaves subject.now.file.now.bytes subject.now.file.now.t subject.now.f.0 cells.old roots.old n x p l cells.new roots.new result }
+    ensures { Leaves subject.now.file.now.bytes subject.now.file.now.t subject.now.f.0 parts.old.cells parts.old.slots n x p l parts.new.cells parts.new.slots result }
 {
     let last = n - 1;
     match StatementKind::try_from(row.kind) {
-        Ok(StatementKind::Return) => pass_return(subject, cells, roots, n, x, p, l, row),
+        Ok(StatementKind::Return) => pass_return(subject, parts, n, x, p, l, row),
         Ok(StatementKind::Continue) => {
-            copy(roots, x.continued, last);
+            copy(&mut parts.slots, x.continued, last);
             p
         }
         Ok(StatementKind::Break) | Err(_) => {
-            copy(roots, x.broke, last);
+            copy(&mut parts.slots, x.broke, last);
             p
         }
         Ok(_) => p,

@@ -6,6 +6,7 @@ ghost use Rattle.lines.specs.Text.{record_text, records_text};
 ghost use Rattle.lines.specs.Wrote.{longest, Fits, Wrote};
 
 use crate::contexts::write_line;
+use memory::parts::Parts;
 use module::handles::ExpressionHandle;
 use part::store::{EMPTY_PIECE, look};
 
@@ -23,26 +24,19 @@ fn write_record(out: &mut [u8], at: usize, cells: &[u32], e: ExpressionHandle, p
 }
 
 // A line for each record of n expressions, whose slots begin at `base`.
-pub fn write_records(
-    out: &mut [u8],
-    at: usize,
-    cells: &[u32],
-    slots: &[u32],
-    base: usize,
-    n: usize,
-) -> usize
-    requires good { Good cells.now × Below slots.now (top cells.now) }
-    requires n_in_bounds { (base + n ≤ length slots.now) × (n < longest) × Fits at (records_text 0 (records_of (read cells.now slots.now) base n)) }
-    ensures { Wrote out.old out.new at (records_text 0 (records_of (read cells.now slots.now) base n)) result }
+pub fn write_records(out: &mut [u8], at: usize, parts: &Parts, base: usize, n: usize) -> usize
+    requires good { Good parts.now.cells × Below parts.now.slots (top parts.now.cells) }
+    requires n_in_bounds { (base + n ≤ length parts.now.slots) × (n < longest) × Fits at (records_text 0 (records_of (read parts.now.cells parts.now.slots) base n)) }
+    ensures { Wrote out.old out.new at (records_text 0 (records_of (read parts.now.cells parts.now.slots) base n)) result }
 {
     let mut next = at;
     for k in 0..n {
         next = write_record(
             out,
             next,
-            cells,
+            &parts.cells,
             ExpressionHandle(k as u32),
-            slots[base + k],
+            parts.slots[base + k],
         );
     }
     next

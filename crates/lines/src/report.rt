@@ -16,6 +16,7 @@ use crate::text::{write_byte, write_number, write_word};
 use access::file::File;
 use field::limits::{MAX_EXPRESSIONS, MAX_PIECES, MAX_STATEMENTS};
 use memory::layout::EXPRS;
+use memory::parts::Parts;
 use memory::stretches::load_context;
 use module::handles::FunctionHandle;
 use module::tables::row_at;
@@ -27,12 +28,12 @@ pub const MAX_TEXT: usize = 13
     + 4 * (2 * MAX_STATEMENTS + MAX_EXPRESSIONS);
 
 // The lines of the context in the four slots from k on.
-fn write_context_at(out: &mut [u8], at: usize, cells: &[u32], slots: &[u32], k: usize) -> usize
-    requires { Memory cells.now slots.now × (k + 4 ≤ length slots.now) × Fits at (context_text (context_at (read cells.now slots.now) k)) }
-    ensures { Wrote out.old out.new at (context_text (context_at (read cells.now slots.now) k)) result }
+fn write_context_at(out: &mut [u8], at: usize, parts: &Parts, k: usize) -> usize
+    requires { Memory parts.now.cells parts.now.slots × (k + 4 ≤ length parts.now.slots) × Fits at (context_text (context_at (read parts.now.cells parts.now.slots) k)) }
+    ensures { Wrote out.old out.new at (context_text (context_at (read parts.now.cells parts.now.slots) k)) result }
 {
-    let c = load_context(slots, k);
-    write_context(out, at, cells, c)
+    let c = load_context(&parts.slots, k);
+    write_context(out, at, &parts.cells, c)
 }
 
 // The lines of the records of f, which is open.
@@ -40,16 +41,15 @@ fn write_records_of(
     out: &mut [u8],
     at: usize,
     file: &File,
-    cells: &[u32],
-    slots: &[u32],
+    parts: &Parts,
     f: FunctionHandle,
 ) -> usize
-    requires { Memory cells.now slots.now × (items_to (row_at file.now.t f.0) ≤ max_items) × Fits at (records_text 0 (records_in file.now.t exprs_slot f.0 (read cells.now slots.now))) }
-    ensures { Wrote out.old out.new at (records_text 0 (records_in file.now.t exprs_slot f.0 (read cells.now slots.now))) result }
+    requires { Memory parts.now.cells parts.now.slots × (items_to (row_at file.now.t f.0) ≤ max_items) × Fits at (records_text 0 (records_in file.now.t exprs_slot f.0 (read parts.now.cells parts.now.slots))) }
+    ensures { Wrote out.old out.new at (records_text 0 (records_in file.now.t exprs_slot f.0 (read parts.now.cells parts.now.slots))) result }
 {
     let row = file.row(f);
     let first = EXPRS + row.expressions_from();
-    write_records(out, at, cells, slots, first, row.expressions as usize)
+    write_records(out, at, parts, first, row.expressions as usize)
 }
 
 // The lines of the report on f, whose context stands in the slots from `at` on; they begin at byte 0, and the answer is their length.
@@ -57,19 +57,18 @@ pub fn write_report_text(
     out: &mut [u8],
     file: &File,
     places: &[u32],
-    cells: &[u32],
-    slots: &[u32],
+    parts: &Parts,
     marks: &[u8],
     f: FunctionHandle,
     at: usize,
     required: bool,
 ) -> usize
-    requires { Reporting file.now.bytes file.now.t places.now cells.now slots.now marks.now f.0 at × (max_text ≤ length out.old) }
-    ensures { Front out.old out.new (text_in file.now.bytes file.now.t cells.now slots.now marks.now f.0 at required) result }
+    requires { Reporting file.now.bytes file.now.t places.now parts.now.cells parts.now.slots marks.now f.0 at × (max_text ≤ length out.old) }
+    ensures { Front out.old out.new (text_in file.now.bytes file.now.t parts.now.cells parts.now.slots marks.now f.0 at required) result }
 {
     let context = write_required(out, 0, required);
-    let records = write_context_at(out, context, cells, slots, at);
-    let statements = write_records_of(out, records, file, cells, slots, f);
+    let records = write_context_at(out, context, parts, at);
+    let statements = write_records_of(out, records, file, parts, f);
     write_statements(out, statements, file, places, marks, f)
 }
 

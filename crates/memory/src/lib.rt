@@ -3,5 +3,6 @@
 
 pub mod layout;
 pub mod memory;
+pub mod parts;
 pub mod stretches;
 pub mod want;

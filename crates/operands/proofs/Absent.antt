@@ -15,7 +15,7 @@ use Rattle.clearance.specs.Scope.{Scope}
 use Rattle.clearance.specs.Needs.{ask_whole}
 use Rattle.operands.specs.AsksAll.{ListGiven, AsksAll}
 use Rattle.operands.specs.Lists.{whole_of, present_of, math_of}
-use Rattle.operands.proofs.Lists.{all_none, all_full, list_next, list_then}
+use Rattle.operands.proofs.Lists.{given_right, all_none, all_full, list_next, list_then}
 
 -- the operand v is not there
 pub present_none : {S : Scope} {s rs : List ℕ} {n : ℕ} (v : ℕ) → handle_in None ≡ option_of v → ListGiven S (cond (eqb v absent) [] (ask_whole v ∷ [])) s rs n →
@@ -35,11 +35,17 @@ module _ (e : ExpressionHandle) {v : ℕ} (h : handle_in (Some e) ≡ option_of 
 
 module _ {S : Scope} {s rs : List ℕ} {n : ℕ} (o : ℕ → ℕ) where
   module _ (g : ListGiven S (math_of o) s rs n) where
+    pub math_first : ListGiven S (present_of o 3) s rs n
+    math_first = given_right (present_of o 2) (given_right (present_of o 1) (given_right (whole_of o 0) g))
+
     module _ {t us : List ℕ} {r : Bool} (a : AsksAll S (present_of o 3) s rs n t us r) where
       pub math_full : r ≡ false → AsksAll S (math_of o) s rs n t us false
       math_full e = all_full (all_full (all_full a (present_of o 2) e) (present_of o 1) refl) (whole_of o 0) refl
 
       module _ (e : r ≡ true) where
+        pub math_second : ListGiven S (present_of o 2) t us n
+        math_second = list_next a e (present_of o 1) (given_right (whole_of o 0) g)
+
         pub math_two : {v vs : List ℕ} {q : Bool} → AsksAll S (present_of o 2) t us n v vs q → AsksAll S (present_of o 2 ++ present_of o 3) s rs n v vs q
         math_two b = list_then a e g b
 

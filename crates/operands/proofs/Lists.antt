@@ -158,6 +158,9 @@ module _ {S : Scope} {s rs : List ℕ} {n : ℕ} where
       list_then {ys = ys} g b = all_then (λ p. ys) g.two (omega (arith, g.spare)) b
 
       -- one ask of that part
+      pub same_next : (zs : List Ask) {x : ℕ} → ListGiven S (zs ++ (of_value x (wanted_in s rs n) ∷ xs)) s rs n → ListGiven S (of_value x (wanted_in t us n) ∷ []) t us n
+      same_next zs {x} g = given_next (λ p. of_value x p ∷ []) zs g
+
       pub same_then : {zs : List Ask} {x : ℕ} {v vs : List ℕ} {q : Bool} → ListGiven S zs s rs n → AsksAll S (of_value x (wanted_in t us n) ∷ []) t us n v vs q →
           AsksAll S (of_value x (wanted_in s rs n) ∷ xs) s rs n v vs q
       same_then {x = x} g b = all_then (λ p. of_value x p ∷ []) g.two (omega (arith, g.spare)) b
@@ -182,6 +185,10 @@ module _ {S : Scope} {s rs : List ℕ} {n v : ℕ} {p : PartReq} (g : ListGiven 
 
   pub value_all : {t us : List ℕ} {r : Bool} → Asks S (step_of S (of_value x (part s a))) s rs n t us r → AsksAll S (of_value v p ∷ []) s rs n t us r
   value_all d = all_one g (rw (is, e) at d)
+
+-- the part that is needed, and all
+pub wanted_piece : {S : Scope} {xs : List Ask} {s rs : List ℕ} {n : ℕ} → ListGiven S xs s rs n → get_or rs (n - 2) 0 < top s
+wanted_piece {n = n} g = g.live.loose.pieces (n - 2) (omega (arith, g.two))
 
 pub all_piece : {S : Scope} {xs : List Ask} {s rs : List ℕ} {n : ℕ} → ListGiven S xs s rs n → 0 < top s
 all_piece g = omega (arith, g.live.loose.good.base)

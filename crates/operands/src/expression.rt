@@ -9,77 +9,75 @@ use crate::operators::{ask_both_same, ask_both_whole, ask_math, ask_same, ask_se
 use crate::tests::{by_part, is_joined};
 use access::kinded::Kinded;
 use judge::subject::Subject;
+use memory::parts::Parts;
 use module::handles::ExpressionHandle;
 use module::kinds::ExpressionKind;
 
 // Both operands, by part or whole.
 fn ask_binary(
     subject: &Subject,
-    cells: &mut [u32],
-    roots: &mut [u32],
+    parts: &mut Parts,
     n: usize,
     row: Kinded,
     e: ExpressionHandle,
 ) -> bool
-    requires arm_given { ArmGivenOf subject.now e.0 row cells.old roots.old n }
+    requires arm_given { ArmGivenOf subject.now e.0 row parts.old.cells parts.old.slots n }
     requires kind_value { row.kind ≡ 17 }
-    ensures { AsksOperands subject.now.file.now.bytes subject.now.file.now.t subject.now.f.0 e.0 cells.old roots.old n cells.new roots.new result }
+    ensures { AsksOperands subject.now.file.now.bytes subject.now.file.now.t subject.now.f.0 e.0 parts.old.cells parts.old.slots n parts.new.cells parts.new.slots result }
 {
     if by_part(subject, row, e) {
-        return ask_both_same(subject.file, subject.f, cells, roots, n, row);
+        return ask_both_same(subject.file, subject.f, parts, n, row);
     }
-    ask_both_whole(subject.file, subject.f, cells, roots, n, row)
+    ask_both_whole(subject.file, subject.f, parts, n, row)
 }
 
 // The components, by part or whole.
 fn ask_compose(
     subject: &Subject,
-    cells: &mut [u32],
-    roots: &mut [u32],
+    parts: &mut Parts,
     n: usize,
     row: Kinded,
     e: ExpressionHandle,
 ) -> bool
-    requires arm_given { ArmGivenOf subject.now e.0 row cells.old roots.old n }
+    requires arm_given { ArmGivenOf subject.now e.0 row parts.old.cells parts.old.slots n }
     requires kind_value { row.kind ≡ 8 }
-    ensures { AsksOperands subject.now.file.now.bytes subject.now.file.now.t subject.now.f.0 e.0 cells.old roots.old n cells.new roots.new result }
+    ensures { AsksOperands subject.now.file.now.bytes subject.now.file.now.t subject.now.f.0 e.0 parts.old.cells parts.old.slots n parts.new.cells parts.new.slots result }
 {
     if is_joined(subject.file, subject.f, subject.types, row, e) {
-        return ask_joined(subject.file, subject.f, cells, roots, n, row);
+        return ask_joined(subject.file, subject.f, parts, n, row);
     }
-    ask_components(subject.file, subject.f, cells, roots, n, row)
+    ask_components(subject.file, subject.f, parts, n, row)
 }
 
 // What the need of the expression e asks of its operands. Says whether the needs are within the bound.
 pub fn ask_operands(
     subject: &Subject,
-    cells: &mut [u32],
-    roots: &mut [u32],
+    parts: &mut Parts,
     path: &mut [u32],
     n: usize,
     e: ExpressionHandle,
 ) -> bool
-    requires operands_given { OperandsGivenOf subject.now cells.old roots.old n e.0 }
+    requires operands_given { OperandsGivenOf subject.now parts.old.cells parts.old.slots n e.0 }
     requires path_room { PathRoom subject.now.file.now.bytes subject.now.file.now.t subject.now.f.0 path.old }
-    ensures { AsksOperands subject.now.file.now.bytes subject.now.file.now.t subject.now.f.0 e.0 cells.old roots.old n cells.new roots.new result }
+    ensures { AsksOperands subject.now.file.now.bytes subject.now.file.now.t subject.now.f.0 e.0 parts.old.cells parts.old.slots n parts.new.cells parts.new.slots result }
 {
     let row = subject.file.expression(subject.f, e);
     match ExpressionKind::try_from(row.kind) {
-        Ok(ExpressionKind::AccessIndex) => ask_index(subject.file, subject.f, cells, roots, n, row),
-        Ok(ExpressionKind::Access) => ask_both_whole(subject.file, subject.f, cells, roots, n, row),
+        Ok(ExpressionKind::AccessIndex) => ask_index(subject.file, subject.f, parts, n, row),
+        Ok(ExpressionKind::Access) => ask_both_whole(subject.file, subject.f, parts, n, row),
         Ok(ExpressionKind::Splat | ExpressionKind::Relational) => {
-            ask_whole(subject.file, subject.f, cells, roots, n, row, 0)
+            ask_whole(subject.file, subject.f, parts, n, row, 0)
         }
-        Ok(ExpressionKind::Swizzle) => ask_letters(subject.file, subject.f, cells, roots, n, row),
-        Ok(ExpressionKind::Compose) => { ask_compose(subject, cells, roots, n, row, e) }
+        Ok(ExpressionKind::Swizzle) => ask_letters(subject.file, subject.f, parts, n, row),
+        Ok(ExpressionKind::Compose) => { ask_compose(subject, parts, n, row, e) }
         Ok(ExpressionKind::Load) => {
             let p = subject.file.expression_operand(row, 0);
-            ask_load(subject.file, subject.f, cells, roots, path, n, p)
+            ask_load(subject.file, subject.f, parts, path, n, p)
         }
-        Ok(ExpressionKind::Binary) => { ask_binary(subject, cells, roots, n, row, e) }
-        Ok(ExpressionKind::Select) => ask_select(subject.file, subject.f, cells, roots, n, row),
-        Ok(ExpressionKind::Math) => ask_math(subject.file, subject.f, cells, roots, n, row),
+        Ok(ExpressionKind::Binary) => { ask_binary(subject, parts, n, row, e) }
+        Ok(ExpressionKind::Select) => ask_select(subject.file, subject.f, parts, n, row),
+        Ok(ExpressionKind::Math) => ask_math(subject.file, subject.f, parts, n, row),
         // The two kinds that are left, Unary and As.
-        _ => ask_same(subject.file, subject.f, cells, roots, n, row, 0),
+        _ => ask_same(subject.file, subject.f, parts, n, row, 0),
     }
 }

@@ -11,6 +11,7 @@ ghost use Rattle.operands.specs.Lists.{member_of};
 use access::file::File;
 use access::kinded::Kinded;
 use asking::ask::ask_place;
+use memory::parts::Parts;
 use module::handles::{ExpressionHandle, FunctionHandle};
 use place::slots::{argument_path, evaluated_path};
 use place::sources::{Source, source_of};
@@ -19,16 +20,15 @@ use place::sources::{Source, source_of};
 pub fn ask_member(
     file: &File,
     f: FunctionHandle,
-    cells: &mut [u32],
-    roots: &mut [u32],
+    parts: &mut Parts,
     n: usize,
     v: ExpressionHandle,
     i: u32,
     a: u32,
 ) -> bool
-    requires list_given { ListGiven (scope_at file.now.bytes file.now.t f.0) (of_value v.0 (more i (part cells.old a) none) ∷ []) cells.old roots.old n }
-    requires a_bound { a < top cells.old }
-    ensures { AsksAll (scope_at file.now.bytes file.now.t f.0) (of_value v.0 (more i (part cells.old a) none) ∷ []) cells.old roots.old n cells.new roots.new result }
+    requires list_given { ListGiven (scope_at file.now.bytes file.now.t f.0) (of_value v.0 (more i (part parts.old.cells a) none) ∷ []) parts.old.cells parts.old.slots n }
+    requires a_bound { a < top parts.old.cells }
+    ensures { AsksAll (scope_at file.now.bytes file.now.t f.0) (of_value v.0 (more i (part parts.old.cells a) none) ∷ []) parts.old.cells parts.old.slots n parts.new.cells parts.new.slots result }
 {
     let mut path = [0, 0, i];
     match source_of(file, f, v) {
@@ -36,23 +36,16 @@ pub fn ask_member(
         Source::Argument(k) => argument_path(&mut path, k),
         Source::Evaluated => evaluated_path(&mut path, v),
     }
-    ask_place(cells, roots, n, &path, a)
+    ask_place(parts, n, &path, a)
 }
 
 // Of what a constant index names, the part that is needed.
-pub fn ask_index(
-    file: &File,
-    f: FunctionHandle,
-    cells: &mut [u32],
-    roots: &mut [u32],
-    n: usize,
-    row: Kinded,
-) -> bool
-    requires { ListGiven (scope_at file.now.bytes file.now.t f.0) (member_of (operand_at file.now.bytes row) (wanted_in cells.old roots.old n)) cells.old roots.old n }
-    ensures { AsksAll (scope_at file.now.bytes file.now.t f.0) (member_of (operand_at file.now.bytes row) (wanted_in cells.old roots.old n)) cells.old roots.old n cells.new roots.new result }
+pub fn ask_index(file: &File, f: FunctionHandle, parts: &mut Parts, n: usize, row: Kinded) -> bool
+    requires { ListGiven (scope_at file.now.bytes file.now.t f.0) (member_of (operand_at file.now.bytes row) (wanted_in parts.old.cells parts.old.slots n)) parts.old.cells parts.old.slots n }
+    ensures { AsksAll (scope_at file.now.bytes file.now.t f.0) (member_of (operand_at file.now.bytes row) (wanted_in parts.old.cells parts.old.slots n)) parts.old.cells parts.old.slots n parts.new.cells parts.new.slots result }
 {
     let base = file.expression_operand(row, 0);
     let index = file.operand(row, 1) as u32;
-    let a = roots[n - 2];
-    ask_member(file, f, cells, roots, n, base, index, a)
+    let a = parts.slots[n - 2];
+    ask_member(file, f, parts, n, base, index, a)
 }

@@ -10,6 +10,7 @@ ghost use Rattle.operands.specs.Lists.{load_of};
 
 use access::file::File;
 use asking::ask::{ask_place, ask_value};
+use memory::parts::Parts;
 use module::handles::{ExpressionHandle, FunctionHandle};
 use part::store::ALL_PIECE;
 use place::steps::{Step, step_down};
@@ -20,14 +21,13 @@ use place::target::find_target;
 pub fn ask_indexes(
     file: &File,
     f: FunctionHandle,
-    cells: &mut [u32],
-    roots: &mut [u32],
+    parts: &mut Parts,
     n: usize,
     p: ExpressionHandle,
 ) -> bool
-    requires list_given { ListGiven (scope_at file.now.bytes file.now.t f.0) (map ask_whole (indexes_of file.now.bytes file.now.t f.0 p.0)) cells.old roots.old n }
+    requires list_given { ListGiven (scope_at file.now.bytes file.now.t f.0) (map ask_whole (indexes_of file.now.bytes file.now.t f.0 p.0)) parts.old.cells parts.old.slots n }
     requires pointer { Pointer file.now.bytes file.now.t f.0 p.0 }
-    ensures { AsksAll (scope_at file.now.bytes file.now.t f.0) (map ask_whole (indexes_of file.now.bytes file.now.t f.0 p.0)) cells.old roots.old n cells.new roots.new result }
+    ensures { AsksAll (scope_at file.now.bytes file.now.t f.0) (map ask_whole (indexes_of file.now.bytes file.now.t f.0 p.0)) parts.old.cells parts.old.slots n parts.new.cells parts.new.slots result }
 {
     let mut h = p;
     loop {
@@ -35,7 +35,7 @@ pub fn ask_indexes(
             Step::Variable => return true,
             Step::Constant(base) => h = base,
             Step::Dynamic(base, index) => {
-                if !ask_value(file, f, cells, roots, n, index, ALL_PIECE) {
+                if !ask_value(file, f, parts, n, index, ALL_PIECE) {
                     return false;
                 }
                 h = base;
@@ -55,21 +55,20 @@ fn loaded(a: u32, dynamic: bool) -> u32
 pub fn ask_load(
     file: &File,
     f: FunctionHandle,
-    cells: &mut [u32],
-    roots: &mut [u32],
+    parts: &mut Parts,
     path: &mut [u32],
     n: usize,
     p: ExpressionHandle,
 ) -> bool
-    requires list_given { ListGiven (scope_at file.now.bytes file.now.t f.0) (load_of (scope_at file.now.bytes file.now.t f.0) p.0 (wanted_in cells.old roots.old n)) cells.old roots.old n }
+    requires list_given { ListGiven (scope_at file.now.bytes file.now.t f.0) (load_of (scope_at file.now.bytes file.now.t f.0) p.0 (wanted_in parts.old.cells parts.old.slots n)) parts.old.cells parts.old.slots n }
     requires pointer { Pointer file.now.bytes file.now.t f.0 p.0 }
     requires path_room { PathRoom file.now.bytes file.now.t f.0 path.old }
-    ensures { AsksAll (scope_at file.now.bytes file.now.t f.0) (load_of (scope_at file.now.bytes file.now.t f.0) p.0 (wanted_in cells.old roots.old n)) cells.old roots.old n cells.new roots.new result }
+    ensures { AsksAll (scope_at file.now.bytes file.now.t f.0) (load_of (scope_at file.now.bytes file.now.t f.0) p.0 (wanted_in parts.old.cells parts.old.slots n)) parts.old.cells parts.old.slots n parts.new.cells parts.new.slots result }
 {
-    if !ask_indexes(file, f, cells, roots, n, p) {
+    if !ask_indexes(file, f, parts, n, p) {
         return false;
     }
     let target = find_target(file, f, path, p);
-    let a = loaded(roots[n - 2], target.dynamic);
-    ask_place(cells, roots, n, &path[target.from..target.to], a)
+    let a = loaded(parts.slots[n - 2], target.dynamic);
+    ask_place(parts, n, &path[target.from..target.to], a)
 }

@@ -12,6 +12,7 @@ use crate::operators::ask_whole;
 use access::file::File;
 use access::kinded::Kinded;
 use asking::ask::ask_value;
+use memory::parts::Parts;
 use module::handles::FunctionHandle;
 use part::req::get;
 use part::store::EMPTY_PIECE;
@@ -29,57 +30,48 @@ fn subpart(cells: &[u32], a: u32, k: u32) -> u32
 fn ask_letter(
     file: &File,
     f: FunctionHandle,
-    cells: &mut [u32],
-    roots: &mut [u32],
+    parts: &mut Parts,
     n: usize,
     row: Kinded,
     k: u16,
 ) -> bool
-    requires list_given { ListGiven (scope_at file.now.bytes file.now.t f.0) (letter_of (operand_at file.now.bytes row) k (wanted_in cells.old roots.old n)) cells.old roots.old n }
+    requires list_given { ListGiven (scope_at file.now.bytes file.now.t f.0) (letter_of (operand_at file.now.bytes row) k (wanted_in parts.old.cells parts.old.slots n)) parts.old.cells parts.old.slots n }
     requires k_bound { k < 4 }
-    ensures { AsksAll (scope_at file.now.bytes file.now.t f.0) (letter_of (operand_at file.now.bytes row) k (wanted_in cells.old roots.old n)) cells.old roots.old n cells.new roots.new result }
+    ensures { AsksAll (scope_at file.now.bytes file.now.t f.0) (letter_of (operand_at file.now.bytes row) k (wanted_in parts.old.cells parts.old.slots n)) parts.old.cells parts.old.slots n parts.new.cells parts.new.slots result }
 {
     let vector = file.expression_operand(row, 0);
     let letter = file.operand(row, 2 + k) as u32;
-    let c = subpart(cells, roots[n - 2], k as u32);
-    ask_member(file, f, cells, roots, n, vector, letter, c)
+    let c = subpart(&parts.cells, parts.slots[n - 2], k as u32);
+    ask_member(file, f, parts, n, vector, letter, c)
 }
 
 // The part k of the result, of the component k.
 fn ask_component(
     file: &File,
     f: FunctionHandle,
-    cells: &mut [u32],
-    roots: &mut [u32],
+    parts: &mut Parts,
     n: usize,
     row: Kinded,
     k: u16,
 ) -> bool
-    requires list_given { ListGiven (scope_at file.now.bytes file.now.t f.0) (component_of (operand_at file.now.bytes row) k (wanted_in cells.old roots.old n)) cells.old roots.old n }
+    requires list_given { ListGiven (scope_at file.now.bytes file.now.t f.0) (component_of (operand_at file.now.bytes row) k (wanted_in parts.old.cells parts.old.slots n)) parts.old.cells parts.old.slots n }
     requires k_bound { k < 65535 }
-    ensures { AsksAll (scope_at file.now.bytes file.now.t f.0) (component_of (operand_at file.now.bytes row) k (wanted_in cells.old roots.old n)) cells.old roots.old n cells.new roots.new result }
+    ensures { AsksAll (scope_at file.now.bytes file.now.t f.0) (component_of (operand_at file.now.bytes row) k (wanted_in parts.old.cells parts.old.slots n)) parts.old.cells parts.old.slots n parts.new.cells parts.new.slots result }
 {
     let v = file.expression_operand(row, 1 + k);
-    let c = subpart(cells, roots[n - 2], k as u32);
-    ask_value(file, f, cells, roots, n, v, c)
+    let c = subpart(&parts.cells, parts.slots[n - 2], k as u32);
+    ask_value(file, f, parts, n, v, c)
 }
 
-// Stays: the loops here differ in what they ask of an operand. One loop over them would take that as a closure over cells and roots, with a longer contract than they have.
+// Stays: the loops here differ in what they ask of an operand. One loop over them would take that as a closure over the parts, with a longer contract than they have.
 // Letters of a vector.
-pub fn ask_letters(
-    file: &File,
-    f: FunctionHandle,
-    cells: &mut [u32],
-    roots: &mut [u32],
-    n: usize,
-    row: Kinded,
-) -> bool
-    requires list_given { ListGiven (scope_at file.now.bytes file.now.t f.0) (ask_picked (operand_at file.now.bytes row 0) (letters (operand_at file.now.bytes row)) 0 (wanted_in cells.old roots.old n)) cells.old roots.old n }
+pub fn ask_letters(file: &File, f: FunctionHandle, parts: &mut Parts, n: usize, row: Kinded) -> bool
+    requires list_given { ListGiven (scope_at file.now.bytes file.now.t f.0) (ask_picked (operand_at file.now.bytes row 0) (letters (operand_at file.now.bytes row)) 0 (wanted_in parts.old.cells parts.old.slots n)) parts.old.cells parts.old.slots n }
     requires row_bound { operand_at file.now.bytes row 1 ≤ 4 }
-    ensures { AsksAll (scope_at file.now.bytes file.now.t f.0) (ask_picked (operand_at file.now.bytes row 0) (letters (operand_at file.now.bytes row)) 0 (wanted_in cells.old roots.old n)) cells.old roots.old n cells.new roots.new result }
+    ensures { AsksAll (scope_at file.now.bytes file.now.t f.0) (ask_picked (operand_at file.now.bytes row 0) (letters (operand_at file.now.bytes row)) 0 (wanted_in parts.old.cells parts.old.slots n)) parts.old.cells parts.old.slots n parts.new.cells parts.new.slots result }
 {
     for k in (0..file.operand(row, 1)).rev() {
-        if !ask_letter(file, f, cells, roots, n, row, k) {
+        if !ask_letter(file, f, parts, n, row, k) {
             return false;
         }
     }
@@ -90,16 +82,15 @@ pub fn ask_letters(
 pub fn ask_components(
     file: &File,
     f: FunctionHandle,
-    cells: &mut [u32],
-    roots: &mut [u32],
+    parts: &mut Parts,
     n: usize,
     row: Kinded,
 ) -> bool
-    requires { ListGiven (scope_at file.now.bytes file.now.t f.0) (ask_components (components (operand_at file.now.bytes row)) 0 (wanted_in cells.old roots.old n)) cells.old roots.old n }
-    ensures { AsksAll (scope_at file.now.bytes file.now.t f.0) (ask_components (components (operand_at file.now.bytes row)) 0 (wanted_in cells.old roots.old n)) cells.old roots.old n cells.new roots.new result }
+    requires { ListGiven (scope_at file.now.bytes file.now.t f.0) (ask_components (components (operand_at file.now.bytes row)) 0 (wanted_in parts.old.cells parts.old.slots n)) parts.old.cells parts.old.slots n }
+    ensures { AsksAll (scope_at file.now.bytes file.now.t f.0) (ask_components (components (operand_at file.now.bytes row)) 0 (wanted_in parts.old.cells parts.old.slots n)) parts.old.cells parts.old.slots n parts.new.cells parts.new.slots result }
 {
     for k in (0..file.operand(row, 0)).rev() {
-        if !ask_component(file, f, cells, roots, n, row, k) {
+        if !ask_component(file, f, parts, n, row, k) {
             return false;
         }
     }
@@ -107,19 +98,12 @@ pub fn ask_components(
 }
 
 // Components of a vector that is made of vectors too: each whole.
-pub fn ask_joined(
-    file: &File,
-    f: FunctionHandle,
-    cells: &mut [u32],
-    roots: &mut [u32],
-    n: usize,
-    row: Kinded,
-) -> bool
-    requires { ListGiven (scope_at file.now.bytes file.now.t f.0) (map ask_whole (components (operand_at file.now.bytes row))) cells.old roots.old n }
-    ensures { AsksAll (scope_at file.now.bytes file.now.t f.0) (map ask_whole (components (operand_at file.now.bytes row))) cells.old roots.old n cells.new roots.new result }
+pub fn ask_joined(file: &File, f: FunctionHandle, parts: &mut Parts, n: usize, row: Kinded) -> bool
+    requires { ListGiven (scope_at file.now.bytes file.now.t f.0) (map ask_whole (components (operand_at file.now.bytes row))) parts.old.cells parts.old.slots n }
+    ensures { AsksAll (scope_at file.now.bytes file.now.t f.0) (map ask_whole (components (operand_at file.now.bytes row))) parts.old.cells parts.old.slots n parts.new.cells parts.new.slots result }
 {
     for k in (0..file.operand(row, 0)).rev() {
-        if !ask_whole(file, f, cells, roots, n, row, 1 + k) {
+        if !ask_whole(file, f, parts, n, row, 1 + k) {
             return false;
         }
     }

@@ -8,6 +8,7 @@ ghost use Rattle.operands.specs.Lists.{same_of, whole_of, present_of, both_same,
 use access::file::File;
 use access::kinded::Kinded;
 use asking::ask::ask_value;
+use memory::parts::Parts;
 use module::handles::FunctionHandle;
 use part::store::ALL_PIECE;
 
@@ -16,53 +17,50 @@ use part::store::ALL_PIECE;
 pub fn ask_same(
     file: &File,
     f: FunctionHandle,
-    cells: &mut [u32],
-    roots: &mut [u32],
+    parts: &mut Parts,
     n: usize,
     row: Kinded,
     j: u16,
 ) -> bool
-    requires { ListGiven (scope_at file.now.bytes file.now.t f.0) (same_of (operand_at file.now.bytes row) j (wanted_in cells.old roots.old n)) cells.old roots.old n }
-    ensures { AsksAll (scope_at file.now.bytes file.now.t f.0) (same_of (operand_at file.now.bytes row) j (wanted_in cells.old roots.old n)) cells.old roots.old n cells.new roots.new result }
+    requires { ListGiven (scope_at file.now.bytes file.now.t f.0) (same_of (operand_at file.now.bytes row) j (wanted_in parts.old.cells parts.old.slots n)) parts.old.cells parts.old.slots n }
+    ensures { AsksAll (scope_at file.now.bytes file.now.t f.0) (same_of (operand_at file.now.bytes row) j (wanted_in parts.old.cells parts.old.slots n)) parts.old.cells parts.old.slots n parts.new.cells parts.new.slots result }
 {
     let v = file.expression_operand(row, j);
-    let a = roots[n - 2];
-    ask_value(file, f, cells, roots, n, v, a)
+    let a = parts.slots[n - 2];
+    ask_value(file, f, parts, n, v, a)
 }
 
 // All of the operand j.
 pub fn ask_whole(
     file: &File,
     f: FunctionHandle,
-    cells: &mut [u32],
-    roots: &mut [u32],
+    parts: &mut Parts,
     n: usize,
     row: Kinded,
     j: u16,
 ) -> bool
-    requires { ListGiven (scope_at file.now.bytes file.now.t f.0) (whole_of (operand_at file.now.bytes row) j) cells.old roots.old n }
-    ensures { AsksAll (scope_at file.now.bytes file.now.t f.0) (whole_of (operand_at file.now.bytes row) j) cells.old roots.old n cells.new roots.new result }
+    requires { ListGiven (scope_at file.now.bytes file.now.t f.0) (whole_of (operand_at file.now.bytes row) j) parts.old.cells parts.old.slots n }
+    ensures { AsksAll (scope_at file.now.bytes file.now.t f.0) (whole_of (operand_at file.now.bytes row) j) parts.old.cells parts.old.slots n parts.new.cells parts.new.slots result }
 {
     let v = file.expression_operand(row, j);
-    ask_value(file, f, cells, roots, n, v, ALL_PIECE)
+    ask_value(file, f, parts, n, v, ALL_PIECE)
 }
 
 // All of the operand j, if it is there.
 fn ask_present(
     file: &File,
     f: FunctionHandle,
-    cells: &mut [u32],
-    roots: &mut [u32],
+    parts: &mut Parts,
     n: usize,
     row: Kinded,
     j: u16,
 ) -> bool
-    requires { ListGiven (scope_at file.now.bytes file.now.t f.0) (present_of (operand_at file.now.bytes row) j) cells.old roots.old n }
-    ensures { AsksAll (scope_at file.now.bytes file.now.t f.0) (present_of (operand_at file.now.bytes row) j) cells.old roots.old n cells.new roots.new result }
+    requires { ListGiven (scope_at file.now.bytes file.now.t f.0) (present_of (operand_at file.now.bytes row) j) parts.old.cells parts.old.slots n }
+    ensures { AsksAll (scope_at file.now.bytes file.now.t f.0) (present_of (operand_at file.now.bytes row) j) parts.old.cells parts.old.slots n parts.new.cells parts.new.slots result }
 {
     match file.optional_expression(row, j) {
         None => true,
-        Some(v) => ask_value(file, f, cells, roots, n, v, ALL_PIECE),
+        Some(v) => ask_value(file, f, parts, n, v, ALL_PIECE),
     }
 }
 
@@ -71,73 +69,57 @@ fn ask_present(
 pub fn ask_both_same(
     file: &File,
     f: FunctionHandle,
-    cells: &mut [u32],
-    roots: &mut [u32],
+    parts: &mut Parts,
     n: usize,
     row: Kinded,
 ) -> bool
-    requires { ListGiven (scope_at file.now.bytes file.now.t f.0) (both_same (operand_at file.now.bytes row) (wanted_in cells.old roots.old n)) cells.old roots.old n }
-    ensures { AsksAll (scope_at file.now.bytes file.now.t f.0) (both_same (operand_at file.now.bytes row) (wanted_in cells.old roots.old n)) cells.old roots.old n cells.new roots.new result }
+    requires { ListGiven (scope_at file.now.bytes file.now.t f.0) (both_same (operand_at file.now.bytes row) (wanted_in parts.old.cells parts.old.slots n)) parts.old.cells parts.old.slots n }
+    ensures { AsksAll (scope_at file.now.bytes file.now.t f.0) (both_same (operand_at file.now.bytes row) (wanted_in parts.old.cells parts.old.slots n)) parts.old.cells parts.old.slots n parts.new.cells parts.new.slots result }
 {
-    ask_same(file, f, cells, roots, n, row, 1) && ask_same(file, f, cells, roots, n, row, 0)
+    ask_same(file, f, parts, n, row, 1) && ask_same(file, f, parts, n, row, 0)
 }
 
 // Both operands whole.
 pub fn ask_both_whole(
     file: &File,
     f: FunctionHandle,
-    cells: &mut [u32],
-    roots: &mut [u32],
+    parts: &mut Parts,
     n: usize,
     row: Kinded,
 ) -> bool
-    requires { ListGiven (scope_at file.now.bytes file.now.t f.0) (both_whole (operand_at file.now.bytes row)) cells.old roots.old n }
-    ensures { AsksAll (scope_at file.now.bytes file.now.t f.0) (both_whole (operand_at file.now.bytes row)) cells.old roots.old n cells.new roots.new result }
+    requires { ListGiven (scope_at file.now.bytes file.now.t f.0) (both_whole (operand_at file.now.bytes row)) parts.old.cells parts.old.slots n }
+    ensures { AsksAll (scope_at file.now.bytes file.now.t f.0) (both_whole (operand_at file.now.bytes row)) parts.old.cells parts.old.slots n parts.new.cells parts.new.slots result }
 {
-    ask_whole(file, f, cells, roots, n, row, 1) && ask_whole(file, f, cells, roots, n, row, 0)
+    ask_whole(file, f, parts, n, row, 1) && ask_whole(file, f, parts, n, row, 0)
 }
 
 // Of a value of two the same part of both, and the condition whole.
-pub fn ask_select(
-    file: &File,
-    f: FunctionHandle,
-    cells: &mut [u32],
-    roots: &mut [u32],
-    n: usize,
-    row: Kinded,
-) -> bool
-    requires { ListGiven (scope_at file.now.bytes file.now.t f.0) (select_of (operand_at file.now.bytes row) (wanted_in cells.old roots.old n)) cells.old roots.old n }
-    ensures { AsksAll (scope_at file.now.bytes file.now.t f.0) (select_of (operand_at file.now.bytes row) (wanted_in cells.old roots.old n)) cells.old roots.old n cells.new roots.new result }
+pub fn ask_select(file: &File, f: FunctionHandle, parts: &mut Parts, n: usize, row: Kinded) -> bool
+    requires { ListGiven (scope_at file.now.bytes file.now.t f.0) (select_of (operand_at file.now.bytes row) (wanted_in parts.old.cells parts.old.slots n)) parts.old.cells parts.old.slots n }
+    ensures { AsksAll (scope_at file.now.bytes file.now.t f.0) (select_of (operand_at file.now.bytes row) (wanted_in parts.old.cells parts.old.slots n)) parts.old.cells parts.old.slots n parts.new.cells parts.new.slots result }
 {
-    if !ask_same(file, f, cells, roots, n, row, 2) {
+    if !ask_same(file, f, parts, n, row, 2) {
         return false;
     }
-    if !ask_same(file, f, cells, roots, n, row, 1) {
+    if !ask_same(file, f, parts, n, row, 1) {
         return false;
     }
-    ask_whole(file, f, cells, roots, n, row, 0)
+    ask_whole(file, f, parts, n, row, 0)
 }
 
 // One operand to four, whole.
-pub fn ask_math(
-    file: &File,
-    f: FunctionHandle,
-    cells: &mut [u32],
-    roots: &mut [u32],
-    n: usize,
-    row: Kinded,
-) -> bool
-    requires { ListGiven (scope_at file.now.bytes file.now.t f.0) (math_of (operand_at file.now.bytes row)) cells.old roots.old n }
-    ensures { AsksAll (scope_at file.now.bytes file.now.t f.0) (math_of (operand_at file.now.bytes row)) cells.old roots.old n cells.new roots.new result }
+pub fn ask_math(file: &File, f: FunctionHandle, parts: &mut Parts, n: usize, row: Kinded) -> bool
+    requires { ListGiven (scope_at file.now.bytes file.now.t f.0) (math_of (operand_at file.now.bytes row)) parts.old.cells parts.old.slots n }
+    ensures { AsksAll (scope_at file.now.bytes file.now.t f.0) (math_of (operand_at file.now.bytes row)) parts.old.cells parts.old.slots n parts.new.cells parts.new.slots result }
 {
-    if !ask_present(file, f, cells, roots, n, row, 3) {
+    if !ask_present(file, f, parts, n, row, 3) {
         return false;
     }
-    if !ask_present(file, f, cells, roots, n, row, 2) {
+    if !ask_present(file, f, parts, n, row, 2) {
         return false;
     }
-    if !ask_present(file, f, cells, roots, n, row, 1) {
+    if !ask_present(file, f, parts, n, row, 1) {
         return false;
     }
-    ask_whole(file, f, cells, roots, n, row, 0)
+    ask_whole(file, f, parts, n, row, 0)
 }

@@ -10,6 +10,7 @@ use crate::total::read_total;
 use access::file::File;
 use field::limits::MAX_PIECES;
 use memory::layout::GLOBALS;
+use memory::parts::Parts;
 use module::handles::FunctionHandle;
 use part::store::entries;
 use request::record::ends;
@@ -25,16 +26,15 @@ pub fn clear_flags(totals: &mut [u8], n: usize)
 pub fn read_functions(
     file: &File,
     places: &[u32],
-    cells: &mut [u32],
-    slots: &mut [u32],
+    parts: &mut Parts,
     totals: &mut [u8],
     pruner: &[u8],
     at: usize,
     sum: usize,
 ) -> Option<(usize, usize)>
-    requires has_totals { HasTotals file.now.bytes file.now.t places.now cells.old slots.old totals.old × NoTotals file.now.bytes file.now.t cells.old slots.old totals.old }
-    requires at_in_bounds { (at ≤ length pruner.now) × RoomBeside cells.old pruner.now at (max_items + max_functions) × (sum ≤ max_pieces) }
-    ensures { FunctionsWereRead file.now.bytes file.now.t cells.old slots.old totals.old pruner.now at sum cells.new slots.new totals.new result }
+    requires has_totals { HasTotals file.now.bytes file.now.t places.now parts.old.cells parts.old.slots totals.old × NoTotals file.now.bytes file.now.t parts.old.cells parts.old.slots totals.old }
+    requires at_in_bounds { (at ≤ length pruner.now) × RoomBeside parts.old.cells pruner.now at (max_items + max_functions) × (sum ≤ max_pieces) }
+    ensures { FunctionsWereRead file.now.bytes file.now.t parts.old.cells parts.old.slots totals.old pruner.now at sum parts.new.cells parts.new.slots totals.new result }
 {
     let mut next = at;
     let mut count = sum;
@@ -42,8 +42,7 @@ pub fn read_functions(
         let (end, m) = read_total(
             file,
             places,
-            cells,
-            slots,
+            parts,
             totals,
             pruner,
             next,
@@ -60,26 +59,24 @@ pub fn read_functions(
 pub fn read_body(
     file: &File,
     places: &[u32],
-    cells: &mut [u32],
-    slots: &mut [u32],
+    parts: &mut Parts,
     totals: &mut [u8],
     pruner: &[u8],
 ) -> bool
-    requires has_totals { HasTotals file.now.bytes file.now.t places.now cells.old slots.old totals.old × NoTotals file.now.bytes file.now.t cells.old slots.old totals.old }
-    requires in_bounds { (6 ≤ length pruner.now) × RoomBeside cells.old pruner.now 6 (max_items + max_functions) }
-    ensures { BodyWasRead file.now.bytes file.now.t cells.old slots.old totals.old pruner.now cells.new slots.new totals.new result }
+    requires has_totals { HasTotals file.now.bytes file.now.t places.now parts.old.cells parts.old.slots totals.old × NoTotals file.now.bytes file.now.t parts.old.cells parts.old.slots totals.old }
+    requires in_bounds { (6 ≤ length pruner.now) × RoomBeside parts.old.cells pruner.now 6 (max_items + max_functions) }
+    ensures { BodyWasRead file.now.bytes file.now.t parts.old.cells parts.old.slots totals.old pruner.now parts.new.cells parts.new.slots totals.new result }
 {
     let n = file.globals();
-    let Some((g, next)) = read_map(cells, pruner, 6, n) else {
+    let Some((g, next)) = read_map(&mut parts.cells, pruner, 6, n) else {
         return false;
     };
-    let count = entries(cells, g) as usize;
+    let count = entries(&parts.cells, g) as usize;
     if MAX_PIECES < count {
         return false;
     }
-    slots[GLOBALS] = g;
-    let Some((end, _)) = read_functions(file, places, cells, slots, totals, pruner, next, count)
-    else {
+    parts.slots[GLOBALS] = g;
+    let Some((end, _)) = read_functions(file, places, parts, totals, pruner, next, count) else {
         return false;
     };
     ends(pruner, end)

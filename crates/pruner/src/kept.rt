@@ -10,32 +10,32 @@ ghost use Rattle.pruner.specs.Reading.{RoomBeside, RecordsWereRead, ContextWasSt
 
 use crate::reader::{read_lists, read_single};
 use field::limits::MAX_PIECES;
+use memory::parts::Parts;
 use memory::stretches::save_context;
 use part::store::entries;
 
 // n records, into the slots from `base` on. Where the next field stands and how many pieces there are, or nothing, if they are refused.
 pub fn read_records(
-    cells: &mut [u32],
-    slots: &mut [u32],
+    parts: &mut Parts,
     pruner: &[u8],
     at: usize,
     base: usize,
     n: usize,
     sum: usize,
 ) -> Option<(usize, usize)>
-    requires memory { Memory cells.old slots.old × (exprs_slot ≤ base) × (base + n ≤ functions_slot) }
-    requires at_in_bounds { (at ≤ length pruner.now) × RoomBeside cells.old pruner.now at n × (sum ≤ max_pieces) }
-    ensures { RecordsWereRead cells.old slots.old pruner.now at base n sum cells.new slots.new result }
+    requires memory { Memory parts.old.cells parts.old.slots × (exprs_slot ≤ base) × (base + n ≤ functions_slot) }
+    requires at_in_bounds { (at ≤ length pruner.now) × RoomBeside parts.old.cells pruner.now at n × (sum ≤ max_pieces) }
+    ensures { RecordsWereRead parts.old.cells parts.old.slots pruner.now at base n sum parts.new.cells parts.new.slots result }
 {
     let mut next = at;
     let mut count = sum;
     for k in 0..n {
-        let (p, end) = read_single(cells, pruner, next, 0)?;
-        count += entries(cells, p) as usize;
+        let (p, end) = read_single(&mut parts.cells, pruner, next, 0)?;
+        count += entries(&parts.cells, p) as usize;
         if MAX_PIECES < count {
             return None;
         }
-        slots[base + k] = p;
+        parts.slots[base + k] = p;
         next = end;
     }
     Some((next, count))
@@ -43,8 +43,7 @@ pub fn read_records(
 
 // The lists of a context, into the four slots from `slot` on.
 pub fn read_context(
-    cells: &mut [u32],
-    slots: &mut [u32],
+    parts: &mut Parts,
     pruner: &[u8],
     at: usize,
     slot: usize,
@@ -53,20 +52,20 @@ pub fn read_context(
     locals: u32,
     sum: usize,
 ) -> Option<(usize, usize)>
-    requires memory { Memory cells.old slots.old × (functions_slot ≤ slot) × (slot + 4 ≤ length slots.old) }
-    requires at_in_bounds { (at ≤ length pruner.now) × RoomBeside cells.old pruner.now at 1 × (sum ≤ max_pieces) }
+    requires memory { Memory parts.old.cells parts.old.slots × (functions_slot ≤ slot) × (slot + 4 ≤ length parts.old.slots) }
+    requires at_in_bounds { (at ≤ length pruner.now) × RoomBeside parts.old.cells pruner.now at 1 × (sum ≤ max_pieces) }
     requires limits { Limits globals args locals }
-    ensures { ContextWasStored cells.old slots.old pruner.now at slot sum (only (known_context globals args locals) (read_context_body (from pruner.now at))) cells.new slots.new result }
+    ensures { ContextWasStored parts.old.cells parts.old.slots pruner.now at slot sum (only (known_context globals args locals) (read_context_body (from pruner.now at))) parts.new.cells parts.new.slots result }
 {
-    let (c, next) = read_lists(cells, pruner, at, globals, args, locals)?;
-    let g = entries(cells, c.globals) as usize;
-    let l = entries(cells, c.locals) as usize;
-    let a = entries(cells, c.args) as usize;
-    let p = entries(cells, c.retval) as usize;
+    let (c, next) = read_lists(&mut parts.cells, pruner, at, globals, args, locals)?;
+    let g = entries(&parts.cells, c.globals) as usize;
+    let l = entries(&parts.cells, c.locals) as usize;
+    let a = entries(&parts.cells, c.args) as usize;
+    let p = entries(&parts.cells, c.retval) as usize;
     let count = sum + (g + l + a + p);
     if MAX_PIECES < count {
         return None;
     }
-    save_context(slots, slot, c);
+    save_context(&mut parts.slots, slot, c);
     Some((next, count))
 }

@@ -14,6 +14,7 @@ use leave::leave::records_of;
 use marks::places::start;
 use marks::report::TOTALS;
 use memory::layout::{FUNCTIONS, TOTALS as RECORDS};
+use memory::parts::Parts;
 use module::handles::FunctionHandle;
 use request::record::ends;
 
@@ -21,17 +22,16 @@ use request::record::ends;
 pub fn read_kept(
     file: &File,
     places: &[u32],
-    cells: &mut [u32],
-    slots: &mut [u32],
+    parts: &mut Parts,
     totals: &mut [u8],
     pruner: &[u8],
     at: usize,
     f: FunctionHandle,
     sum: usize,
 ) -> Option<(usize, usize)>
-    requires has_totals { HasTotals file.now.bytes file.now.t places.now cells.old slots.old totals.old × (f.0 < length (module_of file.now.bytes file.now.t).functions) }
-    requires at_in_bounds { (at ≤ length pruner.now) × RoomBeside cells.old pruner.now at (1 + (row_at file.now.t f.0).expressions) × (sum ≤ max_pieces) }
-    ensures { KeptWasRead file.now.bytes file.now.t cells.old slots.old totals.old pruner.now at f.0 sum cells.new slots.new totals.new result }
+    requires has_totals { HasTotals file.now.bytes file.now.t places.now parts.old.cells parts.old.slots totals.old × (f.0 < length (module_of file.now.bytes file.now.t).functions) }
+    requires at_in_bounds { (at ≤ length pruner.now) × RoomBeside parts.old.cells pruner.now at (1 + (row_at file.now.t f.0).expressions) × (sum ≤ max_pieces) }
+    ensures { KeptWasRead file.now.bytes file.now.t parts.old.cells parts.old.slots totals.old pruner.now at f.0 sum parts.new.cells parts.new.slots totals.new result }
 {
     let i = f.0 as usize;
     let from = start(places, i);
@@ -45,27 +45,26 @@ pub fn read_kept(
     let a = file.arguments(f);
     let l = file.locals(f);
     let lists = at + 2 * n;
-    let (next, count) = read_context(cells, slots, pruner, lists, slot, g, a, l, sum)?;
+    let (next, count) = read_context(parts, pruner, lists, slot, g, a, l, sum)?;
     let records = records_of(file, f);
     let base = RECORDS + records.from;
-    read_records(cells, slots, pruner, next, base, records.n, count)
+    read_records(parts, pruner, next, base, records.n, count)
 }
 
 // The total of f after 1, or none after 0. It has none yet.
 pub fn read_total(
     file: &File,
     places: &[u32],
-    cells: &mut [u32],
-    slots: &mut [u32],
+    parts: &mut Parts,
     totals: &mut [u8],
     pruner: &[u8],
     at: usize,
     f: FunctionHandle,
     sum: usize,
 ) -> Option<(usize, usize)>
-    requires has_totals { HasTotals file.now.bytes file.now.t places.now cells.old slots.old totals.old × (f.0 < length (module_of file.now.bytes file.now.t).functions) × (has_total totals.old f.0 ≡ false) }
-    requires at_in_bounds { (at ≤ length pruner.now) × RoomBeside cells.old pruner.now at (1 + (row_at file.now.t f.0).expressions) × (sum ≤ max_pieces) }
-    ensures { TotalWasRead file.now.bytes file.now.t cells.old slots.old totals.old pruner.now at f.0 sum cells.new slots.new totals.new result }
+    requires has_totals { HasTotals file.now.bytes file.now.t places.now parts.old.cells parts.old.slots totals.old × (f.0 < length (module_of file.now.bytes file.now.t).functions) × (has_total totals.old f.0 ≡ false) }
+    requires at_in_bounds { (at ≤ length pruner.now) × RoomBeside parts.old.cells pruner.now at (1 + (row_at file.now.t f.0).expressions) × (sum ≤ max_pieces) }
+    ensures { TotalWasRead file.now.bytes file.now.t parts.old.cells parts.old.slots totals.old pruner.now at f.0 sum parts.new.cells parts.new.slots totals.new result }
 {
     if ends(pruner, at) {
         return None;
@@ -77,5 +76,5 @@ pub fn read_total(
     if flag != 1 {
         return None;
     }
-    read_kept(file, places, cells, slots, totals, pruner, at + 2, f, sum)
+    read_kept(file, places, parts, totals, pruner, at + 2, f, sum)
 }

@@ -14,6 +14,7 @@ use leave::leave::records_of;
 use marks::places::start;
 use marks::report::TOTALS;
 use memory::layout::{FUNCTIONS, GLOBALS, TOTALS as RECORDS};
+use memory::parts::Parts;
 use module::handles::FunctionHandle;
 use request::write::write_variables;
 
@@ -21,16 +22,15 @@ use request::write::write_variables;
 fn write_function(
     file: &File,
     places: &[u32],
-    cells: &[u32],
-    slots: &[u32],
+    parts: &Parts,
     totals: &[u8],
     f: FunctionHandle,
     out: &mut [u8],
     at: usize,
 ) -> usize
-    requires has_totals { HasTotals file.now.bytes file.now.t places.now cells.now slots.now totals.now × (f.0 < length (module_of file.now.bytes file.now.t).functions) }
-    requires fits { Fits out.old at (write_total (total_in (module_of file.now.bytes file.now.t) file.now.t (read cells.now slots.now) totals.now f.0)) }
-    ensures { Written out.old out.new at (write_total (total_in (module_of file.now.bytes file.now.t) file.now.t (read cells.now slots.now) totals.now f.0)) result }
+    requires has_totals { HasTotals file.now.bytes file.now.t places.now parts.now.cells parts.now.slots totals.now × (f.0 < length (module_of file.now.bytes file.now.t).functions) }
+    requires fits { Fits out.old at (write_total (total_in (module_of file.now.bytes file.now.t) file.now.t (read parts.now.cells parts.now.slots) totals.now f.0)) }
+    ensures { Written out.old out.new at (write_total (total_in (module_of file.now.bytes file.now.t) file.now.t (read parts.now.cells parts.now.slots) totals.now f.0)) result }
 {
     let i = f.0 as usize;
     // Stays: a flag is a byte of lent memory, 0 where f has no total.
@@ -43,8 +43,7 @@ fn write_function(
     let n = start(places, i + 1) - from;
     let context = FUNCTIONS + 4 * i;
     write_total(
-        cells,
-        slots,
+        parts,
         totals,
         TOTALS + from,
         n,
@@ -59,47 +58,30 @@ fn write_function(
 fn write_functions(
     file: &File,
     places: &[u32],
-    cells: &[u32],
-    slots: &[u32],
+    parts: &Parts,
     totals: &[u8],
     out: &mut [u8],
     at: usize,
 ) -> usize
-    requires has_totals { HasTotals file.now.bytes file.now.t places.now cells.now slots.now totals.now }
-    requires fits { Fits out.old at (write_totals (functions_in (module_of file.now.bytes file.now.t) file.now.t (read cells.now slots.now) totals.now)) }
-    ensures { Written out.old out.new at (write_totals (functions_in (module_of file.now.bytes file.now.t) file.now.t (read cells.now slots.now) totals.now)) result }
+    requires has_totals { HasTotals file.now.bytes file.now.t places.now parts.now.cells parts.now.slots totals.now }
+    requires fits { Fits out.old at (write_totals (functions_in (module_of file.now.bytes file.now.t) file.now.t (read parts.now.cells parts.now.slots) totals.now)) }
+    ensures { Written out.old out.new at (write_totals (functions_in (module_of file.now.bytes file.now.t) file.now.t (read parts.now.cells parts.now.slots) totals.now)) result }
 {
     let mut next = at;
     for f in 0..file.functions() {
-        next = write_function(
-            file,
-            places,
-            cells,
-            slots,
-            totals,
-            FunctionHandle(f),
-            out,
-            next,
-        );
+        next = write_function(file, places, parts, totals, FunctionHandle(f), out, next);
     }
     next
 }
 
 // The totals that memory has, from the first byte of the buffer on.
-pub fn write_pruner(
-    file: &File,
-    places: &[u32],
-    cells: &[u32],
-    slots: &[u32],
-    totals: &[u8],
-    out: &mut [u8],
-)
-    requires has_totals { HasTotals file.now.bytes file.now.t places.now cells.now slots.now totals.now }
-    requires min_pruner_in_bounds { (min_pruner ≤ length out.old) × (length (write_pruner (pruner_in file.now.bytes file.now.t cells.now slots.now totals.now)) ≤ min_pruner) }
-    ensures { out.new ≡ write_pruner (pruner_in file.now.bytes file.now.t cells.now slots.now totals.now) ++ drop (length (write_pruner (pruner_in file.now.bytes file.now.t cells.now slots.now totals.now))) out.old }
+pub fn write_pruner(file: &File, places: &[u32], parts: &Parts, totals: &[u8], out: &mut [u8])
+    requires has_totals { HasTotals file.now.bytes file.now.t places.now parts.now.cells parts.now.slots totals.now }
+    requires min_pruner_in_bounds { (min_pruner ≤ length out.old) × (length (write_pruner (pruner_in file.now.bytes file.now.t parts.now.cells parts.now.slots totals.now)) ≤ min_pruner) }
+    ensures { out.new ≡ write_pruner (pruner_in file.now.bytes file.now.t parts.now.cells parts.now.slots totals.now) ++ drop (length (write_pruner (pruner_in file.now.bytes file.now.t parts.now.cells parts.now.slots totals.now))) out.old }
 {
-    let next = write_variables(cells, slots[GLOBALS], out, 6);
-    let end = write_functions(file, places, cells, slots, totals, out, next);
+    let next = write_variables(&parts.cells, parts.slots[GLOBALS], out, 6);
+    let end = write_functions(file, places, parts, totals, out, next);
     out[0] = b'P';
     out[1] = b'N';
     write_word(out, 2, (end - 6) as u32);

@@ -9,6 +9,7 @@ ghost use Rattle.pruner.specs.Form.{write_records, write_total};
 ghost use Rattle.pruner.specs.Stored.{total_in, Stored};
 
 use field::field::write;
+use memory::parts::Parts;
 use request::write::{write_return, write_variables};
 
 // Stays: the loops that write differ in what they write. One loop over them would take that as a closure over the lent slice, with a longer contract than they have.
@@ -27,45 +28,37 @@ pub fn write_marks(marks: &[u8], from: usize, n: usize, out: &mut [u8], at: usiz
 }
 
 // The records of n expressions, whose slots begin at `base`.
-pub fn write_records(
-    cells: &[u32],
-    slots: &[u32],
-    base: usize,
-    n: usize,
-    out: &mut [u8],
-    at: usize,
-) -> usize
-    requires good { Good cells.now }
-    requires below { Below slots.now (top cells.now) }
-    requires n_in_bounds { base + n ≤ length slots.now }
-    requires fits { Fits out.old at (write_records (records_of (read cells.now slots.now) base n)) }
-    ensures { Written out.old out.new at (write_records (records_of (read cells.now slots.now) base n)) result }
+pub fn write_records(parts: &Parts, base: usize, n: usize, out: &mut [u8], at: usize) -> usize
+    requires good { Good parts.now.cells }
+    requires below { Below parts.now.slots (top parts.now.cells) }
+    requires n_in_bounds { base + n ≤ length parts.now.slots }
+    requires fits { Fits out.old at (write_records (records_of (read parts.now.cells parts.now.slots) base n)) }
+    ensures { Written out.old out.new at (write_records (records_of (read parts.now.cells parts.now.slots) base n)) result }
 {
     let mut next = at;
     for k in 0..n {
-        next = write_return(cells, slots[base + k], out, next);
+        next = write_return(&parts.cells, parts.slots[base + k], out, next);
     }
     next
 }
 
 // The lists of the context in the four slots from `context` on, in the order of a context's record.
-pub fn write_lists(cells: &[u32], slots: &[u32], context: usize, out: &mut [u8], at: usize) -> usize
-    requires good { Good cells.now }
-    requires below { Below slots.now (top cells.now) }
-    requires context_in_bounds { context + 4 ≤ length slots.now }
-    requires fits { Fits out.old at (write_context_body (context_at (read cells.now slots.now) context)) }
-    ensures { Written out.old out.new at (write_context_body (context_at (read cells.now slots.now) context)) result }
+pub fn write_lists(parts: &Parts, context: usize, out: &mut [u8], at: usize) -> usize
+    requires good { Good parts.now.cells }
+    requires below { Below parts.now.slots (top parts.now.cells) }
+    requires context_in_bounds { context + 4 ≤ length parts.now.slots }
+    requires fits { Fits out.old at (write_context_body (context_at (read parts.now.cells parts.now.slots) context)) }
+    ensures { Written out.old out.new at (write_context_body (context_at (read parts.now.cells parts.now.slots) context)) result }
 {
-    let globals = write_return(cells, slots[context + 3], out, at);
-    let args = write_variables(cells, slots[context], out, globals);
-    let locals = write_variables(cells, slots[context + 2], out, args);
-    write_variables(cells, slots[context + 1], out, locals)
+    let globals = write_return(&parts.cells, parts.slots[context + 3], out, at);
+    let args = write_variables(&parts.cells, parts.slots[context], out, globals);
+    let locals = write_variables(&parts.cells, parts.slots[context + 2], out, args);
+    write_variables(&parts.cells, parts.slots[context + 1], out, locals)
 }
 
 // A function's total, after 1: n marks from the byte `from` on, the context in the slots from `context` on, and `count` records in those from `base` on.
 pub fn write_total(
-    cells: &[u32],
-    slots: &[u32],
+    parts: &Parts,
     marks: &[u8],
     from: usize,
     n: usize,
@@ -75,12 +68,12 @@ pub fn write_total(
     out: &mut [u8],
     at: usize,
 ) -> usize
-    requires stored { Stored cells.now slots.now marks.now from n context base count }
-    requires fits { Fits out.old at (write_total (some (total_in cells.now slots.now marks.now from n context base count))) }
-    ensures { Written out.old out.new at (write_total (some (total_in cells.now slots.now marks.now from n context base count))) result }
+    requires stored { Stored parts.now.cells parts.now.slots marks.now from n context base count }
+    requires fits { Fits out.old at (write_total (some (total_in parts.now.cells parts.now.slots marks.now from n context base count))) }
+    ensures { Written out.old out.new at (write_total (some (total_in parts.now.cells parts.now.slots marks.now from n context base count))) result }
 {
     write(out, at, 1);
     let lists = write_marks(marks, from, n, out, at + 2);
-    let records = write_lists(cells, slots, context, out, lists);
-    write_records(cells, slots, base, count, out, records)
+    let records = write_lists(parts, context, out, lists);
+    write_records(parts, base, count, out, records)
 }

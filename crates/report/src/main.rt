@@ -19,6 +19,7 @@ use lines::report::MAX_TEXT;
 use marks::places::PLACES;
 use marks::report::TOTALS_SIZE;
 use memory::layout::{CELLS, SLOTS};
+use memory::parts::Parts;
 use module::tables::WORDS;
 use report_text::split::MAX_INPUT;
 use std::io;
@@ -63,7 +64,7 @@ fn print(
     space: &mut Workspace,
     outcome: Outcome,
 ) -> io::Result<()>
-    requires { TextIs (report_input input.now) file.now.bytes file.now.t (request_in input.now) places.now space.old.cells space.old.slots space.old.open outcome }
+    requires { TextIs (report_input input.now) file.now.bytes file.now.t (request_in input.now) places.now space.old.parts.cells space.old.parts.slots space.old.open outcome }
 {
     let mut text: [u8; MAX_TEXT + MAX_LINE] = [0; MAX_TEXT + MAX_LINE];
     let n = write_text(&mut text, input, file, places, space, outcome);
@@ -77,7 +78,7 @@ fn answer(
     places: &mut [u32; PLACES],
     space: &mut Workspace,
 ) -> io::Result<()> {
-    let read = read_front(input, t, &mut space.cells, &mut space.slots);
+    let read = read_front(input, t, &mut space.parts);
     let file = File::new(front(input), t);
     let outcome = match read {
         Err(refusal) => Err(refusal),
@@ -90,8 +91,10 @@ fn report(rt: &impl Print, input: &[u8]) -> io::Result<()> {
     let mut t: [u32; WORDS] = [0; WORDS];
     let mut places: [u32; PLACES] = [0; PLACES];
     let mut space = Workspace {
-        cells: [0; CELLS],
-        slots: [0; SLOTS],
+        parts: Parts {
+            cells: [0; CELLS],
+            slots: [0; SLOTS],
+        },
         open: [0; MIN_REPORT],
         totals: [0; TOTALS_SIZE],
     };

@@ -2,8 +2,7 @@
 ghost use Rattle.std.specs.Prelude.{◌≡◌, ◌*◌, ◌≤◌, length};
 ghost use Rattle.field.specs.Limits.{min_report};
 ghost use Rattle.field.specs.Refusal.{number_of};
-ghost use Rattle.module.specs.Scan.{values};
-ghost use Rattle.module.specs.Tables.{words, max_items, module_of};
+ghost use Rattle.module.specs.Tables.{words, module_of};
 ghost use Rattle.context.specs.Types.{type_words};
 ghost use Rattle.request.specs.Request.{read_request};
 ghost use Rattle.reading.specs.Reads.{Reads};
@@ -21,6 +20,7 @@ use field::refusal::Refusal;
 use function::add::add_function;
 use marks::places::{PLACES, place_marks};
 use memory::layout::STACK;
+use memory::parts::Parts;
 use module::handles::FunctionHandle;
 use reading::read::{HELD, SEEN, read};
 use report_text::split::split;
@@ -42,7 +42,7 @@ pub type Outcome = Result<Reported, Refusal>;
 // Stays: `walk_request` of crate requests begins with the same call, which is all that both have; it ends by writing three buffers that are not here.
 fn walk_function(world: &World, space: &mut Workspace, f: FunctionHandle, sum: usize) -> Outcome
     requires { AskedOf world.now space.old f.0 sum }
-    ensures { WalkedOf world.now space.old f.0 space.new.cells space.new.slots space.new.open result }
+    ensures { WalkedOf world.now space.old f.0 space.new.parts.cells space.new.parts.slots space.new.open result }
 {
     match add_function(
         world,
@@ -55,7 +55,7 @@ fn walk_function(world: &World, space: &mut Workspace, f: FunctionHandle, sum: u
     ) {
         Err(h) => Err(h.refusal),
         Ok(a) => {
-            if totals_over(world.file, &space.cells, &space.slots, f, a.tally.sum) {
+            if totals_over(world.file, &space.parts, f, a.tally.sum) {
                 return Err(Refusal::PiecesLimit);
             }
             Ok(Reported {
@@ -75,7 +75,7 @@ fn walk_request(
     request: &[u8],
 ) -> Outcome
     requires { WasRead file.now.bytes file.now.t × (length table.old ≡ type_words * length (module_of file.now.bytes file.now.t).types) }
-    ensures { TextIs (request_text (module_of file.now.bytes file.now.t) (read_request (module_of file.now.bytes file.now.t) min_report request.now)) file.now.bytes file.now.t request.now places.new space.new.cells space.new.slots space.new.open result }
+    ensures { TextIs (request_text (module_of file.now.bytes file.now.t) (read_request (module_of file.now.bytes file.now.t) min_report request.now)) file.now.bytes file.now.t request.now places.new space.new.parts.cells space.new.parts.slots space.new.open result }
 {
     place_marks(file, places);
     fill(file, table);
@@ -89,8 +89,7 @@ fn walk_request(
     let begun = begin_request(
         file,
         world.places,
-        &mut space.cells,
-        &mut space.slots,
+        &mut space.parts,
         &mut space.open,
         &mut space.totals,
         request,
@@ -108,7 +107,7 @@ pub fn walk_read(
     request: &[u8],
 ) -> Outcome
     requires { WasRead file.now.bytes file.now.t }
-    ensures { TextIs (request_text (module_of file.now.bytes file.now.t) (read_request (module_of file.now.bytes file.now.t) min_report request.now)) file.now.bytes file.now.t request.now places.new space.new.cells space.new.slots space.new.open result }
+    ensures { TextIs (request_text (module_of file.now.bytes file.now.t) (read_request (module_of file.now.bytes file.now.t) min_report request.now)) file.now.bytes file.now.t request.now places.new space.new.parts.cells space.new.parts.slots space.new.open result }
 {
     let mut table: [u32; TYPE_WORDS * MAX_TYPES] = [0; TYPE_WORDS * MAX_TYPES];
     let n = file.types() as usize;
@@ -134,15 +133,11 @@ pub fn behind(input: &[u8]) -> &[u8]
 }
 
 // Reads the module. The walk's memory is room for its reading.
-pub fn read_front(
-    input: &[u8],
-    t: &mut [u32],
-    cells: &mut [u32],
-    slots: &mut [u32],
-) -> Result<(), Refusal>
-    requires words_in_bounds { words ≤ length t.old }
-    requires values_in_bounds { (values ≤ length cells.old) × (max_items ≤ length slots.old) }
+pub fn read_front(input: &[u8], t: &mut [u32], parts: &mut Parts) -> Result<(), Refusal>
+    requires { words ≤ length t.old }
     ensures { Reads (module_in input.now) t.new (number_of result) }
 {
+    let cells = &mut parts.cells[..];
+    let slots = &mut parts.slots[..];
     read(front(input), t, &mut cells[0..SEEN], &mut slots[0..HELD])
 }

@@ -24,7 +24,7 @@ pub fn write_text(
     space: &mut Workspace,
     outcome: Outcome,
 ) -> usize
-    requires text_is { TextIs (report_input input.now) file.now.bytes file.now.t (request_in input.now) places.now space.old.cells space.old.slots space.old.open outcome }
+    requires text_is { TextIs (report_input input.now) file.now.bytes file.now.t (request_in input.now) places.now space.old.parts.cells space.old.parts.slots space.old.open outcome }
     requires max_line_in_bounds { max_text + max_line ≤ length out.old }
     ensures { Front out.old out.new (report_input input.now) result }
 {
@@ -36,21 +36,13 @@ pub fn write_text(
                 out,
                 file,
                 places,
-                &space.cells,
-                &space.slots,
+                &space.parts,
                 &space.open,
                 reported.function,
                 k,
                 reported.required,
             );
-            let verdict = check_report(
-                file,
-                &mut space.cells,
-                &mut space.slots,
-                &space.open,
-                k,
-                behind(input),
-            );
+            let verdict = check_report(file, &mut space.parts, &space.open, k, behind(input));
             write_check(out, end, verdict)
         }
     }

@@ -89,11 +89,11 @@ module _ {bytes t places s rs open_marks totals : List ℕ} (B : Beginning bytes
       pub has_totals : HasTotals bytes t places u us totals
       has_totals = record { was_read = B.was_read; placed = B.placed; memory = S.memory; totals_long = B.totals_long }
 
-      pub untold : length u ≡ length s → Untold u us
-      untold l = record {
+      pub untold : Untold u us
+      untold = record {
         globals = S.below globals_slot (omega arith) (omega arith);
         slots = λ k a b. S.below k (omega arith) b;
-        room = omega (arith, S.cost, B.cells_long);
+        room = omega (arith, S.cost, S.memory.fits);
       }
 
       module _ {v vs after : List ℕ} {r : Bool} (P : PrunerWasRead bytes t u us totals pruner v vs after r) where
@@ -134,12 +134,12 @@ module _ {bytes t places s rs open_marks totals : List ℕ} (B : Beginning bytes
           few : pruner_pieces old ≤ max_pieces
           few = read_few m pruner old told.is
 
-          pub tidy_asks : length us ≡ length rs → Memory v vs × (counted (read v vs) ≤ most)
-          tidy_asks l = (
+          pub tidy_asks : Memory v vs × (counted (read v vs) ≤ most)
+          tidy_asks = (
             told.memory,
             omega (
               arith,
-              base_counts (read v vs) (omega (arith, read-long v vs, P.long, B.slots_long)) no_records above,
+              base_counts (read v vs) (omega (arith, read-long v vs, P.long, S.long)) no_records above,
               ap pieces base_is,
               S.base_few,
               few,
@@ -147,7 +147,7 @@ module _ {bytes t places s rs open_marks totals : List ℕ} (B : Beginning bytes
             ),
           )
 
-          module _ {w ws : List ℕ} (T : Tidied v vs w ws) (l : length us ≡ length rs) where
+          module _ {w ws : List ℕ} (T : Tidied v vs w ws) where
             pub weighs : Weighing w ws
             weighs = record { memory = T.memory; few = rw T.same (omega (arith, few, told.totals-sum)) }
 
@@ -168,7 +168,7 @@ module _ {bytes t places s rs open_marks totals : List ℕ} (B : Beginning bytes
                   open_long = rw marks (omega (arith, write_long open_marks (start_in places f.0) (replicate (size_in places f.0) 0), B.open_long));
                   totals_long = omega (arith, P.marks_long, B.totals_long);
                   memory = T.memory;
-                  slots_long = omega (arith, T.long, P.long, B.slots_long);
+                  slots_long = omega (arith, T.long, P.long, S.long);
                   globals_are = rw T.same;
                   functions_are = rw T.same;
                   totals-sum = rw T.same told.totals-sum;

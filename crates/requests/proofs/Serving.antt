@@ -66,7 +66,6 @@ module _ {bytes t types places s rs open_marks totals : List ℕ} {f : ℕ} wher
         ended : FunctionEnded bytes t types places s rs open_marks totals f stack_slot 0 (walk_in bytes t s rs open_marks totals f) tally.visits tally.sum required u us open_after totals-after
         ended = rw e at E.by
 
-
         pub walk_finished : {r : Result ℕ Halt} {pruner-after report-after answer-after : List ℕ}
             → Finished bytes t places u us open_after totals-after f stack_slot required tally.visits tally.sum pruner report answer r pruner-after report-after answer-after
             → Walked bytes t types places s rs open_marks totals f sum pruner report answer r pruner-after report-after answer-after

@@ -6,7 +6,7 @@ use Rattle.field.specs.Refusal.{number}
 use Rattle.field.specs.declared.refusal.Refusal.{Refusal}
 use Rattle.part.specs.PartReq.{none, entries}
 use Rattle.part.specs.Store.{top, part, Room}
-use Rattle.part.specs.StoreLimits.{store_words, entries_cap}
+use Rattle.part.specs.StoreLimits.{entries_cap}
 use Rattle.module.specs.Module.{Module}
 use Rattle.module.specs.Tables.{module_of}
 use Rattle.module.specs.declared.handles.FunctionHandle.{FunctionHandle as Handle}
@@ -17,7 +17,7 @@ use Rattle.request.specs.Request.{Request, read_request, judge, request_of}
 use Rattle.request.specs.Answers.{optional, Held}
 use Rattle.request.specs.declared.requests.Request as declared
 use Rattle.walk.specs.Requests.{Pruner}
-use Rattle.memory.specs.Layout.{globals_slot, stack_slot, slot_count, store_size, flat_count}
+use Rattle.memory.specs.Layout.{globals_slot, stack_slot, slot_count, flat_count}
 use Rattle.memory.specs.Memory.{read, context_at, with_context, Memory}
 use Rattle.marks.specs.Places.{Places}
 use Rattle.marks.specs.Report.{totals_size}
@@ -64,6 +64,7 @@ pub record Based (s rs : List ℕ) (q : declared.Request) (t us : List ℕ) : Ty
 -- The request q stands in a memory that has nothing else.
 pub record Standing (s rs : List ℕ) (q : Request) : Type 0 where
   pub memory : Memory s rs
+  pub long : slot_count ≤ length rs
   pub base_is : context_at (read s rs) stack_slot ≡ base_of q
   pub base_few : pieces (base_of q) ≤ 2 * max_pieces
   pub below : (k : ℕ) → globals_slot ≤ k → k < stack_slot → get_or (read s rs) k none ≡ none
@@ -93,13 +94,10 @@ pub record Weighing (s rs : List ℕ) : Type 0 where
   pub memory : Memory s rs
   pub few : entries (get_or (read s rs) globals_slot none) + totals_sum (read s rs) ≤ entries_cap
 
--- tables of a module that was read, and arrays that are long enough
+-- tables of a module that was read, and buffers that are long enough
 pub record Beginning (bytes t places s rs open_marks totals : List ℕ) : Type 0 where
   pub was_read : WasRead bytes t
   pub placed : Places bytes t places
-  pub cells_long : store_size ≤ length s
-  pub cells_fit : length s ≤ store_words
-  pub slots_long : slot_count ≤ length rs
   pub open_long : min_report ≤ length open_marks
   pub totals_long : totals_size ≤ length totals
 

@@ -25,7 +25,7 @@ pub record Walking (bytes t types places s rs open_marks totals : List ℕ) (f s
   pub answer_long : min_answer ≤ length answer
 
 abbrev pub WalkingOf : World → Workspace → ℕ → ℕ → List ℕ → List ℕ → List ℕ → Type 0
-WalkingOf w m f sum pruner report answer = Walking w.file.now.bytes w.file.now.t w.types.now w.places.now m.cells m.slots m.open m.totals f sum pruner report answer
+WalkingOf w m f sum pruner report answer = Walking w.file.now.bytes w.file.now.t w.types.now w.places.now m.parts.cells m.parts.slots m.open m.totals f sum pruner report answer
 
 -- the reply and the buffers are those of whatever request was loaded
 pub record Walked (bytes t types places s rs open_marks totals : List ℕ) (f sum : ℕ) (pruner report answer : List ℕ) (r : Result ℕ Halt) (pruner-after report-after answer-after : List ℕ) : Type 0 where
@@ -33,7 +33,7 @@ pub record Walked (bytes t types places s rs open_marks totals : List ℕ) (f su
       → (reply_of r, record { pruner = pruner-after; report = report-after; answer = answer-after }) ≡ finish (record { pruner = pruner; report = report; answer = answer }) (request (module_of bytes t) old q)
 
 abbrev pub WalkedOf : World → Workspace → ℕ → ℕ → List ℕ → List ℕ → List ℕ → Result ℕ Halt → List ℕ → List ℕ → List ℕ → Type 0
-WalkedOf w m f sum pruner report answer r pruner-after report-after answer-after = Walked w.file.now.bytes w.file.now.t w.types.now w.places.now m.cells m.slots m.open m.totals f sum pruner report answer r pruner-after report-after answer-after
+WalkedOf w m f sum pruner report answer r pruner-after report-after answer-after = Walked w.file.now.bytes w.file.now.t w.types.now w.places.now m.parts.cells m.parts.slots m.open m.totals f sum pruner report answer r pruner-after report-after answer-after
 
 pub record Served (bytes t bytes-asked pruner report answer : List ℕ) (r : Result ℕ Halt) (pruner-after report-after answer-after : List ℕ) : Type 0 where
   pub is : (reply_of r, record { pruner = pruner-after; report = report-after; answer = answer-after }) ≡ serve_read (module_of bytes t) bytes-asked (record { pruner = pruner; report = report; answer = answer })

@@ -9,6 +9,7 @@ use access::file::File;
 use field::field::{write, write_word};
 use leave::leave::records_of;
 use memory::layout::EXPRS;
+use memory::parts::Parts;
 use module::handles::FunctionHandle;
 use pruner::write::{write_lists, write_records};
 
@@ -27,24 +28,23 @@ fn write_verdict(out: &mut [u8], required: bool, visits: usize)
 // From the first byte on; what lies past it stays.
 pub fn write_answer(
     file: &File,
-    cells: &[u32],
-    slots: &[u32],
+    parts: &Parts,
     f: FunctionHandle,
     at: usize,
     required: bool,
     visits: usize,
     out: &mut [u8],
 )
-    requires answering { Answering file.now.t cells.now slots.now f.0 at }
-    requires visits_bound { (visits < 4294967296) × (length (answer_in file.now.t cells.now slots.now f.0 at required visits) ≤ length out.old) }
-    requires visits_len_bound { length (answer_in file.now.t cells.now slots.now f.0 at required visits) ≤ min_answer }
-    ensures { out.new ≡ sets out.old 0 (answer_in file.now.t cells.now slots.now f.0 at required visits) }
+    requires answering { Answering file.now.t parts.now.cells parts.now.slots f.0 at }
+    requires visits_bound { (visits < 4294967296) × (length (answer_in file.now.t parts.now.cells parts.now.slots f.0 at required visits) ≤ length out.old) }
+    requires visits_len_bound { length (answer_in file.now.t parts.now.cells parts.now.slots f.0 at required visits) ≤ min_answer }
+    ensures { out.new ≡ sets out.old 0 (answer_in file.now.t parts.now.cells parts.now.slots f.0 at required visits) }
 {
     let own = records_of(file, f);
     let from = own.from;
     write_verdict(out, required, visits);
-    let lists = write_lists(cells, slots, at, out, 12);
-    let end = write_records(cells, slots, EXPRS + from, own.n, out, lists);
+    let lists = write_lists(parts, at, out, 12);
+    let end = write_records(parts, EXPRS + from, own.n, out, lists);
     out[0] = b'A';
     out[1] = b'N';
     write_word(out, 2, (end - 6) as u32);

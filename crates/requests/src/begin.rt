@@ -2,8 +2,7 @@
 ghost use Rattle.std.specs.Prelude.{◌≡◌, ◌+◌, ◌≤◌, length, get_or};
 ghost use Rattle.field.specs.Limits.{absent};
 ghost use Rattle.part.specs.PartReq.{none, entries};
-ghost use Rattle.part.specs.StoreLimits.{store_words};
-ghost use Rattle.memory.specs.Layout.{globals_slot, slot_count, store_size};
+ghost use Rattle.memory.specs.Layout.{globals_slot};
 ghost use Rattle.memory.specs.Memory.{read};
 ghost use Rattle.state.specs.State.{totals_sum};
 ghost use Rattle.requests.specs.Begin.{Basing, Based, Weighing, LengthChecked, RequestLoaded, Beginning, Begins};
@@ -16,6 +15,7 @@ use marks::places::PLACES;
 use marks::set::clear_marks;
 use memory::layout::{GLOBALS, STACK, TOTALS};
 use memory::memory::{init_memory, tidy, weigh};
+use memory::parts::Parts;
 use memory::stretches::save_context;
 use module::handles::FunctionHandle;
 use part::store::EMPTY_PIECE;
@@ -31,19 +31,19 @@ pub struct Begun {
 }
 
 // The base context of the asked function, at the bottom of the stack.
-fn load_base(cells: &mut [u32], slots: &mut [u32], q: Request)
-    requires { Basing cells.old slots.old q }
-    ensures { Based cells.old slots.old q cells.new slots.new }
+fn load_base(parts: &mut Parts, q: Request)
+    requires { Basing parts.old.cells parts.old.slots q }
+    ensures { Based parts.old.cells parts.old.slots q parts.new.cells parts.new.slots }
 {
     let retval = q.retval;
-    let entry = returned(cells, retval);
+    let entry = returned(&mut parts.cells, retval);
     let base = RequiredContext {
         globals: q.globals,
         locals: EMPTY_PIECE,
         args: EMPTY_PIECE,
         retval: entry,
     };
-    save_context(slots, STACK, base);
+    save_context(&mut parts.slots, STACK, base);
 }
 
 // A request that is longer than it says is none.
@@ -58,60 +58,50 @@ pub fn check_length(request: &[u8]) -> Result<(), Refusal>
 
 // What the bytes of a request ask of a module with so many functions and globals, in a memory that has nothing else.
 fn load_request(
-    cells: &mut [u32],
-    slots: &mut [u32],
+    parts: &mut Parts,
     request: &[u8],
     functions: u32,
     globals: u32,
     report: usize,
 ) -> Result<FunctionHandle, Refusal>
-    requires store_size_in_bounds { (store_size ≤ length cells.old) × (length cells.old ≤ store_words) }
-    requires slot_count_in_bounds { (slot_count ≤ length slots.old) × (globals ≤ absent) }
-    ensures { RequestLoaded functions globals report request.now cells.new slots.new result }
+    requires { globals ≤ absent }
+    ensures { RequestLoaded functions globals report request.now parts.new.cells parts.new.slots result }
 {
-    init_memory(cells, slots);
+    init_memory(parts);
     check_length(request)?;
-    let q = read_request(cells, request, functions, globals, report)?;
-    load_base(cells, slots, q);
+    let q = read_request(&mut parts.cells, request, functions, globals, report)?;
+    load_base(parts, q);
     Ok(q.function)
 }
 
 // What the totals count for.
-fn weigh_totals(cells: &[u32], slots: &[u32]) -> usize
-    requires { Weighing cells.now slots.now }
-    ensures { result ≡ entries (get_or (read cells.now slots.now) globals_slot none) + totals_sum (read cells.now slots.now) }
+fn weigh_totals(parts: &Parts) -> usize
+    requires { Weighing parts.now.cells parts.now.slots }
+    ensures { result ≡ entries (get_or (read parts.now.cells parts.now.slots) globals_slot none) + totals_sum (read parts.now.cells parts.now.slots) }
 {
-    weigh(cells, slots, GLOBALS, 1) + weigh(cells, slots, TOTALS, STACK - TOTALS)
+    weigh(parts, GLOBALS, 1) + weigh(parts, TOTALS, STACK - TOTALS)
 }
 
 // From here `add_function` walks the asked function, its base at STACK.
 pub fn begin_request(
     file: &File,
     places: &[u32; PLACES],
-    cells: &mut [u32],
-    slots: &mut [u32],
+    parts: &mut Parts,
     open: &mut [u8],
     totals: &mut [u8],
     request: &[u8],
     pruner: &[u8],
     report: usize,
 ) -> Result<Begun, Refusal>
-    requires { Beginning file.now.bytes file.now.t places.now cells.old slots.old «open».old totals.old }
-    ensures { Begins file.now.bytes file.now.t places.now report request.now pruner.now cells.new slots.new «open».new totals.new result }
+    requires { Beginning file.now.bytes file.now.t places.now parts.old.cells parts.old.slots «open».old totals.old }
+    ensures { Begins file.now.bytes file.now.t places.now report request.now pruner.now parts.new.cells parts.new.slots «open».new totals.new result }
 {
-    let function = load_request(
-        cells,
-        slots,
-        request,
-        file.functions(),
-        file.globals(),
-        report,
-    )?;
-    if !read_pruner(file, places, cells, slots, totals, pruner) {
+    let function = load_request(parts, request, file.functions(), file.globals(), report)?;
+    if !read_pruner(file, places, parts, totals, pruner) {
         return Err(Refusal::PrunerUnfit);
     }
     clear_marks(open, places, function);
-    tidy(cells, slots);
-    let sum = weigh_totals(cells, slots);
+    tidy(parts);
+    let sum = weigh_totals(parts);
     Ok(Begun { function, sum })
 }

@@ -13,6 +13,7 @@ use field::refusal::Refusal;
 use leave::leave::own_pieces;
 use marks::places::PLACES;
 use marks::report::write_report;
+use memory::parts::Parts;
 use module::handles::FunctionHandle;
 use pruner::totals::write_pruner;
 use state::answer::{Answer, Halt, Place, Tally};
@@ -31,12 +32,12 @@ pub fn nowhere(refusal: Refusal) -> Halt
 }
 
 // Whether 16 refuses a walk of f that has ended, by its totals alone: the records of f are not counted.
-pub fn totals_over(file: &File, cells: &[u32], slots: &[u32], f: FunctionHandle, sum: usize) -> bool
-    requires memory { Memory cells.now slots.now × Placed file.now.t slots.now f.0 }
-    requires own_bound { (own_in file.now.t cells.now slots.now f.0 ≤ entries_cap) × (own_in file.now.t cells.now slots.now f.0 ≤ sum) }
-    ensures { result ≡ ltb max_pieces (sum - own_in file.now.t cells.now slots.now f.0) }
+pub fn totals_over(file: &File, parts: &Parts, f: FunctionHandle, sum: usize) -> bool
+    requires memory { Memory parts.now.cells parts.now.slots × Placed file.now.t parts.now.slots f.0 }
+    requires own_bound { (own_in file.now.t parts.now.cells parts.now.slots f.0 ≤ entries_cap) × (own_in file.now.t parts.now.cells parts.now.slots f.0 ≤ sum) }
+    ensures { result ≡ ltb max_pieces (sum - own_in file.now.t parts.now.cells parts.now.slots f.0) }
 {
-    let own = own_pieces(file, cells, slots, f);
+    let own = own_pieces(file, parts, f);
     MAX_PIECES < sum - own
 }
 
@@ -44,8 +45,7 @@ pub fn totals_over(file: &File, cells: &[u32], slots: &[u32], f: FunctionHandle,
 pub fn finish_request(
     file: &File,
     places: &[u32; PLACES],
-    cells: &[u32],
-    slots: &[u32],
+    parts: &Parts,
     open: &[u8],
     totals: &[u8],
     f: FunctionHandle,
@@ -55,16 +55,16 @@ pub fn finish_request(
     report: &mut [u8],
     answer: &mut [u8],
 ) -> Reply
-    requires { Finishing file.now.bytes file.now.t places.now cells.now slots.now «open».now totals.now f.0 base walked.required walked.tally.visits walked.tally.sum pruner.old report.old answer.old }
-    ensures { Finished file.now.bytes file.now.t places.now cells.now slots.now «open».now totals.now f.0 base walked.required walked.tally.visits walked.tally.sum pruner.old report.old answer.old result pruner.new report.new answer.new }
+    requires { Finishing file.now.bytes file.now.t places.now parts.now.cells parts.now.slots «open».now totals.now f.0 base walked.required walked.tally.visits walked.tally.sum pruner.old report.old answer.old }
+    ensures { Finished file.now.bytes file.now.t places.now parts.now.cells parts.now.slots «open».now totals.now f.0 base walked.required walked.tally.visits walked.tally.sum pruner.old report.old answer.old result pruner.new report.new answer.new }
 {
     let Answer { tally, required } = walked;
     let Tally { visits, sum } = tally;
-    if totals_over(file, cells, slots, f, sum) {
+    if totals_over(file, parts, f, sum) {
         return Err(nowhere(Refusal::PiecesLimit));
     }
     write_report(report, places, open, totals, f, file.functions() as usize);
-    write_pruner(file, places, cells, slots, totals, pruner);
-    write_answer(file, cells, slots, f, base + 4, required, visits, answer);
+    write_pruner(file, places, parts, totals, pruner);
+    write_answer(file, parts, f, base + 4, required, visits, answer);
     Ok(visits)
 }

@@ -11,6 +11,7 @@ use field::refusal::Refusal;
 use function::add::add_function;
 use marks::report::TOTALS_SIZE;
 use memory::layout::{CELLS, SLOTS, STACK};
+use memory::parts::Parts;
 use module::handles::FunctionHandle;
 use pruner::frame::MIN_PRUNER;
 use state::answer::{Place, Tally};
@@ -40,8 +41,7 @@ fn walk_request(
     finish_request(
         world.file,
         world.places,
-        &space.cells,
-        &space.slots,
+        &space.parts,
         &space.open,
         &space.totals,
         f,
@@ -67,8 +67,7 @@ fn serve_in(
     let begun = match begin_request(
         world.file,
         world.places,
-        &mut space.cells,
-        &mut space.slots,
+        &mut space.parts,
         &mut space.open,
         &mut space.totals,
         request,
@@ -106,8 +105,10 @@ pub fn serve_read(
     ensures { ServedOf world.now request.now pruner.old report.old answer.old result pruner.new report.new answer.new }
 {
     let mut space = Workspace {
-        cells: [0; CELLS],
-        slots: [0; SLOTS],
+        parts: Parts {
+            cells: [0; CELLS],
+            slots: [0; SLOTS],
+        },
         open: [0; MIN_REPORT],
         totals: [0; TOTALS_SIZE],
     };

@@ -24,7 +24,7 @@ use Rattle.standing.specs.World.{World}
 use Rattle.standing.specs.declared.passing.Passing.{Passing}
 use Rattle.checking.specs.Stretch.{Firsts}
 use Rattle.rounds.specs.Settling.{Settled, asked_by, reported}
-use Rattle.judge.specs.declared.subject.Subject.{Subject}
+use Rattle.backward.specs.declared.marked.MarkedSubject.{MarkedSubject}
 
 -- Both tables' slots mean the table o, and the needs at hand are those at the function's end.
 pub record Between (S : Scope) (R : Request) (o : Table) (s rs : List ℕ) : Type 0 where
@@ -68,8 +68,8 @@ pub record Rounding (bytes t : List ℕ) (f : ℕ) (types alike paths firsts s r
   pub slots : stack_slot + 1 + (3 * length (function_of bytes t f).blocks + 12) ≤ length rs
   pub path_long : length (function_of bytes t f).expressions + 2 ≤ length path
 
-abbrev pub RoundingOf : Subject → List ℕ → List ℕ → List ℕ → List ℕ → Type 0
-RoundingOf j firsts s rs path = Rounding j.file.now.bytes j.file.now.t j.f.0 j.types.now j.alike.now j.paths.now firsts s rs path
+abbrev pub RoundingOf : MarkedSubject → List ℕ → List ℕ → List ℕ → Type 0
+RoundingOf m s rs path = Rounding m.subject.now.file.now.bytes m.subject.now.file.now.t m.subject.now.f.0 m.subject.now.types.now m.subject.now.alike.now m.subject.now.paths.now m.firsts.now s rs path
 
 -- and what it comes to, whatever was asked and whatever the table was: one pass over the body a
 pub record Rounded (S : Scope) (a : Tree) (s rs t us before after : List ℕ) (q : Passing) : Type 0 where

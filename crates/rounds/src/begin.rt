@@ -8,6 +8,7 @@ ghost use Rattle.rounds.specs.Rounds.{Cleared, Asked, Begins, Renewed};
 use access::file::File;
 use forms::trim::{trim_globals, trim_value};
 use hold::hold::copy;
+use memory::parts::Parts;
 use module::handles::FunctionHandle;
 use part::store::EMPTY_PIECE;
 use standing::passing::{ASKED, END, STACK, TABLE};
@@ -27,20 +28,19 @@ pub fn begin(
     file: &File,
     f: FunctionHandle,
     types: &[u32],
-    cells: &mut [u32],
-    roots: &mut [u32],
+    parts: &mut Parts,
     globals: u32,
     value: u32,
 )
-    requires { Asked file.now.bytes file.now.t types.now cells.old roots.old globals value }
-    ensures { Begins (scope_at file.now.bytes file.now.t f.0) (asked_by cells.old globals value) cells.old roots.old cells.new roots.new }
+    requires { Asked file.now.bytes file.now.t types.now parts.old.cells parts.old.slots globals value }
+    ensures { Begins (scope_at file.now.bytes file.now.t f.0) (asked_by parts.old.cells globals value) parts.old.cells parts.old.slots parts.new.cells parts.new.slots }
 {
-    let v = trim_value(cells, file, f, types, value);
-    let e = trim_globals(cells, file, types, globals);
-    clear_tables(roots);
-    roots[ASKED] = v;
-    roots[END] = e;
-    roots[STACK] = e;
+    let v = trim_value(&mut parts.cells, file, f, types, value);
+    let e = trim_globals(&mut parts.cells, file, types, globals);
+    clear_tables(&mut parts.slots);
+    parts.slots[ASKED] = v;
+    parts.slots[END] = e;
+    parts.slots[STACK] = e;
 }
 
 // The new table is the old one too, and the needs at the function's end are at hand.

@@ -9,26 +9,20 @@ ghost use Rattle.judge.specs.Subject.{scope_of, function_in};
 
 use crate::begin::{begin, renew};
 use backward::blocks::pass_around;
+use backward::marked::MarkedSubject;
 use checking::words::Verdict;
 use context_bytes::starts::context_covers;
 use field::refusal::Refusal;
-use judge::subject::Subject;
+use memory::parts::Parts;
 use standing::passing::{END, Exits, Passing, STACK};
 
 // The most rounds.
 const ROUNDS: u32 = 65536;
 
 // One pass over the body, with the needs at the function's end where each exit leads.
-fn round(
-    subject: &Subject,
-    marks: &[u8],
-    firsts: &[u32],
-    cells: &mut [u32],
-    roots: &mut [u32],
-    path: &mut [u32],
-) -> Passing
-    requires { RoundingOf subject.now firsts.now cells.old roots.old path.old }
-    ensures { Rounded (scope_of subject.now) (body_tree (function_in subject.now) marks.now) cells.old roots.old cells.new roots.new path.old path.new result }
+fn round(marked: &MarkedSubject, parts: &mut Parts, path: &mut [u32]) -> Passing
+    requires { RoundingOf marked.now parts.old.cells parts.old.slots path.old }
+    ensures { Rounded (scope_of marked.now.subject.now) (body_tree (function_in marked.now.subject.now) marked.now.marks.now) parts.old.cells parts.old.slots parts.new.cells parts.new.slots path.old path.new result }
 {
     let x = Exits {
         broke: END,
@@ -42,19 +36,8 @@ fn round(
         deep: false,
         wide: false,
     };
-    let b = subject.file.body_block(subject.f);
-    pass_around(
-        subject,
-        marks,
-        firsts,
-        cells,
-        roots,
-        path,
-        STACK + 1,
-        x,
-        p,
-        b,
-    )
+    let b = marked.subject.file.body_block(marked.subject.f);
+    pass_around(marked, parts, path, STACK + 1, x, p, b)
 }
 
 // The answer, by what the last pass carried and the need n before it.
@@ -80,53 +63,46 @@ fn answer(cells: &[u32], n: u32, q: Passing, context: &[u8]) -> Verdict
 
 // Rounds until each loop's needs hold; past the most of them the answer is 26.
 fn settle_rounds(
-    subject: &Subject,
-    marks: &[u8],
-    firsts: &[u32],
-    cells: &mut [u32],
-    roots: &mut [u32],
+    marked: &MarkedSubject,
+    parts: &mut Parts,
     path: &mut [u32],
     context: &[u8],
 ) -> Verdict
-    requires { RoundingOf subject.now firsts.now cells.old roots.old path.old }
-    ensures { Settles (scope_of subject.now) marks.now context.now cells.old roots.old (said result) }
+    requires { RoundingOf marked.now parts.old.cells parts.old.slots path.old }
+    ensures { Settles (scope_of marked.now.subject.now) marked.now.marks.now context.now parts.old.cells parts.old.slots (said result) }
 {
     for _ in 0..ROUNDS {
-        let q = round(subject, marks, firsts, cells, roots, path);
+        let q = round(marked, parts, path);
         if q.full {
             return Verdict::Refused(Refusal::CheckBound);
         }
         if q.held {
-            return answer(cells, roots[STACK], q, context);
+            return answer(&parts.cells, parts.slots[STACK], q, context);
         }
-        renew(roots);
+        renew(&mut parts.slots);
     }
     Verdict::Refused(Refusal::CheckBound)
 }
 
 // The answer, of a judged function and what is asked of it.
 pub fn settle(
-    subject: &Subject,
-    marks: &[u8],
-    firsts: &[u32],
-    cells: &mut [u32],
-    roots: &mut [u32],
+    marked: &MarkedSubject,
+    parts: &mut Parts,
     path: &mut [u32],
     globals: u32,
     value: u32,
     context: &[u8],
 ) -> Verdict
-    requires { SettlingOf subject.now firsts.now cells.old roots.old path.old globals value }
-    ensures { Settled (scope_of subject.now) (asked_by cells.old globals value) marks.now context.now (said result) }
+    requires { SettlingOf marked.now parts.old.cells parts.old.slots path.old globals value }
+    ensures { Settled (scope_of marked.now.subject.now) (asked_by parts.old.cells globals value) marked.now.marks.now context.now (said result) }
 {
     begin(
-        subject.file,
-        subject.f,
-        subject.types,
-        cells,
-        roots,
+        marked.subject.file,
+        marked.subject.f,
+        marked.subject.types,
+        parts,
         globals,
         value,
     );
-    settle_rounds(subject, marks, firsts, cells, roots, path, context)
+    settle_rounds(marked, parts, path, context)
 }

@@ -49,7 +49,6 @@ kept_ready {bytes} {t} {s} {rs} {u} {f} {at} {held} {sum} r x =
 
 -- the context by its pieces
 module _ {s rs : List ℕ} (m : Memory s rs) (at : ℕ) (high : at + 4 ≤ length rs) where
-
   pub pieces_are : context_of s (pieces_at rs at) ≡ context_at (read s rs) at
   pieces_are =
       sym

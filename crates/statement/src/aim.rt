@@ -19,6 +19,7 @@ pub struct Aim {
 }
 
 // The target that the expression e names: 13 where that is no variable, 15 at a path that is too long.
+// Stays: the slots are only read, which a `&mut` of both would not say.
 pub fn target_of(
     file: &File,
     cells: &mut [u32],

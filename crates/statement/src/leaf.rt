@@ -16,6 +16,7 @@ use crate::stores::add_store;
 use access::file::File;
 use access::kinded::Kinded;
 use field::refusal::Refusal;
+use memory::parts::Parts;
 use module::kinds::StatementKind;
 use state::answer::{Answered, Tally};
 use state::frame::Frame;
@@ -26,35 +27,34 @@ use state::frame::Frame;
 pub fn add_leaf(
     file: &File,
     types: &[u32],
-    cells: &mut [u32],
-    slots: &mut [u32],
+    parts: &mut Parts,
     fr: Frame,
     row: Kinded,
     tally: Tally,
 ) -> Answered
-    requires arm { Arm file.now.bytes file.now.t cells.old slots.old fr row tally.sum }
+    requires arm { Arm file.now.bytes file.now.t parts.old.cells parts.old.slots fr row tally.sum }
     requires types_value { types_of types.now ≡ (module_of file.now.bytes file.now.t).types }
     requires leaf_kind { LeafKind row.kind }
-    ensures { Leaves file.now.bytes file.now.t cells.old slots.old fr (statement_of row.kind (operand_at file.now.bytes row)) tally.visits result cells.new slots.new }
+    ensures { Leaves file.now.bytes file.now.t parts.old.cells parts.old.slots fr (statement_of row.kind (operand_at file.now.bytes row)) tally.visits result parts.new.cells parts.new.slots }
 {
     match StatementKind::try_from(row.kind) {
-        Ok(StatementKind::Return) => add_return(file, cells, slots, fr, row, tally),
+        Ok(StatementKind::Return) => add_return(file, parts, fr, row, tally),
         Ok(StatementKind::Kill) => answer(Ok(tally), true),
         Ok(StatementKind::ControlBarrier | StatementKind::MemoryBarrier) => {
             answer(Ok(tally), false)
         }
         Ok(StatementKind::ImageAtomic) => Err(fr.halt(Refusal::Panic)),
         Ok(StatementKind::Store | StatementKind::ImageStore) => {
-            add_store(file, types, cells, slots, fr, row, tally)
+            add_store(file, types, parts, fr, row, tally)
         }
-        Ok(StatementKind::Atomic) => add_atomic(file, cells, slots, fr, row, tally),
+        Ok(StatementKind::Atomic) => add_atomic(file, parts, fr, row, tally),
         Ok(
             StatementKind::RayQuery
             | StatementKind::WorkGroupUniformLoad
             | StatementKind::SubgroupBallot
             | StatementKind::SubgroupGather
             | StatementKind::SubgroupCollectiveOperation,
-        ) => add_ray(file, cells, slots, fr, row, tally),
-        _ => leave(slots, fr, tally),
+        ) => add_ray(file, parts, fr, row, tally),
+        _ => leave(&mut parts.slots, fr, tally),
     }
 }

@@ -9,6 +9,7 @@ use crate::aim::target_of;
 use access::file::File;
 use field::refusal::Refusal;
 use memory::layout::ASK;
+use memory::parts::Parts;
 use memory::stretches::{load_context, save_context};
 use module::handles::ExpressionHandle;
 use state::answer::Halt;
@@ -20,25 +21,24 @@ use target::store::take_out;
 fn take(
     file: &File,
     types: &[u32],
-    cells: &mut [u32],
-    slots: &mut [u32],
+    parts: &mut Parts,
     fr: Frame,
     target: Target,
     p: u32,
 ) -> Result<(), Halt>
-    requires { Taking file.now.bytes file.now.t types.now cells.old slots.old fr target p }
-    ensures { Takes file.now.bytes file.now.t cells.old slots.old fr target p result cells.new slots.new }
+    requires { Taking file.now.bytes file.now.t types.now parts.old.cells parts.old.slots fr target p }
+    ensures { Takes file.now.bytes file.now.t parts.old.cells parts.old.slots fr target p result parts.new.cells parts.new.slots }
 {
     let f = fr.function;
-    let c = load_context(slots, fr.at);
-    let taken = take_out(file, cells, types, f, c, target);
+    let c = load_context(&parts.slots, fr.at);
+    let taken = take_out(file, &mut parts.cells, types, f, c, target);
     match taken {
         Some(d) => {
-            if d.over(cells) {
+            if d.over(&parts.cells) {
                 return Err(fr.halt(Refusal::PartLimit));
             }
-            save_context(slots, fr.at, d);
-            slots[ASK] = p;
+            save_context(&mut parts.slots, fr.at, d);
+            parts.slots[ASK] = p;
             Ok(())
         }
         None => Err(fr.halt(Refusal::Panic)),
@@ -49,20 +49,19 @@ fn take(
 pub fn store(
     file: &File,
     types: &[u32],
-    cells: &mut [u32],
-    slots: &mut [u32],
+    parts: &mut Parts,
     fr: Frame,
     e: ExpressionHandle,
 ) -> Result<bool, Halt>
-    requires aiming { Aiming file.now.bytes file.now.t cells.old slots.old fr e.0 }
+    requires aiming { Aiming file.now.bytes file.now.t parts.old.cells parts.old.slots fr e.0 }
     requires types_value { types_of types.now ≡ (module_of file.now.bytes file.now.t).types }
-    ensures { Stores file.now.bytes file.now.t cells.old slots.old fr e.0 result cells.new slots.new }
+    ensures { Stores file.now.bytes file.now.t parts.old.cells parts.old.slots fr e.0 result parts.new.cells parts.new.slots }
 {
-    let aim = target_of(file, cells, slots, fr, e)?;
+    let aim = target_of(file, &mut parts.cells, &parts.slots, fr, e)?;
     match aim.needed {
         None => Ok(false),
         Some(p) => {
-            take(file, types, cells, slots, fr, aim.target, p)?;
+            take(file, types, parts, fr, aim.target, p)?;
             Ok(true)
         }
     }

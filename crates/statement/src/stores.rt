@@ -12,6 +12,7 @@ use crate::store::store;
 use access::file::File;
 use access::kinded::Kinded;
 use memory::layout::{ALL, ASK, EXIST};
+use memory::parts::Parts;
 use module::handles::ExpressionHandle;
 use module::kinds::StatementKind;
 use state::answer::{Answer, Answered, Tally, Walked};
@@ -48,46 +49,38 @@ fn store_fields(file: &File, row: Kinded) -> Fields
 }
 
 // What a store asks once its target is taken out.
-fn ask_fields(
-    file: &File,
-    cells: &mut [u32],
-    slots: &mut [u32],
-    fr: Frame,
-    x: Fields,
-    tally: Tally,
-) -> Walked
-    requires { Fielding file.now.bytes file.now.t cells.old slots.old fr (fields_of x) tally.sum }
-    ensures { Fielded file.now.bytes file.now.t cells.old slots.old fr (fields_of x) tally.visits result cells.new slots.new }
+fn ask_fields(file: &File, parts: &mut Parts, fr: Frame, x: Fields, tally: Tally) -> Walked
+    requires { Fielding file.now.bytes file.now.t parts.old.cells parts.old.slots fr (fields_of x) tally.sum }
+    ensures { Fielded file.now.bytes file.now.t parts.old.cells parts.old.slots fr (fields_of x) tally.visits result parts.new.cells parts.new.slots }
 {
-    let a = then_ask(file, cells, slots, fr, Ok(tally), x.pointer, EXIST);
-    let b = then_maybe(file, cells, slots, fr, a, x.coordinate, ALL);
-    let c = then_maybe(file, cells, slots, fr, b, x.index, EXIST);
-    then_ask(file, cells, slots, fr, c, x.value, ASK)
+    let a = then_ask(file, parts, fr, Ok(tally), x.pointer, EXIST);
+    let b = then_maybe(file, parts, fr, a, x.coordinate, ALL);
+    let c = then_maybe(file, parts, fr, b, x.index, EXIST);
+    then_ask(file, parts, fr, c, x.value, ASK)
 }
 
 // A store of which nothing is needed is not required.
 pub fn add_store(
     file: &File,
     types: &[u32],
-    cells: &mut [u32],
-    slots: &mut [u32],
+    parts: &mut Parts,
     fr: Frame,
     row: Kinded,
     tally: Tally,
 ) -> Answered
-    requires arm { Arm file.now.bytes file.now.t cells.old slots.old fr row tally.sum }
+    requires arm { Arm file.now.bytes file.now.t parts.old.cells parts.old.slots fr row tally.sum }
     requires types_value { types_of types.now ≡ (module_of file.now.bytes file.now.t).types }
     requires store_kind { StoreKind row.kind }
-    ensures { Leaves file.now.bytes file.now.t cells.old slots.old fr (statement_of row.kind (operand_at file.now.bytes row)) tally.visits result cells.new slots.new }
+    ensures { Leaves file.now.bytes file.now.t parts.old.cells parts.old.slots fr (statement_of row.kind (operand_at file.now.bytes row)) tally.visits result parts.new.cells parts.new.slots }
 {
     let x = store_fields(file, row);
-    let needed = store(file, types, cells, slots, fr, x.pointer)?;
+    let needed = store(file, types, parts, fr, x.pointer)?;
     if !needed {
         return Ok(Answer {
             tally,
             required: false,
         });
     }
-    let r = ask_fields(file, cells, slots, fr, x, tally);
+    let r = ask_fields(file, parts, fr, x, tally);
     answer(r, true)
 }

@@ -5,6 +5,7 @@ ghost use Rattle.checking.specs.Word.{check_word};
 
 use boundary_check::check::check_any;
 use memory::layout::{CELLS, SLOTS};
+use memory::parts::Parts;
 use module::tables::WORDS;
 
 // The number of the definition's answer, for all bytes. Where it is 0, what is claimed of them holds (`word_claims` of crate `checking`).
@@ -18,9 +19,9 @@ pub extern "C" fn tickingtor_check(
     ensures { result ≡ check_word (check bytes.now request.now report.now context.now) }
 {
     let mut t: [u32; WORDS] = [0; WORDS];
-    let mut cells: [u32; CELLS] = [0; CELLS];
-    let mut slots: [u32; SLOTS] = [0; SLOTS];
-    u64::from(check_any(
-        bytes, &mut t, &mut cells, &mut slots, request, report, context,
-    ))
+    let mut parts = Parts {
+        cells: [0; CELLS],
+        slots: [0; SLOTS],
+    };
+    u64::from(check_any(bytes, &mut t, &mut parts, request, report, context))
 }

@@ -1,11 +1,11 @@
 -- The answer of a check, put together: 21, what is not judged, or that of the rounds; and what the rounds are given.
-use Prim.Native.Nat.{ℕ, suc, ◌-◌, ◌*◌, ◌≤◌}
+use Prim.Native.Nat.{ℕ, suc, ◌-◌, ◌≤◌}
 use native.Mathlib.Omega.{arith}
 use mathlib.Core.Path.{◌≡◌, refl, sym, ap, subst, ◌∙◌}
 use mathlib.Core.Bool.{Bool, true, false, not, ◌&&◌}
 use mathlib.Core.List.{List, []}
 use mathlib.Core.Option.{Option, some, none as nothing}
-use lib.ListN.{length, take, length-take}
+use lib.ListN.{length}
 use Rattle.std.specs.Prelude.{Option as Maybe, Some, None, Result, Ok, Err, MatchResult, is_ok}
 use Rattle.std.specs.Borrow.{Bor}
 use Rattle.field.specs.Limits.{max_types, max_expressions}
@@ -18,12 +18,10 @@ use Rattle.access.proofs.Access.{function_is, statement_is}
 use Rattle.valid.specs.Valid.{FunctionValid, entries_below}
 use Rattle.valid.specs.There.{There}
 use Rattle.valid.proofs.Accepted.{valid}
-use Rattle.context.specs.Types.{type_words}
 use Rattle.context.specs.RequiredContext.{RequiredContext}
 use Rattle.request.specs.Request.{request_of}
 use Rattle.request.specs.Context.{context_of}
 use Rattle.walk.specs.Resolve.{function_at}
-use Rattle.state.specs.Ready.{WasRead}
 use Rattle.sound.specs.Sizes.{records_of}
 use Rattle.sound.proofs.Totals.{total-take, total-lower}
 use Rattle.sound.proofs.Sizes.{few_records}
@@ -44,7 +42,7 @@ use Rattle.rounds.specs.Settling.{asked_by, reported, Settling, Settled}
 use Rattle.verdict.specs.Heard.{asks_by, Accepted, Hears}
 use Rattle.verdict.specs.declared.heard.Heard.{Heard}
 use Rattle.verdict.specs.Tables.{Tables, unjudged, Judges}
-use Rattle.verdict.specs.Checks.{Working, Asked, Marked, MarksChecked, ReportChecked}
+use Rattle.verdict.specs.Checks.{Asked, Marked, MarksChecked, ReportChecked}
 
 -- What is not judged, and what is
 
@@ -132,7 +130,7 @@ module _ (S : Scope) (R : Request) (P : Report) where
   unfolding checked
   checked-shaped h = rw (h, checked)
 
-module _ {bytes t : List ℕ} {f : ℕ} {rows alike held paths firsts s rs path : List ℕ} {g v : ℕ} (A : Asked bytes t f rows alike held paths firsts s rs path g v) where
+module _ {bytes t : List ℕ} {f : ℕ} {s : List ℕ} {g v : ℕ} (A : Asked bytes t f s g v) where
   same_scope : scope_of (module_of bytes t) f ≡ scope_at bytes t f
   unfolding function_at
   same_scope = rw (function_is bytes t f _ A.stored.there)
@@ -142,23 +140,6 @@ module _ {bytes t : List ℕ} {f : ℕ} {rows alike held paths firsts s rs path 
 
   pub few_expressions : {e : ℕ} → e ≡ length (function_of bytes t f).expressions → e ≤ max_expressions
   few_expressions h = omega (arith, few bytes t f A.was_read.module_is A.stored.there)
-
-  pub marked : {n e : ℕ} → n ≡ length (module_of bytes t).types → e ≡ length (function_of bytes t f).expressions →
-      Marked bytes t f (take (type_words * n - 0) rows) (take (n - 0) alike) (take (n - 0) held) (take (e - 0) paths) firsts s rs path g v
-  marked {n} {e} hn he = record {
-    was_read = A.was_read;
-    sized = record {
-      types_long = simp length-take (omega (arith, few_types hn, hn, A.working.rows_long));
-      alike_long = simp length-take (omega (arith, few_types hn, hn, A.working.alike_long));
-      held_long = simp length-take (omega (arith, few_types hn, hn, A.working.held_long));
-      paths_long = simp length-take (omega (arith, few_expressions he, he, A.working.paths_long));
-    };
-    firsts_long = A.working.firsts_long;
-    store = A.working.store;
-    slots_long = A.working.slots_long;
-    path_long = A.working.path_long;
-    stored = A.stored;
-  }
 
   module _ (report context : List ℕ) {r : Result (Bor (List ℕ)) (Bor (List ℕ))} (D : MarksFound bytes t f report r) where
     abbrev marks : List ℕ
@@ -194,20 +175,3 @@ module _ {m : Module} {request context u : List ℕ} {a : Result Heard Refusal} 
 
   heard_is : {h : Heard} → a ≡ Ok h → Accepted m request context u h.function.0 h.globals h.value
   heard_is e = rw e at H.by
-
-  pub read_asks : {bytes t : List ℕ} {h : Heard} {rows alike held paths firsts s rs path : List ℕ} → WasRead bytes t → Working rows alike held paths firsts s rs path → module_of bytes t ≡ m → length u ≡ length s →
-      a ≡ Ok h → Asked bytes t h.function.0 rows alike held paths firsts u rs path h.globals h.value
-  read_asks W K same e o = record {
-    was_read = W;
-    working = record {
-      rows_long = K.rows_long;
-      alike_long = K.alike_long;
-      held_long = K.held_long;
-      paths_long = K.paths_long;
-      firsts_long = K.firsts_long;
-      store = record { long = rw e K.store.long; fits = rw e K.store.fits };
-      slots_long = K.slots_long;
-      path_long = K.path_long;
-    };
-    stored = rw same (heard_is o).stored;
-  }

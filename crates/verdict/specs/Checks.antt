@@ -1,10 +1,9 @@
 -- What the check of an asked function is given, and what it answers.
 use Rattle.std.specs.Prelude.{ℕ, ◌+◌, ◌*◌, ◌≤◌, ◌≡◌, List, length}
 use Rattle.std.proofs.Math.Option.{some}
-use Rattle.field.specs.Limits.{max_types, max_expressions, max_statements}
+use Rattle.field.specs.Limits.{max_expressions, max_statements}
 use Rattle.module.specs.Module.{Module}
 use Rattle.module.specs.Tables.{max_items, module_of}
-use Rattle.context.specs.Types.{type_words}
 use Rattle.context.specs.RequiredContext.{RequiredContext}
 use Rattle.request.specs.Context.{context_of}
 use Rattle.state.specs.Ready.{WasRead}
@@ -18,21 +17,9 @@ use Rattle.rounds.specs.Settling.{asked_by, reported}
 use Rattle.verdict.specs.Heard.{Store, asks_by, Stored}
 use Rattle.verdict.specs.Tables.{Sized}
 
--- the arrays that are worked in, of any contents
-pub record Working (rows alike held paths firsts s rs path : List ℕ) : Type 0 where
-  pub rows_long : type_words * max_types ≤ length rows
-  pub alike_long : max_types ≤ length alike
-  pub held_long : max_types ≤ length held
-  pub paths_long : max_expressions ≤ length paths
-  pub firsts_long : max_statements ≤ length firsts
-  pub store : Store s
-  pub slots_long : stack_slot + 1 + (3 * max_items + 12) ≤ length rs
-  pub path_long : max_expressions + 2 ≤ length path
-
 -- what is asked stands in the store
-pub record Asked (bytes t : List ℕ) (f : ℕ) (rows alike held paths firsts s rs path : List ℕ) (g v : ℕ) : Type 0 where
+pub record Asked (bytes t : List ℕ) (f : ℕ) (s : List ℕ) (g v : ℕ) : Type 0 where
   pub was_read : WasRead bytes t
-  pub working : Working rows alike held paths firsts s rs path
   pub stored : Stored (module_of bytes t) s f g v
 
 -- the tables have as many words as are filled

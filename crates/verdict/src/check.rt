@@ -8,21 +8,18 @@ ghost use Rattle.checking.specs.Check.{meaning_by, answer_to};
 ghost use Rattle.checking.specs.Word.{said};
 ghost use Rattle.state.specs.Ready.{WasRead};
 
+use crate::scratch::{PATH, Scratch};
 use crate::verdict::check_read;
 use access::file::File;
 use checking::words::Verdict;
 use context::remove::TYPE_WORDS;
 use field::limits::{MAX_EXPRESSIONS, MAX_STATEMENTS, MAX_TYPES};
-use memory::layout::{CELLS, SLOTS};
-
-// A path has an index for each expression, and two more.
-const PATH: usize = MAX_EXPRESSIONS + 2;
+use memory::parts::Parts;
 
 // A walk's memory, of whatever contents, is room for the check.
 pub fn check_in(
     file: &File,
-    cells: &mut [u32; CELLS],
-    slots: &mut [u32; SLOTS],
+    parts: &mut Parts,
     request: &[u8],
     report: &[u8],
     context: &[u8],
@@ -30,24 +27,13 @@ pub fn check_in(
     requires { WasRead file.now.bytes file.now.t }
     ensures { said result ≡ answer_to (meaning_by (module_of file.now.bytes file.now.t) report.now (request_of request.now) (context_of context.now)) }
 {
-    let mut rows: [u32; TYPE_WORDS * MAX_TYPES] = [0; TYPE_WORDS * MAX_TYPES];
-    let mut alike: [u32; MAX_TYPES] = [0; MAX_TYPES];
-    let mut held: [u32; MAX_TYPES] = [0; MAX_TYPES];
-    let mut paths: [u32; MAX_EXPRESSIONS] = [0; MAX_EXPRESSIONS];
-    let mut firsts: [u32; MAX_STATEMENTS] = [0; MAX_STATEMENTS];
-    let mut path: [u32; PATH] = [0; PATH];
-    check_read(
-        file,
-        &mut rows,
-        &mut alike,
-        &mut held,
-        &mut paths,
-        &mut firsts,
-        cells,
-        slots,
-        &mut path,
-        request,
-        report,
-        context,
-    )
+    let mut scratch = Scratch {
+        rows: [0; TYPE_WORDS * MAX_TYPES],
+        alike: [0; MAX_TYPES],
+        held: [0; MAX_TYPES],
+        paths: [0; MAX_EXPRESSIONS],
+        firsts: [0; MAX_STATEMENTS],
+        path: [0; PATH],
+    };
+    check_read(file, parts, &mut scratch, request, report, context)
 }

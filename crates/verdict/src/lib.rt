@@ -4,5 +4,6 @@
 pub mod check;
 pub mod heard;
 pub mod judged;
+pub mod scratch;
 pub mod tables;
 pub mod verdict;

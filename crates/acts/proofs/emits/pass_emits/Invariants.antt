@@ -6,4 +6,4 @@ use Rattle.acts.proofs.Emitting.{Emitted}
 use Rattle.acts.proofs.emits.pass_emits.Given as goal
 
 abbrev pub invariant-loop-k : goal.invariant-loop-k
-invariant-loop-k l = Emitted (scope_at l.subject.file.now.bytes l.subject.file.now.t l.subject.f.0) l.marks l.l l.first.0 l.count l.k l.initial.cells l.initial.roots l.n l.initial.q l.cells l.roots l.q × (length l.path ≡ length l.initial.path)
+invariant-loop-k l = Emitted (scope_at l.subject.file.now.bytes l.subject.file.now.t l.subject.f.0) l.marks l.l l.first.0 l.count l.k l.initial.parts.cells l.initial.parts.slots l.n l.initial.q l.parts.cells l.parts.slots l.q × (length l.path ≡ length l.initial.path)

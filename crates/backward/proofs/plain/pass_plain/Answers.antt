@@ -6,8 +6,8 @@ use native.Mathlib.Omega.{arith}
 use borrow.Author.Rules.{rules}
 use Rattle.backward.proofs.plain.pass_plain.Goals as goal
 
-pub bounds-firsts-s : goal.bounds-firsts-s
-bounds-firsts-s c = begin_there c.requires.course c.requires.row_in
+pub bounds-marked-s : goal.bounds-marked-s
+bounds-marked-s c = begin_there c.requires.course c.requires.row_in
 
 pub overflow_cast-s : goal.overflow_cast-s
 overflow_cast-s c = omega (arith, statement_small c.requires.row_in.statement)
@@ -29,7 +29,7 @@ pass_store-requires c =
 
 pub returns-in-Ok-Store : goal.returns-in-Ok-Store
 returns-in-Ok-Store c =
-    passes_store c.requires.course c.requires.row_in _ (search rules) c.expression_operand-pointer.ensures c.expression_operand-value.ensures c.mark_at-marked.ensures c.pass_store.ensures
+    passes_store c.requires.course c.requires.row_in _ (search rules) c.expression_operand-pointer.ensures c.expression_operand-value.ensures c.mark_at-is_marked.ensures c.pass_store.ensures
 
 pub pass_leaving-requires : goal.pass_leaving-requires
 pass_leaving-requires c =

@@ -18,8 +18,8 @@ pub weigh_total-more-requires : goal.weigh_total-more-requires
 weigh_total-more-requires c =
     let A = c.requires.adding in
     elim c.if-totals-f-eq0.branch [
-      | then-totals-f-eq0 w ↦ rw (w.cells-is, w.slots-is) (weighs_again A (kept_made A w.keep_total.ensures) (kept_small A))
-      | else-totals-f-eq0+in_default+else-join_total w ↦ rw (w.cells-is, w.slots-is) (weighs_again A w.join_total.ensures.made (later_small A))
+      | then-totals-f-eq0 w ↦ rw (w.parts-is) (weighs_again A (kept_made A w.keep_total.ensures) (kept_small A))
+      | else-totals-f-eq0+in_default+else-join_total w ↦ rw (w.parts-is) (weighs_again A w.join_total.ensures.made (later_small A))
     ]
 
 pub overflow_add-result : goal.overflow_add-result
@@ -27,8 +27,8 @@ overflow_add-result c =
     let A = c.requires.adding in
     let less = c.weigh_total-less.ensures in
     elim c.if-totals-f-eq0.branch [
-      | then-totals-f-eq0 w ↦ omega (arith, sum_fits A (kept_made A w.keep_total.ensures) (kept_small A) less (rw (w.cells-is, w.slots-is) at c.weigh_total-more.ensures))
-      | else-totals-f-eq0+in_default+else-join_total w ↦ omega (arith, sum_fits A w.join_total.ensures.made (later_small A) less (rw (w.cells-is, w.slots-is) at c.weigh_total-more.ensures))
+      | then-totals-f-eq0 w ↦ omega (arith, sum_fits A (kept_made A w.keep_total.ensures) (kept_small A) less (rw (w.parts-is) at c.weigh_total-more.ensures))
+      | else-totals-f-eq0+in_default+else-join_total w ↦ omega (arith, sum_fits A w.join_total.ensures.made (later_small A) less (rw (w.parts-is) at c.weigh_total-more.ensures))
     ]
 
 pub returns : goal.returns
@@ -37,11 +37,11 @@ returns c =
     let less = c.weigh_total-less.ensures in
     elim c.if-totals-f-eq0.branch [
       | then-totals-f-eq0 w ↦
-          let more = rw (w.cells-is, w.slots-is) at c.weigh_total-more.ensures in
-          rw (w.cells-is, w.slots-is, w.totals-is)
+          let more = rw (w.parts-is) at c.weigh_total-more.ensures in
+          rw (w.parts-is, w.totals-is)
           (total_first _ _ w.if-totals-f-eq0.true (first_is A w.keep_total.ensures less more w.keep_marks.ensures))
       | else-totals-f-eq0+in_default+else-join_total w ↦
-          let more = rw (w.cells-is, w.slots-is) at c.weigh_total-more.ensures in
-          rw (w.cells-is, w.slots-is, w.totals-is)
+          let more = rw (w.parts-is) at c.weigh_total-more.ensures in
+          rw (w.parts-is, w.totals-is)
           (total_later _ _ w.if-totals-f-eq0.false w.first_ray.result w.first_ray.ensures w.in_default.is (later_is A w.join_total.ensures w.if-join_total.false less more w.add_marks.ensures))
     ]

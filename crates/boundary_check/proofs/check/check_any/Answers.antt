@@ -6,7 +6,7 @@ use borrow.Author.Rules.{rules}
 use Rattle.boundary_check.proofs.check.check_any.Goals as goal
 
 pub read_file-requires : goal.read_file-requires
-read_file-requires c = (search rules, (search rules, search rules))
+read_file-requires c = search rules
 
 pub returns-in-Err : goal.returns-in-Err
 returns-in-Err c =

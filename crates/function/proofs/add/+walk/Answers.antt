@@ -63,7 +63,7 @@ add_call-begin_call-begun-requires t c = call_begins c.requires.arms c.requires.
 
 pub add_call-overflow_add-at : goal.add_call-overflow_add-at
 add_call-overflow_add-at t c =
-    omega (arith, call_high c.requires.arms c.requires.kind_value, c.begin_call-arg-3-1.given.0.1)
+    omega (arith, call_high c.requires.arms c.requires.kind_value, c.args.space.now.parts.slots_long)
 
 pub add_call-overflow_sub-others : goal.add_call-overflow_sub-others
 add_call-overflow_sub-others t c =
@@ -71,7 +71,7 @@ add_call-overflow_sub-others t c =
 
 pub add_call-add_function-requires : goal.add_call-add_function-requires
 add_call-add_function-requires t c =
-    (omega (arith, c.decreases, callee_below c.requires.arms c.requires.kind_value, c.function_operand-g.ensures), (function_enters c.requires.arms c.requires.kind_value c.function_operand-g.ensures c.begin_call-begun.ensures, omega (arith, call_high c.requires.arms c.requires.kind_value, c.begin_call-arg-3-1.given.0.1)))
+    (omega (arith, c.decreases, callee_below c.requires.arms c.requires.kind_value, c.function_operand-g.ensures), (function_enters c.requires.arms c.requires.kind_value c.function_operand-g.ensures c.begin_call-begun.ensures, omega (arith, call_high c.requires.arms c.requires.kind_value, c.args.space.now.parts.slots_long)))
 
 pub add_call-overflow_add-a : goal.add_call-overflow_add-a
 add_call-overflow_add-a t c =
@@ -83,7 +83,7 @@ add_call-leave_call-sum-requires t c =
 
 pub add_call-return_call-requires : goal.add_call-return_call-requires
 add_call-return_call-requires t c =
-    call_returns c.requires.arms c.requires.kind_value c.function_operand-g.ensures c.begin_call-begun.ensures c.add_function.ensures c.in_ok-a.was c.leave_call-sum.ensures
+    rw c.leave_call-sum.ensures.cells_same (call_returns c.requires.arms c.requires.kind_value c.function_operand-g.ensures c.begin_call-begun.ensures c.add_function.ensures c.in_ok-a.was c.leave_call-sum.ensures.left)
 
 pub add_call-returns-in_err-a : goal.add_call-returns-in_err-a
 add_call-returns-in_err-a t c =
@@ -92,7 +92,7 @@ add_call-returns-in_err-a t c =
 
 pub add_call-returns : goal.add_call-returns
 add_call-returns t c =
-    call_ended c.requires.arms c.requires.kind_value c.function_operand-g.ensures c.begin_call-begun.ensures c.add_function.ensures c.in_ok-a.was c.leave_call-sum.ensures c.return_call.ensures
+    call_ended c.requires.arms c.requires.kind_value c.function_operand-g.ensures c.begin_call-begun.ensures c.add_function.ensures c.in_ok-a.was c.leave_call-sum.ensures.left (rw c.leave_call-sum.ensures.cells_same at c.return_call.ensures)
 
 pub add_function-overflow_add-at : goal.add_function-overflow_add-at
 add_function-overflow_add-at t c = omega (arith, c.requires.base_bound)

@@ -4,4 +4,4 @@ use Rattle.memory.specs.Memory.{read, sum_from}
 use Rattle.memory.proofs.memory.weigh.Given as goal
 
 abbrev pub invariant-loop-k : goal.invariant-loop-k
-invariant-loop-k l = l.sum ≡ sum_from (read l.cells l.slots) l.a l.k
+invariant-loop-k l = l.sum ≡ sum_from (read l.parts.cells l.parts.slots) l.a l.k

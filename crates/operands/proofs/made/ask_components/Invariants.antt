@@ -9,4 +9,4 @@ use Rattle.operands.specs.AsksAll.{wanted_in, AsksAll}
 use Rattle.operands.proofs.made.ask_components.Given as goal
 
 abbrev pub invariant-loop-k : goal.invariant-loop-k
-invariant-loop-k l = AsksAll (scope_at l.file.bytes l.file.t l.f.0) (drop l.k (ask_components (components (operand_at l.file.bytes l.row)) 0 (wanted_in l.initial.cells l.initial.roots l.n))) l.initial.cells l.initial.roots l.n l.cells l.roots true
+invariant-loop-k l = AsksAll (scope_at l.file.bytes l.file.t l.f.0) (drop l.k (ask_components (components (operand_at l.file.bytes l.row)) 0 (wanted_in l.initial.parts.cells l.initial.parts.slots l.n))) l.initial.parts.cells l.initial.parts.slots l.n l.parts.cells l.parts.slots true

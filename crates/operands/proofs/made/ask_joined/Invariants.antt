@@ -10,4 +10,4 @@ use Rattle.operands.specs.AsksAll.{AsksAll}
 use Rattle.operands.proofs.made.ask_joined.Given as goal
 
 abbrev pub invariant-loop-k : goal.invariant-loop-k
-invariant-loop-k l = AsksAll (scope_at l.file.bytes l.file.t l.f.0) (drop l.k (map ask_whole (components (operand_at l.file.bytes l.row)))) l.initial.cells l.initial.roots l.n l.cells l.roots true
+invariant-loop-k l = AsksAll (scope_at l.file.bytes l.file.t l.f.0) (drop l.k (map ask_whole (components (operand_at l.file.bytes l.row)))) l.initial.parts.cells l.initial.parts.slots l.n l.parts.cells l.parts.slots true

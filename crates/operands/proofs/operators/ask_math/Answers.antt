@@ -1,7 +1,14 @@
 -- `operands::operators::ask_math` meets its contract.
 use Rattle.access.specs.Access.{operand_at}
-use Rattle.operands.proofs.Absent.{math_full, math_two, math_full_2, math_third, math_three, math_full_3, math_last, math_all}
+use Rattle.operands.proofs.Absent.{math_first, math_second, math_full, math_two, math_full_2, math_third, math_three, math_full_3, math_last, math_all}
 use Rattle.operands.proofs.operators.ask_math.Goals as goal
+
+pub ask_present-requires : goal.ask_present-requires
+ask_present-requires c = math_first (operand_at c.args.file.now.bytes c.args.row) c.requires
+
+pub ask_present-requires-2 : goal.ask_present-requires-2
+ask_present-requires-2 c =
+    math_second (operand_at c.args.file.now.bytes c.args.row) c.requires c.ask_present.ensures c.if-not-ask_present.false
 
 pub returns-then-not-ask_present : goal.returns-then-not-ask_present
 returns-then-not-ask_present c =

@@ -10,7 +10,7 @@ read_map-requires c =
 
 pub returns-in_default : goal.returns-in_default
 returns-in_default c =
-    body_no_globals c.args.file.now.bytes c.args.file.now.t c.requires.has_totals.0.was_read c.globals-n.ensures c.args.slots.now c.args.totals.now c.read_map.ensures c.in_default.is
+    body_no_globals c.args.file.now.bytes c.args.file.now.t c.requires.has_totals.0.was_read c.globals-n.ensures c.args.parts.now.slots c.args.totals.now c.read_map.ensures c.in_default.is
 
 pub entries-count-requires : goal.entries-count-requires
 entries-count-requires c =
@@ -18,21 +18,21 @@ entries-count-requires c =
 
 pub returns-then-count-gt-MAX_PIECES : goal.returns-then-count-gt-MAX_PIECES
 returns-then-count-gt-MAX_PIECES c =
-    body_many_globals c.args.file.now.bytes c.args.file.now.t c.requires.has_totals.0.was_read c.globals-n.ensures c.args.slots.now c.args.totals.now c.read_map.ensures c.in-Some.is c.entries-count.ensures c.if-count-gt-MAX_PIECES.true
+    body_many_globals c.args.file.now.bytes c.args.file.now.t c.requires.has_totals.0.was_read c.globals-n.ensures c.args.parts.now.slots c.args.totals.now c.read_map.ensures c.in-Some.is c.entries-count.ensures c.if-count-gt-MAX_PIECES.true
 
 pub read_functions-requires : goal.read_functions-requires
 read_functions-requires c =
-    let r = body_room c.args.file.now.bytes c.args.file.now.t c.requires.has_totals.0.was_read c.globals-n.ensures c.args.slots.now c.args.totals.now c.read_map.ensures c.in-Some.is c.entries-count.ensures (omega (arith, c.if-count-gt-MAX_PIECES.false)) c.requires.has_totals.0.memory c.requires.in_bounds.1 in
-    record { has_totals = (body_has c.args.file.now.bytes c.args.file.now.t c.requires.has_totals.0.was_read c.globals-n.ensures c.args.slots.now c.args.totals.now c.read_map.ensures c.in-Some.is c.entries-count.ensures (omega (arith, c.if-count-gt-MAX_PIECES.false)) c.requires.has_totals.0.memory c.requires.has_totals.0, body_none c.args.file.now.bytes c.args.file.now.t c.requires.has_totals.0.was_read c.globals-n.ensures c.args.slots.now c.args.totals.now c.read_map.ensures c.in-Some.is c.entries-count.ensures (omega (arith, c.if-count-gt-MAX_PIECES.false)) c.requires.has_totals.0.memory c.requires.has_totals.1); at_in_bounds = (r.0, r.1, omega (arith, c.if-count-gt-MAX_PIECES.false)) }
+    let r = body_room c.args.file.now.bytes c.args.file.now.t c.requires.has_totals.0.was_read c.globals-n.ensures c.args.parts.now.slots c.args.totals.now c.read_map.ensures c.in-Some.is c.entries-count.ensures (omega (arith, c.if-count-gt-MAX_PIECES.false)) c.requires.has_totals.0.memory c.requires.in_bounds.1 in
+    record { has_totals = (body_has c.args.file.now.bytes c.args.file.now.t c.requires.has_totals.0.was_read c.globals-n.ensures c.args.parts.now.slots c.args.totals.now c.read_map.ensures c.in-Some.is c.entries-count.ensures (omega (arith, c.if-count-gt-MAX_PIECES.false)) c.requires.has_totals.0.memory c.requires.has_totals.0, body_none c.args.file.now.bytes c.args.file.now.t c.requires.has_totals.0.was_read c.globals-n.ensures c.args.parts.now.slots c.args.totals.now c.read_map.ensures c.in-Some.is c.entries-count.ensures (omega (arith, c.if-count-gt-MAX_PIECES.false)) c.requires.has_totals.0.memory c.requires.has_totals.1); at_in_bounds = (r.0, r.1, omega (arith, c.if-count-gt-MAX_PIECES.false)) }
 
 pub returns-in_default-read_functions : goal.returns-in_default-read_functions
 returns-in_default-read_functions c =
-    body_no_functions c.args.file.now.bytes c.args.file.now.t c.requires.has_totals.0.was_read c.globals-n.ensures c.args.slots.now c.args.totals.now c.read_map.ensures c.in-Some.is c.entries-count.ensures (omega (arith, c.if-count-gt-MAX_PIECES.false)) c.requires.has_totals.0.memory c.read_functions.ensures c.in_default-read_functions.is
+    body_no_functions c.args.file.now.bytes c.args.file.now.t c.requires.has_totals.0.was_read c.globals-n.ensures c.args.parts.now.slots c.args.totals.now c.read_map.ensures c.in-Some.is c.entries-count.ensures (omega (arith, c.if-count-gt-MAX_PIECES.false)) c.requires.has_totals.0.memory c.read_functions.ensures c.in_default-read_functions.is
 
 pub ends-requires : goal.ends-requires
 ends-requires c =
-    body_inside c.args.file.now.bytes c.args.file.now.t c.requires.has_totals.0.was_read c.globals-n.ensures c.args.slots.now c.args.totals.now c.read_map.ensures c.in-Some.is c.entries-count.ensures (omega (arith, c.if-count-gt-MAX_PIECES.false)) c.requires.has_totals.0.memory c.read_functions.ensures c.in-Some-read_functions.is
+    body_inside c.args.file.now.bytes c.args.file.now.t c.requires.has_totals.0.was_read c.globals-n.ensures c.args.parts.now.slots c.args.totals.now c.read_map.ensures c.in-Some.is c.entries-count.ensures (omega (arith, c.if-count-gt-MAX_PIECES.false)) c.requires.has_totals.0.memory c.read_functions.ensures c.in-Some-read_functions.is
 
 pub returns : goal.returns
 returns c =
-    body_ends c.args.file.now.bytes c.args.file.now.t c.requires.has_totals.0.was_read c.globals-n.ensures c.args.slots.now c.args.totals.now c.read_map.ensures c.in-Some.is c.entries-count.ensures (omega (arith, c.if-count-gt-MAX_PIECES.false)) c.requires.has_totals.0.memory c.read_functions.ensures c.in-Some-read_functions.is c.ends.ensures
+    body_ends c.args.file.now.bytes c.args.file.now.t c.requires.has_totals.0.was_read c.globals-n.ensures c.args.parts.now.slots c.args.totals.now c.read_map.ensures c.in-Some.is c.entries-count.ensures (omega (arith, c.if-count-gt-MAX_PIECES.false)) c.requires.has_totals.0.memory c.read_functions.ensures c.in-Some-read_functions.is c.ends.ensures

@@ -15,7 +15,7 @@ clear_marks-requires c =
 
 pub weigh_totals-sum-requires : goal.weigh_totals-sum-requires
 weigh_totals-sum-requires c =
-    weighs c.requires c.args.report c.args.request.now c.args.pruner.now c.functions.ensures c.globals.ensures c.load_request.ensures c.in_ok-function.was c.read_pruner.ensures (not-false c.read_pruner.result c.if-not-read_pruner.false-raw) c.tidy.ensures c.load_request.auto.slots
+    weighs c.requires c.args.report c.args.request.now c.args.pruner.now c.functions.ensures c.globals.ensures c.load_request.ensures c.in_ok-function.was c.read_pruner.ensures (not-false c.read_pruner.result c.if-not-read_pruner.false-raw) c.tidy.ensures
 
 pub returns-in_err-function : goal.returns-in_err-function
 returns-in_err-function c =
@@ -23,12 +23,11 @@ returns-in_err-function c =
 
 pub returns : goal.returns
 returns c =
-    begins c.requires c.args.report c.args.request.now c.args.pruner.now c.functions.ensures c.globals.ensures c.load_request.ensures c.in_ok-function.was c.read_pruner.ensures (not-false c.read_pruner.result c.if-not-read_pruner.false-raw) c.tidy.ensures c.load_request.auto.slots c.clear_marks.ensures c.weigh_totals-sum.ensures
+    begins c.requires c.args.report c.args.request.now c.args.pruner.now c.functions.ensures c.globals.ensures c.load_request.ensures c.in_ok-function.was c.read_pruner.ensures (not-false c.read_pruner.result c.if-not-read_pruner.false-raw) c.tidy.ensures c.clear_marks.ensures c.weigh_totals-sum.ensures
 
-pub load_request-requires-clause-slot_count_in_bounds : goal.load_request-requires-clause-slot_count_in_bounds
-load_request-requires-clause-slot_count_in_bounds c =
-    (c.requires.slots_long, omega (arith, few_globals c.requires, c.globals.ensures))
+pub load_request-requires : goal.load_request-requires
+load_request-requires c = omega (arith, few_globals c.requires, c.globals.ensures)
 
 pub tidy-requires-clause-slots_bound : goal.tidy-requires-clause-slots_bound
 tidy-requires-clause-slots_bound c =
-    (tidy_asks c.requires c.args.report c.args.request.now c.args.pruner.now c.functions.ensures c.globals.ensures c.load_request.ensures c.in_ok-function.was c.read_pruner.ensures (not-false c.read_pruner.result c.if-not-read_pruner.false-raw) c.load_request.auto.slots).1
+    (tidy_asks c.requires c.args.report c.args.request.now c.args.pruner.now c.functions.ensures c.globals.ensures c.load_request.ensures c.in_ok-function.was c.read_pruner.ensures (not-false c.read_pruner.result c.if-not-read_pruner.false-raw)).1

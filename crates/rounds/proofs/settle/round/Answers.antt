@@ -9,4 +9,4 @@ pass_around-requires c =
 
 pub returns : goal.returns
 returns c =
-    rounded c.args.marks.now (omega (arith, c.body_block-b.ensures)) c.pass_around.ensures
+    rounded c.args.marked.now.marks.now (omega (arith, c.body_block-b.ensures)) c.pass_around.ensures

@@ -8,18 +8,18 @@ use Rattle.rounds.proofs.settle.settle_rounds.Goals as goal
 
 pub returns-then-q : goal.returns-then-q
 returns-then-q c =
-    turning_full c.args.marks.now c.loop.invariant (omega (arith, c.loop-test.true)) c.round-q.ensures _ c.if-q.true
+    turning_full c.args.marked.now.marks.now c.loop.invariant (omega (arith, c.loop-test.true)) c.round-q.ensures _ c.if-q.true
 
 pub returns-then-q-2 : goal.returns-then-q-2
 returns-then-q-2 c =
-    turning_last c.args.marks.now c.loop.invariant (omega (arith, c.loop-test.true)) c.round-q.ensures _ c.if-q.false c.if-q-2.true c.answer.ensures
+    turning_last c.args.marked.now.marks.now c.loop.invariant (omega (arith, c.loop-test.true)) c.round-q.ensures _ c.if-q.false c.if-q-2.true c.answer.ensures
 
 pub loop-preserved : goal.loop-preserved
 loop-preserved c =
     let less : max_rounds - c.loop.counter - 1 ≡ max_rounds - (c.loop.counter + 1) = omega arith in
     rw (← less)
-    (turning_again c.args.marks.now c.loop.invariant (omega (arith, c.loop-test.true)) c.round-q.ensures c.if-q.false c.if-q-2.false c.renew.ensures)
+    (turning_again c.args.marked.now.marks.now c.loop.invariant (omega (arith, c.loop-test.true)) c.round-q.ensures c.if-q.false c.if-q-2.false c.renew.ensures)
 
 pub returns : goal.returns
 returns c =
-    turning_none c.args.marks.now c.loop.invariant _ (omega (arith, c.loop-test.false))
+    turning_none c.args.marked.now.marks.now c.loop.invariant _ (omega (arith, c.loop-test.false))

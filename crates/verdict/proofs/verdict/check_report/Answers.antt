@@ -9,19 +9,19 @@ returns-in_default c =
 
 pub slice_bounds-check_marks-end : goal.slice_bounds-check_marks-end
 slice_bounds-check_marks-end c =
-    omega (arith, few_types c.requires c.types-n.ensures, c.requires.working.rows_long)
+    omega (arith, few_types c.requires c.types-n.ensures)
 
 pub slice_bounds-check_marks-end-2 : goal.slice_bounds-check_marks-end-2
 slice_bounds-check_marks-end-2 c =
-    omega (arith, few_types c.requires c.types-n.ensures, c.requires.working.alike_long)
+    omega (arith, few_types c.requires c.types-n.ensures)
 
 pub slice_bounds-check_marks-end-3 : goal.slice_bounds-check_marks-end-3
 slice_bounds-check_marks-end-3 c =
-    omega (arith, few_types c.requires c.types-n.ensures, c.requires.working.held_long)
+    omega (arith, few_types c.requires c.types-n.ensures)
 
 pub slice_bounds-check_marks-end-4 : goal.slice_bounds-check_marks-end-4
 slice_bounds-check_marks-end-4 c =
-    omega (arith, few_expressions c.requires c.expressions-e.ensures, c.requires.working.paths_long)
+    omega (arith, few_expressions c.requires c.expressions-e.ensures)
 
 pub returns : goal.returns
 returns c =

@@ -1,0 +1,15 @@
+// The parts that a walk, or a check, holds.
+ghost use Rattle.std.specs.Prelude.{◌≡◌, length};
+ghost use Rattle.memory.specs.Layout.{slot_count, store_size};
+
+use crate::layout::{CELLS, SLOTS};
+
+// The cells of their pieces, and the slots that name them. How many there are is a fact of the value, so that sums of slot numbers are known to fit.
+// Stays: both are fixed arrays, since nothing here has a heap; a piece and a slot go by their number.
+#[derive(Drop)]
+pub struct Parts {
+    pub cells: [u32; CELLS],
+    pub slots: [u32; SLOTS],
+    pub ghost cells_long: { length cells ≡ store_size },
+    pub ghost slots_long: { length slots ≡ slot_count },
+}
