@@ -5,4 +5,4 @@ use Rattle.memory.specs.Layout.{slot_count, store_size}
 use Rattle.report.proofs.report.Goals as goal
 
 pub invariant_of-space : goal.invariant_of-space
-invariant_of-space c = record { cells_long = length-replicate {A = ℕ} store_size 0; slots_long = length-replicate {A = ℕ} slot_count 0 }
+invariant_of-space g c = record { cells_long = length-replicate {A = ℕ} store_size 0; slots_long = length-replicate {A = ℕ} slot_count 0 }
