@@ -7,6 +7,8 @@ use module::tables::{Row, row_at};
 use std::marker::Model;
 
 // Only this crate looks inside.
+// Stays: a function goes by its handle beside the file, as in naga. A struct of both would be made anew wherever a handle is followed, and a walk has the
+// handle in its frame already.
 #[derive(Drop)]
 pub struct File<'a> {
     pub(crate) bytes: &'a [u8],

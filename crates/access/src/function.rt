@@ -11,40 +11,35 @@ use module::record::body;
 use module::tables::{ITEMS, row_at, word};
 
 impl<'a> File<'a> {
-    // Stays: a function for each count of a row. One over a choice of the field asks for that choice at each call, and is no plainer.
+    // Stays: five counts that `row` has too, but its contract speaks of the tables, and theirs of the module, as the callers' do.
     pub fn arguments(&self, f: FunctionHandle) -> u32
         ensures { result ≡ length (function_of self.now.bytes self.now.t f.0).arguments }
     {
-        let row = row_at(self.t, f);
-        row.arguments
+        self.row(f).arguments
     }
 
     pub fn locals(&self, f: FunctionHandle) -> u32
         ensures { result ≡ length (function_of self.now.bytes self.now.t f.0).locals }
     {
-        let row = row_at(self.t, f);
-        row.locals
+        self.row(f).locals
     }
 
     pub fn expressions(&self, f: FunctionHandle) -> u32
         ensures { result ≡ length (function_of self.now.bytes self.now.t f.0).expressions }
     {
-        let row = row_at(self.t, f);
-        row.expressions
+        self.row(f).expressions
     }
 
     pub fn statements(&self, f: FunctionHandle) -> u32
         ensures { result ≡ length (function_of self.now.bytes self.now.t f.0).statements }
     {
-        let row = row_at(self.t, f);
-        row.statements
+        self.row(f).statements
     }
 
     pub fn blocks(&self, f: FunctionHandle) -> u32
         ensures { result ≡ length (function_of self.now.bytes self.now.t f.0).blocks }
     {
-        let row = row_at(self.t, f);
-        row.blocks
+        self.row(f).blocks
     }
 
     // The body is the last block.

@@ -10,6 +10,8 @@ use module::record::body;
 use module::tables::{ITEMS, row_at, word};
 
 // The kind of a record, its place, and how many fields stand before its operands.
+// Stays: the kind is its number, as in the file and in the definitions. The bytes may be any, so a decoded one would be a Result that each clause about
+// `row.kind` and each `match` unpacks; where code looks at it, `try_from` stands there.
 #[derive(Clone, Copy, Debug, PartialEq, Eq)]
 pub struct Kinded {
     pub kind: u16,

@@ -16,7 +16,7 @@ use Rattle.pass.specs.Pass.{Passed, ◌>>=◌, point, pass_inside}
 use Rattle.hold.specs.Hold.{in_slot}
 use Rattle.standing.specs.Slots.{Ready}
 use Rattle.standing.specs.Standing.{setting_of, Targets, Walked, Noted, inside}
-use Rattle.standing.specs.declared.passing.Passing.{Passing}
+use Rattle.standing.specs.Passing.{Passing}
 use Rattle.standing.specs.Exits.{Exits}
 use Rattle.standing.proofs.Walks.{walked_full, walked_nop, walked_seq}
 use Rattle.acts.specs.Marks.{ByMark, EmitsPassed}

@@ -16,7 +16,7 @@ use Rattle.hold.specs.Hold.{in_slot}
 use Rattle.quiet.specs.Acts.{Needing, Idle}
 use Rattle.standing.specs.Slots.{Ready}
 use Rattle.standing.specs.Standing.{Targets, Walked, Stepped, Blames, inside, step}
-use Rattle.standing.specs.declared.passing.Passing.{Passing}
+use Rattle.standing.specs.Passing.{Passing}
 use Rattle.standing.specs.Exits.{Exits}
 use Rattle.standing.proofs.Walks.{walked_step, step-full}
 use Rattle.standing.proofs.Taken.{walked_obeys, broken_full, walked_broken}

@@ -8,7 +8,7 @@ use Rattle.judge.specs.Given.{scope_at}
 use Rattle.standing.specs.Slots.{Ready}
 use Rattle.standing.specs.Standing.{Targets, inside, Walked}
 use Rattle.standing.specs.World.{World}
-use Rattle.standing.specs.declared.passing.Passing.{Passing}
+use Rattle.standing.specs.Passing.{Passing}
 use Rattle.standing.specs.Exits.{Exits}
 use Rattle.judge.specs.declared.subject.Subject.{Subject}
 

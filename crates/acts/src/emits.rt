@@ -5,6 +5,8 @@ ghost use Rattle.clearance.specs.Tree.{emit};
 ghost use Rattle.acts.specs.Acts.{ActGivenOf, Acted};
 ghost use Rattle.acts.specs.Marks.{PassGivenOf, ByMark, EmitsPassed};
 ghost use Rattle.judge.specs.Subject.{scope_of, function_in};
+ghost use Rattle.standing.specs.Passing.{going, outcome};
+ghost use Rattle.hold.specs.Fits.{fits};
 
 use crate::marks::mark_at;
 use crate::take::take_out;
@@ -16,7 +18,8 @@ use module::handles::ExpressionHandle;
 use operands::expression::ask_operands;
 use place::slots::evaluated_path;
 use quiet::acts::{emit_idle, emit_overlap, is_some};
-use standing::passing::{Passing, filled};
+use quiet::need::Need;
+use standing::passing::Passing;
 
 // The needs before an emit of the expression e. Its operands are lent as much of the path as the function's pointers take. Says whether the needs are within the bound.
 pub fn act_emit(
@@ -25,21 +28,25 @@ pub fn act_emit(
     path: &mut [u32],
     n: usize,
     e: ExpressionHandle,
-) -> bool
+) -> Option<()>
     requires act_given { ActGivenOf subject.now parts.old.cells parts.old.slots path.old n }
     requires e_in_bounds { e.0 < length (function_in subject.now).expressions }
-    ensures { Acted (scope_of subject.now) (emit e.0) parts.old.cells parts.old.slots n parts.new.cells parts.new.slots path.old path.new result }
+    ensures { Acted (scope_of subject.now) (emit e.0) parts.old.cells parts.old.slots n parts.new.cells parts.new.slots path.old path.new (fits result) }
 {
     let last = n - 1;
     let left = n + 1;
     let asked = n + 2;
-    let hand = parts.slots[last];
-    let a = emit_overlap(subject, &parts.cells, path, hand, e);
+    let need = Need {
+        subject: &*subject,
+        cells: &parts.cells,
+        piece: parts.slots[last],
+    };
+    let a = emit_overlap(&need, path, e);
     if !is_some(a) {
-        return true;
+        return Some(());
     }
     evaluated_path(path, e);
-    if !take_out(
+    take_out(
         subject.file,
         subject.f,
         subject.types,
@@ -47,16 +54,12 @@ pub fn act_emit(
         n,
         &path[0..2],
         a,
-    ) {
-        return false;
-    }
+    )?;
     let size = (subject.file.expressions(subject.f) as usize) + 2;
     let part = &mut path[..size];
-    if !ask_operands(subject, parts, part, asked, e) {
-        return false;
-    }
+    ask_operands(subject, parts, part, asked, e)?;
     copy(&mut parts.slots, left, last);
-    true
+    Some(())
 }
 
 // Stays: a store does the same around its own act. One function over both would take the act apart twice, each time in one more function with all these parameters.
@@ -70,29 +73,29 @@ fn pass_emit(
     l: u16,
     marked: bool,
     e: ExpressionHandle,
-) -> Passing
-    requires pass_given { PassGivenOf subject.now parts.old.cells parts.old.slots path.old n p l }
+) -> Option<Passing>
+    requires pass_given { PassGivenOf subject.now parts.old.cells parts.old.slots path.old n (going p) l }
     requires e_in_bounds { e.0 < length (function_in subject.now).expressions }
-    ensures { ByMark (scope_of subject.now) l marked (emit e.0) parts.old.cells parts.old.slots n p parts.new.cells parts.new.slots path.old path.new result }
+    ensures { ByMark (scope_of subject.now) l marked (emit e.0) parts.old.cells parts.old.slots n (going p) parts.new.cells parts.new.slots path.old path.new (outcome result) }
 {
     let last = n - 1;
     let above = n + 1;
     if marked {
-        if act_emit(subject, parts, path, n, e) {
-            return p;
-        }
-        return filled();
+        act_emit(subject, parts, path, n, e)?;
+        return Some(p);
     }
-    let hand = parts.slots[last];
-    if emit_idle(subject, &parts.cells, path, hand, e) {
-        return p;
+    let need = Need {
+        subject: &*subject,
+        cells: &parts.cells,
+        piece: parts.slots[last],
+    };
+    if emit_idle(&need, path, e) {
+        return Some(p);
     }
     copy(&mut parts.slots, last, n);
-    if !act_emit(subject, parts, path, above, e) {
-        return filled();
-    }
+    act_emit(subject, parts, path, above, e)?;
     copy(&mut parts.slots, n, last);
-    blame(l, p)
+    Some(blame(l, p))
 }
 
 // The statement l, an emit of the expressions from the first to the last, whose marks begin at `begin`, in a pass.
@@ -107,11 +110,11 @@ pub fn pass_emits(
     begin: u32,
     first: ExpressionHandle,
     last: ExpressionHandle,
-) -> Passing
-    requires pass_given { PassGivenOf subject.now parts.old.cells parts.old.slots path.old n p l }
+) -> Option<Passing>
+    requires pass_given { PassGivenOf subject.now parts.old.cells parts.old.slots path.old n (going p) l }
     requires begin_value { begin ≡ marks_before (function_in subject.now).statements l }
     requires last_in_bounds { last.0 < length (function_in subject.now).expressions }
-    ensures { EmitsPassed (scope_of subject.now) marks.now l first.0 last.0 parts.old.cells parts.old.slots n p parts.new.cells parts.new.slots path.old path.new result }
+    ensures { EmitsPassed (scope_of subject.now) marks.now l first.0 last.0 parts.old.cells parts.old.slots n (going p) parts.new.cells parts.new.slots path.old path.new (outcome result) }
 {
     let mut q = p;
     let count = (last.0 + 1).saturating_sub(first.0);
@@ -119,10 +122,7 @@ pub fn pass_emits(
         let at = note(parts, n, q);
         let marked = mark_at(marks, (begin as usize) + (k as usize));
         let e = ExpressionHandle(first.0 + k);
-        q = pass_emit(subject, parts, path, n, at, l, marked, e);
-        if q.full {
-            return q;
-        }
+        q = pass_emit(subject, parts, path, n, at, l, marked, e)?;
     }
-    q
+    Some(q)
 }

@@ -10,6 +10,8 @@ ghost use Rattle.standing.specs.Standing.{Stepped};
 ghost use Rattle.acts.specs.Acts.{ActGivenOf, StoreOf, leaving, Acted, PlaceGiven, SomewhereGiven};
 ghost use Rattle.acts.specs.Marks.{PassGivenOf, ByMark};
 ghost use Rattle.judge.specs.Subject.{scope_of};
+ghost use Rattle.standing.specs.Passing.{going, outcome};
+ghost use Rattle.hold.specs.Fits.{fits};
 
 use crate::take::take_out;
 use access::file::File;
@@ -23,7 +25,8 @@ use operands::load::ask_indexes;
 use part::store::ALL_PIECE;
 use place::target::find_target;
 use quiet::acts::{is_some, store_idle, store_overlap};
-use standing::passing::{Passing, filled};
+use quiet::need::Need;
+use standing::passing::Passing;
 
 // A store to a place of which the piece a is needed.
 fn store_at(
@@ -35,21 +38,17 @@ fn store_at(
     place: &[u32],
     a: u32,
     v: ExpressionHandle,
-) -> bool
+) -> Option<()>
     requires { PlaceGiven file.now.bytes file.now.t f.0 types.now parts.old.cells parts.old.slots n place.now a v.0 }
-    ensures { Stepped (scope_at file.now.bytes file.now.t f.0) (leaving (scope_at file.now.bytes file.now.t f.0) (without (scope_at file.now.bytes file.now.t f.0) place.now (in_slot parts.old.cells parts.old.slots (n - 1))) (of_value v.0 (below (in_slot parts.old.cells parts.old.slots (n - 1)) place.now) ∷ [])) parts.old.cells parts.old.slots n parts.new.cells parts.new.slots result }
+    ensures { Stepped (scope_at file.now.bytes file.now.t f.0) (leaving (scope_at file.now.bytes file.now.t f.0) (without (scope_at file.now.bytes file.now.t f.0) place.now (in_slot parts.old.cells parts.old.slots (n - 1))) (of_value v.0 (below (in_slot parts.old.cells parts.old.slots (n - 1)) place.now) ∷ [])) parts.old.cells parts.old.slots n parts.new.cells parts.new.slots (fits result) }
 {
     let last = n - 1;
     let left = n + 1;
-    if !take_out(file, f, types, parts, n, place, a) {
-        return false;
-    }
+    take_out(file, f, types, parts, n, place, a)?;
     let part = parts.slots[n];
-    if !ask_value(file, f, parts, n + 2, v, part) {
-        return false;
-    }
+    ask_value(file, f, parts, n + 2, v, part)?;
     copy(&mut parts.slots, left, last);
-    true
+    Some(())
 }
 
 // A store to the pointer p, which has a dynamic index.
@@ -60,20 +59,16 @@ fn store_somewhere(
     n: usize,
     p: ExpressionHandle,
     v: ExpressionHandle,
-) -> bool
+) -> Option<()>
     requires { SomewhereGiven file.now.bytes file.now.t f.0 parts.old.cells parts.old.slots n p.0 v.0 }
-    ensures { Stepped (scope_at file.now.bytes file.now.t f.0) (leaving (scope_at file.now.bytes file.now.t f.0) (in_slot parts.old.cells parts.old.slots (n - 1)) (ask_whole v.0 ∷ map ask_whole (indexes_of file.now.bytes file.now.t f.0 p.0))) parts.old.cells parts.old.slots n parts.new.cells parts.new.slots result }
+    ensures { Stepped (scope_at file.now.bytes file.now.t f.0) (leaving (scope_at file.now.bytes file.now.t f.0) (in_slot parts.old.cells parts.old.slots (n - 1)) (ask_whole v.0 ∷ map ask_whole (indexes_of file.now.bytes file.now.t f.0 p.0))) parts.old.cells parts.old.slots n parts.new.cells parts.new.slots (fits result) }
 {
     let last = n - 1;
     copy(&mut parts.slots, last, n);
-    if !ask_indexes(file, f, parts, n + 1, p) {
-        return false;
-    }
-    if !ask_value(file, f, parts, n + 1, v, ALL_PIECE) {
-        return false;
-    }
+    ask_indexes(file, f, parts, n + 1, p)?;
+    ask_value(file, f, parts, n + 1, v, ALL_PIECE)?;
     copy(&mut parts.slots, n, last);
-    true
+    Some(())
 }
 
 // The needs before a store of the value v to the pointer p. Says whether the needs are within the bound.
@@ -84,15 +79,19 @@ pub fn act_store(
     n: usize,
     p: ExpressionHandle,
     v: ExpressionHandle,
-) -> bool
+) -> Option<()>
     requires act_given { ActGivenOf subject.now parts.old.cells parts.old.slots path.old n }
     requires store_of { StoreOf (scope_of subject.now) p.0 v.0 }
-    ensures { Acted (scope_of subject.now) (store p.0 v.0) parts.old.cells parts.old.slots n parts.new.cells parts.new.slots path.old path.new result }
+    ensures { Acted (scope_of subject.now) (store p.0 v.0) parts.old.cells parts.old.slots n parts.new.cells parts.new.slots path.old path.new (fits result) }
 {
-    let hand = parts.slots[n - 1];
-    let a = store_overlap(subject, &parts.cells, path, hand, p);
+    let need = Need {
+        subject: &*subject,
+        cells: &parts.cells,
+        piece: parts.slots[n - 1],
+    };
+    let a = store_overlap(&need, path, p);
     if !is_some(a) {
-        return true;
+        return Some(());
     }
     let target = find_target(subject.file, subject.f, path, p);
     if target.dynamic {
@@ -122,27 +121,27 @@ pub fn pass_store(
     marked: bool,
     a: ExpressionHandle,
     v: ExpressionHandle,
-) -> Passing
-    requires pass_given { PassGivenOf subject.now parts.old.cells parts.old.slots path.old n p l }
+) -> Option<Passing>
+    requires pass_given { PassGivenOf subject.now parts.old.cells parts.old.slots path.old n (going p) l }
     requires store_of { StoreOf (scope_of subject.now) a.0 v.0 }
-    ensures { ByMark (scope_of subject.now) l marked (store a.0 v.0) parts.old.cells parts.old.slots n p parts.new.cells parts.new.slots path.old path.new result }
+    ensures { ByMark (scope_of subject.now) l marked (store a.0 v.0) parts.old.cells parts.old.slots n (going p) parts.new.cells parts.new.slots path.old path.new (outcome result) }
 {
     let last = n - 1;
     let above = n + 1;
     if marked {
-        if act_store(subject, parts, path, n, a, v) {
-            return p;
-        }
-        return filled();
+        act_store(subject, parts, path, n, a, v)?;
+        return Some(p);
     }
-    let hand = parts.slots[last];
-    if store_idle(subject, &parts.cells, path, hand, a) {
-        return p;
+    let need = Need {
+        subject: &*subject,
+        cells: &parts.cells,
+        piece: parts.slots[last],
+    };
+    if store_idle(&need, path, a) {
+        return Some(p);
     }
     copy(&mut parts.slots, last, n);
-    if !act_store(subject, parts, path, above, a, v) {
-        return filled();
-    }
+    act_store(subject, parts, path, above, a, v)?;
     copy(&mut parts.slots, n, last);
-    blame(l, p)
+    Some(blame(l, p))
 }

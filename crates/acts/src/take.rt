@@ -1,6 +1,7 @@
 // A place is taken out of the needs at hand. What they ask of it is kept in a slot: the store may be collected.
 ghost use Rattle.judge.specs.Given.{scope_at};
 ghost use Rattle.acts.specs.Acts.{TakeGiven, TakenOut};
+ghost use Rattle.hold.specs.Fits.{fits};
 
 use access::file::File;
 use forms::place::take_place;
@@ -17,9 +18,9 @@ pub fn take_out(
     n: usize,
     place: &[u32],
     a: u32,
-) -> bool
+) -> Option<()>
     requires { TakeGiven file.now.bytes file.now.t f.0 types.now parts.old.cells parts.old.slots n place.now a }
-    ensures { TakenOut (scope_at file.now.bytes file.now.t f.0) place.now parts.old.cells parts.old.slots n parts.new.cells parts.new.slots result }
+    ensures { TakenOut (scope_at file.now.bytes file.now.t f.0) place.now parts.old.cells parts.old.slots n parts.new.cells parts.new.slots (fits result) }
 {
     let hand = parts.slots[n - 1];
     parts.slots[n] = a;

@@ -1,25 +1,24 @@
 -- The beginning of a call: what each step asks stands, and the called function's base is put above the caller's context.
 use Prim.Native.Nat.{ℕ, zero, suc, ◌+◌, ◌<◌, ◌≤◌}
 use native.Mathlib.Omega.{arith}
-use mathlib.Core.Path.{◌≡◌, sym, ap, ◌∙◌}
+use mathlib.Core.Path.{◌≡◌, refl, sym, ap, subst, ◌∙◌}
 use mathlib.Core.List.{List, [], ◌∷◌}
 use mathlib.Core.Option.{Option, some, none as nothing}
 use lib.ListN.{length, get_or, replicate}
 use Rattle.std.specs.Prelude.{Option as Found, Some, None}
 use Rattle.field.specs.Limits.{max_pieces, max_arguments}
-use Rattle.part.specs.PartReq.{more, Subpart, entries}
-use Rattle.part.specs.Store.{top, part, Good, Room, Made}
+use Rattle.part.specs.PartReq.{PartReq, Subpart, entries}
+use Rattle.part.specs.Store.{top, Good, Room, Made}
 use Rattle.part.specs.StoreLimits.{entries_cap}
 use Rattle.part.specs.Found.{Got}
-use Rattle.part.proofs.Pieces.{part-2}
-use Rattle.part.proofs.Write.{stay}
 use Rattle.module.specs.Module.{ExpressionHandle}
 use Rattle.module.specs.Decode.{option_of}
 use Rattle.module.specs.Tables.{module_of, row_at, expressions_from}
 use Rattle.access.specs.Access.{operand_at}
 use Rattle.access.specs.declared.kinded.Kinded.{Kinded}
 use Rattle.valid.proofs.Accepted.{valid}
-use Rattle.context.specs.RequiredContext.{RequiredContext, pieces, variable}
+use Rattle.context.specs.RequiredContext.{RequiredContext, pieces, return_entry}
+use Rattle.request.specs.Answers.{optional, Held}
 use Rattle.walk.specs.State.{Records, record_pieces}
 use Rattle.walk.specs.Marks.{write_marks}
 use Rattle.walk.specs.Statement.{need_of, record_of, retval_of}
@@ -42,7 +41,7 @@ use Rattle.block.specs.Standing.{Standing}
 use Rattle.block.specs.Saved.{Saved}
 use Rattle.block.proofs.Saving.{saved_base}
 use Rattle.block.proofs.Tops.{counted-put}
-use Rattle.arms.specs.Calls.{result_need, found_part, Asking, called_context, CallBegins, CallBegan}
+use Rattle.arms.specs.Calls.{result_need, found_part, called_context, CallBegins, CallBegan}
 use Rattle.arms.proofs.CallRows.{callee_there, arm_row}
 
 -- what was found
@@ -54,16 +53,17 @@ got_part s p None g = g
 got_part s p (Some n) g = g.1
 
 -- what is asked of the returned value
-pub asked_none : {s : List ℕ} {found : Found ℕ} → Asking s found → found ≡ None → Made s s (retval_of (found_part s found)) 1 2
-unfolding retval_of
-asked_none {s} a e = rw e (stay s _ 1 2 a.good (omega (arith, a.good.base)) (part-2 s))
+entry_is : (s : List ℕ) (found : Found ℕ) → return_entry (optional s found) ≡ retval_of (found_part s found)
+unfolding return_entry retval_of
+entry_is s None = refl
+entry_is s (Some n) = refl
 
-pub asked_makes : {s : List ℕ} {found : Found ℕ} {n : ℕ} → Asking s found → found ≡ Some n → Good s × (Room s 1 × ((n < top s) × (2 < top s)))
-asked_makes a e = (a.good, (a.roomy, (a.piece _ e, omega (arith, a.good.base))))
+pub asked_made : {s u : List ℕ} {r : ℕ} (found : Found ℕ) → Made s u (return_entry (optional s found)) 1 r → Made s u (retval_of (found_part s found)) 1 r
+asked_made {s} {u} {r} found M = subst (λ (p : PartReq). Made s u p 1 r) (entry_is s found) M
 
-pub asked_made : {s u : List ℕ} {found : Found ℕ} {n r : ℕ} → found ≡ Some n → Made s u (more (variable 0) (part s n) (part s 2)) 1 r → Made s u (retval_of (found_part s found)) 1 r
-unfolding retval_of
-asked_made {s} e M = rw e (record { kept = M.kept; piece = M.piece; is = M.is ∙ rw (part-2 s); cost = M.cost })
+found_held : (s : List ℕ) (found : Found ℕ) → ((n : ℕ) → found ≡ Some n → n < top s) → Held s found
+found_held s None h = tt
+found_held s (Some n) h = h n refl
 
 -- it counts for no more than the records
 record_few : (es : Records) (e : ℕ) → entries (retval_of (need_of (get_or es e nothing))) ≤ record_pieces es
@@ -145,8 +145,8 @@ module _ {bytes t places s rs open_marks : List ℕ} {fr : Frame} {row : Kinded}
     }
 
     module _ (found : Found ℕ) (got : Got s (record_of records d) found) where
-      pub begin_asks : Asking s found
-      begin_asks = record { good = ready.memory.good; piece = got_piece s _ found got; roomy = omega (arith, q.arms.begins.begun.roomy) }
+      pub begin_asks : Good s × (Room s 1 × Held s found)
+      begin_asks = (ready.memory.good, (omega (arith, q.arms.begins.begun.roomy), found_held s found (got_piece s _ found got)))
 
       need-is : found_part s found ≡ result_need bytes t s rs f row
       need-is = sym (got_part s _ found got) ∙ rw (field, count)

@@ -3,7 +3,7 @@ use Rattle.std.specs.Prelude.{◌≡◌, Bool, true, false, List, [], ◌∷◌,
 use Rattle.std.proofs.Math.Option.{Option}
 use Rattle.field.specs.Limits.{max_pieces}
 use Rattle.part.specs.PartReq.{none, Subpart, gone, there}
-use Rattle.part.specs.Store.{top, part, Good, Room}
+use Rattle.part.specs.Store.{part, Room}
 use Rattle.part.specs.StoreLimits.{entries_cap}
 use Rattle.module.specs.Module.{FunctionHandle, ExpressionHandle}
 use Rattle.module.specs.Decode.{option_of}
@@ -49,12 +49,6 @@ found_part s (Some n) = there (part s n)
 abbrev pub was_found : Found ℕ → Bool
 was_found None = false
 was_found (Some n) = true
-
--- what was found is a piece, and one cell more fits
-pub record Asking (s : List ℕ) (found : Found ℕ) : Type 0 where
-  pub good : Good s
-  pub piece : (n : ℕ) → found ≡ Some n → n < top s
-  pub roomy : Room s 1
 
 -- the context that the called function begins with: what is needed of the globals, and of the result
 abbrev pub called_context : (bytes t s rs : List ℕ) → FunctionHandle → (at : ℕ) → Kinded → RequiredContext

@@ -1,10 +1,8 @@
 // The statement Call, but for the walk of the called function: its beginning, the end of that function, and its own end.
 ghost use Rattle.std.specs.Prelude.{◌≡◌, ◌+◌, ◌<◌, length};
-ghost use Rattle.part.specs.Store.{Made};
-ghost use Rattle.walk.specs.Statement.{retval_of};
 ghost use Rattle.memory.specs.Layout.{result as result_slot};
 ghost use Rattle.statement.specs.Aside.{aside_slots};
-ghost use Rattle.arms.specs.Calls.{found_part, was_found, Asking, CallBegins, CallBegan, LeavesCall, LeftCall, Returns, Returned, call_marks};
+ghost use Rattle.arms.specs.Calls.{was_found, CallBegins, CallBegan, LeavesCall, LeftCall, Returns, Returned, call_marks};
 
 use access::file::File;
 use access::kinded::Kinded;
@@ -17,8 +15,7 @@ use memory::layout::RESULT;
 use memory::memory::{tidy, weigh};
 use memory::parts::Parts;
 use module::handles::FunctionHandle;
-use part::limits::SPINE;
-use part::store::{EMPTY_PIECE, make};
+use request::lists::returned;
 use state::answer::{Answer, Answered, Tally};
 use state::frame::Frame;
 use statement::atomic::record_of;
@@ -28,17 +25,6 @@ use statement::atomic::record_of;
 pub struct Begun {
     pub held: usize,
     pub own: usize,
-}
-
-// What is asked of the returned value, where this was found of the result.
-fn asked_of(cells: &mut [u32], found: Option<u32>) -> u32
-    requires { Asking cells.old found }
-    ensures { Made cells.old cells.new (retval_of (found_part cells.old found)) 1 result }
-{
-    match found {
-        None => EMPTY_PIECE,
-        Some(p) => make(cells, SPINE, p, EMPTY_PIECE),
-    }
 }
 
 // The called function's base is put above the current context.
@@ -62,7 +48,7 @@ pub fn begin_call(
     let own = own_pieces(file, parts, f);
     let held = fr.held + weigh(parts, at, 4) + own;
     let found = record_of(file, parts, fr, result);
-    let retval = asked_of(&mut parts.cells, found);
+    let retval = returned(&mut parts.cells, found);
     enter(&mut parts.slots, open, places, g, at, retval);
     tidy(parts);
     Begun { held, own }

@@ -10,6 +10,7 @@ ghost use Rattle.clearance.specs.Judged.{fits_statement};
 ghost use Rattle.judge.specs.Given.{scope_at};
 ghost use Rattle.standing.specs.Standing.{Stepped, Valued};
 ghost use Rattle.asking.specs.Asks.{Asks, AskGiven, step_of, AsksAt, ValueGiven, StepGiven};
+ghost use Rattle.hold.specs.Fits.{fits};
 
 use access::file::File;
 use hold::hold::{copy, push, push_sum};
@@ -35,22 +36,18 @@ fn is_wanted(cells: &[u32], a: u32) -> bool
 }
 
 // The part a is asked at the path. Says whether the needs are within the bound.
-pub fn ask_place(parts: &mut Parts, n: usize, path: &[u32], a: u32) -> bool
+pub fn ask_place(parts: &mut Parts, n: usize, path: &[u32], a: u32) -> Option<()>
     requires { AskGiven parts.old.cells parts.old.slots n path.now a }
-    ensures { AsksAt path.now (part parts.old.cells a) parts.old.cells parts.old.slots n parts.new.cells parts.new.slots result }
+    ensures { AsksAt path.now (part parts.old.cells a) parts.old.cells parts.old.slots n parts.new.cells parts.new.slots (fits result) }
 {
     if !is_wanted(&parts.cells, a) {
-        return true;
+        return Some(());
     }
     let u = under(&mut parts.cells, path, a);
-    if !push(parts, n, u) {
-        return false;
-    }
-    if !push_sum(parts, n + 1, n, n - 1) {
-        return false;
-    }
+    push(parts, n, u)?;
+    push_sum(parts, n + 1, n, n - 1)?;
     copy(&mut parts.slots, n + 1, n - 1);
-    true
+    Some(())
 }
 
 // The part a of the value v is asked where the value stands; of a fixed value nothing is.
@@ -61,14 +58,14 @@ pub fn ask_value(
     n: usize,
     v: ExpressionHandle,
     a: u32,
-) -> bool
+) -> Option<()>
     requires { ValueGiven (scope_at file.now.bytes file.now.t f.0) parts.old.cells parts.old.slots n v.0 a }
-    ensures { Asks (scope_at file.now.bytes file.now.t f.0) (step_of (scope_at file.now.bytes file.now.t f.0) (of_value v.0 (part parts.old.cells a))) parts.old.cells parts.old.slots n parts.new.cells parts.new.slots result }
+    ensures { Asks (scope_at file.now.bytes file.now.t f.0) (step_of (scope_at file.now.bytes file.now.t f.0) (of_value v.0 (part parts.old.cells a))) parts.old.cells parts.old.slots n parts.new.cells parts.new.slots (fits result) }
 {
     let source = source_of(file, f, v);
     let mut path: [u32; 2] = [0; 2];
     match source {
-        Source::Given => true,
+        Source::Given => Some(()),
         Source::Argument(i) => {
             argument_path(&mut path, i);
             ask_place(parts, n, &path, a)
@@ -87,9 +84,9 @@ pub fn ask_whole(
     parts: &mut Parts,
     n: usize,
     v: ExpressionHandle,
-) -> bool
+) -> Option<()>
     requires { StepGiven (scope_at file.now.bytes file.now.t f.0) parts.old.cells parts.old.slots n v.0 }
-    ensures { Stepped (scope_at file.now.bytes file.now.t f.0) (step_of (scope_at file.now.bytes file.now.t f.0) (ask_whole v.0)) parts.old.cells parts.old.slots n parts.new.cells parts.new.slots result }
+    ensures { Stepped (scope_at file.now.bytes file.now.t f.0) (step_of (scope_at file.now.bytes file.now.t f.0) (ask_whole v.0)) parts.old.cells parts.old.slots n parts.new.cells parts.new.slots (fits result) }
 {
     ask_value(file, f, parts, n, v, ALL_PIECE)
 }
@@ -101,10 +98,10 @@ pub fn ask_returned(
     parts: &mut Parts,
     n: usize,
     v: ExpressionHandle,
-) -> bool
+) -> Option<()>
     requires step_given { StepGiven (scope_at file.now.bytes file.now.t f.0) parts.old.cells parts.old.slots n v.0 }
     requires v_value { fits_statement (scope_at file.now.bytes file.now.t f.0) (Return (some v.0)) ≡ true }
-    ensures { Valued (scope_at file.now.bytes file.now.t f.0) v.0 parts.old.cells parts.old.slots n parts.new.cells parts.new.slots result }
+    ensures { Valued (scope_at file.now.bytes file.now.t f.0) v.0 parts.old.cells parts.old.slots n parts.new.cells parts.new.slots (fits result) }
 {
     let a = parts.slots[ASKED];
     ask_value(file, f, parts, n, v, a)

@@ -20,7 +20,7 @@ use Rattle.judge.specs.Given.{scope_at}
 use Rattle.judge.proofs.PathSteps.{function_valid}
 use Rattle.strays.proofs.Found.{in_function, statement_small, decoded}
 use Rattle.standing.specs.Standing.{inside}
-use Rattle.standing.specs.declared.passing.Passing.{Passing}
+use Rattle.standing.specs.Passing.{Passing}
 use Rattle.standing.specs.Exits.{Exits}
 use Rattle.quiet.specs.Places.{statement_tree}
 use Rattle.acts.specs.Acts.{StoreOf}

@@ -12,7 +12,7 @@ use Rattle.strays.specs.Places.{BlockOf}
 use Rattle.strays.proofs.Found.{there}
 use Rattle.standing.specs.Slots.{Ready}
 use Rattle.standing.specs.Standing.{Targets}
-use Rattle.standing.specs.declared.passing.Passing.{Passing}
+use Rattle.standing.specs.Passing.{Passing}
 use Rattle.standing.specs.Exits.{Exits}
 use Rattle.backward.specs.Course.{Course, RowIn}
 

@@ -23,7 +23,7 @@ use Rattle.quiet.specs.Acts.{Needing}
 use Rattle.quiet.specs.Places.{statement_tree, Obeys}
 use Rattle.strays.proofs.Found.{in_function, statement_small}
 use Rattle.standing.specs.Standing.{Walked, Closed, Blames, inside}
-use Rattle.standing.specs.declared.passing.Passing.{Passing}
+use Rattle.standing.specs.Passing.{Passing}
 use Rattle.standing.specs.Exits.{Exits}
 use Rattle.standing.proofs.Taken.{walked_obeys, broken_full, walked_broken, broken_end_full}
 use Rattle.ends.specs.Merged.{Merged}

@@ -17,7 +17,7 @@ use Rattle.quiet.specs.Places.{tree_of}
 use Rattle.strays.specs.Places.{BlockOf}
 use Rattle.strays.proofs.Found.{accept_low, reject_low}
 use Rattle.standing.specs.Standing.{Walked, Closed, inside, around}
-use Rattle.standing.specs.declared.passing.Passing.{Passing}
+use Rattle.standing.specs.Passing.{Passing}
 use Rattle.standing.specs.Exits.{Exits}
 use Rattle.standing.proofs.Arms.{ending, exchanged, copied_ready, targets_more, rejected_full, rejected_ready, accepted_full, walked_if, if_full}
 use Rattle.ends.specs.Merged.{EndGiven}

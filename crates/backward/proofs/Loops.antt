@@ -21,7 +21,7 @@ use Rattle.strays.specs.Places.{BlockOf}
 use Rattle.strays.proofs.Found.{statement_small, body_low, continuing_low}
 use Rattle.standing.specs.Slots.{table_size, stack_slot}
 use Rattle.standing.specs.Standing.{Walked, Begun, Entered, inside, around}
-use Rattle.standing.specs.declared.passing.Passing.{Passing}
+use Rattle.standing.specs.Passing.{Passing}
 use Rattle.standing.specs.Exits.{Exits}
 use Rattle.standing.proofs.Cases.{case_exits}
 use Rattle.standing.proofs.Loops.{body_exits, begun_full, continuing_targets, continuing_full, body_ready, body_targets, body_full, loop_full, walked_loop}

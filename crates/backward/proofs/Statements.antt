@@ -18,7 +18,7 @@ use Rattle.hold.specs.Hold.{in_slot}
 use Rattle.quiet.specs.Places.{tree_of, statement_tree}
 use Rattle.strays.specs.Places.{BlockOf, StatementIn}
 use Rattle.standing.specs.Standing.{setting_of, Noted, inside, around}
-use Rattle.standing.specs.declared.passing.Passing.{Passing}
+use Rattle.standing.specs.Passing.{Passing}
 use Rattle.standing.specs.Exits.{Exits}
 use Rattle.standing.proofs.Walks.{walked_full, walked_nop, walked_seq, walked_pointed, pointed_full}
 use Rattle.backward.specs.Course.{Course, Passes, RowIn}

@@ -23,7 +23,7 @@ use Rattle.strays.specs.Places.{BlockOf}
 use Rattle.strays.proofs.Found.{cases_in}
 use Rattle.framed.proofs.Kept.{kept_none}
 use Rattle.standing.specs.Standing.{setting_of, Walked, Closed, inside, around, cases}
-use Rattle.standing.specs.declared.passing.Passing.{Passing}
+use Rattle.standing.specs.Passing.{Passing}
 use Rattle.standing.specs.Exits.{Exits}
 use Rattle.standing.proofs.Walks.{came_is, walked_full}
 use Rattle.standing.proofs.Arms.{targets_more}

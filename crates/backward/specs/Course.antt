@@ -15,7 +15,7 @@ use Rattle.strays.specs.Places.{StatementIn}
 use Rattle.standing.specs.Slots.{Ready}
 use Rattle.standing.specs.Standing.{Targets, Stretch, Walked}
 use Rattle.standing.specs.World.{World}
-use Rattle.standing.specs.declared.passing.Passing.{Passing}
+use Rattle.standing.specs.Passing.{Passing}
 use Rattle.standing.specs.Exits.{Exits}
 use Rattle.judge.specs.declared.subject.Subject.{Subject}
 use Rattle.backward.specs.declared.marked.MarkedSubject.{MarkedSubject}

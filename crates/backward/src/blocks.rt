@@ -8,6 +8,7 @@ ghost use Rattle.strays.specs.Places.{BlockOf, StatementIn};
 ghost use Rattle.standing.specs.Standing.{inside, around, cases};
 ghost use Rattle.backward.specs.Course.{CourseOf, Passes, RowInOf, blocks_under, case_block, if_tree, switch_tree, loop_tree, bare_tree};
 ghost use Rattle.judge.specs.Subject.{scope_of, function_in};
+ghost use Rattle.standing.specs.Passing.{going, outcome};
 
 use crate::marked::MarkedSubject;
 use crate::plain::pass_plain;
@@ -23,7 +24,8 @@ use module::handles::BlockHandle;
 use module::kinds::StatementKind;
 use part::store::EMPTY_PIECE;
 use quiet::blocks::obeys;
-use standing::passing::{Exits, Passing, filled};
+use quiet::need::Need;
+use standing::passing::{Exits, Passing};
 
 // The cases of a switch: their union stands in the last slot, none at first. The needs after the switch stand where a break leads.
 #[cycle(blocks)]
@@ -37,28 +39,23 @@ fn pass_cases(
     b: BlockHandle,
     s: u32,
     row: Kinded,
-) -> Passing
-    requires course { CourseOf marked.now parts.old.cells parts.old.slots path.old n x p }
+) -> Option<Passing>
+    requires course { CourseOf marked.now parts.old.cells parts.old.slots path.old n x (going p) }
     requires b_in_bounds { n + (3 * b.0 + 10) ≤ length parts.old.slots }
     requires row_in { RowInOf marked.now.subject.now b.0 s row }
     requires kind_value { row.kind ≡ 3 }
     requires n_value { in_slot parts.old.cells parts.old.slots (n - 1) ≡ none }
-    ensures { Passes (scope_of marked.now.subject.now) (cases (operand_at marked.now.subject.now.file.now.bytes row 1) (case_block (function_in marked.now.subject.now) marked.now.marks.now (operand_at marked.now.subject.now.file.now.bytes row))) parts.old.cells parts.old.slots n x p parts.new.cells parts.new.slots path.old path.new result }
+    ensures { Passes (scope_of marked.now.subject.now) (cases (operand_at marked.now.subject.now.file.now.bytes row 1) (case_block (function_in marked.now.subject.now) marked.now.marks.now (operand_at marked.now.subject.now.file.now.bytes row))) parts.old.cells parts.old.slots n x (going p) parts.new.cells parts.new.slots path.old path.new (outcome result) }
 {
     let count = marked.subject.file.operand(row, 1) as u32;
     let mut q = p;
     for i in 0..count {
         copy(&mut parts.slots, x.broke, n);
         let case = marked.subject.file.block_operand(row, 3 + 2 * i);
-        q = pass_around(marked, parts, path, n + 1, x, q, case);
-        if q.full {
-            return q;
-        }
-        if !merge(parts, n, n, n - 1) {
-            return filled();
-        }
+        q = pass_around(marked, parts, path, n + 1, x, q, case)?;
+        merge(parts, n, n, n - 1)?;
     }
-    q
+    Some(q)
 }
 
 #[cycle(blocks)]
@@ -72,24 +69,19 @@ fn pass_switch(
     b: BlockHandle,
     s: u32,
     row: Kinded,
-) -> Passing
-    requires course { CourseOf marked.now parts.old.cells parts.old.slots path.old n x p }
+) -> Option<Passing>
+    requires course { CourseOf marked.now parts.old.cells parts.old.slots path.old n x (going p) }
     requires b_in_bounds { n + (3 * b.0 + 11) ≤ length parts.old.slots }
     requires row_in { RowInOf marked.now.subject.now b.0 s row }
     requires kind_value { row.kind ≡ 3 }
-    ensures { Passes (scope_of marked.now.subject.now) (inside (switch_tree (blocks_under (function_in marked.now.subject.now) marked.now.marks.now b.0) (operand_at marked.now.subject.now.file.now.bytes row))) parts.old.cells parts.old.slots n x p parts.new.cells parts.new.slots path.old path.new result }
+    ensures { Passes (scope_of marked.now.subject.now) (inside (switch_tree (blocks_under (function_in marked.now.subject.now) marked.now.marks.now b.0) (operand_at marked.now.subject.now.file.now.bytes row))) parts.old.cells parts.old.slots n x (going p) parts.new.cells parts.new.slots path.old path.new (outcome result) }
 {
     parts.slots[n] = EMPTY_PIECE;
     let y = x.in_case(n - 1);
-    let q = pass_cases(marked, parts, path, n + 1, y, p, b, s, row);
-    if q.full {
-        return q;
-    }
+    let q = pass_cases(marked, parts, path, n + 1, y, p, b, s, row)?;
     let selector = marked.subject.file.expression_operand(row, 0);
-    if end_switch(marked.subject.file, marked.subject.f, parts, n, selector) {
-        return q;
-    }
-    filled()
+    end_switch(marked.subject.file, marked.subject.f, parts, n, selector)?;
+    Some(q)
 }
 
 #[cycle(blocks)]
@@ -103,31 +95,23 @@ fn pass_if(
     b: BlockHandle,
     s: u32,
     row: Kinded,
-) -> Passing
-    requires course { CourseOf marked.now parts.old.cells parts.old.slots path.old n x p }
+) -> Option<Passing>
+    requires course { CourseOf marked.now parts.old.cells parts.old.slots path.old n x (going p) }
     requires b_in_bounds { n + (3 * b.0 + 11) ≤ length parts.old.slots }
     requires row_in { RowInOf marked.now.subject.now b.0 s row }
     requires kind_value { row.kind ≡ 2 }
-    ensures { Passes (scope_of marked.now.subject.now) (inside (if_tree (blocks_under (function_in marked.now.subject.now) marked.now.marks.now b.0) (operand_at marked.now.subject.now.file.now.bytes row))) parts.old.cells parts.old.slots n x p parts.new.cells parts.new.slots path.old path.new result }
+    ensures { Passes (scope_of marked.now.subject.now) (inside (if_tree (blocks_under (function_in marked.now.subject.now) marked.now.marks.now b.0) (operand_at marked.now.subject.now.file.now.bytes row))) parts.old.cells parts.old.slots n x (going p) parts.new.cells parts.new.slots path.old path.new (outcome result) }
 {
     let last = n - 1;
     copy(&mut parts.slots, last, n);
     let reject = marked.subject.file.block_operand(row, 2);
-    let q = pass_around(marked, parts, path, n + 1, x, p, reject);
-    if q.full {
-        return q;
-    }
+    let q = pass_around(marked, parts, path, n + 1, x, p, reject)?;
     exchange(&mut parts.slots, n);
     let accept = marked.subject.file.block_operand(row, 1);
-    let o = pass_around(marked, parts, path, n + 1, x, q, accept);
-    if o.full {
-        return o;
-    }
+    let o = pass_around(marked, parts, path, n + 1, x, q, accept)?;
     let condition = marked.subject.file.expression_operand(row, 0);
-    if end_if(marked.subject.file, marked.subject.f, parts, n, condition) {
-        return o;
-    }
-    filled()
+    end_if(marked.subject.file, marked.subject.f, parts, n, condition)?;
+    Some(o)
 }
 
 #[cycle(blocks)]
@@ -141,32 +125,24 @@ fn pass_loop(
     b: BlockHandle,
     s: u32,
     row: Kinded,
-) -> Passing
-    requires course { CourseOf marked.now parts.old.cells parts.old.slots path.old n x p }
+) -> Option<Passing>
+    requires course { CourseOf marked.now parts.old.cells parts.old.slots path.old n x (going p) }
     requires b_in_bounds { n + (3 * b.0 + 11) ≤ length parts.old.slots }
     requires row_in { RowInOf marked.now.subject.now b.0 s row }
     requires kind_value { row.kind ≡ 4 }
-    ensures { Passes (scope_of marked.now.subject.now) (inside (loop_tree (blocks_under (function_in marked.now.subject.now) marked.now.marks.now b.0) s (operand_at marked.now.subject.now.file.now.bytes row))) parts.old.cells parts.old.slots n x p parts.new.cells parts.new.slots path.old path.new result }
+    ensures { Passes (scope_of marked.now.subject.now) (inside (loop_tree (blocks_under (function_in marked.now.subject.now) marked.now.marks.now b.0) s (operand_at marked.now.subject.now.file.now.bytes row))) parts.old.cells parts.old.slots n x (going p) parts.new.cells parts.new.slots path.old path.new (outcome result) }
 {
     let l = s as usize;
     let break_if = marked.subject.file.optional_expression(row, 2);
-    if !begin_loop(marked.subject.file, marked.subject.f, parts, n, l, break_if) {
-        return filled();
-    }
+    begin_loop(marked.subject.file, marked.subject.f, parts, n, l, break_if)?;
     let y = x.in_case(n - 1);
     let continuing = marked.subject.file.block_operand(row, 1);
-    let q = pass_around(marked, parts, path, n + 1, y, p, continuing);
-    if q.full {
-        return q;
-    }
+    let q = pass_around(marked, parts, path, n + 1, y, p, continuing)?;
     let above = n + 1;
     copy(&mut parts.slots, n, above);
     let z = x.in_body(n - 1, n);
     let body = marked.subject.file.block_operand(row, 0);
-    let o = pass_around(marked, parts, path, above + 1, z, q, body);
-    if o.full {
-        return o;
-    }
+    let o = pass_around(marked, parts, path, above + 1, z, q, body)?;
     end_loop(parts, n, l, o)
 }
 
@@ -182,12 +158,12 @@ fn pass_bare(
     b: BlockHandle,
     s: u32,
     row: Kinded,
-) -> Passing
-    requires course { CourseOf marked.now parts.old.cells parts.old.slots path.old n x p }
+) -> Option<Passing>
+    requires course { CourseOf marked.now parts.old.cells parts.old.slots path.old n x (going p) }
     requires b_in_bounds { n + (3 * b.0 + 11) ≤ length parts.old.slots }
     requires row_in { RowInOf marked.now.subject.now b.0 s row }
     requires lt_kind { (1 < row.kind) × (row.kind < 5) }
-    ensures { Passes (scope_of marked.now.subject.now) (inside (bare_tree (blocks_under (function_in marked.now.subject.now) marked.now.marks.now b.0) s row.kind (operand_at marked.now.subject.now.file.now.bytes row))) parts.old.cells parts.old.slots n x p parts.new.cells parts.new.slots path.old path.new result }
+    ensures { Passes (scope_of marked.now.subject.now) (inside (bare_tree (blocks_under (function_in marked.now.subject.now) marked.now.marks.now b.0) s row.kind (operand_at marked.now.subject.now.file.now.bytes row))) parts.old.cells parts.old.slots n x (going p) parts.new.cells parts.new.slots path.old path.new (outcome result) }
 {
     match StatementKind::try_from(row.kind) {
         Ok(StatementKind::If) => pass_if(marked, parts, path, n, x, p, b, s, row),
@@ -208,32 +184,31 @@ fn pass_holder(
     b: BlockHandle,
     s: u32,
     row: Kinded,
-) -> Passing
-    requires course { CourseOf marked.now parts.old.cells parts.old.slots path.old n x p }
+) -> Option<Passing>
+    requires course { CourseOf marked.now parts.old.cells parts.old.slots path.old n x (going p) }
     requires b_in_bounds { n + (3 * b.0 + 12) ≤ length parts.old.slots }
     requires row_in { RowInOf marked.now.subject.now b.0 s row }
     requires lt_kind { (1 < row.kind) × (row.kind < 5) }
-    ensures { Passes (scope_of marked.now.subject.now) (inside (statement_tree (function_in marked.now.subject.now) marked.now.marks.now b.0 s)) parts.old.cells parts.old.slots n x p parts.new.cells parts.new.slots path.old path.new result }
+    ensures { Passes (scope_of marked.now.subject.now) (inside (statement_tree (function_in marked.now.subject.now) marked.now.marks.now b.0 s)) parts.old.cells parts.old.slots n x (going p) parts.new.cells parts.new.slots path.old path.new (outcome result) }
 {
     let last = n - 1;
     let begin = marked.firsts[s as usize] as usize;
     if mark_at(marked.marks, begin) {
         return pass_bare(marked, parts, path, n, x, p, b, s, row);
     }
-    let hand = parts.slots[last];
-    if obeys(marked.subject, &parts.cells, path, hand, b, s) {
-        return p;
+    let need = Need {
+        subject: marked.subject,
+        cells: &parts.cells,
+        piece: parts.slots[last],
+    };
+    if obeys(&need, path, b, s) {
+        return Some(p);
     }
     copy(&mut parts.slots, last, n);
-    let q = pass_bare(marked, parts, path, n + 1, x, p, b, s, row);
-    if q.full {
-        return q;
-    }
+    let q = pass_bare(marked, parts, path, n + 1, x, p, b, s, row)?;
     let blamed = blame(s as u16, q);
-    if merge(parts, n, last, n) {
-        return blamed;
-    }
-    filled()
+    merge(parts, n, last, n)?;
+    Some(blamed)
 }
 
 // The statement s of the block b.
@@ -247,11 +222,11 @@ fn pass_statement(
     p: Passing,
     b: BlockHandle,
     s: u32,
-) -> Passing
-    requires course { CourseOf marked.now parts.old.cells parts.old.slots path.old n x p }
+) -> Option<Passing>
+    requires course { CourseOf marked.now parts.old.cells parts.old.slots path.old n x (going p) }
     requires b_in_bounds { n + (3 * b.0 + 12) ≤ length parts.old.slots }
     requires statement_in { StatementIn marked.now.subject.now.file.now.bytes marked.now.subject.now.file.now.t marked.now.subject.now.f.0 b.0 s }
-    ensures { Passes (scope_of marked.now.subject.now) (inside (statement_tree (function_in marked.now.subject.now) marked.now.marks.now b.0 s)) parts.old.cells parts.old.slots n x p parts.new.cells parts.new.slots path.old path.new result }
+    ensures { Passes (scope_of marked.now.subject.now) (inside (statement_tree (function_in marked.now.subject.now) marked.now.marks.now b.0 s)) parts.old.cells parts.old.slots n x (going p) parts.new.cells parts.new.slots path.old path.new (outcome result) }
 {
     let row = marked.subject.file.statement(marked.subject.f, s);
     match StatementKind::try_from(row.kind) {
@@ -275,23 +250,20 @@ fn pass_block(
     x: Exits,
     p: Passing,
     b: BlockHandle,
-) -> Passing
-    requires course { CourseOf marked.now parts.old.cells parts.old.slots path.old n x p }
+) -> Option<Passing>
+    requires course { CourseOf marked.now parts.old.cells parts.old.slots path.old n x (going p) }
     requires b_in_bounds { n + (3 * b.0 + 12) ≤ length parts.old.slots }
     requires block_of { BlockOf marked.now.subject.now.file.now.bytes marked.now.subject.now.file.now.t marked.now.subject.now.f.0 b.0 }
-    ensures { Passes (scope_of marked.now.subject.now) (inside (tree_of (function_in marked.now.subject.now) marked.now.marks.now b.0)) parts.old.cells parts.old.slots n x p parts.new.cells parts.new.slots path.old path.new result }
+    ensures { Passes (scope_of marked.now.subject.now) (inside (tree_of (function_in marked.now.subject.now) marked.now.marks.now b.0)) parts.old.cells parts.old.slots n x (going p) parts.new.cells parts.new.slots path.old path.new (outcome result) }
 {
     let range = marked.subject.file.block(marked.subject.f, b);
     let first = range.first;
     let mut q = p;
     for k in (0..range.count).rev() {
         let at = note(parts, n, q);
-        q = pass_statement(marked, parts, path, n, x, at, b, first + k);
-        if q.full {
-            return q;
-        }
+        q = pass_statement(marked, parts, path, n, x, at, b, first + k)?;
     }
-    q
+    Some(q)
 }
 
 // A block with the points after and before it.
@@ -304,16 +276,13 @@ pub fn pass_around(
     x: Exits,
     p: Passing,
     b: BlockHandle,
-) -> Passing
-    requires course { CourseOf marked.now parts.old.cells parts.old.slots path.old n x p }
+) -> Option<Passing>
+    requires course { CourseOf marked.now parts.old.cells parts.old.slots path.old n x (going p) }
     requires b_in_bounds { n + (3 * b.0 + 12) ≤ length parts.old.slots }
     requires block_of { BlockOf marked.now.subject.now.file.now.bytes marked.now.subject.now.file.now.t marked.now.subject.now.f.0 b.0 }
-    ensures { Passes (scope_of marked.now.subject.now) (around (tree_of (function_in marked.now.subject.now) marked.now.marks.now b.0)) parts.old.cells parts.old.slots n x p parts.new.cells parts.new.slots path.old path.new result }
+    ensures { Passes (scope_of marked.now.subject.now) (around (tree_of (function_in marked.now.subject.now) marked.now.marks.now b.0)) parts.old.cells parts.old.slots n x (going p) parts.new.cells parts.new.slots path.old path.new (outcome result) }
 {
     let at = note(parts, n, p);
-    let q = pass_block(marked, parts, path, n, x, at, b);
-    if q.full {
-        return q;
-    }
-    note(parts, n, q)
+    let q = pass_block(marked, parts, path, n, x, at, b)?;
+    Some(note(parts, n, q))
 }

@@ -4,6 +4,7 @@ ghost use Rattle.quiet.specs.Places.{statement_tree};
 ghost use Rattle.standing.specs.Standing.{inside};
 ghost use Rattle.backward.specs.Course.{CourseOf, Passes, RowInOf};
 ghost use Rattle.judge.specs.Subject.{scope_of, function_in};
+ghost use Rattle.standing.specs.Passing.{going, outcome};
 
 use crate::marked::MarkedSubject;
 use access::kinded::Kinded;
@@ -27,12 +28,12 @@ pub fn pass_plain(
     b: BlockHandle,
     s: u32,
     row: Kinded,
-) -> Passing
-    requires course { CourseOf marked.now parts.old.cells parts.old.slots path.old n x p }
+) -> Option<Passing>
+    requires course { CourseOf marked.now parts.old.cells parts.old.slots path.old n x (going p) }
     requires n_in_bounds { n + 12 ≤ length parts.old.slots }
     requires row_in { RowInOf marked.now.subject.now b.0 s row }
     requires lt_kind { (row.kind ≡ 0 → ⊥) → 4 < row.kind }
-    ensures { Passes (scope_of marked.now.subject.now) (inside (statement_tree (function_in marked.now.subject.now) marked.now.marks.now b.0 s)) parts.old.cells parts.old.slots n x p parts.new.cells parts.new.slots path.old path.new result }
+    ensures { Passes (scope_of marked.now.subject.now) (inside (statement_tree (function_in marked.now.subject.now) marked.now.marks.now b.0 s)) parts.old.cells parts.old.slots n x (going p) parts.new.cells parts.new.slots path.old path.new (outcome result) }
 {
     let begin = marked.firsts[s as usize];
     match StatementKind::try_from(row.kind) {

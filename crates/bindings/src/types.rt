@@ -1,5 +1,5 @@
 // Rows of the table of types.
-ghost use Rattle.std.specs.Prelude.{◌≡◌, ◌+◌, ◌*◌, ◌<◌, get_or};
+ghost use Rattle.std.specs.Prelude.{◌≡◌, ◌+◌, ◌*◌, ◌<◌};
 ghost use Rattle.access.specs.Access.{number_in};
 ghost use Rattle.context.specs.Types.{types_of, type_word};
 ghost use Rattle.bindings.specs.Rows.{member_count, AllBound, MemberIs};
@@ -8,13 +8,7 @@ use access::whole::{Bound, unless_absent};
 use context::remove::{TYPE_WORDS, type_kind};
 use module::handles::TypeHandle;
 use module::kinds::TypeKind;
-
-// The number at i, and 0 past the end.
-pub fn word(types: &[u32], i: usize) -> u32
-    ensures { result ≡ get_or types.now i 0 }
-{
-    types.get(i).copied().unwrap_or(0)
-}
+use module::tables::word;
 
 // The first word after the kind: what a pointer or an array is of, or how many members there are.
 pub fn first_word(types: &[u32], t: TypeHandle) -> u32

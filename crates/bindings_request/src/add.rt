@@ -75,13 +75,9 @@ pub fn add_binding_bytes(
         return Err(Refusal::Malformed.into());
     }
     init(cells);
-    let a = read_request(cells, request, file.functions(), file.globals(), out.len());
-    match a {
-        Err(e) => Err(own_refusal(e).into()),
-        Ok(q) => {
-            let f = q.function;
-            let o = q.retval;
-            add_to(file, types, cells, parts, f, o, q.globals, b, out)
-        }
-    }
+    let read = read_request(cells, request, file.functions(), file.globals(), out.len());
+    let q = read.map_err(own_refusal)?;
+    add_to(
+        file, types, cells, parts, q.function, q.retval, q.globals, b, out,
+    )
 }

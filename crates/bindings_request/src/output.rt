@@ -27,9 +27,7 @@ pub fn output_from_bindings_bytes(
     requires parts_len { (length parts.old ≡ type_count types.now) × Lent cells.old parts.old [] }
     ensures { Gave out.old out.new (output_bytes (module_of file.now.bytes file.now.t) (length out.old) f.0 list.now) result }
 {
-    let Some(s) = set_of(list) else {
-        return Err(Refusal::Malformed.into());
-    };
+    let s = set_of(list).ok_or(Refusal::Malformed)?;
     if file.functions() <= f.0 {
         return Err(Refusal::NoSuch.into());
     }

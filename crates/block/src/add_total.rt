@@ -6,6 +6,7 @@ use access::file::File;
 use field::refusal::Refusal;
 use marks::places::PLACES;
 use marks::ray::first_ray;
+use marks::report::NO_TOTAL;
 use marks::set::{add_marks, keep_marks};
 use memory::parts::Parts;
 use module::handles::FunctionHandle;
@@ -27,8 +28,8 @@ pub fn add_total(
     ensures { TotalEnds file.now.bytes file.now.t places.now parts.old.cells parts.old.slots «open».now totals.old f.0 at tally.sum tally.visits here result parts.new.cells parts.new.slots totals.new }
 {
     let less = weigh_total(file, parts, f);
-    // Stays: a byte of the caller's memory, 0 where f has no total.
-    if totals[f.0 as usize] == 0 {
+    // Stays: a byte and no bool, since the flags stand in one buffer with the totals' marks, and a report takes those as bytes.
+    if totals[f.0 as usize] == NO_TOTAL {
         keep_total(file, &mut parts.slots, f, at);
         keep_marks(totals, open, places, f);
     } else {

@@ -10,13 +10,13 @@ use Rattle.field.specs.Refusal.{number}
 use Rattle.field.specs.declared.refusal.Refusal.{Refusal}
 use Rattle.field.proofs.Refusals.{some_number}
 use Rattle.reading.specs.Reads.{Reads}
-use Rattle.state.specs.State.{place_of}
+use Rattle.state.specs.State.{place_of, unplaced}
 use Rattle.state.specs.Ready.{WasRead}
 use Rattle.state.specs.declared.answer.Halt.{Halt}
 use Rattle.state.specs.declared.answer.Place.{Place}
 use Rattle.state.specs.declared.answer.Place.TheVariants as place
 use Rattle.requests.specs.Serve.{on_module, serve, place_word, reply_word}
-use Rattle.requests.specs.Finish.{nowhere, reply_of}
+use Rattle.requests.specs.Finish.{reply_of}
 use Rattle.requests.proofs.Numbers.{place_small}
 use Rattle.boundary.specs.Requests.{RequestsRead, Requests}
 
@@ -50,7 +50,7 @@ module _ {bytes t : List ℕ} {n : ℕ} (R : Reads bytes t n) where
   file_read z = record { module_is = (R.accepts z).0; laid = (R.accepts z).1 }
 
   -- the file is refused, and one that is read
-  pub requests_refused : {asked pruner report answer : List ℕ} (e : Refusal) {w : ℕ} → n ≡ number e → w ≡ reply_word (reply_of (Err (nowhere e))) → Requests bytes asked pruner report answer w pruner report answer
+  pub requests_refused : {asked pruner report answer : List ℕ} (e : Refusal) {w : ℕ} → n ≡ number e → w ≡ reply_word (reply_of (Err (unplaced e))) → Requests bytes asked pruner report answer w pruner report answer
   unfolding serve on_module
   requests_refused r same e = let h : 1 ≤ n = rw same (some_number r) in record { number = e ∙ rw (R.refuses h, same); left = rw (R.refuses h) }
 

@@ -5,12 +5,13 @@ ghost use Rattle.part.specs.StoreLimits.{cell_words, store_words, table_words};
 ghost use Rattle.module.specs.Scan.{values};
 ghost use Rattle.module.specs.Tables.{words, max_items};
 ghost use Rattle.context.specs.Types.{type_words};
-ghost use Rattle.boundary.specs.Answers.{Answers, add_answer};
+ghost use Rattle.bindings_request.specs.Boundary.{Gave};
+ghost use Rattle.boundary.specs.Answers.{add_answer};
 
-use crate::answer::word_of;
 use crate::output::OUTPUT_WORDS;
 use crate::rows::read_rows;
 use bindings_request::add::add_binding_bytes;
+use bindings_request::answer::Refused;
 use requests::begin::check_length;
 
 // The words of a store that has room for a request too, whose length has 16 bits.
@@ -28,19 +29,14 @@ pub fn add_in(
     request: &[u8],
     b: u32,
     out: &mut [u8],
-) -> u64
+) -> Result<usize, Refused>
     requires words_in_bounds { (words ≤ length t.old) × ((values ≤ length seen.old) × (max_items ≤ length held.old)) }
     requires max_types_in_bounds { (type_words * max_types ≤ length table.old) × (max_types ≤ length parts.old) }
     requires cells_len_bound { (length cells.old ≤ store_words) × (cell_words * (5 + max_members * max_types + max_pieces) + table_words + 2 * (4 + 65535) ≤ length cells.old) }
-    ensures { Answers out.old out.new (add_answer bytes.now (length out.old) b request.now) result }
+    ensures { Gave out.old out.new (add_answer bytes.now (length out.old) b request.now) result }
 {
-    let (file, rows) = match read_rows(bytes, t, seen, held, table) {
-        Ok(read) => read,
-        Err(refusal) => return word_of(Err(refusal.into())),
-    };
-    if let Err(refusal) = check_length(request) {
-        return word_of(Err(refusal.into()));
-    }
+    let (file, rows) = read_rows(bytes, t, seen, held, table)?;
+    check_length(request)?;
     let n = file.types() as usize;
-    word_of(add_binding_bytes(&file, rows, cells, &mut parts[0..n], request, b, out))
+    add_binding_bytes(&file, rows, cells, &mut parts[0..n], request, b, out)
 }

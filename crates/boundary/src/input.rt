@@ -4,11 +4,12 @@ ghost use Rattle.field.specs.Limits.{max_arguments, max_types};
 ghost use Rattle.module.specs.Scan.{values};
 ghost use Rattle.module.specs.Tables.{words, max_items};
 ghost use Rattle.context.specs.Types.{type_words};
-ghost use Rattle.boundary.specs.Answers.{Answers, input_answer};
+ghost use Rattle.bindings_request.specs.Boundary.{Gave};
+ghost use Rattle.boundary.specs.Answers.{input_answer};
 
-use crate::answer::word_of;
 use crate::rows::read_rows;
 use access::whole::Bound;
+use bindings_request::answer::Refused;
 use bindings_request::input::input_to_bindings_bytes;
 use module::handles::FunctionHandle;
 
@@ -24,15 +25,12 @@ pub fn input_in(
     f: FunctionHandle,
     context: &[u8],
     out: &mut [u8],
-) -> u64
+) -> Result<usize, Refused>
     requires words_in_bounds { (words ≤ length t.old) × ((values ≤ length seen.old) × (max_items ≤ length held.old)) }
     requires max_types_in_bounds { (type_words * max_types ≤ length table.old) × ((max_types ≤ length sets.old) × (max_arguments ≤ length args.old)) }
-    ensures { Answers out.old out.new (input_answer bytes.now (length out.old) f.0 context.now) result }
+    ensures { Gave out.old out.new (input_answer bytes.now (length out.old) f.0 context.now) result }
 {
-    let (file, rows) = match read_rows(bytes, t, seen, held, table) {
-        Ok(read) => read,
-        Err(refusal) => return word_of(Err(refusal.into())),
-    };
+    let (file, rows) = read_rows(bytes, t, seen, held, table)?;
     let n = file.types() as usize;
-    word_of(input_to_bindings_bytes(&file, rows, &mut sets[0..n], args, f, context, out))
+    input_to_bindings_bytes(&file, rows, &mut sets[0..n], args, f, context, out)
 }

@@ -5,10 +5,11 @@ ghost use Rattle.part.specs.StoreLimits.{cell_words, store_words, table_words};
 ghost use Rattle.module.specs.Scan.{values};
 ghost use Rattle.module.specs.Tables.{words, max_items};
 ghost use Rattle.context.specs.Types.{type_words};
-ghost use Rattle.boundary.specs.Answers.{Answers, output_answer};
+ghost use Rattle.bindings_request.specs.Boundary.{Gave};
+ghost use Rattle.boundary.specs.Answers.{output_answer};
 
-use crate::answer::word_of;
 use crate::rows::read_rows;
+use bindings_request::answer::Refused;
 use bindings_request::output::output_from_bindings_bytes;
 use field::limits::{MAX_MEMBERS, MAX_PIECES, MAX_TYPES};
 use module::handles::FunctionHandle;
@@ -30,16 +31,13 @@ pub fn output_in(
     f: FunctionHandle,
     list: &[u8],
     out: &mut [u8],
-) -> u64
+) -> Result<usize, Refused>
     requires words_in_bounds { (words ≤ length t.old) × ((values ≤ length seen.old) × (max_items ≤ length held.old)) }
     requires max_types_in_bounds { (type_words * max_types ≤ length table.old) × (max_types ≤ length parts.old) }
     requires cells_len_bound { (length cells.old ≤ store_words) × (cell_words * (5 + max_members * max_types + max_pieces) + table_words ≤ length cells.old) }
-    ensures { Answers out.old out.new (output_answer bytes.now (length out.old) f.0 list.now) result }
+    ensures { Gave out.old out.new (output_answer bytes.now (length out.old) f.0 list.now) result }
 {
-    let (file, rows) = match read_rows(bytes, t, seen, held, table) {
-        Ok(read) => read,
-        Err(refusal) => return word_of(Err(refusal.into())),
-    };
+    let (file, rows) = read_rows(bytes, t, seen, held, table)?;
     let n = file.types() as usize;
-    word_of(output_from_bindings_bytes(&file, rows, cells, &mut parts[0..n], f, list, out))
+    output_from_bindings_bytes(&file, rows, cells, &mut parts[0..n], f, list, out)
 }

@@ -16,20 +16,27 @@ use field::limits::MAX_TYPES;
 use marks::places::{PLACES, place_marks};
 use module::tables::WORDS;
 use reading::read::read_module;
-use requests::finish::{Reply, nowhere};
+use requests::finish::Reply;
 use requests::serve::serve_read;
 use state::answer::Place;
 use type_table::fill;
+
+// From these on a place is an expression or a statement, its function's number above its own, which has 15 bits.
+const EXPRESSION: u64 = 1073741824;
+
+const STATEMENT: u64 = 2147483648;
+
+const FUNCTION: u64 = 32768;
 
 fn place_word(place: Place) -> u64
     ensures { (result ≡ place_word (place_of place)) × (result ≤ 4294967295) }
 {
     match place {
         Place::Expression(f, e) => {
-            1073741824 + 32768 * ((f.0 % 32768) as u64) + ((e.0 % 32768) as u64)
+            EXPRESSION + FUNCTION * ((f.0 % 32768) as u64) + ((e.0 % 32768) as u64)
         }
         Place::Statement(f, s) => {
-            2147483648 + 32768 * ((f.0 % 32768) as u64) + ((s % 32768) as u64)
+            STATEMENT + FUNCTION * ((f.0 % 32768) as u64) + ((s % 32768) as u64)
         }
         Place::Nowhere => 0,
     }
@@ -105,7 +112,7 @@ pub fn request_any(
     ensures { Requests bytes.now request.now pruner.old report.old answer.old result pruner.new report.new answer.new }
 {
     if let Err(refusal) = read_module(bytes, t) {
-        return reply_word(Err(nowhere(refusal)));
+        return reply_word(Err(refusal.into()));
     }
     request_in(&File::new(bytes, t), request, pruner, report, answer)
 }

@@ -87,15 +87,9 @@ fn check_lists(bytes: &[u8], at: usize, globals: u32, args: u32, locals: u32) ->
     requires { at ≤ length bytes.now }
     ensures { ListsChecked globals args locals (from bytes.now at) result }
 {
-    let Some((g, a)) = check_variables(bytes, at, globals) else {
-        return Err(Refusal::Malformed);
-    };
-    let Some((x, b)) = check_variables(bytes, a, args) else {
-        return Err(Refusal::Malformed);
-    };
-    let Some((l, c)) = check_variables(bytes, b, locals) else {
-        return Err(Refusal::Malformed);
-    };
+    let (g, a) = check_variables(bytes, at, globals).ok_or(Refusal::Malformed)?;
+    let (x, b) = check_variables(bytes, a, args).ok_or(Refusal::Malformed)?;
+    let (l, c) = check_variables(bytes, b, locals).ok_or(Refusal::Malformed)?;
     if !ends(bytes, c) {
         return Err(Refusal::Malformed);
     }
@@ -113,9 +107,7 @@ pub fn check_context(bytes: &[u8], globals: u32, args: u32, locals: u32) -> Resu
     if !is_context(bytes) {
         return Err(Refusal::Malformed);
     }
-    let Some(next) = skip_return(bytes, 6) else {
-        return Err(Refusal::Malformed);
-    };
+    let next = skip_return(bytes, 6).ok_or(Refusal::Malformed)?;
     check_lists(bytes, next, globals, args, locals)
 }
 

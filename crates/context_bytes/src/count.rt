@@ -1,5 +1,6 @@
 // How many pieces a context has, counted in its bytes. An entry has at least four bytes, so the count stays below their number.
 ghost use Rattle.std.specs.Prelude.{◌+◌, ◌-◌, ◌≤◌, length};
+ghost use Rattle.std.specs.Option.{unwrap_or};
 ghost use Rattle.request.specs.Answers.{from};
 ghost use Rattle.request.specs.Part.{read_part, read_return, read_variables};
 ghost use Rattle.context_bytes.specs.Counted.{counted, counted_return, Counts, EntriesCounted, PiecesCounted};
@@ -62,6 +63,18 @@ fn count_variables(bytes: &[u8], at: usize) -> Option<(usize, usize)>
     count_entries(bytes, at + 2, MAX_DEPTH, count)
 }
 
+// The pieces of its parts, where it has the header.
+fn count_lists(bytes: &[u8]) -> Option<usize>
+    requires { 6 ≤ length bytes.now }
+    ensures { PiecesCounted bytes.now (unwrap_or result 0) }
+{
+    let (r, a) = count_return(bytes, 6)?;
+    let (g, b) = count_variables(bytes, a)?;
+    let (x, c) = count_variables(bytes, b)?;
+    let (l, d) = count_variables(bytes, c)?;
+    Some(g + l + x + r)
+}
+
 // The pieces of the context that bytes mean.
 pub fn count_context(bytes: &[u8]) -> usize
     ensures { PiecesCounted bytes.now result }
@@ -69,17 +82,5 @@ pub fn count_context(bytes: &[u8]) -> usize
     if !is_context(bytes) {
         return 0;
     }
-    let Some((r, a)) = count_return(bytes, 6) else {
-        return 0;
-    };
-    let Some((g, b)) = count_variables(bytes, a) else {
-        return 0;
-    };
-    let Some((x, c)) = count_variables(bytes, b) else {
-        return 0;
-    };
-    let Some((l, d)) = count_variables(bytes, c) else {
-        return 0;
-    };
-    g + l + x + r
+    count_lists(bytes).unwrap_or(0)
 }

@@ -1,5 +1,6 @@
 // The entry of an index, found in the bytes of a part or of a list: those before it are passed over.
 ghost use Rattle.std.specs.Prelude.{◌≡◌, ◌≤◌, length};
+ghost use Rattle.std.specs.Option.{unwrap_or};
 ghost use Rattle.part.specs.PartReq.{get_subpart, is_all, is_exist};
 ghost use Rattle.context_bytes.specs.Found.{part_at, Readable, SubpartAt, EntryFound, VariableFound, ArgsAt};
 
@@ -67,6 +68,16 @@ pub fn is_exist(bytes: &[u8], at: usize, depth: usize) -> bool
     part_code(bytes, at, depth) == Some(Code::Exist)
 }
 
+// Where the list of arguments stands, where the context has the header.
+fn after_globals(bytes: &[u8]) -> Option<usize>
+    requires { 6 ≤ length bytes.now }
+    ensures { ArgsAt bytes.now (unwrap_or result 0) }
+{
+    let at = skip_return(bytes, 6)?;
+    let (known, next) = check_variables(bytes, at, 0)?;
+    Some(next)
+}
+
 // Where the list of arguments stands in the context that bytes mean.
 pub fn args_at(bytes: &[u8]) -> usize
     ensures { ArgsAt bytes.now result }
@@ -74,11 +85,5 @@ pub fn args_at(bytes: &[u8]) -> usize
     if !is_context(bytes) {
         return 0;
     }
-    let Some(at) = skip_return(bytes, 6) else {
-        return 0;
-    };
-    let Some((known, next)) = check_variables(bytes, at, 0) else {
-        return 0;
-    };
-    next
+    after_globals(bytes).unwrap_or(0)
 }

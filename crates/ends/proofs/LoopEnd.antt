@@ -19,7 +19,7 @@ use Rattle.framed.specs.Kept.{Kept}
 use Rattle.framed.proofs.Kept.{kept_add}
 use Rattle.standing.specs.Slots.{table_size, asked_slot, stack_slot, aside_of, Ready}
 use Rattle.standing.specs.Standing.{TableIn, passed_by}
-use Rattle.standing.specs.declared.passing.Passing.{Passing}
+use Rattle.standing.specs.Passing.{Passing}
 use Rattle.standing.proofs.Aside.{held_last, aside_same, new_table}
 use Rattle.ends.specs.Merged.{LoopEnds}
 use Rattle.ends.proofs.Merges.{by_test}

@@ -10,7 +10,7 @@ use Rattle.pass.specs.Pass.{work_bound}
 use Rattle.hold.specs.Hold.{held_by, in_slot, Live}
 use Rattle.standing.specs.Slots.{table_size, stack_slot, Ready}
 use Rattle.standing.specs.Standing.{Entered}
-use Rattle.standing.specs.declared.passing.Passing.{Passing}
+use Rattle.standing.specs.Passing.{Passing}
 
 pub record Merged (s rs : List ℕ) (n i j : ℕ) (t us : List ℕ) (r : Bool) : Type 0 where
   pub cells : length t ≡ length s

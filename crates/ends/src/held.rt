@@ -6,6 +6,7 @@ ghost use Rattle.standing.specs.Standing.{Closed, Begun};
 ghost use Rattle.standing.proofs.Arms.{ending};
 ghost use Rattle.standing.proofs.Cases.{switch_ends};
 ghost use Rattle.ends.specs.Merged.{EndGiven, BeginGiven};
+ghost use Rattle.hold.specs.Fits.{fits};
 
 use crate::merge::merge;
 use access::file::File;
@@ -21,13 +22,11 @@ pub fn end_if(
     parts: &mut Parts,
     n: usize,
     e: ExpressionHandle,
-) -> bool
+) -> Option<()>
     requires { EndGiven (scope_at file.now.bytes file.now.t f.0) parts.old.cells parts.old.slots n e.0 }
-    ensures { Closed (scope_at file.now.bytes file.now.t f.0) (ending (scope_at file.now.bytes file.now.t f.0) e.0) parts.old.cells parts.old.slots n parts.new.cells parts.new.slots result }
+    ensures { Closed (scope_at file.now.bytes file.now.t f.0) (ending (scope_at file.now.bytes file.now.t f.0) e.0) parts.old.cells parts.old.slots n parts.new.cells parts.new.slots (fits result) }
 {
-    if !merge(parts, n, n, n - 1) {
-        return false;
-    }
+    merge(parts, n, n, n - 1)?;
     ask_whole(file, f, parts, n, e)
 }
 
@@ -38,9 +37,9 @@ pub fn end_switch(
     parts: &mut Parts,
     n: usize,
     e: ExpressionHandle,
-) -> bool
+) -> Option<()>
     requires { EndGiven (scope_at file.now.bytes file.now.t f.0) parts.old.cells parts.old.slots n e.0 }
-    ensures { Closed (scope_at file.now.bytes file.now.t f.0) (switch_ends (scope_at file.now.bytes file.now.t f.0) e.0) parts.old.cells parts.old.slots n parts.new.cells parts.new.slots result }
+    ensures { Closed (scope_at file.now.bytes file.now.t f.0) (switch_ends (scope_at file.now.bytes file.now.t f.0) e.0) parts.old.cells parts.old.slots n parts.new.cells parts.new.slots (fits result) }
 {
     copy(&mut parts.slots, n, n - 1);
     ask_whole(file, f, parts, n, e)
@@ -54,16 +53,14 @@ pub fn begin_loop(
     n: usize,
     l: usize,
     break_if: Option<ExpressionHandle>,
-) -> bool
+) -> Option<()>
     requires { BeginGiven (scope_at file.now.bytes file.now.t f.0) l parts.old.cells parts.old.slots n (handle_in break_if) }
-    ensures { Begun (scope_at file.now.bytes file.now.t f.0) l (handle_in break_if) parts.old.cells parts.old.slots n parts.new.cells parts.new.slots result }
+    ensures { Begun (scope_at file.now.bytes file.now.t f.0) l (handle_in break_if) parts.old.cells parts.old.slots n parts.new.cells parts.new.slots (fits result) }
 {
     let Some(condition) = break_if else {
         copy(&mut parts.slots, l, n);
-        return true;
+        return Some(());
     };
-    if !push_sum(parts, n, n - 1, l) {
-        return false;
-    }
+    push_sum(parts, n, n - 1, l)?;
     ask_whole(file, f, parts, n + 1, condition)
 }

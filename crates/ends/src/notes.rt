@@ -3,6 +3,7 @@ ghost use Rattle.std.specs.Prelude.{◌≡◌, ◌&&◌, ◌||◌, ◌<◌, ◌-
 ghost use Rattle.field.specs.Limits.{absent};
 ghost use Rattle.hold.specs.Hold.{in_slot, Live};
 ghost use Rattle.standing.specs.Standing.{Noted, Blames};
+ghost use Rattle.standing.specs.Passing.{going};
 
 use field::limits::MAX_PIECES;
 use memory::parts::Parts;
@@ -13,7 +14,7 @@ use standing::passing::Passing;
 pub fn note(parts: &Parts, n: usize, p: Passing) -> Passing
     requires live { Live parts.now.cells parts.now.slots n }
     requires n_nonzero { 0 < n }
-    ensures { Noted (in_slot parts.now.cells parts.now.slots (n - 1)) p result }
+    ensures { Noted (in_slot parts.now.cells parts.now.slots (n - 1)) (going p) (going result) }
 {
     let sizes = measure(&parts.cells, parts.slots[n - 1]);
     let many = (MAX_PIECES as u32) < sizes.entries - sizes.width;
@@ -27,7 +28,7 @@ pub fn note(parts: &Parts, n: usize, p: Passing) -> Passing
 // The statement l breaks its rule.
 pub fn blame(l: u16, p: Passing) -> Passing
     requires { l < absent }
-    ensures { Blames l p result }
+    ensures { Blames l (going p) (going result) }
 {
     match p.fault {
         None => Passing {

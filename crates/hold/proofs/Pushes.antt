@@ -8,7 +8,8 @@ use mathlib.Core.List.{List, ◌∷◌}
 use lib.Dec.{ltb, leb}
 use lib.ListN.{length, get_or, set, length-set}
 use borrow.Author.Tests.{leb-true, le-leb, lt-leb, lt-ltb, le-ltb}
-use Rattle.std.specs.Prelude.{Option, Some, None}
+use Rattle.std.specs.Prelude.{⊤, Option, Some, None}
+use Rattle.std.specs.Bool.{then_some}
 use Rattle.part.specs.PartReq.{PartReq, add}
 use Rattle.part.specs.Store.{top, part, Good, Kept}
 use Rattle.part.specs.Collect.{cells_of}
@@ -16,9 +17,15 @@ use Rattle.part.specs.Summed.{Summed}
 use Rattle.part.proofs.Distinct.{untrue}
 use Rattle.pass.specs.Pass.{work_bound}
 use Rattle.hold.specs.Hold.{held_by, in_slot, Loose, Live, Cleaned, Pushed}
+use Rattle.hold.specs.Fits.{fits}
 use Rattle.hold.proofs.Reach.{reach_cells}
 use Rattle.hold.proofs.Count.{short_many}
 use Rattle.hold.proofs.Slots.{held_same, held_push, slot_set, slot_other, loose_stands, loose_cells, loose_kept, slot_kept, loose_push}
+
+-- a test, as the code answers it
+pub fits_some : (b : Bool) {r : Option ⊤} → r ≡ then_some b tt → b ≡ fits r
+fits_some true e = rw e refl
+fits_some false e = rw e refl
 
 -- the test
 within_test : (x y : ℕ) → y ≡ 3 + x → leb y (3 + work_bound) ≡ not (ltb work_bound x)

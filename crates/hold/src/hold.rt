@@ -5,6 +5,7 @@ ghost use Rattle.std.specs.Prelude.{◌≡◌, ◌<◌, length, get_or, set};
 ghost use Rattle.part.specs.PartReq.{add};
 ghost use Rattle.part.specs.Store.{top, part};
 ghost use Rattle.hold.specs.Hold.{in_slot, Loose, Live, Cleaned, Pushed};
+ghost use Rattle.hold.specs.Fits.{fits};
 
 use memory::parts::Parts;
 use part::collect::collect;
@@ -23,26 +24,26 @@ pub fn clean(cells: &mut [u32], slots: &mut [u32], n: usize)
 }
 
 // The slot n has the piece p then. Says whether the needs are within the bound.
-pub fn push(parts: &mut Parts, n: usize, p: u32) -> bool
+pub fn push(parts: &mut Parts, n: usize, p: u32) -> Option<()>
     requires loose { Loose parts.old.cells parts.old.slots n }
     requires n_in_bounds { n < length parts.old.slots }
     requires p_bound { p < top parts.old.cells }
-    ensures { Pushed parts.old.cells parts.old.slots n (part parts.old.cells p) parts.new.cells parts.new.slots result }
+    ensures { Pushed parts.old.cells parts.old.slots n (part parts.old.cells p) parts.new.cells parts.new.slots (fits result) }
 {
     parts.slots[n] = p;
     if parts.cells[0] <= 3 + WORK_BOUND {
-        return true;
+        return Some(());
     }
     clean(&mut parts.cells, &mut parts.slots, n + 1);
-    parts.cells[0] <= 3 + WORK_BOUND
+    (parts.cells[0] <= 3 + WORK_BOUND).then_some(())
 }
 
 // The slot n has the sum of the slots i and j then. Where there is no room for it, not even after a collection, it passes the bound.
-pub fn push_sum(parts: &mut Parts, n: usize, i: usize, j: usize) -> bool
+pub fn push_sum(parts: &mut Parts, n: usize, i: usize, j: usize) -> Option<()>
     requires live { Live parts.old.cells parts.old.slots n }
     requires n_in_bounds { n < length parts.old.slots }
     requires i_lt_n { (i < n) × (j < n) }
-    ensures { Pushed parts.old.cells parts.old.slots n (add (in_slot parts.old.cells parts.old.slots i) (in_slot parts.old.cells parts.old.slots j)) parts.new.cells parts.new.slots result }
+    ensures { Pushed parts.old.cells parts.old.slots n (add (in_slot parts.old.cells parts.old.slots i) (in_slot parts.old.cells parts.old.slots j)) parts.new.cells parts.new.slots (fits result) }
 {
     if let Some(first) = sum(&mut parts.cells, parts.slots[i], parts.slots[j]) {
         return push(parts, n, first);
@@ -51,7 +52,7 @@ pub fn push_sum(parts: &mut Parts, n: usize, i: usize, j: usize) -> bool
     if let Some(second) = sum(&mut parts.cells, parts.slots[i], parts.slots[j]) {
         return push(parts, n, second);
     }
-    false
+    None
 }
 
 // The slot j has what the slot i has.

@@ -7,9 +7,10 @@ ghost use Rattle.clearance.specs.Scope.{kind, bases, pairwise, alike_inner};
 ghost use Rattle.judge.specs.Alike.{by_table, Lower, Lowest, Upto, AlikeTable};
 
 use crate::rows::{base_at, base_count, kind_at, second_word};
-use bindings::types::{first_word, word};
+use bindings::types::first_word;
 use module::handles::TypeHandle;
 use module::kinds::TypeKind;
+use module::tables::word;
 
 // Whether two types are of one kind and have the same sizes.
 fn same_kind(types: &[u32], a: TypeHandle, b: TypeHandle) -> bool

@@ -8,9 +8,9 @@ ghost use Rattle.judge.specs.Marked.{marked};
 ghost use Rattle.judge.specs.Paths.{path_by, PathTable};
 
 use access::file::File;
-use bindings::types::word;
 use module::handles::{ExpressionHandle, FunctionHandle};
 use module::kinds::ExpressionKind;
+use module::tables::word;
 
 // The expression e's entry: a variable is a path, and of an index it is its base's.
 fn path_entry(file: &File, f: FunctionHandle, table: &[u32], e: ExpressionHandle) -> u32

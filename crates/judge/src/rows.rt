@@ -5,10 +5,11 @@ ghost use Rattle.context.specs.Types.{type_word, types_of};
 ghost use Rattle.clearance.specs.Scope.{kind, bases};
 ghost use Rattle.module.specs.KindNumbers.{type_number};
 
-use bindings::types::{first_word, word};
+use bindings::types::first_word;
 use context::remove::{TYPE_WORDS, type_kind};
 use module::handles::TypeHandle;
 use module::kinds::TypeKind;
+use module::tables::word;
 
 // The kind of the type t.
 pub fn kind_at(types: &[u32], t: TypeHandle) -> TypeKind

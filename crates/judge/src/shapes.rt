@@ -8,9 +8,10 @@ ghost use Rattle.judge.specs.Alike.{by_table, Lower};
 ghost use Rattle.judge.specs.Shapes.{InTypes, Shapes, Pointee, part_count};
 
 use crate::rows::{base_at, kind_at, second_word};
-use bindings::types::{first_word, word};
+use bindings::types::first_word;
 use module::handles::TypeHandle;
 use module::kinds::TypeKind;
+use module::tables::word;
 
 // Whether the table says that two types are alike.
 pub fn is_alike(alike: &[u32], a: TypeHandle, b: TypeHandle) -> bool

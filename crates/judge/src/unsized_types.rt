@@ -11,9 +11,10 @@ ghost use Rattle.judge.specs.Marked.{marked};
 ghost use Rattle.judge.specs.Unsized.{UnsizedTable};
 
 use crate::rows::{base_at, base_count, kind_at, second_word};
-use bindings::types::{first_word, word};
+use bindings::types::first_word;
 use module::handles::TypeHandle;
 use module::kinds::TypeKind;
+use module::tables::word;
 
 // Whether the type t is itself an array of count 0 or a binding array.
 fn is_unsized(types: &[u32], t: TypeHandle) -> bool

@@ -11,9 +11,9 @@ use crate::rows::kind_at;
 use crate::subject::Subject;
 use access::file::File;
 use access::kinded::Kinded;
-use bindings::types::word;
 use module::handles::{ExpressionHandle, FunctionHandle, TypeHandle};
 use module::kinds::TypeKind;
+use module::tables::word;
 
 // The type of the expression e; 0, where there is none.
 // Stays: 0 is what the definition says of an expression that is not there, and an Option would be opened to it at each of the calls.

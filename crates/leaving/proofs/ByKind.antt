@@ -24,7 +24,7 @@ use Rattle.module.proofs.Each.{past}
 use Rattle.judge.proofs.PathSteps.{function_valid}
 use Rattle.asking.specs.Asks.{StepGiven}
 use Rattle.standing.specs.Standing.{Valued, inside, Walked}
-use Rattle.standing.specs.declared.passing.Passing.{Passing}
+use Rattle.standing.specs.Passing.{Passing}
 use Rattle.standing.specs.Exits.{Exits}
 use Rattle.standing.proofs.Walks.{walked_nop}
 use Rattle.standing.proofs.Taken.{taken_ready, walked_break, walked_continue, walked_return, walked_value, value_full}

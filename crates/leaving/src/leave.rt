@@ -1,6 +1,7 @@
 // Break, continue and return take their target's needs; a return needs what is asked of its value too.
 ghost use Rattle.std.specs.Prelude.{◌≡◌, ◌<◌};
 ghost use Rattle.leaving.specs.Leaves.{LeaveGivenOf, Leaves};
+ghost use Rattle.standing.specs.Passing.{going, outcome};
 
 use access::kinded::Kinded;
 use asking::ask::ask_returned;
@@ -8,7 +9,7 @@ use hold::hold::copy;
 use judge::subject::Subject;
 use memory::parts::Parts;
 use module::kinds::StatementKind;
-use standing::passing::{Exits, Passing, filled};
+use standing::passing::{Exits, Passing};
 
 // A return.
 fn pass_return(
@@ -19,20 +20,18 @@ fn pass_return(
     p: Passing,
     l: u32,
     row: Kinded,
-) -> Passing
-    requires leave_given { LeaveGivenOf subject.now parts.old.cells parts.old.slots n x p l row }
+) -> Option<Passing>
+    requires leave_given { LeaveGivenOf subject.now parts.old.cells parts.old.slots n x (going p) l row }
     requires kind_value { row.kind ≡ 7 }
-    ensures { Leaves subject.now.file.now.bytes subject.now.file.now.t subject.now.f.0 parts.old.cells parts.old.slots n x p l parts.new.cells parts.new.slots result }
+    ensures { Leaves subject.now.file.now.bytes subject.now.file.now.t subject.now.f.0 parts.old.cells parts.old.slots n x (going p) l parts.new.cells parts.new.slots (outcome result) }
 {
     let last = n - 1;
     copy(&mut parts.slots, x.returned, last);
     let Some(value) = subject.file.optional_expression(row, 0) else {
-        return p;
+        return Some(p);
     };
-    if ask_returned(subject.file, subject.f, parts, n, value) {
-        return p;
-    }
-    filled()
+    ask_returned(subject.file, subject.f, parts, n, value)?;
+    Some(p)
 }
 
 // The statement l, of a kind past a loop's, that is no store. A kind past the last is a break's.
@@ -44,22 +43,22 @@ pub fn pass_leaving(
     p: Passing,
     l: u32,
     row: Kinded,
-) -> Passing
-    requires leave_given { LeaveGivenOf subject.now parts.old.cells parts.old.slots n x p l row }
+) -> Option<Passing>
+    requires leave_given { LeaveGivenOf subject.now parts.old.cells parts.old.slots n x (going p) l row }
     requires lt_kind { (4 < row.kind) × (row.kind ≡ 12 → ⊥) }
-    ensures { Leaves subject.now.file.now.bytes subject.now.file.now.t subject.now.f.0 parts.old.cells parts.old.slots n x p l parts.new.cells parts.new.slots result }
+    ensures { Leaves subject.now.file.now.bytes subject.now.file.now.t subject.now.f.0 parts.old.cells parts.old.slots n x (going p) l parts.new.cells parts.new.slots (outcome result) }
 {
     let last = n - 1;
     match StatementKind::try_from(row.kind) {
         Ok(StatementKind::Return) => pass_return(subject, parts, n, x, p, l, row),
         Ok(StatementKind::Continue) => {
             copy(&mut parts.slots, x.continued, last);
-            p
+            Some(p)
         }
         Ok(StatementKind::Break) | Err(_) => {
             copy(&mut parts.slots, x.broke, last);
-            p
+            Some(p)
         }
-        Ok(_) => p,
+        Ok(_) => Some(p),
     }
 }

@@ -13,6 +13,7 @@ use field::limits::MAX_FUNCTIONS;
 use module::handles::FunctionHandle;
 use module::kinds::StatementKind;
 use module::tables::{MAX_ITEMS, put, row_at, word};
+use std::ops::Range;
 
 // By function, behind the places by item.
 pub const STARTS: usize = MAX_ITEMS;
@@ -27,16 +28,21 @@ pub fn start(places: &[u32], f: usize) -> usize
     places[STARTS + f] as usize
 }
 
+// The marks of f, by their places.
+pub fn range(places: &[u32], f: FunctionHandle) -> Range<usize>
+    requires { starts_at + (f.0 + 1) < length places.now }
+    ensures start { result.start ≡ start_in places.now f.0 }
+    ensures end { result.end ≡ start_in places.now (f.0 + 1) }
+{
+    let i = f.0 as usize;
+    start(places, i)..start(places, i + 1)
+}
+
 // The number of a statement among the items of the file.
 fn statement_number(file: &File, f: FunctionHandle, s: u32) -> usize
     ensures { result ≡ statement_number file.now.t f.0 s }
 {
-    let row = file.row(f);
-    (row.items as usize)
-        + (row.arguments as usize)
-        + (row.locals as usize)
-        + (row.expressions as usize)
-        + (s as usize)
+    file.row(f).statements_from() + (s as usize)
 }
 
 // Where the marks of the statement s of f begin.

@@ -6,7 +6,7 @@ ghost use Rattle.marks.specs.Places.{size_in, Inside, AllInside};
 ghost use Rattle.marks.specs.Report.{totals_at, Sized, part_in, report_in};
 
 use crate::lent::{clear, copy};
-use crate::places::start;
+use crate::places::{range, start};
 use field::limits::{MAX_FUNCTIONS, MIN_REPORT};
 use module::handles::FunctionHandle;
 
@@ -33,7 +33,7 @@ fn write_part(
 {
     let i = f.0 as usize;
     let from = start(places, i);
-    if f.0 == asked.0 {
+    if f == asked {
         copy(part, marks, from);
         return;
     }
@@ -57,9 +57,14 @@ pub fn write_report(
     ensures { report.new ≡ write_marks report.old 0 (report_in places.now marks.now totals.now asked.0 n) }
 {
     for f in 0..n {
-        let from = start(places, f);
-        let to = start(places, f + 1);
         let i = FunctionHandle(f as u32);
-        write_part(&mut report[from..to], places, marks, totals, asked, i);
+        write_part(
+            &mut report[range(places, i)],
+            places,
+            marks,
+            totals,
+            asked,
+            i,
+        );
     }
 }

@@ -7,7 +7,7 @@ ghost use Rattle.marks.specs.Places.{slice, start_in, size_in, Inside, recorded_
 ghost use Rattle.marks.specs.Report.{totals_at, Sized};
 
 use crate::lent::{add, clear, copy};
-use crate::places::start;
+use crate::places::range;
 use crate::report::{HAS_TOTAL, TOTALS};
 use module::handles::FunctionHandle;
 use part::store::EMPTY_PIECE;
@@ -47,10 +47,7 @@ pub fn clear_marks(marks: &mut [u8], places: &[u32], f: FunctionHandle)
     requires { Inside places.now f.0 (length marks.old) }
     ensures { marks.new ≡ write_marks marks.old (start_in places.now f.0) (replicate (size_in places.now f.0) 0) }
 {
-    let i = f.0 as usize;
-    let from = start(places, i);
-    let to = start(places, i + 1);
-    clear(&mut marks[from..to]);
+    clear(&mut marks[range(places, f)]);
 }
 
 // The first total of f: its marks as they are.
@@ -58,13 +55,13 @@ pub fn keep_marks(totals: &mut [u8], marks: &[u8], places: &[u32], f: FunctionHa
     requires { Inside places.now f.0 min_report × Sized marks.now totals.old × (f.0 < totals_at) }
     ensures { totals.new ≡ write_marks (set totals.old f.0 1) (totals_at + start_in places.now f.0) (slice marks.now (start_in places.now f.0) (size_in places.now f.0)) }
 {
-    let i = f.0 as usize;
-    let from = start(places, i);
-    let to = start(places, i + 1);
-    totals[i] = HAS_TOTAL;
-    let first = TOTALS + from;
-    let last = TOTALS + to;
-    copy(&mut totals[first..last], marks, from);
+    let own = range(places, f);
+    totals[f.0 as usize] = HAS_TOTAL;
+    copy(
+        &mut totals[TOTALS + own.start..TOTALS + own.end],
+        marks,
+        own.start,
+    );
 }
 
 // A later one: joined to the marks of the total.
@@ -72,10 +69,10 @@ pub fn add_marks(totals: &mut [u8], marks: &[u8], places: &[u32], f: FunctionHan
     requires { Inside places.now f.0 min_report × Sized marks.now totals.old }
     ensures { totals.new ≡ write_marks totals.old (totals_at + start_in places.now f.0) (add_marks (slice totals.old (totals_at + start_in places.now f.0) (size_in places.now f.0)) (slice marks.now (start_in places.now f.0) (size_in places.now f.0))) }
 {
-    let i = f.0 as usize;
-    let from = start(places, i);
-    let to = start(places, i + 1);
-    let first = TOTALS + from;
-    let last = TOTALS + to;
-    add(&mut totals[first..last], marks, from);
+    let own = range(places, f);
+    add(
+        &mut totals[TOTALS + own.start..TOTALS + own.end],
+        marks,
+        own.start,
+    );
 }

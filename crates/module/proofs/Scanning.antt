@@ -1,16 +1,13 @@
--- Scanning fields: one, several, pairs. Each law takes what the code has found so far, and says what the definition then gives.
-use mathlib.Core.Path.{◌≡◌, sym, ap, subst, ◌∙◌}
+-- Fields, one after the other: what is left of the scan gives the whole.
+use mathlib.Core.Path.{◌≡◌, sym, ap}
 use mathlib.Core.Bool.{Bool, true, false}
-use mathlib.Core.List.{List, ◌∷◌}
-use mathlib.Core.Option.{Option}
+use mathlib.Core.List.{List, [], ◌∷◌}
+use mathlib.Core.Option.{some, none as nothing}
 use Prim.Native.Nat.{ℕ, zero, suc, ◌*◌, ◌-◌, ◌<◌, ◌≤◌}
 use native.Mathlib.Omega.{arith}
 use Rattle.field.specs.Field.{field_at}
-use Rattle.std.specs.Prelude as rattle
-use Rattle.std.specs.Prelude.{Some, None}
 use Rattle.module.specs.Record.{fields_to}
-use Rattle.module.specs.Operands.{one, many, pairs, then}
-use Rattle.module.specs.Scan.{Took, left_of}
+use Rattle.module.specs.Operands.{Left, one, many, pairs, then}
 
 suc-pred : (n : ℕ) → 0 < n → n ≡ suc (n - 1)
 suc-pred n h = omega arith
@@ -23,72 +20,55 @@ fields_cons bytes end (suc n) h =
     let e : n ≡ suc n - 1 = omega arith in
     ap (λ (k : ℕ). field_at bytes (end - 2 * suc n) ∷ fields_to bytes end k) e
 
-pub became : {bytes : List ℕ} {end : ℕ} {want : Option (List ℕ)} {r s : rattle.Option ℕ} → Took bytes end want r → r ≡ s → Took bytes end want s
-became {bytes} {end} {want} h e = subst (Took bytes end want) e h
-
--- a definition that is equal to another takes as it does
-pub by_def : {bytes : List ℕ} {end : ℕ} {want other : Option (List ℕ)} {r : rattle.Option ℕ} → want ≡ other → Took bytes end other r → Took bytes end want r
-by_def e t = record { fits = t.fits; is = e ∙ t.is }
-
-module _ (bytes : List ℕ) (end : ℕ) (p : ℕ → Bool) where
-  pub one_none : (n : ℕ) → n ≡ 0 → Took bytes end (one p (fields_to bytes end n)) None
-  unfolding one fields_to
-  one_none n e = record { fits = omega arith; is = rw e }
-
-  pub one-pass : (n : ℕ) → 2 * n ≤ end → 0 < n → p (field_at bytes (end - 2 * n)) ≡ true → Took bytes end (one p (fields_to bytes end n)) (Some (n - 1))
+module _ (p : ℕ → Bool) where
+  pub one_none : {xs : List ℕ} → xs ≡ [] → nothing ≡ one p xs
   unfolding one
-  one-pass n l h e = record { fits = omega arith; is = rw (fields_cons bytes end n h, e) }
+  one_none e = rw e
 
-  pub one-fail : (n : ℕ) → 0 < n → p (field_at bytes (end - 2 * n)) ≡ false → Took bytes end (one p (fields_to bytes end n)) None
+  pub one-pass : {xs ys : List ℕ} {x : ℕ} → xs ≡ x ∷ ys → p x ≡ true → some ys ≡ one p xs
   unfolding one
-  one-fail n h e = record { fits = omega arith; is = rw (fields_cons bytes end n h, e) }
+  one-pass e h = rw (e, h)
 
-  -- what is left of the scan gives the whole
-  pub record Many (whole : Option (List ℕ)) (left more : ℕ) : Type 0 where
-    pub fits : 2 * left ≤ end
-    pub rest : many p more (fields_to bytes end left) ≡ whole
+  pub one-fail : {xs ys : List ℕ} {x : ℕ} → xs ≡ x ∷ ys → p x ≡ false → nothing ≡ one p xs
+  unfolding one
+  one-fail e h = rw (e, h)
 
-  many-step : {whole : Option (List ℕ)} {left more next : ℕ} {r : rattle.Option ℕ} → Many whole left more → more ≡ suc next → Took bytes end (one p (fields_to bytes end left)) r → then (left_of bytes end r) (many p next) ≡ whole
+  many-step : (xs : List ℕ) {whole left : Left} {more next : ℕ} → many p more xs ≡ whole → more ≡ suc next → left ≡ one p xs → then left (many p next) ≡ whole
   unfolding many
-  many-step {whole} {left} {more} {next} s e t =
-      let step : then (one p (fields_to bytes end left)) (many p next) ≡ whole = rw e at s.rest in
-      rw t.is at step
+  many-step xs {whole} {left} {more} {next} s e t =
+      let step : then (one p xs) (many p next) ≡ whole = rw e at s in
+      rw (sym t) at step
 
-  pub many_again : {whole : Option (List ℕ)} {left more next m : ℕ} → Many whole left more → more ≡ suc next → Took bytes end (one p (fields_to bytes end left)) (Some m) → Many whole m next
-  many_again s e t = record { fits = t.fits; rest = many-step s e t }
+  pub many_again : (xs : List ℕ) {ys : List ℕ} {whole : Left} {more next : ℕ} → many p more xs ≡ whole → more ≡ suc next → some ys ≡ one p xs → many p next ys ≡ whole
+  many_again xs s e t = many-step xs s e t
 
-  pub many_stops : {whole : Option (List ℕ)} {left more : ℕ} → Many whole left more → 0 < more → Took bytes end (one p (fields_to bytes end left)) None → Took bytes end whole None
-  many_stops {whole} {left} {more} s h t = record { fits = t.fits; is = sym (many-step s (suc-pred more h) t) }
+  pub many_stops : (xs : List ℕ) {whole : Left} {more : ℕ} → many p more xs ≡ whole → 0 < more → nothing ≡ one p xs → nothing ≡ whole
+  many_stops xs {whole} {more} s h t = many-step xs s (suc-pred more h) t
 
-  pub many_done : {whole : Option (List ℕ)} {left more : ℕ} → Many whole left more → more ≤ 0 → Took bytes end whole (Some left)
+  pub many_done : (xs : List ℕ) {whole : Left} {more : ℕ} → many p more xs ≡ whole → more ≤ 0 → some xs ≡ whole
   unfolding many
-  many_done {whole} {left} {more} s h =
+  many_done xs {whole} {more} s h =
       let e : more ≡ 0 = omega arith in
-      record { fits = s.fits; is = sym s.rest ∙ rw e }
+      rw e at s
 
-module _ (bytes : List ℕ) (end : ℕ) (p q : ℕ → Bool) where
-  pub record Pairs (whole : Option (List ℕ)) (left more : ℕ) : Type 0 where
-    pub fits : 2 * left ≤ end
-    pub rest : pairs p q more (fields_to bytes end left) ≡ whole
-
-  pairs-step : {whole : Option (List ℕ)} {left more next : ℕ} {r : rattle.Option ℕ} → Pairs whole left more → more ≡ suc next → Took bytes end (one p (fields_to bytes end left)) r → then (left_of bytes end r) (λ ys. then (one q ys) (pairs p q next)) ≡ whole
+module _ (p q : ℕ → Bool) where
+  pairs-step : (xs : List ℕ) {whole left : Left} {more next : ℕ} → pairs p q more xs ≡ whole → more ≡ suc next → left ≡ one p xs → then left (λ ys. then (one q ys) (pairs p q next)) ≡ whole
   unfolding pairs
-  pairs-step {whole} {left} {more} {next} i e t =
-      let step : then (one p (fields_to bytes end left)) (λ ys. then (one q ys) (pairs p q next)) ≡ whole = rw e at i.rest in
-      rw t.is at step
+  pairs-step xs {whole} {left} {more} {next} s e t =
+      let step : then (one p xs) (λ ys. then (one q ys) (pairs p q next)) ≡ whole = rw e at s in
+      rw (sym t) at step
 
-  pub pairs_again : {whole : Option (List ℕ)} {left more next m k : ℕ} → Pairs whole left more → more ≡ suc next → Took bytes end (one p (fields_to bytes end left)) (Some m) → Took bytes end (one q (fields_to bytes end m)) (Some k) → Pairs whole k next
-  pairs_again i e t u = record { fits = u.fits; rest = rw u.is at (pairs-step i e t) }
+  pub pairs_again : (xs ys : List ℕ) {zs : List ℕ} {whole : Left} {more next : ℕ} → pairs p q more xs ≡ whole → more ≡ suc next → some ys ≡ one p xs → some zs ≡ one q ys → pairs p q next zs ≡ whole
+  pairs_again xs ys s e t u = rw (sym u) at (pairs-step xs s e t)
 
-  pub pairs_stop : {whole : Option (List ℕ)} {left more : ℕ} → Pairs whole left more → 0 < more → Took bytes end (one p (fields_to bytes end left)) None → Took bytes end whole None
-  pairs_stop {whole} {left} {more} i h t = record { fits = t.fits; is = sym (pairs-step i (suc-pred more h) t) }
+  pub pairs_stop : (xs : List ℕ) {whole : Left} {more : ℕ} → pairs p q more xs ≡ whole → 0 < more → nothing ≡ one p xs → nothing ≡ whole
+  pairs_stop xs {whole} {more} s h t = pairs-step xs s (suc-pred more h) t
 
-  pub pairs_stop_second : {whole : Option (List ℕ)} {left more m : ℕ} → Pairs whole left more → 0 < more → Took bytes end (one p (fields_to bytes end left)) (Some m) → Took bytes end (one q (fields_to bytes end m)) None → Took bytes end whole None
-  pairs_stop_second {whole} {left} {more} i h t u =
-      record { fits = u.fits; is = sym (rw u.is at (pairs-step i (suc-pred more h) t)) }
+  pub pairs_stop_second : (xs ys : List ℕ) {whole : Left} {more : ℕ} → pairs p q more xs ≡ whole → 0 < more → some ys ≡ one p xs → nothing ≡ one q ys → nothing ≡ whole
+  pairs_stop_second xs ys {whole} {more} s h t u = rw (sym u) at (pairs-step xs s (suc-pred more h) t)
 
-  pub pairs_done : {whole : Option (List ℕ)} {left more : ℕ} → Pairs whole left more → more ≤ 0 → Took bytes end whole (Some left)
+  pub pairs_done : (xs : List ℕ) {whole : Left} {more : ℕ} → pairs p q more xs ≡ whole → more ≤ 0 → some xs ≡ whole
   unfolding pairs
-  pairs_done {whole} {left} {more} i h =
+  pairs_done xs {whole} {more} s h =
       let e : more ≡ 0 = omega arith in
-      record { fits = i.fits; is = sym i.rest ∙ rw e }
+      rw e at s

@@ -3,8 +3,7 @@ use mathlib.Core.Path.{◌≡◌, refl, sym, ap, ◌∙◌}
 use mathlib.Core.List.{List, [], ◌∷◌, map}
 use Prim.Native.Nat.{ℕ, zero, suc, ◌<◌, ◌≤◌}
 use native.Mathlib.Omega.{arith}
-use native.Mathlib.Nat.{le_of_suc-le-suc}
-use lib.ListN.{length, get_or, get_or-eq_default}
+use lib.ListN.{get_or, get_or-eq_default}
 use borrow.Author.Tests.{ne_eqb}
 use Rattle.std.specs.Prelude.{Some}
 use Rattle.std.proofs.lemmas.List.{get_or-map}
@@ -12,13 +11,14 @@ use Rattle.module.specs.declared.shape.Class.{Class}
 use Rattle.module.specs.Shape.{Operand, never, type_shapes, type_shape, expression_shapes, expression_shape, statement_shapes, statement_shape}
 use Rattle.module.specs.Packed.{operand_of, class_then, unpack, classes, meant, class_at}
 
-row : (table : List ℕ) (k : ℕ) → k < length table → get_or (map (unpack classes) table) k (never ∷ []) ≡ unpack classes (get_or table k 0)
-row [] k h = absurd (omega arith)
-row (x ∷ xs) zero h = refl
-row (x ∷ xs) (suc k) h = row xs k (le_of_suc-le-suc h)
+row : (table : List ℕ) (k : ℕ) → get_or (map (unpack classes) table) k (never ∷ []) ≡ unpack classes (get_or table k 21)
+unfolding unpack class_then operand_of
+row [] k = refl
+row (x ∷ xs) zero = refl
+row (x ∷ xs) (suc k) = row xs k
 
-row_of : (table : List ℕ) (shapes : List (List Operand)) → map (unpack classes) table ≡ shapes → (k : ℕ) → k < length table → unpack classes (get_or table k 0) ≡ get_or shapes k (never ∷ [])
-row_of table shapes whole k h = sym (row table k h) ∙ ap (λ (l : List (List Operand)). get_or l k (never ∷ [])) whole
+row_of : (table : List ℕ) (shapes : List (List Operand)) → map (unpack classes) table ≡ shapes → (k : ℕ) → unpack classes (get_or table k 21) ≡ get_or shapes k (never ∷ [])
+row_of table shapes whole k = sym (row table k) ∙ ap (λ (l : List (List Operand)). get_or l k (never ∷ [])) whole
 
 abbrev type_table : List ℕ
 type_table = 0 ∷ 16 ∷ 528 ∷ 0 ∷ 15 ∷ 111 ∷ 17 ∷ 15 ∷ 0 ∷ []
@@ -27,12 +27,8 @@ types_whole : map (unpack classes) type_table ≡ type_shapes
 unfolding type_shapes unpack class_then operand_of
 types_whole = refl
 
-pub type_row : (k : ℕ) → k < 9 → unpack classes (get_or type_table k 0) ≡ type_shape k
-type_row k h = row_of type_table type_shapes types_whole k h
-
-pub no_type : (k : ℕ) → 9 ≤ k → unpack classes 21 ≡ type_shape k
-unfolding type_shapes unpack class_then operand_of
-no_type k h = sym (get_or-eq_default type_shapes (never ∷ []) h)
+pub type_row : (k : ℕ) → unpack classes (get_or type_table k 21) ≡ type_shape k
+type_row k = row_of type_table type_shapes types_whole k
 
 abbrev expression_table : List ℕ
 expression_table = 0 ∷ 0 ∷ 0 ∷ 97 ∷ 33 ∷ 0 ∷ 1 ∷ 161 ∷ 4 ∷ 8 ∷ 9 ∷ 10 ∷ 1 ∷ 73466913 ∷ 2164769 ∷ 65 ∷ 1 ∷ 33 ∷ 1057 ∷ 1 ∷ 1 ∷ 67649 ∷ 1 ∷ 0 ∷ 0 ∷ 1 ∷ 0 ∷ 1 ∷ 0 ∷ 0 ∷ 0 ∷ 0 ∷ []
@@ -41,12 +37,8 @@ expressions_whole : map (unpack classes) expression_table ≡ expression_shapes
 unfolding expression_shapes unpack class_then operand_of
 expressions_whole = refl
 
-pub expression-row : (k : ℕ) → k < 32 → unpack classes (get_or expression_table k 0) ≡ expression_shape k
-expression-row k h = row_of expression_table expression_shapes expressions_whole k h
-
-pub no-expression : (k : ℕ) → 32 ≤ k → unpack classes 21 ≡ expression_shape k
-unfolding expression_shapes unpack class_then operand_of
-no-expression k h = sym (get_or-eq_default expression_shapes (never ∷ []) h)
+pub expression-row : (k : ℕ) → unpack classes (get_or expression_table k 21) ≡ expression_shape k
+expression-row k = row_of expression_table expression_shapes expressions_whole k
 
 abbrev statement_table : List ℕ
 statement_table = 14 ∷ 11 ∷ 11617 ∷ 385 ∷ 2411 ∷ 0 ∷ 0 ∷ 2 ∷ 0 ∷ 0 ∷ 0 ∷ 0 ∷ 33 ∷ 2081 ∷ 2189 ∷ 34849 ∷ 1 ∷ 33 ∷ 65 ∷ 1063 ∷ 33 ∷ []
@@ -55,12 +47,8 @@ statements_whole : map (unpack classes) statement_table ≡ statement_shapes
 unfolding statement_shapes unpack class_then operand_of
 statements_whole = refl
 
-pub statement-row : (k : ℕ) → k < 21 → unpack classes (get_or statement_table k 0) ≡ statement_shape k
-statement-row k h = row_of statement_table statement_shapes statements_whole k h
-
-pub no_statement : (k : ℕ) → 21 ≤ k → unpack classes 21 ≡ statement_shape k
-unfolding statement_shapes unpack class_then operand_of
-no_statement k h = sym (get_or-eq_default statement_shapes (never ∷ []) h)
+pub statement-row : (k : ℕ) → unpack classes (get_or statement_table k 21) ≡ statement_shape k
+statement-row k = row_of statement_table statement_shapes statements_whole k
 
 abbrev class_table : List Class
 class_table = Class.Never ∷ Class.Expression ∷ Class.Optional ∷ Class.Index ∷ Class.List ∷ Class.Pattern ∷ Class.Level ∷ Class.Mode ∷ Class.Argument ∷ Class.Global ∷ Class.Local ∷ Class.Block ∷ Class.Cases ∷ Class.Function ∷ Class.Range ∷ Class.«Type» ∷ Class.Size ∷ Class.Members ∷ Class.Binding ∷ Class.Flag ∷ Class.Result ∷ []

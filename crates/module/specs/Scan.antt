@@ -1,7 +1,8 @@
 -- How the code says what it has found of a record's fields.
 use Rattle.std.specs.Prelude as rattle
-use Rattle.std.specs.Prelude.{Some, None, ℕ, ◌*◌, ◌≤◌, ◌<◌, ◌≡◌, Bool, true, false, not, List, length, get_or}
+use Rattle.std.specs.Prelude.{Some, None, ℕ, ◌≤◌, ◌<◌, ◌≡◌, Bool, true, false, not, List, [], ◌∷◌, length, get_or}
 use Rattle.std.proofs.Math.Option.{Option, some, none as nothing}
+use Rattle.module.specs.declared.record.Fields.{Fields}
 use Rattle.module.specs.declared.shape.Class.{Class}
 use Rattle.module.specs.declared.operands.Test.{Test}
 use Rattle.module.specs.declared.operands.Test.TheVariants.{Below, BelowOrAbsent, Size, Any, Callable, Never}
@@ -20,19 +21,19 @@ pass_of bytes t Any x = true
 pass_of bytes t (Callable n) x = not (get_or (tab n (λ f. entry_of bytes (row_at t f))) x true)
 pass_of bytes t Never x = false
 
--- how many fields are left, and which
-abbrev pub left_over : rattle.Option ℕ → ℕ
-left_over (Some m) = m
-left_over None = 0
+-- the fields that are still to be read
+abbrev pub fields_in : List ℕ → Fields → List ℕ
+fields_in bytes f = fields_to bytes f.end f.left
 
-abbrev pub left_of : List ℕ → ℕ → rattle.Option ℕ → Option (List ℕ)
-left_of bytes end (Some m) = some (fields_to bytes end m)
-left_of bytes end None = nothing
+-- which are left, where what was taken is allowed
+abbrev pub left_in : List ℕ → rattle.Option Fields → Option (List ℕ)
+left_in bytes (Some f) = some (fields_in bytes f)
+left_in bytes None = nothing
 
--- r is what the definition gives
-pub record Took (bytes : List ℕ) (end : ℕ) (want : Option (List ℕ)) (r : rattle.Option ℕ) : Type 0 where
-  pub fits : 2 * left_over r ≤ end
-  pub is : want ≡ left_of bytes end r
+-- the first field with the others, or no field
+abbrev pub split_in : List ℕ → rattle.Option (ℕ × Fields) → List ℕ
+split_in bytes (Some s) = s.0 ∷ fields_in bytes s.1
+split_in bytes None = []
 
 -- room for a mark at each value that a field may have
 abbrev pub values : ℕ

@@ -10,7 +10,7 @@ ghost use Rattle.module.specs.Checks.{before_of, shape_in, typed_in};
 
 use crate::kinds::{ExpressionKind, StatementKind, TypeKind};
 use crate::operands::operands;
-use crate::record::{Mark, body};
+use crate::record::{Fields, Mark, body};
 use crate::shape::{T, TD, WY, expression_shape, statement_shape, type_shape};
 use crate::tables::{Counts, Stage};
 use field::limits::{
@@ -19,6 +19,7 @@ use field::limits::{
 };
 
 // 3: whether a mark may stand here.
+#[tactic(auto, unfolding(crate::specs::File::placed))]
 pub fn placed(mark: Mark, stage: Stage) -> bool
     ensures { result ≡ placed mark (rank stage) }
 {
@@ -45,6 +46,7 @@ fn count_over(bytes: &[u8], at: u32, i: u32, kind: u16, j: u32, most: usize) -> 
 }
 
 // 4: whether a limit is passed. No table is looked at.
+#[tactic(auto, unfolding(crate::specs::File::over, crate::specs::Tables::scope_in))]
 pub fn over(bytes: &[u8], at: u32, mark: Mark, c: Counts) -> bool
     ensures { result ≡ over mark (scope_in bytes.now [] c) (body_at bytes.now at) }
 {
@@ -84,6 +86,7 @@ pub fn over(bytes: &[u8], at: u32, mark: Mark, c: Counts) -> bool
 }
 
 // How many fields stand before the operands.
+#[tactic(auto, unfolding(crate::specs::Checks::before_of))]
 pub fn before(mark: Mark) -> usize
     ensures { result ≡ before_of mark }
 {
@@ -91,14 +94,11 @@ pub fn before(mark: Mark) -> usize
         Mark::TY => 1,
         Mark::EX => 2,
         Mark::ST => 1,
-        Mark::GV => 0,
-        Mark::FN => 0,
-        Mark::AR => 0,
-        Mark::LV => 0,
-        Mark::BK => 0,
+        _ => 0,
     }
 }
 
+#[tactic(auto, unfolding(crate::specs::Checks::shape_in, crate::specs::Packed::unpack, crate::specs::Packed::class_then, crate::specs::Packed::operand_of))]
 pub fn shape_of(bytes: &[u8], at: u32, mark: Mark) -> u32
     ensures { unpack classes result ≡ shape_in mark (body_at bytes.now at) }
 {
@@ -115,18 +115,13 @@ pub fn shape_of(bytes: &[u8], at: u32, mark: Mark) -> u32
 }
 
 // Whether the type of an expression is there.
+#[tactic(auto, unfolding(crate::specs::Checks::typed_in))]
 fn typed(bytes: &[u8], at: u32, mark: Mark, types: u32) -> bool
     ensures { result ≡ typed_in mark types (body_at bytes.now at) }
 {
     match mark {
         Mark::EX => (body(bytes, at, 0) as u32) < types,
-        Mark::TY => true,
-        Mark::GV => true,
-        Mark::FN => true,
-        Mark::AR => true,
-        Mark::LV => true,
-        Mark::BK => true,
-        Mark::ST => true,
+        _ => true,
     }
 }
 
@@ -147,14 +142,16 @@ pub fn fine(bytes: &[u8], t: &[u32], seen: &mut [u32], at: u32, mark: Mark, c: C
         return false;
     }
     if typed(bytes, at, mark, c.types) {
-        let end = (at as usize) + 4 + 2 * n;
+        let fields = Fields {
+            end: (at as usize) + 4 + 2 * n,
+            left: n - skip,
+        };
         return operands(
             bytes,
             t,
             seen,
             c,
-            end,
-            n - skip,
+            fields,
             shape_of(bytes, at, mark),
             8 * at + 8,
         );

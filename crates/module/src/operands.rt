@@ -1,16 +1,14 @@
-// Whether the fields of a record are the operands of its shape. `n` fields are left, and the last of them ends at `end`; what takes
-// some of them answers how many are left then, where they are allowed.
-ghost use Rattle.std.specs.Prelude.{◌≡◌, ◌+◌, ◌-◌, ◌*◌, ◌≤◌, ◌<◌, [], MatchOption};
-ghost use Rattle.field.specs.Field.{field_at};
-ghost use Rattle.module.specs.Record.{fields_to};
+// Whether the fields of a record are the operands of its shape. What takes some of them answers which are left then, where they
+// are allowed.
+ghost use Rattle.std.specs.Prelude.{◌≡◌, ◌+◌, ◌≤◌, []};
 ghost use Rattle.module.specs.Operands.{one, many, pairs, counted, cases_after, unemitted, taken, operands, range_in, result_in, below, below_or_absent, bindings, pattern_after, code_after};
 ghost use Rattle.module.specs.Packed.{meant, unpack, classes};
 ghost use Rattle.module.specs.declared.shape.Class.TheVariants.{Cases};
 ghost use Rattle.module.specs.Tables.{scope_in, emitted_of};
-ghost use Rattle.module.specs.Scan.{pass_of, Took, Fresh, Stamped, class_taken};
+ghost use Rattle.module.specs.Scan.{pass_of, fields_in, left_in, Fresh, Stamped, class_taken};
 
 use crate::handles::FunctionHandle;
-use crate::record::body;
+use crate::record::{Fields, body};
 use crate::shape::{Class, class_of};
 use crate::tables::{Counts, MARKS, put, row_at, word};
 use field::limits::ABSENT;
@@ -65,37 +63,24 @@ pub fn passes(bytes: &[u8], t: &[u32], test: Test, x: u16) -> bool
     }
 }
 
-// The first field, where there is one.
-fn first(bytes: &[u8], end: usize, n: usize) -> Option<u16>
-    requires { 2 * n ≤ end }
-    ensures { MatchOption result (n ≡ 0) (λ x. (0 < n) × (x ≡ field_at bytes.now (end - 2 * n))) }
-{
-    if n == 0 {
-        return None;
-    }
-    Some(field::field::get(bytes, end - 2 * n))
-}
-
 // One field.
-pub fn one(bytes: &[u8], t: &[u32], end: usize, n: usize, test: Test) -> Option<usize>
-    requires { 2 * n ≤ end }
-    ensures { Took bytes.now end (one (pass_of bytes.now t.now test) (fields_to bytes.now end n)) result }
+pub fn one(bytes: &[u8], t: &[u32], fields: Fields, test: Test) -> Option<Fields>
+    ensures { left_in bytes.now result ≡ one (pass_of bytes.now t.now test) (fields_in bytes.now fields) }
 {
-    let x = first(bytes, end, n)?;
+    let (x, others) = fields.split_first(bytes)?;
     if passes(bytes, t, test, x) {
-        return Some(n - 1);
+        return Some(others);
     }
     None
 }
 
 // `count` fields.
-pub fn many(bytes: &[u8], t: &[u32], end: usize, n: usize, test: Test, count: u16) -> Option<usize>
-    requires { 2 * n ≤ end }
-    ensures { Took bytes.now end (many (pass_of bytes.now t.now test) count (fields_to bytes.now end n)) result }
+pub fn many(bytes: &[u8], t: &[u32], fields: Fields, test: Test, count: u16) -> Option<Fields>
+    ensures { left_in bytes.now result ≡ many (pass_of bytes.now t.now test) count (fields_in bytes.now fields) }
 {
-    let mut left = n;
+    let mut left = fields;
     for _k in 0..count {
-        left = one(bytes, t, end, left, test)?;
+        left = one(bytes, t, left, test)?;
     }
     Some(left)
 }
@@ -105,101 +90,84 @@ pub fn many(bytes: &[u8], t: &[u32], end: usize, n: usize, test: Test, count: u1
 pub fn pairs(
     bytes: &[u8],
     t: &[u32],
-    end: usize,
-    n: usize,
+    fields: Fields,
     p: Test,
     q: Test,
     count: u16,
-) -> Option<usize>
-    requires { 2 * n ≤ end }
-    ensures { Took bytes.now end (pairs (pass_of bytes.now t.now p) (pass_of bytes.now t.now q) count (fields_to bytes.now end n)) result }
+) -> Option<Fields>
+    ensures { left_in bytes.now result ≡ pairs (pass_of bytes.now t.now p) (pass_of bytes.now t.now q) count (fields_in bytes.now fields) }
 {
-    let mut left = n;
+    let mut left = fields;
     for _k in 0..count {
-        let m = one(bytes, t, end, left, p)?;
-        left = one(bytes, t, end, m, q)?;
+        let second = one(bytes, t, left, p)?;
+        left = one(bytes, t, second, q)?;
     }
     Some(left)
 }
 
 // A count, and as many expressions.
-pub fn list(bytes: &[u8], t: &[u32], end: usize, n: usize, expressions: u32) -> Option<usize>
-    requires { 2 * n ≤ end }
-    ensures { Took bytes.now end (counted (many (below expressions)) (fields_to bytes.now end n)) result }
+pub fn list(bytes: &[u8], t: &[u32], fields: Fields, expressions: u32) -> Option<Fields>
+    ensures { left_in bytes.now result ≡ counted (many (below expressions)) (fields_in bytes.now fields) }
 {
-    let count = first(bytes, end, n)?;
-    many(bytes, t, end, n - 1, Test::Below(expressions), count)
+    let (count, others) = fields.split_first(bytes)?;
+    many(bytes, t, others, Test::Below(expressions), count)
 }
 
 // A count of 2 to 4, and as many letters.
-pub fn pattern(bytes: &[u8], t: &[u32], end: usize, n: usize) -> Option<usize>
-    requires { 2 * n ≤ end }
-    ensures { Took bytes.now end (counted pattern_after (fields_to bytes.now end n)) result }
+pub fn pattern(bytes: &[u8], t: &[u32], fields: Fields) -> Option<Fields>
+    ensures { left_in bytes.now result ≡ counted pattern_after (fields_in bytes.now fields) }
 {
-    let count = first(bytes, end, n)?;
+    let (count, others) = fields.split_first(bytes)?;
     if count < 2 {
         return None;
     }
     if 4 < count {
         return None;
     }
-    many(bytes, t, end, n - 1, Test::Below(4), count)
+    many(bytes, t, others, Test::Below(4), count)
 }
 
 // A code, and as many expressions as `handles` gives it.
 pub fn coded(
     bytes: &[u8],
     t: &[u32],
-    end: usize,
-    n: usize,
+    fields: Fields,
     expressions: u32,
     handles: &[u16],
-) -> Option<usize>
-    requires { 2 * n ≤ end }
-    ensures { Took bytes.now end (counted (code_after expressions handles.now) (fields_to bytes.now end n)) result }
+) -> Option<Fields>
+    ensures { left_in bytes.now result ≡ counted (code_after expressions handles.now) (fields_in bytes.now fields) }
 {
-    let code = first(bytes, end, n)? as usize;
+    let (number, others) = fields.split_first(bytes)?;
+    let code = number as usize;
     if handles.len() <= code {
         return None;
     }
-    many(
-        bytes,
-        t,
-        end,
-        n - 1,
-        Test::Below(expressions),
-        handles[code],
-    )
+    many(bytes, t, others, Test::Below(expressions), handles[code])
 }
 
 // A count, and as many types with their bindings.
-pub fn members(bytes: &[u8], t: &[u32], end: usize, n: usize, types: u32) -> Option<usize>
-    requires { 2 * n ≤ end }
-    ensures { Took bytes.now end (counted (pairs (below types) (below_or_absent bindings)) (fields_to bytes.now end n)) result }
+pub fn members(bytes: &[u8], t: &[u32], fields: Fields, types: u32) -> Option<Fields>
+    ensures { left_in bytes.now result ≡ counted (pairs (below types) (below_or_absent bindings)) (fields_in bytes.now fields) }
 {
-    let count = first(bytes, end, n)?;
+    let (count, others) = fields.split_first(bytes)?;
     let p = Test::Below(types);
     let q = Test::BelowOrAbsent(BINDINGS);
-    pairs(bytes, t, end, n - 1, p, q, count)
+    pairs(bytes, t, others, p, q, count)
 }
 
 // A result type and its binding, either of which may be absent, but not the type alone.
-pub fn result(bytes: &[u8], t: &[u32], end: usize, n: usize, types: u32) -> Option<usize>
-    requires { 2 * n ≤ end }
-    ensures { Took bytes.now end (result_in types (fields_to bytes.now end n)) result }
+pub fn result(bytes: &[u8], t: &[u32], fields: Fields, types: u32) -> Option<Fields>
+    ensures { left_in bytes.now result ≡ result_in types (fields_in bytes.now fields) }
 {
-    if n < 2 {
-        return None;
-    }
-    let ty = field::field::get(bytes, end - 2 * n);
-    let binding = field::field::get(bytes, end - 2 * (n - 1));
+    let (ty, second) = fields.split_first(bytes)?;
+    let (binding, others) = second.split_first(bytes)?;
     if passes(bytes, t, Test::BelowOrAbsent(types), ty) {
         if passes(bytes, t, Test::BelowOrAbsent(BINDINGS), binding) {
             if ty < ABSENT {
-                return Some(n - 2);
+                return Some(others);
             }
             if binding == ABSENT {
-                return Some(n - 2);
+                return Some(others);
             }
         }
     }
@@ -220,15 +188,13 @@ pub fn unemitted(t: &[u32], first: u32, count: u32, expressions: u32) -> bool
 }
 
 // The first and the last expression of an emit.
-pub fn range(bytes: &[u8], t: &[u32], end: usize, n: usize, expressions: u32) -> Option<usize>
-    requires { 2 * n ≤ end }
-    ensures { Took bytes.now end (range_in expressions (emitted_of t.now expressions) (fields_to bytes.now end n)) result }
+pub fn range(bytes: &[u8], t: &[u32], fields: Fields, expressions: u32) -> Option<Fields>
+    ensures { left_in bytes.now result ≡ range_in expressions (emitted_of t.now expressions) (fields_in bytes.now fields) }
 {
-    if n < 2 {
-        return None;
-    }
-    let first = field::field::get(bytes, end - 2 * n) as u32;
-    let last = field::field::get(bytes, end - 2 * (n - 1)) as u32;
+    let (first, second) = fields.split_first(bytes)?;
+    let (last, others) = second.split_first(bytes)?;
+    let first = first as u32;
+    let last = last as u32;
     if last < first {
         return None;
     }
@@ -236,31 +202,27 @@ pub fn range(bytes: &[u8], t: &[u32], end: usize, n: usize, expressions: u32) ->
         return None;
     }
     if unemitted(t, first, last + 1 - first, expressions) {
-        return Some(n - 2);
+        return Some(others);
     }
     None
 }
 
 // A count, and as many values with their blocks: distinct, and the default among them. `seen` holds the stamp at each value that
 // was there, so that it need not be cleared.
-pub fn cases(bytes: &[u8], seen: &mut [u32], end: usize, n: usize, stamp: u32) -> Option<usize>
-    requires n_bound { 2 * n ≤ end }
+pub fn cases(bytes: &[u8], seen: &mut [u32], fields: Fields, stamp: u32) -> Option<Fields>
     requires fresh { Fresh seen.old stamp }
-    ensures took { Took bytes.now end (counted (cases_after []) (fields_to bytes.now end n)) result }
+    ensures took { left_in bytes.now result ≡ counted (cases_after []) (fields_in bytes.now fields) }
     ensures stamped { Stamped seen.old seen.new stamp }
 {
-    let count = first(bytes, end, n)?;
-    let mut left = n - 1;
+    let (count, mut left) = fields.split_first(bytes)?;
     for _k in 0..count {
-        if left < 2 {
+        let (value, second) = left.split_first(bytes)?;
+        let (_block, others) = second.split_first(bytes)?;
+        if word(seen, value as usize) == stamp {
             return None;
         }
-        let value = field::field::get(bytes, end - 2 * left) as usize;
-        if word(seen, value) == stamp {
-            return None;
-        }
-        put(seen, value, stamp);
-        left -= 2;
+        put(seen, value as usize, stamp);
+        left = others;
     }
     if word(seen, 65535) == stamp {
         return Some(left);
@@ -269,42 +231,34 @@ pub fn cases(bytes: &[u8], seen: &mut [u32], end: usize, n: usize, stamp: u32) -
 }
 
 // One operand of any class but cases, which needs room of its own.
-pub fn plain(
-    bytes: &[u8],
-    t: &[u32],
-    c: Counts,
-    end: usize,
-    n: usize,
-    class: Class,
-) -> Option<usize>
-    requires n_bound { 2 * n ≤ end }
+pub fn plain(bytes: &[u8], t: &[u32], c: Counts, fields: Fields, class: Class) -> Option<Fields>
     requires fact { class ≡ Cases → ⊥ }
-    ensures { Took bytes.now end (taken (meant class) (scope_in bytes.now t.now c) (fields_to bytes.now end n)) result }
+    ensures { left_in bytes.now result ≡ taken (meant class) (scope_in bytes.now t.now c) (fields_in bytes.now fields) }
 {
     let row = c.row;
     let expressions = row.expressions;
     match class {
-        Class::Expression => one(bytes, t, end, n, Test::Below(expressions)),
-        Class::Optional => one(bytes, t, end, n, Test::BelowOrAbsent(expressions)),
-        Class::Index => one(bytes, t, end, n, Test::Below(65535)),
-        Class::List => list(bytes, t, end, n, expressions),
-        Class::Pattern => pattern(bytes, t, end, n),
-        Class::Level => coded(bytes, t, end, n, expressions, &LEVELS),
-        Class::Mode => coded(bytes, t, end, n, expressions, &MODES),
-        Class::Argument => one(bytes, t, end, n, Test::Below(row.arguments)),
-        Class::Global => one(bytes, t, end, n, Test::Below(c.globals)),
-        Class::Local => one(bytes, t, end, n, Test::Below(row.locals)),
-        Class::Block => one(bytes, t, end, n, Test::Any),
+        Class::Expression => one(bytes, t, fields, Test::Below(expressions)),
+        Class::Optional => one(bytes, t, fields, Test::BelowOrAbsent(expressions)),
+        Class::Index => one(bytes, t, fields, Test::Below(65535)),
+        Class::List => list(bytes, t, fields, expressions),
+        Class::Pattern => pattern(bytes, t, fields),
+        Class::Level => coded(bytes, t, fields, expressions, &LEVELS),
+        Class::Mode => coded(bytes, t, fields, expressions, &MODES),
+        Class::Argument => one(bytes, t, fields, Test::Below(row.arguments)),
+        Class::Global => one(bytes, t, fields, Test::Below(c.globals)),
+        Class::Local => one(bytes, t, fields, Test::Below(row.locals)),
+        Class::Block => one(bytes, t, fields, Test::Any),
         Class::Cases => unreachable!(),
-        Class::Function => one(bytes, t, end, n, Test::Callable(c.functions)),
-        Class::Range => range(bytes, t, end, n, expressions),
-        Class::Type => one(bytes, t, end, n, Test::Below(c.types)),
-        Class::Size => one(bytes, t, end, n, Test::Size),
-        Class::Members => members(bytes, t, end, n, c.types),
-        Class::Binding => one(bytes, t, end, n, Test::BelowOrAbsent(BINDINGS)),
-        Class::Flag => one(bytes, t, end, n, Test::Below(2)),
-        Class::Result => result(bytes, t, end, n, c.types),
-        Class::Never => one(bytes, t, end, n, Test::Never),
+        Class::Function => one(bytes, t, fields, Test::Callable(c.functions)),
+        Class::Range => range(bytes, t, fields, expressions),
+        Class::Type => one(bytes, t, fields, Test::Below(c.types)),
+        Class::Size => one(bytes, t, fields, Test::Size),
+        Class::Members => members(bytes, t, fields, c.types),
+        Class::Binding => one(bytes, t, fields, Test::BelowOrAbsent(BINDINGS)),
+        Class::Flag => one(bytes, t, fields, Test::Below(2)),
+        Class::Result => result(bytes, t, fields, c.types),
+        Class::Never => one(bytes, t, fields, Test::Never),
     }
 }
 
@@ -314,51 +268,47 @@ pub fn operand(
     t: &[u32],
     seen: &mut [u32],
     c: Counts,
-    end: usize,
-    n: usize,
+    fields: Fields,
     class: Option<Class>,
     stamp: u32,
-) -> Option<usize>
-    requires n_bound { 2 * n ≤ end }
+) -> Option<Fields>
     requires fresh { Fresh seen.old stamp }
-    ensures took { Took bytes.now end (class_taken class (scope_in bytes.now t.now c) (fields_to bytes.now end n)) result }
+    ensures took { left_in bytes.now result ≡ class_taken class (scope_in bytes.now t.now c) (fields_in bytes.now fields) }
     ensures stamped { Stamped seen.old seen.new stamp }
 {
     let Some(operand) = class else {
-        return Some(n);
+        return Some(fields);
     };
     match operand {
-        Class::Cases => cases(bytes, seen, end, n, stamp),
-        _ => plain(bytes, t, c, end, n, operand),
+        Class::Cases => cases(bytes, seen, fields, stamp),
+        _ => plain(bytes, t, c, fields, operand),
     }
 }
 
-// Whether the n fields are the operands of the shape, and nothing else. `stamp` and the five after it are fresh.
+// Whether the fields are the operands of the shape, and nothing else. `stamp` and the five after it are fresh.
 pub fn operands(
     bytes: &[u8],
     t: &[u32],
     seen: &mut [u32],
     c: Counts,
-    end: usize,
-    n: usize,
+    fields: Fields,
     shape: u32,
     stamp: u32,
 ) -> bool
-    requires n_bound { 2 * n ≤ end }
     requires fresh { Fresh seen.old stamp }
     requires stamp_bound { stamp + 8 ≤ 4294967295 }
-    ensures value { result ≡ operands (unpack classes shape) (scope_in bytes.now t.now c) (fields_to bytes.now end n) }
+    ensures value { result ≡ operands (unpack classes shape) (scope_in bytes.now t.now c) (fields_in bytes.now fields) }
     ensures stamped { Stamped seen.old seen.new (stamp + 6) }
 {
     let mut packed = shape;
-    let mut left = n;
+    let mut left = fields;
     for k in 0..6u32 {
         let class = class_of(packed % 32);
-        let Some(m) = operand(bytes, t, seen, c, end, left, class, stamp + k) else {
+        let Some(others) = operand(bytes, t, seen, c, left, class, stamp + k) else {
             return false;
         };
-        left = m;
+        left = others;
         packed /= 32;
     }
-    left == 0
+    left.left == 0
 }

@@ -1,5 +1,5 @@
 // Records: two letters, the body's length, and its fields.
-ghost use Rattle.std.specs.Prelude.{◌≡◌, get_or};
+ghost use Rattle.std.specs.Prelude.{◌≡◌, ◌*◌, ◌≤◌, get_or};
 ghost use Rattle.module.specs.Record.{mark_of, known, body_at};
 
 #[derive(Clone, Copy, Debug, PartialEq, Eq)]
@@ -14,19 +14,36 @@ pub enum Mark {
     ST,
 }
 
+// The two letters of each, read as one field: the first is the low byte.
+const TY: u16 = (b'T' as u16) + 256 * (b'Y' as u16);
+
+const GV: u16 = (b'G' as u16) + 256 * (b'V' as u16);
+
+const FN: u16 = (b'F' as u16) + 256 * (b'N' as u16);
+
+const AR: u16 = (b'A' as u16) + 256 * (b'R' as u16);
+
+const LV: u16 = (b'L' as u16) + 256 * (b'V' as u16);
+
+const EX: u16 = (b'E' as u16) + 256 * (b'X' as u16);
+
+const BK: u16 = (b'B' as u16) + 256 * (b'K' as u16);
+
+const ST: u16 = (b'S' as u16) + 256 * (b'T' as u16);
+
 // The mark that the two letters make, read as one field.
 pub fn mark_of(letters: u16) -> Option<Mark>
     ensures { known result ≡ mark_of letters }
 {
     match letters {
-        22868 => Some(Mark::TY),
-        22087 => Some(Mark::GV),
-        20038 => Some(Mark::FN),
-        21057 => Some(Mark::AR),
-        22092 => Some(Mark::LV),
-        22597 => Some(Mark::EX),
-        19266 => Some(Mark::BK),
-        21587 => Some(Mark::ST),
+        TY => Some(Mark::TY),
+        GV => Some(Mark::GV),
+        FN => Some(Mark::FN),
+        AR => Some(Mark::AR),
+        LV => Some(Mark::LV),
+        EX => Some(Mark::EX),
+        BK => Some(Mark::BK),
+        ST => Some(Mark::ST),
         _ => None,
     }
 }
@@ -42,4 +59,31 @@ pub fn body(bytes: &[u8], at: u32, j: u32) -> u16
         return field::field::get(bytes, start + 4 + 2 * i);
     }
     0
+}
+
+// The fields of a record that are still to be read: `left` of them, and the last of them ends at `end`.
+#[derive(Clone, Copy, Debug, PartialEq, Eq)]
+pub struct Fields {
+    pub end: usize,
+    pub left: usize,
+    ghost inside: { 2 * left ≤ end },
+}
+
+impl Fields {
+    ghost use Rattle.module.specs.Scan.{fields_in, split_in};
+
+    // The first of them and the others, where there is one.
+    pub fn split_first(self, bytes: &[u8]) -> Option<(u16, Fields)>
+        ensures { fields_in bytes.now self ≡ split_in bytes.now result }
+    {
+        if self.left == 0 {
+            return None;
+        }
+        let first = field::field::get(bytes, self.end - 2 * self.left);
+        let others = Fields {
+            end: self.end,
+            left: self.left - 1,
+        };
+        Some((first, others))
+    }
 }

@@ -1,5 +1,5 @@
 // The operands of each kind. A shape is at most six operand classes, five bits each, the first lowest; 0 is no class.
-ghost use Rattle.std.specs.Prelude.{◌≡◌, option_map};
+ghost use Rattle.std.specs.Prelude.{◌≡◌, option_map, get_or};
 ghost use Rattle.module.specs.Shape.{type_shape, expression_shape, statement_shape};
 ghost use Rattle.module.specs.Packed.{unpack, classes, meant, class_at};
 
@@ -30,6 +30,7 @@ pub enum Class {
 
 // The numbers of the packed tables; elsewhere a class is `Class`. In its order: expression, optional, index, list, pattern, level,
 // mode, argument, global, local, block, cases, function, range, type, size, members, binding, flag, result, never.
+// Stays: numbers, since constant tables are to be small: a slice of classes for each kind would take many times the room.
 pub const E: u32 = 1;
 
 pub const O: u32 = 2;
@@ -165,32 +166,27 @@ pub fn class_of(bits: u32) -> Option<Class>
     Some(CLASSES[bits as usize])
 }
 
+// The shape of a kind by its table. A number past the last is no kind's.
+fn shape_at(table: &[u32], kind: u16) -> u32
+    ensures { result ≡ get_or table.now kind 21 }
+{
+    table.get(kind as usize).copied().unwrap_or(NEVER)
+}
+
 pub fn type_shape(kind: u16) -> u32
     ensures { unpack classes result ≡ type_shape kind }
 {
-    let i = kind as usize;
-    if TYPES.len() <= i {
-        return NEVER;
-    }
-    TYPES[i]
+    shape_at(&TYPES, kind)
 }
 
 pub fn expression_shape(kind: u16) -> u32
     ensures { unpack classes result ≡ expression_shape kind }
 {
-    let i = kind as usize;
-    if EXPRESSIONS.len() <= i {
-        return NEVER;
-    }
-    EXPRESSIONS[i]
+    shape_at(&EXPRESSIONS, kind)
 }
 
 pub fn statement_shape(kind: u16) -> u32
     ensures { unpack classes result ≡ statement_shape kind }
 {
-    let i = kind as usize;
-    if STATEMENTS.len() <= i {
-        return NEVER;
-    }
-    STATEMENTS[i]
+    shape_at(&STATEMENTS, kind)
 }

@@ -1,7 +1,7 @@
 // The tables by which a handle finds its record, in one lent slice of numbers: a row for each function, then the offsets of types,
 // globals and items (arguments, locals, expressions and statements, in the file's order), the first statement of each block, a
 // mark for each expression of the function that is read, and the counts of the whole.
-// Stays: one slice with regions, since the caller lends fixed memory and there is no heap.
+// Stays: one slice. An array for each region is no plainer: each law over the words would stand once for each, and callers lend a struct.
 ghost use Rattle.std.specs.Prelude.{◌≡◌, get_or, set, ◌*◌, ◌+◌};
 ghost use Rattle.module.specs.Tables.{row_at, set_row, locals_from, expressions_from, statements_from, items_to};
 
@@ -26,7 +26,7 @@ pub const HEAD: usize = MARKS + MAX_EXPRESSIONS;
 pub const WORDS: usize = HEAD + 3;
 
 // Of a function: the offset of its FN, how many items and blocks there are before it, and how many of each it has.
-#[derive(Clone, Copy, Debug, PartialEq, Eq)]
+#[derive(Clone, Copy, Debug, Default, PartialEq, Eq)]
 pub struct Row {
     pub offset: u32,
     pub items: u32,

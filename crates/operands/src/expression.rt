@@ -1,6 +1,7 @@
 // What the need of an emitted expression asks of its operands, by the expression's kind.
 ghost use Rattle.std.specs.Prelude.{◌≡◌};
 ghost use Rattle.operands.specs.Arms.{OperandsGivenOf, ArmGivenOf, AsksOperands, PathRoom};
+ghost use Rattle.hold.specs.Fits.{fits};
 
 use crate::indexes::ask_index;
 use crate::load::ask_load;
@@ -20,10 +21,10 @@ fn ask_binary(
     n: usize,
     row: Kinded,
     e: ExpressionHandle,
-) -> bool
+) -> Option<()>
     requires arm_given { ArmGivenOf subject.now e.0 row parts.old.cells parts.old.slots n }
     requires kind_value { row.kind ≡ 17 }
-    ensures { AsksOperands subject.now.file.now.bytes subject.now.file.now.t subject.now.f.0 e.0 parts.old.cells parts.old.slots n parts.new.cells parts.new.slots result }
+    ensures { AsksOperands subject.now.file.now.bytes subject.now.file.now.t subject.now.f.0 e.0 parts.old.cells parts.old.slots n parts.new.cells parts.new.slots (fits result) }
 {
     if by_part(subject, row, e) {
         return ask_both_same(subject.file, subject.f, parts, n, row);
@@ -38,10 +39,10 @@ fn ask_compose(
     n: usize,
     row: Kinded,
     e: ExpressionHandle,
-) -> bool
+) -> Option<()>
     requires arm_given { ArmGivenOf subject.now e.0 row parts.old.cells parts.old.slots n }
     requires kind_value { row.kind ≡ 8 }
-    ensures { AsksOperands subject.now.file.now.bytes subject.now.file.now.t subject.now.f.0 e.0 parts.old.cells parts.old.slots n parts.new.cells parts.new.slots result }
+    ensures { AsksOperands subject.now.file.now.bytes subject.now.file.now.t subject.now.f.0 e.0 parts.old.cells parts.old.slots n parts.new.cells parts.new.slots (fits result) }
 {
     if is_joined(subject.file, subject.f, subject.types, row, e) {
         return ask_joined(subject.file, subject.f, parts, n, row);
@@ -56,10 +57,10 @@ pub fn ask_operands(
     path: &mut [u32],
     n: usize,
     e: ExpressionHandle,
-) -> bool
+) -> Option<()>
     requires operands_given { OperandsGivenOf subject.now parts.old.cells parts.old.slots n e.0 }
     requires path_room { PathRoom subject.now.file.now.bytes subject.now.file.now.t subject.now.f.0 path.old }
-    ensures { AsksOperands subject.now.file.now.bytes subject.now.file.now.t subject.now.f.0 e.0 parts.old.cells parts.old.slots n parts.new.cells parts.new.slots result }
+    ensures { AsksOperands subject.now.file.now.bytes subject.now.file.now.t subject.now.f.0 e.0 parts.old.cells parts.old.slots n parts.new.cells parts.new.slots (fits result) }
 {
     let row = subject.file.expression(subject.f, e);
     match ExpressionKind::try_from(row.kind) {

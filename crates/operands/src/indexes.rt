@@ -7,6 +7,7 @@ ghost use Rattle.clearance.specs.Needs.{of_value};
 ghost use Rattle.judge.specs.Given.{scope_at};
 ghost use Rattle.operands.specs.AsksAll.{ListGiven, AsksAll, wanted_in};
 ghost use Rattle.operands.specs.Lists.{member_of};
+ghost use Rattle.hold.specs.Fits.{fits};
 
 use access::file::File;
 use access::kinded::Kinded;
@@ -25,14 +26,14 @@ pub fn ask_member(
     v: ExpressionHandle,
     i: u32,
     a: u32,
-) -> bool
+) -> Option<()>
     requires list_given { ListGiven (scope_at file.now.bytes file.now.t f.0) (of_value v.0 (more i (part parts.old.cells a) none) ∷ []) parts.old.cells parts.old.slots n }
     requires a_bound { a < top parts.old.cells }
-    ensures { AsksAll (scope_at file.now.bytes file.now.t f.0) (of_value v.0 (more i (part parts.old.cells a) none) ∷ []) parts.old.cells parts.old.slots n parts.new.cells parts.new.slots result }
+    ensures { AsksAll (scope_at file.now.bytes file.now.t f.0) (of_value v.0 (more i (part parts.old.cells a) none) ∷ []) parts.old.cells parts.old.slots n parts.new.cells parts.new.slots (fits result) }
 {
     let mut path = [0, 0, i];
     match source_of(file, f, v) {
-        Source::Given => return true,
+        Source::Given => return Some(()),
         Source::Argument(k) => argument_path(&mut path, k),
         Source::Evaluated => evaluated_path(&mut path, v),
     }
@@ -40,9 +41,15 @@ pub fn ask_member(
 }
 
 // Of what a constant index names, the part that is needed.
-pub fn ask_index(file: &File, f: FunctionHandle, parts: &mut Parts, n: usize, row: Kinded) -> bool
+pub fn ask_index(
+    file: &File,
+    f: FunctionHandle,
+    parts: &mut Parts,
+    n: usize,
+    row: Kinded,
+) -> Option<()>
     requires { ListGiven (scope_at file.now.bytes file.now.t f.0) (member_of (operand_at file.now.bytes row) (wanted_in parts.old.cells parts.old.slots n)) parts.old.cells parts.old.slots n }
-    ensures { AsksAll (scope_at file.now.bytes file.now.t f.0) (member_of (operand_at file.now.bytes row) (wanted_in parts.old.cells parts.old.slots n)) parts.old.cells parts.old.slots n parts.new.cells parts.new.slots result }
+    ensures { AsksAll (scope_at file.now.bytes file.now.t f.0) (member_of (operand_at file.now.bytes row) (wanted_in parts.old.cells parts.old.slots n)) parts.old.cells parts.old.slots n parts.new.cells parts.new.slots (fits result) }
 {
     let base = file.expression_operand(row, 0);
     let index = file.operand(row, 1) as u32;

@@ -7,6 +7,7 @@ ghost use Rattle.place.specs.Steps.{indexes_of};
 ghost use Rattle.operands.specs.Arms.{PathRoom};
 ghost use Rattle.operands.specs.AsksAll.{ListGiven, AsksAll, wanted_in};
 ghost use Rattle.operands.specs.Lists.{load_of};
+ghost use Rattle.hold.specs.Fits.{fits};
 
 use access::file::File;
 use asking::ask::{ask_place, ask_value};
@@ -24,20 +25,18 @@ pub fn ask_indexes(
     parts: &mut Parts,
     n: usize,
     p: ExpressionHandle,
-) -> bool
+) -> Option<()>
     requires list_given { ListGiven (scope_at file.now.bytes file.now.t f.0) (map ask_whole (indexes_of file.now.bytes file.now.t f.0 p.0)) parts.old.cells parts.old.slots n }
     requires pointer { Pointer file.now.bytes file.now.t f.0 p.0 }
-    ensures { AsksAll (scope_at file.now.bytes file.now.t f.0) (map ask_whole (indexes_of file.now.bytes file.now.t f.0 p.0)) parts.old.cells parts.old.slots n parts.new.cells parts.new.slots result }
+    ensures { AsksAll (scope_at file.now.bytes file.now.t f.0) (map ask_whole (indexes_of file.now.bytes file.now.t f.0 p.0)) parts.old.cells parts.old.slots n parts.new.cells parts.new.slots (fits result) }
 {
     let mut h = p;
     loop {
         match step_down(file, f, h) {
-            Step::Variable => return true,
+            Step::Variable => return Some(()),
             Step::Constant(base) => h = base,
             Step::Dynamic(base, index) => {
-                if !ask_value(file, f, parts, n, index, ALL_PIECE) {
-                    return false;
-                }
+                ask_value(file, f, parts, n, index, ALL_PIECE)?;
                 h = base;
             }
         }
@@ -59,15 +58,13 @@ pub fn ask_load(
     path: &mut [u32],
     n: usize,
     p: ExpressionHandle,
-) -> bool
+) -> Option<()>
     requires list_given { ListGiven (scope_at file.now.bytes file.now.t f.0) (load_of (scope_at file.now.bytes file.now.t f.0) p.0 (wanted_in parts.old.cells parts.old.slots n)) parts.old.cells parts.old.slots n }
     requires pointer { Pointer file.now.bytes file.now.t f.0 p.0 }
     requires path_room { PathRoom file.now.bytes file.now.t f.0 path.old }
-    ensures { AsksAll (scope_at file.now.bytes file.now.t f.0) (load_of (scope_at file.now.bytes file.now.t f.0) p.0 (wanted_in parts.old.cells parts.old.slots n)) parts.old.cells parts.old.slots n parts.new.cells parts.new.slots result }
+    ensures { AsksAll (scope_at file.now.bytes file.now.t f.0) (load_of (scope_at file.now.bytes file.now.t f.0) p.0 (wanted_in parts.old.cells parts.old.slots n)) parts.old.cells parts.old.slots n parts.new.cells parts.new.slots (fits result) }
 {
-    if !ask_indexes(file, f, parts, n, p) {
-        return false;
-    }
+    ask_indexes(file, f, parts, n, p)?;
     let target = find_target(file, f, path, p);
     let a = loaded(parts.slots[n - 2], target.dynamic);
     ask_place(parts, n, &path[target.from..target.to], a)

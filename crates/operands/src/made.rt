@@ -6,6 +6,7 @@ ghost use Rattle.clearance.specs.Needs.{ask_whole, ask_picked, ask_components};
 ghost use Rattle.judge.specs.Given.{scope_at};
 ghost use Rattle.operands.specs.AsksAll.{ListGiven, AsksAll, wanted_in};
 ghost use Rattle.operands.specs.Lists.{letter_of, component_of, letters, components, SubpartOf};
+ghost use Rattle.hold.specs.Fits.{fits};
 
 use crate::indexes::ask_member;
 use crate::operators::ask_whole;
@@ -34,10 +35,10 @@ fn ask_letter(
     n: usize,
     row: Kinded,
     k: u16,
-) -> bool
+) -> Option<()>
     requires list_given { ListGiven (scope_at file.now.bytes file.now.t f.0) (letter_of (operand_at file.now.bytes row) k (wanted_in parts.old.cells parts.old.slots n)) parts.old.cells parts.old.slots n }
     requires k_bound { k < 4 }
-    ensures { AsksAll (scope_at file.now.bytes file.now.t f.0) (letter_of (operand_at file.now.bytes row) k (wanted_in parts.old.cells parts.old.slots n)) parts.old.cells parts.old.slots n parts.new.cells parts.new.slots result }
+    ensures { AsksAll (scope_at file.now.bytes file.now.t f.0) (letter_of (operand_at file.now.bytes row) k (wanted_in parts.old.cells parts.old.slots n)) parts.old.cells parts.old.slots n parts.new.cells parts.new.slots (fits result) }
 {
     let vector = file.expression_operand(row, 0);
     let letter = file.operand(row, 2 + k) as u32;
@@ -53,10 +54,10 @@ fn ask_component(
     n: usize,
     row: Kinded,
     k: u16,
-) -> bool
+) -> Option<()>
     requires list_given { ListGiven (scope_at file.now.bytes file.now.t f.0) (component_of (operand_at file.now.bytes row) k (wanted_in parts.old.cells parts.old.slots n)) parts.old.cells parts.old.slots n }
     requires k_bound { k < 65535 }
-    ensures { AsksAll (scope_at file.now.bytes file.now.t f.0) (component_of (operand_at file.now.bytes row) k (wanted_in parts.old.cells parts.old.slots n)) parts.old.cells parts.old.slots n parts.new.cells parts.new.slots result }
+    ensures { AsksAll (scope_at file.now.bytes file.now.t f.0) (component_of (operand_at file.now.bytes row) k (wanted_in parts.old.cells parts.old.slots n)) parts.old.cells parts.old.slots n parts.new.cells parts.new.slots (fits result) }
 {
     let v = file.expression_operand(row, 1 + k);
     let c = subpart(&parts.cells, parts.slots[n - 2], k as u32);
@@ -65,17 +66,21 @@ fn ask_component(
 
 // Stays: the loops here differ in what they ask of an operand. One loop over them would take that as a closure over the parts, with a longer contract than they have.
 // Letters of a vector.
-pub fn ask_letters(file: &File, f: FunctionHandle, parts: &mut Parts, n: usize, row: Kinded) -> bool
+pub fn ask_letters(
+    file: &File,
+    f: FunctionHandle,
+    parts: &mut Parts,
+    n: usize,
+    row: Kinded,
+) -> Option<()>
     requires list_given { ListGiven (scope_at file.now.bytes file.now.t f.0) (ask_picked (operand_at file.now.bytes row 0) (letters (operand_at file.now.bytes row)) 0 (wanted_in parts.old.cells parts.old.slots n)) parts.old.cells parts.old.slots n }
     requires row_bound { operand_at file.now.bytes row 1 ≤ 4 }
-    ensures { AsksAll (scope_at file.now.bytes file.now.t f.0) (ask_picked (operand_at file.now.bytes row 0) (letters (operand_at file.now.bytes row)) 0 (wanted_in parts.old.cells parts.old.slots n)) parts.old.cells parts.old.slots n parts.new.cells parts.new.slots result }
+    ensures { AsksAll (scope_at file.now.bytes file.now.t f.0) (ask_picked (operand_at file.now.bytes row 0) (letters (operand_at file.now.bytes row)) 0 (wanted_in parts.old.cells parts.old.slots n)) parts.old.cells parts.old.slots n parts.new.cells parts.new.slots (fits result) }
 {
     for k in (0..file.operand(row, 1)).rev() {
-        if !ask_letter(file, f, parts, n, row, k) {
-            return false;
-        }
+        ask_letter(file, f, parts, n, row, k)?;
     }
-    true
+    Some(())
 }
 
 // Components, each for its part.
@@ -85,27 +90,29 @@ pub fn ask_components(
     parts: &mut Parts,
     n: usize,
     row: Kinded,
-) -> bool
+) -> Option<()>
     requires { ListGiven (scope_at file.now.bytes file.now.t f.0) (ask_components (components (operand_at file.now.bytes row)) 0 (wanted_in parts.old.cells parts.old.slots n)) parts.old.cells parts.old.slots n }
-    ensures { AsksAll (scope_at file.now.bytes file.now.t f.0) (ask_components (components (operand_at file.now.bytes row)) 0 (wanted_in parts.old.cells parts.old.slots n)) parts.old.cells parts.old.slots n parts.new.cells parts.new.slots result }
+    ensures { AsksAll (scope_at file.now.bytes file.now.t f.0) (ask_components (components (operand_at file.now.bytes row)) 0 (wanted_in parts.old.cells parts.old.slots n)) parts.old.cells parts.old.slots n parts.new.cells parts.new.slots (fits result) }
 {
     for k in (0..file.operand(row, 0)).rev() {
-        if !ask_component(file, f, parts, n, row, k) {
-            return false;
-        }
+        ask_component(file, f, parts, n, row, k)?;
     }
-    true
+    Some(())
 }
 
 // Components of a vector that is made of vectors too: each whole.
-pub fn ask_joined(file: &File, f: FunctionHandle, parts: &mut Parts, n: usize, row: Kinded) -> bool
+pub fn ask_joined(
+    file: &File,
+    f: FunctionHandle,
+    parts: &mut Parts,
+    n: usize,
+    row: Kinded,
+) -> Option<()>
     requires { ListGiven (scope_at file.now.bytes file.now.t f.0) (map ask_whole (components (operand_at file.now.bytes row))) parts.old.cells parts.old.slots n }
-    ensures { AsksAll (scope_at file.now.bytes file.now.t f.0) (map ask_whole (components (operand_at file.now.bytes row))) parts.old.cells parts.old.slots n parts.new.cells parts.new.slots result }
+    ensures { AsksAll (scope_at file.now.bytes file.now.t f.0) (map ask_whole (components (operand_at file.now.bytes row))) parts.old.cells parts.old.slots n parts.new.cells parts.new.slots (fits result) }
 {
     for k in (0..file.operand(row, 0)).rev() {
-        if !ask_whole(file, f, parts, n, row, 1 + k) {
-            return false;
-        }
+        ask_whole(file, f, parts, n, row, 1 + k)?;
     }
-    true
+    Some(())
 }

@@ -4,6 +4,7 @@ ghost use Rattle.access.specs.Access.{operand_at};
 ghost use Rattle.judge.specs.Given.{scope_at};
 ghost use Rattle.operands.specs.AsksAll.{ListGiven, AsksAll, wanted_in};
 ghost use Rattle.operands.specs.Lists.{same_of, whole_of, present_of, both_same, both_whole, select_of, math_of};
+ghost use Rattle.hold.specs.Fits.{fits};
 
 use access::file::File;
 use access::kinded::Kinded;
@@ -21,9 +22,9 @@ pub fn ask_same(
     n: usize,
     row: Kinded,
     j: u16,
-) -> bool
+) -> Option<()>
     requires { ListGiven (scope_at file.now.bytes file.now.t f.0) (same_of (operand_at file.now.bytes row) j (wanted_in parts.old.cells parts.old.slots n)) parts.old.cells parts.old.slots n }
-    ensures { AsksAll (scope_at file.now.bytes file.now.t f.0) (same_of (operand_at file.now.bytes row) j (wanted_in parts.old.cells parts.old.slots n)) parts.old.cells parts.old.slots n parts.new.cells parts.new.slots result }
+    ensures { AsksAll (scope_at file.now.bytes file.now.t f.0) (same_of (operand_at file.now.bytes row) j (wanted_in parts.old.cells parts.old.slots n)) parts.old.cells parts.old.slots n parts.new.cells parts.new.slots (fits result) }
 {
     let v = file.expression_operand(row, j);
     let a = parts.slots[n - 2];
@@ -38,9 +39,9 @@ pub fn ask_whole(
     n: usize,
     row: Kinded,
     j: u16,
-) -> bool
+) -> Option<()>
     requires { ListGiven (scope_at file.now.bytes file.now.t f.0) (whole_of (operand_at file.now.bytes row) j) parts.old.cells parts.old.slots n }
-    ensures { AsksAll (scope_at file.now.bytes file.now.t f.0) (whole_of (operand_at file.now.bytes row) j) parts.old.cells parts.old.slots n parts.new.cells parts.new.slots result }
+    ensures { AsksAll (scope_at file.now.bytes file.now.t f.0) (whole_of (operand_at file.now.bytes row) j) parts.old.cells parts.old.slots n parts.new.cells parts.new.slots (fits result) }
 {
     let v = file.expression_operand(row, j);
     ask_value(file, f, parts, n, v, ALL_PIECE)
@@ -54,12 +55,12 @@ fn ask_present(
     n: usize,
     row: Kinded,
     j: u16,
-) -> bool
+) -> Option<()>
     requires { ListGiven (scope_at file.now.bytes file.now.t f.0) (present_of (operand_at file.now.bytes row) j) parts.old.cells parts.old.slots n }
-    ensures { AsksAll (scope_at file.now.bytes file.now.t f.0) (present_of (operand_at file.now.bytes row) j) parts.old.cells parts.old.slots n parts.new.cells parts.new.slots result }
+    ensures { AsksAll (scope_at file.now.bytes file.now.t f.0) (present_of (operand_at file.now.bytes row) j) parts.old.cells parts.old.slots n parts.new.cells parts.new.slots (fits result) }
 {
     match file.optional_expression(row, j) {
-        None => true,
+        None => Some(()),
         Some(v) => ask_value(file, f, parts, n, v, ALL_PIECE),
     }
 }
@@ -72,11 +73,12 @@ pub fn ask_both_same(
     parts: &mut Parts,
     n: usize,
     row: Kinded,
-) -> bool
+) -> Option<()>
     requires { ListGiven (scope_at file.now.bytes file.now.t f.0) (both_same (operand_at file.now.bytes row) (wanted_in parts.old.cells parts.old.slots n)) parts.old.cells parts.old.slots n }
-    ensures { AsksAll (scope_at file.now.bytes file.now.t f.0) (both_same (operand_at file.now.bytes row) (wanted_in parts.old.cells parts.old.slots n)) parts.old.cells parts.old.slots n parts.new.cells parts.new.slots result }
+    ensures { AsksAll (scope_at file.now.bytes file.now.t f.0) (both_same (operand_at file.now.bytes row) (wanted_in parts.old.cells parts.old.slots n)) parts.old.cells parts.old.slots n parts.new.cells parts.new.slots (fits result) }
 {
-    ask_same(file, f, parts, n, row, 1) && ask_same(file, f, parts, n, row, 0)
+    ask_same(file, f, parts, n, row, 1)?;
+    ask_same(file, f, parts, n, row, 0)
 }
 
 // Both operands whole.
@@ -86,40 +88,43 @@ pub fn ask_both_whole(
     parts: &mut Parts,
     n: usize,
     row: Kinded,
-) -> bool
+) -> Option<()>
     requires { ListGiven (scope_at file.now.bytes file.now.t f.0) (both_whole (operand_at file.now.bytes row)) parts.old.cells parts.old.slots n }
-    ensures { AsksAll (scope_at file.now.bytes file.now.t f.0) (both_whole (operand_at file.now.bytes row)) parts.old.cells parts.old.slots n parts.new.cells parts.new.slots result }
+    ensures { AsksAll (scope_at file.now.bytes file.now.t f.0) (both_whole (operand_at file.now.bytes row)) parts.old.cells parts.old.slots n parts.new.cells parts.new.slots (fits result) }
 {
-    ask_whole(file, f, parts, n, row, 1) && ask_whole(file, f, parts, n, row, 0)
+    ask_whole(file, f, parts, n, row, 1)?;
+    ask_whole(file, f, parts, n, row, 0)
 }
 
 // Of a value of two the same part of both, and the condition whole.
-pub fn ask_select(file: &File, f: FunctionHandle, parts: &mut Parts, n: usize, row: Kinded) -> bool
+pub fn ask_select(
+    file: &File,
+    f: FunctionHandle,
+    parts: &mut Parts,
+    n: usize,
+    row: Kinded,
+) -> Option<()>
     requires { ListGiven (scope_at file.now.bytes file.now.t f.0) (select_of (operand_at file.now.bytes row) (wanted_in parts.old.cells parts.old.slots n)) parts.old.cells parts.old.slots n }
-    ensures { AsksAll (scope_at file.now.bytes file.now.t f.0) (select_of (operand_at file.now.bytes row) (wanted_in parts.old.cells parts.old.slots n)) parts.old.cells parts.old.slots n parts.new.cells parts.new.slots result }
+    ensures { AsksAll (scope_at file.now.bytes file.now.t f.0) (select_of (operand_at file.now.bytes row) (wanted_in parts.old.cells parts.old.slots n)) parts.old.cells parts.old.slots n parts.new.cells parts.new.slots (fits result) }
 {
-    if !ask_same(file, f, parts, n, row, 2) {
-        return false;
-    }
-    if !ask_same(file, f, parts, n, row, 1) {
-        return false;
-    }
+    ask_same(file, f, parts, n, row, 2)?;
+    ask_same(file, f, parts, n, row, 1)?;
     ask_whole(file, f, parts, n, row, 0)
 }
 
 // One operand to four, whole.
-pub fn ask_math(file: &File, f: FunctionHandle, parts: &mut Parts, n: usize, row: Kinded) -> bool
+pub fn ask_math(
+    file: &File,
+    f: FunctionHandle,
+    parts: &mut Parts,
+    n: usize,
+    row: Kinded,
+) -> Option<()>
     requires { ListGiven (scope_at file.now.bytes file.now.t f.0) (math_of (operand_at file.now.bytes row)) parts.old.cells parts.old.slots n }
-    ensures { AsksAll (scope_at file.now.bytes file.now.t f.0) (math_of (operand_at file.now.bytes row)) parts.old.cells parts.old.slots n parts.new.cells parts.new.slots result }
+    ensures { AsksAll (scope_at file.now.bytes file.now.t f.0) (math_of (operand_at file.now.bytes row)) parts.old.cells parts.old.slots n parts.new.cells parts.new.slots (fits result) }
 {
-    if !ask_present(file, f, parts, n, row, 3) {
-        return false;
-    }
-    if !ask_present(file, f, parts, n, row, 2) {
-        return false;
-    }
-    if !ask_present(file, f, parts, n, row, 1) {
-        return false;
-    }
+    ask_present(file, f, parts, n, row, 3)?;
+    ask_present(file, f, parts, n, row, 2)?;
+    ask_present(file, f, parts, n, row, 1)?;
     ask_whole(file, f, parts, n, row, 0)
 }

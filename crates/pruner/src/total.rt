@@ -12,7 +12,7 @@ use access::file::File;
 use field::field::read;
 use leave::leave::records_of;
 use marks::places::start;
-use marks::report::TOTALS;
+use marks::report::{HAS_TOTAL, TOTALS};
 use memory::layout::{FUNCTIONS, TOTALS as RECORDS};
 use memory::parts::Parts;
 use module::handles::FunctionHandle;
@@ -36,7 +36,7 @@ pub fn read_kept(
     let i = f.0 as usize;
     let from = start(places, i);
     let n = start(places, i + 1) - from;
-    totals[i] = 1;
+    totals[i] = HAS_TOTAL;
     if !read_marks(pruner, at, totals, TOTALS + from, n) {
         return None;
     }

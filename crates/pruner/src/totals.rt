@@ -12,7 +12,7 @@ use access::file::File;
 use field::field::{write, write_word};
 use leave::leave::records_of;
 use marks::places::start;
-use marks::report::TOTALS;
+use marks::report::{NO_TOTAL, TOTALS};
 use memory::layout::{FUNCTIONS, GLOBALS, TOTALS as RECORDS};
 use memory::parts::Parts;
 use module::handles::FunctionHandle;
@@ -33,8 +33,8 @@ fn write_function(
     ensures { Written out.old out.new at (write_total (total_in (module_of file.now.bytes file.now.t) file.now.t (read parts.now.cells parts.now.slots) totals.now f.0)) result }
 {
     let i = f.0 as usize;
-    // Stays: a flag is a byte of lent memory, 0 where f has no total.
-    if totals[i] == 0 {
+    // Stays: a byte and no bool, since the flags stand in one buffer with the totals' marks, and a report takes those as bytes.
+    if totals[i] == NO_TOTAL {
         write(out, at, 0);
         return at + 2;
     }

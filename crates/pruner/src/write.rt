@@ -12,7 +12,8 @@ use field::field::write;
 use memory::parts::Parts;
 use request::write::{write_return, write_variables};
 
-// Stays: the loops that write differ in what they write. One loop over them would take that as a closure over the lent slice, with a longer contract than they have.
+// Stays: the two loops here write marks and records. One loop for both is no plainer: a closure would write into the lent slice and give the
+// next place, and its contract would say for each call what theirs say once.
 // The n marks from the byte `from` on, one field each.
 pub fn write_marks(marks: &[u8], from: usize, n: usize, out: &mut [u8], at: usize) -> usize
     requires n_in_bounds { from + n ≤ length marks.now }

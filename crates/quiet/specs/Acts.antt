@@ -10,7 +10,7 @@ use Rattle.judge.specs.Given.{scope_at}
 use Rattle.needs.specs.Path.{Piece}
 use Rattle.framed.specs.Kept.{Kept}
 use Rattle.standing.specs.World.{World}
-use Rattle.judge.specs.declared.subject.Subject.{Subject}
+use Rattle.quiet.specs.declared.need.Need.{Need}
 
 -- a need, as the piece m of a store
 pub record Needing (bytes t : List ℕ) (f : ℕ) (types alike paths cells : List ℕ) (m : ℕ) : Type 0 where
@@ -19,8 +19,12 @@ pub record Needing (bytes t : List ℕ) (f : ℕ) (types alike paths cells : Lis
   pub there : m < top cells
   pub kept : Kept (scope_at bytes t f) (part cells m)
 
-abbrev pub NeedingOf : Subject → List ℕ → ℕ → Type 0
-NeedingOf j cells m = Needing j.file.now.bytes j.file.now.t j.f.0 j.types.now j.alike.now j.paths.now cells m
+abbrev pub NeedingOf : Need → Type 0
+NeedingOf n = Needing n.subject.now.file.now.bytes n.subject.now.file.now.t n.subject.now.f.0 n.subject.now.types.now n.subject.now.alike.now n.subject.now.paths.now n.cells.now n.piece
+
+-- what is needed, as the piece means it
+abbrev pub needed_by : Need → PartReq
+needed_by n = part n.cells.now n.piece
 
 -- the piece r of the store s is what is needed of what an act gives; a lent path is as long as it was
 pub record Overlap (S : Scope) (x : Act) (s : List ℕ) (n : PartReq) (before after : List ℕ) (r : ℕ) : Type 0 where

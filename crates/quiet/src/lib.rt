@@ -3,4 +3,5 @@
 
 pub mod acts;
 pub mod blocks;
+pub mod need;
 pub mod plain;

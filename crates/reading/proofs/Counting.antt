@@ -7,7 +7,7 @@ use Prim.Native.Nat.{ℕ, zero, suc, ◌+◌, ◌-◌, ◌<◌, ◌≤◌}
 use native.Mathlib.Omega.{arith}
 use lib.Dec.{ltb}
 use lib.ListN.{length, get_or, set, length-set}
-use borrow.Author.Tests.{lt-ltb, le-ltb, ne_eqb}
+use borrow.Author.Tests.{ne_eqb}
 use Rattle.module.specs.Module.{BlockHandle, BlockRange, Statement, Break}
 use Rattle.module.specs.Decode.{tab, st_of}
 use Rattle.module.specs.Blocks.{held, held_from, held_in, all_below}
@@ -61,14 +61,6 @@ pub all_counted : {b : ℕ} {first seen : List ℕ} {below : Bool} (f : ℕ → 
 all_counted f i n c a d e =
     let o : n ≡ i = omega arith in
     rw (e, o) c
-
-pub add_less : (n : ℕ) → n < 2 → n + 1 ≡ more n
-unfolding more
-add_less n h = rw (lt-ltb n 2 h) (omega arith)
-
-pub enough : (n : ℕ) → 2 ≤ n → 2 ≡ more n
-unfolding more
-enough n h = rw (le-ltb n 2 h)
 
 pub clear_next : (first seen : List ℕ) (i : ℕ) → seen ≡ cleared first i → set seen i 0 ≡ cleared first (i + 1)
 unfolding cleared

@@ -1,6 +1,5 @@
 -- What a statement holds is what its fields name: kind by kind.
 use mathlib.Core.Path.{◌≡◌, refl, ap, ◌∙◌}
-use mathlib.Core.Logic.{◌≢◌}
 use mathlib.Core.List.{List, map}
 use Prim.Native.Nat.{ℕ, zero, suc, ◌+◌, ◌*◌, ◌<◌, ◌≤◌}
 use native.Mathlib.Omega.{arith}
@@ -35,15 +34,6 @@ by-kind fs =
 pub held_is : (fs : List ℕ) → held (st_of fs) ≡ named fs (holding_of (get_or fs 0 0) (get_or fs 2 0))
 unfolding st_of
 held_is fs = by-kind fs (get_or fs 0 0)
-
-pub no_blocks : (kind cases : ℕ) → kind ≢ 1 → kind ≢ 2 → kind ≢ 3 → kind ≢ 4 → record { count = 0; first = 0; stride = 0 } ≡ holding_of kind cases
-unfolding holding_of
-no_blocks zero cases a b c d = refl
-no_blocks (suc zero) cases a b c d = absurd (a refl)
-no_blocks (suc (suc zero)) cases a b c d = absurd (b refl)
-no_blocks (suc (suc (suc zero))) cases a b c d = absurd (c refl)
-no_blocks (suc (suc (suc (suc zero)))) cases a b c d = absurd (d refl)
-no_blocks (suc (suc (suc (suc (suc kind))))) cases a b c d = refl
 
 -- the steps are small
 stride-small : (kind cases i : ℕ) → (holding_of kind cases).stride * i ≤ 2 * i

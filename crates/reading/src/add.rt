@@ -28,6 +28,7 @@ fn put_item(t: &mut [u32], at: u32, row: Row)
 }
 
 // What is written into the tables.
+#[tactic(auto, unfolding(crate::specs::Progress::table_with))]
 fn write(bytes: &[u8], t: &mut [u32], at: u32, mark: Mark, c: Counts)
     ensures { t.new ≡ table_with bytes.now t.old at mark c }
 {
@@ -54,6 +55,7 @@ fn write(bytes: &[u8], t: &mut [u32], at: u32, mark: Mark, c: Counts)
     }
 }
 
+#[tactic(auto, unfolding(crate::specs::Progress::stage_by))]
 fn stage_of(mark: Mark) -> Stage
     ensures { result ≡ stage_by mark }
 {
@@ -70,44 +72,39 @@ fn stage_of(mark: Mark) -> Stage
 }
 
 // The row with one record more.
+#[tactic(auto, unfolding(crate::specs::Progress::row_with))]
 fn row_with(at: u32, mark: Mark, row: Row) -> Row
     requires { 4 * (items_to row + (row.earlier + row.blocks)) ≤ at }
     ensures { result ≡ row_with at mark row }
 {
-    let mut r = row;
     match mark {
-        Mark::TY => row,
-        Mark::GV => row,
+        Mark::TY | Mark::GV => row,
         Mark::FN => Row {
             offset: at,
             items: row.items_to() as u32,
-            arguments: 0,
-            locals: 0,
-            expressions: 0,
-            statements: 0,
             earlier: row.earlier + row.blocks,
-            blocks: 0,
+            ..Row::default()
         },
-        Mark::AR => {
-            r.arguments = row.arguments + 1;
-            r
-        }
-        Mark::LV => {
-            r.locals = row.locals + 1;
-            r
-        }
-        Mark::EX => {
-            r.expressions = row.expressions + 1;
-            r
-        }
-        Mark::BK => {
-            r.blocks = row.blocks + 1;
-            r
-        }
-        Mark::ST => {
-            r.statements = row.statements + 1;
-            r
-        }
+        Mark::AR => Row {
+            arguments: row.arguments + 1,
+            ..row
+        },
+        Mark::LV => Row {
+            locals: row.locals + 1,
+            ..row
+        },
+        Mark::EX => Row {
+            expressions: row.expressions + 1,
+            ..row
+        },
+        Mark::BK => Row {
+            blocks: row.blocks + 1,
+            ..row
+        },
+        Mark::ST => Row {
+            statements: row.statements + 1,
+            ..row
+        },
     }
 }
 
@@ -118,13 +115,11 @@ pub fn add(bytes: &[u8], t: &mut [u32], at: u32, mark: Mark, c: Counts) -> Count
     ensures value { result ≡ counts_with at mark c }
 {
     write(bytes, t, at, mark, c);
-    let row = c.row;
-    let next = row_with(at, mark, row);
     Counts {
         stage: stage_of(mark),
         types: c.types + (mark == Mark::TY) as u32,
         globals: c.globals + (mark == Mark::GV) as u32,
-        functions: c.functions,
-        row: next,
+        row: row_with(at, mark, c.row),
+        ..c
     }
 }

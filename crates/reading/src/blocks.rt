@@ -19,6 +19,7 @@ pub struct Holding {
 }
 
 // By a statement's kind, and its field 2, which counts the cases of a switch.
+#[tactic(auto, unfolding(crate::specs::Holding::holding_of))]
 pub fn held_by(kind: u16, cases: u16) -> Holding
     ensures { result ≡ holding_of kind cases }
 {
@@ -52,6 +53,7 @@ pub fn held_by(kind: u16, cases: u16) -> Holding
 }
 
 // How often a block is held is counted up to 2: more than once is refused.
+#[tactic(auto, unfolding(crate::specs::Holding::more))]
 fn more(times: u32) -> u32
     ensures { result ≡ more times }
 {

@@ -18,17 +18,18 @@ pub fn ended(bytes: &[u8], t: &mut [u32], held: &mut [u32], c: Counts) -> Result
     if c.stage < Stage::Arguments {
         return Ok(c);
     }
-    let row = c.row;
-    if block_rule(bytes, t, row, held) {
-        set_row(t, FunctionHandle(c.functions), row);
-        let mut d = c;
-        d.functions = c.functions + 1;
-        return Ok(d);
+    if block_rule(bytes, t, c.row, held) {
+        set_row(t, FunctionHandle(c.functions), c.row);
+        return Ok(Counts {
+            functions: c.functions + 1,
+            ..c
+        });
     }
     Err(Refusal::ValueNotAllowed)
 }
 
 // A function ends where the next one begins.
+#[tactic(auto, unfolding(crate::specs::Ends::step_at, crate::specs::Ends::table_at))]
 pub fn ended_at(
     bytes: &[u8],
     t: &mut [u32],
@@ -43,12 +44,6 @@ pub fn ended_at(
 {
     match mark {
         Mark::FN => ended(bytes, t, held, c),
-        Mark::TY => Ok(c),
-        Mark::GV => Ok(c),
-        Mark::AR => Ok(c),
-        Mark::LV => Ok(c),
-        Mark::EX => Ok(c),
-        Mark::BK => Ok(c),
-        Mark::ST => Ok(c),
+        _ => Ok(c),
     }
 }

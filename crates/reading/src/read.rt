@@ -30,13 +30,7 @@ fn no_counts(size: u32) -> Counts
         functions: 0,
         row: Row {
             offset: size,
-            items: 0,
-            arguments: 0,
-            locals: 0,
-            expressions: 0,
-            statements: 0,
-            earlier: 0,
-            blocks: 0,
+            ..Row::default()
         },
     }
 }

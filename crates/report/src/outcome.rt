@@ -86,16 +86,7 @@ fn walk_request(
     };
     // a fresh pruner
     let pruner = b"\0\0";
-    let begun = begin_request(
-        file,
-        world.places,
-        &mut space.parts,
-        &mut space.open,
-        &mut space.totals,
-        request,
-        pruner,
-        MIN_REPORT,
-    )?;
+    let begun = begin_request(&world, space, request, pruner, MIN_REPORT)?;
     walk_function(&world, space, begun.function, begun.sum)
 }
 

@@ -11,3 +11,4 @@ pub mod ContextBytes
 pub mod RequestBytes
 pub mod Examples
 pub mod Room
+pub mod Ways

@@ -42,15 +42,11 @@ fn read_globals(
     requires globals_le_absent { (globals ≤ absent) × Held cells.old retval }
     ensures { RequestWasRead cells.old cells.new (length bytes.now - at) (finish functions globals report function.0 (optional cells.old retval) (from bytes.now at)) result }
 {
-    let Some((o, end)) = read_variables(cells, bytes, at, globals) else {
-        return Err(Refusal::Malformed);
-    };
+    let (o, end) = read_variables(cells, bytes, at, globals).ok_or(Refusal::Malformed)?;
     if !ends(bytes, end) {
         return Err(Refusal::Malformed);
     }
-    let Some(g) = o else {
-        return Err(Refusal::NoSuch);
-    };
+    let g = o.ok_or(Refusal::NoSuch)?;
     if functions <= function.0 {
         return Err(Refusal::NoSuch);
     }
@@ -79,15 +75,11 @@ pub fn read_request(
     if !is_request(bytes) {
         return Err(Refusal::Malformed);
     }
-    let Some(f) = field(bytes, 4) else {
-        return Err(Refusal::Malformed);
-    };
+    let f = field(bytes, 4).ok_or(Refusal::Malformed)?;
     if f >= ABSENT {
         return Err(Refusal::Malformed);
     }
-    let Some((p, next)) = read_return(cells, bytes, 6) else {
-        return Err(Refusal::Malformed);
-    };
+    let (p, next) = read_return(cells, bytes, 6).ok_or(Refusal::Malformed)?;
     let function = FunctionHandle(f as u32);
     read_globals(cells, bytes, next, function, p, functions, globals, report)
 }

@@ -10,7 +10,7 @@ use Rattle.std.specs.Prelude.{Result, Ok, Err}
 use Rattle.field.specs.Refusal.{number}
 use Rattle.field.specs.declared.refusal.Refusal.{Refusal}
 use Rattle.field.specs.declared.refusal.Refusal.TheVariants.{PrunerUnfit}
-use Rattle.field.specs.Limits.{absent, max_pieces, max_functions}
+use Rattle.field.specs.Limits.{absent, max_pieces, min_report, max_functions}
 use Rattle.part.specs.PartReq.{none, entries}
 use Rattle.part.specs.StoreLimits.{entries_cap}
 use Rattle.module.specs.Module.{Module}
@@ -26,15 +26,19 @@ use Rattle.sound.proofs.Asked as sound
 use Rattle.memory.specs.Layout.{globals_slot, exprs_slot, totals_slot, stack_slot, most}
 use Rattle.memory.specs.Memory.{read, sum_from, counted, context_at, Memory, Tidied}
 use Rattle.memory.proofs.Slots.{read-long, sum_none, sum_suc, sum_split}
-use Rattle.marks.specs.Places.{Inside, start_in, size_in}
+use Rattle.marks.specs.Places.{Places, Inside, start_in, size_in}
+use Rattle.marks.specs.Report.{totals_size}
 use Rattle.marks.proofs.Buffers.{all_inside, cleared_own}
 use Rattle.marks.proofs.Write.{write_long}
+use Rattle.state.specs.Ready.{WasRead}
 use Rattle.state.specs.State.{totals_sum}
+use Rattle.block.specs.declared.world.World.{World}
+use Rattle.block.specs.declared.workspace.Workspace.{Workspace}
 use Rattle.pruner.specs.Form.{pruner_pieces, read_pruner}
 use Rattle.pruner.specs.Stored.{pruner_in, HasTotals}
 use Rattle.pruner.specs.Reading.{Untold, PrunerIs, PrunerWasRead}
 use Rattle.pruner.proofs.Read.{read_fine, read_few}
-use Rattle.requests.specs.Begin.{base_of, with_totals, after_request, Standing, RequestStands, RequestLoaded, Weighing, Beginning, Begins}
+use Rattle.requests.specs.Begin.{base_of, with_totals, after_request, Standing, RequestStands, RequestLoaded, Weighing, Begins}
 use Rattle.requests.proofs.Begins.{base_counts}
 
 -- what the totals count for
@@ -56,6 +60,18 @@ module _ {s rs : List ℕ} (W : Weighing s rs) where
 
 same_judge : {n g functions globals : ℕ} → n ≡ functions → g ≡ globals → (report : ℕ) (o : Option Request) {x : reading.Answer Request} → judge n g report o ≡ x → judge functions globals report o ≡ x
 same_judge a b report o e = rw (← a, ← b) e
+
+-- tables of a module that was read, and buffers that are long enough
+pub record Beginning (bytes t places s rs open_marks totals : List ℕ) : Type 0 where
+  pub was_read : WasRead bytes t
+  pub placed : Places bytes t places
+  pub open_long : min_report ≤ length open_marks
+  pub totals_long : totals_size ≤ length totals
+
+-- a world and a workspace have them
+pub beginning_of : (w : World) (m : Workspace) → min_report ≤ length m.open → totals_size ≤ length m.totals →
+    Beginning w.file.now.bytes w.file.now.t w.places.now m.parts.cells m.parts.slots m.open m.totals
+beginning_of w m a b = record { was_read = w.was_read; placed = w.placed; open_long = a; totals_long = b }
 
 module _ {bytes t places s rs open_marks totals : List ℕ} (B : Beginning bytes t places s rs open_marks totals) where
   abbrev m : Module

@@ -30,7 +30,7 @@ use Rattle.marks.specs.Report.{totals_at, Sized, marks_kept, Totals, report_in}
 use Rattle.marks.specs.Report as report
 use Rattle.marks.proofs.Buffers.{all_inside}
 use Rattle.marks.proofs.Sums.{report_is}
-use Rattle.state.specs.State.{records_in}
+use Rattle.state.specs.State.{records_in, unplaced}
 use Rattle.state.proofs.Own.{fits, records_there}
 use Rattle.leave.specs.Leave.{Placed, own_in}
 use Rattle.block.specs.Standing.{total_of, total_in, functions_in, state_in, Standing}
@@ -39,7 +39,7 @@ use Rattle.pruner.specs.Stored.{pruner_in, HasTotals}
 use Rattle.pruner.proofs.Room.{pruner_long}
 use Rattle.requests.specs.Answer.{min_answer, Answering, answer_in}
 use Rattle.requests.specs.Serve.{finish}
-use Rattle.requests.specs.Finish.{nowhere, Finishing, Finished}
+use Rattle.requests.specs.Finish.{Finishing, Finished}
 use Rattle.requests.proofs.Answers.{answer_fits}
 use Rattle.requests.proofs.Ends.{end-count, request-over, request-went}
 
@@ -159,7 +159,7 @@ module _ {bytes t places s rs open_marks totals : List ℕ} {f : FunctionHandle}
       (answering F.ended.standing, ((omega (arith, F.ended.standing.proper.visits.few), omega (arith, F.answer_long)), l))
 
   -- 16 refuses
-  pub finish_over : {own : ℕ} → own ≡ own_in t s rs f → max_pieces < sum - own → Finished bytes t places s rs open_marks totals f base required visits sum pruner report answer (Err (nowhere PiecesLimit)) pruner report answer
+  pub finish_over : {own : ℕ} → own ≡ own_in t s rs f → max_pieces < sum - own → Finished bytes t places s rs open_marks totals f base required visits sum pruner report answer (Err (unplaced PiecesLimit)) pruner report answer
   unfolding finish
   finish_over e l = record {
     by = λ types u us o b p q same E.

@@ -35,7 +35,8 @@ use Rattle.requests.specs.Answer.{min_answer}
 use Rattle.requests.specs.Loaded.{Loaded}
 use Rattle.requests.specs.Begin.{with_totals, after_request, beginning, Begins, Ready}
 use Rattle.requests.specs.Serve.{Lent, refused_at, finish, lent_pruner, on_pruner, on_request, serve_read}
-use Rattle.requests.specs.Finish.{nowhere as at_no_place, Finished}
+use Rattle.state.specs.State.{unplaced}
+use Rattle.requests.specs.Finish.{Finished}
 use Rattle.requests.specs.Served.{Walking, Walked, Served}
 use Rattle.requests.specs.declared.begin.Begun.{Begun}
 use Rattle.requests.proofs.Begins.{enters, walks-request}
@@ -145,17 +146,17 @@ module _ {bytes t places s rs open_marks totals asked-bytes pruner : List ℕ} (
   abbrev lent : Lent
   lent = record { pruner = pruner; report = report; answer = answer }
 
-  pub served_refused : {e : Refusal} → b ≡ Err e → Served bytes t asked-bytes pruner report answer (Err (at_no_place e)) pruner report answer
+  pub served_refused : {e : Refusal} → b ≡ Err e → Served bytes t asked-bytes pruner report answer (Err (unplaced e)) pruner report answer
   served_refused z = record { is = sym (serve_refused (module_of bytes t) lent asked-bytes (rw z at B.by)) }
 
   module _ {f : Handle} {sum : ℕ} (e : b ≡ Ok (record { function = f; sum = sum })) where
     ready : Ready bytes t places (length report) asked-bytes pruner s rs open_marks totals f.0 sum
     ready = rw e at B.by
 
-    pub served_19 : length pruner < min_pruner → Served bytes t asked-bytes pruner report answer (Err (at_no_place PrunerUnfit)) pruner report answer
+    pub served_19 : length pruner < min_pruner → Served bytes t asked-bytes pruner report answer (Err (unplaced PrunerUnfit)) pruner report answer
     served_19 l = record { is = sym (serve_19 (module_of bytes t) lent asked-bytes ready.is l) }
 
-    pub served_20 : min_pruner ≤ length pruner → length answer < min_answer → Served bytes t asked-bytes pruner report answer (Err (at_no_place AnswerTooShort)) pruner report answer
+    pub served_20 : min_pruner ≤ length pruner → length answer < min_answer → Served bytes t asked-bytes pruner report answer (Err (unplaced AnswerTooShort)) pruner report answer
     served_20 h l = record { is = sym (serve_20 (module_of bytes t) lent asked-bytes ready.is h l) }
 
     pub serve_walking : {types : List ℕ} → types_of types ≡ (module_of bytes t).types → min_pruner ≤ length pruner → min_answer ≤ length answer

@@ -1,7 +1,7 @@
 -- How a request begins: the request and the totals that bytes mean, and what memory has of them.
 use Rattle.std.specs.Prelude.{◌≡◌, ⊤, List, ℕ, ◌+◌, ◌*◌, ◌<◌, ◌≤◌, length, get_or, Result, Ok, Err}
 use Rattle.field.specs.Field.{field_at}
-use Rattle.field.specs.Limits.{absent, max_pieces, min_report}
+use Rattle.field.specs.Limits.{absent, max_pieces}
 use Rattle.field.specs.Refusal.{number}
 use Rattle.field.specs.declared.refusal.Refusal.{Refusal}
 use Rattle.part.specs.PartReq.{none, entries}
@@ -19,12 +19,11 @@ use Rattle.request.specs.declared.requests.Request as declared
 use Rattle.walk.specs.Requests.{Pruner}
 use Rattle.memory.specs.Layout.{globals_slot, stack_slot, slot_count, flat_count}
 use Rattle.memory.specs.Memory.{read, context_at, with_context, Memory}
-use Rattle.marks.specs.Places.{Places}
-use Rattle.marks.specs.Report.{totals_size}
 use Rattle.state.specs.State.{totals_sum}
-use Rattle.state.specs.Ready.{WasRead}
 use Rattle.pruner.specs.Form.{pruner_pieces, read_pruner}
 use Rattle.requests.specs.Loaded.{Loaded}
+use Rattle.block.specs.declared.world.World.{World}
+use Rattle.block.specs.declared.workspace.Workspace.{Workspace}
 use Rattle.requests.specs.declared.begin.Begun.{Begun}
 
 -- 12, 11 and 18 of the request, then 19 of the totals
@@ -94,13 +93,6 @@ pub record Weighing (s rs : List ℕ) : Type 0 where
   pub memory : Memory s rs
   pub few : entries (get_or (read s rs) globals_slot none) + totals_sum (read s rs) ≤ entries_cap
 
--- tables of a module that was read, and buffers that are long enough
-pub record Beginning (bytes t places s rs open_marks totals : List ℕ) : Type 0 where
-  pub was_read : WasRead bytes t
-  pub placed : Places bytes t places
-  pub open_long : min_report ≤ length open_marks
-  pub totals_long : totals_size ≤ length totals
-
 -- Memory has the request and the totals: with the types' table the walk can begin.
 pub record Ready (bytes t places : List ℕ) (report : ℕ) (request pruner s rs open_marks totals : List ℕ) (f sum : ℕ) : Type 0 where
   pub q : Request
@@ -116,3 +108,6 @@ BeginsBy bytes t places report request pruner s rs open_marks totals (Ok b) = Re
 
 pub record Begins (bytes t places : List ℕ) (report : ℕ) (request pruner s rs open_marks totals : List ℕ) (r : Result Begun Refusal) : Type 0 where
   pub by : BeginsBy bytes t places report request pruner s rs open_marks totals r
+
+abbrev pub BeginsOf : World → (report : ℕ) → (request pruner : List ℕ) → Workspace → Result Begun Refusal → Type 0
+BeginsOf w report request pruner m r = Begins w.file.now.bytes w.file.now.t w.places.now report request pruner m.parts.cells m.parts.slots m.open m.totals r

@@ -2,7 +2,6 @@
 use Rattle.std.specs.Prelude.{◌≡◌, Bool, List, ℕ, ◌≤◌, length, Result, Ok, Err}
 use Rattle.field.specs.Limits.{min_report}
 use Rattle.field.specs.Refusal.{number}
-use Rattle.field.specs.declared.refusal.Refusal.{Refusal}
 use Rattle.module.specs.Module.{FunctionHandle}
 use Rattle.module.specs.Tables.{module_of}
 use Rattle.request.specs.Request.{Request}
@@ -11,9 +10,11 @@ use Rattle.walk.specs.Function.{add_function}
 use Rattle.context.specs.RequiredContext.{return_entry}
 use Rattle.walk.specs.Requests.{Pruner, begun, request}
 use Rattle.state.specs.State.{place_of}
+use Rattle.state.specs.declared.answer.Answer.{Answer}
 use Rattle.state.specs.declared.answer.Halt.{Halt}
-use Rattle.state.specs.declared.answer.Place.TheVariants.{Nowhere}
 use Rattle.block.specs.Functions.{FunctionEnded}
+use Rattle.block.specs.declared.world.World.{World}
+use Rattle.block.specs.declared.workspace.Workspace.{Workspace}
 use Rattle.pruner.specs.Form.{min_pruner}
 use Rattle.requests.specs.Answer.{min_answer}
 use Rattle.requests.specs.Serve.{Reply, visited, refused_at, finish}
@@ -22,10 +23,6 @@ use Rattle.requests.specs.Serve.{Reply, visited, refused_at, finish}
 abbrev pub reply_of : Result ℕ Halt → Reply
 reply_of (Ok n) = visited n
 reply_of (Err h) = refused_at (number h.refusal) (place_of h.place)
-
--- a refusal that falls at no place
-abbrev pub nowhere : Refusal → Halt
-nowhere r = record { refusal = r; place = Nowhere }
 
 -- the walk of f has ended, and the buffers are long enough
 pub record Finishing (bytes t places s rs open_marks totals : List ℕ) (f : FunctionHandle) (base : ℕ) (required : Bool) (visits sum : ℕ) (pruner report answer : List ℕ) : Type 0 where
@@ -40,9 +37,15 @@ pub record Finishing (bytes t places s rs open_marks totals : List ℕ) (f : Fun
   pub report_long : min_report ≤ length report
   pub answer_long : min_answer ≤ length answer
 
+abbrev pub FinishingOf : World → Workspace → FunctionHandle → (base : ℕ) → Answer → (pruner report answer : List ℕ) → Type 0
+FinishingOf w m f base a pruner report answer = Finishing w.file.now.bytes w.file.now.t w.places.now m.parts.cells m.parts.slots m.open m.totals f base a.required a.tally.visits a.tally.sum pruner report answer
+
 -- Where that walk was the one of a request, the reply and the buffers are the definition's.
 pub record Finished (bytes t places s rs open_marks totals : List ℕ) (f : FunctionHandle) (base : ℕ) (required : Bool) (visits sum : ℕ) (pruner report answer : List ℕ) (r : Result ℕ Halt)
     (pruner-after report-after answer-after : List ℕ) : Type 0 where
   pub by : (types cells_before slots_before open_before totals_before : List ℕ) (old : Pruner) (q : Request) → q.function ≡ f
       → FunctionEnded bytes t types places cells_before slots_before open_before totals_before q.function base 0 (add_function (module_of bytes t) q.function no_place 0 q.globals (return_entry q.retval) (begun old)) visits sum required s rs open_marks totals
       → (reply_of r, record { pruner = pruner-after; report = report-after; answer = answer-after }) ≡ finish (record { pruner = pruner; report = report; answer = answer }) (request (module_of bytes t) old q)
+
+abbrev pub FinishedOf : World → Workspace → FunctionHandle → (base : ℕ) → Answer → (pruner report answer : List ℕ) → Result ℕ Halt → (pruner-after report-after answer-after : List ℕ) → Type 0
+FinishedOf w m f base a pruner report answer r pruner-after report-after answer-after = Finished w.file.now.bytes w.file.now.t w.places.now m.parts.cells m.parts.slots m.open m.totals f base a.required a.tally.visits a.tally.sum pruner report answer r pruner-after report-after answer-after

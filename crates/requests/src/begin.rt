@@ -5,13 +5,13 @@ ghost use Rattle.part.specs.PartReq.{none, entries};
 ghost use Rattle.memory.specs.Layout.{globals_slot};
 ghost use Rattle.memory.specs.Memory.{read};
 ghost use Rattle.state.specs.State.{totals_sum};
-ghost use Rattle.requests.specs.Begin.{Basing, Based, Weighing, LengthChecked, RequestLoaded, Beginning, Begins};
+ghost use Rattle.requests.specs.Begin.{Basing, Based, Weighing, LengthChecked, RequestLoaded, BeginsOf};
 
-use access::file::File;
+use block::workspace::Workspace;
+use block::world::World;
 use context::required_context::RequiredContext;
 use field::field::get;
 use field::refusal::Refusal;
-use marks::places::PLACES;
 use marks::set::clear_marks;
 use memory::layout::{GLOBALS, STACK, TOTALS};
 use memory::memory::{init_memory, tidy, weigh};
@@ -84,18 +84,19 @@ fn weigh_totals(parts: &Parts) -> usize
 
 // From here `add_function` walks the asked function, its base at STACK.
 pub fn begin_request(
-    file: &File,
-    places: &[u32; PLACES],
-    parts: &mut Parts,
-    open: &mut [u8],
-    totals: &mut [u8],
+    world: &World,
+    space: &mut Workspace,
     request: &[u8],
     pruner: &[u8],
     report: usize,
 ) -> Result<Begun, Refusal>
-    requires { Beginning file.now.bytes file.now.t places.now parts.old.cells parts.old.slots «open».old totals.old }
-    ensures { Begins file.now.bytes file.now.t places.now report request.now pruner.now parts.new.cells parts.new.slots «open».new totals.new result }
+    ensures { BeginsOf world.now report request.now pruner.now space.new result }
 {
+    let file = world.file;
+    let places = world.places;
+    let parts = &mut space.parts;
+    let open = &mut space.open;
+    let totals = &mut space.totals;
     let function = load_request(parts, request, file.functions(), file.globals(), report)?;
     if !read_pruner(file, places, parts, totals, pruner) {
         return Err(Refusal::PrunerUnfit);

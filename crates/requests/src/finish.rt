@@ -4,32 +4,23 @@ ghost use Rattle.field.specs.Limits.{max_pieces};
 ghost use Rattle.part.specs.StoreLimits.{entries_cap};
 ghost use Rattle.memory.specs.Memory.{Memory};
 ghost use Rattle.leave.specs.Leave.{Placed, own_in};
-ghost use Rattle.requests.specs.Finish.{nowhere, Finishing, Finished};
+ghost use Rattle.requests.specs.Finish.{FinishingOf, FinishedOf};
 
 use crate::answer::write_answer;
 use access::file::File;
+use block::workspace::Workspace;
+use block::world::World;
 use field::limits::MAX_PIECES;
 use field::refusal::Refusal;
 use leave::leave::own_pieces;
-use marks::places::PLACES;
 use marks::report::write_report;
 use memory::parts::Parts;
 use module::handles::FunctionHandle;
 use pruner::totals::write_pruner;
-use state::answer::{Answer, Halt, Place, Tally};
+use state::answer::{Answer, Halt, Tally};
 
 // What a caller hears: the visits, or why the request is refused, and where.
 pub type Reply = Result<usize, Halt>;
-
-// A refusal that falls at no place of the module.
-pub fn nowhere(refusal: Refusal) -> Halt
-    ensures { result ≡ nowhere refusal }
-{
-    Halt {
-        refusal,
-        place: Place::Nowhere,
-    }
-}
 
 // Whether 16 refuses a walk of f that has ended, by its totals alone: the records of f are not counted.
 pub fn totals_over(file: &File, parts: &Parts, f: FunctionHandle, sum: usize) -> bool
@@ -43,11 +34,8 @@ pub fn totals_over(file: &File, parts: &Parts, f: FunctionHandle, sum: usize) ->
 
 // The walk of f has ended, with its context behind the base.
 pub fn finish_request(
-    file: &File,
-    places: &[u32; PLACES],
-    parts: &Parts,
-    open: &[u8],
-    totals: &[u8],
+    world: &World,
+    space: &Workspace,
     f: FunctionHandle,
     base: usize,
     walked: Answer,
@@ -55,15 +43,20 @@ pub fn finish_request(
     report: &mut [u8],
     answer: &mut [u8],
 ) -> Reply
-    requires { Finishing file.now.bytes file.now.t places.now parts.now.cells parts.now.slots «open».now totals.now f.0 base walked.required walked.tally.visits walked.tally.sum pruner.old report.old answer.old }
-    ensures { Finished file.now.bytes file.now.t places.now parts.now.cells parts.now.slots «open».now totals.now f.0 base walked.required walked.tally.visits walked.tally.sum pruner.old report.old answer.old result pruner.new report.new answer.new }
+    requires { FinishingOf world.now space.now f.0 base walked pruner.old report.old answer.old }
+    ensures { FinishedOf world.now space.now f.0 base walked pruner.old report.old answer.old result pruner.new report.new answer.new }
 {
     let Answer { tally, required } = walked;
     let Tally { visits, sum } = tally;
+    let file = world.file;
+    let places = world.places;
+    let parts = &space.parts;
+    let totals = &space.totals;
     if totals_over(file, parts, f, sum) {
-        return Err(nowhere(Refusal::PiecesLimit));
+        return Err(Refusal::PiecesLimit.into());
     }
-    write_report(report, places, open, totals, f, file.functions() as usize);
+    let n = file.functions() as usize;
+    write_report(report, places, &space.open, totals, f, n);
     write_pruner(file, places, parts, totals, pruner);
     write_answer(file, parts, f, base + 4, required, visits, answer);
     Ok(visits)

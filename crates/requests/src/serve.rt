@@ -3,7 +3,7 @@ ghost use Rattle.requests.specs.Served.{WalkingOf, WalkedOf, ServedOf};
 
 use crate::answer::MIN_ANSWER;
 use crate::begin::begin_request;
-use crate::finish::{Reply, finish_request, nowhere};
+use crate::finish::{Reply, finish_request};
 use block::workspace::Workspace;
 use block::world::World;
 use field::limits::MIN_REPORT;
@@ -38,19 +38,7 @@ fn walk_request(
         0,
         Tally { visits: 0, sum },
     )?;
-    finish_request(
-        world.file,
-        world.places,
-        &space.parts,
-        &space.open,
-        &space.totals,
-        f,
-        STACK,
-        walked,
-        pruner,
-        report,
-        answer,
-    )
+    finish_request(world, space, f, STACK, walked, pruner, report, answer)
 }
 
 // The request in a walk's memory. A refusal leaves the three buffers.
@@ -64,24 +52,12 @@ fn serve_in(
 ) -> Reply
     ensures { ServedOf world.now request.now pruner.old report.old answer.old result pruner.new report.new answer.new }
 {
-    let begun = match begin_request(
-        world.file,
-        world.places,
-        &mut space.parts,
-        &mut space.open,
-        &mut space.totals,
-        request,
-        pruner,
-        report.len(),
-    ) {
-        Ok(begun) => begun,
-        Err(refusal) => return Err(nowhere(refusal)),
-    };
+    let begun = begin_request(world, space, request, pruner, report.len())?;
     if pruner.len() < MIN_PRUNER {
-        return Err(nowhere(Refusal::PrunerUnfit));
+        return Err(Refusal::PrunerUnfit.into());
     }
     if answer.len() < MIN_ANSWER {
-        return Err(nowhere(Refusal::AnswerTooShort));
+        return Err(Refusal::AnswerTooShort.into());
     }
     walk_request(
         world,

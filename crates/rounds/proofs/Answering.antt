@@ -12,7 +12,7 @@ use Rattle.request.specs.Context.{context_of}
 use Rattle.clearance.specs.Verdict.{Report, Answer, clear, at_start, at_statement, refused, verdict, starts}
 use Rattle.judge.specs.Blamed.{blamed}
 use Rattle.pass.specs.Checked.{answer_of}
-use Rattle.standing.specs.declared.passing.Passing.{Passing}
+use Rattle.standing.specs.Passing.{Passing}
 use Rattle.context_bytes.specs.Covered.{CoversContext}
 use Rattle.rounds.specs.Settling.{reported}
 use Rattle.rounds.specs.Rounds.{Answers}

@@ -24,7 +24,7 @@ use Rattle.strays.specs.Places.{BlockOf}
 use Rattle.strays.proofs.Found.{body_there}
 use Rattle.standing.specs.Slots.{table_size, asked_slot, end_slot, stack_slot, besides, aside_of}
 use Rattle.standing.specs.Standing.{Carries, TableIn, Targets, Stands, around, outcome}
-use Rattle.standing.specs.declared.passing.Passing.{Passing}
+use Rattle.standing.specs.Passing.{Passing}
 use Rattle.standing.specs.Exits.{Exits}
 use Rattle.standing.proofs.Aside.{aside_more}
 use Rattle.standing.proofs.Stands.{stands_reach}

@@ -1,18 +1,29 @@
--- The slots of both tables as they are cleared and copied, slot by slot.
-use Prim.Native.Nat.{ℕ, ◌+◌, ◌<◌, ◌≤◌}
-use mathlib.Core.Path.{◌≡◌}
-use mathlib.Core.List.{List}
-use lib.ListN.{length, get_or}
-use Rattle.standing.specs.Slots.{table_size}
+-- The slots of both tables as they are cleared.
+use Prim.Native.Nat.{ℕ, ◌+◌, ◌-◌, ◌≤◌}
+use native.Mathlib.Omega.{arith}
+use mathlib.Core.Path.{◌≡◌, ap, ◌∙◌}
+use mathlib.Core.List.{List, ◌++◌}
+use lib.ListN.{length, get_or, take, drop, replicate, length-take, length-drop, length-append, length-replicate}
+use Rattle.std.proofs.lemmas.List.{get_or-replicate, get_or-drop, get_or_append_left, get_or-append_right}
+use Rattle.standing.specs.Slots.{asked_slot}
+use Rattle.rounds.specs.Rounds.{Cleared}
 
--- the first k slots are 2
-pub record ClearedTo (k : ℕ) (rs us : List ℕ) : Type 0 where
-  pub long : length us ≡ length rs
-  pub none : (j : ℕ) → j < k → get_or us j 0 ≡ 2
-  pub others : (j : ℕ) → k ≤ j → get_or us j 0 ≡ get_or rs j 0
+module _ (rs ys : List ℕ) (h : asked_slot ≤ length rs) (e : ys ≡ replicate (length (take asked_slot rs)) 2) where
+  front : length (take asked_slot rs) ≡ asked_slot
+  front = simp length-take (omega (arith, h))
 
--- the first k slots are those of the new table
-pub record CopiedTo (k : ℕ) (rs us : List ℕ) : Type 0 where
-  pub long : length us ≡ length rs
-  pub old : (j : ℕ) → j < k → get_or us j 0 ≡ get_or rs (table_size + j) 0
-  pub others : (j : ℕ) → k ≤ j → get_or us j 0 ≡ get_or rs j 0
+  filled : ys ≡ replicate asked_slot 2
+  filled = e ∙ rw front
+
+  front_long : length ys ≡ asked_slot
+  front_long = rw filled (length-replicate {A = ℕ} asked_slot 2)
+
+  -- a front that is filled, before what was there
+  pub cleared : Cleared rs (ys ++ drop asked_slot rs)
+  cleared = record {
+    long = simp (length-append, length-drop) (omega (arith, h, front_long));
+    none = λ j l. get_or_append_left ys (drop asked_slot rs) 0 j (omega (arith, l, front_long)) ∙ rw filled (get_or-replicate asked_slot j 2 0 l);
+    others = λ j l.
+        let z : asked_slot + (j - asked_slot) ≡ j = omega (arith, l) in
+        get_or-append_right ys (drop asked_slot rs) asked_slot j 0 front_long l ∙ get_or-drop asked_slot rs (j - asked_slot) 0 ∙ ap (λ (i : ℕ). get_or rs i 0) z;
+  }

@@ -20,7 +20,7 @@ use Rattle.pass.specs.Checked.{pass_once, settled_by, settle_within, max_rounds,
 use Rattle.hold.specs.Hold.{in_slot}
 use Rattle.standing.specs.Slots.{table_size, asked_slot, end_slot, stack_slot, Ready}
 use Rattle.standing.specs.Standing.{Carries, TableIn, Went, Keeps}
-use Rattle.standing.specs.declared.passing.Passing.{Passing}
+use Rattle.standing.specs.Passing.{Passing}
 use Rattle.standing.proofs.Aside.{beside_high}
 use Rattle.rounds.specs.Settling.{Settled, reported}
 use Rattle.rounds.specs.Rounds.{Between, Rounded, Renewed, Answers, Settles}

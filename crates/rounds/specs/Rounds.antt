@@ -21,7 +21,7 @@ use Rattle.hold.specs.Hold.{slack, in_slot}
 use Rattle.standing.specs.Slots.{table_size, asked_slot, end_slot, stack_slot, Ready}
 use Rattle.standing.specs.Standing.{Carries, Came, Keeps}
 use Rattle.standing.specs.World.{World}
-use Rattle.standing.specs.declared.passing.Passing.{Passing}
+use Rattle.standing.specs.Passing.{Passing}
 use Rattle.checking.specs.Stretch.{Firsts}
 use Rattle.rounds.specs.Settling.{Settled, asked_by, reported}
 use Rattle.backward.specs.declared.marked.MarkedSubject.{MarkedSubject}

@@ -17,6 +17,7 @@ use Rattle.standing.specs.Slots.{stack_slot}
 use Rattle.standing.specs.World.{World}
 use Rattle.checking.specs.Stretch.{Firsts}
 use Rattle.backward.specs.declared.marked.MarkedSubject.{MarkedSubject}
+use Rattle.rounds.specs.declared.pieces.AskedPieces.{AskedPieces}
 
 -- what the pieces g and v ask, of globals and of the returned value
 abbrev pub asked_by : (s : List ℕ) → (g v : ℕ) → Request
@@ -39,8 +40,8 @@ pub record Settling (bytes t : List ℕ) (f : ℕ) (types alike paths firsts s r
   pub listed : is_all (part s g) ≡ false
   pub ascends : AscendingRequest (asked_by s g v)
 
-abbrev pub SettlingOf : MarkedSubject → List ℕ → List ℕ → List ℕ → ℕ → ℕ → Type 0
-SettlingOf m s rs path g v = Settling m.subject.now.file.now.bytes m.subject.now.file.now.t m.subject.now.f.0 m.subject.now.types.now m.subject.now.alike.now m.subject.now.paths.now m.firsts.now s rs path g v
+abbrev pub SettlingOf : MarkedSubject → List ℕ → List ℕ → List ℕ → AskedPieces → Type 0
+SettlingOf m s rs path a = Settling m.subject.now.file.now.bytes m.subject.now.file.now.t m.subject.now.f.0 m.subject.now.types.now m.subject.now.alike.now m.subject.now.paths.now m.firsts.now s rs path a.globals a.value
 
 -- a is the answer, of whatever context the bytes mean
 pub record Settled (S : Scope) (R : Request) (marks context : List ℕ) (a : Answer) : Type 0 where

@@ -5,6 +5,7 @@ ghost use Rattle.standing.specs.Slots.{asked_slot, stack_slot};
 ghost use Rattle.rounds.specs.Settling.{asked_by};
 ghost use Rattle.rounds.specs.Rounds.{Cleared, Asked, Begins, Renewed};
 
+use crate::pieces::AskedPieces;
 use access::file::File;
 use forms::trim::{trim_globals, trim_value};
 use hold::hold::copy;
@@ -18,25 +19,16 @@ fn clear_tables(roots: &mut [u32])
     requires { asked_slot ≤ length roots.old }
     ensures { Cleared roots.old roots.new }
 {
-    for j in 0..ASKED {
-        roots[j] = EMPTY_PIECE;
-    }
+    roots[..ASKED].fill(EMPTY_PIECE);
 }
 
 // What is asked, within its types: of the value, and of the globals at the function's end.
-pub fn begin(
-    file: &File,
-    f: FunctionHandle,
-    types: &[u32],
-    parts: &mut Parts,
-    globals: u32,
-    value: u32,
-)
-    requires { Asked file.now.bytes file.now.t types.now parts.old.cells parts.old.slots globals value }
-    ensures { Begins (scope_at file.now.bytes file.now.t f.0) (asked_by parts.old.cells globals value) parts.old.cells parts.old.slots parts.new.cells parts.new.slots }
+pub fn begin(file: &File, f: FunctionHandle, types: &[u32], parts: &mut Parts, asked: AskedPieces)
+    requires { Asked file.now.bytes file.now.t types.now parts.old.cells parts.old.slots asked.globals asked.value }
+    ensures { Begins (scope_at file.now.bytes file.now.t f.0) (asked_by parts.old.cells asked.globals asked.value) parts.old.cells parts.old.slots parts.new.cells parts.new.slots }
 {
-    let v = trim_value(&mut parts.cells, file, f, types, value);
-    let e = trim_globals(&mut parts.cells, file, types, globals);
+    let v = trim_value(&mut parts.cells, file, f, types, asked.value);
+    let e = trim_globals(&mut parts.cells, file, types, asked.globals);
     clear_tables(&mut parts.slots);
     parts.slots[ASKED] = v;
     parts.slots[END] = e;
@@ -48,8 +40,6 @@ pub fn renew(roots: &mut [u32])
     requires { stack_slot < length roots.old }
     ensures { Renewed roots.old roots.new }
 {
-    for j in 0..TABLE {
-        copy(roots, TABLE + j, j);
-    }
+    roots.copy_within(TABLE..ASKED, 0);
     copy(roots, END, STACK);
 }

@@ -2,4 +2,5 @@
 #![tactic(auto)]
 
 pub mod begin;
+pub mod pieces;
 pub mod settle;

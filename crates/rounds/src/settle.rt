@@ -6,8 +6,10 @@ ghost use Rattle.checking.specs.Word.{said};
 ghost use Rattle.rounds.specs.Settling.{SettlingOf, Settled, asked_by};
 ghost use Rattle.rounds.specs.Rounds.{RoundingOf, Rounded, Answers, Settles};
 ghost use Rattle.judge.specs.Subject.{scope_of, function_in};
+ghost use Rattle.standing.specs.Passing.{going, outcome};
 
 use crate::begin::{begin, renew};
+use crate::pieces::AskedPieces;
 use backward::blocks::pass_around;
 use backward::marked::MarkedSubject;
 use checking::words::Verdict;
@@ -20,9 +22,9 @@ use standing::passing::{END, Exits, Passing, STACK};
 const ROUNDS: u32 = 65536;
 
 // One pass over the body, with the needs at the function's end where each exit leads.
-fn round(marked: &MarkedSubject, parts: &mut Parts, path: &mut [u32]) -> Passing
+fn round(marked: &MarkedSubject, parts: &mut Parts, path: &mut [u32]) -> Option<Passing>
     requires { RoundingOf marked.now parts.old.cells parts.old.slots path.old }
-    ensures { Rounded (scope_of marked.now.subject.now) (body_tree (function_in marked.now.subject.now) marked.now.marks.now) parts.old.cells parts.old.slots parts.new.cells parts.new.slots path.old path.new result }
+    ensures { Rounded (scope_of marked.now.subject.now) (body_tree (function_in marked.now.subject.now) marked.now.marks.now) parts.old.cells parts.old.slots parts.new.cells parts.new.slots path.old path.new (outcome result) }
 {
     let x = Exits {
         broke: END,
@@ -30,7 +32,6 @@ fn round(marked: &MarkedSubject, parts: &mut Parts, path: &mut [u32]) -> Passing
         returned: END,
     };
     let p = Passing {
-        full: false,
         fault: None,
         held: true,
         deep: false,
@@ -44,7 +45,7 @@ fn round(marked: &MarkedSubject, parts: &mut Parts, path: &mut [u32]) -> Passing
 fn answer(cells: &[u32], n: u32, q: Passing, context: &[u8]) -> Verdict
     requires good { Good cells.now }
     requires n_bound { n < top cells.now }
-    ensures { Answers cells.now n q context.now (said result) }
+    ensures { Answers cells.now n (going q) context.now (said result) }
 {
     if q.deep {
         return Verdict::Refused(Refusal::PartLimit);
@@ -72,10 +73,9 @@ fn settle_rounds(
     ensures { Settles (scope_of marked.now.subject.now) marked.now.marks.now context.now parts.old.cells parts.old.slots (said result) }
 {
     for _ in 0..ROUNDS {
-        let q = round(marked, parts, path);
-        if q.full {
+        let Some(q) = round(marked, parts, path) else {
             return Verdict::Refused(Refusal::CheckBound);
-        }
+        };
         if q.held {
             return answer(&parts.cells, parts.slots[STACK], q, context);
         }
@@ -89,20 +89,18 @@ pub fn settle(
     marked: &MarkedSubject,
     parts: &mut Parts,
     path: &mut [u32],
-    globals: u32,
-    value: u32,
+    asked: AskedPieces,
     context: &[u8],
 ) -> Verdict
-    requires { SettlingOf marked.now parts.old.cells parts.old.slots path.old globals value }
-    ensures { Settled (scope_of marked.now.subject.now) (asked_by parts.old.cells globals value) marked.now.marks.now context.now (said result) }
+    requires { SettlingOf marked.now parts.old.cells parts.old.slots path.old asked }
+    ensures { Settled (scope_of marked.now.subject.now) (asked_by parts.old.cells asked.globals asked.value) marked.now.marks.now context.now (said result) }
 {
     begin(
         marked.subject.file,
         marked.subject.f,
         marked.subject.types,
         parts,
-        globals,
-        value,
+        asked,
     );
     settle_rounds(marked, parts, path, context)
 }

@@ -14,7 +14,7 @@ use Rattle.pass.specs.Pass.{Carried, Passed, full, ◌>>=◌, pointed, joining, 
 use Rattle.hold.specs.Hold.{in_slot, Reach}
 use Rattle.standing.specs.Slots.{table_size, stack_slot, aside_of, Ready}
 use Rattle.standing.specs.Standing.{setting_of, TableIn, Targets, Stands, Went, Walked, Closed, Keeps, inside, around}
-use Rattle.standing.specs.declared.passing.Passing.{Passing}
+use Rattle.standing.specs.Passing.{Passing}
 use Rattle.standing.specs.Exits.{Exits}
 use Rattle.standing.proofs.Aside.{beside_high}
 use Rattle.standing.proofs.Stands.{leads_on, held_aside, apart_kept, stands_one}

@@ -16,7 +16,7 @@ use Rattle.framed.specs.Kept.{Kept}
 use Rattle.hold.specs.Hold.{in_slot}
 use Rattle.standing.specs.Slots.{Ready}
 use Rattle.standing.specs.Standing.{setting_of, Targets, Stands, Went, Walked, Closed, Keeps, inside, around, cases}
-use Rattle.standing.specs.declared.passing.Passing.{Passing}
+use Rattle.standing.specs.Passing.{Passing}
 use Rattle.strays.specs.Exits.{case_to}
 use Rattle.standing.specs.Exits.{Exits}
 use Rattle.standing.proofs.Aside.{beside_high}

@@ -23,7 +23,7 @@ use Rattle.hold.specs.Hold.{in_slot, Reach}
 use Rattle.hold.proofs.Reach.{reach_trans, reach_is}
 use Rattle.standing.specs.Slots.{table_size, aside_of, Ready}
 use Rattle.standing.specs.Standing.{setting_of, Carries, TableIn, Targets, Stands, Went, Walked, Keeps, passed_by, Begun, Entered, inside, around}
-use Rattle.standing.specs.declared.passing.Passing.{Passing}
+use Rattle.standing.specs.Passing.{Passing}
 use Rattle.strays.specs.Exits.{body_to}
 use Rattle.standing.specs.Exits.{Exits}
 use Rattle.standing.proofs.Aside.{beside_high, beside_low, aside_same}

@@ -13,7 +13,7 @@ use Rattle.hold.specs.Hold.{held_by, in_slot, Reach}
 use Rattle.hold.proofs.Reach.{reach_trans, reach_is, reach_cons, reach_append}
 use Rattle.standing.specs.Slots.{table_size, asked_slot, stack_slot, aside_of, Ready}
 use Rattle.standing.specs.Standing.{Carries, TableIn, Targets, Stands, Noted, Keeps}
-use Rattle.standing.specs.declared.passing.Passing.{Passing}
+use Rattle.standing.specs.Passing.{Passing}
 use Rattle.standing.specs.Exits.{Exits}
 use Rattle.standing.proofs.Aside.{beside_high, beside_low, held_apart, held_last, aside_more, aside_same, new_table}
 

@@ -18,7 +18,7 @@ use Rattle.hold.proofs.Reach.{reach_cells}
 use Rattle.hold.proofs.Slots.{live_within}
 use Rattle.standing.specs.Slots.{end_slot, Ready}
 use Rattle.standing.specs.Standing.{setting_of, Carries, Targets, Stands, Walked, passed_by, Closed, Blames, Valued, Keeps, inside}
-use Rattle.standing.specs.declared.passing.Passing.{Passing}
+use Rattle.standing.specs.Passing.{Passing}
 use Rattle.standing.specs.Exits.{Exits}
 use Rattle.standing.proofs.Aside.{beside_high}
 use Rattle.standing.proofs.Stands.{keeps_refl, stands_reach, stands_below, apart_kept, stands_on}

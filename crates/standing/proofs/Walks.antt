@@ -14,7 +14,7 @@ use Rattle.pass.specs.Pass.{Carried, Passed, on, full, ◌>>=◌, point, pointed
 use Rattle.hold.specs.Hold.{in_slot}
 use Rattle.standing.specs.Slots.{table_size, stack_slot, Ready}
 use Rattle.standing.specs.Standing.{setting_of, Targets, Stands, Went, Came, Walked, Stepped, Noted, Keeps, Stretch, inside, around, step, outcome}
-use Rattle.standing.specs.declared.passing.Passing.{Passing}
+use Rattle.standing.specs.Passing.{Passing}
 use Rattle.standing.specs.Exits.{Exits}
 use Rattle.standing.proofs.Stands.{keeps_refl, keeps_trans, carries_point, stands_below, stands_point, stands_on}
 

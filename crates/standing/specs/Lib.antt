@@ -1,4 +1,5 @@
 pub mod Exits
+pub mod Passing
 pub mod Slots
 pub mod Standing
 pub mod World

@@ -13,7 +13,7 @@ use Rattle.pass.specs.Pass.{Carried, Passed, on, full, too_many, pointed, asking
 use Rattle.pass.specs.Checked.{asked_of}
 use Rattle.hold.specs.Hold.{held_by, in_slot, Reach}
 use Rattle.standing.specs.Slots.{table_size, asked_slot, end_slot, aside_of, Beside, Ready}
-use Rattle.standing.specs.declared.passing.Passing.{Passing}
+use Rattle.standing.specs.Passing.{Passing}
 use Rattle.standing.specs.Exits.{Exits}
 
 -- the setting of a function of which v is asked

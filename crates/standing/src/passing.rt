@@ -1,11 +1,9 @@
 // What a pass carries along, beside the new table, and where the needs stand at which a statement can be left.
 
-ghost use Rattle.std.specs.Prelude.{◌≡◌, true};
-// The bound was passed (then nothing else counts); the lowest statement so far that breaks its rule; whether each loop's needs held; whether
-// the needs were past 15, and past 16, at some point.
+// The lowest statement so far that breaks its rule; whether each loop's needs held; whether the needs were past 15, and past 16, at some point.
+// A stretch of a pass gives none where the bound was passed.
 #[derive(Clone, Copy)]
 pub struct Passing {
-    pub full: bool,
     pub fault: Option<u16>,
     pub held: bool,
     pub deep: bool,
@@ -22,16 +20,3 @@ pub const ASKED: usize = 2 * TABLE;
 pub const END: usize = ASKED + 1;
 
 pub const STACK: usize = ASKED + 2;
-
-// The bound was passed.
-pub fn filled() -> Passing
-    ensures { result.full ≡ true }
-{
-    Passing {
-        full: true,
-        fault: None,
-        held: false,
-        deep: false,
-        wide: false,
-    }
-}

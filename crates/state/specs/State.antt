@@ -2,12 +2,14 @@
 use Rattle.std.specs.Prelude.{ℕ, ◌+◌, ◌*◌, List, get_or}
 use Rattle.std.proofs.Math.Option.{Option}
 use Rattle.field.specs.Limits.{max_functions}
+use Rattle.field.specs.declared.refusal.Refusal.{Refusal}
 use Rattle.part.specs.PartReq.{PartReq, none, entries}
 use Rattle.module.specs.Module.{FunctionHandle}
 use Rattle.module.specs.Tables.{row_at, expressions_from, max_items}
 use Rattle.walk.specs.State.{Records, FunctionReq, State, Place, at_expression, at_statement, nowhere, record_pieces}
 use Rattle.memory.specs.Layout.{globals_slot, exprs_slot, totals_slot, functions_slot}
 use Rattle.memory.specs.Memory.{sum_from, records_of, context_at}
+use Rattle.state.specs.declared.answer.Halt.{Halt}
 use Rattle.state.specs.declared.answer.Place as declared
 use Rattle.state.specs.declared.answer.Place.TheVariants as at
 
@@ -45,3 +47,7 @@ abbrev pub place_of : declared.Place → Place
 place_of (at.Expression f e) = at_expression f.0 e.0
 place_of (at.Statement f s) = at_statement f.0 s
 place_of at.Nowhere = nowhere
+
+-- a refusal that falls at no place
+abbrev pub unplaced : Refusal → Halt
+unplaced r = record { refusal = r; place = at.Nowhere }

@@ -1,4 +1,7 @@
 // What a walk gives.
+ghost use Rattle.std.specs.Prelude.{◌≡◌};
+ghost use Rattle.state.specs.State.{unplaced};
+
 use field::refusal::Refusal;
 use module::handles::{ExpressionHandle, FunctionHandle};
 
@@ -22,6 +25,18 @@ pub struct Tally {
 pub struct Halt {
     pub refusal: Refusal,
     pub place: Place,
+}
+
+// A refusal that falls at no place of the module.
+impl From<Refusal> for Halt {
+    ghost from_gives = { λ r h. h ≡ unplaced r };
+
+    fn from(refusal: Refusal) -> Halt {
+        Halt {
+            refusal,
+            place: Place::Nowhere,
+        }
+    }
 }
 
 // A walk without an answer of its own: how far it went.

@@ -3,6 +3,7 @@ ghost use Rattle.std.specs.Prelude.{length};
 ghost use Rattle.boundary.specs.Answers.{Answers, add_answer};
 
 use boundary::add::{ADD_WORDS, add_in};
+use boundary::answer::word_of;
 use context::remove::TYPE_WORDS;
 use field::limits::MAX_TYPES;
 use module::tables::WORDS;
@@ -24,7 +25,7 @@ pub extern "C" fn tickingtor_add_binding(
     let mut table: [u32; TYPE_WORDS * MAX_TYPES] = [0; TYPE_WORDS * MAX_TYPES];
     let mut cells: [u32; ADD_WORDS] = [0; ADD_WORDS];
     let mut parts: [u32; MAX_TYPES] = [0; MAX_TYPES];
-    add_in(
+    word_of(add_in(
         bytes, &mut t, &mut seen, &mut held, &mut table, &mut cells, &mut parts, request, b, out,
-    )
+    ))
 }

@@ -3,6 +3,7 @@ ghost use Rattle.std.specs.Prelude.{length};
 ghost use Rattle.boundary.specs.Answers.{Answers, input_answer};
 
 use access::whole::Bound;
+use boundary::answer::word_of;
 use boundary::input::input_in;
 use context::remove::TYPE_WORDS;
 use field::limits::{MAX_ARGUMENTS, MAX_TYPES};
@@ -32,8 +33,8 @@ pub extern "C" fn tickingtor_input_to_bindings(
     };
     let mut args: [Bound; MAX_ARGUMENTS] = [unread; MAX_ARGUMENTS];
     let function = FunctionHandle(f);
-    input_in(
+    word_of(input_in(
         bytes, &mut t, &mut seen, &mut held, &mut table, &mut sets, &mut args, function, context,
         out,
-    )
+    ))
 }

@@ -2,6 +2,7 @@
 ghost use Rattle.std.specs.Prelude.{length};
 ghost use Rattle.boundary.specs.Answers.{Answers, output_answer};
 
+use boundary::answer::word_of;
 use boundary::output::{OUTPUT_WORDS, output_in};
 use context::remove::TYPE_WORDS;
 use field::limits::MAX_TYPES;
@@ -27,8 +28,8 @@ pub extern "C" fn tickingtor_output_from_bindings(
     let mut cells: [u32; OUTPUT_WORDS] = [0; OUTPUT_WORDS];
     let mut parts: [u32; MAX_TYPES] = [0; MAX_TYPES];
     let function = FunctionHandle(f);
-    output_in(
+    word_of(output_in(
         bytes, &mut t, &mut seen, &mut held, &mut table, &mut cells, &mut parts, function, list,
         out,
-    )
+    ))
 }

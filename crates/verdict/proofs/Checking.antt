@@ -1,14 +1,15 @@
 -- The answer of a check, put together: 21, what is not judged, or that of the rounds; and what the rounds are given.
-use Prim.Native.Nat.{ℕ, suc, ◌-◌, ◌≤◌}
+use Prim.Native.Nat.{ℕ, ◌+◌, ◌*◌, suc, ◌≤◌}
 use native.Mathlib.Omega.{arith}
 use mathlib.Core.Path.{◌≡◌, refl, sym, ap, subst, ◌∙◌}
 use mathlib.Core.Bool.{Bool, true, false, not, ◌&&◌}
 use mathlib.Core.List.{List, []}
 use mathlib.Core.Option.{Option, some, none as nothing}
-use lib.ListN.{length}
+use lib.ListN.{length, take}
 use Rattle.std.specs.Prelude.{Option as Maybe, Some, None, Result, Ok, Err, MatchResult, is_ok}
 use Rattle.std.specs.Borrow.{Bor}
-use Rattle.field.specs.Limits.{max_types, max_expressions}
+use Rattle.std.proofs.lemmas.List.{length-take-le}
+use Rattle.field.specs.Limits.{max_types, max_expressions, max_statements}
 use Rattle.field.specs.Refusal.{number}
 use Rattle.field.specs.declared.refusal.Refusal.{Refusal}
 use Rattle.part.proofs.Equations.{never}
@@ -19,6 +20,7 @@ use Rattle.valid.specs.Valid.{FunctionValid, entries_below}
 use Rattle.valid.specs.There.{There}
 use Rattle.valid.proofs.Accepted.{valid}
 use Rattle.context.specs.RequiredContext.{RequiredContext}
+use Rattle.context.specs.Types.{type_words}
 use Rattle.request.specs.Request.{request_of}
 use Rattle.request.specs.Context.{context_of}
 use Rattle.walk.specs.Resolve.{function_at}
@@ -33,16 +35,20 @@ use Rattle.pass.specs.Checked.{judge_by, checked}
 use Rattle.judge.specs.Given.{scope_at}
 use Rattle.judge.proofs.PathSteps.{function_valid, few}
 use Rattle.framed.proofs.Given.{read_function, judged_function, statements-fit}
+use Rattle.memory.specs.Layout.{store_size, slot_count}
+use Rattle.state.specs.Ready.{WasRead}
+use Rattle.standing.specs.Slots.{stack_slot}
 use Rattle.standing.specs.World.{World}
 use Rattle.checking.specs.Check.{scope_of, value_of, cut_short, on_buffer, meaning_by, answer_to}
 use Rattle.checking.specs.Word.{said}
 use Rattle.checking.specs.declared.words.Verdict.{Verdict}
 use Rattle.checking.specs.Stretch.{Firsts, marks_in, MarksFound}
 use Rattle.rounds.specs.Settling.{asked_by, reported, Settling, Settled}
-use Rattle.verdict.specs.Heard.{asks_by, Accepted, Hears}
+use Rattle.verdict.specs.Heard.{Store, asks_by, Stored, Accepted, Hears}
 use Rattle.verdict.specs.declared.heard.Heard.{Heard}
-use Rattle.verdict.specs.Tables.{Tables, unjudged, Judges}
-use Rattle.verdict.specs.Checks.{Asked, Marked, MarksChecked, ReportChecked}
+use Rattle.verdict.specs.declared.scratch.Scratch.{Scratch}
+use Rattle.verdict.specs.Tables.{Sized, Tables, unjudged, Judges}
+use Rattle.verdict.specs.Checks.{Asked, MarksChecked, ReportChecked}
 
 -- What is not judged, and what is
 
@@ -57,6 +63,16 @@ unfolding unjudged
 none_left (some e) p h = never cc
 none_left nothing (some n) h = never cc
 none_left nothing nothing h = (refl, refl)
+
+-- the tables have as many words as are filled
+pub record Marked (bytes t : List ℕ) (f : ℕ) (types alike held paths firsts s rs path : List ℕ) (g v : ℕ) : Type 0 where
+  pub was_read : WasRead bytes t
+  pub sized : Sized bytes t f types alike held paths
+  pub firsts_long : max_statements ≤ length firsts
+  pub store : Store s
+  pub slots_long : stack_slot + 1 + (3 * max_items + 12) ≤ length rs
+  pub path_long : max_expressions + 2 ≤ length path
+  pub stored : Stored (module_of bytes t) s f g v
 
 module _ {bytes t : List ℕ} {f : ℕ} {types alike held paths firsts s rs path : List ℕ} {g v : ℕ} (M : Marked bytes t f types alike held paths firsts s rs path g v) where
   abbrev m : Module
@@ -141,6 +157,25 @@ module _ {bytes t : List ℕ} {f : ℕ} {s : List ℕ} {g v : ℕ} (A : Asked by
   pub few_expressions : {e : ℕ} → e ≡ length (function_of bytes t f).expressions → e ≤ max_expressions
   few_expressions h = omega (arith, few bytes t f A.was_read.module_is A.stored.there)
 
+  -- the tables are cut to what is filled
+  pub cut : {n e : ℕ} → n ≡ length (module_of bytes t).types → e ≡ length (function_of bytes t f).expressions → (m : Scratch) {rs : List ℕ} → length s ≡ store_size → length rs ≡ slot_count →
+      type_words * max_types ≤ length m.rows → max_types ≤ length m.alike → max_types ≤ length m.held → max_expressions ≤ length m.paths → max_statements ≤ length m.firsts → max_expressions + 2 ≤ length m.path →
+      Marked bytes t f (take (type_words * n) m.rows) (take n m.alike) (take n m.held) (take e m.paths) m.firsts s rs m.path g v
+  cut {n} {e} p q m l k a b c d x y = record {
+    was_read = A.was_read;
+    sized = record {
+      types_long = omega (arith, length-take-le (type_words * n) m.rows (omega (arith, few_types p, a)), p);
+      alike_long = omega (arith, length-take-le n m.alike (omega (arith, few_types p, b)), p);
+      held_long = omega (arith, length-take-le n m.held (omega (arith, few_types p, c)), p);
+      paths_long = omega (arith, length-take-le e m.paths (omega (arith, few_expressions q, d)), q);
+    };
+    firsts_long = x;
+    store = record { long = omega (arith, l); fits = omega (arith, l) };
+    slots_long = omega (arith, k);
+    path_long = y;
+    stored = A.stored;
+  }
+
   module _ (report context : List ℕ) {r : Result (Bor (List ℕ)) (Bor (List ℕ))} (D : MarksFound bytes t f report r) where
     abbrev marks : List ℕ
     marks = marks_in bytes t f report
@@ -173,5 +208,5 @@ module _ {m : Module} {request context u : List ℕ} {a : Result Heard Refusal} 
   unfolding answer_to
   read_refused e = rw ((rw e at H.by) report)
 
-  heard_is : {h : Heard} → a ≡ Ok h → Accepted m request context u h.function.0 h.globals h.value
+  heard_is : {h : Heard} → a ≡ Ok h → Accepted m request context u h.function.0 h.asked.globals h.asked.value
   heard_is e = rw e at H.by

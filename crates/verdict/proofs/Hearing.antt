@@ -254,5 +254,5 @@ module _ (bytes : List ℕ) (m : Module) (R : file.read_module bytes ≡ file.ac
       is = λ report. (meant_accepted m named (context_of context) accepts).3 report ∙ same_buffer m report q.function.0 (optional s q.retval) (part s q.globals) (part s v) given means;
     }
 
-    pub hears : Hears m request context s (Ok (record { function = q.function; globals = q.globals; value = v }))
+    pub hears : Hears m request context s (Ok (record { function = q.function; asked = record { globals = q.globals; value = v } }))
     hears = record { by = accepted_request }

@@ -68,7 +68,7 @@ pub record Accepted (m : Module) (request context s : List ℕ) (f g v : ℕ) : 
 
 abbrev pub HearsBy : Module → (request context s : List ℕ) → Result Heard Refusal → Type 0
 HearsBy m request context s (Err e) = (report : List ℕ) → meaning_by m report (request_of request) (context_of context) ≡ unread (number e)
-HearsBy m request context s (Ok h) = Accepted m request context s h.function.0 h.globals h.value
+HearsBy m request context s (Ok h) = Accepted m request context s h.function.0 h.asked.globals h.asked.value
 
 pub record Hears (m : Module) (request context s : List ℕ) (a : Result Heard Refusal) : Type 0 where
   pub by : HearsBy m request context s a

@@ -18,13 +18,13 @@ use module::handles::FunctionHandle;
 use part::store::{EMPTY_PIECE, init};
 use request::requests::{Request, read_request};
 use requests::begin::check_length;
+use rounds::pieces::AskedPieces;
 
-// The asked function, and the pieces that are asked of the globals and of the value.
+// The asked function, and what is asked of it.
 #[derive(Clone, Copy)]
 pub struct Heard {
     pub function: FunctionHandle,
-    pub globals: u32,
-    pub value: u32,
+    pub asked: AskedPieces,
 }
 
 // What the bytes of a request ask, in a store that has nothing else. A check has no report buffer that could be too short.
@@ -88,7 +88,9 @@ pub fn hear(
     let value = value_piece(q.retval);
     Ok(Heard {
         function: q.function,
-        globals: q.globals,
-        value,
+        asked: AskedPieces {
+            globals: q.globals,
+            value,
+        },
     })
 }

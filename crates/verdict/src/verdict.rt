@@ -6,9 +6,9 @@ ghost use Rattle.request.specs.Context.{context_of};
 ghost use Rattle.checking.specs.Check.{meaning_by, answer_to};
 ghost use Rattle.checking.specs.Word.{said};
 ghost use Rattle.state.specs.Ready.{WasRead};
-ghost use Rattle.verdict.specs.Checks.{Asked, Marked, MarksChecked, ReportChecked};
+ghost use Rattle.verdict.specs.Checks.{Asked, MarksChecked, ReportChecked};
 
-use crate::heard::hear;
+use crate::heard::{Heard, hear};
 use crate::judged::unjudged;
 use crate::scratch::Scratch;
 use crate::tables::fill_tables;
@@ -21,28 +21,34 @@ use context::remove::TYPE_WORDS;
 use field::refusal::Refusal;
 use judge::subject::Subject;
 use memory::parts::Parts;
-use module::handles::FunctionHandle;
 use rounds::settle::settle;
 
 // Marks that have the function's shape: whether it is judged, and then the rounds.
 fn check_marks(
     file: &File,
-    f: FunctionHandle,
-    types: &mut [u32],
-    alike: &mut [u32],
-    held: &mut [u32],
-    paths: &mut [u32],
-    firsts: &mut [u32],
+    heard: Heard,
     parts: &mut Parts,
-    path: &mut [u32],
-    globals: u32,
-    value: u32,
+    scratch: &mut Scratch,
     marks: &[u8],
     context: &[u8],
 ) -> Verdict
-    requires { Marked file.now.bytes file.now.t f.0 types.old alike.old held.old paths.old firsts.old parts.old.cells parts.old.slots path.old globals value }
-    ensures { MarksChecked file.now.bytes file.now.t f.0 parts.old.cells globals value marks.now context.now (said result) }
+    requires { Asked file.now.bytes file.now.t heard.function.0 parts.old.cells heard.asked.globals heard.asked.value }
+    ensures { MarksChecked file.now.bytes file.now.t heard.function.0 parts.old.cells heard.asked.globals heard.asked.value marks.now context.now (said result) }
 {
+    let f = heard.function;
+    let n = file.types() as usize;
+    let e = file.expressions(f) as usize;
+    // each table as long as what it is filled for
+    let rows = &mut scratch.rows[..];
+    let types = &mut rows[..TYPE_WORDS * n];
+    let alike = &mut scratch.alike[..];
+    let alike = &mut alike[..n];
+    let held = &mut scratch.held[..];
+    let held = &mut held[..n];
+    let paths = &mut scratch.paths[..];
+    let paths = &mut paths[..e];
+    let firsts = &mut scratch.firsts;
+    let path = &mut scratch.path;
     fill_tables(file, f, types, alike, held, paths);
     let subject = Subject {
         file,
@@ -60,47 +66,25 @@ fn check_marks(
         marks,
         firsts,
     };
-    settle(&marked, parts, path, globals, value, context)
+    settle(&marked, parts, path, heard.asked, context)
 }
 
 // The marks of f in the report buffer.
 fn check_report(
     file: &File,
-    f: FunctionHandle,
+    heard: Heard,
     parts: &mut Parts,
     scratch: &mut Scratch,
-    globals: u32,
-    value: u32,
     report: &[u8],
     context: &[u8],
 ) -> Verdict
-    requires { Asked file.now.bytes file.now.t f.0 parts.old.cells globals value }
-    ensures { ReportChecked (module_of file.now.bytes file.now.t) parts.old.cells f.0 globals value report.now context.now (said result) }
+    requires { Asked file.now.bytes file.now.t heard.function.0 parts.old.cells heard.asked.globals heard.asked.value }
+    ensures { ReportChecked (module_of file.now.bytes file.now.t) parts.old.cells heard.function.0 heard.asked.globals heard.asked.value report.now context.now (said result) }
 {
-    let Ok(marks) = marks_shape(file, f, report) else {
+    let Ok(marks) = marks_shape(file, heard.function, report) else {
         return Verdict::Refused(Refusal::MarksUnfit);
     };
-    let n = file.types() as usize;
-    let e = file.expressions(f) as usize;
-    let rows = &mut scratch.rows[..];
-    let alike = &mut scratch.alike[..];
-    let held = &mut scratch.held[..];
-    let paths = &mut scratch.paths[..];
-    check_marks(
-        file,
-        f,
-        &mut rows[0..TYPE_WORDS * n],
-        &mut alike[0..n],
-        &mut held[0..n],
-        &mut paths[0..e],
-        &mut scratch.firsts,
-        parts,
-        &mut scratch.path,
-        globals,
-        value,
-        marks,
-        context,
-    )
+    check_marks(file, heard, parts, scratch, marks, context)
 }
 
 // Nothing is written but the parts and the scratch, of whatever contents.
@@ -117,15 +101,6 @@ pub fn check_read(
 {
     match hear(file, &mut parts.cells, request, context) {
         Err(refusal) => Verdict::Refused(refusal),
-        Ok(heard) => check_report(
-            file,
-            heard.function,
-            parts,
-            scratch,
-            heard.globals,
-            heard.value,
-            report,
-            context,
-        ),
+        Ok(heard) => check_report(file, heard, parts, scratch, report, context),
     }
 }

@@ -1,5 +1,5 @@
 -- `acts::emits::act_emit` meets its contract: nothing is needed, or the expression's slot is taken out and its operands are asked (Emit).
-use mathlib.Core.Path.{◌∙◌}
+use mathlib.Core.Path.{refl, ◌∙◌}
 use Rattle.acts.proofs.Steps.{needs_some, acted_none}
 use Rattle.acts.proofs.Emit.{path_room, lent-long, emit-take, emit-full, operands_given, operands_full, emit-left}
 use native.Mathlib.Omega.{arith}
@@ -13,19 +13,21 @@ pub take_out-requires : goal.take_out-requires
 take_out-requires c =
     emit-take c.requires.act_given c.requires.e_in_bounds (needs_some c.emit_overlap-a.ensures c.is_some.ensures c.if-not-is_some.false) c.emit_overlap-a.ensures c.evaluated_path.ensures.is
 
-pub returns-then-not-take_out : goal.returns-then-not-take_out
-returns-then-not-take_out c =
-    record { step = emit-full c.requires.act_given c.requires.e_in_bounds (needs_some c.emit_overlap-a.ensures c.is_some.ensures c.if-not-is_some.false) c.evaluated_path.ensures.is c.take_out.ensures c.if-not-take_out.true; long = c.evaluated_path.ensures.long ∙ c.emit_overlap-a.ensures.long }
+pub returns-in_err-take_out : goal.returns-in_err-take_out
+returns-in_err-take_out c =
+    rw c.from_residual.ensures
+    (record { step = emit-full c.requires.act_given c.requires.e_in_bounds (needs_some c.emit_overlap-a.ensures c.is_some.ensures c.if-not-is_some.false) c.evaluated_path.ensures.is c.in_err-take_out.ensures refl; long = c.evaluated_path.ensures.long ∙ c.emit_overlap-a.ensures.long })
 
 pub ask_operands-requires : goal.ask_operands-requires
 ask_operands-requires c =
-    let given = operands_given c.requires.act_given c.requires.e_in_bounds (needs_some c.emit_overlap-a.ensures c.is_some.ensures c.if-not-is_some.false) c.evaluated_path.ensures.is c.take_out.ensures c.if-not-take_out.false in
+    let given = operands_given c.requires.act_given c.requires.e_in_bounds (needs_some c.emit_overlap-a.ensures c.is_some.ensures c.if-not-is_some.false) c.evaluated_path.ensures.is c.in_ok-take_out.ensures refl in
     record { operands_given = given; path_room = path_room given _ (omega (arith, c.requires.act_given.room, c.evaluated_path.ensures.long, c.emit_overlap-a.ensures.long)) _ c.expressions.ensures }
 
-pub returns-then-not-ask_operands : goal.returns-then-not-ask_operands
-returns-then-not-ask_operands c =
-    record { step = operands_full c.requires.act_given c.requires.e_in_bounds (needs_some c.emit_overlap-a.ensures c.is_some.ensures c.if-not-is_some.false) c.evaluated_path.ensures.is c.take_out.ensures c.if-not-take_out.false c.ask_operands.ensures c.if-not-ask_operands.true; long = lent-long _ _ _ _ c.ask_operands.auto.path (c.evaluated_path.ensures.long ∙ c.emit_overlap-a.ensures.long) }
+pub returns-in_err-ask_operands : goal.returns-in_err-ask_operands
+returns-in_err-ask_operands c =
+    rw c.from_residual-in_err-ask_operands.ensures
+    (record { step = operands_full c.requires.act_given c.requires.e_in_bounds (needs_some c.emit_overlap-a.ensures c.is_some.ensures c.if-not-is_some.false) c.evaluated_path.ensures.is c.in_ok-take_out.ensures refl c.in_err-ask_operands.ensures refl; long = lent-long _ _ _ _ c.ask_operands.auto.path (c.evaluated_path.ensures.long ∙ c.emit_overlap-a.ensures.long) })
 
 pub returns : goal.returns
 returns c =
-    record { step = emit-left c.requires.act_given c.requires.e_in_bounds (needs_some c.emit_overlap-a.ensures c.is_some.ensures c.if-not-is_some.false) c.evaluated_path.ensures.is c.take_out.ensures c.if-not-take_out.false c.ask_operands.ensures c.if-not-ask_operands.false c.copy.ensures; long = lent-long _ _ _ _ c.ask_operands.auto.path (c.evaluated_path.ensures.long ∙ c.emit_overlap-a.ensures.long) }
+    record { step = emit-left c.requires.act_given c.requires.e_in_bounds (needs_some c.emit_overlap-a.ensures c.is_some.ensures c.if-not-is_some.false) c.evaluated_path.ensures.is c.in_ok-take_out.ensures refl c.in_ok-ask_operands.ensures refl c.copy.ensures; long = lent-long _ _ _ _ c.ask_operands.auto.path (c.evaluated_path.ensures.long ∙ c.emit_overlap-a.ensures.long) }

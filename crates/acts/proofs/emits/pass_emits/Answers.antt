@@ -11,13 +11,14 @@ overflow_add-last c = omega (arith, c.requires.last_in_bounds, world_few c.requi
 pub loop-k-init : goal.loop-k-init
 loop-k-init c = (emitted_none _ _ _ _ _ c.requires.pass_given.ready c.requires.pass_given.going, refl)
 
-pub returns-then-q : goal.returns-then-q
-returns-then-q c =
-    emitted_full _ _ _ _ _ (back (omega arith) c.loop-k.invariant.0) c.note-at.ensures (mark_is _ _ _ _ _ c.requires.begin_value c.mark_at-marked.ensures) c.pass_emit-q.ensures c.saturating_sub-count.ensures c.loop-k.invariant.1 c.if-q.true
+pub returns-in_err-q : goal.returns-in_err-q
+returns-in_err-q c =
+    rw c.from_residual.ensures
+    (emitted_full _ _ _ _ _ (back (omega arith) c.loop-k.invariant.0) c.note-at.ensures (mark_is _ _ _ _ _ c.requires.begin_value c.mark_at-marked.ensures) c.in_err-q.ensures c.saturating_sub-count.ensures c.loop-k.invariant.1 refl)
 
 pub loop-k-preserved : goal.loop-k-preserved
 loop-k-preserved c =
-    (emitted_on _ _ _ _ _ (back (omega arith) c.loop-k.invariant.0) c.note-at.ensures (mark_is _ _ _ _ _ c.requires.begin_value c.mark_at-marked.ensures) c.pass_emit-q.ensures c.if-q.false, c.pass_emit-q.ensures.long ∙ c.loop-k.invariant.1)
+    (emitted_on _ _ _ _ _ (back (omega arith) c.loop-k.invariant.0) c.note-at.ensures (mark_is _ _ _ _ _ c.requires.begin_value c.mark_at-marked.ensures) c.in_ok-q.ensures refl, c.in_ok-q.ensures.long ∙ c.loop-k.invariant.1)
 
 pub returns : goal.returns
 returns c =

@@ -2,8 +2,9 @@
 use mathlib.Core.Path.{◌≡◌}
 use lib.ListN.{length}
 use Rattle.judge.specs.Given.{scope_at}
+use Rattle.standing.specs.Passing.{going}
 use Rattle.acts.proofs.Emitting.{Emitted}
 use Rattle.acts.proofs.emits.pass_emits.Given as goal
 
 abbrev pub invariant-loop-k : goal.invariant-loop-k
-invariant-loop-k l = Emitted (scope_at l.subject.file.now.bytes l.subject.file.now.t l.subject.f.0) l.marks l.l l.first.0 l.count l.k l.initial.parts.cells l.initial.parts.slots l.n l.initial.q l.parts.cells l.parts.slots l.q × (length l.path ≡ length l.initial.path)
+invariant-loop-k l = Emitted (scope_at l.subject.file.now.bytes l.subject.file.now.t l.subject.f.0) l.marks l.l l.first.0 l.count l.k l.initial.parts.cells l.initial.parts.slots l.n (going l.initial.q) l.parts.cells l.parts.slots (going l.q) × (length l.path ≡ length l.initial.path)

@@ -1,4 +1,5 @@
 -- `acts::stores::store_somewhere` meets its contract: a copy of the needs, and asks (Storing).
+use mathlib.Core.Path.{refl}
 use Rattle.acts.proofs.Storing.{indexes_given, indexes_full, stored_given, stored_full, somewhere_left}
 use Rattle.acts.proofs.stores.store_somewhere.Goals as goal
 
@@ -6,16 +7,19 @@ pub ask_indexes-requires : goal.ask_indexes-requires
 ask_indexes-requires c =
     record { list_given = indexes_given c.requires c.copy.ensures; pointer = c.requires.pointer }
 
-pub returns-then-not-ask_indexes : goal.returns-then-not-ask_indexes
-returns-then-not-ask_indexes c = indexes_full c.requires c.copy.ensures c.ask_indexes.ensures c.if-not-ask_indexes.true
+pub returns-in_err-ask_indexes : goal.returns-in_err-ask_indexes
+returns-in_err-ask_indexes c =
+    rw c.from_residual.ensures
+    (indexes_full c.requires c.copy.ensures c.in_err-ask_indexes.ensures refl)
 
 pub ask_value-requires : goal.ask_value-requires
-ask_value-requires c = stored_given c.requires c.copy.ensures c.ask_indexes.ensures c.if-not-ask_indexes.false
+ask_value-requires c = stored_given c.requires c.copy.ensures c.in_ok-ask_indexes.ensures refl
 
-pub returns-then-not-ask_value : goal.returns-then-not-ask_value
-returns-then-not-ask_value c =
-    stored_full c.requires c.copy.ensures c.ask_indexes.ensures c.if-not-ask_indexes.false c.ask_value.ensures c.if-not-ask_value.true
+pub returns-in_err-ask_value : goal.returns-in_err-ask_value
+returns-in_err-ask_value c =
+    rw c.from_residual-in_err-ask_value.ensures
+    (stored_full c.requires c.copy.ensures c.in_ok-ask_indexes.ensures refl c.in_err-ask_value.ensures refl)
 
 pub returns : goal.returns
 returns c =
-    somewhere_left c.requires c.copy.ensures c.ask_indexes.ensures c.if-not-ask_indexes.false c.ask_value.ensures c.if-not-ask_value.false c.copy-2.ensures
+    somewhere_left c.requires c.copy.ensures c.in_ok-ask_indexes.ensures refl c.in_ok-ask_value.ensures refl c.copy-2.ensures

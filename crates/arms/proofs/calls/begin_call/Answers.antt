@@ -1,7 +1,7 @@
 -- `arms::calls::begin_call` meets its contract.
 use native.Mathlib.Omega.{arith}
 use Rattle.block.proofs.Nested.{arm_weighs}
-use Rattle.arms.proofs.CallBegins.{begin_few, begin_own, begin_held, begin_loads, begin_asks, begin_enters, begin_tidies, call_begun}
+use Rattle.arms.proofs.CallBegins.{begin_few, begin_own, begin_held, begin_loads, begin_asks, asked_made, begin_enters, begin_tidies, call_begun}
 use Rattle.arms.proofs.calls.begin_call.Goals as goal
 
 pub overflow_add-n : goal.overflow_add-n
@@ -26,9 +26,10 @@ overflow_add-held-2 c = omega (arith, begin_held c.requires, c.weigh.ensures, c.
 pub record_of-found-requires : goal.record_of-found-requires
 record_of-found-requires c = begin_loads c.requires c.operand-n.ensures c.optional_expression-result.ensures
 
-pub asked_of-retval-requires : goal.asked_of-retval-requires
-asked_of-retval-requires c =
-    begin_asks c.requires c.operand-n.ensures c.optional_expression-result.ensures c.record_of-found.result c.record_of-found.ensures
+pub returned-retval-requires : goal.returned-retval-requires
+returned-retval-requires c =
+    let q9 = begin_asks c.requires c.operand-n.ensures c.optional_expression-result.ensures c.record_of-found.result c.record_of-found.ensures in
+    record { good = q9.0; room = q9.1 }
 
 pub enter-requires : goal.enter-requires
 enter-requires c =
@@ -37,9 +38,9 @@ enter-requires c =
 
 pub tidy-requires : goal.tidy-requires
 tidy-requires c =
-    let q9 = begin_tidies c.requires c.operand-n.ensures c.optional_expression-result.ensures c.record_of-found.result c.record_of-found.ensures c.function_operand-g.ensures c.asked_of-retval.ensures c.enter.ensures.slots_after in
+    let q9 = begin_tidies c.requires c.operand-n.ensures c.optional_expression-result.ensures c.record_of-found.result c.record_of-found.ensures c.function_operand-g.ensures (asked_made _ c.returned-retval.ensures) c.enter.ensures.slots_after in
     record { memory = q9.0; slots_bound = q9.1 }
 
 pub returns : goal.returns
 returns c =
-    call_begun c.requires c.operand-n.ensures c.optional_expression-result.ensures c.record_of-found.result c.record_of-found.ensures c.function_operand-g.ensures c.asked_of-retval.ensures c.enter.ensures.slots_after c.own_pieces-own.ensures c.weigh.ensures c.enter.ensures.open_after c.tidy.ensures
+    call_begun c.requires c.operand-n.ensures c.optional_expression-result.ensures c.record_of-found.result c.record_of-found.ensures c.function_operand-g.ensures (asked_made _ c.returned-retval.ensures) c.enter.ensures.slots_after c.own_pieces-own.ensures c.weigh.ensures c.enter.ensures.open_after c.tidy.ensures

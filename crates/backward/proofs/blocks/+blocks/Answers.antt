@@ -11,12 +11,14 @@ use Rattle.backward.proofs.Loops.{begin_asks, loop_begun_full, continuing_asks, 
 use native.Mathlib.Omega.{arith}
 use Rattle.backward.proofs.blocks.+blocks.Goals as goal
 
-pub pass_around-returns-then-q : goal.pass_around-returns-then-q
-pass_around-returns-then-q t c = around-full c.requires.course c.note-at.ensures c.pass_block-q.ensures c.if-q.true
+pub pass_around-returns-in_err-q : goal.pass_around-returns-in_err-q
+pass_around-returns-in_err-q t c =
+    rw c.from_residual.ensures
+    (around-full c.requires.course c.note-at.ensures c.in_err-q.ensures refl)
 
 pub pass_around-returns : goal.pass_around-returns
 pass_around-returns t c =
-    around-on c.requires.course c.note-at.ensures c.pass_block-q.ensures c.if-q.false c.note.ensures
+    around-on c.requires.course c.note-at.ensures c.in_ok-q.ensures refl c.note.ensures
 
 pub pass_bare-returns-in-Ok-If : goal.pass_bare-returns-in-Ok-If
 pass_bare-returns-in-Ok-If t c =
@@ -37,13 +39,14 @@ pub pass_block-overflow_add-first : goal.pass_block-overflow_add-first
 pass_block-overflow_add-first t c =
     omega (arith, statement_small (statement_in c.requires.block_of _ (c.loop-k.k - 1) c.block-range.ensures (omega (arith, c.loop-k.invariant.within))))
 
-pub pass_block-returns-then-q : goal.pass_block-returns-then-q
-pass_block-returns-then-q t c =
-    later_full c.requires.course c.loop-k.invariant c.note-at.ensures (c.loop-k.k - 1) (omega arith) c.pass_statement-q.ensures c.if-q.true c.requires.block_of c.block-range.ensures refl refl
+pub pass_block-returns-in_err-q : goal.pass_block-returns-in_err-q
+pass_block-returns-in_err-q t c =
+    rw c.from_residual.ensures
+    (later_full c.requires.course c.loop-k.invariant c.note-at.ensures (c.loop-k.k - 1) (omega arith) c.in_err-q.ensures refl c.requires.block_of c.block-range.ensures refl refl)
 
 pub pass_block-loop-k-preserved : goal.pass_block-loop-k-preserved
 pass_block-loop-k-preserved t c =
-    later_more c.requires.course c.loop-k.invariant c.note-at.ensures (c.loop-k.k - 1) (omega arith) c.pass_statement-q.ensures c.if-q.false
+    later_more c.requires.course c.loop-k.invariant c.note-at.ensures (c.loop-k.k - 1) (omega arith) c.in_ok-q.ensures refl
 
 pub pass_block-returns : goal.pass_block-returns
 pass_block-returns t c =
@@ -53,21 +56,23 @@ pub pass_cases-loop-i-init : goal.pass_cases-loop-i-init
 pass_cases-loop-i-init t c =
     no_case c.requires.course c.requires.row_in c.requires.kind_value c.args.marked.now.marks.now c.requires.n_value
 
-pub pass_cases-pass_around-q-requires : goal.pass_cases-pass_around-q-requires
-pass_cases-pass_around-q-requires t c =
+pub pass_cases-pass_around-requires : goal.pass_cases-pass_around-requires
+pass_cases-pass_around-requires t c =
     let z = case_asks c.requires.course c.requires.row_in c.requires.kind_value c.args.marked.now.marks.now c.requires.b_in_bounds _ c.loop-i.invariant (omega (arith, c.loop-i-test.true, c.operand-count.ensures)) c.copy.ensures c.block_operand-case.ensures in (omega (arith, z.0, c.decreases), z.1)
 
-pub pass_cases-returns-then-q : goal.pass_cases-returns-then-q
-pass_cases-returns-then-q t c =
-    case_passes c.requires.course c.requires.row_in c.requires.kind_value c.args.marked.now.marks.now c.requires.b_in_bounds _ c.loop-i.invariant (omega (arith, c.loop-i-test.true, c.operand-count.ensures)) c.copy.ensures c.block_operand-case.ensures c.pass_around-q.ensures c.if-q.true
+pub pass_cases-returns-in_err-q : goal.pass_cases-returns-in_err-q
+pass_cases-returns-in_err-q t c =
+    rw c.from_residual.ensures
+    (case_passes c.requires.course c.requires.row_in c.requires.kind_value c.args.marked.now.marks.now c.requires.b_in_bounds _ c.loop-i.invariant (omega (arith, c.loop-i-test.true, c.operand-count.ensures)) c.copy.ensures c.block_operand-case.ensures c.in_err-q.ensures refl)
 
-pub pass_cases-returns-then-not-merge : goal.pass_cases-returns-then-not-merge
-pass_cases-returns-then-not-merge t c =
-    case_ends_full c.requires.course c.requires.row_in c.requires.kind_value c.args.marked.now.marks.now c.requires.b_in_bounds _ c.loop-i.invariant (omega (arith, c.loop-i-test.true, c.operand-count.ensures)) c.copy.ensures c.block_operand-case.ensures c.pass_around-q.ensures c.if-q.false c.merge.ensures c.if-not-merge.true c.filled.ensures
+pub pass_cases-returns-in_err-merge : goal.pass_cases-returns-in_err-merge
+pass_cases-returns-in_err-merge t c =
+    rw c.from_residual-in_err-merge.ensures
+    (case_ends_full c.requires.course c.requires.row_in c.requires.kind_value c.args.marked.now.marks.now c.requires.b_in_bounds _ c.loop-i.invariant (omega (arith, c.loop-i-test.true, c.operand-count.ensures)) c.copy.ensures c.block_operand-case.ensures c.in_ok-q.ensures refl c.in_err-merge.ensures refl refl)
 
 pub pass_cases-loop-i-preserved : goal.pass_cases-loop-i-preserved
 pass_cases-loop-i-preserved t c =
-    case_more c.requires.course c.requires.row_in c.requires.kind_value c.args.marked.now.marks.now c.requires.b_in_bounds _ c.loop-i.invariant (omega (arith, c.loop-i-test.true, c.operand-count.ensures)) c.copy.ensures c.block_operand-case.ensures c.pass_around-q.ensures c.if-q.false c.merge.ensures c.if-not-merge.false
+    case_more c.requires.course c.requires.row_in c.requires.kind_value c.args.marked.now.marks.now c.requires.b_in_bounds _ c.loop-i.invariant (omega (arith, c.loop-i-test.true, c.operand-count.ensures)) c.copy.ensures c.block_operand-case.ensures c.in_ok-q.ensures refl c.in_ok-merge.ensures refl
 
 pub pass_cases-returns : goal.pass_cases-returns
 pass_cases-returns t c =
@@ -85,9 +90,10 @@ pub pass_holder-returns-then-obeys : goal.pass_holder-returns-then-obeys
 pass_holder-returns-then-obeys t c =
     holder_obeys c.requires.course c.requires.row_in c.args.marked.now.marks.now c.requires.b_in_bounds c.requires.lt_kind refl c.mark_at.ensures c.if-mark_at.false c.obeys.ensures c.if-obeys.true
 
-pub pass_holder-returns-then-q : goal.pass_holder-returns-then-q
-pass_holder-returns-then-q t c =
-    holder_full c.requires.course c.requires.row_in c.args.marked.now.marks.now c.requires.b_in_bounds c.requires.lt_kind refl c.mark_at.ensures c.if-mark_at.false c.obeys.ensures c.if-obeys.false c.copy.ensures c.pass_bare-q.ensures c.if-q.true
+pub pass_holder-returns-in_err-q : goal.pass_holder-returns-in_err-q
+pass_holder-returns-in_err-q t c =
+    rw c.from_residual.ensures
+    (holder_full c.requires.course c.requires.row_in c.args.marked.now.marks.now c.requires.b_in_bounds c.requires.lt_kind refl c.mark_at.ensures c.if-mark_at.false c.obeys.ensures c.if-obeys.false c.copy.ensures c.in_err-q.ensures refl)
 
 pub pass_holder-overflow_cast-s : goal.pass_holder-overflow_cast-s
 pass_holder-overflow_cast-s t c = omega (arith, statement_small c.requires.row_in.statement)
@@ -96,74 +102,81 @@ pub pass_holder-blame-blamed-requires : goal.pass_holder-blame-blamed-requires
 pass_holder-blame-blamed-requires t c =
     low_number c.requires.course c.requires.row_in c.args.marked.now.marks.now c.requires.b_in_bounds c.requires.lt_kind refl
 
-pub pass_holder-returns-then-merge : goal.pass_holder-returns-then-merge
-pass_holder-returns-then-merge t c =
-    holder_ends c.requires.course c.requires.row_in c.args.marked.now.marks.now c.requires.b_in_bounds c.requires.lt_kind refl c.mark_at.ensures c.if-mark_at.false c.obeys.ensures c.if-obeys.false c.copy.ensures c.pass_bare-q.ensures c.if-q.false refl c.blame-blamed.ensures c.merge.ensures c.if-merge.true
-
 pub pass_holder-returns : goal.pass_holder-returns
 pass_holder-returns t c =
-    holder_ends_full c.requires.course c.requires.row_in c.args.marked.now.marks.now c.requires.b_in_bounds c.requires.lt_kind refl c.mark_at.ensures c.if-mark_at.false c.obeys.ensures c.if-obeys.false c.copy.ensures c.pass_bare-q.ensures c.if-q.false refl c.blame-blamed.ensures c.merge.ensures c.if-merge.false c.filled.ensures
+    holder_ends c.requires.course c.requires.row_in c.args.marked.now.marks.now c.requires.b_in_bounds c.requires.lt_kind refl c.mark_at.ensures c.if-mark_at.false c.obeys.ensures c.if-obeys.false c.copy.ensures c.in_ok-q.ensures refl refl c.blame-blamed.ensures c.in_ok-merge.ensures refl
 
-pub pass_if-pass_around-q-requires : goal.pass_if-pass_around-q-requires
-pass_if-pass_around-q-requires t c =
+pub pass_holder-returns-in_err-merge : goal.pass_holder-returns-in_err-merge
+pass_holder-returns-in_err-merge t c =
+    rw c.from_residual-in_err-merge.ensures
+    (holder_ends_full c.requires.course c.requires.row_in c.args.marked.now.marks.now c.requires.b_in_bounds c.requires.lt_kind refl c.mark_at.ensures c.if-mark_at.false c.obeys.ensures c.if-obeys.false c.copy.ensures c.in_ok-q.ensures refl refl c.blame-blamed.ensures c.in_err-merge.ensures refl refl)
+
+pub pass_if-pass_around-requires : goal.pass_if-pass_around-requires
+pass_if-pass_around-requires t c =
     let z = reject_asks c.requires.course c.requires.b_in_bounds c.requires.row_in c.requires.kind_value c.args.marked.now.marks.now c.copy.ensures c.block_operand-reject.ensures in (omega (arith, z.0, c.decreases), z.1)
 
-pub pass_if-returns-then-q : goal.pass_if-returns-then-q
-pass_if-returns-then-q t c =
-    if_rejected c.requires.course c.requires.b_in_bounds c.requires.row_in c.requires.kind_value c.args.marked.now.marks.now c.copy.ensures c.block_operand-reject.ensures c.pass_around-q.ensures c.if-q.true
+pub pass_if-returns-in_err-q : goal.pass_if-returns-in_err-q
+pass_if-returns-in_err-q t c =
+    rw c.from_residual.ensures
+    (if_rejected c.requires.course c.requires.b_in_bounds c.requires.row_in c.requires.kind_value c.args.marked.now.marks.now c.copy.ensures c.block_operand-reject.ensures c.in_err-q.ensures refl)
 
-pub pass_if-pass_around-o-requires : goal.pass_if-pass_around-o-requires
-pass_if-pass_around-o-requires t c =
-    let z = accept_asks c.requires.course c.requires.b_in_bounds c.requires.row_in c.requires.kind_value c.args.marked.now.marks.now c.copy.ensures c.block_operand-reject.ensures c.pass_around-q.ensures c.if-q.false c.exchange.ensures c.block_operand-accept.ensures in (omega (arith, z.0, c.decreases), z.1)
+pub pass_if-pass_around-requires-2 : goal.pass_if-pass_around-requires-2
+pass_if-pass_around-requires-2 t c =
+    let z = accept_asks c.requires.course c.requires.b_in_bounds c.requires.row_in c.requires.kind_value c.args.marked.now.marks.now c.copy.ensures c.block_operand-reject.ensures c.in_ok-q.ensures refl c.exchange.ensures c.block_operand-accept.ensures in (omega (arith, z.0, c.decreases), z.1)
 
-pub pass_if-returns-then-o : goal.pass_if-returns-then-o
-pass_if-returns-then-o t c =
-    if_accepted c.requires.course c.requires.b_in_bounds c.requires.row_in c.requires.kind_value c.args.marked.now.marks.now c.copy.ensures c.block_operand-reject.ensures c.pass_around-q.ensures c.if-q.false c.exchange.ensures c.block_operand-accept.ensures c.pass_around-o.ensures c.if-o.true
+pub pass_if-returns-in_err-o : goal.pass_if-returns-in_err-o
+pass_if-returns-in_err-o t c =
+    rw c.from_residual-in_err-o.ensures
+    (if_accepted c.requires.course c.requires.b_in_bounds c.requires.row_in c.requires.kind_value c.args.marked.now.marks.now c.copy.ensures c.block_operand-reject.ensures c.in_ok-q.ensures refl c.exchange.ensures c.block_operand-accept.ensures c.in_err-o.ensures refl)
 
 pub pass_if-end_if-requires : goal.pass_if-end_if-requires
 pass_if-end_if-requires t c =
-    if_end_asks c.requires.course c.requires.b_in_bounds c.requires.row_in c.requires.kind_value c.args.marked.now.marks.now c.copy.ensures c.block_operand-reject.ensures c.pass_around-q.ensures c.if-q.false c.exchange.ensures c.block_operand-accept.ensures c.pass_around-o.ensures c.if-o.false c.expression_operand-condition.ensures
-
-pub pass_if-returns-then-end_if : goal.pass_if-returns-then-end_if
-pass_if-returns-then-end_if t c =
-    if_ends c.requires.course c.requires.b_in_bounds c.requires.row_in c.requires.kind_value c.args.marked.now.marks.now c.copy.ensures c.block_operand-reject.ensures c.pass_around-q.ensures c.if-q.false c.exchange.ensures c.block_operand-accept.ensures c.pass_around-o.ensures c.if-o.false c.expression_operand-condition.ensures c.end_if.ensures c.if-end_if.true
+    if_end_asks c.requires.course c.requires.b_in_bounds c.requires.row_in c.requires.kind_value c.args.marked.now.marks.now c.copy.ensures c.block_operand-reject.ensures c.in_ok-q.ensures refl c.exchange.ensures c.block_operand-accept.ensures c.in_ok-o.ensures refl c.expression_operand-condition.ensures
 
 pub pass_if-returns : goal.pass_if-returns
 pass_if-returns t c =
-    if_ends_full c.requires.course c.requires.b_in_bounds c.requires.row_in c.requires.kind_value c.args.marked.now.marks.now c.copy.ensures c.block_operand-reject.ensures c.pass_around-q.ensures c.if-q.false c.exchange.ensures c.block_operand-accept.ensures c.pass_around-o.ensures c.if-o.false c.expression_operand-condition.ensures c.end_if.ensures c.if-end_if.false c.filled.ensures
+    if_ends c.requires.course c.requires.b_in_bounds c.requires.row_in c.requires.kind_value c.args.marked.now.marks.now c.copy.ensures c.block_operand-reject.ensures c.in_ok-q.ensures refl c.exchange.ensures c.block_operand-accept.ensures c.in_ok-o.ensures refl c.expression_operand-condition.ensures c.in_ok-end_if.ensures refl
+
+pub pass_if-returns-in_err-end_if : goal.pass_if-returns-in_err-end_if
+pass_if-returns-in_err-end_if t c =
+    rw c.from_residual-in_err-end_if.ensures
+    (if_ends_full c.requires.course c.requires.b_in_bounds c.requires.row_in c.requires.kind_value c.args.marked.now.marks.now c.copy.ensures c.block_operand-reject.ensures c.in_ok-q.ensures refl c.exchange.ensures c.block_operand-accept.ensures c.in_ok-o.ensures refl c.expression_operand-condition.ensures c.in_err-end_if.ensures refl refl)
 
 pub pass_loop-begin_loop-requires : goal.pass_loop-begin_loop-requires
 pass_loop-begin_loop-requires t c =
     begin_asks c.requires.course c.requires.b_in_bounds c.requires.row_in c.requires.kind_value c.args.marked.now.marks.now c.optional_expression-break_if.ensures
 
-pub pass_loop-returns-then-not-begin_loop : goal.pass_loop-returns-then-not-begin_loop
-pass_loop-returns-then-not-begin_loop t c =
-    loop_begun_full c.requires.course c.requires.b_in_bounds c.requires.row_in c.requires.kind_value c.args.marked.now.marks.now c.optional_expression-break_if.ensures c.begin_loop.ensures c.if-not-begin_loop.true c.filled.ensures
+pub pass_loop-returns-in_err-begin_loop : goal.pass_loop-returns-in_err-begin_loop
+pass_loop-returns-in_err-begin_loop t c =
+    rw c.from_residual.ensures
+    (loop_begun_full c.requires.course c.requires.b_in_bounds c.requires.row_in c.requires.kind_value c.args.marked.now.marks.now c.optional_expression-break_if.ensures c.in_err-begin_loop.ensures refl refl)
 
-pub pass_loop-pass_around-q-requires : goal.pass_loop-pass_around-q-requires
-pass_loop-pass_around-q-requires t c =
-    let z = continuing_asks c.requires.course c.requires.b_in_bounds c.requires.row_in c.requires.kind_value c.args.marked.now.marks.now c.optional_expression-break_if.ensures c.begin_loop.ensures c.if-not-begin_loop.false c.in_case-y.ensures c.block_operand-continuing.ensures in (omega (arith, z.0, c.decreases), z.1)
+pub pass_loop-pass_around-requires : goal.pass_loop-pass_around-requires
+pass_loop-pass_around-requires t c =
+    let z = continuing_asks c.requires.course c.requires.b_in_bounds c.requires.row_in c.requires.kind_value c.args.marked.now.marks.now c.optional_expression-break_if.ensures c.in_ok-begin_loop.ensures refl c.in_case-y.ensures c.block_operand-continuing.ensures in (omega (arith, z.0, c.decreases), z.1)
 
-pub pass_loop-returns-then-q : goal.pass_loop-returns-then-q
-pass_loop-returns-then-q t c =
-    loop_continuing c.requires.course c.requires.b_in_bounds c.requires.row_in c.requires.kind_value c.args.marked.now.marks.now c.optional_expression-break_if.ensures c.begin_loop.ensures c.if-not-begin_loop.false c.in_case-y.ensures c.block_operand-continuing.ensures c.pass_around-q.ensures c.if-q.true
+pub pass_loop-returns-in_err-q : goal.pass_loop-returns-in_err-q
+pass_loop-returns-in_err-q t c =
+    rw c.from_residual-in_err-q.ensures
+    (loop_continuing c.requires.course c.requires.b_in_bounds c.requires.row_in c.requires.kind_value c.args.marked.now.marks.now c.optional_expression-break_if.ensures c.in_ok-begin_loop.ensures refl c.in_case-y.ensures c.block_operand-continuing.ensures c.in_err-q.ensures refl)
 
-pub pass_loop-pass_around-o-requires : goal.pass_loop-pass_around-o-requires
-pass_loop-pass_around-o-requires t c =
-    let z = body_asks c.requires.course c.requires.b_in_bounds c.requires.row_in c.requires.kind_value c.args.marked.now.marks.now c.optional_expression-break_if.ensures c.begin_loop.ensures c.if-not-begin_loop.false c.in_case-y.ensures c.block_operand-continuing.ensures c.pass_around-q.ensures c.if-q.false c.copy.ensures c.in_body-z.ensures c.block_operand-body.ensures in (omega (arith, z.0, c.decreases), z.1)
+pub pass_loop-pass_around-requires-2 : goal.pass_loop-pass_around-requires-2
+pass_loop-pass_around-requires-2 t c =
+    let z = body_asks c.requires.course c.requires.b_in_bounds c.requires.row_in c.requires.kind_value c.args.marked.now.marks.now c.optional_expression-break_if.ensures c.in_ok-begin_loop.ensures refl c.in_case-y.ensures c.block_operand-continuing.ensures c.in_ok-q.ensures refl c.copy.ensures c.in_body-z.ensures c.block_operand-body.ensures in (omega (arith, z.0, c.decreases), z.1)
 
-pub pass_loop-returns-then-o : goal.pass_loop-returns-then-o
-pass_loop-returns-then-o t c =
-    loop_body c.requires.course c.requires.b_in_bounds c.requires.row_in c.requires.kind_value c.args.marked.now.marks.now c.optional_expression-break_if.ensures c.begin_loop.ensures c.if-not-begin_loop.false c.in_case-y.ensures c.block_operand-continuing.ensures c.pass_around-q.ensures c.if-q.false c.copy.ensures c.in_body-z.ensures c.block_operand-body.ensures c.pass_around-o.ensures c.if-o.true
+pub pass_loop-returns-in_err-o : goal.pass_loop-returns-in_err-o
+pass_loop-returns-in_err-o t c =
+    rw c.from_residual-in_err-o.ensures
+    (loop_body c.requires.course c.requires.b_in_bounds c.requires.row_in c.requires.kind_value c.args.marked.now.marks.now c.optional_expression-break_if.ensures c.in_ok-begin_loop.ensures refl c.in_case-y.ensures c.block_operand-continuing.ensures c.in_ok-q.ensures refl c.copy.ensures c.in_body-z.ensures c.block_operand-body.ensures c.in_err-o.ensures refl)
 
 pub pass_loop-end_loop-requires : goal.pass_loop-end_loop-requires
 pass_loop-end_loop-requires t c =
-    let q9 = end_asks c.requires.course c.requires.b_in_bounds c.requires.row_in c.requires.kind_value c.args.marked.now.marks.now c.optional_expression-break_if.ensures c.begin_loop.ensures c.if-not-begin_loop.false c.in_case-y.ensures c.block_operand-continuing.ensures c.pass_around-q.ensures c.if-q.false c.copy.ensures c.in_body-z.ensures c.block_operand-body.ensures c.pass_around-o.ensures c.if-o.false in
+    let q9 = end_asks c.requires.course c.requires.b_in_bounds c.requires.row_in c.requires.kind_value c.args.marked.now.marks.now c.optional_expression-break_if.ensures c.in_ok-begin_loop.ensures refl c.in_case-y.ensures c.block_operand-continuing.ensures c.in_ok-q.ensures refl c.copy.ensures c.in_body-z.ensures c.block_operand-body.ensures c.in_ok-o.ensures refl in
     record { live = q9.0; stack_slot_lt_n = q9.1 }
 
 pub pass_loop-returns : goal.pass_loop-returns
 pass_loop-returns t c =
-    loop_ends c.requires.course c.requires.b_in_bounds c.requires.row_in c.requires.kind_value c.args.marked.now.marks.now c.optional_expression-break_if.ensures c.begin_loop.ensures c.if-not-begin_loop.false c.in_case-y.ensures c.block_operand-continuing.ensures c.pass_around-q.ensures c.if-q.false c.copy.ensures c.in_body-z.ensures c.block_operand-body.ensures c.pass_around-o.ensures c.if-o.false c.end_loop.ensures
+    loop_ends c.requires.course c.requires.b_in_bounds c.requires.row_in c.requires.kind_value c.args.marked.now.marks.now c.optional_expression-break_if.ensures c.in_ok-begin_loop.ensures refl c.in_case-y.ensures c.block_operand-continuing.ensures c.in_ok-q.ensures refl c.copy.ensures c.in_body-z.ensures c.block_operand-body.ensures c.in_ok-o.ensures refl c.end_loop.ensures
 
 pub pass_statement-pass_block-requires : goal.pass_statement-pass_block-requires
 pass_statement-pass_block-requires t c =
@@ -173,22 +186,24 @@ pub pass_statement-returns-in-Ok-Block : goal.pass_statement-returns-in-Ok-Block
 pass_statement-returns-in-Ok-Block t c =
     inner_passes (row_in c.requires.statement_in c.statement-row.ensures) c.args.marked.now.marks.now (search rules) c.block_operand-inner.ensures c.pass_block.ensures
 
-pub pass_switch-pass_cases-q-requires : goal.pass_switch-pass_cases-q-requires
-pass_switch-pass_cases-q-requires t c =
+pub pass_switch-pass_cases-requires : goal.pass_switch-pass_cases-requires
+pass_switch-pass_cases-requires t c =
     let z = cases_ask c.requires.course c.requires.row_in c.requires.kind_value c.args.marked.now.marks.now c.requires.b_in_bounds refl c.in_case-y.ensures in (omega (arith, c.decreases), (z.0, (z.1.0, (c.requires.row_in, (c.requires.kind_value, z.1.1)))))
 
-pub pass_switch-returns-then-q : goal.pass_switch-returns-then-q
-pass_switch-returns-then-q t c =
-    switch_passes c.requires.course c.requires.row_in c.requires.kind_value c.args.marked.now.marks.now c.requires.b_in_bounds refl c.in_case-y.ensures c.pass_cases-q.ensures c.if-q.true
+pub pass_switch-returns-in_err-q : goal.pass_switch-returns-in_err-q
+pass_switch-returns-in_err-q t c =
+    rw c.from_residual.ensures
+    (switch_passes c.requires.course c.requires.row_in c.requires.kind_value c.args.marked.now.marks.now c.requires.b_in_bounds refl c.in_case-y.ensures c.in_err-q.ensures refl)
 
 pub pass_switch-end_switch-requires : goal.pass_switch-end_switch-requires
 pass_switch-end_switch-requires t c =
-    switch_end_asks c.requires.course c.requires.row_in c.requires.kind_value c.args.marked.now.marks.now c.requires.b_in_bounds refl c.in_case-y.ensures c.pass_cases-q.ensures c.if-q.false c.expression_operand-selector.ensures
-
-pub pass_switch-returns-then-end_switch : goal.pass_switch-returns-then-end_switch
-pass_switch-returns-then-end_switch t c =
-    switch-ends c.requires.course c.requires.row_in c.requires.kind_value c.args.marked.now.marks.now c.requires.b_in_bounds refl c.in_case-y.ensures c.pass_cases-q.ensures c.if-q.false c.expression_operand-selector.ensures c.end_switch.ensures c.if-end_switch.true
+    switch_end_asks c.requires.course c.requires.row_in c.requires.kind_value c.args.marked.now.marks.now c.requires.b_in_bounds refl c.in_case-y.ensures c.in_ok-q.ensures refl c.expression_operand-selector.ensures
 
 pub pass_switch-returns : goal.pass_switch-returns
 pass_switch-returns t c =
-    switch_ends_full c.requires.course c.requires.row_in c.requires.kind_value c.args.marked.now.marks.now c.requires.b_in_bounds refl c.in_case-y.ensures c.pass_cases-q.ensures c.if-q.false c.expression_operand-selector.ensures c.end_switch.ensures c.if-end_switch.false c.filled.ensures
+    switch-ends c.requires.course c.requires.row_in c.requires.kind_value c.args.marked.now.marks.now c.requires.b_in_bounds refl c.in_case-y.ensures c.in_ok-q.ensures refl c.expression_operand-selector.ensures c.in_ok-end_switch.ensures refl
+
+pub pass_switch-returns-in_err-end_switch : goal.pass_switch-returns-in_err-end_switch
+pass_switch-returns-in_err-end_switch t c =
+    rw c.from_residual-in_err-end_switch.ensures
+    (switch_ends_full c.requires.course c.requires.row_in c.requires.kind_value c.args.marked.now.marks.now c.requires.b_in_bounds refl c.in_case-y.ensures c.in_ok-q.ensures refl c.expression_operand-selector.ensures c.in_err-end_switch.ensures refl refl)

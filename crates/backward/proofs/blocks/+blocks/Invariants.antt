@@ -4,15 +4,16 @@ use Rattle.module.specs.Tables.{function_of}
 use Rattle.access.specs.Access.{operand_at}
 use Rattle.judge.specs.Given.{scope_at}
 use Rattle.backward.specs.Course.{case_block}
+use Rattle.standing.specs.Passing.{going}
 use Rattle.backward.proofs.Statements.{Later}
 use Rattle.backward.proofs.Switches.{Union}
 use Rattle.backward.proofs.blocks.+blocks.Given as goal
 
 abbrev pub invariant-pass_block-loop-k : goal.invariant-pass_block-loop-k
-invariant-pass_block-loop-k l = Later l.marked.subject.now.file.now.bytes l.marked.subject.now.file.now.t l.marked.subject.now.f.0 l.b.0 l.marked.marks.now l.initial.parts.cells l.initial.parts.slots l.initial.path l.n l.x l.initial.q l.first l.initial.k l.k l.parts.cells l.parts.slots l.path l.q
+invariant-pass_block-loop-k l = Later l.marked.subject.now.file.now.bytes l.marked.subject.now.file.now.t l.marked.subject.now.f.0 l.b.0 l.marked.marks.now l.initial.parts.cells l.initial.parts.slots l.initial.path l.n l.x (going l.initial.q) l.first l.initial.k l.k l.parts.cells l.parts.slots l.path (going l.q)
 
 abbrev pub invariant-pass_cases-loop-i : goal.invariant-pass_cases-loop-i
-invariant-pass_cases-loop-i l = Union (scope_at l.marked.subject.now.file.now.bytes l.marked.subject.now.file.now.t l.marked.subject.now.f.0) l.i (case_block (function_of l.marked.subject.now.file.now.bytes l.marked.subject.now.file.now.t l.marked.subject.now.f.0) l.marked.marks.now (operand_at l.marked.subject.now.file.now.bytes l.row)) l.initial.parts.cells l.initial.parts.slots l.n l.x l.initial.q l.parts.cells l.parts.slots l.initial.path l.path l.q
+invariant-pass_cases-loop-i l = Union (scope_at l.marked.subject.now.file.now.bytes l.marked.subject.now.file.now.t l.marked.subject.now.f.0) l.i (case_block (function_of l.marked.subject.now.file.now.bytes l.marked.subject.now.file.now.t l.marked.subject.now.f.0) l.marked.marks.now (operand_at l.marked.subject.now.file.now.bytes l.row)) l.initial.parts.cells l.initial.parts.slots l.n l.x (going l.initial.q) l.parts.cells l.parts.slots l.initial.path l.path (going l.q)
 
 abbrev pub decreases-pass_around : goal.decreases-pass_around
 decreases-pass_around l = 8 * l.b.0 + 8

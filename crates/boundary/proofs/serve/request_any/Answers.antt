@@ -5,7 +5,7 @@ use Rattle.boundary.proofs.serve.request_any.Goals as goal
 
 pub returns-in-Err : goal.returns-in-Err
 returns-in-Err c =
-    requests_refused c.in-Err.ensures c.in-Err.refusal refl (rw c.nowhere.ensures at c.reply_word.ensures)
+    requests_refused c.in-Err.ensures c.in-Err.refusal refl (rw c.into.ensures at c.reply_word.ensures)
 
 pub returns : goal.returns
 returns c =

@@ -1,9 +1,10 @@
 -- `hold::hold::push` meets its contract.
-use Rattle.hold.proofs.Pushes.{pushed_once, pushed_cleaned}
+use Rattle.hold.proofs.Pushes.{fits_some, pushed_once, pushed_cleaned}
 use Rattle.hold.proofs.hold.push.Goals as goal
 
 pub returns-then-parts : goal.returns-then-parts
 returns-then-parts c = pushed_once c.requires.loose c.requires.n_in_bounds c.requires.p_bound c.if-parts.true
 
 pub returns : goal.returns
-returns c = pushed_cleaned c.requires.loose c.requires.n_in_bounds c.requires.p_bound c.clean.ensures
+returns c =
+    rw (← fits_some _ c.then_some.ensures) (pushed_cleaned c.requires.loose c.requires.n_in_bounds c.requires.p_bound c.clean.ensures)

@@ -1,4 +1,5 @@
 -- A return, without a value and with one (ByKind).
+use mathlib.Core.Path.{refl}
 use Rattle.leaving.proofs.ByKind.{leaves_return, value_given, value_fits, leaves_value, leaves_full}
 use Rattle.leaving.proofs.leave.pass_return.Goals as goal
 
@@ -9,10 +10,11 @@ pub ask_returned-requires : goal.ask_returned-requires
 ask_returned-requires c =
     record { step_given = value_given c.requires.leave_given c.requires.kind_value c.copy.ensures _ c.in-Some.ensures; v_value = value_fits c.requires.leave_given c.requires.kind_value c.copy.ensures _ c.in-Some.ensures }
 
-pub returns-then-ask_returned : goal.returns-then-ask_returned
-returns-then-ask_returned c =
-    leaves_value c.requires.leave_given c.requires.kind_value c.copy.ensures _ c.in-Some.ensures c.ask_returned.ensures c.if-ask_returned.true
-
 pub returns : goal.returns
 returns c =
-    leaves_full c.requires.leave_given c.requires.kind_value c.copy.ensures _ c.in-Some.ensures c.ask_returned.ensures c.if-ask_returned.false c.filled.ensures
+    leaves_value c.requires.leave_given c.requires.kind_value c.copy.ensures _ c.in-Some.ensures c.in_ok-ask_returned.ensures refl
+
+pub returns-in_err-ask_returned : goal.returns-in_err-ask_returned
+returns-in_err-ask_returned c =
+    rw c.from_residual.ensures
+    (leaves_full c.requires.leave_given c.requires.kind_value c.copy.ensures _ c.in-Some.ensures c.in_err-ask_returned.ensures refl refl)

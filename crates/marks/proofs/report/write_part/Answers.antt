@@ -1,15 +1,16 @@
 -- `marks::report::write_part` meets its contract. Assumes nothing.
+use borrow.Author.Rules.{rules}
 use Rattle.marks.proofs.Stretches.{part_asked, part_none, part-total}
 use Rattle.marks.proofs.report.write_part.Goals as goal
 
-pub returns-then-f-asked : goal.returns-then-f-asked
-returns-then-f-asked c =
-    part_asked _ _ _ _ _ _ c.args.part.now _ c.requires.2 c.start-from.ensures c.if-f-asked.true c.copy.ensures
+pub returns-then-eq : goal.returns-then-eq
+returns-then-eq c =
+    part_asked _ _ _ _ _ _ c.args.part.now _ c.requires.2 c.start-from.ensures (search rules) c.copy.ensures
 
 pub returns-then-totals-i-eq-NO_TOTAL : goal.returns-then-totals-i-eq-NO_TOTAL
 returns-then-totals-i-eq-NO_TOTAL c =
-    part_none _ _ _ _ _ _ c.args.part.now _ c.requires.2 c.start-from.ensures c.if-f-asked.false c.if-totals-i-eq-NO_TOTAL.true c.clear.ensures
+    part_none _ _ _ _ _ _ c.args.part.now _ c.requires.2 c.start-from.ensures (search rules) c.if-totals-i-eq-NO_TOTAL.true c.clear.ensures
 
 pub returns : goal.returns
 returns c =
-    part-total _ _ _ _ _ _ c.args.part.now _ c.requires.2 c.start-from.ensures c.if-f-asked.false c.if-totals-i-eq-NO_TOTAL.false c.copy-2.ensures
+    part-total _ _ _ _ _ _ c.args.part.now _ c.requires.2 c.start-from.ensures (search rules) c.if-totals-i-eq-NO_TOTAL.false c.copy-2.ensures

@@ -16,11 +16,11 @@ slice_bounds-write_part-end c =
 
 pub write_part-requires : goal.write_part-requires
 write_part-requires c =
-    let i = c.requires.0.each c.loop-f.f c.loop-f-test.true in let l = still_long _ _ _ 0 c.loop-f.invariant in (i, c.requires.1, lent_long c.loop-f.report _ _ _ 0 c.start-from.result c.start-to.result i (omega (arith, c.requires.3)) (omega arith) (omega arith), omega (arith, c.requires.2))
+    let i = c.requires.0.each c.loop-f.f c.loop-f-test.true in let l = still_long _ _ _ 0 c.loop-f.invariant in (i, c.requires.1, lent_long c.loop-f.report _ _ _ 0 c.range.result.start c.range.result.end i (omega (arith, c.requires.3)) (omega arith) (omega arith), omega (arith, c.requires.2))
 
 pub loop-f-preserved : goal.loop-f-preserved
 loop-f-preserved c =
-    (report-turn _ _ _ _ _ c.requires.0 c.requires.1 _ _ _ _ _ _ c.loop-f-test.true c.requires.3 c.loop-f.invariant c.start-from.ensures c.start-to.ensures c.write_part.ensures)
+    (report-turn _ _ _ _ _ c.requires.0 c.requires.1 _ _ _ _ _ _ c.loop-f-test.true c.requires.3 c.loop-f.invariant c.range.ensures.start c.range.ensures.end c.write_part.ensures)
 
 pub shape_of-report : goal.shape_of-report
 shape_of-report c = still_long _ _ _ 0 c.loop-f.invariant

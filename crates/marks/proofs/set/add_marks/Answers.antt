@@ -4,4 +4,4 @@ use Rattle.marks.proofs.set.add_marks.Goals as goal
 
 pub returns : goal.returns
 returns c =
-    lent_added _ _ _ _ _ _ c.requires.0 c.requires.1 c.start-from.ensures c.start-to.ensures _ c.add.ensures
+    lent_added _ _ _ _ _ _ c.requires.0 c.requires.1 c.range-own.ensures.start c.range-own.ensures.end _ c.add.ensures

@@ -5,4 +5,4 @@ use Rattle.marks.proofs.set.clear_marks.Goals as goal
 
 pub returns : goal.returns
 returns c =
-    lent_cleared _ _ _ _ _ _ c.requires (le_refl _) c.start-from.ensures c.start-to.ensures _ c.clear.ensures
+    lent_cleared _ _ _ _ _ _ c.requires (le_refl _) c.range.ensures.start c.range.ensures.end _ c.clear.ensures

@@ -15,7 +15,7 @@ returns-then-n-skip c =
 
 pub operands-requires : goal.operands-requires
 operands-requires c =
-    record { n_bound = omega arith; fresh = c.requires.fresh; stamp_bound = omega (arith, c.requires.at_bound) }
+    record { fresh = c.requires.fresh; stamp_bound = omega (arith, c.requires.at_bound) }
 
 pub returns-then-typed : goal.returns-then-typed
 unfolding scope_in

@@ -5,9 +5,8 @@ use Rattle.module.proofs.Counted.{counted_none, counted-by}
 use Rattle.module.proofs.operands.list.Goals as goal
 
 pub returns-in_err-count : goal.returns-in_err-count
-returns-in_err-count c = rw c.from_residual.ensures (counted_none _ _ _ _ c.in_err-count.ensures)
+returns-in_err-count c = rw c.from_residual.ensures (counted_none _ c.in_err-count.ensures)
 
 pub returns : goal.returns
 unfolding pass_of
-returns c =
-    counted-by _ _ (many (below c.args.expressions)) _ _ _ c.in_ok-count.ensures.0 c.in_ok-count.ensures.1 c.many.ensures
+returns c = counted-by (many (below c.args.expressions)) c.in_ok-count.ensures c.many.ensures

@@ -5,11 +5,10 @@ use Rattle.module.proofs.operands.many.Goals as goal
 
 pub returns-in_err-left : goal.returns-in_err-left
 returns-in_err-left c =
-    rw c.from_residual.ensures (many_stops _ _ _ c.loop-k.invariant (omega (arith, c.loop-k-test.true)) c.in_err-left.ensures)
+    rw c.from_residual.ensures (many_stops _ _ c.loop-k.invariant (omega (arith, c.loop-k-test.true)) c.in_err-left.ensures)
 
 pub loop-k-preserved : goal.loop-k-preserved
-loop-k-preserved c =
-    many_again _ _ _ c.loop-k.invariant (omega (arith, c.loop-k-test.true)) c.in_ok-left.ensures
+loop-k-preserved c = many_again _ _ c.loop-k.invariant (omega (arith, c.loop-k-test.true)) c.in_ok-left.ensures
 
 pub returns : goal.returns
-returns c = many_done _ _ _ c.loop-k.invariant (omega (arith, c.loop-k-test.false))
+returns c = many_done _ _ c.loop-k.invariant (omega (arith, c.loop-k-test.false))

@@ -5,9 +5,9 @@ use Rattle.module.proofs.Counted.{counted_none, counted-by}
 use Rattle.module.proofs.operands.members.Goals as goal
 
 pub returns-in_err-count : goal.returns-in_err-count
-returns-in_err-count c = rw c.from_residual.ensures (counted_none _ _ _ _ c.in_err-count.ensures)
+returns-in_err-count c = rw c.from_residual.ensures (counted_none _ c.in_err-count.ensures)
 
 pub returns : goal.returns
 unfolding pass_of
 returns c =
-    counted-by _ _ (pairs (below c.args.types) (below_or_absent bindings)) _ _ _ c.in_ok-count.ensures.0 c.in_ok-count.ensures.1 c.pairs.ensures
+    counted-by (pairs (below c.args.types) (below_or_absent bindings)) c.in_ok-count.ensures c.pairs.ensures

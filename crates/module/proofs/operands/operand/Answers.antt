@@ -1,5 +1,4 @@
 -- `module::operands::operand` meets its contract.
-use mathlib.Core.Path.{refl}
 use Rattle.module.specs.Operands.{taken}
 use Rattle.module.specs.Packed.{meant}
 use Rattle.module.specs.Scan.{class_taken}
@@ -9,7 +8,7 @@ use Rattle.module.proofs.operands.operand.Goals as goal
 
 pub returns-in_default-clause-took : goal.returns-in_default-clause-took
 unfolding class_taken
-returns-in_default-clause-took c = rw c.in_default.is (record { fits = c.requires.n_bound; is = refl })
+returns-in_default-clause-took c = rw c.in_default.is
 
 pub returns-in-Cases-clause-took : goal.returns-in-Cases-clause-took
 unfolding class_taken meant taken

@@ -1,4 +1,5 @@
 -- `module::record::mark_of` meets its contract, arm by arm.
+use borrow.Author.Rules.{rules}
 use borrow.Author.Tests.{ne_eqb}
 use Rattle.module.specs.Record.{known, mark_of}
 use Rattle.module.proofs.record.mark_of.Goals as goal
@@ -38,4 +39,4 @@ returns-in-21587 c = rw c.in-21587.is
 pub returns-in_default : goal.returns-in_default
 unfolding known mark_of
 returns-in_default c =
-    rw (ne_eqb _ 22868 c.in_default.in_default-own.rest.0.0.0.0.0.0.0.1, ne_eqb _ 22087 c.in_default.in_default-own.rest.0.0.0.0.0.0.1, ne_eqb _ 20038 c.in_default.in_default-own.rest.0.0.0.0.0.1, ne_eqb _ 21057 c.in_default.in_default-own.rest.0.0.0.0.1, ne_eqb _ 22092 c.in_default.in_default-own.rest.0.0.0.1, ne_eqb _ 22597 c.in_default.in_default-own.rest.0.0.1, ne_eqb _ 19266 c.in_default.in_default-own.rest.0.1, ne_eqb _ 21587 c.in_default.in_default-own.rest.1)
+    rw (ne_eqb c.args.letters 22868 (search rules), ne_eqb c.args.letters 22087 (search rules), ne_eqb c.args.letters 20038 (search rules), ne_eqb c.args.letters 21057 (search rules), ne_eqb c.args.letters 22092 (search rules), ne_eqb c.args.letters 22597 (search rules), ne_eqb c.args.letters 19266 (search rules), ne_eqb c.args.letters 21587 (search rules))

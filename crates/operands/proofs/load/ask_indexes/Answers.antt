@@ -16,10 +16,11 @@ pub ask_value-requires : goal.ask_value-requires
 ask_value-requires c =
     value_given (left_given c.requires.pointer c.requires.list_given c.loop-base.invariant c.step_down.ensures c.in-Dynamic.is) refl 0 (part-0 _) (all_piece (left_given c.requires.pointer c.requires.list_given c.loop-base.invariant c.step_down.ensures c.in-Dynamic.is))
 
-pub returns-then-not-ask_value : goal.returns-then-not-ask_value
-returns-then-not-ask_value c =
-    left_full c.requires.pointer c.requires.list_given c.loop-base.invariant c.step_down.ensures c.in-Dynamic.is (value_all (left_given c.requires.pointer c.requires.list_given c.loop-base.invariant c.step_down.ensures c.in-Dynamic.is) refl 0 (part-0 _) c.ask_value.ensures) c.if-not-ask_value.true
+pub returns-in_err-ask_value-in-Dynamic : goal.returns-in_err-ask_value-in-Dynamic
+returns-in_err-ask_value-in-Dynamic c =
+    rw c.from_residual.ensures
+    (left_full c.requires.pointer c.requires.list_given c.loop-base.invariant c.step_down.ensures c.in-Dynamic.is (value_all (left_given c.requires.pointer c.requires.list_given c.loop-base.invariant c.step_down.ensures c.in-Dynamic.is) refl 0 (part-0 _) c.in_err-ask_value-in-Dynamic.ensures) refl)
 
 pub loop-base-preserved : goal.loop-base-preserved
 loop-base-preserved c =
-    left_dynamic c.requires.pointer c.requires.list_given c.loop-base.invariant c.step_down.ensures c.in-Dynamic.is (value_all (left_given c.requires.pointer c.requires.list_given c.loop-base.invariant c.step_down.ensures c.in-Dynamic.is) refl 0 (part-0 _) c.ask_value.ensures) c.if-not-ask_value.false
+    left_dynamic c.requires.pointer c.requires.list_given c.loop-base.invariant c.step_down.ensures c.in-Dynamic.is (value_all (left_given c.requires.pointer c.requires.list_given c.loop-base.invariant c.step_down.ensures c.in-Dynamic.is) refl 0 (part-0 _) c.in_ok-ask_value-in-Dynamic.ensures) refl

@@ -1,4 +1,5 @@
 -- `operands::made::ask_components` meets its contract. The invariant: the asks from the number k on are done.
+use mathlib.Core.Path.{refl}
 use Prim.Native.Nat.{◌-◌}
 use Rattle.access.specs.Access.{operand_at}
 use Rattle.operands.proofs.Loops.{loop_start, loop_given, loop_full, loop_more}
@@ -14,10 +15,11 @@ pub ask_component-requires : goal.ask_component-requires
 ask_component-requires c =
     record { list_given = loop_given (components-each (operand_at c.args.file.now.bytes c.args.row) _) c.requires (c.loop-k.k - 1) (omega arith) (omega arith) c.loop-k.invariant; k_bound = omega arith }
 
-pub returns-then-not-ask_component : goal.returns-then-not-ask_component
-returns-then-not-ask_component c =
-    loop_full (components-each (operand_at c.args.file.now.bytes c.args.row) _) c.requires (c.loop-k.k - 1) (omega arith) (omega arith) c.loop-k.invariant c.ask_component.ensures c.if-not-ask_component.true
+pub returns-in_err-ask_component : goal.returns-in_err-ask_component
+returns-in_err-ask_component c =
+    rw c.from_residual.ensures
+    (loop_full (components-each (operand_at c.args.file.now.bytes c.args.row) _) c.requires (c.loop-k.k - 1) (omega arith) (omega arith) c.loop-k.invariant c.in_err-ask_component.ensures refl)
 
 pub loop-k-preserved : goal.loop-k-preserved
 loop-k-preserved c =
-    loop_more (components-each (operand_at c.args.file.now.bytes c.args.row) _) c.requires (c.loop-k.k - 1) (omega arith) (omega arith) c.loop-k.invariant c.ask_component.ensures c.if-not-ask_component.false
+    loop_more (components-each (operand_at c.args.file.now.bytes c.args.row) _) c.requires (c.loop-k.k - 1) (omega arith) (omega arith) c.loop-k.invariant c.in_ok-ask_component.ensures refl

@@ -1,4 +1,5 @@
 -- `operands::made::ask_joined` meets its contract. The invariant: the asks from the number k on are done.
+use mathlib.Core.Path.{refl}
 use Prim.Native.Nat.{◌-◌}
 use Rattle.access.specs.Access.{operand_at}
 use Rattle.operands.proofs.Loops.{loop_start, loop_given, loop_full, loop_more}
@@ -14,10 +15,11 @@ pub ask_whole-requires : goal.ask_whole-requires
 ask_whole-requires c =
     loop_given (joined_each (operand_at c.args.file.now.bytes c.args.row) _) c.requires (c.loop-k.k - 1) (omega arith) (omega arith) c.loop-k.invariant
 
-pub returns-then-not-ask_whole : goal.returns-then-not-ask_whole
-returns-then-not-ask_whole c =
-    loop_full (joined_each (operand_at c.args.file.now.bytes c.args.row) _) c.requires (c.loop-k.k - 1) (omega arith) (omega arith) c.loop-k.invariant c.ask_whole.ensures c.if-not-ask_whole.true
+pub returns-in_err-ask_whole : goal.returns-in_err-ask_whole
+returns-in_err-ask_whole c =
+    rw c.from_residual.ensures
+    (loop_full (joined_each (operand_at c.args.file.now.bytes c.args.row) _) c.requires (c.loop-k.k - 1) (omega arith) (omega arith) c.loop-k.invariant c.in_err-ask_whole.ensures refl)
 
 pub loop-k-preserved : goal.loop-k-preserved
 loop-k-preserved c =
-    loop_more (joined_each (operand_at c.args.file.now.bytes c.args.row) _) c.requires (c.loop-k.k - 1) (omega arith) (omega arith) c.loop-k.invariant c.ask_whole.ensures c.if-not-ask_whole.false
+    loop_more (joined_each (operand_at c.args.file.now.bytes c.args.row) _) c.requires (c.loop-k.k - 1) (omega arith) (omega arith) c.loop-k.invariant c.in_ok-ask_whole.ensures refl

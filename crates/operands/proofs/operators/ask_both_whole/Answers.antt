@@ -1,13 +1,14 @@
 -- `operands::operators::ask_both_whole` meets its contract.
+use mathlib.Core.Path.{refl}
 use mathlib.Core.List.{[], ◌∷◌}
 use Rattle.operands.proofs.Lists.{all_full, list_next, list_then}
 use Rattle.operands.proofs.operators.ask_both_whole.Goals as goal
 
-pub ask_whole-requires-then-ask_whole : goal.ask_whole-requires-then-ask_whole
-ask_whole-requires-then-ask_whole c = list_next c.ask_whole.ensures c.if-ask_whole.true [] c.requires
+pub ask_whole-requires-2 : goal.ask_whole-requires-2
+ask_whole-requires-2 c = list_next c.in_ok-ask_whole.ensures refl [] c.requires
 
-pub returns-then-ask_whole : goal.returns-then-ask_whole
-returns-then-ask_whole c = list_then c.ask_whole.ensures c.if-ask_whole.true c.requires c.ask_whole-then-ask_whole.ensures
+pub returns : goal.returns
+returns c = list_then c.in_ok-ask_whole.ensures refl c.requires c.ask_whole-2.ensures
 
-pub returns-else-ask_whole : goal.returns-else-ask_whole
-returns-else-ask_whole c = rw c.if-ask_whole.false (all_full c.ask_whole.ensures (_ ∷ []) c.if-ask_whole.false)
+pub returns-in_err-ask_whole : goal.returns-in_err-ask_whole
+returns-in_err-ask_whole c = rw c.from_residual.ensures (all_full c.in_err-ask_whole.ensures (_ ∷ []) refl)

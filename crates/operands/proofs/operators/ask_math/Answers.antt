@@ -1,4 +1,5 @@
 -- `operands::operators::ask_math` meets its contract.
+use mathlib.Core.Path.{refl}
 use Rattle.access.specs.Access.{operand_at}
 use Rattle.operands.proofs.Absent.{math_first, math_second, math_full, math_two, math_full_2, math_third, math_three, math_full_3, math_last, math_all}
 use Rattle.operands.proofs.operators.ask_math.Goals as goal
@@ -8,28 +9,31 @@ ask_present-requires c = math_first (operand_at c.args.file.now.bytes c.args.row
 
 pub ask_present-requires-2 : goal.ask_present-requires-2
 ask_present-requires-2 c =
-    math_second (operand_at c.args.file.now.bytes c.args.row) c.requires c.ask_present.ensures c.if-not-ask_present.false
+    math_second (operand_at c.args.file.now.bytes c.args.row) c.requires c.in_ok-ask_present.ensures refl
 
-pub returns-then-not-ask_present : goal.returns-then-not-ask_present
-returns-then-not-ask_present c =
-    math_full (operand_at c.args.file.now.bytes c.args.row) c.requires c.ask_present.ensures c.if-not-ask_present.true
+pub returns-in_err-ask_present : goal.returns-in_err-ask_present
+returns-in_err-ask_present c =
+    rw c.from_residual.ensures
+    (math_full (operand_at c.args.file.now.bytes c.args.row) c.requires c.in_err-ask_present.ensures refl)
 
-pub returns-then-not-ask_present-2 : goal.returns-then-not-ask_present-2
-returns-then-not-ask_present-2 c =
-    math_full_2 (operand_at c.args.file.now.bytes c.args.row) c.requires (math_two (operand_at c.args.file.now.bytes c.args.row) c.requires c.ask_present.ensures c.if-not-ask_present.false c.ask_present-2.ensures) c.if-not-ask_present-2.true
+pub returns-in_err-ask_present-2 : goal.returns-in_err-ask_present-2
+returns-in_err-ask_present-2 c =
+    rw c.from_residual-in_err-ask_present-2.ensures
+    (math_full_2 (operand_at c.args.file.now.bytes c.args.row) c.requires (math_two (operand_at c.args.file.now.bytes c.args.row) c.requires c.in_ok-ask_present.ensures refl c.in_err-ask_present-2.ensures) refl)
 
 pub ask_present-requires-3 : goal.ask_present-requires-3
 ask_present-requires-3 c =
-    math_third (operand_at c.args.file.now.bytes c.args.row) c.requires (math_two (operand_at c.args.file.now.bytes c.args.row) c.requires c.ask_present.ensures c.if-not-ask_present.false c.ask_present-2.ensures) c.if-not-ask_present-2.false
+    math_third (operand_at c.args.file.now.bytes c.args.row) c.requires (math_two (operand_at c.args.file.now.bytes c.args.row) c.requires c.in_ok-ask_present.ensures refl c.in_ok-ask_present-2.ensures) refl
 
-pub returns-then-not-ask_present-3 : goal.returns-then-not-ask_present-3
-returns-then-not-ask_present-3 c =
-    math_full_3 (operand_at c.args.file.now.bytes c.args.row) c.requires (math_three (operand_at c.args.file.now.bytes c.args.row) c.requires (math_two (operand_at c.args.file.now.bytes c.args.row) c.requires c.ask_present.ensures c.if-not-ask_present.false c.ask_present-2.ensures) c.if-not-ask_present-2.false c.ask_present-3.ensures) c.if-not-ask_present-3.true
+pub returns-in_err-ask_present-3 : goal.returns-in_err-ask_present-3
+returns-in_err-ask_present-3 c =
+    rw c.from_residual-in_err-ask_present-3.ensures
+    (math_full_3 (operand_at c.args.file.now.bytes c.args.row) c.requires (math_three (operand_at c.args.file.now.bytes c.args.row) c.requires (math_two (operand_at c.args.file.now.bytes c.args.row) c.requires c.in_ok-ask_present.ensures refl c.in_ok-ask_present-2.ensures) refl c.in_err-ask_present-3.ensures) refl)
 
 pub ask_whole-requires : goal.ask_whole-requires
 ask_whole-requires c =
-    math_last (operand_at c.args.file.now.bytes c.args.row) c.requires (math_three (operand_at c.args.file.now.bytes c.args.row) c.requires (math_two (operand_at c.args.file.now.bytes c.args.row) c.requires c.ask_present.ensures c.if-not-ask_present.false c.ask_present-2.ensures) c.if-not-ask_present-2.false c.ask_present-3.ensures) c.if-not-ask_present-3.false
+    math_last (operand_at c.args.file.now.bytes c.args.row) c.requires (math_three (operand_at c.args.file.now.bytes c.args.row) c.requires (math_two (operand_at c.args.file.now.bytes c.args.row) c.requires c.in_ok-ask_present.ensures refl c.in_ok-ask_present-2.ensures) refl c.in_ok-ask_present-3.ensures) refl
 
 pub returns : goal.returns
 returns c =
-    math_all (operand_at c.args.file.now.bytes c.args.row) c.requires (math_three (operand_at c.args.file.now.bytes c.args.row) c.requires (math_two (operand_at c.args.file.now.bytes c.args.row) c.requires c.ask_present.ensures c.if-not-ask_present.false c.ask_present-2.ensures) c.if-not-ask_present-2.false c.ask_present-3.ensures) c.if-not-ask_present-3.false c.ask_whole.ensures
+    math_all (operand_at c.args.file.now.bytes c.args.row) c.requires (math_three (operand_at c.args.file.now.bytes c.args.row) c.requires (math_two (operand_at c.args.file.now.bytes c.args.row) c.requires c.in_ok-ask_present.ensures refl c.in_ok-ask_present-2.ensures) refl c.in_ok-ask_present-3.ensures) refl c.ask_whole.ensures

@@ -1,15 +1,19 @@
 -- `operands::operators::ask_select` meets its contract.
+use mathlib.Core.Path.{refl}
 use mathlib.Core.List.{[], ◌∷◌}
 use Rattle.operands.proofs.Lists.{all_full, same_then, list_then}
 use Rattle.operands.proofs.operators.ask_select.Goals as goal
 
-pub returns-then-not-ask_same : goal.returns-then-not-ask_same
-returns-then-not-ask_same c = all_full c.ask_same.ensures (_ ∷ _ ∷ []) c.if-not-ask_same.true
+pub returns-in_err-ask_same : goal.returns-in_err-ask_same
+returns-in_err-ask_same c =
+    rw c.from_residual.ensures
+    (all_full c.in_err-ask_same.ensures (_ ∷ _ ∷ []) refl)
 
-pub returns-then-not-ask_same-2 : goal.returns-then-not-ask_same-2
-returns-then-not-ask_same-2 c =
-    all_full (same_then c.ask_same.ensures c.if-not-ask_same.false c.requires c.ask_same-2.ensures) (_ ∷ []) c.if-not-ask_same-2.true
+pub returns-in_err-ask_same-2 : goal.returns-in_err-ask_same-2
+returns-in_err-ask_same-2 c =
+    rw c.from_residual-in_err-ask_same-2.ensures
+    (all_full (same_then c.in_ok-ask_same.ensures refl c.requires c.in_err-ask_same-2.ensures) (_ ∷ []) refl)
 
 pub returns : goal.returns
 returns c =
-    list_then (same_then c.ask_same.ensures c.if-not-ask_same.false c.requires c.ask_same-2.ensures) c.if-not-ask_same-2.false c.requires c.ask_whole.ensures
+    list_then (same_then c.in_ok-ask_same.ensures refl c.requires c.in_ok-ask_same-2.ensures) refl c.requires c.ask_whole.ensures

@@ -8,11 +8,11 @@ bounds-totals-i c = flag_there c.requires.has_totals.0 c.args.f.0 c.requires.has
 
 pub write-requires : goal.write-requires
 write-requires c =
-    none_room c.requires.has_totals.0 c.args.f.0 c.requires.has_totals.1 c.args.out.now c.args.at c.if-totals-i-eq0.true c.requires.fits
+    none_room c.requires.has_totals.0 c.args.f.0 c.requires.has_totals.1 c.args.out.now c.args.at c.if-totals-i-eq-NO_TOTAL.true c.requires.fits
 
-pub returns-then-totals-i-eq0 : goal.returns-then-totals-i-eq0
-returns-then-totals-i-eq0 c =
-    none_done c.requires.has_totals.0 c.args.f.0 c.requires.has_totals.1 c.args.out.now c.args.at c.if-totals-i-eq0.true c.write.ensures
+pub returns-then-totals-i-eq-NO_TOTAL : goal.returns-then-totals-i-eq-NO_TOTAL
+returns-then-totals-i-eq-NO_TOTAL c =
+    none_done c.requires.has_totals.0 c.args.f.0 c.requires.has_totals.1 c.args.out.now c.args.at c.if-totals-i-eq-NO_TOTAL.true c.write.ensures
 
 pub start-from-requires : goal.start-from-requires
 start-from-requires c = omega (arith, starts_there c.requires.has_totals.0 c.args.f.0 c.requires.has_totals.1)
@@ -30,8 +30,8 @@ overflow_add-records c =
 
 pub write_total-requires : goal.write_total-requires
 write_total-requires c =
-    record { stored = total_stored c.requires.has_totals.0 c.args.f.0 c.requires.has_totals.1 c.records_of-records.ensures c.start-from.ensures c.start.ensures; fits = total-room c.requires.has_totals.0 c.args.f.0 c.requires.has_totals.1 c.records_of-records.ensures c.start-from.ensures c.start.ensures c.args.out.now c.args.at c.if-totals-i-eq0.false c.requires.fits }
+    record { stored = total_stored c.requires.has_totals.0 c.args.f.0 c.requires.has_totals.1 c.records_of-records.ensures c.start-from.ensures c.start.ensures; fits = total-room c.requires.has_totals.0 c.args.f.0 c.requires.has_totals.1 c.records_of-records.ensures c.start-from.ensures c.start.ensures c.args.out.now c.args.at c.if-totals-i-eq-NO_TOTAL.false c.requires.fits }
 
 pub returns : goal.returns
 returns c =
-    total-done c.requires.has_totals.0 c.args.f.0 c.requires.has_totals.1 c.records_of-records.ensures c.start-from.ensures c.start.ensures c.args.out.now c.args.at c.if-totals-i-eq0.false c.write_total.ensures
+    total-done c.requires.has_totals.0 c.args.f.0 c.requires.has_totals.1 c.records_of-records.ensures c.start-from.ensures c.start.ensures c.args.out.now c.args.at c.if-totals-i-eq-NO_TOTAL.false c.write_total.ensures

@@ -3,10 +3,10 @@
 use Prim.Native.Nat.{◌-◌}
 use mathlib.Core.Path.{◌∙◌}
 use borrow.Author.Rules.{rules}
-use Rattle.part.specs.Store.{part}
 use Rattle.strays.specs.Exits.{exits_of}
 use Rattle.strays.proofs.Found.{in_function, statement_in, statement_small, there, block_low, accept_low, reject_low, body_low, continuing_low, cases_in, case_there}
 use Rattle.strays.proofs.Allowed.{case_is, body_is}
+use Rattle.quiet.specs.Acts.{needed_by}
 use Rattle.quiet.proofs.Steps.{at_first, stops, goes_on, ends, is_last, statement_first, no_statement, all_statements, case_first, no_case, all_cases, quiet_inner, quiet_if, quiet_loop, quiet_switch}
 use native.Mathlib.Omega.{arith}
 use Rattle.quiet.proofs.blocks.+quiet_block_quiet_cases_quiet_statement.Goals as goal
@@ -41,7 +41,7 @@ quiet_block-returns t c = ends c.loop-k.invariant (no_statement _ _ _ _ _ _ c.lo
 
 pub quiet_cases-loop-i-init : goal.quiet_cases-loop-i-init
 quiet_cases-loop-i-init t c =
-    all_cases c.requires.cases_in (part c.args.cells.now c.args.m) (exits_of c.args.e) c.operand-n.ensures _
+    all_cases c.requires.cases_in (needed_by c.args.need.now) (exits_of c.args.e) c.operand-n.ensures _
 
 pub quiet_cases-quiet_block-requires : goal.quiet_cases-quiet_block-requires
 quiet_cases-quiet_block-requires t c =
@@ -52,18 +52,18 @@ quiet_cases-shape_of-path-then-not-quiet_block t c = c.quiet_block.ensures.long 
 
 pub quiet_cases-returns-then-not-quiet_block : goal.quiet_cases-returns-then-not-quiet_block
 quiet_cases-returns-then-not-quiet_block t c =
-    stops c.loop-i.invariant (case_first c.requires.cases_in (part c.args.cells.now c.args.m) (exits_of c.args.e) c.loop-i-test.true c.block_operand-case.ensures) c.quiet_block.ensures c.if-not-quiet_block.true
+    stops c.loop-i.invariant (case_first c.requires.cases_in (needed_by c.args.need.now) (exits_of c.args.e) c.loop-i-test.true c.block_operand-case.ensures) c.quiet_block.ensures c.if-not-quiet_block.true
 
 pub quiet_cases-loop-i-preserved : goal.quiet_cases-loop-i-preserved
 quiet_cases-loop-i-preserved t c =
-    goes_on c.loop-i.invariant (case_first c.requires.cases_in (part c.args.cells.now c.args.m) (exits_of c.args.e) c.loop-i-test.true c.block_operand-case.ensures) c.quiet_block.ensures c.if-not-quiet_block.false
+    goes_on c.loop-i.invariant (case_first c.requires.cases_in (needed_by c.args.need.now) (exits_of c.args.e) c.loop-i-test.true c.block_operand-case.ensures) c.quiet_block.ensures c.if-not-quiet_block.false
 
 pub quiet_cases-shape_of-path : goal.quiet_cases-shape_of-path
 quiet_cases-shape_of-path t c = c.loop-i.invariant.long
 
 pub quiet_cases-returns : goal.quiet_cases-returns
 quiet_cases-returns t c =
-    ends c.loop-i.invariant (no_case c.requires.cases_in (part c.args.cells.now c.args.m) (exits_of c.args.e) (omega (arith, c.loop-i-test.false)))
+    ends c.loop-i.invariant (no_case c.requires.cases_in (needed_by c.args.need.now) (exits_of c.args.e) (omega (arith, c.loop-i-test.false)))
 
 pub quiet_statement-quiet_block-requires : goal.quiet_statement-quiet_block-requires
 quiet_statement-quiet_block-requires t c =

@@ -11,4 +11,4 @@ unfolding counts_with types_by globals_by
 returns-clause-value c =
     let types : c.args.c.types + bool_byte c.eq.result ≡ types_by c.args.mark c.args.c.types = search rules in
     let globals : c.args.c.globals + bool_byte c.eq-2.result ≡ globals_by c.args.mark c.args.c.globals = search rules in
-    rw (c.stage_of.ensures, c.row_with-next.ensures, types, globals)
+    rw (c.stage_of.ensures, c.row_with.ensures, types, globals)

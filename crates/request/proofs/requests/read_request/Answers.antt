@@ -2,6 +2,7 @@
 use mathlib.Core.Path.{sym}
 use Rattle.request.proofs.Entries.{kept_same}
 use Rattle.request.proofs.Judged.{not_request, request_inside, request_empty, request_absent, request_no_return, request_finish, request_malformed, request_on}
+use Rattle.request.proofs.Ways.{there, missing, refuses}
 use Rattle.request.proofs.requests.read_request.Goals as goal
 
 pub returns-then-not-is_request : goal.returns-then-not-is_request
@@ -11,20 +12,22 @@ returns-then-not-is_request c =
 pub field-requires : goal.field-requires
 field-requires c = request_inside 0 0 0 c.args.bytes.now c.is_request.ensures c.if-not-is_request.false
 
-pub returns-in_default : goal.returns-in_default
-returns-in_default c =
-    request_malformed (kept_same c.requires.good) (request_empty _ _ _ _ c.is_request.ensures c.if-not-is_request.false c.in_default.ensures)
+pub returns-in_err-f : goal.returns-in_err-f
+returns-in_err-f c =
+    rw (refuses _ c.from_residual.ensures.1 c.ok_or.ensures.value c.in_err-f.was)
+    (request_malformed (kept_same c.requires.good) (request_empty _ _ _ _ c.is_request.ensures c.if-not-is_request.false (rw (missing c.ok_or.ensures.ok_part c.in_err-f.was) at c.field.ensures)))
 
 pub returns-then-f-ge-ABSENT : goal.returns-then-f-ge-ABSENT
 returns-then-f-ge-ABSENT c =
-    request_malformed (kept_same c.requires.good) (request_absent _ _ _ _ c.is_request.ensures c.if-not-is_request.false c.in-Some.ensures c.if-f-ge-ABSENT.true)
+    request_malformed (kept_same c.requires.good) (request_absent _ _ _ _ c.is_request.ensures c.if-not-is_request.false (rw (there c.ok_or.ensures.ok_part c.in_ok-f.was) at c.field.ensures) c.if-f-ge-ABSENT.true)
 
-pub returns-in_default-read_return : goal.returns-in_default-read_return
-returns-in_default-read_return c =
-    let was = c.in_default-read_return.ensures in
-    request_malformed was.kept (request_no_return _ _ _ _ c.is_request.ensures c.if-not-is_request.false c.in-Some.ensures c.if-f-ge-ABSENT.false (sym was.is))
+pub returns-in_err-p : goal.returns-in_err-p
+returns-in_err-p c =
+    let was = rw (missing c.ok_or-2.ensures.ok_part c.in_err-p.was) at c.read_return.ensures in
+    rw (refuses _ c.from_residual-in_err-p.ensures.1 c.ok_or-2.ensures.value c.in_err-p.was)
+    (request_malformed was.kept (request_no_return _ _ _ _ c.is_request.ensures c.if-not-is_request.false (rw (there c.ok_or.ensures.ok_part c.in_ok-f.was) at c.field.ensures) c.if-f-ge-ABSENT.false (sym was.is)))
 
 pub returns : goal.returns
 returns c =
-    let was = c.in-Some-read_return.ensures in
-    request_on was.kept (request_finish _ _ _ _ c.is_request.ensures c.if-not-is_request.false c.in-Some.ensures c.if-f-ge-ABSENT.false (sym was.is)) was.placed.1 c.read_globals.ensures
+    let was = rw (there c.ok_or-2.ensures.ok_part c.in_ok-p.was) at c.read_return.ensures in
+    request_on was.kept (request_finish _ _ _ _ c.is_request.ensures c.if-not-is_request.false (rw (there c.ok_or.ensures.ok_part c.in_ok-f.was) at c.field.ensures) c.if-f-ge-ABSENT.false (sym was.is)) was.placed.1 c.read_globals.ensures

@@ -5,14 +5,14 @@ use Rattle.requests.proofs.Finishing.{finish_own, finish_sub, finish_report, fin
 use Rattle.requests.proofs.finish.finish_request.Goals as goal
 
 pub returns-then-totals_over : goal.returns-then-totals_over
-returns-then-totals_over c = rw c.nowhere.ensures (finish_over c.requires refl (are_over c.totals_over.ensures c.if-totals_over.true))
+returns-then-totals_over c = rw c.into.ensures (finish_over c.requires refl (are_over c.totals_over.ensures c.if-totals_over.true))
 
 pub write_report-requires : goal.write_report-requires
-write_report-requires c = finish_report c.requires c.functions.ensures
+write_report-requires c = finish_report c.requires c.functions-n.ensures
 
 pub returns : goal.returns
 returns c =
-    finish_went c.requires refl (not_over c.totals_over.ensures c.if-totals_over.false) c.functions.ensures c.write_report.ensures c.write_pruner.ensures c.write_answer.ensures
+    finish_went c.requires refl (not_over c.totals_over.ensures c.if-totals_over.false) c.functions-n.ensures c.write_report.ensures c.write_pruner.ensures c.write_answer.ensures
 
 pub totals_over-requires : goal.totals_over-requires
 totals_over-requires c =

@@ -1,23 +1,24 @@
 -- `requests::serve::serve_in` meets its contract: the refusals in their order, or the walk.
 use Rattle.requests.proofs.Serving.{served_refused, served_19, served_20, serve_walking, served}
+use Rattle.state.proofs.Ends.{passed}
 use Rattle.requests.proofs.serve.serve_in.Goals as goal
 
 pub returns-then-pruner-lt-MIN_PRUNER : goal.returns-then-pruner-lt-MIN_PRUNER
 returns-then-pruner-lt-MIN_PRUNER c =
-    rw c.nowhere-then-pruner-lt-MIN_PRUNER.ensures (served_19 c.args.report.now c.args.answer.now c.begin_request.ensures c.in-Ok.is c.if-pruner-lt-MIN_PRUNER.true)
+    rw c.into.ensures (served_19 c.args.report.now c.args.answer.now c.begin_request.ensures c.in_ok-begun.was c.if-pruner-lt-MIN_PRUNER.true)
 
 pub returns-then-answer-lt-MIN_ANSWER : goal.returns-then-answer-lt-MIN_ANSWER
 returns-then-answer-lt-MIN_ANSWER c =
-    rw c.nowhere-then-answer-lt-MIN_ANSWER.ensures (served_20 c.args.report.now c.args.answer.now c.begin_request.ensures c.in-Ok.is c.if-pruner-lt-MIN_PRUNER.false c.if-answer-lt-MIN_ANSWER.true)
+    rw c.into-then-answer-lt-MIN_ANSWER.ensures (served_20 c.args.report.now c.args.answer.now c.begin_request.ensures c.in_ok-begun.was c.if-pruner-lt-MIN_PRUNER.false c.if-answer-lt-MIN_ANSWER.true)
 
 pub walk_request-requires : goal.walk_request-requires
 walk_request-requires c =
-    serve_walking c.args.report.now c.args.answer.now c.begin_request.ensures c.in-Ok.is c.args.world.now.rows c.if-pruner-lt-MIN_PRUNER.false c.if-answer-lt-MIN_ANSWER.false
+    serve_walking c.args.report.now c.args.answer.now c.begin_request.ensures c.in_ok-begun.was c.args.world.now.rows c.if-pruner-lt-MIN_PRUNER.false c.if-answer-lt-MIN_ANSWER.false
 
-pub returns-in-Err : goal.returns-in-Err
-returns-in-Err c =
-    rw c.nowhere.ensures (served_refused c.args.report.now c.args.answer.now c.begin_request.ensures c.in-Err.is)
+pub returns-in_err-begun : goal.returns-in_err-begun
+returns-in_err-begun c =
+    rw (passed c.from_residual.ensures.1) (served_refused c.args.report.now c.args.answer.now c.begin_request.ensures c.in_err-begun.was)
 
 pub returns : goal.returns
 returns c =
-    served c.args.report.now c.args.answer.now c.begin_request.ensures c.in-Ok.is c.args.world.now.rows c.if-pruner-lt-MIN_PRUNER.false c.if-answer-lt-MIN_ANSWER.false c.walk_request.ensures
+    served c.args.report.now c.args.answer.now c.begin_request.ensures c.in_ok-begun.was c.args.world.now.rows c.if-pruner-lt-MIN_PRUNER.false c.if-answer-lt-MIN_ANSWER.false c.walk_request.ensures
