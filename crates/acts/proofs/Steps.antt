@@ -8,24 +8,22 @@ use mathlib.Core.List.{List, ◌∷◌, ◌++◌}
 use lib.Dec.{ltb}
 use lib.ListN.{length, get_or, set, length-set}
 use Rattle.part.specs.PartReq.{PartReq}
-use Rattle.part.specs.Store.{top, part, Good, Room, Made}
+use Rattle.part.specs.Store.{top, part, Made}
 use Rattle.part.proofs.Distinct.{untrue}
 use Rattle.clearance.specs.Shape.{some}
 use Rattle.clearance.specs.Scope.{Scope, Place, frame}
 use Rattle.clearance.specs.Tree.{Act}
 use Rattle.clearance.specs.Needs.{Ask, overlap, without}
-use Rattle.clearance.specs.IsNeed.{IsNeed}
 use Rattle.judge.specs.Given.{scope_at}
 use Rattle.needs.specs.Lean.{leaves}
-use Rattle.needs.specs.Framed.{Framed}
 use Rattle.pass.specs.Pass.{work_bound, Carried, Passed, on, ◌>>=◌, within, asking_all, act_asks, act_leaves, acting}
 use Rattle.framed.specs.Kept.{Kept}
 use Rattle.framed.proofs.Takes.{without-leaves}
 use Rattle.hold.specs.Hold.{held_by, in_slot, Loose, Pushed, Reach}
 use Rattle.hold.proofs.Reach.{reach_is, reach_sym, reach_trans, reach_cons, reach_cells}
-use Rattle.hold.proofs.Slots.{held_reach, held_same, slot_below, loose_push, loose_kept, live_room, live_less, live_set, slot_set, slot_other, held_push}
+use Rattle.hold.proofs.Slots.{held_reach, held_same, slot_below, loose_push, loose_kept, live_less, live_set, slot_set, slot_other, held_push}
 use Rattle.hold.proofs.Pushes.{pushed_made}
-use Rattle.forms.specs.Frames.{Framing, Rooted, place_cells}
+use Rattle.forms.specs.Frames.{place_cells}
 use Rattle.standing.specs.Slots.{Ready}
 use Rattle.standing.specs.Standing.{passed_by, Stepped}
 use Rattle.standing.proofs.Readies.{ready_open}
@@ -55,12 +53,6 @@ module _ {bytes tab : List ℕ} {f : ℕ} {types s rs : List ℕ} {n : ℕ} {q :
 
   marked_loose : Loose s (set rs n a) (n + 1)
   marked_loose = loose_push g.ready.live.loose (omega (arith, g.spare)) g.piece.piece
-
-  pub take_asks : Good s × ((Framing bytes tab f types × Rooted q) × (((get_or rs (n - 1) 0 < top s) × Framed hand) × (IsNeed (frame S) hand × Room s (place_cells q))))
-  take_asks =
-      let l = g.ready.live in
-      let k = hand_kept g.ready in
-      (l.loose.good, ((g.framing, g.rooted), ((l.loose.pieces (n - 1) (omega (arith, g.ready.high)), k.framed), (k.need, omega (arith, live_room l, g.short)))))
 
   module _ {t : List ℕ} {l : ℕ} (m : Made s t (leaves (frame S) hand q) (place_cells q) l) where
     pub push_asks : Loose t (set rs n a) (n + 1) × ((n + 1 < length (set rs n a)) × (l < top t))

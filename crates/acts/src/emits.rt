@@ -21,7 +21,7 @@ use quiet::acts::{emit_idle, emit_overlap, is_some};
 use quiet::need::Need;
 use standing::passing::Passing;
 
-// The needs before an emit of the expression e. Its operands are lent as much of the path as the function's pointers take. Says whether the needs are within the bound.
+// The needs before an emit of the expression e. Its operands are lent as much of the path as the function's pointers take. None where the needs pass the bound.
 pub fn act_emit(
     subject: &Subject,
     parts: &mut Parts,

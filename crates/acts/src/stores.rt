@@ -71,7 +71,7 @@ fn store_somewhere(
     Some(())
 }
 
-// The needs before a store of the value v to the pointer p. Says whether the needs are within the bound.
+// The needs before a store of the value v to the pointer p. None where the needs pass the bound.
 pub fn act_store(
     subject: &Subject,
     parts: &mut Parts,

@@ -9,7 +9,7 @@ use hold::hold::push;
 use memory::parts::Parts;
 use module::handles::FunctionHandle;
 
-// The slot n has the piece a, and the next one the needs at hand without the place. Says whether the needs are within the bound.
+// The slot n has the piece a, and the next one the needs at hand without the place. None where the needs pass the bound.
 pub fn take_out(
     file: &File,
     f: FunctionHandle,

@@ -35,7 +35,7 @@ fn is_wanted(cells: &[u32], a: u32) -> bool
     x.child != EXIST_PIECE && x.child != EMPTY_PIECE
 }
 
-// The part a is asked at the path. Says whether the needs are within the bound.
+// The part a is asked at the path. None where the needs pass the bound.
 pub fn ask_place(parts: &mut Parts, n: usize, path: &[u32], a: u32) -> Option<()>
     requires { AskGiven parts.old.cells parts.old.slots n path.now a }
     ensures { AsksAt path.now (part parts.old.cells a) parts.old.cells parts.old.slots n parts.new.cells parts.new.slots (fits result) }

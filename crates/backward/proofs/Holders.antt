@@ -1,11 +1,11 @@
 -- An if, a switch or a loop with its mark: marked it stands as it is; unmarked and obeying its rule nothing changes; else it is walked with the needs after it kept aside, which it keeps as well, and is blamed.
 use Prim.Native.Nat.{ℕ, ◌+◌, ◌-◌, ◌*◌, ◌<◌, ◌≤◌}
 use native.Mathlib.Omega.{arith}
-use mathlib.Core.Path.{◌≡◌, refl, sym, ap, ◌∙◌}
+use mathlib.Core.Path.{◌≡◌, refl, sym, ◌∙◌}
 use mathlib.Core.Bool.{Bool, true, false, cond}
 use mathlib.Core.List.{List, ◌∷◌}
 use lib.Dec.{eqb}
-use lib.ListN.{length, get_or, set, length-set}
+use lib.ListN.{length, get_or, set}
 use Rattle.field.specs.Limits.{absent}
 use Rattle.part.specs.PartReq.{PartReq, add}
 use Rattle.module.specs.Module.{BlockHandle, Function}
@@ -106,9 +106,6 @@ module _ {bytes t : List ℕ} {f : ℕ} {types alike paths firsts s rs path : Li
           holder_copy = (omega arith, omega arith)
 
           module _ (v : k ≡ false) {us : List ℕ} (c : us ≡ set rs n (get_or rs (n - 1) 0)) where
-            above_long : length us ≡ length rs
-            above_long = ap length c ∙ length-set rs n _
-
             module _ {t₁ us₁ path₁ : List ℕ} {q₁ : Passing} (one : Passes S (inside bare) s us (n + 1) x p t₁ us₁ path₀ path₁ q₁) where
               walked_one : Walked S (inside bare) s (set rs n (get_or rs (n - 1) 0)) (n + 1) x p t₁ us₁ q₁
               walked_one = rw c at one.walked

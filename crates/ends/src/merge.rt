@@ -11,7 +11,7 @@ use memory::parts::Parts;
 use part::sums::covers;
 use standing::passing::{Passing, TABLE};
 
-// Of n + 1 slots the last two become one, which has the sum of the slots i and j. Says whether the needs are within the bound.
+// Of n + 1 slots the last two become one, which has the sum of the slots i and j. None where the needs pass the bound.
 pub fn merge(parts: &mut Parts, n: usize, i: usize, j: usize) -> Option<()>
     requires live { Live parts.old.cells parts.old.slots (n + 1) }
     requires n_nonzero { (0 < n) × (n + 1 < length parts.old.slots) }

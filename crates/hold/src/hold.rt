@@ -23,7 +23,7 @@ pub fn clean(cells: &mut [u32], slots: &mut [u32], n: usize)
     collect(cells, &mut slots[..n]);
 }
 
-// The slot n has the piece p then. Says whether the needs are within the bound.
+// The slot n has the piece p then. None where the needs pass the bound.
 pub fn push(parts: &mut Parts, n: usize, p: u32) -> Option<()>
     requires loose { Loose parts.old.cells parts.old.slots n }
     requires n_in_bounds { n < length parts.old.slots }

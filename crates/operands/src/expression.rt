@@ -50,7 +50,7 @@ fn ask_compose(
     ask_components(subject.file, subject.f, parts, n, row)
 }
 
-// What the need of the expression e asks of its operands. Says whether the needs are within the bound.
+// What the need of the expression e asks of its operands. None where the needs pass the bound.
 pub fn ask_operands(
     subject: &Subject,
     parts: &mut Parts,

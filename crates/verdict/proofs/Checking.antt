@@ -44,7 +44,7 @@ use Rattle.checking.specs.Word.{said}
 use Rattle.checking.specs.declared.words.Verdict.{Verdict}
 use Rattle.checking.specs.Stretch.{Firsts, marks_in, MarksFound}
 use Rattle.rounds.specs.Settling.{asked_by, reported, Settling, Settled}
-use Rattle.verdict.specs.Heard.{Store, asks_by, Stored, Accepted, Hears}
+use Rattle.verdict.specs.Heard.{Store, asks_by, Stored, Hears}
 use Rattle.verdict.specs.declared.heard.Heard.{Heard}
 use Rattle.verdict.specs.declared.scratch.Scratch.{Scratch}
 use Rattle.verdict.specs.Tables.{Sized, Tables, unjudged, Judges}
@@ -207,6 +207,3 @@ module _ {m : Module} {request context u : List ℕ} {a : Result Heard Refusal} 
   pub read_refused : {e : Refusal} → a ≡ Err e → refused (number e) ≡ answer_to (meaning_by m report (request_of request) (context_of context))
   unfolding answer_to
   read_refused e = rw ((rw e at H.by) report)
-
-  heard_is : {h : Heard} → a ≡ Ok h → Accepted m request context u h.function.0 h.asked.globals h.asked.value
-  heard_is e = rw e at H.by
