@@ -29,7 +29,7 @@ use Rattle.acts.proofs.Places.{world_framing, world_few, slot-rooted}
 use Rattle.acts.proofs.Steps.{hand_kept, taken_opened, opened_full, asked_full, left, acted}
 
 -- as much of the path as the function's pointers take
-pub path_room : {bytes tab : List ℕ} {f : ℕ} {types alike paths s rs : List ℕ} {n e : ℕ} → OperandsGiven bytes tab f types alike paths s rs n e → (path : List ℕ) →
+pub path_room : {bytes tab : List ℕ} {f : ℕ} {types alike : List ℕ} {paths : List Bool} {s rs : List ℕ} {n e : ℕ} → OperandsGiven bytes tab f types alike paths s rs n e → (path : List ℕ) →
     length (function_of bytes tab f).expressions + 2 ≤ length path → (k : ℕ) → k ≡ length (function_of bytes tab f).expressions → PathRoom bytes tab f (take (k + 2) path)
 path_room g path h k e =
     let z : length (take (k + 2) path) ≡ k + 2 = length-take-le (k + 2) path (omega arith) in
@@ -39,7 +39,7 @@ path_room g path h k e =
 pub lent-long : (part path before : List ℕ) (m : ℕ) → length part ≡ length (take m path) → length path ≡ length before → length (part ++ drop m path) ≡ length before
 lent-long part path before m h e = omega (arith, length-append part (drop m path), length-drop m path, length-take m path, h, e)
 
-module _ {bytes tab : List ℕ} {f : ℕ} {types alike paths s rs path : List ℕ} {n : ℕ} (g : ActGiven bytes tab f types alike paths s rs path n) {e : ℕ} (there : e < length (function_of bytes tab f).expressions) where
+module _ {bytes tab : List ℕ} {f : ℕ} {types alike : List ℕ} {paths : List Bool} {s rs path : List ℕ} {n : ℕ} (g : ActGiven bytes tab f types alike paths s rs path n) {e : ℕ} (there : e < length (function_of bytes tab f).expressions) where
   abbrev S : Scope
   S = scope_at bytes tab f
 

@@ -2,7 +2,7 @@
 use Prim.Native.Nat.{ℕ, ◌+◌, ◌/◌, ◌%◌, ◌<◌, ◌≤◌}
 use native.Mathlib.Omega.{arith}
 use mathlib.Core.Path.{◌≡◌, refl, ap, subst, ◌∙◌}
-use mathlib.Core.Bool.{true}
+use mathlib.Core.Bool.{Bool, true}
 use mathlib.Core.List.{List, [], ◌∷◌, ◌++◌}
 use lib.ListN.{length, length-append}
 use Rattle.module.specs.Module.{TypeHandle, ExpressionHandle, Expression}
@@ -90,7 +90,7 @@ pub slot-rooted : (e : ℕ) → Rooted (slot (evaluated e))
 unfolding slot
 slot-rooted e = rooted_at (4 + e / 32) (e % 32) [] (λ z. omega arith) (λ z. omega arith)
 
-module _ {bytes t : List ℕ} {f : ℕ} {types alike paths : List ℕ} (w : World bytes t f types alike paths) where
+module _ {bytes t : List ℕ} {f : ℕ} {types alike : List ℕ} {paths : List Bool} (w : World bytes t f types alike paths) where
   pub world_framing : Framing bytes t f types
   world_framing =
       let g = w.given in

@@ -148,7 +148,7 @@ unfolding store_asks
 some_asks [] v a e = let z : ◌≡◌ {A = ℕ} 0 1 = cc in absurd (omega arith)
 some_asks (i ∷ is) v a e = refl
 
-module _ {bytes tab : List ℕ} {f : ℕ} {types alike paths s rs path : List ℕ} {n : ℕ} (g : ActGiven bytes tab f types alike paths s rs path n) where
+module _ {bytes tab : List ℕ} {f : ℕ} {types alike : List ℕ} {paths : List Bool} {s rs path : List ℕ} {n : ℕ} (g : ActGiven bytes tab f types alike paths s rs path n) where
   -- the needs at hand, as a piece
   pub act_needing : Needing bytes tab f types alike paths s (get_or rs (n - 1) 0)
   act_needing = record {

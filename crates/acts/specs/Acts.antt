@@ -25,7 +25,7 @@ use Rattle.standing.specs.World.{World}
 use Rattle.judge.specs.declared.subject.Subject.{Subject}
 
 -- what an act is given: slots for what it asks, and a path that its place fits
-pub record ActGiven (bytes t : List ℕ) (f : ℕ) (types alike paths s rs path : List ℕ) (n : ℕ) : Type 0 where
+pub record ActGiven (bytes t : List ℕ) (f : ℕ) (types alike : List ℕ) (paths : List Bool) (s rs path : List ℕ) (n : ℕ) : Type 0 where
   pub world : World bytes t f types alike paths
   pub ready : Ready (scope_at bytes t f) s rs n
   pub spare : n + 6 ≤ length rs

@@ -13,7 +13,7 @@ use Rattle.standing.specs.Exits.{Exits}
 use Rattle.judge.specs.declared.subject.Subject.{Subject}
 
 -- the statement l; a copy of the needs at hand takes one slot more than an act
-pub record PassGiven (bytes t : List ℕ) (f : ℕ) (types alike paths s rs path : List ℕ) (n : ℕ) (p : Passing) (l : ℕ) : Type 0 where
+pub record PassGiven (bytes t : List ℕ) (f : ℕ) (types alike : List ℕ) (paths : List Bool) (s rs path : List ℕ) (n : ℕ) (p : Passing) (l : ℕ) : Type 0 where
   pub world : World bytes t f types alike paths
   pub ready : Ready (scope_at bytes t f) s rs n
   pub going : p.full ≡ false

@@ -1,5 +1,5 @@
 // An emit: what is needed of the expression is taken out, and its operands are asked. The expressions of an emit are passed from the last to the first, each with its mark.
-ghost use Rattle.std.specs.Prelude.{◌≡◌, ◌+◌, ◌-◌, ◌<◌, ◌≤◌, length};
+ghost use Rattle.std.specs.Prelude.{◌≡◌, ◌<◌, length};
 ghost use Rattle.module.specs.Marks.{marks_before};
 ghost use Rattle.clearance.specs.Tree.{emit};
 ghost use Rattle.acts.specs.Acts.{ActGivenOf, Acted};

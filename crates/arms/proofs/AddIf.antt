@@ -29,6 +29,8 @@ use Rattle.state.specs.declared.answer.Tally.{Tally}
 use Rattle.state.specs.declared.frame.Frame.{Frame}
 use Rattle.state.specs.declared.answer.Halt.{Halt}
 use Rattle.state.specs.declared.answer.Answer.{Answer}
+use Rattle.marks.specs.declared.places.MarkPlaces.{MarkPlaces}
+use Rattle.marks.specs.declared.totals.MarkTotals.{MarkTotals}
 use Rattle.marks.specs.Ray.{held_count, held_number}
 use Rattle.marks.proofs.Rays.{held_block}
 use Rattle.statement.proofs.Uses.{arm_uses}
@@ -62,7 +64,7 @@ module _ (m : Module) (block : BlockWalk) (fr : walk.Frame) (condition : Express
       both_then (block accept (fr.held + pieces st.context) st.context fr.break_required st)
       (λ a. block reject (fr.held + pieces st.context + pieces a.context) st.context fr.break_required a) (end_if m fr condition st.context)
 
-module _ {bytes t types places s rs open_marks totals : List ℕ} {fr : Frame} {b : BlockHandle} {row : Kinded} {sum visits : ℕ}
+module _ {bytes t types : List ℕ} {places : MarkPlaces} {s rs open_marks : List ℕ} {totals : MarkTotals} {fr : Frame} {b : BlockHandle} {row : Kinded} {sum visits : ℕ}
     (A : Arms bytes t types places s rs open_marks totals fr b row sum visits) (kind : row.kind ≡ 2) where
   abbrev m : Module
   m = module_of bytes t
@@ -136,7 +138,7 @@ module _ {bytes t types places s rs open_marks totals : List ℕ} {fr : Frame} {
               rw (accept-is, reject-is, counted, up_state A.begins.standing)
               (sym (pair_anywhere A.begins.standing.ready.was_read f (operand_at bytes row 1) (operand_at bytes row 2) (fr.held + context_in s rs at) outer empty_context fr.break_required (state_in bytes t s rs open_marks totals f at visits)))
 
-      module _ {r : Result Answer Halt} {u us open_after totals-after : List ℕ}
+      module _ {r : Result Answer Halt} {u us open_after : List ℕ} {totals-after : MarkTotals}
           (E : PairEnds bytes t types places s rs open_marks totals f at (at + 4) (fr.held + n) Pair r u us open_after totals-after) where
         pub if_halts : {stop : Halt} → r ≡ Err stop
             → StatementEnds bytes t types places s rs open_marks totals fr Whole StatementReq.If (Err stop) u us open_after totals-after

@@ -20,6 +20,8 @@ use Rattle.walk.proofs.Statements.{statement_goes, block_keeps}
 use Rattle.walk.proofs.Functions.{function_keeps}
 use Rattle.sound.proofs.Walks.{module_sound}
 use Rattle.memory.specs.Memory.{read}
+use Rattle.marks.specs.declared.places.MarkPlaces.{MarkPlaces}
+use Rattle.marks.specs.declared.totals.MarkTotals.{MarkTotals}
 use Rattle.state.specs.Frame.{frame_of, ArmEnded, ArmEnding}
 use Rattle.state.specs.declared.frame.Frame.{Frame}
 use Rattle.state.specs.declared.answer.Halt.{Halt}
@@ -32,7 +34,7 @@ use Rattle.block.proofs.Steps.{apart_state, apart_standing, beside_apart}
 use Rattle.arms.specs.Visit.{MarkAsked, MarkEnds}
 
 -- the kinds of those that hold blocks
-module _ {bytes t types places s rs open_marks totals : List ℕ} {fr : Frame} {b : BlockHandle} {row : Kinded} {sum visits : ℕ} (A : Arms bytes t types places s rs open_marks totals fr b row sum visits) where
+module _ {bytes t types : List ℕ} {places : MarkPlaces} {s rs open_marks : List ℕ} {totals : MarkTotals} {fr : Frame} {b : BlockHandle} {row : Kinded} {sum visits : ℕ} (A : Arms bytes t types places s rs open_marks totals fr b row sum visits) where
   abbrev m : Module
   m = module_of bytes t
 
@@ -48,7 +50,7 @@ module _ {bytes t types places s rs open_marks totals : List ℕ} {fr : Frame} {
   abbrev arm_of : ℕ → Out StatementReq
   arm_of k = add_statement m (add_function m) (block_in bytes t f) (frame_of s rs fr) (statement_of k o) st
 
-  abbrev Ends : {B : Type 0} → Out B → (Bool → B) → Result Answer Halt → (u us open_after totals-after : List ℕ) → Type 0
+  abbrev Ends : {B : Type 0} → Out B → (Bool → B) → Result Answer Halt → (u us open_after : List ℕ) (totals-after : MarkTotals) → Type 0
   Ends total answer r u us open_after totals-after = StatementEnds bytes t types places s rs open_marks totals fr total answer r u us open_after totals-after
 
   arm : Arm bytes t s rs fr row sum
@@ -86,7 +88,7 @@ module _ {bytes t types places s rs open_marks totals : List ℕ} {fr : Frame} {
       leaf_ending r (L.by (add_function m) (block_in bytes t f) (rest_in m t f (read s rs) open_marks totals) A.begins.standing.totals-sum).by
 
   -- the marks of a leaf or a holder
-  pub mark_asks : {total : Out StatementReq} (r : Result Answer Halt) {u us open_after totals-after : List ℕ} → Ends total (leaf_req (statement_of row.kind o)) r u us open_after totals-after → MarkAsked t places open_after fr row r
+  pub mark_asks : {total : Out StatementReq} (r : Result Answer Halt) {u us open_after : List ℕ} {totals-after : MarkTotals} → Ends total (leaf_req (statement_of row.kind o)) r u us open_after totals-after → MarkAsked t places open_after fr row r
   mark_asks (Ok a) E =
       record {
         by = record {
@@ -101,15 +103,15 @@ module _ {bytes t types places s rs open_marks totals : List ℕ} {fr : Frame} {
       }
   mark_asks (Err stop) E = record { by = tt }
 
-  pub mark_ends : {r q : Result Answer Halt} {u us open_after open-last totals-after : List ℕ} → MarkEnds t places open_after fr row r q open-last
+  pub mark_ends : {r q : Result Answer Halt} {u us open_after open-last : List ℕ} {totals-after : MarkTotals} → MarkEnds t places open_after fr row r q open-last
       → Ends (arm_of row.kind) (leaf_req (statement_of row.kind o)) r u us open_after totals-after → Ends (marked m (frame_of s rs fr) (arm_of row.kind)) (λ b. b) q u us open-last totals-after
   mark_ends {u = u} {us = us} {totals-after = totals-after} M E = M.by bytes types s rs open_marks totals u us totals-after (arm_of row.kind) A.begins.begun.statement A.is E
 
-  abbrev As : ℕ → Result Answer Halt → (u us open_after totals-after : List ℕ) → Type 0
+  abbrev As : ℕ → Result Answer Halt → (u us open_after : List ℕ) (totals-after : MarkTotals) → Type 0
   As k r u us open_after totals-after = Ends (arm_of k) (leaf_req (statement_of k o)) r u us open_after totals-after
 
   -- the holders
-  module _ {r : Result Answer Halt} {u us open_after totals-after : List ℕ} where
+  module _ {r : Result Answer Halt} {u us open_after : List ℕ} {totals-after : MarkTotals} where
     pub nested_arm : row.kind ≡ 1 → Ends (add_nested (block_in bytes t f) (frame_of s rs fr) (o 0) st) StatementReq.BlockStmt r u us open_after totals-after → As row.kind r u us open_after totals-after
     unfolding statement_of add_statement leaf_req
     nested_arm e E = subst (λ (k : ℕ). As k r u us open_after totals-after) (sym e) E

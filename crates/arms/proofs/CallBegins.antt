@@ -28,6 +28,7 @@ use Rattle.memory.specs.Stretches.{four_set}
 use Rattle.memory.proofs.Slots.{read-long, kept_read, kept_memory}
 use Rattle.memory.proofs.Records.{records_pieces}
 use Rattle.memory.proofs.Runs.{context_pieces}
+use Rattle.marks.specs.declared.places.MarkPlaces.{MarkPlaces}
 use Rattle.marks.specs.Places.{start_in, size_in, Inside}
 use Rattle.marks.proofs.Buffers.{inside}
 use Rattle.state.specs.State.{records_in}
@@ -84,7 +85,7 @@ pub called_few : (bytes t s rs : List ℕ) (f at : ℕ) (row : Kinded)
 unfolding pieces entries
 called_few bytes t s rs f at row = omega (arith, retval_few (records_in t exprs_slot f (read s rs)) (option_of (operand_at bytes row (2 + operand_at bytes row 1))))
 
-module _ {bytes t places s rs open_marks : List ℕ} {fr : Frame} {row : Kinded} {sum : ℕ} (q : CallBegins bytes t places s rs open_marks fr row sum) where
+module _ {bytes t : List ℕ} {places : MarkPlaces} {s rs open_marks : List ℕ} {fr : Frame} {row : Kinded} {sum : ℕ} (q : CallBegins bytes t places s rs open_marks fr row sum) where
   abbrev f : ℕ
   f = fr.function.0
 

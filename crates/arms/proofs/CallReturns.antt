@@ -34,6 +34,8 @@ use Rattle.sound.proofs.Walks.{module_sound}
 use Rattle.memory.specs.Layout.{result, returned, exprs_slot}
 use Rattle.memory.specs.Memory.{read, context_at}
 use Rattle.marks.proofs.Buffers.{own_fits}
+use Rattle.marks.specs.declared.places.MarkPlaces.{MarkPlaces}
+use Rattle.marks.specs.declared.totals.MarkTotals.{MarkTotals}
 use Rattle.state.specs.State.{Rest, records_in, state_of, totals_sum}
 use Rattle.state.specs.Ready.{Ready}
 use Rattle.state.specs.Frame.{frame_of, Apart, ArmEnded, ArmEnds}
@@ -104,7 +106,7 @@ held_found {rs = rs} (Some n) r h =
       requested_is = ap there (hold_part r q);
     }
 
-module _ {bytes t places s rs open_marks : List ℕ} {fr : Frame} {row : Kinded} {visits sum : ℕ} (q : Returns bytes t places s rs open_marks fr row visits sum) where
+module _ {bytes t : List ℕ} {places : MarkPlaces} {s rs open_marks : List ℕ} {fr : Frame} {row : Kinded} {visits sum : ℕ} (q : Returns bytes t places s rs open_marks fr row visits sum) where
   abbrev f : ℕ
   f = fr.function.0
 
@@ -138,11 +140,11 @@ module _ {bytes t places s rs open_marks : List ℕ} {fr : Frame} {row : Kinded}
   return_few = few_arguments named
 
   -- the definition's end of the call
-  abbrev Whole : Bool → (totals : List ℕ) → Out StatementReq
+  abbrev Whole : Bool → (totals : MarkTotals) → Out StatementReq
   Whole r totals =
       end_call def (frame_of s rs fr) (arguments_of bytes row (operand_at bytes row 1)) (result_of bytes row) need args r (state_in bytes t s rs open_marks totals f fr.at visits)
 
-  module _ {k : ℕ} (place : k ≡ get_or places (statement_number t f fr.statement) 0) where
+  module _ {k : ℕ} (place : k ≡ get_or places.firsts (statement_number t f fr.statement) 0) where
     pub return_marks : k + 1 < length open_marks
     unfolding own_marks
     return_marks =
@@ -172,7 +174,7 @@ module _ {bytes t places s rs open_marks : List ℕ} {fr : Frame} {row : Kinded}
       kept_apart : {u us : List ℕ} → Apart t f fr.at s vs u us → Apart t f fr.at s rs u us
       kept_apart a = record { long = a.long ∙ H.apart.long; same = λ j l e. a.same j l e ∙ H.apart.same j l e }
 
-      went_returned : {types totals : List ℕ} (S : Standing bytes t types places s rs open_marks totals f fr.at fr.held sum visits) (tally : Tally) (b : Bool) {u us : List ℕ}
+      went_returned : {types : List ℕ} {totals : MarkTotals} (S : Standing bytes t types places s rs open_marks totals f fr.at fr.held sum visits) (tally : Tally) (b : Bool) {u us : List ℕ}
           → ArmEnded bytes t s vs fr (rest_in def t f (read s rs) open_marks totals) (Whole true totals) (λ x. StatementReq.Call x (is_there need)) tally.visits tally.sum b u us
           → StatementEnded bytes t types places s rs open_marks totals fr (marked def (frame_of s rs fr) (Whole true totals)) (λ x. x) tally.visits tally.sum b u us
           (write_marks open_marks k (mark b ∷ mark (is_there need) ∷ [])) totals
@@ -199,7 +201,7 @@ module _ {bytes t places s rs open_marks : List ℕ} {fr : Frame} {row : Kinded}
             beside = beside_then fr.at (beside_apart S a) (written_beside T q.statement (StatementReq.Call b (is_there need)) (marks_two b (is_there need)) k place) (omega arith);
           }
 
-      returned_by : {types totals : List ℕ} (S : Standing bytes t types places s rs open_marks totals f fr.at fr.held sum visits) (r : Result Answer Halt) {u us after : List ℕ}
+      returned_by : {types : List ℕ} {totals : MarkTotals} (S : Standing bytes t types places s rs open_marks totals f fr.at fr.held sum visits) (r : Result Answer Halt) {u us after : List ℕ}
           → after ≡ call_marks open_marks k (is_there need) r
           → ArmEnds bytes t s vs fr (rest_in def t f (read s rs) open_marks totals) (Whole true totals) (λ x. StatementReq.Call x (is_there need)) r u us
           → StatementEnds bytes t types places s rs open_marks totals fr (marked def (frame_of s rs fr) (Whole true totals)) (λ x. x) r u us after totals

@@ -13,6 +13,8 @@ use Rattle.sound.specs.Sizes.{record_number}
 use Rattle.sound.proofs.Walks.{module_valid}
 use Rattle.sound.proofs.Numbers.{callee}
 use Rattle.sound.proofs.Blocks.{callee_number}
+use Rattle.marks.specs.declared.places.MarkPlaces.{MarkPlaces}
+use Rattle.marks.specs.declared.totals.MarkTotals.{MarkTotals}
 use Rattle.state.specs.declared.frame.Frame.{Frame}
 use Rattle.call.proofs.Rows.{CallRow, call_is}
 use Rattle.block.specs.Visiting.{Arms}
@@ -34,7 +36,7 @@ module _ {bytes t : List ℕ} {f s : ℕ} {row : Kinded} (R : CallRow bytes t f 
   body_lower b l = callee_number m (module_valid bytes m R.was_read.module_is) f (o 0) b callee_lower callee_there l
 
 -- the row that an arm has
-pub arm_row : {bytes t types places s rs open_marks totals : List ℕ} {fr : Frame} {b : BlockHandle} {row : Kinded} {sum visits : ℕ}
+pub arm_row : {bytes t types : List ℕ} {places : MarkPlaces} {s rs open_marks : List ℕ} {totals : MarkTotals} {fr : Frame} {b : BlockHandle} {row : Kinded} {sum visits : ℕ}
     → Arms bytes t types places s rs open_marks totals fr b row sum visits → row.kind ≡ 14 → CallRow bytes t fr.function.0 fr.statement row
 arm_row A kind = record {
   was_read = A.begins.standing.ready.was_read;

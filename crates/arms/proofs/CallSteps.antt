@@ -38,6 +38,8 @@ use Rattle.memory.specs.Memory.{read, context_at}
 use Rattle.memory.proofs.Slots.{read_at, read-long}
 use Rattle.memory.proofs.Records.{records_pieces}
 use Rattle.memory.proofs.Runs.{context_put}
+use Rattle.marks.specs.declared.places.MarkPlaces.{MarkPlaces}
+use Rattle.marks.specs.declared.totals.MarkTotals.{MarkTotals}
 use Rattle.marks.specs.Places.{start_in, size_in}
 use Rattle.state.specs.State.{records_in, place_of}
 use Rattle.state.specs.Frame.{frame_of}
@@ -84,7 +86,7 @@ end_same : (m : Module) {fr fs : walk.Frame} (es : List ExpressionHandle) (o : O
     → fr ≡ fs → n ≡ k → p ≡ q → st ≡ su → end_call m fr es o n p r st ≡ end_call m fs es o k q r su
 end_same m es o r a b c d = rw (a, b, c, d)
 
-module _ {bytes t types places s rs open_marks totals : List ℕ} {fr : Frame} {b : BlockHandle} {row : Kinded} {sum visits : ℕ} (A : Arms bytes t types places s rs open_marks totals fr b row sum visits) (kind : row.kind ≡ 14) where
+module _ {bytes t types : List ℕ} {places : MarkPlaces} {s rs open_marks : List ℕ} {totals : MarkTotals} {fr : Frame} {b : BlockHandle} {row : Kinded} {sum visits : ℕ} (A : Arms bytes t types places s rs open_marks totals fr b row sum visits) (kind : row.kind ≡ 14) where
   abbrev f : ℕ
   f = fr.function.0
 
@@ -193,7 +195,7 @@ module _ {bytes t types places s rs open_marks totals : List ℕ} {fr : Frame} {
         (function_from m (o 0) (here (frame_of s rs fr)) (held_by t s rs f at fr.held) st.context.globals (retval_of need) base st
         (function_is bytes m standing.ready.was_read.module_is (o 0) (here (frame_of s rs fr)) (held_by t s rs f at fr.held) st.context.globals (retval_of need)))
 
-    module _ {r : Result Answer Halt} {v vs open-2 totals-2 : List ℕ} (F : FunctionEnds bytes t types places u us open-1 totals g (at + 4) held Called r v vs open-2 totals-2) where
+    module _ {r : Result Answer Halt} {v vs open-2 : List ℕ} {totals-2 : MarkTotals} (F : FunctionEnds bytes t types places u us open-1 totals g (at + 4) held Called r v vs open-2 totals-2) where
       pub call_stops : {stop : Halt} → r ≡ Err stop
           → StatementEnds bytes t types places s rs open_marks totals fr (marked m (frame_of s rs fr) Whole) (λ x. x) (Err stop) v vs open-2 totals-2
       call_stops {stop} e =

@@ -18,6 +18,8 @@ use Rattle.walk.specs.StatementReq.{StatementReq, any, marks_of, own_marks, requ
 use Rattle.walk.specs.Statement.{BlockWalk, FunctionWalk, add_statement, are_recorded}
 use Rattle.memory.specs.Layout.{exprs_slot, totals_slot}
 use Rattle.memory.specs.Memory.{read}
+use Rattle.marks.specs.declared.places.MarkPlaces.{MarkPlaces}
+use Rattle.marks.specs.declared.totals.MarkTotals.{MarkTotals}
 use Rattle.marks.specs.Places.{recorded_in}
 use Rattle.marks.proofs.Placed.{at_function}
 use Rattle.marks.proofs.Turns.{emit_long}
@@ -32,7 +34,7 @@ use Rattle.block.proofs.Steps.{beside_same, items_within}
 use Rattle.arms.specs.Emit.{EmitAsked, EmitEnds}
 use Rattle.arms.proofs.Marking.{marked_ended}
 
-module _ {bytes t places s rs open_marks : List ℕ} {fr : Frame} {row : Kinded} {sum : ℕ} (A : EmitAsked bytes t places s rs open_marks fr row sum) where
+module _ {bytes t : List ℕ} {places : MarkPlaces} {s rs open_marks : List ℕ} {fr : Frame} {row : Kinded} {sum : ℕ} (A : EmitAsked bytes t places s rs open_marks fr row sum) where
   abbrev f : ℕ
   f = fr.function.0
 
@@ -65,7 +67,7 @@ module _ {bytes t places s rs open_marks : List ℕ} {fr : Frame} {row : Kinded}
     pub emit_small : {from : ℕ} → from ≡ expression_number t f first → exprs_slot + from ≤ totals_slot
     emit_small number = omega (arith, emit_uses.0, emit_uses.1, items_within f A.arm.begun.ready.was_read A.arm.begun.ready.function)
 
-    module _ {from place : ℕ} (number : from ≡ expression_number t f first) (at : place ≡ get_or places (statement_number t f fr.statement) 0) where
+    module _ {from place : ℕ} (number : from ≡ expression_number t f first) (at : place ≡ get_or places.firsts (statement_number t f fr.statement) 0) where
       abbrev n : ℕ
       n = last + 1 - first
 
@@ -114,7 +116,7 @@ module _ {bytes t places s rs open_marks : List ℕ} {fr : Frame} {row : Kinded}
           answer_is : any (recorded_in rs (exprs_slot + from) n) ≡ required req
           answer_is = ap any recorded
 
-          ended : (types totals : List ℕ) (call : FunctionWalk) (block : BlockWalk) → Standing bytes t types places s rs open_marks totals f fr.at fr.held sum visits
+          ended : (types : List ℕ) (totals : MarkTotals) (call : FunctionWalk) (block : BlockWalk) → Standing bytes t types places s rs open_marks totals f fr.at fr.held sum visits
               → StatementEnded bytes t types places s rs open_marks totals fr
               (add_statement (module_of bytes t) call block (frame_of s rs fr) (statement_of row.kind o) (state_in bytes t s rs open_marks totals f fr.at visits))
               (λ c. req) visits sum r s rs open_marks totals

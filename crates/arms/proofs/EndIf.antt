@@ -22,6 +22,8 @@ use Rattle.memory.specs.Layout.{all_slot, stack_slot}
 use Rattle.memory.specs.Memory.{read, context_at, Memory}
 use Rattle.memory.specs.Want.{asked, Wants, want_of}
 use Rattle.memory.proofs.Slots.{asked-slot}
+use Rattle.marks.specs.declared.places.MarkPlaces.{MarkPlaces}
+use Rattle.marks.specs.declared.totals.MarkTotals.{MarkTotals}
 use Rattle.state.specs.Ready.{Ready, Ends}
 use Rattle.state.specs.Frame.{frame_of}
 use Rattle.state.specs.declared.answer.Place.TheVariants as place
@@ -45,7 +47,7 @@ use Rattle.block.proofs.Asked.{Asks, asked_state, asked_standing, asked_beside}
 use Rattle.block.proofs.Dropped.{beside_down, dropped}
 use Rattle.arms.specs.Ifs.{IfAsked, end_in, IfEnds}
 
-module _ {bytes t types places s rs open_marks totals : List ℕ} {fr : Frame} {sum visits : ℕ} (B : Branched bytes t types places s rs open_marks totals fr sum visits) where
+module _ {bytes t types : List ℕ} {places : MarkPlaces} {s rs open_marks : List ℕ} {totals : MarkTotals} {fr : Frame} {sum visits : ℕ} (B : Branched bytes t types places s rs open_marks totals fr sum visits) where
   abbrev m : Module
   m = module_of bytes t
 

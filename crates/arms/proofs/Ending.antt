@@ -10,6 +10,8 @@ use Rattle.module.specs.Tables.{module_of}
 use Rattle.walk.specs.State.{at_statement, went, halt, count}
 use Rattle.walk.proofs.Bind.{counted-over, counted-under}
 use Rattle.memory.specs.Memory.{read}
+use Rattle.marks.specs.declared.places.MarkPlaces.{MarkPlaces}
+use Rattle.marks.specs.declared.totals.MarkTotals.{MarkTotals}
 use Rattle.state.specs.declared.answer.Place.TheVariants as place
 use Rattle.state.specs.declared.answer.Tally.{Tally}
 use Rattle.state.specs.declared.frame.Frame.{Frame}
@@ -24,7 +26,7 @@ use Rattle.block.proofs.Steps.{beside_same, beside_then}
 use Rattle.arms.specs.Visit.{CountingWhen, LastAsked, last, LastEnds}
 use Rattle.arms.proofs.Tidies.{tidied_state, tidied_standing}
 
-module _ {bytes t types places s rs open_marks totals : List ℕ} {f at held sum visits : ℕ} (S : Standing bytes t types places s rs open_marks totals f at held sum visits) where
+module _ {bytes t types : List ℕ} {places : MarkPlaces} {s rs open_marks : List ℕ} {totals : MarkTotals} {f at held sum visits : ℕ} (S : Standing bytes t types places s rs open_marks totals f at held sum visits) where
   pub standing_count : (v : ℕ) → count held (state_in bytes t s rs open_marks totals f at v) ≡ held + (context_in s rs at + sum)
   standing_count v = count_is t f at held (read s rs) (rest_in (module_of bytes t) t f (read s rs) open_marks totals) v sum S.ready.sums S.totals-sum
 

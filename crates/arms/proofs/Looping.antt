@@ -29,6 +29,8 @@ use Rattle.state.specs.declared.answer.Tally.{Tally}
 use Rattle.state.specs.declared.frame.Frame.{Frame}
 use Rattle.state.specs.declared.answer.Halt.{Halt}
 use Rattle.state.specs.declared.answer.Answer.{Answer}
+use Rattle.marks.specs.declared.places.MarkPlaces.{MarkPlaces}
+use Rattle.marks.specs.declared.totals.MarkTotals.{MarkTotals}
 use Rattle.marks.specs.Ray.{held_count, held_number}
 use Rattle.marks.proofs.Rays.{held_block}
 use Rattle.statement.proofs.Uses.{arm_uses}
@@ -56,7 +58,7 @@ frame_same : {bytes t : List ℕ} {s rs open_marks u us open_after : List ℕ} (
     → Beside bytes t f fr.at s rs open_marks u us open_after → frame_of u us fr ≡ frame_of s rs fr
 frame_same fr low below b = rw (beside_context b fr.base low below)
 
-module _ {bytes t types places s rs open_marks totals : List ℕ} {fr : Frame} {b : BlockHandle} {row : Kinded} {sum visits : ℕ}
+module _ {bytes t types : List ℕ} {places : MarkPlaces} {s rs open_marks : List ℕ} {totals : MarkTotals} {fr : Frame} {b : BlockHandle} {row : Kinded} {sum visits : ℕ}
     (A : Arms bytes t types places s rs open_marks totals fr b row sum visits) (kind : row.kind ≡ 4) where
   abbrev m : Module
   m = module_of bytes t
@@ -127,7 +129,7 @@ module _ {bytes t types places s rs open_marks totals : List ℕ} {fr : Frame} {
           ∙ rw (body, continuing, outer)
 
       -- both blocks are walked
-      module _ {r : Result Answer Halt} {u us open-1 totals-1 : List ℕ} (E : PairEnds bytes t types places s rs open_marks totals f fr.at (fr.at + 4) (fr.held + n) Pair r u us open-1 totals-1) where
+      module _ {r : Result Answer Halt} {u us open-1 : List ℕ} {totals-1 : MarkTotals} (E : PairEnds bytes t types places s rs open_marks totals f fr.at (fr.at + 4) (fr.held + n) Pair r u us open-1 totals-1) where
         ending : {q : Result Answer Halt} → r ≡ q → PairEnding bytes t types places s rs open_marks totals f fr.at (fr.at + 4) (fr.held + n) Pair q u us open-1 totals-1
         ending is = subst (λ (q : Result Answer Halt). PairEnding bytes t types places s rs open_marks totals f fr.at (fr.at + 4) (fr.held + n) Pair q u us open-1 totals-1) is E.by
 
@@ -249,7 +251,7 @@ module _ {bytes t types places s rs open_marks totals : List ℕ} {fr : Frame} {
                     ∙ ap (λ (k : ℕ). turns (block_in bytes t f) (frame_of s rs fr) held (o 0) k working max_turns joined) continuing
                     ∙ sym (total_is required ∙ end_turns m (frame_of s rs fr) (option_of (o 2)) before first continued (block_in bytes t f) (o 0) (o 1) (passed.is ∙ pass_is))
 
-                pub loop_ends : (p : Result Answer Halt) {w ws open-2 totals-2 : List ℕ}
+                pub loop_ends : (p : Result Answer Halt) {w ws open-2 : List ℕ} {totals-2 : MarkTotals}
                     → StatementEnds bytes t types places v vs open-1 totals-1 fr (turns_in bytes t v vs fr x y max_turns joined) StatementReq.Loop p w ws open-2 totals-2
                     → StatementEnds bytes t types places s rs open_marks totals fr Total StatementReq.Loop p w ws open-2 totals-2
                 loop_ends p T = ends_from p pass_beside turns_are T

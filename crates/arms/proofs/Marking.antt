@@ -20,6 +20,8 @@ use Rattle.walk.specs.Proper.{Sound, ProperState}
 use Rattle.walk.proofs.Proper.{proper, good, state}
 use Rattle.walk.proofs.Statements.{good_marked}
 use Rattle.sound.proofs.Walks.{module_sound}
+use Rattle.marks.specs.declared.places.MarkPlaces.{MarkPlaces}
+use Rattle.marks.specs.declared.totals.MarkTotals.{MarkTotals}
 use Rattle.marks.specs.Places.{start_of}
 use Rattle.marks.proofs.Write.{write_long, write_none, write_after}
 use Rattle.marks.proofs.Fit.{start_suc}
@@ -38,9 +40,9 @@ use Rattle.block.specs.Visiting.{marked}
 use Rattle.block.proofs.Steps.{beside_then}
 use Rattle.arms.specs.Visit.{mark_when, MarkingWhen, MarkAsked, MarkEnds}
 
-module _ {bytes t types places s rs open_marks totals : List ℕ} {f at held sum visits : ℕ} (S : Standing bytes t types places s rs open_marks totals f at held sum visits)
+module _ {bytes t types : List ℕ} {places : MarkPlaces} {s rs open_marks : List ℕ} {totals : MarkTotals} {f at held sum visits : ℕ} (S : Standing bytes t types places s rs open_marks totals f at held sum visits)
     {n : ℕ} (there : n < (row_at t f).statements) (req : StatementReq) (own : length (own_marks req) ≡ mark_count (statement_at (module_of bytes t) f n))
-    (place : ℕ) (is : place ≡ get_or places (statement_number t f n) 0) where
+    (place : ℕ) (is : place ≡ get_or places.firsts (statement_number t f n) 0) where
   abbrev m : Module
   m = module_of bytes t
 
@@ -71,7 +73,6 @@ module _ {bytes t types places s rs open_marks totals : List ℕ} {f at held sum
     typed = S.typed;
     placed = S.placed;
     open_long = omega (arith, S.open_long, write_long open_marks place (own_marks req));
-    totals_long = S.totals_long;
     totals-sum = S.totals-sum;
     unwalked = S.unwalked;
     proper = written_proper;
@@ -95,7 +96,7 @@ module _ {bytes t types places s rs open_marks totals : List ℕ} {f at held sum
   }
 
 -- an arm that went, with its marks
-module _ {bytes t types places s rs before totals : List ℕ} {fr : Frame} {total : Out StatementReq} {answer : Bool → StatementReq} {v sum : ℕ} {b : Bool} {u us open_marks totals-after : List ℕ}
+module _ {bytes t types : List ℕ} {places : MarkPlaces} {s rs before : List ℕ} {totals : MarkTotals} {fr : Frame} {total : Out StatementReq} {answer : Bool → StatementReq} {v sum : ℕ} {b : Bool} {u us open_marks : List ℕ} {totals-after : MarkTotals}
     (E : StatementEnded bytes t types places s rs before totals fr total answer v sum b u us open_marks totals-after) where
   abbrev Ended : (q : Bool) → (open_after : List ℕ) → Type 0
   Ended q open_after =
@@ -112,7 +113,7 @@ module _ {bytes t types places s rs before totals : List ℕ} {fr : Frame} {tota
   }
 
   pub marked_ended : {q : Bool} {open_after : List ℕ} {place : ℕ} → fr.statement < (row_at t fr.function.0).statements
-      → length (own_marks (answer b)) ≡ mark_count (statement_at (module_of bytes t) fr.function.0 fr.statement) → place ≡ get_or places (statement_number t fr.function.0 fr.statement) 0
+      → length (own_marks (answer b)) ≡ mark_count (statement_at (module_of bytes t) fr.function.0 fr.statement) → place ≡ get_or places.firsts (statement_number t fr.function.0 fr.statement) 0
       → open_after ≡ write_marks open_marks place (own_marks (answer b)) → q ≡ required (answer b) → Ended q open_after
   marked_ended {q} {open_after} {place} there own is w e = record {
     is =
@@ -159,7 +160,7 @@ module _ (kind : ℕ) (b : Bool) {has : Bool} (own : (b : Bool) (o : ℕ → ℕ
   counts_one = long_one ∙ sym (own_counts (statement_of kind o) b long_one)
 
 -- `mark_statement`: what it answers
-module _ {t places open_marks : List ℕ} {fr : Frame} {row : Kinded} (r : Result Answer Halt) where
+module _ {t : List ℕ} {places : MarkPlaces} {open_marks : List ℕ} {fr : Frame} {row : Kinded} (r : Result Answer Halt) where
   pub mark_halts : {stop : Halt} → r ≡ Err stop → MarkEnds t places open_marks fr row r (Err stop) open_marks
   mark_halts e = record {
     by = λ bytes types s rs before totals u us totals-after total there is E.
@@ -172,7 +173,7 @@ module _ {t places open_marks : List ℕ} {fr : Frame} {row : Kinded} (r : Resul
 
   module _ {tally : Tally} {b : Bool} (e : r ≡ Ok (record { tally = tally; required = b })) {has : Bool} (own : (b : Bool) (o : ℕ → ℕ) → own_marks (leaf_req (statement_of row.kind o) b) ≡ mark_when has b) where
     module _ (h : has ≡ true) where
-      pub mark_fits : {place : ℕ} → MarkAsked t places open_marks fr row r → place ≡ get_or places (statement_number t fr.function.0 fr.statement) 0 → place < length open_marks
+      pub mark_fits : {place : ℕ} → MarkAsked t places open_marks fr row r → place ≡ get_or places.firsts (statement_number t fr.function.0 fr.statement) 0 → place < length open_marks
       mark_fits {place} A is =
           let M = subst (MarkingWhen t places open_marks fr row) e A.by in
           let fits =
@@ -180,7 +181,7 @@ module _ {t places open_marks : List ℕ} {fr : Frame} {row : Kinded} (r : Resul
           (in_function M.was_read M.function M.statement) is (counts_one row.kind b own h (operand_at M.bytes row) ∙ ap mark_count (sym (row-statement M.was_read M.function M.statement row M.is))) in
           omega (arith, fits, long_one row.kind b own h (operand_at M.bytes row), M.long)
 
-      pub mark_one : {place : ℕ} {open_after : List ℕ} {q : Bool} → place ≡ get_or places (statement_number t fr.function.0 fr.statement) 0 → open_after ≡ write_marks open_marks place (mark b ∷ [])
+      pub mark_one : {place : ℕ} {open_after : List ℕ} {q : Bool} → place ≡ get_or places.firsts (statement_number t fr.function.0 fr.statement) 0 → open_after ≡ write_marks open_marks place (mark b ∷ [])
           → ((o : ℕ → ℕ) → q ≡ required (leaf_req (statement_of row.kind o) b)) → MarkEnds t places open_marks fr row r (Ok (record { tally = tally; required = q })) open_after
       mark_one {place} {open_after} {q} at w answer = record {
         by = λ bytes types s rs before totals u us totals-after total there is E.

@@ -29,6 +29,8 @@ use Rattle.memory.specs.Want.{asked, Wants, want_of}
 use Rattle.memory.specs.declared.want.Want.{Want}
 use Rattle.memory.proofs.Slots.{asked-slot}
 use Rattle.memory.proofs.Runs.{context_pieces}
+use Rattle.marks.specs.declared.places.MarkPlaces.{MarkPlaces}
+use Rattle.marks.specs.declared.totals.MarkTotals.{MarkTotals}
 use Rattle.state.specs.Ready.{Ready, Ends}
 use Rattle.state.specs.Frame.{frame_of}
 use Rattle.state.specs.declared.answer.Place.TheVariants as place
@@ -56,7 +58,7 @@ module _ {bytes t s rs : List ℕ} {fr : Frame} {break_if : Option ExpressionHan
   abbrev m : Module
   m = module_of bytes t
 
-  abbrev Asks : (open_marks totals : List ℕ) → Out (Unit {0})
+  abbrev Asks : (open_marks : List ℕ) (totals : MarkTotals) → Out (Unit {0})
   Asks open_marks totals =
       ask_optional m (holding (context_in s rs (fr.at + 4) + context_in s rs (fr.at + 4 + 4)) (frame_of s rs fr)) break_if all
       (state_in bytes t s rs open_marks totals fr.function.0 fr.at visits)
@@ -91,7 +93,7 @@ module _ {bytes t s rs : List ℕ} {fr : Frame} {break_if : Option ExpressionHan
           (subst (MaybeBelow (length (function_at m fr.function.0).expressions)) h P.there, rw is (slot_wants B.standing.ready.memory 0 (omega arith))),
         )
 
-    ends : (e : ℕ) {types places open_marks totals : List ℕ} (B : Branched bytes t types places s rs open_marks totals fr sum visits) (r : Result Tally Halt) {u us : List ℕ}
+    ends : (e : ℕ) {types : List ℕ} {places : MarkPlaces} {open_marks : List ℕ} {totals : MarkTotals} (B : Branched bytes t types places s rs open_marks totals fr sum visits) (r : Result Tally Halt) {u us : List ℕ}
         → Ends bytes t fr.function.0 fr.at (fr.held + (context_in s rs (fr.at + 4) + context_in s rs (fr.at + 4 + 4))) s rs
         (rest_in m t fr.function.0 (read s rs) open_marks totals) (HeldAsks fr.at fr.held B.standing B.low e all) r u us
         → BreakEnding bytes t types places s rs open_marks totals fr (HeldAsks fr.at fr.held B.standing B.low e all) r u us
@@ -139,7 +141,7 @@ module _ {bytes t s rs : List ℕ} {fr : Frame} {break_if : Option ExpressionHan
     }
 
     module _ {tally : Tally} (is : r ≡ Ok tally) where
-      goes : (types places open_marks totals : List ℕ) (B : Branched bytes t types places s rs open_marks totals fr sum visits)
+      goes : (types : List ℕ) (places : MarkPlaces) (open_marks : List ℕ) (totals : MarkTotals) (B : Branched bytes t types places s rs open_marks totals fr sum visits)
           → BreakEnded bytes t types places s rs open_marks totals fr (Asks open_marks totals) tally.visits tally.sum u us
       goes types places open_marks totals B =
           subst (λ (x : Result Tally Halt). BreakEnding bytes t types places s rs open_marks totals fr (Asks open_marks totals) x u us) is (E.by types places open_marks totals B)
@@ -164,11 +166,11 @@ module _ {bytes t s rs : List ℕ} {fr : Frame} {break_if : Option ExpressionHan
         }
 
         module _ (o : b ≡ false) where
-          stands : {types places open_marks totals : List ℕ} → Branched bytes t types places u us open_marks totals fr tally.sum tally.visits
+          stands : {types : List ℕ} {places : MarkPlaces} {open_marks : List ℕ} {totals : MarkTotals} → Branched bytes t types places u us open_marks totals fr tally.sum tally.visits
               → Standing bytes t types places x xs open_marks totals fr.function.0 (fr.at + 4) (fr.held + context_in u us fr.at) tally.sum tally.visits
           stands L = join_standing L.standing (omega (arith, L.low)) J (fr.held + context_in u us fr.at) refl L.first_fine o
 
-          working : {types places open_marks totals : List ℕ} → Branched bytes t types places u us open_marks totals fr tally.sum tally.visits → context_in x xs (fr.at + 4) ≤ 2 * max_pieces
+          working : {types : List ℕ} {places : MarkPlaces} {open_marks : List ℕ} {totals : MarkTotals} → Branched bytes t types places u us open_marks totals fr tally.sum tally.visits → context_in x xs (fr.at + 4) ≤ 2 * max_pieces
           working L =
               omega (
                 arith,
@@ -181,7 +183,7 @@ module _ {bytes t s rs : List ℕ} {fr : Frame} {break_if : Option ExpressionHan
           pub pass_tidy : Memory x xs × (counted (read x xs) ≤ most)
           pass_tidy = let L = left in let S = stands L in (S.ready.memory, omega (arith, S.ready.owned, working L, L.few))
 
-          ended : {types places open_marks totals : List ℕ} (B : Branched bytes t types places s rs open_marks totals fr sum visits) {v vs : List ℕ} → Tidied x xs v vs
+          ended : {types : List ℕ} {places : MarkPlaces} {open_marks : List ℕ} {totals : MarkTotals} (B : Branched bytes t types places s rs open_marks totals fr sum visits) {v vs : List ℕ} → Tidied x xs v vs
               → PassEnded bytes t types places s rs open_marks totals fr
               (end_pass m (frame_of s rs fr) break_if (context_at (read s rs) fr.at) (context_at (read s rs) (fr.at + 4))
               (state_in bytes t s rs open_marks totals fr.function.0 (fr.at + 4 + 4) visits))

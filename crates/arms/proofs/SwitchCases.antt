@@ -27,6 +27,8 @@ use Rattle.memory.specs.Layout.{stack_slot}
 use Rattle.memory.specs.Memory.{read, sum_from, context_at}
 use Rattle.memory.specs.Stretches.{four_set}
 use Rattle.memory.proofs.Runs.{context_pieces}
+use Rattle.marks.specs.declared.places.MarkPlaces.{MarkPlaces}
+use Rattle.marks.specs.declared.totals.MarkTotals.{MarkTotals}
 use Rattle.marks.specs.Ray.{held_count, held_number}
 use Rattle.marks.proofs.Rays.{held_block}
 use Rattle.state.specs.State.{place_of}
@@ -55,7 +57,7 @@ use Rattle.arms.specs.Switches.{Casing, with_case, CaseJoined, CaseEnding, CaseE
 use Rattle.arms.proofs.Switching.{beside_saved}
 
 -- n cases are left, and give the whole; the others are joined above the statement's context
-pub record CasesLeft (bytes t types places s rs open_marks totals : List ℕ) (fr : Frame) (cases : List SwitchCase) (start n : ℕ) (any : Bool) (sum visits : ℕ) (u us open_after totals-after : List ℕ) : Type 0 where
+pub record CasesLeft (bytes t types : List ℕ) (places : MarkPlaces) (s rs open_marks : List ℕ) (totals : MarkTotals) (fr : Frame) (cases : List SwitchCase) (start n : ℕ) (any : Bool) (sum visits : ℕ) (u us open_after : List ℕ) (totals-after : MarkTotals) : Type 0 where
   pub switched : Switched bytes t types places u us open_after totals-after fr sum visits
   pub contains : contains_context (context_at (read u us) (fr.at + 4)) (context_at (read u us) fr.at) ≡ true
   pub beside : Beside bytes t fr.function.0 (fr.at + 4) s rs open_marks u us open_after
@@ -66,7 +68,7 @@ pub record CasesLeft (bytes t types places s rs open_marks totals : List ℕ) (f
       ≡ add_cases (block_in bytes t fr.function.0) (frame_of s rs fr) (context_at (read s rs) fr.at) cases (length cases) false
       (state_in bytes t s rs open_marks totals fr.function.0 fr.at start)
 
-module _ {bytes t types places s rs open_marks totals : List ℕ} {fr : Frame} {b : BlockHandle} {row : Kinded} {sum visits : ℕ}
+module _ {bytes t types : List ℕ} {places : MarkPlaces} {s rs open_marks : List ℕ} {totals : MarkTotals} {fr : Frame} {b : BlockHandle} {row : Kinded} {sum visits : ℕ}
     (A : Arms bytes t types places s rs open_marks totals fr b row sum visits) where
   abbrev m : Module
   m = module_of bytes t
@@ -101,7 +103,7 @@ module _ {bytes t types places s rs open_marks totals : List ℕ} {fr : Frame} {
   abbrev Switching : Out StatementReq
   Switching = add_switch m block frame (o 0) cases begun
 
-  abbrev Left : (n : ℕ) (any : Bool) (m v : ℕ) (u us open_after totals-after : List ℕ) → Type 0
+  abbrev Left : (n : ℕ) (any : Bool) (m v : ℕ) (u us open_after : List ℕ) (totals-after : MarkTotals) → Type 0
   Left n any m v u us open_after totals-after = CasesLeft bytes t types places s rs open_marks totals fr cases visits n any m v u us open_after totals-after
 
   low : stack_slot ≤ at
@@ -158,7 +160,7 @@ module _ {bytes t types places s rs open_marks totals : List ℕ} {fr : Frame} {
       }
 
   -- where n cases are left
-  module _ {n : ℕ} {any : Bool} {m' v : ℕ} {u us open-1 totals-1 : List ℕ} (C : Left n any m' v u us open-1 totals-1) where
+  module _ {n : ℕ} {any : Bool} {m' v : ℕ} {u us open-1 : List ℕ} {totals-1 : MarkTotals} (C : Left n any m' v u us open-1 totals-1) where
     abbrev st : State
     st = state_in bytes t u us open-1 totals-1 f (at + 4) v
 
@@ -251,7 +253,7 @@ module _ {bytes t types places s rs open_marks totals : List ℕ} {fr : Frame} {
         halts place h = sym (switch_halt m block frame (o 0) cases begun (h ∙ from_rest))
 
         -- the case was walked
-        module _ {r : Result Answer Halt} {w ws open-2 totals-2 : List ℕ}
+        module _ {r : Result Answer Halt} {w ws open-2 : List ℕ} {totals-2 : MarkTotals}
             (E : BlockEnds bytes t types places u us open-1 totals-1 f at (at + 8) (outside + more) (outside + more + context_in u us at) m' (Code (at + 8) (outside + more)) r w ws open-2 totals-2) where
           walked : BlockEnds bytes t types places u us open-1 totals-1 f at (at + 4 + 4) held (held + context_in u us at) m' (Code (at + 4 + 4) held) r w ws open-2 totals-2
           walked =
@@ -349,31 +351,31 @@ module _ {bytes t types places s rs open_marks totals : List ℕ} {fr : Frame} {
                   }
 
 -- how the walk of the cases began: the context was copied, in the slots rs, and counted
-pub record CasesBegan (bytes t types places s rs open_marks totals : List ℕ) (fr : Frame) (b : BlockHandle) (row : Kinded) (sum visits outside : ℕ) (ss : List ℕ) : Type 0 where
+pub record CasesBegan (bytes t types : List ℕ) (places : MarkPlaces) (s rs open_marks : List ℕ) (totals : MarkTotals) (fr : Frame) (b : BlockHandle) (row : Kinded) (sum visits outside : ℕ) (ss : List ℕ) : Type 0 where
   pub arms : Arms bytes t types places s rs open_marks totals fr b row sum visits
   pub kind : row.kind ≡ 3
   pub copied : ss ≡ four_set rs (fr.at + 4) (get_or rs fr.at 0) (get_or rs (fr.at + 1) 0) (get_or rs (fr.at + 2) 0) (get_or rs (fr.at + 3) 0)
   pub outside_is : outside ≡ fr.held + sum_from (read s rs) fr.at 4
 
 -- n cases are left, from wherever it began
-pub record CasesGo (bytes t types places s ss open_marks totals : List ℕ) (fr : Frame) (row : Kinded) (sum visits outside n : ℕ) (any : Bool) (m v : ℕ) (u us open_after totals-after : List ℕ) : Type 0 where
+pub record CasesGo (bytes t types : List ℕ) (places : MarkPlaces) (s ss open_marks : List ℕ) (totals : MarkTotals) (fr : Frame) (row : Kinded) (sum visits outside n : ℕ) (any : Bool) (m v : ℕ) (u us open_after : List ℕ) (totals-after : MarkTotals) : Type 0 where
   pub by : (b : BlockHandle) (rs : List ℕ) → CasesBegan bytes t types places s rs open_marks totals fr b row sum visits outside ss
       → CasesLeft bytes t types places s rs open_marks totals fr (tab (operand_at bytes row 1) (case_of (operand_at bytes row))) visits n any m v u us open_after totals-after
 
-pub began : {bytes t types places s rs open_marks totals : List ℕ} {fr : Frame} {b : BlockHandle} {row : Kinded} {sum visits r : ℕ} {ss : List ℕ}
+pub began : {bytes t types : List ℕ} {places : MarkPlaces} {s rs open_marks : List ℕ} {totals : MarkTotals} {fr : Frame} {b : BlockHandle} {row : Kinded} {sum visits r : ℕ} {ss : List ℕ}
     → Arms bytes t types places s rs open_marks totals fr b row sum visits → row.kind ≡ 3
     → ss ≡ four_set rs (fr.at + 4) (get_or rs fr.at 0) (get_or rs (fr.at + 1) 0) (get_or rs (fr.at + 2) 0) (get_or rs (fr.at + 3) 0)
     → r ≡ sum_from (read s rs) fr.at 4
     → CasesBegan bytes t types places s rs open_marks totals fr b row sum visits (fr.held + r) ss
 began {fr = fr} A kind e w = record { arms = A; kind = kind; copied = e; outside_is = ap (λ (x : ℕ). fr.held + x) w }
 
-module _ {bytes t types places s ss open_marks totals : List ℕ} {fr : Frame} {row : Kinded} {sum visits outside : ℕ} where
+module _ {bytes t types : List ℕ} {places : MarkPlaces} {s ss open_marks : List ℕ} {totals : MarkTotals} {fr : Frame} {row : Kinded} {sum visits outside : ℕ} where
   pub cases_begin : {n : ℕ} → n ≡ operand_at bytes row 1 → CasesGo bytes t types places s ss open_marks totals fr row sum visits outside n false sum visits s ss open_marks totals
   cases_begin is = record { by = λ b rs G. cases_start G.arms G.copied is }
 
-  module _ {n : ℕ} {any : Bool} {m v : ℕ} {u us open-1 totals-1 : List ℕ}
+  module _ {n : ℕ} {any : Bool} {m v : ℕ} {u us open-1 : List ℕ} {totals-1 : MarkTotals}
       (I : CasesGo bytes t types places s ss open_marks totals fr row sum visits outside n any m v u us open-1 totals-1) where
-    pub cases_next : {more k body : ℕ} {r : Result Answer Halt} {w ws open-2 totals-2 : List ℕ} {tally : Tally} {c : Bool} {l : Bool} {x xs : List ℕ} {required : Bool}
+    pub cases_next : {more k body : ℕ} {r : Result Answer Halt} {w ws open-2 : List ℕ} {totals-2 : MarkTotals} {tally : Tally} {c : Bool} {l : Bool} {x xs : List ℕ} {required : Bool}
         → more ≡ sum_from (read u us) (fr.at + 4) 4 → body ≡ operand_at bytes row (3 + 2 * k) → n ≡ suc k
         → BlockEnds bytes t types places u us open-1 totals-1 fr.function.0 fr.at (fr.at + 8) (outside + more) (outside + more + context_in u us fr.at) m
         (block_in bytes t fr.function.0 body (outside + more) (context_at (read u us) fr.at) false (state_in bytes t u us open-1 totals-1 fr.function.0 (fr.at + 8) v))

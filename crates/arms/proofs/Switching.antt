@@ -28,6 +28,8 @@ use Rattle.memory.specs.Memory.{read, counted, context_at, Memory, Tidied}
 use Rattle.memory.specs.Want.{asked, Wants, want_of}
 use Rattle.memory.proofs.Slots.{read_at, read-long, asked-slot}
 use Rattle.memory.proofs.Runs.{context_same}
+use Rattle.marks.specs.declared.places.MarkPlaces.{MarkPlaces}
+use Rattle.marks.specs.declared.totals.MarkTotals.{MarkTotals}
 use Rattle.state.specs.State.{place_of}
 use Rattle.state.specs.Ready.{Ready, Ended, Ending, Ends}
 use Rattle.state.specs.Frame.{frame_of, Apart}
@@ -118,7 +120,7 @@ beside_saved {at = at} {c = c} {s = s} {rs = rs} low d = record {
   marks = λ k a. refl;
 }
 
-module _ {bytes t types places s rs open_marks totals : List ℕ} {fr : Frame} {sum visits : ℕ} (W : Switched bytes t types places s rs open_marks totals fr sum visits) where
+module _ {bytes t types : List ℕ} {places : MarkPlaces} {s rs open_marks : List ℕ} {totals : MarkTotals} {fr : Frame} {sum visits : ℕ} (W : Switched bytes t types places s rs open_marks totals fr sum visits) where
   abbrev at : ℕ
   at = fr.at
 

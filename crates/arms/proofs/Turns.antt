@@ -20,6 +20,8 @@ use Rattle.memory.specs.Layout.{stack_slot}
 use Rattle.memory.specs.Memory.{read, sum_from, context_at, Memory}
 use Rattle.memory.specs.Memory as memory
 use Rattle.memory.proofs.Runs.{context_pieces}
+use Rattle.marks.specs.declared.places.MarkPlaces.{MarkPlaces}
+use Rattle.marks.specs.declared.totals.MarkTotals.{MarkTotals}
 use Rattle.state.specs.Frame.{frame_of}
 use Rattle.state.specs.declared.answer.Place.TheVariants as place
 use Rattle.state.specs.declared.answer.Tally.{Tally}
@@ -59,7 +61,7 @@ beside_dropped {k = k} {s = s} {rs = rs} {u = u} {us = us} low d = record {
         ap (λ (ps : List PartReq). get_or ps j none) (d.reads ∙ ap (λ (ps : List PartReq). memory.with_context ps (k + 4) empty_context) (context_again (read s rs) k))
         ∙ put_below (read s rs) (k + 4) empty_context j l
 
-module _ {bytes t types places s rs open_marks totals : List ℕ} {fr : Frame} {b body continuing : BlockHandle} {sum visits : ℕ}
+module _ {bytes t types : List ℕ} {places : MarkPlaces} {s rs open_marks : List ℕ} {totals : MarkTotals} {fr : Frame} {b body continuing : BlockHandle} {sum visits : ℕ}
     (T : Turning bytes t types places s rs open_marks totals fr b body continuing sum visits) where
   abbrev f : ℕ
   f = fr.function.0
@@ -93,7 +95,7 @@ module _ {bytes t types places s rs open_marks totals : List ℕ} {fr : Frame} {
     turns_fit_2 = omega (arith, held_is, T.few, T.working_few)
 
     -- a turn, where n are left
-    module _ {n v k : ℕ} {u us open-1 totals-1 : List ℕ} (L : TurnsLeft bytes t types places s rs open_marks totals fr b body continuing visits n v k u us open-1 totals-1) where
+    module _ {n v k : ℕ} {u us open-1 : List ℕ} {totals-1 : MarkTotals} (L : TurnsLeft bytes t types places s rs open_marks totals fr b body continuing visits n v k u us open-1 totals-1) where
       low : stack_slot ≤ at + 4
       low = omega (arith, T.low)
 
@@ -157,7 +159,7 @@ module _ {bytes t types places s rs open_marks totals : List ℕ} {fr : Frame} {
             ∙ ap (λ (h : ℕ). add_pair (block_in bytes t f) body continuing h (context_at (read u us) (at + 4)) true start) held_is
             ∙ ap (λ (d : RequiredContext). add_pair (block_in bytes t f) body continuing Held d true start) working-same
 
-        module _ {r : Result Answer Halt} {w ws open-2 totals-2 : List ℕ} (E : PairEnds bytes t types places u us open-1 totals-1 f (at + 4) (at + 8) (fr.held + a + c) Pair r w ws open-2 totals-2) where
+        module _ {r : Result Answer Halt} {w ws open-2 : List ℕ} {totals-2 : MarkTotals} (E : PairEnds bytes t types places u us open-1 totals-1 f (at + 4) (at + 8) (fr.held + a + c) Pair r w ws open-2 totals-2) where
           ending : {q : Result Answer Halt} → r ≡ q → PairEnding bytes t types places u us open-1 totals-1 f (at + 4) (at + 8) (fr.held + a + c) Pair q w ws open-2 totals-2
           ending is = subst (λ (q : Result Answer Halt). PairEnding bytes t types places u us open-1 totals-1 f (at + 4) (at + 8) (fr.held + a + c) Pair q w ws open-2 totals-2) is E.by
 

@@ -24,6 +24,8 @@ use Rattle.walk.proofs.Bind as bind
 use Rattle.sound.proofs.There.{function_valid}
 use Rattle.sound.proofs.Walks.{module_valid}
 use Rattle.memory.specs.Memory.{Tidied}
+use Rattle.marks.specs.declared.places.MarkPlaces.{MarkPlaces}
+use Rattle.marks.specs.declared.totals.MarkTotals.{MarkTotals}
 use Rattle.marks.specs.Ray.{StatementIn}
 use Rattle.marks.proofs.Placed.{at_function}
 use Rattle.state.specs.Frame.{frame_of}
@@ -55,14 +57,13 @@ statement_there {bytes} {t} {f} {b} {n} p =
     omega (arith, p.high, range, statements, statements-are t f (row_at t f) refl bytes)
 
 -- one visit more
-later : {bytes t types places s rs open_marks totals : List ℕ} {f at held sum visits : ℕ} → Standing bytes t types places s rs open_marks totals f at held sum visits → visits < max_visits
+later : {bytes t types : List ℕ} {places : MarkPlaces} {s rs open_marks : List ℕ} {totals : MarkTotals} {f at held sum visits : ℕ} → Standing bytes t types places s rs open_marks totals f at held sum visits → visits < max_visits
     → Standing bytes t types places s rs open_marks totals f at held sum (visits + 1)
 later S l = record {
   ready = S.ready;
   typed = S.typed;
   placed = S.placed;
   open_long = S.open_long;
-  totals_long = S.totals_long;
   totals-sum = S.totals-sum;
   unwalked = S.unwalked;
   proper = record {
@@ -78,13 +79,13 @@ later S l = record {
 }
 
 -- 16 can be asked of what an arm has left
-pub last_asks : {bytes t types places s rs open_marks totals : List ℕ} {fr : Frame} {total : Out Bool} (r : Result Answer Halt) {u us open_after totals-after : List ℕ}
+pub last_asks : {bytes t types : List ℕ} {places : MarkPlaces} {s rs open_marks : List ℕ} {totals : MarkTotals} {fr : Frame} {total : Out Bool} (r : Result Answer Halt) {u us open_after : List ℕ} {totals-after : MarkTotals}
     → StatementEnds bytes t types places s rs open_marks totals fr total (λ b. b) r u us open_after totals-after → LastAsked u us fr r
 last_asks (Ok a) E = record { by = ready-counting E.by.standing.ready }
 last_asks (Err stop) E = record { by = tt }
 
 -- the same visit, from a memory that means the same
-moved : {bytes t types places s rs v vs open_marks totals : List ℕ} {fr : Frame} {total other : Out Bool} (r : Result Answer Halt) {u us open_after totals-after : List ℕ}
+moved : {bytes t types : List ℕ} {places : MarkPlaces} {s rs v vs open_marks : List ℕ} {totals : MarkTotals} {fr : Frame} {total other : Out Bool} (r : Result Answer Halt) {u us open_after : List ℕ} {totals-after : MarkTotals}
     → Beside bytes t fr.function.0 fr.at v vs open_marks s rs open_marks → total ≡ other → VisitEnds bytes t types places s rs open_marks totals fr total r u us open_after totals-after
     → VisitEnds bytes t types places v vs open_marks totals fr other r u us open_after totals-after
 moved {fr = fr} (Ok a) B e E =
@@ -99,7 +100,7 @@ moved {fr = fr} (Ok a) B e E =
     }
 moved (Err stop) B e E = record { by = E.by ∙ e }
 
-module _ {bytes t types places s rs open_marks totals : List ℕ} {fr : Frame} {b : BlockHandle} {sum visits : ℕ} (Q : Visits bytes t types places s rs open_marks totals fr b sum visits) where
+module _ {bytes t types : List ℕ} {places : MarkPlaces} {s rs open_marks : List ℕ} {totals : MarkTotals} {fr : Frame} {b : BlockHandle} {sum visits : ℕ} (Q : Visits bytes t types places s rs open_marks totals fr b sum visits) where
   abbrev m : Module
   m = module_of bytes t
 
@@ -115,7 +116,7 @@ module _ {bytes t types places s rs open_marks totals : List ℕ} {fr : Frame} {
   abbrev total : Out Bool
   total = visit_statement m (add_function m) (block_in bytes t f) (frame_of s rs fr) st
 
-  abbrev Ends : Result Answer Halt → (u us open_after totals-after : List ℕ) → Type 0
+  abbrev Ends : Result Answer Halt → (u us open_after : List ℕ) (totals-after : MarkTotals) → Type 0
   Ends r u us open_after totals-after = VisitEnds bytes t types places s rs open_marks totals fr total r u us open_after totals-after
 
   pub visit_counting : Counting s rs fr.at fr.held sum
@@ -167,7 +168,7 @@ module _ {bytes t types places s rs open_marks totals : List ℕ} {fr : Frame} {
             is = is;
           }
 
-      pub visit_ends : {row : Kinded} (r q : Result Answer Halt) {v vs w ws open_after totals-after : List ℕ} → row ≡ statement_row bytes t f fr.statement
+      pub visit_ends : {row : Kinded} (r q : Result Answer Halt) {v vs w ws open_after : List ℕ} {totals-after : MarkTotals} → row ≡ statement_row bytes t f fr.statement
           → StatementEnds bytes t types places u us open_marks totals fr
           (marked m (frame_of u us fr) (add_statement m (add_function m) (block_in bytes t f) (frame_of u us fr) (statement_of row.kind (operand_at bytes row)) (state_in bytes t u us open_marks totals f fr.at (visits + 1))))
           (λ b. b) r v vs open_after totals-after

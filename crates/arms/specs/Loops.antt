@@ -16,6 +16,8 @@ use Rattle.walk.specs.Statement.{holding, ask_optional, merged, turns}
 use Rattle.walk.specs.Statement as walk
 use Rattle.memory.specs.Layout.{stack_slot, most, room}
 use Rattle.memory.specs.Memory.{read, counted, context_at, Memory, Tidied}
+use Rattle.marks.specs.declared.places.MarkPlaces.{MarkPlaces}
+use Rattle.marks.specs.declared.totals.MarkTotals.{MarkTotals}
 use Rattle.state.specs.State.{place_of}
 use Rattle.state.specs.Frame.{frame_of}
 use Rattle.state.specs.declared.frame.Frame.{Frame}
@@ -40,34 +42,34 @@ end_pass m fr break_if before walked st =
 -- what it asks of the memory, for some types, places, marks and totals
 pub record Passing (bytes t s rs : List ℕ) (fr : Frame) (break_if : Option ExpressionHandle) (sum visits : ℕ) : Type 0 where
   pub types : List ℕ
-  pub places : List ℕ
+  pub places : MarkPlaces
   pub open_marks : List ℕ
-  pub totals : List ℕ
+  pub totals : MarkTotals
   pub branched : Branched bytes t types places s rs open_marks totals fr sum visits
   pub there : MaybeBelow (length (function_at (module_of bytes t) fr.function.0).expressions) break_if
 
 -- `break_if` was asked as `total` says: the contexts of both blocks are as they were
-pub record BreakEnded (bytes t types places s rs open_marks totals : List ℕ) (fr : Frame) (total : Out (Unit {0})) (visits sum : ℕ) (u us : List ℕ) : Type 0 where
+pub record BreakEnded (bytes t types : List ℕ) (places : MarkPlaces) (s rs open_marks : List ℕ) (totals : MarkTotals) (fr : Frame) (total : Out (Unit {0})) (visits sum : ℕ) (u us : List ℕ) : Type 0 where
   pub is : went (state_in bytes t u us open_marks totals fr.function.0 fr.at visits) tt ≡ total
   pub branched : Branched bytes t types places u us open_marks totals fr sum visits
   pub first : context_at (read u us) (fr.at + 4) ≡ context_at (read s rs) (fr.at + 4)
   pub second : context_at (read u us) (fr.at + 4 + 4) ≡ context_at (read s rs) (fr.at + 4 + 4)
   pub beside : Beside bytes t fr.function.0 fr.at s rs open_marks u us open_marks
 
-abbrev pub BreakEnding : (bytes t types places s rs open_marks totals : List ℕ) → Frame → Out (Unit {0}) → Result Tally Halt → (u us : List ℕ) → Type 0
+abbrev pub BreakEnding : (bytes t types : List ℕ) (places : MarkPlaces) (s rs open_marks : List ℕ) (totals : MarkTotals) → Frame → Out (Unit {0}) → Result Tally Halt → (u us : List ℕ) → Type 0
 BreakEnding bytes t types places s rs open_marks totals fr total (Ok tally) u us =
     BreakEnded bytes t types places s rs open_marks totals fr total tally.visits tally.sum u us
 BreakEnding bytes t types places s rs open_marks totals fr total (Err h) u us = halt (number h.refusal) (place_of h.place) ≡ total
 
 pub record BreakEnds (bytes t s rs : List ℕ) (fr : Frame) (break_if : Option ExpressionHandle) (sum visits : ℕ) (r : Result Tally Halt) (u us : List ℕ) : Type 0 where
-  pub by : (types places open_marks totals : List ℕ) → Branched bytes t types places s rs open_marks totals fr sum visits
+  pub by : (types : List ℕ) (places : MarkPlaces) (open_marks : List ℕ) (totals : MarkTotals) → Branched bytes t types places s rs open_marks totals fr sum visits
       → BreakEnding bytes t types places s rs open_marks totals fr
       (ask_optional (module_of bytes t) (holding (context_in s rs (fr.at + 4) + context_in s rs (fr.at + 4 + 4)) (frame_of s rs fr)) break_if all
       (state_in bytes t s rs open_marks totals fr.function.0 fr.at visits))
       r u us
 
 -- the first pass ended as `total` says: the working context stands above the statement's
-pub record PassEnded (bytes t types places s rs open_marks totals : List ℕ) (fr : Frame) (total : Out RequiredContext) (visits sum : ℕ) (u us : List ℕ) : Type 0 where
+pub record PassEnded (bytes t types : List ℕ) (places : MarkPlaces) (s rs open_marks : List ℕ) (totals : MarkTotals) (fr : Frame) (total : Out RequiredContext) (visits sum : ℕ) (u us : List ℕ) : Type 0 where
   pub is : went (state_in bytes t u us open_marks totals fr.function.0 (fr.at + 4) visits) (context_at (read u us) fr.at) ≡ total
   pub standing : Standing bytes t types places u us open_marks totals fr.function.0 (fr.at + 4) (fr.held + context_in u us fr.at) sum visits
   pub working_few : context_in u us (fr.at + 4) ≤ 2 * max_pieces
@@ -75,20 +77,20 @@ pub record PassEnded (bytes t types places s rs open_marks totals : List ℕ) (f
   pub roomy : Room u room
   pub beside : Beside bytes t fr.function.0 fr.at s rs open_marks u us open_marks
 
-abbrev pub PassEnding : (bytes t types places s rs open_marks totals : List ℕ) → Frame → Out RequiredContext → Result Tally Halt → (u us : List ℕ) → Type 0
+abbrev pub PassEnding : (bytes t types : List ℕ) (places : MarkPlaces) (s rs open_marks : List ℕ) (totals : MarkTotals) → Frame → Out RequiredContext → Result Tally Halt → (u us : List ℕ) → Type 0
 PassEnding bytes t types places s rs open_marks totals fr total (Ok tally) u us =
     PassEnded bytes t types places s rs open_marks totals fr total tally.visits tally.sum u us
 PassEnding bytes t types places s rs open_marks totals fr total (Err h) u us = halt (number h.refusal) (place_of h.place) ≡ total
 
 pub record PassEnds (bytes t s rs : List ℕ) (fr : Frame) (break_if : Option ExpressionHandle) (sum visits : ℕ) (r : Result Tally Halt) (u us : List ℕ) : Type 0 where
-  pub by : (types places open_marks totals : List ℕ) → Branched bytes t types places s rs open_marks totals fr sum visits
+  pub by : (types : List ℕ) (places : MarkPlaces) (open_marks : List ℕ) (totals : MarkTotals) → Branched bytes t types places s rs open_marks totals fr sum visits
       → PassEnding bytes t types places s rs open_marks totals fr
       (end_pass (module_of bytes t) (frame_of s rs fr) break_if (context_at (read s rs) fr.at) (context_at (read s rs) (fr.at + 4))
       (state_in bytes t s rs open_marks totals fr.function.0 (fr.at + 4 + 4) visits))
       r u us
 
 -- What the turns ask: the statement's context at `at`, the working one above it. A statement of the block b holds body and continuing.
-pub record Turning (bytes t types places s rs open_marks totals : List ℕ) (fr : Frame) (b body continuing : BlockHandle) (sum visits : ℕ) : Type 0 where
+pub record Turning (bytes t types : List ℕ) (places : MarkPlaces) (s rs open_marks : List ℕ) (totals : MarkTotals) (fr : Frame) (b body continuing : BlockHandle) (sum visits : ℕ) : Type 0 where
   pub standing : Standing bytes t types places s rs open_marks totals fr.function.0 (fr.at + 4) (fr.held + context_in s rs fr.at) sum visits
   pub low : stack_slot ≤ fr.at
   pub block : b < (row_at t fr.function.0).blocks
@@ -109,7 +111,7 @@ turns_in bytes t s rs fr body continuing n =
     turns (block_in bytes t fr.function.0) (frame_of s rs fr) (fr.held + context_in s rs fr.at + context_in s rs (fr.at + 4)) body continuing (context_at (read s rs) (fr.at + 4)) n
 
 -- Turns that began in s rs have come to u us, where at most n are left, and these give the whole. Both contexts are as they were.
-pub record TurnsLeft (bytes t types places s rs open_marks totals : List ℕ) (fr : Frame) (b body continuing : BlockHandle) (begun n visits sum : ℕ) (u us open_after totals-after : List ℕ) : Type 0 where
+pub record TurnsLeft (bytes t types : List ℕ) (places : MarkPlaces) (s rs open_marks : List ℕ) (totals : MarkTotals) (fr : Frame) (b body continuing : BlockHandle) (begun n visits sum : ℕ) (u us open_after : List ℕ) (totals-after : MarkTotals) : Type 0 where
   pub turning : Turning bytes t types places u us open_after totals-after fr b body continuing sum visits
   pub beside : Beside bytes t fr.function.0 (fr.at + 4 + 4) s rs open_marks u us open_after
   pub rest : turns_in bytes t s rs fr body continuing n (state_in bytes t u us open_after totals-after fr.function.0 (fr.at + 4) visits)

@@ -10,6 +10,8 @@ use Rattle.walk.specs.Statement.{end_switch}
 use Rattle.walk.specs.Proper.{FineContext}
 use Rattle.memory.specs.Layout.{stack_slot, room, most}
 use Rattle.memory.specs.Memory.{read, counted, context_at, Memory}
+use Rattle.marks.specs.declared.places.MarkPlaces.{MarkPlaces}
+use Rattle.marks.specs.declared.totals.MarkTotals.{MarkTotals}
 use Rattle.state.specs.Frame.{frame_of}
 use Rattle.state.specs.declared.frame.Frame.{Frame}
 use Rattle.state.specs.declared.answer.Halt.{Halt}
@@ -44,7 +46,7 @@ pub record CaseEnds (s rs : List ℕ) (k : ℕ) (r : Bool) (u us : List ℕ) : T
   pub by : CaseEnding s rs k r u us
 
 -- What the end of a Switch finds: the statement's context, and above it the cases joined.
-pub record Switched (bytes t types places s rs open_marks totals : List ℕ) (fr : Frame) (sum visits : ℕ) : Type 0 where
+pub record Switched (bytes t types : List ℕ) (places : MarkPlaces) (s rs open_marks : List ℕ) (totals : MarkTotals) (fr : Frame) (sum visits : ℕ) : Type 0 where
   pub standing : Standing bytes t types places s rs open_marks totals fr.function.0 (fr.at + 4) (fr.held + context_in s rs fr.at) sum visits
   pub low : stack_slot ≤ fr.at
   pub outer_fine : FineContext (module_of bytes t) fr.function.0 (context_at (read s rs) fr.at)
@@ -54,15 +56,15 @@ pub record Switched (bytes t types places s rs open_marks totals : List ℕ) (fr
 -- with some marks, totals and tables
 pub record EndingSwitch (bytes t s rs : List ℕ) (fr : Frame) (selector sum visits : ℕ) : Type 0 where
   pub types : List ℕ
-  pub places : List ℕ
+  pub places : MarkPlaces
   pub open_marks : List ℕ
-  pub totals : List ℕ
+  pub totals : MarkTotals
   pub switched : Switched bytes t types places s rs open_marks totals fr sum visits
   pub there : selector < length (function_at (module_of bytes t) fr.function.0).expressions
 
 -- it ends as the definition says, whatever those are
 pub record SwitchEnds (bytes t s rs : List ℕ) (fr : Frame) (selector : ℕ) (required : Bool) (sum visits : ℕ) (r : Result Answer Halt) (u us : List ℕ) : Type 0 where
-  pub by : (types places open_marks totals : List ℕ) → Switched bytes t types places s rs open_marks totals fr sum visits
+  pub by : (types : List ℕ) (places : MarkPlaces) (open_marks : List ℕ) (totals : MarkTotals) → Switched bytes t types places s rs open_marks totals fr sum visits
       → StatementEnds bytes t types places s rs open_marks totals fr
       (end_switch (module_of bytes t) (frame_of s rs fr) selector (context_at (read s rs) fr.at) required
       (state_in bytes t s rs open_marks totals fr.function.0 (fr.at + 4) visits))

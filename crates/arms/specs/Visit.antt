@@ -7,6 +7,8 @@ use Rattle.access.specs.Access.{operand_at, statement_row}
 use Rattle.access.specs.declared.kinded.Kinded.{Kinded}
 use Rattle.walk.specs.State.{Out, went, at_statement, counted, ◌>>=◌, ◌>>◌}
 use Rattle.walk.specs.StatementReq.{StatementReq, mark}
+use Rattle.marks.specs.declared.places.MarkPlaces.{MarkPlaces}
+use Rattle.marks.specs.declared.totals.MarkTotals.{MarkTotals}
 use Rattle.marks.specs.Places.{Places}
 use Rattle.state.specs.Ready.{WasRead}
 use Rattle.state.specs.Frame.{frame_of}
@@ -24,7 +26,7 @@ mark_when true b = mark b ∷ []
 mark_when false b = []
 
 -- the row is the statement's, and its marks have room in the buffer
-pub record Marking (t places open_marks : List ℕ) (fr : Frame) (row : Kinded) : Type 0 where
+pub record Marking (t : List ℕ) (places : MarkPlaces) (open_marks : List ℕ) (fr : Frame) (row : Kinded) : Type 0 where
   pub bytes : List ℕ
   pub was_read : WasRead bytes t
   pub placed : Places bytes t places
@@ -33,16 +35,16 @@ pub record Marking (t places open_marks : List ℕ) (fr : Frame) (row : Kinded) 
   pub is : row ≡ statement_row bytes t fr.function.0 fr.statement
   pub long : min_report ≤ length open_marks
 
-abbrev pub MarkingWhen : (t places open_marks : List ℕ) → Frame → Kinded → Result Answer Halt → Type 0
+abbrev pub MarkingWhen : (t : List ℕ) (places : MarkPlaces) (open_marks : List ℕ) → Frame → Kinded → Result Answer Halt → Type 0
 MarkingWhen t places open_marks fr row (Ok a) = Marking t places open_marks fr row
 MarkingWhen t places open_marks fr row (Err h) = Unit {0}
 
-pub record MarkAsked (t places open_marks : List ℕ) (fr : Frame) (row : Kinded) (r : Result Answer Halt) : Type 0 where
+pub record MarkAsked (t : List ℕ) (places : MarkPlaces) (open_marks : List ℕ) (fr : Frame) (row : Kinded) (r : Result Answer Halt) : Type 0 where
   pub by : MarkingWhen t places open_marks fr row r
 
 -- an arm that answered r, with its marks, answers q
-pub record MarkEnds (t places open_marks : List ℕ) (fr : Frame) (row : Kinded) (r q : Result Answer Halt) (open_after : List ℕ) : Type 0 where
-  pub by : (bytes types s rs before totals u us totals-after : List ℕ) (total : Out StatementReq) → fr.statement < (row_at t fr.function.0).statements
+pub record MarkEnds (t : List ℕ) (places : MarkPlaces) (open_marks : List ℕ) (fr : Frame) (row : Kinded) (r q : Result Answer Halt) (open_after : List ℕ) : Type 0 where
+  pub by : (bytes types s rs before : List ℕ) (totals : MarkTotals) (u us : List ℕ) (totals-after : MarkTotals) (total : Out StatementReq) → fr.statement < (row_at t fr.function.0).statements
       → row ≡ statement_row bytes t fr.function.0 fr.statement
       → StatementEnds bytes t types places s rs before totals fr total (leaf_req (statement_of row.kind (operand_at bytes row))) r u us open_marks totals-after
       → StatementEnds bytes t types places s rs before totals fr (marked (module_of bytes t) (frame_of s rs fr) total) (λ b. b) q u us open_after totals-after
@@ -61,6 +63,6 @@ last fr total = total >>= λ ended a. counted fr.held (at_statement fr.function.
 
 -- an arm with its marks that answered r, and 16 then, answer q
 pub record LastEnds (u us : List ℕ) (fr : Frame) (r q : Result Answer Halt) (v vs : List ℕ) : Type 0 where
-  pub by : (bytes t types places s rs open_marks totals open_after totals-after : List ℕ) (total : Out Bool)
+  pub by : (bytes t types : List ℕ) (places : MarkPlaces) (s rs open_marks : List ℕ) (totals : MarkTotals) (open_after : List ℕ) (totals-after : MarkTotals) (total : Out Bool)
       → StatementEnds bytes t types places s rs open_marks totals fr total (λ b. b) r u us open_after totals-after
       → VisitEnds bytes t types places s rs open_marks totals fr (last fr total) q v vs open_after totals-after

@@ -3,7 +3,7 @@ ghost use Rattle.arms.specs.Emit.{EmitAsked, EmitEnds};
 
 use access::file::File;
 use access::kinded::Kinded;
-use marks::places::{PLACES, place};
+use marks::places::{MarkPlaces, place};
 use marks::set::set_emit;
 use memory::layout::EXPRS;
 use memory::parts::Parts;
@@ -12,10 +12,11 @@ use state::frame::Frame;
 
 // `Emit`, with its marks: which of its expressions have a record. It is required if any has. It is not inlined: the walk calls itself,
 // and would hold its frame on every level of blocks.
+// Stays: a `World` would ask for rows of the types, which no emit looks at; a `&mut Workspace` would not say that the parts are only read.
 #[inline(never)]
 pub fn add_emit(
     file: &File,
-    places: &[u32; PLACES],
+    places: &MarkPlaces,
     parts: &Parts,
     open: &mut [u8],
     fr: Frame,

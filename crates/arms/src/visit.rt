@@ -9,7 +9,7 @@ use access::file::File;
 use access::kinded::Kinded;
 use expression::visit::allowed;
 use field::refusal::Refusal;
-use marks::places::{PLACES, place};
+use marks::places::{MarkPlaces, place};
 use marks::set::set_mark;
 use memory::parts::Parts;
 use module::kinds::StatementKind;
@@ -54,9 +54,10 @@ fn required(kind: u16, b: bool) -> bool
 }
 
 // An arm's answer, once its mark is written: whether the statement is required.
+// Stays: after a refused arm it asks nothing, where a `World` would ask that the module was read and its places and types' rows filled.
 pub fn mark_statement(
     file: &File,
-    places: &[u32; PLACES],
+    places: &MarkPlaces,
     open: &mut [u8],
     fr: Frame,
     row: Kinded,

@@ -24,7 +24,7 @@ use Rattle.memory.specs.declared.want.Want.{Want}
 use Rattle.memory.specs.Want.{asked}
 use Rattle.asks.specs.Asks.{said, HasWant, only_of, Only, Told, There, Asks}
 use Rattle.asks.specs.Ways.{field_asks, fields, ways_of, Plain}
-use Rattle.std.specs.Prelude.{Option as Optional, Some, None}
+use Rattle.std.specs.Prelude.{Option as Optional, Some}
 use Rattle.asks.specs.declared.what.Ask as declared
 use Rattle.asks.specs.declared.what.Ask.TheVariants.{Argument, Global, Local, Refuse}
 use Rattle.asks.proofs.ByKind.{by_fields}
@@ -33,10 +33,6 @@ use Rattle.asks.proofs.Reach.{arm_within}
 -- an arm that does one thing
 pub only_first : (what : declared.Ask) (j : ℕ) → j ≡ 0 → Only what j (Some what)
 only_first what j e = record { is = rw e }
-
-pub only_after : (what : declared.Ask) (j : ℕ) → (j ≡ 0 → ⊥) → Only what j None
-only_after what zero ne = absurd (ne refl)
-only_after what (suc j) ne = record { is = refl }
 
 only_told : {s rs : List ℕ} {w : Want} {what : declared.Ask} {a : Ask} {j : ℕ} {r : Optional declared.Ask} → HasWant s rs (Some what) → Only what j r → some a ≡ said s rs w (Some what) → Told s rs w (a ∷ []) j r
 only_told {s} {rs} {w} {what} {a} {j} q d e = rw d.is (go j)

@@ -29,7 +29,7 @@ use Rattle.acts.proofs.Marked.{walked_mark}
 use Rattle.leaving.specs.Leaves.{LeaveGiven, Leaves}
 use Rattle.backward.specs.Course.{Course, Passes, RowIn}
 
-module _ {bytes t : List ℕ} {f : ℕ} {types alike paths firsts s rs path : List ℕ} {n : ℕ} {x : Exits} {p : Passing} (g : Course bytes t f types alike paths firsts s rs path n x p) {b l : ℕ} {row : Kinded} (r : RowIn bytes t f b l row) where
+module _ {bytes t : List ℕ} {f : ℕ} {types alike : List ℕ} {paths : List Bool} {firsts s rs path : List ℕ} {n : ℕ} {x : Exits} {p : Passing} (g : Course bytes t f types alike paths firsts s rs path n x p) {b l : ℕ} {row : Kinded} (r : RowIn bytes t f b l row) where
   abbrev S : Scope
   S = scope_at bytes t f
 

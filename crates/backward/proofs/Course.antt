@@ -2,7 +2,7 @@
 use Prim.Native.Nat.{ℕ, ◌+◌, ◌*◌, ◌<◌, ◌≤◌}
 use native.Mathlib.Omega.{arith}
 use mathlib.Core.Path.{◌≡◌}
-use mathlib.Core.Bool.{false}
+use mathlib.Core.Bool.{Bool, false}
 use mathlib.Core.List.{List}
 use lib.ListN.{length}
 use Rattle.access.specs.declared.kinded.Kinded.{Kinded}
@@ -16,7 +16,7 @@ use Rattle.standing.specs.Passing.{Passing}
 use Rattle.standing.specs.Exits.{Exits}
 use Rattle.backward.specs.Course.{Course, RowIn}
 
-module _ {bytes t : List ℕ} {f : ℕ} {types alike paths firsts s rs path : List ℕ} {n : ℕ} {x : Exits} {p : Passing} (g : Course bytes t f types alike paths firsts s rs path n x p) where
+module _ {bytes t : List ℕ} {f : ℕ} {types alike : List ℕ} {paths : List Bool} {firsts s rs path : List ℕ} {n : ℕ} {x : Exits} {p : Passing} (g : Course bytes t f types alike paths firsts s rs path n x p) where
   pub course_on : {u ws after : List ℕ} {m : ℕ} {y : Exits} {q : Passing} → Ready (scope_at bytes t f) u ws m → Targets m y → q.full ≡ false → length after ≡ length path →
       Course bytes t f types alike paths firsts u ws after m y q
   course_on d e h l = record { world = g.world; begins = g.begins; ready = d; targets = e; going = h; long = omega (arith, g.long) }

@@ -41,7 +41,7 @@ bare_kept w l k o m n = by_test (eqb k 2) (eqb k 3)
     by_test false true = refl
     by_test false false = refl
 
-module _ {bytes t : List ℕ} {f : ℕ} {types alike paths firsts s rs path : List ℕ} {n : ℕ} {x : Exits} {p : Passing} (g : Course bytes t f types alike paths firsts s rs path n x p)
+module _ {bytes t : List ℕ} {f : ℕ} {types alike : List ℕ} {paths : List Bool} {firsts s rs path : List ℕ} {n : ℕ} {x : Exits} {p : Passing} (g : Course bytes t f types alike paths firsts s rs path n x p)
     {b l : ℕ} {row : Kinded} (r : RowIn bytes t f b l row) (marks : List ℕ) where
   abbrev S : Scope
   S = scope_at bytes t f

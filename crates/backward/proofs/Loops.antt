@@ -30,7 +30,7 @@ use Rattle.backward.specs.Course.{Course, Passes, RowIn, blocks_under, loop_tree
 use Rattle.backward.proofs.Course.{block_asks}
 use Rattle.backward.proofs.Trees.{lower_is, uses_of}
 
-module _ {bytes t : List ℕ} {f : ℕ} {types alike paths firsts s rs path : List ℕ} {n : ℕ} {x : Exits} {p : Passing} (g : Course bytes t f types alike paths firsts s rs path n x p)
+module _ {bytes t : List ℕ} {f : ℕ} {types alike : List ℕ} {paths : List Bool} {firsts s rs path : List ℕ} {n : ℕ} {x : Exits} {p : Passing} (g : Course bytes t f types alike paths firsts s rs path n x p)
     {b l : ℕ} {row : Kinded} (room : n + (3 * b + 11) ≤ length rs) (r : RowIn bytes t f b l row) (h : row.kind ≡ 4) (marks : List ℕ) where
   abbrev S : Scope
   S = scope_at bytes t f

@@ -75,7 +75,7 @@ pub record Union (S : Scope) (i : ℕ) (f : ℕ → Tree) (s rs : List ℕ) (n :
   pub passes : Passes S (cases i f) s rs n x p t us before after q
   pub going : q.full ≡ false
 
-module _ {bytes t : List ℕ} {f : ℕ} {types alike paths firsts s rs path : List ℕ} {n : ℕ} {x : Exits} {p : Passing} (g : Course bytes t f types alike paths firsts s rs path n x p)
+module _ {bytes t : List ℕ} {f : ℕ} {types alike : List ℕ} {paths : List Bool} {firsts s rs path : List ℕ} {n : ℕ} {x : Exits} {p : Passing} (g : Course bytes t f types alike paths firsts s rs path n x p)
     {b l : ℕ} {row : Kinded} (r : RowIn bytes t f b l row) (h : row.kind ≡ 3) (marks : List ℕ) where
   abbrev S : Scope
   S = scope_at bytes t f

@@ -1,5 +1,5 @@
 -- What a stretch of a pass is given, and what it comes to: a block, a statement, what has its mark, a switch's cases.
-use Rattle.std.specs.Prelude.{ℕ, ◌+◌, ◌*◌, ◌≤◌, ◌≡◌, false, cond, List, map, eqb, length}
+use Rattle.std.specs.Prelude.{ℕ, ◌+◌, ◌*◌, ◌≤◌, ◌≡◌, Bool, false, cond, List, map, eqb, length}
 use Rattle.module.specs.Module.{BlockHandle, Function}
 use Rattle.module.specs.Knot.{below}
 use Rattle.module.specs.Decode.{tab, case_of, option_of}
@@ -21,7 +21,7 @@ use Rattle.judge.specs.declared.subject.Subject.{Subject}
 use Rattle.backward.specs.declared.marked.MarkedSubject.{MarkedSubject}
 
 -- the function, the needs in memory, where the exits lead, what is carried so far, and a path that every place fits
-pub record Course (bytes t : List ℕ) (f : ℕ) (types alike paths firsts s rs path : List ℕ) (n : ℕ) (x : Exits) (p : Passing) : Type 0 where
+pub record Course (bytes t : List ℕ) (f : ℕ) (types alike : List ℕ) (paths : List Bool) (firsts s rs path : List ℕ) (n : ℕ) (x : Exits) (p : Passing) : Type 0 where
   pub world : World bytes t f types alike paths
   pub begins : Firsts (function_of bytes t f).statements firsts
   pub ready : Ready (scope_at bytes t f) s rs n

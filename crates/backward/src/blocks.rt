@@ -1,4 +1,6 @@
-// A pass over blocks and the statements that hold some, last statement first. Piece numbers change as the store is collected: a slot is read again after each call.
+// A pass over blocks and the statements that hold some, last statement first. Piece numbers change as the store is collected: a slot is read again
+// after each call.
+// Stays: n, x and p side by side. Nine of the 16 calls here give one or more of them anew, so that a struct of the three would be a literal at each.
 ghost use Rattle.std.specs.Prelude.{◌≡◌, ◌+◌, ◌-◌, ◌*◌, ◌<◌, ◌≤◌, length};
 ghost use Rattle.part.specs.PartReq.{none};
 ghost use Rattle.access.specs.Access.{operand_at};
@@ -6,14 +8,14 @@ ghost use Rattle.hold.specs.Hold.{in_slot};
 ghost use Rattle.quiet.specs.Places.{tree_of, statement_tree};
 ghost use Rattle.strays.specs.Places.{BlockOf, StatementIn};
 ghost use Rattle.standing.specs.Standing.{inside, around, cases};
-ghost use Rattle.backward.specs.Course.{CourseOf, Passes, RowInOf, blocks_under, case_block, if_tree, switch_tree, loop_tree, bare_tree};
+ghost use Rattle.backward.specs.Course.{CourseOf, Passes, blocks_under, case_block, if_tree, switch_tree, loop_tree, bare_tree};
 ghost use Rattle.judge.specs.Subject.{scope_of, function_in};
 ghost use Rattle.standing.specs.Passing.{going, outcome};
 
 use crate::marked::MarkedSubject;
 use crate::plain::pass_plain;
 use crate::slots::exchange;
-use access::kinded::Kinded;
+use crate::statement::MarkedStatement;
 use acts::marks::mark_at;
 use ends::held::{begin_loop, end_if, end_switch};
 use ends::merge::{end_loop, merge};
@@ -30,28 +32,25 @@ use standing::passing::{Exits, Passing};
 // The cases of a switch: their union stands in the last slot, none at first. The needs after the switch stand where a break leads.
 #[cycle(blocks)]
 fn pass_cases(
-    marked: &MarkedSubject,
+    statement: &MarkedStatement,
     parts: &mut Parts,
     path: &mut [u32],
     n: usize,
     x: Exits,
     p: Passing,
-    b: BlockHandle,
-    s: u32,
-    row: Kinded,
 ) -> Option<Passing>
-    requires course { CourseOf marked.now parts.old.cells parts.old.slots path.old n x (going p) }
-    requires b_in_bounds { n + (3 * b.0 + 10) ≤ length parts.old.slots }
-    requires row_in { RowInOf marked.now.subject.now b.0 s row }
-    requires kind_value { row.kind ≡ 3 }
+    requires course { CourseOf statement.now.marked.now parts.old.cells parts.old.slots path.old n x (going p) }
+    requires b_in_bounds { n + (3 * statement.now.b.0 + 10) ≤ length parts.old.slots }
+    requires kind_value { statement.now.row.kind ≡ 3 }
     requires n_value { in_slot parts.old.cells parts.old.slots (n - 1) ≡ none }
-    ensures { Passes (scope_of marked.now.subject.now) (cases (operand_at marked.now.subject.now.file.now.bytes row 1) (case_block (function_in marked.now.subject.now) marked.now.marks.now (operand_at marked.now.subject.now.file.now.bytes row))) parts.old.cells parts.old.slots n x (going p) parts.new.cells parts.new.slots path.old path.new (outcome result) }
+    ensures { Passes (scope_of statement.now.marked.now.subject.now) (cases (operand_at statement.now.marked.now.subject.now.file.now.bytes statement.now.row 1) (case_block (function_in statement.now.marked.now.subject.now) statement.now.marked.now.marks.now (operand_at statement.now.marked.now.subject.now.file.now.bytes statement.now.row))) parts.old.cells parts.old.slots n x (going p) parts.new.cells parts.new.slots path.old path.new (outcome result) }
 {
-    let count = marked.subject.file.operand(row, 1) as u32;
+    let marked = statement.marked;
+    let count = marked.subject.file.operand(statement.row, 1) as u32;
     let mut q = p;
     for i in 0..count {
         copy(&mut parts.slots, x.broke, n);
-        let case = marked.subject.file.block_operand(row, 3 + 2 * i);
+        let case = marked.subject.file.block_operand(statement.row, 3 + 2 * i);
         q = pass_around(marked, parts, path, n + 1, x, q, case)?;
         merge(parts, n, n, n - 1)?;
     }
@@ -60,88 +59,79 @@ fn pass_cases(
 
 #[cycle(blocks)]
 fn pass_switch(
-    marked: &MarkedSubject,
+    statement: &MarkedStatement,
     parts: &mut Parts,
     path: &mut [u32],
     n: usize,
     x: Exits,
     p: Passing,
-    b: BlockHandle,
-    s: u32,
-    row: Kinded,
 ) -> Option<Passing>
-    requires course { CourseOf marked.now parts.old.cells parts.old.slots path.old n x (going p) }
-    requires b_in_bounds { n + (3 * b.0 + 11) ≤ length parts.old.slots }
-    requires row_in { RowInOf marked.now.subject.now b.0 s row }
-    requires kind_value { row.kind ≡ 3 }
-    ensures { Passes (scope_of marked.now.subject.now) (inside (switch_tree (blocks_under (function_in marked.now.subject.now) marked.now.marks.now b.0) (operand_at marked.now.subject.now.file.now.bytes row))) parts.old.cells parts.old.slots n x (going p) parts.new.cells parts.new.slots path.old path.new (outcome result) }
+    requires course { CourseOf statement.now.marked.now parts.old.cells parts.old.slots path.old n x (going p) }
+    requires b_in_bounds { n + (3 * statement.now.b.0 + 11) ≤ length parts.old.slots }
+    requires kind_value { statement.now.row.kind ≡ 3 }
+    ensures { Passes (scope_of statement.now.marked.now.subject.now) (inside (switch_tree (blocks_under (function_in statement.now.marked.now.subject.now) statement.now.marked.now.marks.now statement.now.b.0) (operand_at statement.now.marked.now.subject.now.file.now.bytes statement.now.row))) parts.old.cells parts.old.slots n x (going p) parts.new.cells parts.new.slots path.old path.new (outcome result) }
 {
+    let marked = statement.marked;
     parts.slots[n] = EMPTY_PIECE;
     let y = x.in_case(n - 1);
-    let q = pass_cases(marked, parts, path, n + 1, y, p, b, s, row)?;
-    let selector = marked.subject.file.expression_operand(row, 0);
+    let q = pass_cases(statement, parts, path, n + 1, y, p)?;
+    let selector = marked.subject.file.expression_operand(statement.row, 0);
     end_switch(marked.subject.file, marked.subject.f, parts, n, selector)?;
     Some(q)
 }
 
 #[cycle(blocks)]
 fn pass_if(
-    marked: &MarkedSubject,
+    statement: &MarkedStatement,
     parts: &mut Parts,
     path: &mut [u32],
     n: usize,
     x: Exits,
     p: Passing,
-    b: BlockHandle,
-    s: u32,
-    row: Kinded,
 ) -> Option<Passing>
-    requires course { CourseOf marked.now parts.old.cells parts.old.slots path.old n x (going p) }
-    requires b_in_bounds { n + (3 * b.0 + 11) ≤ length parts.old.slots }
-    requires row_in { RowInOf marked.now.subject.now b.0 s row }
-    requires kind_value { row.kind ≡ 2 }
-    ensures { Passes (scope_of marked.now.subject.now) (inside (if_tree (blocks_under (function_in marked.now.subject.now) marked.now.marks.now b.0) (operand_at marked.now.subject.now.file.now.bytes row))) parts.old.cells parts.old.slots n x (going p) parts.new.cells parts.new.slots path.old path.new (outcome result) }
+    requires course { CourseOf statement.now.marked.now parts.old.cells parts.old.slots path.old n x (going p) }
+    requires b_in_bounds { n + (3 * statement.now.b.0 + 11) ≤ length parts.old.slots }
+    requires kind_value { statement.now.row.kind ≡ 2 }
+    ensures { Passes (scope_of statement.now.marked.now.subject.now) (inside (if_tree (blocks_under (function_in statement.now.marked.now.subject.now) statement.now.marked.now.marks.now statement.now.b.0) (operand_at statement.now.marked.now.subject.now.file.now.bytes statement.now.row))) parts.old.cells parts.old.slots n x (going p) parts.new.cells parts.new.slots path.old path.new (outcome result) }
 {
+    let marked = statement.marked;
     let last = n - 1;
     copy(&mut parts.slots, last, n);
-    let reject = marked.subject.file.block_operand(row, 2);
+    let reject = marked.subject.file.block_operand(statement.row, 2);
     let q = pass_around(marked, parts, path, n + 1, x, p, reject)?;
     exchange(&mut parts.slots, n);
-    let accept = marked.subject.file.block_operand(row, 1);
+    let accept = marked.subject.file.block_operand(statement.row, 1);
     let o = pass_around(marked, parts, path, n + 1, x, q, accept)?;
-    let condition = marked.subject.file.expression_operand(row, 0);
+    let condition = marked.subject.file.expression_operand(statement.row, 0);
     end_if(marked.subject.file, marked.subject.f, parts, n, condition)?;
     Some(o)
 }
 
 #[cycle(blocks)]
 fn pass_loop(
-    marked: &MarkedSubject,
+    statement: &MarkedStatement,
     parts: &mut Parts,
     path: &mut [u32],
     n: usize,
     x: Exits,
     p: Passing,
-    b: BlockHandle,
-    s: u32,
-    row: Kinded,
 ) -> Option<Passing>
-    requires course { CourseOf marked.now parts.old.cells parts.old.slots path.old n x (going p) }
-    requires b_in_bounds { n + (3 * b.0 + 11) ≤ length parts.old.slots }
-    requires row_in { RowInOf marked.now.subject.now b.0 s row }
-    requires kind_value { row.kind ≡ 4 }
-    ensures { Passes (scope_of marked.now.subject.now) (inside (loop_tree (blocks_under (function_in marked.now.subject.now) marked.now.marks.now b.0) s (operand_at marked.now.subject.now.file.now.bytes row))) parts.old.cells parts.old.slots n x (going p) parts.new.cells parts.new.slots path.old path.new (outcome result) }
+    requires course { CourseOf statement.now.marked.now parts.old.cells parts.old.slots path.old n x (going p) }
+    requires b_in_bounds { n + (3 * statement.now.b.0 + 11) ≤ length parts.old.slots }
+    requires kind_value { statement.now.row.kind ≡ 4 }
+    ensures { Passes (scope_of statement.now.marked.now.subject.now) (inside (loop_tree (blocks_under (function_in statement.now.marked.now.subject.now) statement.now.marked.now.marks.now statement.now.b.0) statement.now.s (operand_at statement.now.marked.now.subject.now.file.now.bytes statement.now.row))) parts.old.cells parts.old.slots n x (going p) parts.new.cells parts.new.slots path.old path.new (outcome result) }
 {
-    let l = s as usize;
-    let break_if = marked.subject.file.optional_expression(row, 2);
+    let marked = statement.marked;
+    let l = statement.s as usize;
+    let break_if = marked.subject.file.optional_expression(statement.row, 2);
     begin_loop(marked.subject.file, marked.subject.f, parts, n, l, break_if)?;
     let y = x.in_case(n - 1);
-    let continuing = marked.subject.file.block_operand(row, 1);
+    let continuing = marked.subject.file.block_operand(statement.row, 1);
     let q = pass_around(marked, parts, path, n + 1, y, p, continuing)?;
     let above = n + 1;
     copy(&mut parts.slots, n, above);
     let z = x.in_body(n - 1, n);
-    let body = marked.subject.file.block_operand(row, 0);
+    let body = marked.subject.file.block_operand(statement.row, 0);
     let o = pass_around(marked, parts, path, above + 1, z, q, body)?;
     end_loop(parts, n, l, o)
 }
@@ -149,63 +139,57 @@ fn pass_loop(
 // What has the mark of the statement s of the block b: an if, a switch or a loop.
 #[cycle(blocks)]
 fn pass_bare(
-    marked: &MarkedSubject,
+    statement: &MarkedStatement,
     parts: &mut Parts,
     path: &mut [u32],
     n: usize,
     x: Exits,
     p: Passing,
-    b: BlockHandle,
-    s: u32,
-    row: Kinded,
 ) -> Option<Passing>
-    requires course { CourseOf marked.now parts.old.cells parts.old.slots path.old n x (going p) }
-    requires b_in_bounds { n + (3 * b.0 + 11) ≤ length parts.old.slots }
-    requires row_in { RowInOf marked.now.subject.now b.0 s row }
-    requires lt_kind { (1 < row.kind) × (row.kind < 5) }
-    ensures { Passes (scope_of marked.now.subject.now) (inside (bare_tree (blocks_under (function_in marked.now.subject.now) marked.now.marks.now b.0) s row.kind (operand_at marked.now.subject.now.file.now.bytes row))) parts.old.cells parts.old.slots n x (going p) parts.new.cells parts.new.slots path.old path.new (outcome result) }
+    requires course { CourseOf statement.now.marked.now parts.old.cells parts.old.slots path.old n x (going p) }
+    requires b_in_bounds { n + (3 * statement.now.b.0 + 11) ≤ length parts.old.slots }
+    requires lt_kind { (1 < statement.now.row.kind) × (statement.now.row.kind < 5) }
+    ensures { Passes (scope_of statement.now.marked.now.subject.now) (inside (bare_tree (blocks_under (function_in statement.now.marked.now.subject.now) statement.now.marked.now.marks.now statement.now.b.0) statement.now.s statement.now.row.kind (operand_at statement.now.marked.now.subject.now.file.now.bytes statement.now.row))) parts.old.cells parts.old.slots n x (going p) parts.new.cells parts.new.slots path.old path.new (outcome result) }
 {
-    match StatementKind::try_from(row.kind) {
-        Ok(StatementKind::If) => pass_if(marked, parts, path, n, x, p, b, s, row),
-        Ok(StatementKind::Switch) => pass_switch(marked, parts, path, n, x, p, b, s, row),
-        _ => pass_loop(marked, parts, path, n, x, p, b, s, row),
+    match StatementKind::try_from(statement.row.kind) {
+        Ok(StatementKind::If) => pass_if(statement, parts, path, n, x, p),
+        Ok(StatementKind::Switch) => pass_switch(statement, parts, path, n, x, p),
+        _ => pass_loop(statement, parts, path, n, x, p),
     }
 }
 
 // One that breaks its rule is walked as if marked, and what is needed after it is needed before it too.
 #[cycle(blocks)]
 fn pass_holder(
-    marked: &MarkedSubject,
+    statement: &MarkedStatement,
     parts: &mut Parts,
     path: &mut [u32],
     n: usize,
     x: Exits,
     p: Passing,
-    b: BlockHandle,
-    s: u32,
-    row: Kinded,
 ) -> Option<Passing>
-    requires course { CourseOf marked.now parts.old.cells parts.old.slots path.old n x (going p) }
-    requires b_in_bounds { n + (3 * b.0 + 12) ≤ length parts.old.slots }
-    requires row_in { RowInOf marked.now.subject.now b.0 s row }
-    requires lt_kind { (1 < row.kind) × (row.kind < 5) }
-    ensures { Passes (scope_of marked.now.subject.now) (inside (statement_tree (function_in marked.now.subject.now) marked.now.marks.now b.0 s)) parts.old.cells parts.old.slots n x (going p) parts.new.cells parts.new.slots path.old path.new (outcome result) }
+    requires course { CourseOf statement.now.marked.now parts.old.cells parts.old.slots path.old n x (going p) }
+    requires b_in_bounds { n + (3 * statement.now.b.0 + 12) ≤ length parts.old.slots }
+    requires lt_kind { (1 < statement.now.row.kind) × (statement.now.row.kind < 5) }
+    ensures { Passes (scope_of statement.now.marked.now.subject.now) (inside (statement_tree (function_in statement.now.marked.now.subject.now) statement.now.marked.now.marks.now statement.now.b.0 statement.now.s)) parts.old.cells parts.old.slots n x (going p) parts.new.cells parts.new.slots path.old path.new (outcome result) }
 {
+    let marked = statement.marked;
+    let s = statement.s;
     let last = n - 1;
     let begin = marked.firsts[s as usize] as usize;
     if mark_at(marked.marks, begin) {
-        return pass_bare(marked, parts, path, n, x, p, b, s, row);
+        return pass_bare(statement, parts, path, n, x, p);
     }
     let need = Need {
         subject: marked.subject,
         cells: &parts.cells,
         piece: parts.slots[last],
     };
-    if obeys(&need, path, b, s) {
+    if obeys(&need, path, statement.b, s) {
         return Some(p);
     }
     copy(&mut parts.slots, last, n);
-    let q = pass_bare(marked, parts, path, n + 1, x, p, b, s, row)?;
+    let q = pass_bare(statement, parts, path, n + 1, x, p)?;
     let blamed = blame(s as u16, q);
     merge(parts, n, last, n)?;
     Some(blamed)
@@ -229,15 +213,21 @@ fn pass_statement(
     ensures { Passes (scope_of marked.now.subject.now) (inside (statement_tree (function_in marked.now.subject.now) marked.now.marks.now b.0 s)) parts.old.cells parts.old.slots n x (going p) parts.new.cells parts.new.slots path.old path.new (outcome result) }
 {
     let row = marked.subject.file.statement(marked.subject.f, s);
+    let statement = MarkedStatement {
+        marked: &*marked,
+        b,
+        s,
+        row,
+    };
     match StatementKind::try_from(row.kind) {
         Ok(StatementKind::Block) => {
             let inner = marked.subject.file.block_operand(row, 0);
             pass_block(marked, parts, path, n, x, p, inner)
         }
         Ok(StatementKind::If | StatementKind::Switch | StatementKind::Loop) => pass_holder(
-            marked, parts, path, n, x, p, b, s, row,
+            &statement, parts, path, n, x, p,
         ),
-        _ => pass_plain(marked, parts, path, n, x, p, b, s, row),
+        _ => pass_plain(&statement, parts, path, n, x, p),
     }
 }
 

@@ -5,3 +5,4 @@ pub mod blocks;
 pub mod marked;
 pub mod plain;
 pub mod slots;
+pub mod statement;

@@ -2,44 +2,40 @@
 ghost use Rattle.std.specs.Prelude.{◌≡◌, ◌+◌, ◌<◌, ◌≤◌, length};
 ghost use Rattle.quiet.specs.Places.{statement_tree};
 ghost use Rattle.standing.specs.Standing.{inside};
-ghost use Rattle.backward.specs.Course.{CourseOf, Passes, RowInOf};
+ghost use Rattle.backward.specs.Course.{CourseOf, Passes};
 ghost use Rattle.judge.specs.Subject.{scope_of, function_in};
 ghost use Rattle.standing.specs.Passing.{going, outcome};
 
-use crate::marked::MarkedSubject;
-use access::kinded::Kinded;
+use crate::statement::MarkedStatement;
 use acts::emits::pass_emits;
 use acts::marks::mark_at;
 use acts::stores::pass_store;
 use leaving::leave::pass_leaving;
 use memory::parts::Parts;
-use module::handles::BlockHandle;
 use module::kinds::StatementKind;
 use standing::passing::{Exits, Passing};
 
 // The statement s of the block b, whose row is given.
 pub fn pass_plain(
-    marked: &MarkedSubject,
+    statement: &MarkedStatement,
     parts: &mut Parts,
     path: &mut [u32],
     n: usize,
     x: Exits,
     p: Passing,
-    b: BlockHandle,
-    s: u32,
-    row: Kinded,
 ) -> Option<Passing>
-    requires course { CourseOf marked.now parts.old.cells parts.old.slots path.old n x (going p) }
+    requires course { CourseOf statement.now.marked.now parts.old.cells parts.old.slots path.old n x (going p) }
     requires n_in_bounds { n + 12 ≤ length parts.old.slots }
-    requires row_in { RowInOf marked.now.subject.now b.0 s row }
-    requires lt_kind { (row.kind ≡ 0 → ⊥) → 4 < row.kind }
-    ensures { Passes (scope_of marked.now.subject.now) (inside (statement_tree (function_in marked.now.subject.now) marked.now.marks.now b.0 s)) parts.old.cells parts.old.slots n x (going p) parts.new.cells parts.new.slots path.old path.new (outcome result) }
+    requires lt_kind { (statement.now.row.kind ≡ 0 → ⊥) → 4 < statement.now.row.kind }
+    ensures { Passes (scope_of statement.now.marked.now.subject.now) (inside (statement_tree (function_in statement.now.marked.now.subject.now) statement.now.marked.now.marks.now statement.now.b.0 statement.now.s)) parts.old.cells parts.old.slots n x (going p) parts.new.cells parts.new.slots path.old path.new (outcome result) }
 {
+    let marked = statement.marked;
+    let s = statement.s;
     let begin = marked.firsts[s as usize];
-    match StatementKind::try_from(row.kind) {
+    match StatementKind::try_from(statement.row.kind) {
         Ok(StatementKind::Emit) => {
-            let first = marked.subject.file.expression_operand(row, 0);
-            let last = marked.subject.file.expression_operand(row, 1);
+            let first = marked.subject.file.expression_operand(statement.row, 0);
+            let last = marked.subject.file.expression_operand(statement.row, 1);
             pass_emits(
                 marked.subject,
                 marked.marks,
@@ -55,8 +51,8 @@ pub fn pass_plain(
         }
         Ok(StatementKind::Store) => {
             let is_marked = mark_at(marked.marks, begin as usize);
-            let pointer = marked.subject.file.expression_operand(row, 0);
-            let value = marked.subject.file.expression_operand(row, 1);
+            let pointer = marked.subject.file.expression_operand(statement.row, 0);
+            let value = marked.subject.file.expression_operand(statement.row, 1);
             pass_store(
                 marked.subject,
                 parts,
@@ -69,6 +65,6 @@ pub fn pass_plain(
                 value,
             )
         }
-        _ => pass_leaving(marked.subject, parts, n, x, p, s, row),
+        _ => pass_leaving(marked.subject, parts, n, x, p, s, statement.row),
     }
 }

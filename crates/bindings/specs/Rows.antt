@@ -1,5 +1,6 @@
 -- What the code reads of a module: the members in a row of the table of types, and a function's arguments.
 use Rattle.std.specs.Prelude.{ℕ, ◌+◌, ◌<◌, ◌≤◌, ◌≡◌, Bool, cond, ◌||◌, List, [], ◌∷◌, eqb, length, get_or, map}
+use Rattle.std.specs.Coded.{×_prop, Unit-prop, le_prop}
 use Rattle.std.proofs.Math.Option.{Option, some, none as nothing}
 use Rattle.field.specs.Limits.{max_arguments}
 use Rattle.module.specs.Module.{TypeHandle, Binding, Member, TypeInner, Scalar, Vector, Matrix, Atomic, Pointer, Array, Struct, BindingArray, Opaque, FunctionArg}
@@ -43,6 +44,26 @@ BoundType (Array base count) = Unit {0}
 BoundType (Struct members) = BoundMembers members
 BoundType (BindingArray base) = Unit {0}
 BoundType Opaque = Unit {0}
+
+pub BindingFits-prop : (b : Option Binding) → IsProp (BindingFits b)
+BindingFits-prop nothing = Unit-prop
+BindingFits-prop (some b) = le_prop
+
+pub BoundMembers-prop : (ms : List Member) → IsProp (BoundMembers ms)
+BoundMembers-prop [] = Unit-prop
+BoundMembers-prop (m ∷ ms) = ×_prop (BindingFits-prop m.binding) (BoundMembers-prop ms)
+
+-- a type is bound in one way, so that a value can hold the fact
+pub BoundType-prop : (x : TypeInner) → IsProp (BoundType x)
+BoundType-prop Scalar = Unit-prop
+BoundType-prop (Vector size) = Unit-prop
+BoundType-prop (Matrix columns rows) = Unit-prop
+BoundType-prop Atomic = Unit-prop
+BoundType-prop (Pointer base) = Unit-prop
+BoundType-prop (Array base count) = Unit-prop
+BoundType-prop (Struct members) = BoundMembers-prop members
+BoundType-prop (BindingArray base) = Unit-prop
+BoundType-prop Opaque = Unit-prop
 
 pub record AllBound (types : List TypeInner) : Type 0 where
   pub each : (t : TypeHandle) → BoundType (get_or types t Opaque)

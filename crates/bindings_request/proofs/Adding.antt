@@ -20,7 +20,7 @@ use Rattle.module.specs.Tables.{function_of, module_of}
 use Rattle.access.specs.Access.{result_from}
 use Rattle.access.specs.declared.whole.Bound.{Bound as TypeBound}
 use Rattle.access.proofs.Access.{function_is}
-use Rattle.context.specs.Types.{types_of, type_count, AllSized}
+use Rattle.context.specs.Types.{types_of, type_count}
 use Rattle.context.specs.RequiredContext.{RequiredContext, variable, return_entry}
 use Rattle.request.specs.Fields as reading
 use Rattle.request.specs.Request.{Request, request_of, all_below, known, judge}
@@ -31,12 +31,11 @@ use Rattle.field.specs.declared.refusal.Refusal.{Refusal}
 use Rattle.field.specs.declared.refusal.Refusal.TheVariants.{ModuleTooLong, RecordCut, MarkMisplaced, ModuleLimit, ValueNotAllowed, NoSuch, Malformed, Panic, Unsettled, PartLimit, PiecesLimit, VisitsLimit, ReportTooShort, PrunerUnfit, AnswerTooShort, MarksUnfit, CheckBound}
 use Rattle.request.specs.declared.requests.Request as declared
 use Rattle.bindings.specs.Bindings.{single}
-use Rattle.bindings.specs.Rows.{AllBound}
 use Rattle.bindings.specs.ContextBindings.{Answer, output_from_bindings, add_binding, as_request, add_request}
 use Rattle.bindings.specs.Outputs.{BoundResult, output_cells, request_context, asking_of, Asked}
 use Rattle.bindings_request.specs.Boundary.{Tables, Lent, own_number, on_read, written, add_bytes, refused_by, Gave}
 use Rattle.bindings_request.specs.declared.answer.Refused.{Refused}
-use Rattle.bindings_request.proofs.Modules.{of_function-at, rows_sized, rows_bound, rows_few, result-bound, globals-few}
+use Rattle.bindings_request.proofs.Modules.{of_function-at, rows_few, result-bound, globals-few}
 use Rattle.bindings_request.proofs.Answers.{gave_refused}
 
 module _ {bytes t types : List ℕ} (T : Tables bytes t types) {f b : ℕ} (low : f < length (module_of bytes t).functions) (few : b < bindings) (x : Maybe TypeBound) (R : result_from x ≡ (function_of bytes t f).result) where
@@ -51,11 +50,11 @@ module _ {bytes t types : List ℕ} (T : Tables bytes t types) {f b : ℕ} (low 
 
   module _ {s u : List ℕ} (o : Maybe ℕ) {entry globals : ℕ} (m : Made s u (return_entry (optional s o)) 1 entry) (held : globals < top s) where
     pub add-asks : (parts : List ℕ) → length parts ≡ type_count types → Room s (1 + (output_cells parts + max_pieces))
-        → Good u × (AllBound (types_of types) × (AllSized (types_of types) × (((length parts ≡ type_count types) × (length parts ≤ 4294967295)) × ((BoundResult (result_from x) × Room u (output_cells parts + max_pieces)) × ((b < bindings) × ((globals < top u) × (entry < top u)))))))
+        → Good u × (((length parts ≡ type_count types) × (length parts ≤ 4294967295)) × ((BoundResult (result_from x) × Room u (output_cells parts + max_pieces)) × ((b < bindings) × ((globals < top u) × (entry < top u)))))
     add-asks parts l room =
         let cost : top u ≤ top s + 1 = m.cost in
         let long : length u ≡ length s = m.kept.long in
-        (m.kept.good, (rows_bound T, (rows_sized T, ((l, omega (arith, rows_few T)), ((rw (← result-is) (result-bound T f low), omega arith), (few, (omega (arith, m.kept.tops), m.piece)))))))
+        (m.kept.good, ((l, omega (arith, rows_few T)), ((rw (← result-is) (result-bound T f low), omega arith), (few, (omega (arith, m.kept.tops), m.piece)))))
 
     module _ {v : List ℕ} {a : Result ℕ Refusal} (A : Asked u v (result_from x) (part u globals) (λ y. as_request (output_from_bindings (types_of types) (single b) y) (add_binding (types_of types) b y (request_context (part u globals) (part u entry)))) a) where
       globals_same : part v globals ≡ part u globals

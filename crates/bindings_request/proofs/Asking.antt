@@ -17,15 +17,14 @@ use Rattle.module.specs.Tables.{function_of, module_of}
 use Rattle.access.specs.Access.{result_from}
 use Rattle.access.specs.declared.whole.Bound.{Bound as TypeBound}
 use Rattle.access.proofs.Access.{function_is}
-use Rattle.context.specs.Types.{types_of, type_count, AllSized}
+use Rattle.context.specs.Types.{types_of, type_count}
 use Rattle.bindings.specs.Bindings.{set_of}
-use Rattle.bindings.specs.Rows.{AllBound}
 use Rattle.bindings.specs.ContextBindings.{output_from_bindings, as_request, are_bindings, output_request}
 use Rattle.bindings.specs.Outputs.{BoundResult, output_cells, asking_of, AskingHeld, Asked}
 use Rattle.bindings_request.specs.Boundary.{Tables, Lent, written, output_bytes, refused_by, Gave}
 use Rattle.bindings_request.specs.Listed.{SetIs}
 use Rattle.bindings_request.specs.declared.answer.Refused.{Refused}
-use Rattle.bindings_request.proofs.Modules.{of_function-at, rows_sized, rows_bound, rows_few, result-bound}
+use Rattle.bindings_request.proofs.Modules.{of_function-at, rows_few, result-bound}
 use Rattle.bindings_request.proofs.Answers.{gave_refused}
 
 module _ (bytes t bs : List ℕ) (room f : ℕ) where
@@ -54,10 +53,10 @@ module _ (bytes t bs : List ℕ) (room f : ℕ) where
         result-is = sym R
 
         pub output_asks : {cells parts u : List ℕ} → length parts ≡ type_count types → Lent cells parts [] → Good u → top u ≡ 3 → length u ≡ length cells
-            → Good u × (AllBound (types_of types) × (AllSized (types_of types) × (((length parts ≡ type_count types) × (length parts ≤ 4294967295)) × (BoundResult (result_from x) × Room u (output_cells parts)))))
+            → Good u × (((length parts ≡ type_count types) × (length parts ≤ 4294967295)) × (BoundResult (result_from x) × Room u (output_cells parts)))
         output_asks l L g th lh =
             let big = L.room in
-            (g, (rows_bound T, (rows_sized T, ((l, omega (arith, rows_few T)), (rw (← result-is) (result-bound T f low), omega arith)))))
+            (g, ((l, omega (arith, rows_few T)), (rw (← result-is) (result-bound T f low), omega arith)))
 
         output-request : output_request (module_of bytes t) f bs ≡ as_request (output_from_bindings (types_of types) s (function_of bytes t f)) (output_from_bindings (types_of types) s (function_of bytes t f))
         unfolding output_request

@@ -23,7 +23,7 @@ use Rattle.request.specs.Fields as reading
 use Rattle.request.specs.Context.{context_of, known_context, judge_context, read_context}
 use Rattle.context_bytes.specs.Checked.{status_of, without_function}
 use Rattle.context_bytes.specs.Counted.{PiecesCounted}
-use Rattle.context_bytes.specs.Found.{list_at, ListAt, ArgsAt}
+use Rattle.context_bytes.specs.Found.{list_at, ListReadable, ArgsAt}
 use Rattle.context_bytes.proofs.Found.{list_there}
 use Rattle.context_bytes.proofs.Status.{Known, status_known, status_refused}
 use Rattle.bindings.specs.Bindings.{contains, list_below, list_of}
@@ -131,7 +131,7 @@ module _ {bytes t types : List ℕ} (T : Tables bytes t types) (room : ℕ) {f :
       needing_short h = gave_refused AnswerTooShort (inputs-of ∙ (unfold inputs_of in (rw (lt-ltb _ bindings h))))
 
       module _ {at : ℕ} (a : ArgsAt b at) where
-        pub needing_args : ListAt b at (list_at b at)
+        pub needing_args : ListReadable b at
         needing_args = (list_there (a.is the_context.context the_context.is)).0
 
         args_are : list_at b at ≡ the_context.context.args

@@ -193,8 +193,8 @@ module _ (types : List TypeInner) (old : List Bindings) where
 
 -- the part of two bytes that are zero
 pub zeros_read : Readable (0 ∷ 0 ∷ []) 0 0
-unfolding value_of read_part by_code fields
-zeros_read = record { inside = omega arith; rest = []; is = refl }
+unfolding read_part by_code fields
+zeros_read = record { inside = omega arith; is = λ e. let z : ◌≡◌ {A = ℕ} 0 1 = cc in absurd (omega arith) }
 
 pub zeros_all : part_at (0 ∷ 0 ∷ []) 0 0 ≡ all
 unfolding value_of read_part by_code fields

@@ -15,6 +15,7 @@ ghost use Rattle.bindings_request.specs.Boundary.{Tables, Lent, own_number, writ
 use crate::answer::{Refused, write_asking};
 use access::file::File;
 use bindings::outputs::add_binding;
+use bindings::types::FileTypes;
 use field::refusal::Refusal;
 use module::handles::FunctionHandle;
 use module::operands::BINDINGS;
@@ -43,7 +44,8 @@ fn add_to(
 {
     let entry = returned(cells, retval);
     let declared = file.result(f);
-    let a = add_binding(cells, types, b, declared, parts, globals, entry);
+    let types = FileTypes { rows: types };
+    let a = add_binding(cells, &types, b, declared, parts, globals, entry);
     write_asking(cells, f, globals, a, out)
 }
 

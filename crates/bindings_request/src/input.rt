@@ -1,7 +1,6 @@
 // `input_to_bindings` on a context's bytes: 12, 11, 20, 13, 16. The bindings list is written, a byte for each.
-ghost use Rattle.std.specs.Prelude.{◌≡◌, ◌≤◌, ◌<◌, length};
+ghost use Rattle.std.specs.Prelude.{◌≡◌, ◌≤◌, length};
 ghost use Rattle.field.specs.Limits.{max_arguments};
-ghost use Rattle.field.specs.Refusal.{number};
 ghost use Rattle.module.specs.Operands.{bindings};
 ghost use Rattle.module.specs.Tables.{function_of, module_of};
 ghost use Rattle.context.specs.Types.{type_count};
@@ -10,13 +9,15 @@ ghost use Rattle.bindings_request.specs.Boundary.{Tables, Gave};
 ghost use Rattle.bindings_request.specs.Inputs.{ListGiven, input_bytes};
 
 use crate::answer::Refused;
-use crate::needed::{all_table, input_to_bindings};
+use crate::needed::{TypeSets, all_table, input_to_bindings};
 use access::file::File;
 use access::whole::Bound;
 use bindings::set::list;
+use bindings::types::BoundTypes;
 use context_bytes::check::{check_context, without_function};
 use context_bytes::count::count_context;
 use context_bytes::find::args_at;
+use context_bytes::variables_bytes::VariablesBytes;
 use field::limits::MAX_PIECES;
 use field::refusal::Refusal;
 use module::handles::FunctionHandle;
@@ -69,7 +70,16 @@ pub fn input_to_bindings_bytes(
     }
     let own = &mut args[0..n as usize];
     fill(file, f, own);
-    all_table(types, sets);
-    let s = input_to_bindings(context, args_at(context), types, sets, own)?;
+    let types = BoundTypes { rows: types };
+    all_table(&types, sets);
+    let known = TypeSets {
+        types: &types,
+        sets: &*sets,
+    };
+    let variables = VariablesBytes {
+        bytes: context,
+        at: args_at(context),
+    };
+    let s = input_to_bindings(&variables, &known, own)?;
     write_list(s, context, out)
 }

@@ -8,6 +8,7 @@ use crate::answer::{Refused, write_asking};
 use crate::listed::set_of;
 use access::file::File;
 use bindings::outputs::output_from_bindings;
+use bindings::types::FileTypes;
 use field::limits::MIN_REPORT;
 use field::refusal::Refusal;
 use module::handles::FunctionHandle;
@@ -36,6 +37,7 @@ pub fn output_from_bindings_bytes(
     }
     init(cells);
     let declared = file.result(f);
-    let a = output_from_bindings(cells, types, s, declared, parts);
+    let types = FileTypes { rows: types };
+    let a = output_from_bindings(cells, &types, s, declared, parts);
     write_asking(cells, f, EMPTY_PIECE, a, out)
 }

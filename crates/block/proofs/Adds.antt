@@ -4,33 +4,21 @@ use native.Mathlib.Omega.{arith}
 use mathlib.Core.Path.{◌≡◌, sym, ap, ◌∙◌}
 use mathlib.Core.Bool.{Bool, true, false}
 use mathlib.Core.List.{List}
-use lib.ListN.{set}
 use Rattle.part.specs.StoreLimits.{entries_cap}
 use Rattle.module.specs.Module.{FunctionHandle}
 use Rattle.context.specs.RequiredContext.{RequiredContext, merge_context, over_context, pieces}
 use Rattle.walk.specs.State.{State, Place, halt, limited_context, record_pieces}
-use Rattle.walk.specs.Marks.{write_marks, add_marks}
 use Rattle.walk.proofs.Counts.{record_pieces-extend}
 use Rattle.walk.proofs.Room.{pieces-merge}
 use Rattle.memory.specs.Layout.{exprs_slot, totals_slot, functions_slot}
 use Rattle.memory.specs.Memory.{read, context_at}
-use Rattle.marks.specs.Places.{slice, start_in, size_in}
-use Rattle.marks.specs.Report.{totals_at}
+use Rattle.marks.specs.declared.places.MarkPlaces.{MarkPlaces}
+use Rattle.marks.specs.declared.totals.MarkTotals.{MarkTotals}
+use Rattle.marks.specs.Report.{MarksKept, MarksJoined}
 use Rattle.state.specs.State.{records_in}
 use Rattle.block.specs.Total.{total_count, TotalMade, TotalKept, TotalJoined, Weighing}
 use Rattle.block.specs.Adding.{Adding}
 use Rattle.block.proofs.Unroll.{limited_over}
-
--- what the marks of the open function, and those of its total, are in the buffers
-abbrev pub own_marks : (places open_marks : List ℕ) → FunctionHandle → List ℕ
-own_marks places open_marks f = slice open_marks (start_in places f) (size_in places f)
-
-abbrev pub kept_marks : (places open_marks totals : List ℕ) → FunctionHandle → List ℕ
-kept_marks places open_marks totals f = write_marks (set totals f 1) (totals_at + start_in places f) (own_marks places open_marks f)
-
-abbrev pub joined_marks : (places open_marks totals : List ℕ) → FunctionHandle → List ℕ
-joined_marks places open_marks totals f =
-    write_marks totals (totals_at + start_in places f) (add_marks (slice totals (totals_at + start_in places f) (size_in places f)) (own_marks places open_marks f))
 
 -- the total of f has the context c; m is what `sum` has become
 pub record Added (t s rs : List ℕ) (f : FunctionHandle) (c : RequiredContext) (sum m : ℕ) (u us : List ℕ) : Type 0 where
@@ -38,22 +26,22 @@ pub record Added (t s rs : List ℕ) (f : FunctionHandle) (c : RequiredContext) 
   pub sums : m + total_count t f (read s rs) ≡ sum + total_count t f (read u us)
 
 -- the first total of f
-pub record FirstTotal (t places s rs open_marks totals : List ℕ) (f : FunctionHandle) (at sum m : ℕ) (us after : List ℕ) : Type 0 where
+pub record FirstTotal (t : List ℕ) (places : MarkPlaces) (s rs open_marks : List ℕ) (totals : MarkTotals) (f : FunctionHandle) (at sum m : ℕ) (us : List ℕ) (after : MarkTotals) : Type 0 where
   pub added : Added t s rs f (context_at (read s rs) at) sum m s us
-  pub marks : after ≡ kept_marks places open_marks totals f
+  pub marks : MarksKept places open_marks totals f after
   pub few : m ≤ sum + (record_pieces (records_in t exprs_slot f (read s rs)) + pieces (context_at (read s rs) at))
 
 -- a later one
 abbrev pub joint : (s rs : List ℕ) → FunctionHandle → (at : ℕ) → RequiredContext
 joint s rs f at = merge_context (context_at (read s rs) (functions_slot + 4 * f)) (context_at (read s rs) at)
 
-pub record LaterTotal (t places s rs open_marks totals : List ℕ) (f : FunctionHandle) (at sum m : ℕ) (u us after : List ℕ) : Type 0 where
+pub record LaterTotal (t : List ℕ) (places : MarkPlaces) (s rs open_marks : List ℕ) (totals : MarkTotals) (f : FunctionHandle) (at sum m : ℕ) (u us : List ℕ) (after : MarkTotals) : Type 0 where
   pub within : over_context (joint s rs f at) ≡ false
   pub added : Added t s rs f (joint s rs f at) sum m u us
-  pub marks : after ≡ joined_marks places open_marks totals f
+  pub marks : MarksJoined places open_marks totals f after
   pub few : m ≤ sum + (record_pieces (records_in t exprs_slot f (read s rs)) + pieces (context_at (read s rs) at))
 
-module _ {t places s rs open_marks totals : List ℕ} {f : FunctionHandle} {at sum : ℕ} (A : Adding t places s rs open_marks totals f at sum) where
+module _ {t : List ℕ} {places : MarkPlaces} {s rs open_marks : List ℕ} {f : FunctionHandle} {at sum : ℕ} (A : Adding t places s rs open_marks f at sum) where
   -- what the total counts for afterwards
   module _ {c : RequiredContext} {u us : List ℕ} (M : TotalMade t f s rs c u us) (small : pieces c ≤ pieces (context_at (read s rs) (functions_slot + 4 * f)) + pieces (context_at (read s rs) at)) where
     grown : total_count t f (read u us) ≤ total_count t f (read s rs) + (record_pieces (records_in t exprs_slot f (read s rs)) + pieces (context_at (read s rs) at))
@@ -90,8 +78,8 @@ module _ {t places s rs open_marks totals : List ℕ} {f : FunctionHandle} {at s
   pub kept_small : pieces (context_at (read s rs) at) ≤ pieces (context_at (read s rs) (functions_slot + 4 * f)) + pieces (context_at (read s rs) at)
   kept_small = omega arith
 
-  pub first_is : {us after : List ℕ} {less more : ℕ} → TotalKept t f at rs us → less ≡ total_count t f (read s rs) → more ≡ total_count t f (read s us)
-      → after ≡ kept_marks places open_marks totals f → FirstTotal t places s rs open_marks totals f at sum (sum - less + more) us after
+  pub first_is : {us : List ℕ} {totals after : MarkTotals} {less more : ℕ} → TotalKept t f at rs us → less ≡ total_count t f (read s rs) → more ≡ total_count t f (read s us)
+      → MarksKept places open_marks totals f after → FirstTotal t places s rs open_marks totals f at sum (sum - less + more) us after
   first_is k e g h = record { added = added_is (kept_made k) kept_small e g; marks = h; few = sum_few (kept_made k) kept_small e g }
 
   -- a later one
@@ -102,6 +90,6 @@ module _ {t places s rs open_marks totals : List ℕ} {f : FunctionHandle} {at s
     pub later_over : b ≡ true → (here : Place) (st : State) → halt 15 here ≡ limited_context here (joint s rs f at) st
     later_over e here st = limited_over here (joint s rs f at) st (sym e ∙ J.over)
 
-    pub later_is : {after : List ℕ} {less more : ℕ} → b ≡ false → less ≡ total_count t f (read s rs) → more ≡ total_count t f (read u us)
-        → after ≡ joined_marks places open_marks totals f → LaterTotal t places s rs open_marks totals f at sum (sum - less + more) u us after
+    pub later_is : {totals after : MarkTotals} {less more : ℕ} → b ≡ false → less ≡ total_count t f (read s rs) → more ≡ total_count t f (read u us)
+        → MarksJoined places open_marks totals f after → LaterTotal t places s rs open_marks totals f at sum (sum - less + more) u us after
     later_is z e g h = record { within = sym J.over ∙ z; added = added_is J.made later_small e g; marks = h; few = sum_few J.made later_small e g }

@@ -18,6 +18,8 @@ use Rattle.walk.specs.Function.{add_function}
 use Rattle.sound.proofs.Walks.{block_is}
 use Rattle.sound.proofs.Blocks.{record_within}
 use Rattle.marks.proofs.Placed.{at_function}
+use Rattle.marks.specs.declared.places.MarkPlaces.{MarkPlaces}
+use Rattle.marks.specs.declared.totals.MarkTotals.{MarkTotals}
 use Rattle.state.specs.State.{place_of}
 use Rattle.state.specs.Ready.{WasRead}
 use Rattle.state.specs.declared.answer.Tally.{Tally}
@@ -27,7 +29,7 @@ use Rattle.block.specs.Blocks.{BlockEnded, BlockEnding, BlockEnds}
 use Rattle.block.specs.Visiting.{block_in}
 use Rattle.block.specs.Pairing.{add_pair}
 
-module _ {bytes t types places s rs open_marks totals : List ℕ} {f : FunctionHandle} {base at held own sum : ℕ} {total : Out Bool} {r : Result Answer Halt} {u us open_after totals-after : List ℕ}
+module _ {bytes t types : List ℕ} {places : MarkPlaces} {s rs open_marks : List ℕ} {totals : MarkTotals} {f : FunctionHandle} {base at held own sum : ℕ} {total : Out Bool} {r : Result Answer Halt} {u us open_after : List ℕ} {totals-after : MarkTotals}
     (E : BlockEnds bytes t types places s rs open_marks totals f base at held own sum total r u us open_after totals-after) where
   pub block_went : {tally : Tally} {b : Bool} → r ≡ Ok (record { tally = tally; required = b })
       → BlockEnded bytes t types places s rs open_marks totals f base at held own sum total tally.visits tally.sum b u us open_after totals-after

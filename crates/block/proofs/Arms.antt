@@ -7,14 +7,16 @@ use mathlib.Core.List.{List}
 use Rattle.context.specs.RequiredContext.{RequiredContext, pieces}
 use Rattle.walk.specs.State.{State, Out, went}
 use Rattle.memory.specs.Memory.{read, context_at}
+use Rattle.marks.specs.declared.places.MarkPlaces.{MarkPlaces}
+use Rattle.marks.specs.declared.totals.MarkTotals.{MarkTotals}
 use Rattle.block.specs.Standing.{state_in, Standing}
 use Rattle.block.specs.Saved.{Lowered}
 use Rattle.block.specs.Blocks.{context_in, Beside, BlockEnded}
 use Rattle.block.proofs.Tops.{popped_state, popped_standing}
 use Rattle.block.proofs.Steps.{beside_context, beside_popped}
 
-module _ {bytes t types places s rs open_marks totals : List ℕ} {f at held sum visits : ℕ} (S : Standing bytes t types places s rs open_marks totals f at held sum visits)
-    {total : Out Bool} {v m : ℕ} {b : Bool} {u us open_after totals-after : List ℕ}
+module _ {bytes t types : List ℕ} {places : MarkPlaces} {s rs open_marks : List ℕ} {totals : MarkTotals} {f at held sum visits : ℕ} (S : Standing bytes t types places s rs open_marks totals f at held sum visits)
+    {total : Out Bool} {v m : ℕ} {b : Bool} {u us open_after : List ℕ} {totals-after : MarkTotals}
     (E : BlockEnded bytes t types places s rs open_marks totals f at (at + 4) (held + context_in s rs at) (held + context_in s rs at) sum total v m b u us open_after totals-after) where
   below : context_at (read u us) at ≡ context_at (read s rs) at
   below = beside_context E.beside at S.ready.low (omega arith)

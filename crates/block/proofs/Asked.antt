@@ -11,13 +11,15 @@ use Rattle.walk.specs.Proper.{Fine}
 use Rattle.walk.proofs.Proper.{expression_proper}
 use Rattle.sound.proofs.Walks.{module_sound}
 use Rattle.memory.specs.Memory.{read}
+use Rattle.marks.specs.declared.places.MarkPlaces.{MarkPlaces}
+use Rattle.marks.specs.declared.totals.MarkTotals.{MarkTotals}
 use Rattle.state.specs.Ready.{Ended}
 use Rattle.state.specs.Frame.{Apart}
 use Rattle.block.specs.Standing.{rest_in, state_in, Standing}
 use Rattle.block.specs.Blocks.{Beside}
 use Rattle.block.proofs.Steps.{apart_state, apart_standing, beside_apart}
 
-module _ {bytes t types places s rs open_marks totals : List ℕ} {f at held sum visits : ℕ} (S : Standing bytes t types places s rs open_marks totals f at held sum visits) where
+module _ {bytes t types : List ℕ} {places : MarkPlaces} {s rs open_marks : List ℕ} {totals : MarkTotals} {f at held sum visits : ℕ} (S : Standing bytes t types places s rs open_marks totals f at held sum visits) where
   abbrev m : Module
   m = module_of bytes t
 

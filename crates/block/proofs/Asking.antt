@@ -16,6 +16,8 @@ use Rattle.memory.proofs.Slots.{sum_split}
 use Rattle.memory.proofs.Records.{records_pieces}
 use Rattle.memory.proofs.Runs.{context_pieces}
 use Rattle.marks.proofs.Buffers.{inside}
+use Rattle.marks.specs.declared.places.MarkPlaces.{MarkPlaces}
+use Rattle.marks.specs.declared.totals.MarkTotals.{MarkTotals}
 use Rattle.block.specs.Standing.{Standing}
 use Rattle.block.specs.Blocks.{context_in}
 use Rattle.block.specs.Total.{total_count}
@@ -35,7 +37,7 @@ stretch_within ps a n b k l h =
       sum_split ps b k (n - (b - a) - k),
     )
 
-module _ {bytes t types places s rs open_marks totals : List ℕ} {f at held sum visits : ℕ} (S : Standing bytes t types places s rs open_marks totals f at held sum visits) where
+module _ {bytes t types : List ℕ} {places : MarkPlaces} {s rs open_marks : List ℕ} {totals : MarkTotals} {f at held sum visits : ℕ} (S : Standing bytes t types places s rs open_marks totals f at held sum visits) where
   few : f < max_functions
   few = let l = S.ready.function in omega (arith, (valid bytes (module_of bytes t) S.ready.was_read.module_is).few_functions)
 
@@ -57,7 +59,7 @@ module _ {bytes t types places s rs open_marks totals : List ℕ} {f at held sum
         stretch_within (read s rs) functions_slot (4 * max_functions) (functions_slot + 4 * f) 4 (omega arith) (omega arith),
       )
 
-  pub total_asked : context_in s rs at ≤ 2 * max_pieces → sum ≤ 2 * max_pieces → Room s room → TotalAsked bytes t places s rs open_marks totals f at sum
+  pub total_asked : context_in s rs at ≤ 2 * max_pieces → sum ≤ 2 * max_pieces → Room s room → TotalAsked bytes t places s rs open_marks f at sum
   total_asked small less roomy =
       let c = total_counted in
       let w = S.ready.was_read in
@@ -66,7 +68,7 @@ module _ {bytes t types places s rs open_marks totals : List ℕ} {f at held sum
           totalling = record { function = few; items = items; low = S.ready.low; high = S.ready.high };
           weighing = record { memory = S.ready.memory; function = few; items = items; few = omega arith };
           inside = inside bytes t places w S.placed f min_report S.ready.function (le_refl min_report);
-          sized = record { marks_long = S.open_long; totals_long = S.totals_long };
+          open_long = S.open_long;
           old = c;
           few = omega (arith, S.ready.sums);
         };

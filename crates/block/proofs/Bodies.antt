@@ -22,6 +22,8 @@ use Rattle.sound.proofs.Walks.{module_valid, module_sound, function_is}
 use Rattle.sound.proofs.Numbers.{body_there}
 use Rattle.memory.specs.Memory.{read, context_at}
 use Rattle.marks.proofs.Placed.{at_function}
+use Rattle.marks.specs.declared.places.MarkPlaces.{MarkPlaces}
+use Rattle.marks.specs.declared.totals.MarkTotals.{MarkTotals}
 use Rattle.state.specs.State.{place_of}
 use Rattle.state.specs.Ready.{WasRead}
 use Rattle.state.specs.declared.answer.Tally.{Tally}
@@ -110,7 +112,7 @@ module _ {bytes t : List ℕ} (w : WasRead bytes t) {f : FunctionHandle} (l : f 
   pub body_low : body_of (module_of bytes t) f < max_items
   body_low = block_low w f (body_of (module_of bytes t) f) l body_row
 
-module _ {bytes t types places s rs open_marks totals : List ℕ} {f : FunctionHandle} {base held sum visits : ℕ}
+module _ {bytes t types : List ℕ} {places : MarkPlaces} {s rs open_marks : List ℕ} {totals : MarkTotals} {f : FunctionHandle} {base held sum visits : ℕ}
     (F : FunctionEntered bytes t types places s rs open_marks totals f base held sum visits) where
   abbrev m : Module
   m = module_of bytes t
@@ -174,7 +176,7 @@ module _ {bytes t types places s rs open_marks totals : List ℕ} {f : FunctionH
           ∙ ap (λ (c : RequiredContext). block_in bytes t f body held c false (walk.with_context asked start)) context_is
           ∙ ap (block_in bytes t f body held asked false) entered-is)
 
-      module _ {r : Result Answer Halt} {u us open-1 totals-1 : List ℕ}
+      module _ {r : Result Answer Halt} {u us open-1 : List ℕ} {totals-1 : MarkTotals}
           (E : BlockEnds bytes t types places s rs open_marks totals f base (base + 4) held (held + context_in s rs base) sum Walks r u us open-1 totals-1) where
         pub function_halt : {stop : Halt} → r ≡ Err stop
             → FunctionEnds bytes t types places s rs open_marks totals f base held whole (Err stop) u us open-1 totals-1
@@ -192,10 +194,10 @@ module _ {bytes t types places s rs open_marks totals : List ℕ} {f : FunctionH
           left_sum : tally.sum ≤ max_pieces
           left_sum = omega (arith, settled_sum 0 max_pieces ended.settled (omega arith) (omega (arith, F.sum_few)) (le_refl max_pieces))
 
-          pub body_asked : TotalAsked bytes t places u us open-1 totals-1 f (base + 4) tally.sum
+          pub body_asked : TotalAsked bytes t places u us open-1 f (base + 4) tally.sum
           body_asked = total_asked ended.standing left_few (omega (arith, left_sum)) ended.roomy
 
-          module _ {q : Result Tally Halt} {v vs after : List ℕ} (T : TotalEnds bytes t places u us open-1 totals-1 f (base + 4) tally.sum tally.visits here q v vs after) where
+          module _ {q : Result Tally Halt} {v vs : List ℕ} {after : MarkTotals} (T : TotalEnds bytes t places u us open-1 totals-1 f (base + 4) tally.sum tally.visits here q v vs after) where
             abbrev Totalled : Out (Unit {0})
             Totalled =
                 add_total m f (place_of here) (get_or (functions_in m t (read u us) totals-1) f nothing) (state_in bytes t u us open-1 totals-1 f (base + 4) tally.visits)

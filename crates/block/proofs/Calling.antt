@@ -24,6 +24,8 @@ use Rattle.memory.specs.Memory.{read, counted, context_at}
 use Rattle.memory.proofs.Slots.{read-long}
 use Rattle.memory.proofs.Records.{records_none}
 use Rattle.memory.proofs.Runs.{context_put}
+use Rattle.marks.specs.declared.places.MarkPlaces.{MarkPlaces}
+use Rattle.marks.specs.declared.totals.MarkTotals.{MarkTotals}
 use Rattle.marks.specs.Places.{slice, start_of, start_in, size_in}
 use Rattle.marks.proofs.Write.{write_long}
 use Rattle.marks.proofs.Placed.{at_function}
@@ -35,7 +37,7 @@ use Rattle.block.proofs.Same.{functions_same, totals_same, sum_kept, unwalked_ke
 use Rattle.block.proofs.Tops.{put_below, put_above, counted-put, up_empty}
 use Rattle.block.proofs.Steps.{items_within}
 
-module _ {bytes t types places s rs open_marks totals : List ℕ} {f at held sum visits : ℕ} (S : Standing bytes t types places s rs open_marks totals f at held sum visits)
+module _ {bytes t types : List ℕ} {places : MarkPlaces} {s rs open_marks : List ℕ} {totals : MarkTotals} {f at held sum visits : ℕ} (S : Standing bytes t types places s rs open_marks totals f at held sum visits)
     {g : FunctionHandle} (lower : g < f) {base : RequiredContext} {u us : List ℕ} (d : Saved s rs (at + 4) base u us) (high : at + 8 ≤ length rs)
     {cleared : List ℕ} (marks : cleared ≡ write_marks open_marks (start_in places g) (replicate (size_in places g) 0)) where
   abbrev m : Module
@@ -118,7 +120,6 @@ module _ {bytes t types places s rs open_marks totals : List ℕ} {f at held sum
         typed = S.typed;
         placed = S.placed;
         open_long = omega (arith, S.open_long, ap length marks, write_long open_marks (start_in places g) (replicate (size_in places g) 0));
-        totals_long = S.totals_long;
         totals-sum = sum_kept (read s rs) (read u us) w totals_kept totals S.totals-sum;
         unwalked = unwalked_kept (read s rs) (read u us) w totals_kept totals S.unwalked;
         proper = rw entered-state

@@ -10,6 +10,8 @@ use Rattle.context.specs.RequiredContext.{RequiredContext, pieces}
 use Rattle.walk.specs.State.{State, went, with_context}
 use Rattle.memory.specs.Layout.{stack_slot}
 use Rattle.memory.specs.Memory.{read, context_at}
+use Rattle.marks.specs.declared.places.MarkPlaces.{MarkPlaces}
+use Rattle.marks.specs.declared.totals.MarkTotals.{MarkTotals}
 use Rattle.state.specs.declared.frame.Frame.{Frame}
 use Rattle.block.specs.Standing.{state_in, Standing}
 use Rattle.block.specs.Saved.{Popped}
@@ -24,7 +26,7 @@ pub beside_down : {bytes t : List ℕ} {f : FunctionHandle} {at to : ℕ} {s rs 
     → Beside bytes t f at s rs open_marks u us open_after
 beside_down l b = record { long = b.long; stack = λ k x y. b.stack k x (omega arith); records = b.records; marks_long = b.marks_long; marks = b.marks }
 
-module _ {bytes t types places s rs open_marks totals : List ℕ} {fr : Frame} {sum visits : ℕ} (B : Branched bytes t types places s rs open_marks totals fr sum visits)
+module _ {bytes t types : List ℕ} {places : MarkPlaces} {s rs open_marks : List ℕ} {totals : MarkTotals} {fr : Frame} {sum visits : ℕ} (B : Branched bytes t types places s rs open_marks totals fr sum visits)
     {us : List ℕ} (D : BothDropped rs fr.at us) where
   abbrev at : ℕ
   at = fr.at

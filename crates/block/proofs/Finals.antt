@@ -16,8 +16,10 @@ use Rattle.walk.specs.Function.{latest, extend, walked, keep, join_total, add_to
 use Rattle.memory.specs.Layout.{exprs_slot, totals_slot, functions_slot}
 use Rattle.memory.specs.Memory.{read, context_at}
 use Rattle.memory.proofs.Records.{records_long}
+use Rattle.marks.specs.declared.places.MarkPlaces.{MarkPlaces}
+use Rattle.marks.specs.declared.totals.MarkTotals.{MarkTotals}
 use Rattle.marks.specs.Places.{slice, start_of}
-use Rattle.marks.specs.Report.{totals_at, Sized, has_total}
+use Rattle.marks.specs.Report.{has_total}
 use Rattle.marks.specs.Report as report
 use Rattle.walk.specs.Proper.{Sound}
 use Rattle.walk.proofs.Proper.{proper, good, state}
@@ -40,12 +42,9 @@ extend-none (nothing ∷ es) (nothing ∷ news) l h = ap (λ (r : Records). noth
 extend-none (nothing ∷ es) (some p ∷ news) l h = ap (λ (r : Records). some p ∷ r) (extend-none es news (omega arith) h)
 extend-none (some q ∷ es) (o ∷ news) l h = absurd (omega arith)
 
-module _ {bytes t types places s rs open_marks totals : List ℕ} {f at held sum visits : ℕ} (S : Standing bytes t types places s rs open_marks totals f at held sum visits) where
+module _ {bytes t types : List ℕ} {places : MarkPlaces} {s rs open_marks : List ℕ} {totals : MarkTotals} {f at held sum visits : ℕ} (S : Standing bytes t types places s rs open_marks totals f at held sum visits) where
   abbrev m : Module
   m = module_of bytes t
-
-  sized : Sized open_marks totals
-  sized = record { marks_long = S.open_long; totals_long = S.totals_long }
 
   total_is : get_or (functions_in m t (read s rs) totals) f nothing ≡ total_of (report.total_in m totals f) (context_at (read s rs) (functions_slot + 4 * f)) (records_in t totals_slot f (read s rs))
   unfolding functions_in total_in
@@ -64,12 +63,12 @@ module _ {bytes t types places s rs open_marks totals : List ℕ} {f at held sum
         (records_long (read s rs) (totals_slot + expressions_from (row_at t f)) n ∙ sym (records_long (read s rs) (exprs_slot + expressions_from (row_at t f)) n))
         (omega (arith, S.unwalked f S.ready.function none_yet))
 
-    module _ {us after : List ℕ} {k : ℕ} (T : FirstTotal t places s rs open_marks totals f at sum k us after) where
+    module _ {us : List ℕ} {after : MarkTotals} {k : ℕ} (T : FirstTotal t places s rs open_marks totals f at sum k us after) where
       first_own : report.total_in m after f ≡ some (slice open_marks (start_of m f) (stretch m f))
-      first_own = rw T.marks (kept-own bytes t places S.ready.was_read S.placed totals open_marks f S.ready.function sized)
+      first_own = kept-own bytes t places S.ready.was_read S.placed totals after open_marks f S.ready.function S.open_long T.marks
 
       first_others : (g : ℕ) → g < length m.functions → (g ≡ f → ⊥) → report.total_in m after g ≡ report.total_in m totals g
-      first_others g l ne = rw T.marks (kept-other bytes t places S.ready.was_read S.placed totals open_marks f S.ready.function sized g l ne)
+      first_others g l ne = kept-other bytes t places S.ready.was_read S.placed totals after open_marks f S.ready.function S.open_long T.marks g ne
 
       first_state : (v : ℕ) → state_in bytes t s us open_marks after f at v ≡ keep f (walked (state_in bytes t s rs open_marks totals f at v)) (state_in bytes t s rs open_marks totals f at v)
       first_state v =
@@ -87,7 +86,6 @@ module _ {bytes t types places s rs open_marks totals : List ℕ} {f at held sum
           let G = good m sound 0 f st S.proper in
           let K = proper m sound 0 in
           total_standing S T.added.made.memory N after (slice open_marks (start_of m f) (stretch m f)) first_own first_others
-          (ap length T.marks ∙ write_long (set totals f 1) _ _ ∙ length-set totals f 1)
           (omega (arith, T.added.sums, ap record_pieces N.exprs, ap pieces N.context))
           small
           (rw (first_state visits)
@@ -105,7 +103,7 @@ module _ {bytes t types places s rs open_marks totals : List ℕ} {f at held sum
   module _ (there : has_total totals f ≡ true) where
     abbrev old : FunctionReq
     old = record {
-      marks = slice totals (totals_at + start_of m f) (stretch m f);
+      marks = slice totals.marks (start_of m f) (stretch m f);
       context = context_at (read s rs) (functions_slot + 4 * f);
       exprs = records_in t totals_slot f (read s rs);
     }
@@ -115,7 +113,7 @@ module _ {bytes t types places s rs open_marks totals : List ℕ} {f at held sum
     old_is = total_is ∙ rw (total_there m totals f there)
 
     abbrev joined-marks : List ℕ
-    joined-marks = add_marks (slice totals (totals_at + start_of m f) (stretch m f)) (slice open_marks (start_of m f) (stretch m f))
+    joined-marks = add_marks (slice totals.marks (start_of m f) (stretch m f)) (slice open_marks (start_of m f) (stretch m f))
 
     abbrev later_total : FunctionReq
     later_total = record {
@@ -124,14 +122,12 @@ module _ {bytes t types places s rs open_marks totals : List ℕ} {f at held sum
       exprs = extend (records_in t totals_slot f (read s rs)) (records_in t exprs_slot f (read s rs));
     }
 
-    module _ {u us after : List ℕ} {k : ℕ} (T : LaterTotal t places s rs open_marks totals f at sum k u us after) where
+    module _ {u us : List ℕ} {after : MarkTotals} {k : ℕ} (T : LaterTotal t places s rs open_marks totals f at sum k u us after) where
       later_own : report.total_in m after f ≡ some joined-marks
-      later_own =
-          rw T.marks
-          (added-own bytes t places S.ready.was_read S.placed totals open_marks f S.ready.function sized (slice totals (totals_at + start_of m f) (stretch m f)) there (total_there m totals f there))
+      later_own = added-own bytes t places S.ready.was_read S.placed totals after open_marks f S.ready.function S.open_long T.marks there
 
       later_others : (g : ℕ) → g < length m.functions → (g ≡ f → ⊥) → report.total_in m after g ≡ report.total_in m totals g
-      later_others g l ne = rw T.marks (added-other bytes t places S.ready.was_read S.placed totals open_marks f S.ready.function sized g l ne)
+      later_others g l ne = added-other bytes t places S.ready.was_read S.placed totals after open_marks f S.ready.function S.open_long T.marks g ne
 
       later_state : (v : ℕ) → state_in bytes t u us open_marks after f at v ≡ keep f later_total (state_in bytes t s rs open_marks totals f at v)
       later_state v = total_state S T.added.made.memory T.added.made.total after joined-marks later_own later_others v
@@ -147,12 +143,12 @@ module _ {bytes t types places s rs open_marks totals : List ℕ} {f at held sum
       unfolding add_total join_total
       over_meets e = rw (old_is, ← no-ray, ← e (state_in bytes t s rs open_marks totals f at v))
 
-      pub later_added : {u us after : List ℕ} {k : ℕ} → LaterTotal t places s rs open_marks totals f at sum k u us after
+      pub later_added : {u us : List ℕ} {after : MarkTotals} {k : ℕ} → LaterTotal t places s rs open_marks totals f at sum k u us after
           → went (state_in bytes t u us open_marks after f at v) tt ≡ add_total m f here (get_or (functions_in m t (read s rs) totals) f nothing) (state_in bytes t s rs open_marks totals f at v)
       unfolding add_total join_total limited_context
       later_added T = rw (old_is, ← no-ray, T.within) (ap (λ (st : State). went st tt) (later_state T v))
 
-    module _ {u us after : List ℕ} {k : ℕ} (T : LaterTotal t places s rs open_marks totals f at sum k u us after) where
+    module _ {u us : List ℕ} {after : MarkTotals} {k : ℕ} (T : LaterTotal t places s rs open_marks totals f at sum k u us after) where
       pub later_standing : Sound m → held + (pieces (context_at (read s rs) at) + k) ≤ entries_cap → Standing bytes t types places u us open_marks after f at held k visits
       later_standing sound small =
           let N = T.added.made.total in
@@ -160,7 +156,6 @@ module _ {bytes t types places s rs open_marks totals : List ℕ} {f at held sum
           let G = good m sound 0 f st S.proper in
           let K = proper m sound 0 in
           total_standing S T.added.made.memory N after joined-marks (later_own T) (later_others T)
-          (ap length T.marks ∙ write_long totals _ _)
           (omega (arith, T.added.sums, ap record_pieces N.exprs, ap pieces N.context))
           small
           (rw (later_state T visits)

@@ -16,13 +16,15 @@ use Rattle.sound.proofs.Walks.{module_sound}
 use Rattle.memory.specs.Layout.{exprs_slot, totals_slot, stack_slot}
 use Rattle.memory.specs.Memory.{read, context_at}
 use Rattle.memory.proofs.Runs.{context_same}
+use Rattle.marks.specs.declared.places.MarkPlaces.{MarkPlaces}
+use Rattle.marks.specs.declared.totals.MarkTotals.{MarkTotals}
 use Rattle.state.specs.Ready.{Ready, Ended}
 use Rattle.block.specs.Standing.{rest_in, state_in, Standing}
 use Rattle.block.specs.Blocks.{context_in, Beside}
 use Rattle.block.proofs.Same.{functions_same, sum_kept, unwalked_kept}
 use Rattle.block.proofs.Steps.{items_within}
 
-module _ {bytes t types places s rs open_marks totals : List ℕ} {f sum visits : ℕ} (at held : ℕ)
+module _ {bytes t types : List ℕ} {places : MarkPlaces} {s rs open_marks : List ℕ} {totals : MarkTotals} {f sum visits : ℕ} (at held : ℕ)
     (S : Standing bytes t types places s rs open_marks totals f (at + 4 + 4) (held + context_in s rs at + context_in s rs (at + 4)) sum visits) (low : stack_slot ≤ at) where
   abbrev m : Module
   m = module_of bytes t
@@ -120,7 +122,6 @@ module _ {bytes t types places s rs open_marks totals : List ℕ} {f sum visits 
             typed = S.typed;
             placed = S.placed;
             open_long = S.open_long;
-            totals_long = S.totals_long;
             totals-sum = sum_kept (read s rs) (read u us) w totals_kept totals S.totals-sum;
             unwalked = unwalked_kept (read s rs) (read u us) w totals_kept totals S.unwalked;
             proper = record {

@@ -16,6 +16,8 @@ use Rattle.walk.proofs.Room.{pieces-merge}
 use Rattle.sound.proofs.Walks.{module_sound}
 use Rattle.memory.specs.Layout.{stack_slot, room}
 use Rattle.memory.specs.Memory.{read, context_at}
+use Rattle.marks.specs.declared.places.MarkPlaces.{MarkPlaces}
+use Rattle.marks.specs.declared.totals.MarkTotals.{MarkTotals}
 use Rattle.state.specs.Ready.{WasRead}
 use Rattle.block.specs.Standing.{state_in, Standing}
 use Rattle.block.specs.Saved.{Joined}
@@ -37,7 +39,7 @@ pub join-room : (s rs : List ℕ) (k : ℕ) → Room s room → context_in s rs 
 join-room s rs k r a b = omega arith
 
 -- k is the lower of the two
-module _ {bytes t types places s rs open_marks totals : List ℕ} {f k outer sum visits : ℕ} (S : Standing bytes t types places s rs open_marks totals f (k + 4) outer sum visits)
+module _ {bytes t types : List ℕ} {places : MarkPlaces} {s rs open_marks : List ℕ} {totals : MarkTotals} {f k outer sum visits : ℕ} (S : Standing bytes t types places s rs open_marks totals f (k + 4) outer sum visits)
     (low : stack_slot ≤ k) {r : Bool} {u us : List ℕ} (J : Joined s rs k r u us) where
   abbrev lower : RequiredContext
   lower = context_at (read s rs) k

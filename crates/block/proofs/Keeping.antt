@@ -23,6 +23,8 @@ use Rattle.memory.specs.Memory.{read, sum_from, counted, Recorded, context_at, M
 use Rattle.memory.proofs.Slots.{read_at, read-long, slot_low, counted-split}
 use Rattle.memory.proofs.Runs.{records_same, context_same}
 use Rattle.valid.proofs.Accepted.{valid}
+use Rattle.marks.specs.declared.places.MarkPlaces.{MarkPlaces}
+use Rattle.marks.specs.declared.totals.MarkTotals.{MarkTotals}
 use Rattle.marks.specs.Report.{has_total}
 use Rattle.marks.specs.Report as report
 use Rattle.marks.proofs.Sums.{total_there, total_missing}
@@ -38,7 +40,7 @@ pub totals_recorded : {s rs : List ℕ} → Memory s rs → (k : ℕ) → totals
 totals_recorded {s} {rs} m k a b = rw (read_at s rs k (slot_low m k (omega arith)).0) (m.records k (omega arith) b)
 
 -- a total counts for what its slots count for
-total_counts : (m : Module) (t : List ℕ) (ps : List PartReq) (totals : List ℕ) (f : ℕ) → (has_total totals f ≡ false → total_count t f ps ≡ 0) → function_pieces (total_in m t ps totals f) ≡ total_count t f ps
+total_counts : (m : Module) (t : List ℕ) (ps : List PartReq) (totals : MarkTotals) (f : ℕ) → (has_total totals f ≡ false → total_count t f ps ≡ 0) → function_pieces (total_in m t ps totals f) ≡ total_count t f ps
 unfolding total_in total_of function_pieces
 total_counts m t ps totals f h = by (has_total totals f) refl
   where
@@ -47,14 +49,14 @@ total_counts m t ps totals f h = by (has_total totals f) refl
     by false e = rw (total_missing m totals f e) (sym (h e))
 
 -- a total that is the same is there or is not
-same_flag : (m : Module) (totals after : List ℕ) (g : ℕ) → report.total_in m after g ≡ report.total_in m totals g → has_total after g ≡ false → has_total totals g ≡ false
+same_flag : (m : Module) (totals after : MarkTotals) (g : ℕ) → report.total_in m after g ≡ report.total_in m totals g → has_total after g ≡ false → has_total totals g ≡ false
 same_flag m totals after g same h = by (has_total totals g) refl
   where
     by : (b : Bool) → has_total totals g ≡ b → has_total totals g ≡ false
     by false e = e
     by true e = absurd (none-ne-some _ (sym (total_missing m after g h) ∙ same ∙ total_there m totals g e))
 
-module _ {bytes t types places s rs open_marks totals : List ℕ} {f at held sum visits : ℕ} {u us : List ℕ} {c : RequiredContext} {es : Records}
+module _ {bytes t types : List ℕ} {places : MarkPlaces} {s rs open_marks : List ℕ} {totals : MarkTotals} {f at held sum visits : ℕ} {u us : List ℕ} {c : RequiredContext} {es : Records}
     (S : Standing bytes t types places s rs open_marks totals f at held sum visits) (M : Memory u us) (N : NewTotal t f (read s rs) (read u us) c es) where
   within : totals_slot + items_to (row_at t f) ≤ functions_slot
   within = let h = S.ready.was_read.laid.within f (rw (functions_are t bytes) S.ready.function) in omega arith
@@ -110,7 +112,7 @@ module _ {bytes t types places s rs open_marks totals : List ℕ} {f at held sum
         sum_same (read u us) (read s rs) stack_slot (length (read s rs) - stack_slot) (λ j l. beyond (stack_slot + j) (omega arith)),
       )
 
-  module _ (after ms : List ℕ) (own : report.total_in (module_of bytes t) after f ≡ some ms)
+  module _ (after : MarkTotals) (ms : List ℕ) (own : report.total_in (module_of bytes t) after f ≡ some ms)
       (others : (g : ℕ) → g < length (module_of bytes t).functions → (g ≡ f → ⊥) → report.total_in (module_of bytes t) after g ≡ report.total_in (module_of bytes t) totals g) where
     abbrev req : FunctionReq
     req = record { marks = ms; context = c; exprs = es }
@@ -140,10 +142,10 @@ module _ {bytes t types places s rs open_marks totals : List ℕ} {f at held sum
           total_pieces-set old f (some req) (omega arith),
         )
 
-    pub total_standing : {m v : ℕ} → length after ≡ length totals → m + total_count t f (read s rs) ≡ sum + (record_pieces es + pieces c)
+    pub total_standing : {m v : ℕ} → m + total_count t f (read s rs) ≡ sum + (record_pieces es + pieces c)
         → held + (pieces (context_at (read s rs) at) + m) ≤ entries_cap → ProperState (module_of bytes t) 0 f (state_in bytes t u us open_marks after f at v)
         → Standing bytes t types places u us open_marks after f at held m v
-    total_standing {m} {v} long changed small proper =
+    total_standing {m} {v} changed small proper =
         let e = ap pieces own_context in
         let n = ap record_pieces own_records in
         let g = ap entries (below globals_slot (omega arith)) in
@@ -162,7 +164,6 @@ module _ {bytes t types places s rs open_marks totals : List ℕ} {f at held sum
           typed = S.typed;
           placed = S.placed;
           open_long = S.open_long;
-          totals_long = omega (arith, S.totals_long);
           totals-sum = totals-sum;
           unwalked = λ k l h.
               elim (ℕ_discrete k f) [

@@ -21,6 +21,8 @@ use Rattle.memory.specs.Stretches.{four_set, forgotten}
 use Rattle.memory.proofs.Slots.{read-long}
 use Rattle.memory.proofs.Records.{records_pieces}
 use Rattle.memory.proofs.Runs.{context_put, clear_read, records_same, context_same}
+use Rattle.marks.specs.declared.places.MarkPlaces.{MarkPlaces}
+use Rattle.marks.specs.declared.totals.MarkTotals.{MarkTotals}
 use Rattle.marks.specs.Places.{slice, start_of, start_in, size_in}
 use Rattle.marks.proofs.Write.{write_long, write_after, slice-more}
 use Rattle.marks.proofs.Placed.{start_within}
@@ -49,7 +51,7 @@ empty_at : (s vs : List ℕ) (k i : ℕ) → k + 4 ≤ length vs → i < 4 → g
 empty_at s vs k i h l =
     rw (clear_read s vs k) (empty_slots (with_context (read s vs) k empty_context) k i (context_put (read s vs) k empty_context (omega (arith, read-long s vs))) l)
 
-module _ {bytes t types places s rs open_marks totals : List ℕ} {f at held sum visits : ℕ} {g : FunctionHandle} {inner less later : ℕ} {u us open_after totals-after : List ℕ}
+module _ {bytes t types : List ℕ} {places : MarkPlaces} {s rs open_marks : List ℕ} {totals : MarkTotals} {f at held sum visits : ℕ} {g : FunctionHandle} {inner less later : ℕ} {u us open_after : List ℕ} {totals-after : MarkTotals}
     (L : Left bytes t types places s rs open_marks totals f at held sum visits g inner less later u us open_after totals-after) where
   abbrev m : Module
   m = module_of bytes t
@@ -230,7 +232,6 @@ module _ {bytes t types places s rs open_marks totals : List ℕ} {f at held sum
         typed = L.caller.typed;
         placed = L.caller.placed;
         open_long = L.callee.open_long;
-        totals_long = L.callee.totals_long;
         totals-sum = rw (functions_left, totals_same (read u us) (read u left) w totals_kept) L.callee.totals-sum;
         unwalked = unwalked_kept (read u us) (read u left) w totals_kept totals-after L.callee.unwalked;
         proper = rw left-state
@@ -247,7 +248,7 @@ module _ {bytes t types places s rs open_marks totals : List ℕ} {f at held sum
       }
 
 -- What a call leaves of the caller as g begins.
-module _ {bytes t types places s rs open_marks totals : List ℕ} {f at held sum visits : ℕ} (S : Standing bytes t types places s rs open_marks totals f at held sum visits) where
+module _ {bytes t types : List ℕ} {places : MarkPlaces} {s rs open_marks : List ℕ} {totals : MarkTotals} {f at held sum visits : ℕ} (S : Standing bytes t types places s rs open_marks totals f at held sum visits) where
   pub beside_entered : {g : FunctionHandle} {base : RequiredContext} {u us cleared : List ℕ} → g < f → Saved s rs (at + 4) base u us
       → cleared ≡ write_marks open_marks (start_in places g) (replicate (size_in places g) 0) → Beside bytes t g (at + 4) s rs open_marks u us cleared
   beside_entered {g} {base} {u} {us} lower d marks =

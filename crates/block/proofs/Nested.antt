@@ -16,6 +16,8 @@ use Rattle.walk.specs.StatementReq.{StatementReq}
 use Rattle.walk.specs.Statement.{add_nested}
 use Rattle.memory.specs.Memory.{read, sum_from, context_at, Memory}
 use Rattle.memory.proofs.Runs.{context_pieces}
+use Rattle.marks.specs.declared.places.MarkPlaces.{MarkPlaces}
+use Rattle.marks.specs.declared.totals.MarkTotals.{MarkTotals}
 use Rattle.marks.specs.Ray.{held_count, held_number}
 use Rattle.marks.proofs.Rays.{held_block}
 use Rattle.state.specs.Frame.{frame_of}
@@ -35,7 +37,7 @@ use Rattle.block.proofs.Tight.{enters_more, ends_less}
 use Rattle.block.proofs.Answered.{block_went, block_halt, block_anywhere}
 use Rattle.block.proofs.Paired.{weighs}
 
-module _ {bytes t types places s rs open_marks totals : List ℕ} {fr : Frame} {b : BlockHandle} {row : Kinded} {sum visits : ℕ}
+module _ {bytes t types : List ℕ} {places : MarkPlaces} {s rs open_marks : List ℕ} {totals : MarkTotals} {fr : Frame} {b : BlockHandle} {row : Kinded} {sum visits : ℕ}
     (A : Arms bytes t types places s rs open_marks totals fr b row sum visits) where
   -- the context at the top can be counted
   pub arm_weighs : Memory s rs × ((fr.at + 4 ≤ length rs) × (sum_from (read s rs) fr.at 4 ≤ entries_cap))
@@ -78,7 +80,7 @@ module _ {bytes t types places s rs open_marks totals : List ℕ} {fr : Frame} {
       pub nested_enters : Entered bytes t types places s rs open_marks totals fr.function.0 inner fr.at (fr.at + 4) (fr.held + w) (fr.held + w + context_in s rs fr.at) sum visits
       nested_enters = rw weight (enters_more nested_held (omega arith))
 
-      module _ {r : Result Answer Halt} {u us open_after totals-after : List ℕ}
+      module _ {r : Result Answer Halt} {u us open_after : List ℕ} {totals-after : MarkTotals}
           (E : BlockEnds bytes t types places s rs open_marks totals fr.function.0 fr.at (fr.at + 4) (fr.held + w) (fr.held + w + context_in s rs fr.at) sum (Inside w) r u us open_after totals-after) where
         pub nested_stops : {stop : Halt} → r ≡ Err stop
             → StatementEnds bytes t types places s rs open_marks totals fr whole StatementReq.BlockStmt (Err stop) u us open_after totals-after

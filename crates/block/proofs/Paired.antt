@@ -15,6 +15,8 @@ use Rattle.walk.specs.State.{State, Place, Out, went, halt}
 use Rattle.walk.specs.Statement.{BlockWalk}
 use Rattle.memory.specs.Memory.{read, sum_from, context_at, Memory}
 use Rattle.memory.proofs.Runs.{context_pieces}
+use Rattle.marks.specs.declared.places.MarkPlaces.{MarkPlaces}
+use Rattle.marks.specs.declared.totals.MarkTotals.{MarkTotals}
 use Rattle.state.specs.declared.answer.Tally.{Tally}
 use Rattle.state.specs.declared.answer.Halt.{Halt}
 use Rattle.state.specs.declared.answer.Answer.{Answer}
@@ -45,11 +47,11 @@ module _ (block : BlockWalk) (first second : BlockHandle) (held : ℕ) (base : R
     pair_is g = rw (← e) (rw (← g))
 
 -- the entries of a context that stands can be counted
-pub weighs : {bytes t types places s rs open_marks totals : List ℕ} {f at held sum visits : ℕ} → Standing bytes t types places s rs open_marks totals f at held sum visits
+pub weighs : {bytes t types : List ℕ} {places : MarkPlaces} {s rs open_marks : List ℕ} {totals : MarkTotals} {f at held sum visits : ℕ} → Standing bytes t types places s rs open_marks totals f at held sum visits
     → Memory s rs × ((at + 4 ≤ length rs) × (sum_from (read s rs) at 4 ≤ entries_cap))
 weighs {s = s} {rs = rs} {at = at} S = (S.ready.memory, (S.ready.high, omega (arith, S.ready.small, context_pieces (read s rs) at)))
 
-module _ {bytes t types places s rs open_marks totals : List ℕ} {f : FunctionHandle} {b first second : BlockHandle} {base at held sum visits : ℕ}
+module _ {bytes t types : List ℕ} {places : MarkPlaces} {s rs open_marks : List ℕ} {totals : MarkTotals} {f : FunctionHandle} {b first second : BlockHandle} {base at held sum visits : ℕ}
     (P : Paired bytes t types places s rs open_marks totals f b first second base at held sum visits) where
   first-held : Entered bytes t types places s rs open_marks totals f first base at held held sum visits
   first-held = record {
@@ -76,7 +78,7 @@ module _ {bytes t types places s rs open_marks totals : List ℕ} {f : FunctionH
     abbrev whole : Out (RequiredContext × Bool)
     whole = add_pair (block_in bytes t f) first second held (context_at (read s rs) base) required start
 
-    module _ {r : Result Answer Halt} {u us open-1 totals-1 : List ℕ}
+    module _ {r : Result Answer Halt} {u us open-1 : List ℕ} {totals-1 : MarkTotals}
         (E : BlockEnds bytes t types places s rs open_marks totals f base at held (held + context_in s rs base) sum (block_in bytes t f first held (context_at (read s rs) base) required start) r u us open-1 totals-1) where
       pub pair_halt : {stop : Halt} → r ≡ Err stop
           → PairEnds bytes t types places s rs open_marks totals f base at held whole (Err stop) u us open-1 totals-1
@@ -135,7 +137,7 @@ module _ {bytes t types places s rs open_marks totals : List ℕ} {f : FunctionH
           second_is = rw weight second_anywhere
 
           -- and the second
-          module _ {q : Result Answer Halt} {v vs open-2 totals-2 : List ℕ}
+          module _ {q : Result Answer Halt} {v vs open-2 : List ℕ} {totals-2 : MarkTotals}
               (D : BlockEnds bytes t types places u us open-1 totals-1 f base (at + 4) (held + w) (held + w + context_in u us base) tally.sum (Second w) q v vs open-2 totals-2) where
             pub pair_halt_2 : {stop : Halt} → q ≡ Err stop
                 → PairEnds bytes t types places s rs open_marks totals f base at held whole (Err stop) v vs open-2 totals-2

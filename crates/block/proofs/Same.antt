@@ -20,6 +20,7 @@ use Rattle.state.specs.State.{records_in, totals_sum, state_of, sum_in}
 use Rattle.state.specs.Ready.{WasRead}
 use Rattle.state.proofs.Own.{fits}
 use Rattle.state.proofs.Others.{sum_same}
+use Rattle.marks.specs.declared.totals.MarkTotals.{MarkTotals}
 use Rattle.marks.specs.Report.{has_total}
 use Rattle.block.specs.Standing.{total_in, functions_in, rest_in}
 
@@ -41,11 +42,11 @@ module _ (ps qs : List PartReq) where
           records_same ps qs (totals_slot + expressions_from (row_at t g)) (row_at t g).expressions (λ e b. h (totals_slot + expressions_from (row_at t g) + e) (omega arith) (omega arith)),
         )
 
-    total_same : (totals : List ℕ) (g : FunctionHandle) → g < length (module_of bytes t).functions → total_in (module_of bytes t) t qs totals g ≡ total_in (module_of bytes t) t ps totals g
+    total_same : (totals : MarkTotals) (g : FunctionHandle) → g < length (module_of bytes t).functions → total_in (module_of bytes t) t qs totals g ≡ total_in (module_of bytes t) t ps totals g
     unfolding total_in
     total_same totals g l = rw ((total_slots g l).0, (total_slots g l).1)
 
-    pub functions_same : (totals : List ℕ) → functions_in (module_of bytes t) t qs totals ≡ functions_in (module_of bytes t) t ps totals
+    pub functions_same : (totals : MarkTotals) → functions_in (module_of bytes t) t qs totals ≡ functions_in (module_of bytes t) t ps totals
     unfolding functions_in
     functions_same totals =
         tab-same (length (module_of bytes t).functions) (total_in (module_of bytes t) t qs totals) (total_in (module_of bytes t) t ps totals) (λ g l. total_same totals g l)
@@ -58,10 +59,10 @@ module _ (ps qs : List PartReq) where
         )
 
     -- of a state that stands
-    pub sum_kept : (totals : List ℕ) → total_pieces (functions_in (module_of bytes t) t ps totals) ≡ totals_sum ps → total_pieces (functions_in (module_of bytes t) t qs totals) ≡ totals_sum qs
+    pub sum_kept : (totals : MarkTotals) → total_pieces (functions_in (module_of bytes t) t ps totals) ≡ totals_sum ps → total_pieces (functions_in (module_of bytes t) t qs totals) ≡ totals_sum qs
     sum_kept totals e = rw (functions_same totals, totals_same) e
 
-    pub unwalked_kept : (totals : List ℕ)
+    pub unwalked_kept : (totals : MarkTotals)
         → ((g : ℕ) → g < length (module_of bytes t).functions → has_total totals g ≡ false → record_pieces (records_in t totals_slot g ps) + pieces (context_at ps (functions_slot + 4 * g)) ≡ 0)
         → (g : ℕ) → g < length (module_of bytes t).functions → has_total totals g ≡ false → record_pieces (records_in t totals_slot g qs) + pieces (context_at qs (functions_slot + 4 * g)) ≡ 0
     unwalked_kept totals old g l z = rw ((total_slots g l).0, (total_slots g l).1) (old g l z)
@@ -77,7 +78,7 @@ module _ (ps qs : List PartReq) where
     pub own_sum : sum_in t f qs ≡ sum_in t f ps
     own_sum = rw (own_records, h globals_slot (omega arith) (omega arith), totals_same w (λ k a b. h k (omega arith) b))
 
-    pub state_same : (at v : ℕ) (open_marks totals : List ℕ)
+    pub state_same : (at v : ℕ) (open_marks : List ℕ) (totals : MarkTotals)
         → state_of t f at qs (rest_in (module_of bytes t) t f qs open_marks totals) v
         ≡ record {
           context = context_at qs at;

@@ -27,6 +27,8 @@ use Rattle.memory.specs.Layout.{room}
 use Rattle.memory.specs.Memory.{read, sum_from, context_at, Memory}
 use Rattle.memory.specs.Stretches.{four_set}
 use Rattle.memory.proofs.Runs.{context_pieces}
+use Rattle.marks.specs.declared.places.MarkPlaces.{MarkPlaces}
+use Rattle.marks.specs.declared.totals.MarkTotals.{MarkTotals}
 use Rattle.marks.specs.Ray.{BlockOf, StatementIn}
 use Rattle.marks.proofs.Rays.{statement_in, statement_small}
 use Rattle.marks.proofs.Placed.{at_function}
@@ -51,7 +53,7 @@ visit_one bytes t f held base s r =
     visit_statement (module_of bytes t) (add_function (module_of bytes t)) (block_in bytes t f) (record { function = f; statement = s; held = held + pieces base; base = base; break_required = r })
 
 -- n statements from `first` on are left; s, rs, open_marks and totals are what the first visit found, with a copy of the base for the current context
-pub record StatementsLeft (bytes t types places s rs open_marks totals : List ℕ) (f : ℕ) (b : BlockHandle) (base at held sum : ℕ) (total : Out Bool) (first inner v m : ℕ) (behind required : Bool) (n : ℕ) (u us open_after totals-after : List ℕ) : Type 0 where
+pub record StatementsLeft (bytes t types : List ℕ) (places : MarkPlaces) (s rs open_marks : List ℕ) (totals : MarkTotals) (f : ℕ) (b : BlockHandle) (base at held sum : ℕ) (total : Out Bool) (first inner v m : ℕ) (behind required : Bool) (n : ℕ) (u us open_after : List ℕ) (totals-after : MarkTotals) : Type 0 where
   pub holds : inner ≡ held + context_in s rs base
   pub within : (k : ℕ) → k < n → StatementIn bytes t f b (first + k)
   pub rest : add_statements (visit_one bytes t f held (context_at (read s rs) base)) first n behind required (state_in bytes t u us open_after totals-after f at v) ≡ total
@@ -60,7 +62,7 @@ pub record StatementsLeft (bytes t types places s rs open_marks totals : List �
   pub roomy : Room u room
   pub beside : Beside bytes t f at s rs open_marks u us open_after
 
-module _ {bytes t types places s rs open_marks totals : List ℕ} (f : Handle) {b : BlockHandle} {base at held sum visits : ℕ}
+module _ {bytes t types : List ℕ} {places : MarkPlaces} {s rs open_marks : List ℕ} {totals : MarkTotals} (f : Handle) {b : BlockHandle} {base at held sum visits : ℕ}
     (E : Entered bytes t types places s rs open_marks totals f.0 b base at held (held + context_in s rs base) sum visits) where
   -- the base can be counted and copied
   pub base-weighs : Memory s rs × ((base + 4 ≤ length rs) × (sum_from (read s rs) base 4 ≤ entries_cap))
@@ -145,7 +147,7 @@ module _ {bytes t types places s rs open_marks totals : List ℕ} (f : Handle) {
         beside = beside_same refl refl;
       }
 
-      module _ {first inner v m : ℕ} {behind needed : Bool} {n : ℕ} {u us open-1 totals-1 : List ℕ}
+      module _ {first inner v m : ℕ} {behind needed : Bool} {n : ℕ} {u us open-1 : List ℕ} {totals-1 : MarkTotals}
           (L : StatementsLeft bytes t types places s bs open_marks totals f.0 b base at held sum Begun first inner v m behind needed n u us open-1 totals-1) where
         base_same : context_at (read u us) base ≡ context_at (read s rs) base
         base_same = beside_context L.beside base E.base_low E.base_below ∙ base_kept
@@ -204,7 +206,7 @@ module _ {bytes t types places s rs open_marks totals : List ℕ} (f : Handle) {
           left_is : add_statements visits_one first (suc (n - 1)) behind needed now ≡ Begun
           left_is = let z : n ≡ suc (n - 1) = omega arith in subst (λ (k : ℕ). add_statements visits_one first k behind needed now ≡ Begun) z L.rest
 
-          module _ {r : Result Answer Halt} {x xs open-2 totals-2 : List ℕ} (R : VisitEnds bytes t types places u us open-1 totals-1 frame Visited r x xs open-2 totals-2) where
+          module _ {r : Result Answer Halt} {x xs open-2 : List ℕ} {totals-2 : MarkTotals} (R : VisitEnds bytes t types places u us open-1 totals-1 frame Visited r x xs open-2 totals-2) where
             pub statements_stop : {stop : Halt} → r ≡ Err stop
                 → BlockEnds bytes t types places s rs open_marks totals f.0 base at held (held + context_in s rs base) sum whole (Err stop) x xs open-2 totals-2
             statements_stop e =

@@ -19,6 +19,8 @@ use Rattle.walk.specs.State.{Out}
 use Rattle.memory.specs.Layout.{exprs_slot, totals_slot, stack_slot, room}
 use Rattle.memory.specs.Memory.{read, context_at}
 use Rattle.memory.proofs.Runs.{context_same}
+use Rattle.marks.specs.declared.places.MarkPlaces.{MarkPlaces}
+use Rattle.marks.specs.declared.totals.MarkTotals.{MarkTotals}
 use Rattle.state.specs.State.{state_of}
 use Rattle.state.specs.Ready.{WasRead, Ready}
 use Rattle.state.specs.Frame.{Apart}
@@ -62,7 +64,7 @@ module _ {bytes t : List ℕ} {f : FunctionHandle} where
   beside_context {s = s} {rs = rs} {u = u} {us = us} b k l h = context_same (read s rs) (read u us) k (λ i x. b.stack (k + i) (omega arith) (omega arith))
 
 -- a statement's end, as one of a statement that began before
-pub ends_from : {A : Type 0} {bytes t types places s rs open_marks totals u us open-1 totals-1 : List ℕ} {fr : Frame} {first total : Out A} {answer : Bool → A} (r : Result Answer Halt) {x xs open-2 totals-2 : List ℕ}
+pub ends_from : {A : Type 0} {bytes t types : List ℕ} {places : MarkPlaces} {s rs open_marks : List ℕ} {totals : MarkTotals} {u us open-1 : List ℕ} {totals-1 : MarkTotals} {fr : Frame} {first total : Out A} {answer : Bool → A} (r : Result Answer Halt) {x xs open-2 : List ℕ} {totals-2 : MarkTotals}
     → Beside bytes t fr.function.0 fr.at s rs open_marks u us open-1 → first ≡ total
     → StatementEnds bytes t types places u us open-1 totals-1 fr first answer r x xs open-2 totals-2
     → StatementEnds bytes t types places s rs open_marks totals fr total answer r x xs open-2 totals-2
@@ -72,7 +74,7 @@ ends_from {fr = fr} (Ok a) k e E = record {
 ends_from (Err stop) k e E = record { by = E.by ∙ e }
 
 -- the two contexts at the top made one, where k is the lower of them
-pub beside_popped : {bytes t types places s rs open_marks totals : List ℕ} {f k outer sum visits : ℕ} {c : RequiredContext} {u us : List ℕ}
+pub beside_popped : {bytes t types : List ℕ} {places : MarkPlaces} {s rs open_marks : List ℕ} {totals : MarkTotals} {f k outer sum visits : ℕ} {c : RequiredContext} {u us : List ℕ}
     → Standing bytes t types places s rs open_marks totals f (k + 4) outer sum visits → Popped s rs k c u us → stack_slot ≤ k → Beside bytes t f k s rs open_marks u us open_marks
 beside_popped S d low = record {
   long = d.long;
@@ -82,7 +84,7 @@ beside_popped S d low = record {
   marks = λ j a. refl;
 }
 
-module _ {bytes t types places s rs open_marks totals : List ℕ} {f at held sum visits : ℕ} (S : Standing bytes t types places s rs open_marks totals f at held sum visits) where
+module _ {bytes t types : List ℕ} {places : MarkPlaces} {s rs open_marks : List ℕ} {totals : MarkTotals} {f at held sum visits : ℕ} (S : Standing bytes t types places s rs open_marks totals f at held sum visits) where
   -- a block whose context is to be above the current one
   pub enters : (b : BlockHandle) (base : ℕ) → b < (row_at t f).blocks → stack_slot ≤ base → base ≤ at → FineContext (module_of bytes t) f (context_at (read s rs) base)
       → context_in s rs base ≤ 2 * max_pieces → held + context_in s rs at + (context_in s rs base + sum) ≤ 8 * max_pieces → Deep bytes t rs f b (at + 4) → Room s room
@@ -122,7 +124,6 @@ module _ {bytes t types places s rs open_marks totals : List ℕ} {f at held sum
           typed = S.typed;
           placed = S.placed;
           open_long = S.open_long;
-          totals_long = S.totals_long;
           totals-sum = sum_kept (read s rs) (read u us) w totals_kept totals S.totals-sum;
           unwalked = unwalked_kept (read s rs) (read u us) w totals_kept totals S.unwalked;
           proper = p;

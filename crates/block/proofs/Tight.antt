@@ -18,12 +18,14 @@ use Rattle.memory.specs.Memory.{read, sum_from, counted, context_at}
 use Rattle.memory.proofs.Slots.{read-long, counted-split}
 use Rattle.memory.proofs.Records.{records_pieces}
 use Rattle.memory.proofs.Runs.{context_pieces}
+use Rattle.marks.specs.declared.places.MarkPlaces.{MarkPlaces}
+use Rattle.marks.specs.declared.totals.MarkTotals.{MarkTotals}
 use Rattle.state.proofs.Own.{fits, records_there}
 use Rattle.leave.proofs.Sums.{sum_stretch}
 use Rattle.block.specs.Standing.{Standing}
 use Rattle.block.specs.Blocks.{context_in, Entered, Beside, BlockEnded}
 
-module _ {bytes t types places s rs open_marks totals : List ℕ} {f at held sum visits : ℕ} (S : Standing bytes t types places s rs open_marks totals f at held sum visits) where
+module _ {bytes t types : List ℕ} {places : MarkPlaces} {s rs open_marks : List ℕ} {totals : MarkTotals} {f at held sum visits : ℕ} (S : Standing bytes t types places s rs open_marks totals f at held sum visits) where
   -- the same state where something else is held
   owning : (own : ℕ) → counted (read s rs) ≤ own + (pieces (context_at (read s rs) at) + sum) → own + (pieces (context_at (read s rs) at) + sum) ≤ entries_cap
       → Standing bytes t types places s rs open_marks totals f at own sum visits
@@ -41,7 +43,6 @@ module _ {bytes t types places s rs open_marks totals : List ℕ} {f at held sum
     typed = S.typed;
     placed = S.placed;
     open_long = S.open_long;
-    totals_long = S.totals_long;
     totals-sum = S.totals-sum;
     unwalked = S.unwalked;
     proper = S.proper;
@@ -49,11 +50,11 @@ module _ {bytes t types places s rs open_marks totals : List ℕ} {f at held sum
     above = S.above;
   }
 
-module _ {bytes t types places s rs open_marks totals : List ℕ} {f at held sum visits : ℕ} (S : Standing bytes t types places s rs open_marks totals f at held sum visits) where
+module _ {bytes t types : List ℕ} {places : MarkPlaces} {s rs open_marks : List ℕ} {totals : MarkTotals} {f at held sum visits : ℕ} (S : Standing bytes t types places s rs open_marks totals f at held sum visits) where
   pub looser : (more : ℕ) → held ≤ more → more + (pieces (context_at (read s rs) at) + sum) ≤ entries_cap → Standing bytes t types places s rs open_marks totals f at more sum visits
   looser more l small = owning S more (omega (arith, S.ready.owned)) small
 
-  module _ {open_after totals-after u us : List ℕ} {other m v : ℕ} (U : Standing bytes t types places u us open_after totals-after f at other m v)
+  module _ {open_after : List ℕ} {totals-after : MarkTotals} {u us : List ℕ} {other m v : ℕ} (U : Standing bytes t types places u us open_after totals-after f at other m v)
       (B : Beside bytes t f at s rs open_marks u us open_after) where
     abbrev from : ℕ
     from = exprs_slot + expressions_from (row_at t f)
@@ -107,7 +108,7 @@ module _ {bytes t types places s rs open_marks totals : List ℕ} {f at held sum
     tighter own owned l = owning U own (omega (arith, counts_kept)) (omega (arith, U.ready.small))
 
 -- a block that holds its base once more
-module _ {bytes t types places s rs open_marks totals : List ℕ} {f : FunctionHandle} {b : BlockHandle} {base at held own sum visits : ℕ}
+module _ {bytes t types : List ℕ} {places : MarkPlaces} {s rs open_marks : List ℕ} {totals : MarkTotals} {f : FunctionHandle} {b : BlockHandle} {base at held own sum visits : ℕ}
     (E : Entered bytes t types places s rs open_marks totals f b base at held own sum visits) where
   pub enters_more : own ≤ held + context_in s rs base → Entered bytes t types places s rs open_marks totals f b base at held (held + context_in s rs base) sum visits
   enters_more l = record {
@@ -123,7 +124,7 @@ module _ {bytes t types places s rs open_marks totals : List ℕ} {f : FunctionH
     roomy = E.roomy;
   }
 
-  pub ends_less : own ≤ held + context_in s rs base → {total : Out Bool} {v m : ℕ} {r : Bool} {u us open_after totals-after : List ℕ}
+  pub ends_less : own ≤ held + context_in s rs base → {total : Out Bool} {v m : ℕ} {r : Bool} {u us open_after : List ℕ} {totals-after : MarkTotals}
       → BlockEnded bytes t types places s rs open_marks totals f base at held (held + context_in s rs base) sum total v m r u us open_after totals-after
       → BlockEnded bytes t types places s rs open_marks totals f base at held own sum total v m r u us open_after totals-after
   ends_less l B = record {

@@ -20,6 +20,8 @@ use Rattle.memory.specs.Layout.{globals_slot, totals_slot, stack_slot}
 use Rattle.memory.specs.Memory.{read, sum_from, counted, context_at, with_context, Memory}
 use Rattle.memory.proofs.Slots.{read-long}
 use Rattle.memory.proofs.Runs.{four_outside, context_put, sum_context, four_long, context_same}
+use Rattle.marks.specs.declared.places.MarkPlaces.{MarkPlaces}
+use Rattle.marks.specs.declared.totals.MarkTotals.{MarkTotals}
 use Rattle.block.specs.Standing.{state_in, Standing}
 use Rattle.block.specs.Saved.{Saved, Popped}
 use Rattle.block.proofs.Same.{own_sum, state_same, sum_kept, unwalked_kept}
@@ -93,7 +95,7 @@ record Moved (s rs u us : List ℕ) : Type 0 where
   pub long : length us ≡ length rs
   pub same : (k : ℕ) → globals_slot ≤ k → k < stack_slot → get_or (read u us) k none ≡ get_or (read s rs) k none
 
-module _ {bytes t types places s rs open_marks totals : List ℕ} {f at held sum visits : ℕ} (S : Standing bytes t types places s rs open_marks totals f at held sum visits) where
+module _ {bytes t types : List ℕ} {places : MarkPlaces} {s rs open_marks : List ℕ} {totals : MarkTotals} {f at held sum visits : ℕ} (S : Standing bytes t types places s rs open_marks totals f at held sum visits) where
   module _ {u us : List ℕ} (M : Moved s rs u us) where
     moved_state : (to : ℕ) → state_in bytes t u us open_marks totals f to visits ≡ walk.with_context (context_at (read u us) to) (state_in bytes t s rs open_marks totals f at visits)
     moved_state to = state_same (read s rs) (read u us) S.ready.was_read f S.ready.function M.same to visits open_marks totals
@@ -121,7 +123,6 @@ module _ {bytes t types places s rs open_marks totals : List ℕ} {f at held sum
           typed = S.typed;
           placed = S.placed;
           open_long = S.open_long;
-          totals_long = S.totals_long;
           totals-sum = sum_kept (read s rs) (read u us) w totals_kept totals S.totals-sum;
           unwalked = unwalked_kept (read s rs) (read u us) w totals_kept totals S.unwalked;
           proper = rw (moved_state to)
@@ -182,7 +183,7 @@ module _ {bytes t types places s rs open_marks totals : List ℕ} {f at held sum
         (omega arith)
 
 -- the two at the top made one: k is the lower of them
-module _ {bytes t types places s rs open_marks totals : List ℕ} {f k outer sum visits : ℕ} {c : RequiredContext} {u us : List ℕ}
+module _ {bytes t types : List ℕ} {places : MarkPlaces} {s rs open_marks : List ℕ} {totals : MarkTotals} {f k outer sum visits : ℕ} {c : RequiredContext} {u us : List ℕ}
     (S : Standing bytes t types places s rs open_marks totals f (k + 4) outer sum visits) (d : Popped s rs k c u us) (low : stack_slot ≤ k) where
   high : k + 8 ≤ length (read s rs)
   high = omega (arith, S.ready.high, read-long s rs)

@@ -22,6 +22,7 @@ use Rattle.memory.specs.Layout.{totals_slot, functions_slot}
 use Rattle.memory.specs.Memory.{Recorded, context_at}
 use Rattle.memory.proofs.Records.{records_pieces}
 use Rattle.memory.proofs.Runs.{context_pieces, records_same, context_same}
+use Rattle.marks.specs.declared.totals.MarkTotals.{MarkTotals}
 use Rattle.marks.specs.Report as report
 use Rattle.state.specs.State.{records_in, totals_sum}
 use Rattle.state.specs.Ready.{WasRead}
@@ -51,16 +52,16 @@ module _ {bytes t : List ℕ} {f : FunctionHandle} {ps qs : List PartReq} {c : R
         (λ k y z. ne (sym (number_once t w.laid f g k e (omega arith) (omega arith) y x (omega arith)).0)) (λ j y z. omega arith))
 
   -- the totals of the state
-  own_total : (after ms : List ℕ) → report.total_in (module_of bytes t) after f ≡ some ms → total_in (module_of bytes t) t qs after f ≡ some (record { marks = ms; context = c; exprs = es })
+  own_total : (after : MarkTotals) (ms : List ℕ) → report.total_in (module_of bytes t) after f ≡ some ms → total_in (module_of bytes t) t qs after f ≡ some (record { marks = ms; context = c; exprs = es })
   unfolding total_in total_of
   own_total after ms own = rw (own, N.context, N.exprs)
 
-  other_total : (totals after : List ℕ) (g : ℕ) → g < length (module_of bytes t).functions → (g ≡ f → ⊥) → report.total_in (module_of bytes t) after g ≡ report.total_in (module_of bytes t) totals g
+  other_total : (totals after : MarkTotals) (g : ℕ) → g < length (module_of bytes t).functions → (g ≡ f → ⊥) → report.total_in (module_of bytes t) after g ≡ report.total_in (module_of bytes t) totals g
       → total_in (module_of bytes t) t qs after g ≡ total_in (module_of bytes t) t ps totals g
   unfolding total_in
   other_total totals after g l ne same = rw (same, other_context g l ne, other_records g l ne)
 
-  pub functions-set : (totals after ms : List ℕ) → report.total_in (module_of bytes t) after f ≡ some ms
+  pub functions-set : (totals after : MarkTotals) (ms : List ℕ) → report.total_in (module_of bytes t) after f ≡ some ms
       → ((g : ℕ) → g < length (module_of bytes t).functions → (g ≡ f → ⊥) → report.total_in (module_of bytes t) after g ≡ report.total_in (module_of bytes t) totals g)
       → functions_in (module_of bytes t) t qs after ≡ set (functions_in (module_of bytes t) t ps totals) f (some (record { marks = ms; context = c; exprs = es }))
   unfolding functions_in

@@ -12,6 +12,8 @@ use Rattle.walk.specs.Proper.{FineContext}
 use Rattle.sound.specs.Sizes.{record_number}
 use Rattle.memory.specs.Layout.{exprs_slot, totals_slot, stack_slot, room}
 use Rattle.memory.specs.Memory.{read, context_at}
+use Rattle.marks.specs.declared.places.MarkPlaces.{MarkPlaces}
+use Rattle.marks.specs.declared.totals.MarkTotals.{MarkTotals}
 use Rattle.marks.specs.Places.{start_of}
 use Rattle.state.specs.State.{place_of}
 use Rattle.state.specs.Frame.{Begun}
@@ -32,7 +34,7 @@ Deep bytes t rs f b at = at + 6 * (record_number (module_of bytes t) f b + 1) �
 
 -- What a block asks, whose base stands in the slots from `base` on. `own` is what the slots have beside the current context, records and totals: the base of a nested block is
 -- the holder's context, which `held` counts, and that of a function's body is not counted there.
-pub record Entered (bytes t types places s rs open_marks totals : List ℕ) (f : FunctionHandle) (b : BlockHandle) (base at held own sum visits : ℕ) : Type 0 where
+pub record Entered (bytes t types : List ℕ) (places : MarkPlaces) (s rs open_marks : List ℕ) (totals : MarkTotals) (f : FunctionHandle) (b : BlockHandle) (base at held own sum visits : ℕ) : Type 0 where
   pub standing : Standing bytes t types places s rs open_marks totals f at own sum visits
   pub empty : context_in s rs at ≡ 0
   pub block : b < (row_at t f).blocks
@@ -48,7 +50,7 @@ abbrev pub EnteredOf : World → Workspace → FunctionHandle → BlockHandle �
 EnteredOf w m f b base at held own sum visits = Entered w.file.now.bytes w.file.now.t w.types.now w.places.now m.parts.cells m.parts.slots m.open m.totals f b base at held own sum visits
 
 -- What the arm of a statement asks that may hold blocks; b is the block that it stands in.
-pub record Begins (bytes t types places s rs open_marks totals : List ℕ) (fr : Frame) (b : BlockHandle) (sum visits : ℕ) : Type 0 where
+pub record Begins (bytes t types : List ℕ) (places : MarkPlaces) (s rs open_marks : List ℕ) (totals : MarkTotals) (fr : Frame) (b : BlockHandle) (sum visits : ℕ) : Type 0 where
   pub standing : Standing bytes t types places s rs open_marks totals fr.function.0 fr.at fr.held sum visits
   pub begun : Begun bytes t s rs fr sum
   pub block : b < (row_at t fr.function.0).blocks
@@ -72,36 +74,36 @@ pub record Beside (bytes t : List ℕ) (f : FunctionHandle) (at : ℕ) (s rs ope
   pub marks : (k : ℕ) → start_of (module_of bytes t) (suc f) ≤ k → get_or open_after k 0 ≡ get_or open_marks k 0
 
 -- the walk of a block went as `total` says
-pub record BlockEnded (bytes t types places s rs open_marks totals : List ℕ) (f : FunctionHandle) (base at held own before-sum : ℕ) (total : Out Bool) (visits sum : ℕ) (b : Bool) (u us open_after totals-after : List ℕ) : Type 0 where
+pub record BlockEnded (bytes t types : List ℕ) (places : MarkPlaces) (s rs open_marks : List ℕ) (totals : MarkTotals) (f : FunctionHandle) (base at held own before-sum : ℕ) (total : Out Bool) (visits sum : ℕ) (b : Bool) (u us open_after : List ℕ) (totals-after : MarkTotals) : Type 0 where
   pub is : went (state_in bytes t u us open_after totals-after f at visits) b ≡ total
   pub standing : Standing bytes t types places u us open_after totals-after f at own sum visits
   pub settled : Settled held (context_at (read s rs) base) before-sum (context_at (read u us) at) sum
   pub roomy : Room u room
   pub beside : Beside bytes t f at s rs open_marks u us open_after
 
-abbrev pub BlockEnding : (bytes t types places s rs open_marks totals : List ℕ) → FunctionHandle → (base at held own sum : ℕ) → Out Bool → Result Answer Halt → (u us open_after totals-after : List ℕ) → Type 0
+abbrev pub BlockEnding : (bytes t types : List ℕ) (places : MarkPlaces) (s rs open_marks : List ℕ) (totals : MarkTotals) → FunctionHandle → (base at held own sum : ℕ) → Out Bool → Result Answer Halt → (u us open_after : List ℕ) (totals-after : MarkTotals) → Type 0
 BlockEnding bytes t types places s rs open_marks totals f base at held own sum total (Ok a) u us open_after totals-after =
     BlockEnded bytes t types places s rs open_marks totals f base at held own sum total a.tally.visits a.tally.sum a.required u us open_after totals-after
 BlockEnding bytes t types places s rs open_marks totals f base at held own sum total (Err h) u us open_after totals-after = halt (number h.refusal) (place_of h.place) ≡ total
 
-pub record BlockEnds (bytes t types places s rs open_marks totals : List ℕ) (f : FunctionHandle) (base at held own sum : ℕ) (total : Out Bool) (r : Result Answer Halt) (u us open_after totals-after : List ℕ) : Type 0 where
+pub record BlockEnds (bytes t types : List ℕ) (places : MarkPlaces) (s rs open_marks : List ℕ) (totals : MarkTotals) (f : FunctionHandle) (base at held own sum : ℕ) (total : Out Bool) (r : Result Answer Halt) (u us open_after : List ℕ) (totals-after : MarkTotals) : Type 0 where
   pub by : BlockEnding bytes t types places s rs open_marks totals f base at held own sum total r u us open_after totals-after
 
 abbrev pub BlockEndsOf : World → Workspace → FunctionHandle → ℕ → ℕ → ℕ → ℕ → ℕ → Out Bool → Result Answer Halt → Workspace → Type 0
 BlockEndsOf w m f base at held own sum total r n = BlockEnds w.file.now.bytes w.file.now.t w.types.now w.places.now m.parts.cells m.parts.slots m.open m.totals f base at held own sum total r n.parts.cells n.parts.slots n.open n.totals
 
 -- a statement, or its arm, went as `total` says, with `answer` for its answer b
-pub record StatementEnded {A : Type 0} (bytes t types places s rs open_marks totals : List ℕ) (fr : Frame) (total : Out A) (answer : Bool → A) (visits sum : ℕ) (b : Bool) (u us open_after totals-after : List ℕ) : Type 0 where
+pub record StatementEnded {A : Type 0} (bytes t types : List ℕ) (places : MarkPlaces) (s rs open_marks : List ℕ) (totals : MarkTotals) (fr : Frame) (total : Out A) (answer : Bool → A) (visits sum : ℕ) (b : Bool) (u us open_after : List ℕ) (totals-after : MarkTotals) : Type 0 where
   pub is : went (state_in bytes t u us open_after totals-after fr.function.0 fr.at visits) (answer b) ≡ total
   pub standing : Standing bytes t types places u us open_after totals-after fr.function.0 fr.at fr.held sum visits
   pub beside : Beside bytes t fr.function.0 fr.at s rs open_marks u us open_after
 
-abbrev pub StatementEnding : {A : Type 0} → (bytes t types places s rs open_marks totals : List ℕ) → Frame → Out A → (Bool → A) → Result Answer Halt → (u us open_after totals-after : List ℕ) → Type 0
+abbrev pub StatementEnding : {A : Type 0} → (bytes t types : List ℕ) (places : MarkPlaces) (s rs open_marks : List ℕ) (totals : MarkTotals) → Frame → Out A → (Bool → A) → Result Answer Halt → (u us open_after : List ℕ) (totals-after : MarkTotals) → Type 0
 StatementEnding bytes t types places s rs open_marks totals fr total answer (Ok a) u us open_after totals-after =
     StatementEnded bytes t types places s rs open_marks totals fr total answer a.tally.visits a.tally.sum a.required u us open_after totals-after
 StatementEnding bytes t types places s rs open_marks totals fr total answer (Err h) u us open_after totals-after = halt (number h.refusal) (place_of h.place) ≡ total
 
-pub record StatementEnds {A : Type 0} (bytes t types places s rs open_marks totals : List ℕ) (fr : Frame) (total : Out A) (answer : Bool → A) (r : Result Answer Halt) (u us open_after totals-after : List ℕ) : Type 0 where
+pub record StatementEnds {A : Type 0} (bytes t types : List ℕ) (places : MarkPlaces) (s rs open_marks : List ℕ) (totals : MarkTotals) (fr : Frame) (total : Out A) (answer : Bool → A) (r : Result Answer Halt) (u us open_after : List ℕ) (totals-after : MarkTotals) : Type 0 where
   pub by : StatementEnding bytes t types places s rs open_marks totals fr total answer r u us open_after totals-after
 
 abbrev pub StatementEndsOf : {A : Type 0} → World → Workspace → Frame → Out A → (Bool → A) → Result Answer Halt → Workspace → Type 0

@@ -5,6 +5,8 @@ use Rattle.module.specs.Module.{FunctionHandle}
 use Rattle.walk.specs.State.{record_pieces}
 use Rattle.memory.specs.Layout.{exprs_slot}
 use Rattle.memory.specs.Memory.{read}
+use Rattle.marks.specs.declared.places.MarkPlaces.{MarkPlaces}
+use Rattle.marks.specs.declared.totals.MarkTotals.{MarkTotals}
 use Rattle.state.specs.State.{records_in}
 use Rattle.leave.specs.Leave.{Leaving}
 use Rattle.block.specs.Standing.{Standing}
@@ -15,7 +17,7 @@ abbrev pub held_by : (t s rs : List ℕ) → FunctionHandle → (at held : ℕ) 
 held_by t s rs f at held = held + context_in s rs at + record_pieces (records_in t exprs_slot f (read s rs))
 
 -- `inner` is what g counts as held, with or without its base.
-pub record Left (bytes t types places s rs open_marks totals : List ℕ) (f : FunctionHandle) (at held sum visits : ℕ) (g : FunctionHandle) (inner less later : ℕ) (u us open_after totals-after : List ℕ) : Type 0 where
+pub record Left (bytes t types : List ℕ) (places : MarkPlaces) (s rs open_marks : List ℕ) (totals : MarkTotals) (f : FunctionHandle) (at held sum visits : ℕ) (g : FunctionHandle) (inner less later : ℕ) (u us open_after : List ℕ) (totals-after : MarkTotals) : Type 0 where
   pub caller : Standing bytes t types places s rs open_marks totals f at held sum visits
   pub callee : Standing bytes t types places u us open_after totals-after g (at + 8) inner less later
   pub lower : g < f

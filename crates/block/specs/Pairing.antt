@@ -11,6 +11,8 @@ use Rattle.walk.specs.Statement.{BlockWalk}
 use Rattle.walk.specs.Proper.{FineContext}
 use Rattle.memory.specs.Layout.{stack_slot, room}
 use Rattle.memory.specs.Memory.{read, context_at}
+use Rattle.marks.specs.declared.places.MarkPlaces.{MarkPlaces}
+use Rattle.marks.specs.declared.totals.MarkTotals.{MarkTotals}
 use Rattle.state.specs.State.{sum_in, place_of}
 use Rattle.state.specs.declared.frame.Frame.{Frame}
 use Rattle.state.specs.declared.answer.Halt.{Halt}
@@ -27,7 +29,7 @@ add_pair block first second held base break_required st =
     block second (held + pieces walked.context) base break_required walked >>= λ continued c. went continued (walked.context, a || c)
 
 -- What they ask, as blocks that a statement of the block b holds. The first one's context is to stand at `at`, the second one's behind it.
-pub record Paired (bytes t types places s rs open_marks totals : List ℕ) (f : FunctionHandle) (b first second : BlockHandle) (base at held sum visits : ℕ) : Type 0 where
+pub record Paired (bytes t types : List ℕ) (places : MarkPlaces) (s rs open_marks : List ℕ) (totals : MarkTotals) (f : FunctionHandle) (b first second : BlockHandle) (base at held sum visits : ℕ) : Type 0 where
   pub standing : Standing bytes t types places s rs open_marks totals f at held sum visits
   pub empty : context_in s rs at ≡ 0
   pub block : b < (row_at t f).blocks
@@ -45,7 +47,7 @@ pub record Paired (bytes t types places s rs open_marks totals : List ℕ) (f : 
 abbrev pub PairedOf : World → Workspace → FunctionHandle → BlockHandle → BlockHandle → BlockHandle → ℕ → ℕ → ℕ → ℕ → ℕ → Type 0
 PairedOf w m f b first second base at held sum visits = Paired w.file.now.bytes w.file.now.t w.types.now w.places.now m.parts.cells m.parts.slots m.open m.totals f b first second base at held sum visits
 
-pub record PairEnded (bytes t types places s rs open_marks totals : List ℕ) (f : FunctionHandle) (base at held : ℕ) (total : Out (RequiredContext × Bool)) (visits sum : ℕ) (b : Bool) (u us open_after totals-after : List ℕ) : Type 0 where
+pub record PairEnded (bytes t types : List ℕ) (places : MarkPlaces) (s rs open_marks : List ℕ) (totals : MarkTotals) (f : FunctionHandle) (base at held : ℕ) (total : Out (RequiredContext × Bool)) (visits sum : ℕ) (b : Bool) (u us open_after : List ℕ) (totals-after : MarkTotals) : Type 0 where
   pub is : went (state_in bytes t u us open_after totals-after f (at + 4) visits) (context_at (read u us) at, b) ≡ total
   pub standing : Standing bytes t types places u us open_after totals-after f (at + 4) (held + context_in u us at) sum visits
   pub first_fine : FineContext (module_of bytes t) f (context_at (read u us) at)
@@ -54,19 +56,19 @@ pub record PairEnded (bytes t types places s rs open_marks totals : List ℕ) (f
   pub roomy : Room u room
   pub beside : Beside bytes t f at s rs open_marks u us open_after
 
-abbrev pub PairEnding : (bytes t types places s rs open_marks totals : List ℕ) → FunctionHandle → (base at held : ℕ) → Out (RequiredContext × Bool) → Result Answer Halt → (u us open_after totals-after : List ℕ) → Type 0
+abbrev pub PairEnding : (bytes t types : List ℕ) (places : MarkPlaces) (s rs open_marks : List ℕ) (totals : MarkTotals) → FunctionHandle → (base at held : ℕ) → Out (RequiredContext × Bool) → Result Answer Halt → (u us open_after : List ℕ) (totals-after : MarkTotals) → Type 0
 PairEnding bytes t types places s rs open_marks totals f base at held total (Ok a) u us open_after totals-after =
     PairEnded bytes t types places s rs open_marks totals f base at held total a.tally.visits a.tally.sum a.required u us open_after totals-after
 PairEnding bytes t types places s rs open_marks totals f base at held total (Err h) u us open_after totals-after = halt (number h.refusal) (place_of h.place) ≡ total
 
-pub record PairEnds (bytes t types places s rs open_marks totals : List ℕ) (f : FunctionHandle) (base at held : ℕ) (total : Out (RequiredContext × Bool)) (r : Result Answer Halt) (u us open_after totals-after : List ℕ) : Type 0 where
+pub record PairEnds (bytes t types : List ℕ) (places : MarkPlaces) (s rs open_marks : List ℕ) (totals : MarkTotals) (f : FunctionHandle) (base at held : ℕ) (total : Out (RequiredContext × Bool)) (r : Result Answer Halt) (u us open_after : List ℕ) (totals-after : MarkTotals) : Type 0 where
   pub by : PairEnding bytes t types places s rs open_marks totals f base at held total r u us open_after totals-after
 
 abbrev pub PairEndsOf : World → Workspace → FunctionHandle → ℕ → ℕ → ℕ → Out (RequiredContext × Bool) → Result Answer Halt → Workspace → Type 0
 PairEndsOf w m f base at held total r n = PairEnds w.file.now.bytes w.file.now.t w.types.now w.places.now m.parts.cells m.parts.slots m.open m.totals f base at held total r n.parts.cells n.parts.slots n.open n.totals
 
 -- What the end of an If and of a loop's first pass finds: the statement's context, and above it those that its two blocks have left.
-pub record Branched (bytes t types places s rs open_marks totals : List ℕ) (fr : Frame) (sum visits : ℕ) : Type 0 where
+pub record Branched (bytes t types : List ℕ) (places : MarkPlaces) (s rs open_marks : List ℕ) (totals : MarkTotals) (fr : Frame) (sum visits : ℕ) : Type 0 where
   pub standing : Standing bytes t types places s rs open_marks totals fr.function.0 (fr.at + 4 + 4) (fr.held + context_in s rs fr.at + context_in s rs (fr.at + 4)) sum visits
   pub low : stack_slot ≤ fr.at
   pub outer_fine : FineContext (module_of bytes t) fr.function.0 (context_at (read s rs) fr.at)

@@ -18,6 +18,8 @@ use Rattle.walk.specs.Function.{add_function}
 use Rattle.walk.specs.Proper.{FineContext}
 use Rattle.memory.specs.Layout.{stack_slot, room}
 use Rattle.memory.specs.Memory.{read, context_at}
+use Rattle.marks.specs.declared.places.MarkPlaces.{MarkPlaces}
+use Rattle.marks.specs.declared.totals.MarkTotals.{MarkTotals}
 use Rattle.marks.specs.Ray.{StatementIn}
 use Rattle.state.specs.State.{place_of}
 use Rattle.state.specs.declared.frame.Frame.{Frame}
@@ -38,7 +40,7 @@ marked m fr total = total >>= λ ended req.
     went (with_marks (write_marks ended.marks (marks_before (function_at m fr.function).statements fr.statement) (own_marks req)) ended) (required req)
 
 -- what the visit of a statement asks, that stands in the block b
-pub record Visits (bytes t types places s rs open_marks totals : List ℕ) (fr : Frame) (b : BlockHandle) (sum visits : ℕ) : Type 0 where
+pub record Visits (bytes t types : List ℕ) (places : MarkPlaces) (s rs open_marks : List ℕ) (totals : MarkTotals) (fr : Frame) (b : BlockHandle) (sum visits : ℕ) : Type 0 where
   pub standing : Standing bytes t types places s rs open_marks totals fr.function.0 fr.at fr.held sum visits
   pub within : StatementIn bytes t fr.function.0 b fr.statement
   pub base_low : stack_slot ≤ fr.base
@@ -51,7 +53,7 @@ abbrev pub VisitsOf : World → Workspace → Frame → BlockHandle → ℕ → 
 VisitsOf w m fr b sum visits = Visits w.file.now.bytes w.file.now.t w.types.now w.places.now m.parts.cells m.parts.slots m.open m.totals fr b sum visits
 
 -- what its arm asks, once the visit has begun: the row is the statement's
-pub record Arms (bytes t types places s rs open_marks totals : List ℕ) (fr : Frame) (b : BlockHandle) (row : Kinded) (sum visits : ℕ) : Type 0 where
+pub record Arms (bytes t types : List ℕ) (places : MarkPlaces) (s rs open_marks : List ℕ) (totals : MarkTotals) (fr : Frame) (b : BlockHandle) (row : Kinded) (sum visits : ℕ) : Type 0 where
   pub begins : Begins bytes t types places s rs open_marks totals fr b sum visits
   pub within : StatementIn bytes t fr.function.0 b fr.statement
   pub is : row ≡ statement_row bytes t fr.function.0 fr.statement
@@ -60,19 +62,19 @@ abbrev pub ArmsOf : World → Workspace → Frame → BlockHandle → Kinded →
 ArmsOf w m fr b row sum visits = Arms w.file.now.bytes w.file.now.t w.types.now w.places.now m.parts.cells m.parts.slots m.open m.totals fr b row sum visits
 
 -- the visit went as `total` says, and 16 was asked as it ended
-pub record VisitEnded (bytes t types places s rs open_marks totals : List ℕ) (fr : Frame) (total : Out Bool) (visits sum : ℕ) (b : Bool) (u us open_after totals-after : List ℕ) : Type 0 where
+pub record VisitEnded (bytes t types : List ℕ) (places : MarkPlaces) (s rs open_marks : List ℕ) (totals : MarkTotals) (fr : Frame) (total : Out Bool) (visits sum : ℕ) (b : Bool) (u us open_after : List ℕ) (totals-after : MarkTotals) : Type 0 where
   pub is : went (state_in bytes t u us open_after totals-after fr.function.0 fr.at visits) b ≡ total
   pub standing : Standing bytes t types places u us open_after totals-after fr.function.0 fr.at fr.held sum visits
   pub few : fr.held + (context_in u us fr.at + sum) ≤ max_pieces
   pub roomy : Room u room
   pub beside : Beside bytes t fr.function.0 fr.at s rs open_marks u us open_after
 
-abbrev pub VisitEnding : (bytes t types places s rs open_marks totals : List ℕ) → Frame → Out Bool → Result Answer Halt → (u us open_after totals-after : List ℕ) → Type 0
+abbrev pub VisitEnding : (bytes t types : List ℕ) (places : MarkPlaces) (s rs open_marks : List ℕ) (totals : MarkTotals) → Frame → Out Bool → Result Answer Halt → (u us open_after : List ℕ) (totals-after : MarkTotals) → Type 0
 VisitEnding bytes t types places s rs open_marks totals fr total (Ok a) u us open_after totals-after =
     VisitEnded bytes t types places s rs open_marks totals fr total a.tally.visits a.tally.sum a.required u us open_after totals-after
 VisitEnding bytes t types places s rs open_marks totals fr total (Err h) u us open_after totals-after = halt (number h.refusal) (place_of h.place) ≡ total
 
-pub record VisitEnds (bytes t types places s rs open_marks totals : List ℕ) (fr : Frame) (total : Out Bool) (r : Result Answer Halt) (u us open_after totals-after : List ℕ) : Type 0 where
+pub record VisitEnds (bytes t types : List ℕ) (places : MarkPlaces) (s rs open_marks : List ℕ) (totals : MarkTotals) (fr : Frame) (total : Out Bool) (r : Result Answer Halt) (u us open_after : List ℕ) (totals-after : MarkTotals) : Type 0 where
   pub by : VisitEnding bytes t types places s rs open_marks totals fr total r u us open_after totals-after
 
 abbrev pub VisitEndsOf : World → Workspace → Frame → Out Bool → Result Answer Halt → Workspace → Type 0

@@ -5,7 +5,7 @@ ghost use Rattle.memory.specs.Stretches.{four_set};
 ghost use Rattle.marks.specs.Places.{start_in, size_in, Inside};
 
 use context::required_context::RequiredContext;
-use marks::places::PLACES;
+use marks::places::MarkPlaces;
 use marks::set::clear_marks;
 use memory::stretches::save_context;
 use module::handles::FunctionHandle;
@@ -15,7 +15,7 @@ use part::store::EMPTY_PIECE;
 pub fn enter(
     slots: &mut [u32],
     open: &mut [u8],
-    places: &[u32; PLACES],
+    places: &MarkPlaces,
     g: FunctionHandle,
     at: usize,
     retval: u32,

@@ -1,6 +1,6 @@
 // What a walk works in.
 use field::limits::MIN_REPORT;
-use marks::report::TOTALS_SIZE;
+use marks::totals::MarkTotals;
 use memory::parts::Parts;
 
 // Its parts, the marks of the open functions, and the flags and marks of the totals.
@@ -8,5 +8,5 @@ use memory::parts::Parts;
 pub struct Workspace {
     pub parts: Parts,
     pub open: [u8; MIN_REPORT],
-    pub totals: [u8; TOTALS_SIZE],
+    pub totals: MarkTotals,
 }

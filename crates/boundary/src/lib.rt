@@ -5,5 +5,6 @@ pub mod add;
 pub mod answer;
 pub mod input;
 pub mod output;
+pub mod room;
 pub mod rows;
 pub mod serve;

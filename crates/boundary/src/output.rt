@@ -2,12 +2,11 @@
 ghost use Rattle.std.specs.Prelude.{◌+◌, ◌*◌, ◌≤◌, length};
 ghost use Rattle.field.specs.Limits.{max_members, max_pieces, max_types};
 ghost use Rattle.part.specs.StoreLimits.{cell_words, store_words, table_words};
-ghost use Rattle.module.specs.Scan.{values};
-ghost use Rattle.module.specs.Tables.{words, max_items};
-ghost use Rattle.context.specs.Types.{type_words};
 ghost use Rattle.bindings_request.specs.Boundary.{Gave};
+ghost use Rattle.boundary.specs.Rows.{Roomy};
 ghost use Rattle.boundary.specs.Answers.{output_answer};
 
+use crate::room::FileRoom;
 use crate::rows::read_rows;
 use bindings_request::answer::Refused;
 use bindings_request::output::output_from_bindings_bytes;
@@ -20,24 +19,21 @@ pub const OUTPUT_WORDS: usize = CELL_WORDS * (5 + MAX_MEMBERS * MAX_TYPES + MAX_
     + TABLE_WORDS;
 
 // Of any bytes, with room for whatever they say.
-pub fn output_in(
-    bytes: &[u8],
-    t: &mut [u32],
-    seen: &mut [u32],
-    held: &mut [u32],
-    table: &mut [u32],
+pub fn output_in<'a>(
+    bytes: &'a [u8],
+    room: FileRoom<'a>,
     cells: &mut [u32],
     parts: &mut [u32],
     f: FunctionHandle,
     list: &[u8],
     out: &mut [u8],
 ) -> Result<usize, Refused>
-    requires words_in_bounds { (words ≤ length t.old) × ((values ≤ length seen.old) × (max_items ≤ length held.old)) }
-    requires max_types_in_bounds { (type_words * max_types ≤ length table.old) × (max_types ≤ length parts.old) }
+    requires roomy { Roomy room }
+    requires max_types_in_bounds { max_types ≤ length parts.old }
     requires cells_len_bound { (length cells.old ≤ store_words) × (cell_words * (5 + max_members * max_types + max_pieces) + table_words ≤ length cells.old) }
     ensures { Gave out.old out.new (output_answer bytes.now (length out.old) f.0 list.now) result }
 {
-    let (file, rows) = read_rows(bytes, t, seen, held, table)?;
+    let (file, rows) = read_rows(bytes, room)?;
     let n = file.types() as usize;
     output_from_bindings_bytes(&file, rows, cells, &mut parts[0..n], f, list, out)
 }

@@ -13,8 +13,8 @@ use access::file::File;
 use block::world::World;
 use context::remove::TYPE_WORDS;
 use field::limits::MAX_TYPES;
-use marks::places::{PLACES, place_marks};
-use module::tables::WORDS;
+use marks::places::{MarkPlaces, STARTS, place_marks};
+use module::tables::{MAX_ITEMS, WORDS};
 use reading::read::read_module;
 use requests::finish::Reply;
 use requests::serve::serve_read;
@@ -55,7 +55,7 @@ fn reply_word(r: Reply) -> u64
 fn request_of(
     file: &File,
     table: &mut [u32],
-    places: &mut [u32; PLACES],
+    places: &mut MarkPlaces,
     request: &[u8],
     pruner: &mut [u8],
     report: &mut [u8],
@@ -87,7 +87,10 @@ fn request_in(
     ensures { RequestsRead file.now.bytes file.now.t request.now pruner.old report.old answer.old result pruner.new report.new answer.new }
 {
     let mut table: [u32; TYPE_WORDS * MAX_TYPES] = [0; TYPE_WORDS * MAX_TYPES];
-    let mut places: [u32; PLACES] = [0; PLACES];
+    let mut places = MarkPlaces {
+        starts: [0; STARTS],
+        firsts: [0; MAX_ITEMS],
+    };
     let e = TYPE_WORDS * (file.types() as usize);
     request_of(
         file,

@@ -14,8 +14,8 @@ use module::tables::WORDS;
 use reading::read::{HELD, SEEN, read};
 use verdict::check::check_in;
 
-// The module is read in the memory of the rounds.
-fn read_file(bytes: &[u8], t: &mut [u32], parts: &mut Parts) -> Result<(), Refusal>
+// Reads the module. The memory of a walk or a check, which begins behind it, is the room.
+pub fn read_file(bytes: &[u8], t: &mut [u32], parts: &mut Parts) -> Result<(), Refusal>
     requires { words ≤ length t.old }
     ensures { Reads bytes.now t.new (number_of result) }
 {

@@ -4,8 +4,9 @@ use native.Mathlib.Omega.{arith}
 use mathlib.Core.List.{List, [], ◌∷◌, ◌++◌}
 use lib.ListN.{length, length-append}
 use Rattle.lines.specs.Text.{number, expr_word, stmt_word, refused_word}
-use Rattle.lines.specs.Wrote.{longest, Wrote}
-use Rattle.lines.proofs.Writing.{texts, Rooms, wrote_then}
+use Rattle.lines.specs.declared.text.Text.{Text}
+use Rattle.lines.specs.Wrote.{longest, Writes}
+use Rattle.lines.proofs.Writing.{texts, Rooms, writes_then}
 use Rattle.lines.proofs.Long.{ten_long}
 use Rattle.clearance.specs.Verdict.{Answer, clear, at_statement, at_start, unjudged_expression, unjudged_statement, refused}
 use Rattle.checking.specs.Word.{Roomy}
@@ -34,6 +35,6 @@ module _ (a : Answer) (h : Roomy a) where
   unfolding texts
   line_rooms l = record { room = omega (arith, answer_long a h, length-append (answer_text a) (10 ∷ [])) }
 
-pub line_wrote : (a : Answer) {us vs ws xs : List ℕ} {at i j k : ℕ} → Wrote us vs at check_name i → Wrote vs ws i (answer_text a) j → Wrote ws xs j (10 ∷ []) k → Wrote us xs at (check_line a) k
+pub line_writes : (a : Answer) {t u v w : Text} → Writes t u check_name → Writes u v (answer_text a) → Writes v w (10 ∷ []) → Writes t w (check_line a)
 unfolding check_line
-line_wrote a x y z = wrote_then x (wrote_then y z)
+line_writes a x y z = writes_then x (writes_then y z)

@@ -1,5 +1,5 @@
 // The place of each statement's first mark in its function's stretch, by a table.
-// Stays: a loop of its own beside the sum of the same counts in `mark_total`, which has no table; a walk for both takes a closure that writes, and a contract of its calls.
+// Stays: a loop beside `mark_total`. One walk for both is `put` into a table that the sum hands empty, with places promised only where it is long enough.
 ghost use Rattle.std.specs.Prelude.{◌≤◌, length};
 ghost use Rattle.module.specs.Tables.{function_of};
 ghost use Rattle.valid.specs.There.{There};

@@ -45,7 +45,15 @@ alter-plain i f exist h = refl
 alter-plain i f none h = refl
 alter-plain i f (more j p r) h = absurd (omega arith)
 
-module _ {s : List ℕ} (types : List TypeInner) (i : ℕ) (ty : TypeHandle) {m q : ℕ} (P : RemoveAsked s types m q) where
+-- what is asked further on, and of the entry
+module _ {s : List ℕ} {m q j c a : ℕ} (P : RemoveAsked s m q) (x : Seen s m j c a) where
+  pub rest_asks : {z : ℕ} → m ≡ z → (a < z) × RemoveAsked s a q
+  rest_asks e = (omega arith, (P.0, ((omega arith, omega arith), omega arith)))
+
+  pub entry-asks : RemoveAsked s c q
+  entry-asks = (P.0, ((omega arith, omega arith), omega arith))
+
+module _ {s : List ℕ} (types : List TypeInner) (i : ℕ) (ty : TypeHandle) {m q : ℕ} (P : RemoveAsked s m q) where
   abbrev taking : PartReq → Removed
   taking p = remove types p (part s q) (some ty)
 
@@ -56,17 +64,14 @@ module _ {s : List ℕ} (types : List TypeInner) (i : ℕ) (ty : TypeHandle) {m 
   room = remove_room (part s m) (part s q)
 
   pub plain_done : m < 3 → Took s s altered room (Some m)
-  plain_done h = took_stays P.0 P.1.1.0.0 (alter-plain i taking (part s m) (low_width s m h))
+  plain_done h = took_stays P.0 P.1.0.0 (alter-plain i taking (part s m) (low_width s m h))
 
   module _ {j c a : ℕ} (x : Seen s m j c a) where
     -- the entry is not there
     pub gone_done : i < j → Took s s altered room (Some m)
-    gone_done h = took_stays P.0 P.1.1.0.0 (rw x.is (sym (alter_passed i j taking _ _ h)))
+    gone_done h = took_stays P.0 P.1.0.0 (rw x.is (sym (alter_passed i j taking _ _ h)))
 
     -- it is further on
-    pub rest_asks : {z : ℕ} → m ≡ z → (a < z) × RemoveAsked s types a q
-    rest_asks e = (omega arith, (P.0, (P.1.0, ((omega arith, omega arith), omega arith))))
-
     module _ {t : List ℕ} {r : Maybe ℕ} (h : j < i) (w : Took s t (alter i taking (part s a)) (remove_room (part s a) (part s q)) r) where
       further : altered ≡ (alter i taking (part s a) >>= λ z. left (more j (part s c) z))
       further = rw x.is (alter-behind i j taking _ _ h)
@@ -75,15 +80,12 @@ module _ {s : List ℕ} (types : List TypeInner) (i : ℕ) (ty : TypeHandle) {m 
       rest_panics e = panics_on (λ z. left (more j (part s c) z)) w e further (omega arith)
 
       pub rest_remake : {n : ℕ} → r ≡ Some n → RemakeAsked t m j c a c n
-      rest_remake e = (w.kept.good, (omega (arith, w.cost, w.kept.long), ((omega arith, (took_left w e).0), holds_on x P.1.1.0.0 w.kept)))
+      rest_remake e = (w.kept.good, (omega (arith, w.cost, w.kept.long), ((omega arith, (took_left w e).0), holds_on x P.1.0.0 w.kept)))
 
       pub rest_done : {u : List ℕ} {n l : ℕ} → r ≡ Some n → Made t u (more j (part t c) (part t n)) 1 l → Took s u altered room (Some l)
       rest_done e o = goes_on (λ z. more j (part s c) z) w e further (made_as {l = 1} o (rw (w.kept.same c (omega arith))) (omega arith)) (omega arith)
 
     -- it is this one
-    pub entry-asks : RemoveAsked s types c q
-    entry-asks = (P.0, (P.1.0, ((omega arith, omega arith), omega arith)))
-
     module _ {t : List ℕ} {r : Maybe ℕ} (h : j ≡ i) (w : Took s t (taking (part s c)) (remove_room (part s c) (part s q)) r) where
       here : altered ≡ (taking (part s c) >>= λ z. left (more j z (part s a)))
       here = rw x.is (alter_at i j taking _ _ h)
@@ -92,7 +94,7 @@ module _ {s : List ℕ} (types : List TypeInner) (i : ℕ) (ty : TypeHandle) {m 
       entry_panics e = panics_on (λ z. left (more j z (part s a))) w e here (omega arith)
 
       pub entry_remake : {n : ℕ} → r ≡ Some n → RemakeAsked t m j c a n a
-      entry_remake e = (w.kept.good, (omega (arith, w.cost, w.kept.long), (((took_left w e).0, omega arith), holds_on x P.1.1.0.0 w.kept)))
+      entry_remake e = (w.kept.good, (omega (arith, w.cost, w.kept.long), (((took_left w e).0, omega arith), holds_on x P.1.0.0 w.kept)))
 
       pub entry_done : {u : List ℕ} {n l : ℕ} → r ≡ Some n → Made t u (more j (part t n) (part t a)) 1 l → Took s u altered room (Some l)
       entry_done e o = goes_on (λ z. more j z (part s a)) w e here (made_as {l = 1} o (rw (w.kept.same a (omega arith))) (omega arith)) (omega arith)

@@ -122,9 +122,9 @@ unfolding pieces
 map_few s c (variables.Global g) = omega arith
 map_few s c (variables.Local l) = omega arith
 
-pub map_asks : {s : List ℕ} {types : List TypeInner} {q : ℕ} {c : Pieces} (v : Variable) → Good s → AllSized types → HasContext s c → q < top s
-    → Room s (take_room (context_of s c) (part s q)) → RemoveAsked s types (map_of c v) q
-map_asks {s} {c = c} v G S H l R = (G, (S, ((map_there H v, l), omega (arith, map_few s c v))))
+pub map_asks : {s : List ℕ} {q : ℕ} {c : Pieces} (v : Variable) → Good s → HasContext s c → q < top s
+    → Room s (take_room (context_of s c) (part s q)) → RemoveAsked s (map_of c v) q
+map_asks {s} {c = c} v G H l R = (G, ((map_there H v, l), omega (arith, map_few s c v)))
 
 module _ {s t : List ℕ} (types : List TypeInner) (ty : TypeHandle) (q : ℕ) {c : Pieces} (H : HasContext s c) {r : Maybe ℕ} where
   pub map_panics : (v : Variable) → Taking s t types ty q c v r → r ≡ None → TookContext s t (taken s types ty q c v) (take_room (context_of s c) (part s q)) None

@@ -84,11 +84,11 @@ goes_on f m e w o h = record {
 }
 
 -- what taking q out of p, and the entries of q out of those of p, asks
-abbrev pub Asked : List ℕ → List TypeInner → ℕ → ℕ → Type 0
-Asked s types p q = Good s × (AllSized types × (((p < top s) × (q < top s)) × Room s (entries_room (part s p) (part s q))))
+abbrev pub Asked : List ℕ → ℕ → ℕ → Type 0
+Asked s p q = Good s × (((p < top s) × (q < top s)) × Room s (entries_room (part s p) (part s q)))
 
-abbrev pub RemoveAsked : List ℕ → List TypeInner → ℕ → ℕ → Type 0
-RemoveAsked s types p q = Good s × (AllSized types × (((p < top s) × (q < top s)) × Room s (remove_room (part s p) (part s q))))
+abbrev pub RemoveAsked : List ℕ → ℕ → ℕ → Type 0
+RemoveAsked s p q = Good s × (((p < top s) × (q < top s)) × Room s (remove_room (part s p) (part s q)))
 
 -- the numbers that fall: q first, then whether p is still to be split, then p
 abbrev pub entries_measure : ℕ → ℕ → ℕ
@@ -100,7 +100,18 @@ remove_measure q = 2 * store_words * q + store_words
 pub entries-kept : {s t : List ℕ} → Kept s t → (n : ℕ) → n < top s → entries (part t n) ≡ entries (part s n)
 entries-kept k n h = ap entries (k.same n h)
 
-module _ {s : List ℕ} (types : List TypeInner) (owner : Maybe Handle) {p q i j c d a b : ℕ} (P : Asked s types p q) (x : Seen s p i c a) (y : Seen s q j d b) where
+-- what the next call asks: where q's first entry is not in p, where p's is not in q, and where both have it
+module _ {s : List ℕ} {p q i j c d a b : ℕ} (P : Asked s p q) (x : Seen s p i c a) (y : Seen s q j d b) where
+  pub call_gt : {z : ℕ} → entries_measure p q ≡ z → (entries_measure p b < z) × Asked s p b
+  call_gt e = (omega arith, (P.0, ((omega arith, omega arith), omega arith)))
+
+  pub call_lt : {z : ℕ} → entries_measure p q ≡ z → (entries_measure a q < z) × Asked s a q
+  call_lt e = (omega arith, (P.0, ((omega arith, omega arith), omega arith)))
+
+  pub call_eq : i ≡ j → {z : ℕ} → entries_measure p q ≡ z → (remove_measure d < z) × RemoveAsked s c d
+  call_eq h e = (omega arith, (P.0, ((omega arith, omega arith), omega arith)))
+
+module _ {s : List ℕ} (types : List TypeInner) (owner : Maybe Handle) {p q i j c d a b : ℕ} (P : Asked s p q) (x : Seen s p i c a) (y : Seen s q j d b) where
   abbrev members : Option (List Member)
   members = subtypes_of types (typed owner)
 
@@ -111,9 +122,6 @@ module _ {s : List ℕ} (types : List TypeInner) (owner : Maybe Handle) {p q i j
   room = entries_room (part s p) (part s q)
 
   -- q's first entry is not in p
-  pub call_gt : {z : ℕ} → entries_measure p q ≡ z → (entries_measure p b < z) × Asked s types p b
-  call_gt e = (omega arith, (P.0, (P.1.0, ((omega arith, omega arith), omega arith))))
-
   pub done_gt : {t : List ℕ} {r : Maybe ℕ} → j < i → Took s t (take_entries types (part s b) members (part s p)) (entries_room (part s p) (part s b)) r → Took s t whole room r
   done_gt h m = record {
     kept = m.kept;
@@ -123,9 +131,6 @@ module _ {s : List ℕ} (types : List TypeInner) (owner : Maybe Handle) {p q i j
   }
 
   -- p's first entry is not in q
-  pub call_lt : {z : ℕ} → entries_measure p q ≡ z → (entries_measure a q < z) × Asked s types a q
-  call_lt e = (omega arith, (P.0, (P.1.0, ((omega arith, omega arith), omega arith))))
-
   module _ {t : List ℕ} {r : Maybe ℕ} (h : i < j) (m : Took s t (take_entries types (part s q) members (part s a)) (entries_room (part s a) (part s q)) r) where
     whole-lt : whole ≡ (take_entries types (part s q) members (part s a) >>= λ z. left (more i (part s c) z))
     whole-lt = rw (x.is, y.is) (take_lt types members i j _ _ _ _ h)
@@ -134,7 +139,7 @@ module _ {s : List ℕ} (types : List TypeInner) (owner : Maybe Handle) {p q i j
     panic_lt e = panics_on (λ z. left (more i (part s c) z)) m e whole-lt (omega arith)
 
     pub make_lt : {n : ℕ} → r ≡ Some n → RemakeAsked t p i c a c n
-    make_lt e = (m.kept.good, (omega (arith, m.cost, m.kept.long), ((omega arith, (took_left m e).0), holds_on x P.1.1.0.0 m.kept)))
+    make_lt e = (m.kept.good, (omega (arith, m.cost, m.kept.long), ((omega arith, (took_left m e).0), holds_on x P.1.0.0 m.kept)))
 
     pub done_lt : {u : List ℕ} {n l : ℕ} → r ≡ Some n → Made t u (more i (part t c) (part t n)) 1 l → Took s u whole room (Some l)
     done_lt e o = goes_on (λ z. more i (part s c) z) m e whole-lt (made_as {l = 1} o (rw (m.kept.same c (omega arith))) (omega arith)) (omega arith)
@@ -152,9 +157,6 @@ module _ {s : List ℕ} (types : List TypeInner) (owner : Maybe Handle) {p q i j
       cost = omega arith;
     }
 
-    pub call_eq : {z : ℕ} → entries_measure p q ≡ z → (remove_measure d < z) × RemoveAsked s types c d
-    call_eq e = (omega arith, (P.0, (P.1.0, ((omega arith, omega arith), omega arith))))
-
     module _ {f : Maybe (Maybe Handle)} {u : Maybe Handle} (e : f ≡ Some u) (g : subtyped f ≡ subtype_at members i) {t : List ℕ} {r : Maybe ℕ}
         (m : Took s t (remove types (part s c) (part s d) (typed u)) (remove_room (part s c) (part s d)) r) where
       whole-child : whole ≡ (remove types (part s c) (part s d) (typed u) >>= λ v. take_entries types (part s b) members (part s a) >>= λ w. left (more i v w))
@@ -163,11 +165,11 @@ module _ {s : List ℕ} (types : List TypeInner) (owner : Maybe Handle) {p q i j
       pub panic_child : r ≡ None → Took s t whole room None
       panic_child o = panics_on (λ v. take_entries types (part s b) members (part s a) >>= λ w. left (more i v w)) m o whole-child (omega arith)
 
-      pub call_rest : {z : ℕ} → entries_measure p q ≡ z → (entries_measure a b < z) × Asked t types a b
+      pub call_rest : {z : ℕ} → entries_measure p q ≡ z → (entries_measure a b < z) × Asked t a b
       call_rest o =
           let k = entries-kept m.kept a (omega arith) in
           let l = entries-kept m.kept b (omega arith) in
-          (omega arith, (m.kept.good, (P.1.0, ((omega arith, omega arith), omega (arith, m.cost, m.kept.long)))))
+          (omega arith, (m.kept.good, ((omega arith, omega arith), omega (arith, m.cost, m.kept.long))))
 
       module _ {n : ℕ} (w : r ≡ Some n) {v : List ℕ} {o : Maybe ℕ}
           (l : Took t v (take_entries types (part t b) members (part t a)) (entries_room (part t a) (part t b)) o) where
@@ -189,7 +191,7 @@ module _ {s : List ℕ} (types : List TypeInner) (owner : Maybe Handle) {p q i j
               l.kept.good,
               (
                 omega (arith, spent, kept.long),
-                ((omega (arith, (took_left m w).0, l.kept.tops), (took_left l f).0), holds_on x P.1.1.0.0 kept),
+                ((omega (arith, (took_left m w).0, l.kept.tops), (took_left l f).0), holds_on x P.1.0.0 kept),
               ),
             )
 
@@ -227,12 +229,12 @@ low_width s (suc zero) h = rw part-1 refl
 low_width s (suc (suc zero)) h = rw part-2 refl
 low_width s (suc (suc (suc p))) h = absurd (omega arith)
 
-module _ {s : List ℕ} (types : List TypeInner) (owner : Maybe Handle) {p q : ℕ} (P : Asked s types p q) where
+module _ {s : List ℕ} (types : List TypeInner) (owner : Maybe Handle) {p q : ℕ} (P : Asked s p q) where
   pub done_by_low : q < 3 → Took s s (take_entries types (part s q) (subtypes_of types (typed owner)) (part s p)) (entries_room (part s p) (part s q)) (Some p)
-  done_by_low h = took_stays P.0 P.1.1.0.0 (by_low types _ s q (part s p) h)
+  done_by_low h = took_stays P.0 P.1.0.0 (by_low types _ s q (part s p) h)
 
   pub done_of_low : p < 3 → Took s s (take_entries types (part s q) (subtypes_of types (typed owner)) (part s p)) (entries_room (part s p) (part s q)) (Some p)
-  done_of_low h = took_stays P.0 P.1.1.0.0 (of_plain types _ (part s q) (part s p) (low_width s p h))
+  done_of_low h = took_stays P.0 P.1.0.0 (of_plain types _ (part s q) (part s p) (low_width s p h))
 
 -- `remove` itself
 part_out : (types : List TypeInner) (q p : PartReq) (t : Option TypeHandle) → is_all q ≡ false → is_exist q ≡ false
@@ -251,26 +253,26 @@ split-grows types k f (some t) exist = omega arith
 split-grows types k f (some t) none = omega arith
 split-grows types k f (some t) (more i p r) = omega arith
 
-module _ {s : List ℕ} (types : List TypeInner) (u : Maybe Handle) {p q : ℕ} (P : RemoveAsked s types p q) where
+pub split_asks : {s : List ℕ} {p q : ℕ} → RemoveAsked s p q → Good s × (Room s split_most × (p < top s))
+split_asks P = (P.0, (omega arith, P.1.0.0))
+
+module _ {s : List ℕ} (types : List TypeInner) (u : Maybe Handle) {p q : ℕ} (P : RemoveAsked s p q) where
   pub done_all : q ≡ 0 → Took s s (remove types (part s p) (part s q) (typed u)) (remove_room (part s p) (part s q)) (Some 1)
   done_all e = took_stays P.0 (omega (arith, P.0.base)) (rw (e, part-0, part-1) (unfold remove take_out in refl))
 
   pub done_exist : q ≡ 1 → Took s s (remove types (part s p) (part s q) (typed u)) (remove_room (part s p) (part s q)) (Some p)
-  done_exist e = took_stays P.0 P.1.1.0.0 (rw (e, part-1) (unfold remove take_out in refl))
+  done_exist e = took_stays P.0 P.1.0.0 (rw (e, part-1) (unfold remove take_out in refl))
 
-  pub split_asks : Good s × (AllSized types × (Room s split_most × (p < top s)))
-  split_asks = (P.0, (P.1.0, (omega arith, P.1.1.0.0)))
-
-  module _ {t : List ℕ} {n : ℕ} (m : Made s t (split types (typed u) (part s p)) split_most n) where
+  module _ (S : AllSized types) {t : List ℕ} {n : ℕ} (m : Made s t (split types (typed u) (part s p)) split_most n) where
     grown : entries (part t n) ≤ entries (part s p) + split_most
-    grown = rw m.is (split-grows types split_most (sized_splits P.1.0) (typed u) (part s p))
+    grown = rw m.is (split-grows types split_most (sized_splits S) (typed u) (part s p))
 
-    pub entries_asks : {z : ℕ} → remove_measure q ≡ z → (entries_measure n q < z) × Asked t types n q
+    pub entries_asks : {z : ℕ} → remove_measure q ≡ z → (entries_measure n q < z) × Asked t n q
     entries_asks e =
         let k = entries-kept m.kept q (omega arith) in
         let g = m.kept.good in (
           omega (arith, m.piece, g.room, g.fits),
-          (g, (P.1.0, ((m.piece, omega arith), omega (arith, grown, m.cost, m.kept.long)))),
+          (g, ((m.piece, omega arith), omega (arith, grown, m.cost, m.kept.long))),
         )
 
     pub done_part : (q ≡ 0 → ⊥) → (q ≡ 1 → ⊥) → {v : List ℕ} {r : Maybe ℕ}

@@ -96,14 +96,6 @@ module _ (table : List ℕ) (t : ℕ) where
   unfolding type_kind
   kind_past h = rw (le-ltb t (type_count table) h)
 
-  -- a kind other than opaque has a row
-  pub row_there : {k : ℕ} → k ≡ type_kind table t → (k ≡ 8 → ⊥) → t < type_count table
-  row_there e n =
-      elim (dec_lt t (type_count table)) [
-        | yes h ↦ h
-        | no h ↦ absurd (n (e ∙ kind_past (omega arith)))
-      ]
-
   pub type_is : get_or (types_of table) t Opaque ≡ type_inner_of (type_kind table t) (λ j. type_word table t (1 + j))
   unfolding types_of
   type_is =

@@ -1,5 +1,6 @@
 -- The types of a module as a table of numbers: a row for each type, with the fields of its record.
 use Rattle.std.specs.Prelude.{ℕ, ◌+◌, ◌*◌, ◌/◌, ◌≤◌, max, cond, List, ltb, length, get_or}
+use Rattle.std.specs.Coded.{×_prop, Unit-prop, le_prop}
 use Rattle.field.specs.Limits.{max_members}
 use Rattle.module.specs.Module.{TypeHandle, TypeInner, Scalar, Vector, Matrix, Atomic, Pointer, Array, Struct, BindingArray, Opaque}
 use Rattle.module.specs.Decode.{tab, type_inner_of}
@@ -38,6 +39,18 @@ Sized (Array base count) = Unit {0}
 Sized (Struct members) = length members ≤ max_members
 Sized (BindingArray base) = Unit {0}
 Sized Opaque = Unit {0}
+
+-- a type has its sizes in one way, so that a value can hold the fact
+pub Sized-prop : (x : TypeInner) → IsProp (Sized x)
+Sized-prop Scalar = Unit-prop
+Sized-prop (Vector size) = le_prop
+Sized-prop (Matrix columns rows) = ×_prop le_prop le_prop
+Sized-prop Atomic = Unit-prop
+Sized-prop (Pointer base) = Unit-prop
+Sized-prop (Array base count) = Unit-prop
+Sized-prop (Struct members) = le_prop
+Sized-prop (BindingArray base) = Unit-prop
+Sized-prop Opaque = Unit-prop
 
 pub record AllSized (types : List TypeInner) : Type 0 where
   pub each : (t : TypeHandle) → Sized (get_or types t Opaque)

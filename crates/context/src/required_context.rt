@@ -1,18 +1,18 @@
 // `RequiredContext`: what is needed at a point, by the pieces of its four maps. Its methods take the context by value and hand it back, or
 // the answer.
-// Stays: pieces are numbers in lent words, for there is no heap.
+// Stays: a piece is its number, with no type of its own: cells and slots hold it as a word, and laws over them would carry a projection.
 ghost use Rattle.std.specs.Prelude.{◌≡◌, ◌+◌, ◌<◌};
 ghost use Rattle.std.proofs.Math.Option.{some};
 ghost use Rattle.part.specs.PartReq.{spine};
 ghost use Rattle.part.specs.Store.{top, part, Good, Room};
 ghost use Rattle.part.specs.Found.{Got};
-ghost use Rattle.context.specs.Types.{types_of, AllSized};
+ghost use Rattle.context.specs.Types.{types_of};
 ghost use Rattle.context.specs.Remove.{remove};
 ghost use Rattle.context.specs.Reduced.{Took, remove_room};
 ghost use Rattle.context.specs.RequiredContext.{contains_context, merge_context, pieces, over_context, handle, variable, required, alter, remove_typed};
 ghost use Rattle.context.specs.Contexts.{context_of, HasContext, MadeContext, variable_of, map_of, TookContext, take_room};
 
-use crate::remove::remove;
+use crate::remove::{SizedTypes, remove};
 use module::handles::{GlobalHandle, LocalHandle, TypeHandle};
 use part::limits::SPINE;
 use part::req::{add, contains, get};
@@ -34,12 +34,18 @@ pub enum VarRef {
 }
 
 // The entry i of the map m without q, where there is one; it is of the type t. Or the panic at a struct member that is not there.
-fn alter(cells: &mut [u32], types: &[u32], m: u32, i: u32, t: TypeHandle, q: u32) -> Option<u32>
+fn alter(
+    cells: &mut [u32],
+    types: &SizedTypes,
+    m: u32,
+    i: u32,
+    t: TypeHandle,
+    q: u32,
+) -> Option<u32>
     requires good { Good cells.old }
-    requires all_sized { AllSized (types_of types.now) }
     requires m_bound { (m < top cells.old) × (q < top cells.old) }
     requires room { Room cells.old (remove_room (part cells.old m) (part cells.old q)) }
-    ensures { Took cells.old cells.new (alter i (λ p. remove (types_of types.now) p (part cells.old q) (some t.0)) (part cells.old m)) (remove_room (part cells.old m) (part cells.old q)) result }
+    ensures { Took cells.old cells.new (alter i (λ p. remove (types_of types.now.rows.now) p (part cells.old q) (some t.0)) (part cells.old m)) (remove_room (part cells.old m) (part cells.old q)) result }
 {
     if m <= EMPTY_PIECE {
         return Some(m);
@@ -127,16 +133,15 @@ impl RequiredContext {
     pub fn remove(
         self,
         cells: &mut [u32],
-        types: &[u32],
+        types: &SizedTypes,
         var: VarRef,
         t: TypeHandle,
         q: u32,
     ) -> Option<RequiredContext>
         requires good { Good cells.old }
-        requires all_sized { AllSized (types_of types.now) }
         requires has_context { HasContext cells.old self × ((handle (variable_of var) < spine) × (q < top cells.old)) }
         requires room { Room cells.old (take_room (context_of cells.old self) (part cells.old q)) }
-        ensures { TookContext cells.old cells.new (remove_typed (types_of types.now) (context_of cells.old self) (variable_of var) t.0 (part cells.old q)) (take_room (context_of cells.old self) (part cells.old q)) result }
+        ensures { TookContext cells.old cells.new (remove_typed (types_of types.now.rows.now) (context_of cells.old self) (variable_of var) t.0 (part cells.old q)) (take_room (context_of cells.old self) (part cells.old q)) result }
     {
         let (m, i) = self.entry_of(var);
         let left = alter(cells, types, m, i, t, q)?;

@@ -21,7 +21,7 @@ use Rattle.request.specs.declared.codes.Code.{Code}
 use Rattle.request.specs.declared.codes.Code.TheVariants.{All, Exist, Entries}
 use Rattle.request.specs.Codes.{CodeWasRead, by_answer}
 use Rattle.context_bytes.specs.Checked.{checked, Skips, Checks}
-use Rattle.context_bytes.specs.Found.{value_of, part_at, Readable, SubpartAt, EntryFound, VariableFound, list_at, ListAt, ArgsAt}
+use Rattle.context_bytes.specs.Found.{value_of, part_at, Readable, SubpartAt, EntryFound, VariableFound, list_at, ListReadable, ListAt, ArgsAt}
 use Rattle.context_bytes.proofs.Accepted.{Accepted, accepted, bound}
 use Rattle.context_bytes.proofs.Asking.{read_list}
 use Rattle.context_bytes.proofs.Checked.{skip_refused, skip_passed}
@@ -32,15 +32,20 @@ value_is : {r : Read PartReq} {p : PartReq} {fs : List ℕ} → r ≡ got p fs �
 unfolding value_of
 value_is e = ap value_of e
 
+-- a part that is read is followed by something
+left_behind : (r : Read PartReq) → (r ≡ malformed → ⊥) → (fs : List ℕ) × (r ≡ got (value_of r) fs)
+unfolding value_of
+left_behind malformed h = absurd (h refl)
+left_behind (got p fs) h = (fs, refl)
+
 pub readable : {b : List ℕ} {at d : ℕ} {p : PartReq} {fs : List ℕ} → at ≤ length b → read_part d (from b at) ≡ got p fs → Readable b at d × (part_at b at d ≡ p)
 readable {b} {at} {d} {p} {fs} h e =
-    let v : part_at b at d ≡ p = value_is e in
-    (record { inside = h; rest = fs; is = e ∙ ap (λ x. got x fs) (sym v) }, v)
+    (record { inside = h; is = λ m. let z : ◌≡◌ {A = ℕ} 0 1 = cc in absurd (omega arith) }, value_is e)
 
-pub list_there : {b : List ℕ} {at : ℕ} {p : PartReq} → ListAt b at p → ListAt b at (list_at b at) × (list_at b at ≡ p)
-list_there {b} {at} {p} l =
-    let v : list_at b at ≡ p = value_is l.is in
-    (record { inside = l.inside; rest = l.rest; is = l.is ∙ ap (λ x. got x l.rest) (sym v) }, v)
+pub list_there : {b : List ℕ} {at : ℕ} {p : PartReq} → ListAt b at p → ListReadable b at × (list_at b at ≡ p)
+list_there {b} {at} l =
+    let e = l.is in
+    (record { inside = l.inside; is = λ m. let z : ◌≡◌ {A = ℕ} 0 1 = cc in absurd (omega arith) }, value_is l.is)
 
 -- `get_subpart` at the first entry
 module _ (i j : ℕ) (p r : PartReq) where
@@ -170,8 +175,11 @@ module _ {b : List ℕ} {at d n i next low left : ℕ} (so : Finding b at d n i 
 
 -- a part, by its code
 module _ {b : List ℕ} {at d : ℕ} (R : Readable b at d) where
-  coded : {c : Maybe Code} → CodeWasRead b at d c → by_answer b at d c ≡ got (part_at b at d) R.rest
-  coded was = sym was.is ∙ R.is
+  behind : (fs : List ℕ) × (read_part d (from b at) ≡ got (part_at b at d) fs)
+  behind = left_behind (read_part d (from b at)) R.is
+
+  coded : {c : Maybe Code} → CodeWasRead b at d c → by_answer b at d c ≡ got (part_at b at d) behind.0
+  coded was = sym was.is ∙ behind.1
 
   pub never : {A : Type 0} → CodeWasRead b at d None → A
   never was = let h = coded was in let z : ◌≡◌ {A = ℕ} 0 1 = cc in absurd (omega arith)
@@ -182,15 +190,20 @@ module _ {b : List ℕ} {at d : ℕ} (R : Readable b at d) where
   it_is_exist : CodeWasRead b at d (Some Exist) → exist ≡ part_at b at d
   it_is_exist was = let h = coded was in cc
 
-  pub found_all : CodeWasRead b at d (Some All) → (i : ℕ) → SubpartAt b (get_subpart (part_at b at d) i) (Some (at, d))
+  pub found_all : CodeWasRead b at d (Some All) → (i : ℕ) → get_subpart (part_at b at d) i ≡ there (part_at b at d)
   unfolding get_subpart
-  found_all was i = (R, rw (← it_is_all was))
+  found_all was i = rw (← it_is_all was)
 
   pub found_exist : CodeWasRead b at d (Some Exist) → (i : ℕ) → get_subpart (part_at b at d) i ≡ gone
   unfolding get_subpart
   found_exist was i = rw (← it_is_exist was)
 
   module _ {n : ℕ} (was : CodeWasRead b at d (Some (Entries n))) where
+    pub found_entry : {i : ℕ} {a : Maybe (ℕ × ℕ)} → EntryFound b (at + 2 + 2) (d - 1) n i a → SubpartAt b (get_subpart (part_at b at d) i) a
+    found_entry {i} {a} found =
+        let z : 0 + i ≡ i = omega arith in
+        rw z at (found.is 0 (part_at b at d) behind.0 (coded was))
+
     listed_not_all : is_all (part_at b at d) ≡ false
     listed_not_all = (read_list (read_part (d - 1)) 0 0 n (from b (at + 2 + 2)) (coded was)).0
 
@@ -227,6 +240,11 @@ variable_short b at i h =
 
 pub variable_found : {b : List ℕ} {at n i : ℕ} {a : Maybe (ℕ × ℕ)} → Field b at n → EntryFound b (at + 2) max_depth n i a → VariableFound b at i a
 variable_found f was = record { is = λ p fs e. was.is spine p fs (sym (variables_are f) ∙ e) }
+
+pub found_variable : {b : List ℕ} {at i : ℕ} {a : Maybe (ℕ × ℕ)} → ListReadable b at → VariableFound b at i a → SubpartAt b (get_subpart (list_at b at) (variable i)) a
+found_variable {b} {at} R found =
+    let l = left_behind (read_variables (from b at)) R.is in
+    found.is (list_at b at) l.0 l.1
 
 -- where the arguments stand
 module _ {b : List ℕ} where

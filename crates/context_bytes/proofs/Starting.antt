@@ -1,7 +1,6 @@
 -- Comparing the need at the start with a context: an accepted context's lists are those that the code reads, and the rest goes by cases.
-use Prim.Native.Nat.{ℕ, ◌≤◌, ◌<◌}
+use Prim.Native.Nat.{ℕ, zero, suc, ◌≤◌, ◌<◌}
 use native.Mathlib.Omega.{arith}
-use native.Mathlib.Decide.{dec_lt}
 use mathlib.Core.Path.{◌≡◌, refl, ap, sym, ◌∙◌}
 use mathlib.Core.Bool.{Bool, true, false, cond, ◌&&◌}
 use mathlib.Core.List.{List, [], ◌∷◌}
@@ -9,6 +8,7 @@ use mathlib.Core.Option.{Option, some, none as nothing}
 use lib.Dec.{eqb}
 use borrow.Author.Tests.{lt-ltb, le-ltb}
 use Rattle.part.specs.PartReq.{PartReq, contains}
+use Rattle.part.specs.declared.store.Cell.{Cell}
 use Rattle.part.specs.Store.{top, part, Seen}
 use Rattle.part.proofs.Pieces.{part-0, part-1, part-2}
 use Rattle.context.specs.RequiredContext.{RequiredContext}
@@ -30,34 +30,28 @@ pub record Expressed (s : List ℕ) (n m : ℕ) : Type 0 where
   pub piece : m < top s
   pub rest : needs_expression (part s m) ≡ needs_expression (part s n)
 
-module _ {s : List ℕ} {n m : ℕ} (so : Expressed s n m) where
-  module _ {i c r : ℕ} (seen : Seen s m i c r) where
-    pub expressed_yes : variable 3 < i → true ≡ needs_expression (part s n)
-    unfolding needs_expression
-    expressed_yes h = sym (rw (seen.is, lt-ltb (variable 3) i h)) ∙ so.rest
+plain_expressed : (s : List ℕ) (m : ℕ) → m ≤ 2 → eqb m 0 ≡ needs_expression (part s m)
+unfolding needs_expression
+plain_expressed s zero h = rw (part-0 s)
+plain_expressed s (suc zero) h = rw (part-1 s)
+plain_expressed s (suc (suc zero)) h = rw (part-2 s)
+plain_expressed s (suc (suc (suc m))) h = absurd (omega arith)
 
-    pub expressed_on : i ≤ variable 3 → Expressed s n r
-    unfolding needs_expression
-    expressed_on h =
-        record {
-          piece = omega (arith, seen.rest_low, so.piece);
-          rest = sym (rw (seen.is, le-ltb (variable 3) i h)) ∙ so.rest;
-        }
-
-  plain_expressed : m ≤ 2 → eqb m 0 ≡ needs_expression (part s m)
+module _ {s : List ℕ} {n : ℕ} where
+  pub expressed_yes : {x : Cell} → (m : ℕ) × Seen s m x.index x.child x.rest × Expressed s n m × (variable 3 < x.index) → true ≡ needs_expression (part s n)
   unfolding needs_expression
-  plain_expressed h =
-      elim (dec_lt m 1) [
-        | yes l ↦ let e : m ≡ 0 = omega arith in rw (e, part-0 s)
-        | no l ↦
-            elim (dec_lt m 2) [
-              | yes k ↦ let e : m ≡ 1 = omega arith in rw (e, part-1 s)
-              | no k ↦ let e : m ≡ 2 = omega arith in rw (e, part-2 s)
-            ]
-      ]
+  expressed_yes {x} (m, seen, so, h) = sym (rw (seen.is, lt-ltb (variable 3) x.index h)) ∙ so.rest
 
-  pub expressed_end : m ≤ 2 → eqb m 0 ≡ needs_expression (part s n)
-  expressed_end h = plain_expressed h ∙ so.rest
+  pub expressed_on : (m : ℕ) (x : Cell) → Seen s m x.index x.child x.rest → x.index ≤ variable 3 → Expressed s n m → Expressed s n x.rest
+  unfolding needs_expression
+  expressed_on m x seen h so =
+      record {
+        piece = omega (arith, seen.rest_low, so.piece);
+        rest = sym (rw (seen.is, le-ltb (variable 3) x.index h)) ∙ so.rest;
+      }
+
+  pub expressed_end : (m : ℕ) → m ≤ 2 → Expressed s n m → eqb m 0 ≡ needs_expression (part s n)
+  expressed_end m h so = plain_expressed s m h ∙ so.rest
 
 -- the two lists
 module _ (g a : PartReq) {b : List ℕ} {at : ℕ} where

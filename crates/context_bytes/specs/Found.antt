@@ -20,8 +20,7 @@ part_at b at d = value_of (read_part d (from b at))
 -- there is one
 pub record Readable (b : List ℕ) (at d : ℕ) : Type 0 where
   pub inside : at ≤ length b
-  pub rest : List ℕ
-  pub is : read_part d (from b at) ≡ got (part_at b at d) rest
+  pub is : read_part d (from b at) ≡ malformed → ⊥
 
 abbrev pub SubpartAt : List ℕ → Subpart → Maybe (ℕ × ℕ) → Type 0
 SubpartAt b sub None = sub ≡ gone
@@ -38,6 +37,11 @@ pub record VariableFound (b : List ℕ) (at i : ℕ) (a : Maybe (ℕ × ℕ)) : 
 -- the list of variables at the byte `at`
 abbrev pub list_at : (b : List ℕ) (at : ℕ) → PartReq
 list_at b at = value_of (read_variables (from b at))
+
+-- there is one
+pub record ListReadable (b : List ℕ) (at : ℕ) : Type 0 where
+  pub inside : at ≤ length b
+  pub is : read_variables (from b at) ≡ malformed → ⊥
 
 -- there is one, and it is p
 pub record ListAt (b : List ℕ) (at : ℕ) (p : PartReq) : Type 0 where

@@ -1,6 +1,5 @@
 // A context checked in its bytes: 12 of the whole record, then 11. The recursion goes as deep as a part does; lists go by a loop.
-// Stays: entries are walked by four loops (here and in count, cover and find), since one that takes a closure would name the same steps and
-// keep an invariant for each of them beside.
+// Stays: four loops walk entries (here, in count, cover and find). Where an entry ends is told by what each does with its part: no iterator steps it.
 ghost use Rattle.std.specs.Prelude.{◌≡◌, ◌≤◌, length};
 ghost use Rattle.field.specs.Refusal.{number};
 ghost use Rattle.context.specs.RequiredContext.{variable};

@@ -1,5 +1,5 @@
 // Whether a context has all that a need asks: one walk along the need's cells and the context's bytes, side by side.
-// Stays: pieces are numbers in lent words, for there is no heap.
+// Stays: a piece is its number, with no type of its own: cells and slots hold it as a word, and laws over them would carry a projection.
 ghost use Rattle.std.specs.Prelude.{◌≤◌, ◌<◌, length};
 ghost use Rattle.part.specs.PartReq.{spine};
 ghost use Rattle.part.specs.Store.{top, part, Good};

@@ -1,16 +1,21 @@
 // The entry of an index, found in the bytes of a part or of a list: those before it are passed over.
-ghost use Rattle.std.specs.Prelude.{◌≡◌, ◌≤◌, length};
+ghost use Rattle.std.specs.Prelude.{◌≤◌, length};
 ghost use Rattle.std.specs.Option.{unwrap_or};
-ghost use Rattle.part.specs.PartReq.{get_subpart, is_all, is_exist};
-ghost use Rattle.context_bytes.specs.Found.{part_at, Readable, SubpartAt, EntryFound, VariableFound, ArgsAt};
+ghost use Rattle.context_bytes.specs.Found.{EntryFound, VariableFound, ArgsAt};
 
 use crate::check::{check_variables, is_context, skip_part, skip_return};
 use field::limits::MAX_DEPTH;
-use request::codes::{Code, entry_index, part_code};
+use request::codes::entry_index;
 use request::record::field;
 
 // Among n entries, whose parts are at most `depth` deep, where the part of the index i stands, and how deep it may be.
-fn find_entry(bytes: &[u8], at: usize, depth: usize, n: usize, i: u32) -> Option<(usize, usize)>
+pub(crate) fn find_entry(
+    bytes: &[u8],
+    at: usize,
+    depth: usize,
+    n: usize,
+    i: u32,
+) -> Option<(usize, usize)>
     requires { at ≤ length bytes.now }
     ensures { EntryFound bytes.now at depth n i result }
 {
@@ -31,18 +36,6 @@ fn find_entry(bytes: &[u8], at: usize, depth: usize, n: usize, i: u32) -> Option
     None
 }
 
-// `get_subpart` of a part in its bytes.
-pub fn find_part(bytes: &[u8], at: usize, depth: usize, i: u32) -> Option<(usize, usize)>
-    requires { Readable bytes.now at depth }
-    ensures { SubpartAt bytes.now (get_subpart (part_at bytes.now at depth) i) result }
-{
-    match part_code(bytes, at, depth)? {
-        Code::All => Some((at, depth)),
-        Code::Exist => None,
-        Code::Entries(n) => find_entry(bytes, at + 2 + 2, depth - 1, n, i),
-    }
-}
-
 // In a list of variables, the part of the variable i.
 pub fn find_variable(bytes: &[u8], at: usize, i: u32) -> Option<(usize, usize)>
     requires { at ≤ length bytes.now }
@@ -50,22 +43,6 @@ pub fn find_variable(bytes: &[u8], at: usize, i: u32) -> Option<(usize, usize)>
 {
     let count = field(bytes, at)? as usize;
     find_entry(bytes, at + 2, MAX_DEPTH, count, i)
-}
-
-// Whether all is needed.
-pub fn is_all(bytes: &[u8], at: usize, depth: usize) -> bool
-    requires { Readable bytes.now at depth }
-    ensures { result ≡ is_all (part_at bytes.now at depth) }
-{
-    part_code(bytes, at, depth) == Some(Code::All)
-}
-
-// Whether no value is needed.
-pub fn is_exist(bytes: &[u8], at: usize, depth: usize) -> bool
-    requires { Readable bytes.now at depth }
-    ensures { result ≡ is_exist (part_at bytes.now at depth) }
-{
-    part_code(bytes, at, depth) == Some(Code::Exist)
 }
 
 // Where the list of arguments stands, where the context has the header.

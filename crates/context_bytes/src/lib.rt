@@ -5,4 +5,6 @@ pub mod check;
 pub mod count;
 pub mod cover;
 pub mod find;
+pub mod part_bytes;
 pub mod starts;
+pub mod variables_bytes;

@@ -1,5 +1,5 @@
 // Whether what is needed at the start is in the input context.
-// Stays: pieces are numbers in lent words, for there is no heap.
+// Stays: a piece is its number, with no type of its own: cells and slots hold it as a word, and laws over them would carry a projection.
 ghost use Rattle.std.specs.Prelude.{◌≡◌, [], ◌∷◌, ◌≤◌, ◌<◌, length};
 ghost use Rattle.part.specs.Store.{top, part, Good};
 ghost use Rattle.needs.specs.Path.{Piece};
@@ -12,7 +12,8 @@ use crate::check::{is_context, skip_return};
 use crate::cover::covers_variables;
 use needs::path::below;
 use part::limits::SPINE;
-use part::store::{ALL_PIECE, EMPTY_PIECE, look};
+use part::list::Entries;
+use part::store::ALL_PIECE;
 
 // Whether an evaluated expression is needed.
 fn needs_expression(cells: &[u32], n: u32) -> bool
@@ -20,16 +21,8 @@ fn needs_expression(cells: &[u32], n: u32) -> bool
     requires n_bound { n < top cells.now }
     ensures { result ≡ needs_expression (part cells.now n) }
 {
-    let mut m = n;
-    // Stays: the list goes by the numbers in its cells, and the piece at its end is what answers; an iterator would not give that.
-    while EMPTY_PIECE < m {
-        let x = look(cells, m);
-        if SPINE + 3 < x.index {
-            return true;
-        }
-        m = x.rest;
-    }
-    m == ALL_PIECE
+    let mut list = Entries::new(cells, n);
+    list.any(|x| SPINE + 3 < x.index) || list.rest == ALL_PIECE
 }
 
 // What the need n asks of the entry j.

@@ -1,5 +1,4 @@
 // How an if and a switch end, and how a loop begins: what is asked of the condition, the selector and `break_if`.
-ghost use Rattle.std.specs.Prelude.{◌+◌};
 ghost use Rattle.access.specs.Access.{handle_in};
 ghost use Rattle.judge.specs.Given.{scope_at};
 ghost use Rattle.standing.specs.Standing.{Closed, Begun};

@@ -1,5 +1,5 @@
 // What is carried along at a point, and of a statement that breaks its rule.
-ghost use Rattle.std.specs.Prelude.{◌≡◌, ◌&&◌, ◌||◌, ◌<◌, ◌-◌};
+ghost use Rattle.std.specs.Prelude.{◌<◌, ◌-◌};
 ghost use Rattle.field.specs.Limits.{absent};
 ghost use Rattle.hold.specs.Hold.{in_slot, Live};
 ghost use Rattle.standing.specs.Standing.{Noted, Blames};

@@ -274,11 +274,11 @@ module _ {bytes t types s path : List ℕ} {f n : ℕ} (P : PlaceAsked bytes t f
         room : place_cells path ≡ 160 + level_cells * length (drop 2 path)
         room = omega (arith, length-drop 2 path, P.1.0.1.long)
 
-        pub out_asks : OutAsked types s w c (drop 2 path)
+        pub out_asks : OutAsked s w c (drop 2 path)
         out_asks = (
           P.0,
           (
-            (P.1.0.0.lower, rw value_is C.narrow),
+            rw value_is C.narrow,
             ((C.low, rw value_is C.need), omega (arith, room, P.1.1.1.1)),
           ),
         )

@@ -15,10 +15,8 @@ use Rattle.part.specs.Found.{Got}
 use Rattle.part.proofs.Pieces.{part-0, part-1, part-2, not_all}
 use Rattle.part.proofs.Write.{stay}
 use Rattle.part.proofs.Making.{kept_trans, then, MakeAsked, as_made}
-use Rattle.context.specs.Types.{types_of}
 use Rattle.clearance.specs.Shape.{Shape, member, is_whole, keep, members, split}
 use Rattle.clearance.specs.IsNeed.{IsNeed}
-use Rattle.judge.specs.Alike.{Lower}
 use Rattle.needs.specs.Lean.{change, leaves}
 use Rattle.forms.specs.ShapeBy.{Members, Parted}
 use Rattle.std.specs.Prelude.{Option, Some, None}
@@ -129,10 +127,10 @@ Left s t v p q n = Made s t (leaves v p q) (level_cells * length q) n
 left_end : {s : List ℕ} (v : Shape) (p : PartReq) → Good s → Left s s v p [] 2
 left_end {s} v p g = stay s _ _ 2 g (omega (arith, g.base)) (rw part-2 (sym (leaves_none v p)))
 
-abbrev AllAsked : List ℕ → List ℕ → Shape → List ℕ → Type 0
-AllAsked types s v path = Good s × ((Lower (types_of types) × Narrow v) × Room s (level_cells * length path))
+abbrev AllAsked : List ℕ → Shape → List ℕ → Type 0
+AllAsked s v path = Good s × (Narrow v × Room s (level_cells * length path))
 
-module _ (types : List ℕ) {s : List ℕ} (v : Shape) (path : List ℕ) (P : AllAsked types s v path) where
+module _ {s : List ℕ} (v : Shape) (path : List ℕ) (P : AllAsked s v path) where
   pub all_end : path ≡ [] → Left s s v all path 2
   all_end h = rw h (left_end v all P.0)
 
@@ -144,19 +142,19 @@ module _ (types : List ℕ) {s : List ℕ} (v : Shape) (path : List ℕ) (P : Al
       all_long : level_cells * length path ≡ level_cells + level_cells * length q
       all_long = rw h (omega arith)
 
-      pub all_call : {z : ℕ} → length path ≡ z → (length q < z) × AllAsked types s m q
+      pub all_call : {z : ℕ} → length path ≡ z → (length q < z) × AllAsked s m q
       all_call z =
-          (omega (arith, all_long), (P.0, ((P.1.0.0, rw w (narrow_member v i P.1.0.1)), omega (arith, all_long, P.1.1))))
+          (omega (arith, all_long), (P.0, (rw w (narrow_member v i P.1.0), omega (arith, all_long, P.1.1))))
 
       module _ {t : List ℕ} {n d : ℕ} (M : Members v n) (a : Left s t m all q d) where
         pub around_asks : Good t × (Room t n × (d < top t))
         around_asks =
-            let l = narrow_members M P.1.0.1 in
+            let l = narrow_members M P.1.0 in
             (a.kept.good, (omega (arith, all_long, P.1.1, a.cost, a.kept.long), a.piece))
 
         pub all_left : {u : List ℕ} {r : ℕ} → Made t u (change i (λ c. part t d) (members 0 n)) n r → Left s u v all path r
         all_left b =
-            let l = narrow_members M P.1.0.1 in
+            let l = narrow_members M P.1.0 in
             record {
               kept = kept_trans a.kept b.kept;
               piece = b.piece;
@@ -164,8 +162,8 @@ module _ (types : List ℕ) {s : List ℕ} (v : Shape) (path : List ℕ) (P : Al
               cost = omega (arith, all_long, a.cost, b.cost);
             }
 
-abbrev pub OutAsked : List ℕ → List ℕ → Shape → ℕ → List ℕ → Type 0
-OutAsked types s v p path = Good s × ((Lower (types_of types) × Narrow v) × (((p < top s) × IsNeed v (part s p)) × Room s (level_cells * length path)))
+abbrev pub OutAsked : List ℕ → Shape → ℕ → List ℕ → Type 0
+OutAsked s v p path = Good s × (Narrow v × (((p < top s) × IsNeed v (part s p)) × Room s (level_cells * length path)))
 
 -- what `split_of` and `get` found
 pub parted_one : (v : Shape) (r : Option ℕ) → r ≡ None → Parted v r → split v all ≡ all
@@ -180,11 +178,11 @@ got_gone s p i f e h = rw e at h
 pub got_there : (s : List ℕ) (p : PartReq) (i : ℕ) (f : Option ℕ) {c : ℕ} → f ≡ Some c → Got s (get_subpart p i) f → (c < top s) × (get_subpart p i ≡ there (part s c))
 got_there s p i f e h = rw e at h
 
-module _ (types : List ℕ) {s : List ℕ} (v : Shape) {p : ℕ} (path : List ℕ) (P : OutAsked types s v p path) where
+module _ {s : List ℕ} (v : Shape) {p : ℕ} (path : List ℕ) (P : OutAsked s v p path) where
   pub out_end : path ≡ [] → Left s s v (part s p) path 2
   out_end h = rw h (left_end v (part s p) P.0)
 
-  pub all_asks : AllAsked types s v path
+  pub all_asks : AllAsked s v path
   all_asks = (P.0, (P.1.0, P.1.1.1))
 
   pub out_all : {t : List ℕ} {n : ℕ} → p ≡ 0 → Left s t v all path n → Left s t v (part s p) path n
@@ -204,14 +202,14 @@ module _ (types : List ℕ) {s : List ℕ} (v : Shape) {p : ℕ} (path : List �
       out_long = rw h (omega arith)
 
       module _ (m : Shape) (o : m ≡ member v i) (f : Option ℕ) {c : ℕ} (a : f ≡ Some c) (g : Got s (get_subpart (part s p) i) f) where
-        pub out_call : {y : ℕ} → length path ≡ y → (length q < y) × OutAsked types s m c q
+        pub out_call : {y : ℕ} → length path ≡ y → (length q < y) × OutAsked s m c q
         out_call y =
             let x = got_there s (part s p) i f a g in (
               omega (arith, out_long),
               (
                 P.0,
                 (
-                  (P.1.0.0, rw o (narrow_member v i P.1.0.1)),
+                  rw o (narrow_member v i P.1.0),
                   (
                     (x.0, rw o (need_entry v (part s p) i (part s c) P.1.1.0.1 (not_all s p z) x.1).1),
                     omega (arith, out_long, P.1.1.1),
@@ -222,7 +220,7 @@ module _ (types : List ℕ) {s : List ℕ} (v : Shape) {p : ℕ} (path : List �
 
         module _ {t : List ℕ} {d : ℕ} (l : Left s t m (part s c) q d) where
           out_wide : width (part t p) ≤ level_cells
-          out_wide = rw (l.kept.same p P.1.1.0.0) (need_width v (part s p) P.1.1.0.1 P.1.0.1 (sym w ∙ no))
+          out_wide = rw (l.kept.same p P.1.1.0.0) (need_width v (part s p) P.1.1.0.1 P.1.0 (sym w ∙ no))
 
           pub entry-asks : EntryAsked t p d
           entry-asks =

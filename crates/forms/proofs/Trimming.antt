@@ -20,7 +20,6 @@ use Rattle.access.proofs.Access.{global_is}
 use Rattle.context.specs.Types.{types_of}
 use Rattle.clearance.specs.Shape.{Shape, void, member, is_void, under, keep, trim}
 use Rattle.clearance.specs.Scope.{Scope, inner, variable, slots, kind_shape, frame, result_shape, shape_of}
-use Rattle.judge.specs.Alike.{Lower}
 use Rattle.judge.specs.Given.{scope_at}
 use Rattle.forms.specs.ShapeBy.{shape_in}
 use Rattle.forms.specs.Frames.{globals_shape, trim_globals}
@@ -48,13 +47,13 @@ trim-entry : (i : ℕ) (c r : PartReq) (v : Shape) → trim (more i c r) v ≡ k
 unfolding trim
 trim-entry i c r v = refl
 
-abbrev TrimAsked : List ℕ → List ℕ → ℕ → Type 0
-TrimAsked types s p = Good s × (Lower (types_of types) × ((p < top s) × Room s (entries (part s p))))
+abbrev TrimAsked : List ℕ → ℕ → Type 0
+TrimAsked s p = Good s × ((p < top s) × Room s (entries (part s p)))
 
 abbrev Trimmed : List ℕ → List ℕ → ℕ → Shape → ℕ → Type 0
 Trimmed s t p v n = Made s t (trim (part s p) v) (entries (part s p)) n
 
-module _ (types : List ℕ) {s : List ℕ} {p : ℕ} (P : TrimAsked types s p) (v : Shape) where
+module _ {s : List ℕ} {p : ℕ} (P : TrimAsked s p) (v : Shape) where
   pub trimmed_void : {b : Bool} → p ≡ 0 → b ≡ is_void v → b ≡ true → Trimmed s s p v 2
   unfolding trim
   trimmed_void e w h = stay s _ _ 2 P.0 (omega (arith, P.0.base)) (rw (e, part-0, part-2, sym w ∙ h))
@@ -67,20 +66,20 @@ module _ (types : List ℕ) {s : List ℕ} {p : ℕ} (P : TrimAsked types s p) (
   trimmed_low a h = stay s _ _ 2 P.0 (omega (arith, P.0.base)) (part-2 s ∙ sym (trim-low s p v a h))
 
   module _ {i c r : ℕ} (x : Seen s p i c r) where
-    pub child_asks : TrimAsked types s c
-    child_asks = (P.0, (P.1.0, (omega (arith, x.child_low, P.1.1.0), omega (arith, x.weight, P.1.1.1))))
+    pub child_asks : TrimAsked s c
+    child_asks = (P.0, (omega (arith, x.child_low, P.1.0), omega (arith, x.weight, P.1.1)))
 
-    pub child_call : {z : ℕ} → p ≡ z → (c < z) × TrimAsked types s c
+    pub child_call : {z : ℕ} → p ≡ z → (c < z) × TrimAsked s c
     child_call e = (omega (arith, x.child_low), child_asks)
 
     module _ (m : Shape) (o : m ≡ member v i) {t : List ℕ} {d : ℕ} (a : Trimmed s t c m d) where
       rest_same : part t r ≡ part s r
-      rest_same = a.kept.same r (omega (arith, x.rest_low, P.1.1.0))
+      rest_same = a.kept.same r (omega (arith, x.rest_low, P.1.0))
 
-      pub rest_call : {z : ℕ} → p ≡ z → (r < z) × TrimAsked types t r
+      pub rest_call : {z : ℕ} → p ≡ z → (r < z) × TrimAsked t r
       rest_call e = (
         omega (arith, x.rest_low),
-        (a.kept.good, (P.1.0, (omega (arith, x.rest_low, P.1.1.0, a.kept.tops), omega (arith, x.weight, P.1.1.1, a.cost, a.kept.long, ap entries rest_same)))),
+        (a.kept.good, (omega (arith, x.rest_low, P.1.0, a.kept.tops), omega (arith, x.weight, P.1.1, a.cost, a.kept.long, ap entries rest_same))),
       )
 
       module _ {u : List ℕ} {e : ℕ} (b : Trimmed t u r v e) where
@@ -88,7 +87,7 @@ module _ (types : List ℕ) {s : List ℕ} {p : ℕ} (P : TrimAsked types s p) (
         keep_asks = (
           b.kept.good,
           (
-            omega (arith, x.weight, P.1.1.1, a.cost, b.cost, a.kept.long, b.kept.long, ap entries rest_same),
+            omega (arith, x.weight, P.1.1, a.cost, b.cost, a.kept.long, b.kept.long, ap entries rest_same),
             (omega (arith, a.piece, b.kept.tops), b.piece),
           ),
         )
@@ -103,8 +102,8 @@ module _ (bytes t types : List ℕ) where
   unfolding globals_shape slots
   globals_void = refl
 
-  pub globals_all : {s : List ℕ} {p : ℕ} → TrimAsked types s p → p ≡ 0 → Trimmed s s p (globals_shape bytes t types) 0
-  globals_all P e = trimmed_all types P (globals_shape bytes t types) e (sym globals_void) refl
+  pub globals_all : {s : List ℕ} {p : ℕ} → TrimAsked s p → p ≡ 0 → Trimmed s s p (globals_shape bytes t types) 0
+  globals_all P e = trimmed_all P (globals_shape bytes t types) e (sym globals_void) refl
 
   pub global_low : {i : ℕ} → i < spine → void ≡ member (globals_shape bytes t types) i
   unfolding globals_shape slots
@@ -122,16 +121,15 @@ module _ (bytes t types : List ℕ) where
         sym (struct-in spine (length (module_of bytes t).globals) i _ l (omega arith) ∙ ap (shape_in (types_of types)) (global_is bytes t (i - spine) 0 b ∙ sym w))
 
   -- what is left of p, of the globals
-  module _ {s : List ℕ} {p : ℕ} (P : Good s × (Lower (types_of types) × ((p < top s) × Room s (1 + entries (part s p))))) where
-    module _ {u : List ℕ} {m : ℕ} (a : Trimmed s u p (globals_shape bytes t types) m) where
-      pub globals_trimmed : {w : List ℕ} {n : ℕ} → Made u w (keep (variable 0) (part u m) (part u 2)) 1 n → Made s w (trim_globals bytes t types (part s p)) (1 + entries (part s p)) n
-      unfolding trim_globals
-      globals_trimmed k = record {
-        kept = kept_trans a.kept k.kept;
-        piece = k.piece;
-        is = k.is ∙ rw (a.is, part-2);
-        cost = omega (arith, a.cost, k.cost);
-      }
+  module _ {s u : List ℕ} (p : ℕ) {m : ℕ} (a : Trimmed s u p (globals_shape bytes t types) m) where
+    pub globals_trimmed : {w : List ℕ} {n : ℕ} → Made u w (keep (variable 0) (part u m) (part u 2)) 1 n → Made s w (trim_globals bytes t types (part s p)) (1 + entries (part s p)) n
+    unfolding trim_globals
+    globals_trimmed k = record {
+      kept = kept_trans a.kept k.kept;
+      piece = k.piece;
+      is = k.is ∙ rw (a.is, part-2);
+      cost = omega (arith, a.cost, k.cost);
+    }
 
 -- of the globals it is what the clearance's `ending` has
 globals_are : (bytes t types : List ℕ) (f : ℕ) → (module_of bytes t).types ≡ types_of types → kind_shape (scope_at bytes t f) 0 ≡ globals_shape bytes t types

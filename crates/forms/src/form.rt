@@ -3,9 +3,9 @@ ghost use Rattle.std.specs.Prelude.{◌≡◌, List, ℕ};
 ghost use Rattle.context.specs.Types.{types_of};
 ghost use Rattle.clearance.specs.Shape.{member, extent, is_void, is_whole};
 ghost use Rattle.clearance.specs.Scope.{vector_shape};
-ghost use Rattle.judge.specs.Alike.{Lower};
 ghost use Rattle.forms.specs.ShapeBy.{shape_in, shape_by, Parted};
 
+use crate::types::Types;
 use bindings::types::first_word;
 use judge::rows::{base_at, kind_at, second_word};
 use judge::shapes::part_count;
@@ -35,18 +35,17 @@ fn type_extent(types: &[u32], t: TypeHandle) -> u32
 }
 
 // The shape of the part i of the type t.
-fn type_member(types: &[u32], t: TypeHandle, i: u32) -> Form
-    requires { Lower (types_of types.now) }
-    ensures { shape_by types.now result ≡ member (shape_in (types_of types.now) t.0) i }
+fn type_member(types: &Types, t: TypeHandle, i: u32) -> Form
+    ensures { shape_by types.now.rows.now result ≡ member (shape_in (types_of types.now.rows.now) t.0) i }
 {
-    if type_extent(types, t) <= i {
+    if type_extent(types.rows, t) <= i {
         return Form::Void;
     }
-    match kind_at(types, t) {
+    match kind_at(types.rows, t) {
         TypeKind::Vector => Form::Number,
-        TypeKind::Matrix => Form::Vector(second_word(types, t)),
-        TypeKind::Struct => Form::Of(base_at(types, t, i)),
-        _ => Form::Of(base_at(types, t, 0)),
+        TypeKind::Matrix => Form::Vector(second_word(types.rows, t)),
+        TypeKind::Struct => Form::Of(base_at(types.rows, t, i)),
+        _ => Form::Of(base_at(types.rows, t, 0)),
     }
 }
 
@@ -58,9 +57,8 @@ fn component(n: u32, i: u32) -> Form
 }
 
 // The shape of the part i.
-pub fn member_form(types: &[u32], form: Form, i: u32) -> Form
-    requires { Lower (types_of types.now) }
-    ensures { shape_by types.now result ≡ member (shape_by types.now form) i }
+pub fn member_form(types: &Types, form: Form, i: u32) -> Form
+    ensures { shape_by types.now.rows.now result ≡ member (shape_by types.now.rows.now form) i }
 {
     match form {
         Form::Void | Form::Number => Form::Void,

@@ -5,3 +5,4 @@ pub mod form;
 pub mod place;
 pub mod take;
 pub mod trim;
+pub mod types;

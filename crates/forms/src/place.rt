@@ -1,5 +1,5 @@
 // Needs without the value of a place of the frame.
-ghost use Rattle.std.specs.Prelude.{◌≡◌, ◌+◌, ◌*◌, ◌≤◌, ◌<◌};
+ghost use Rattle.std.specs.Prelude.{◌≡◌, ◌≤◌, ◌<◌};
 ghost use Rattle.part.specs.Store.{top, part, Good, Room, Made};
 ghost use Rattle.clearance.specs.Shape.{member, extent};
 ghost use Rattle.clearance.specs.Scope.{variable, kind_shape, frame};
@@ -12,6 +12,7 @@ ghost use Rattle.forms.specs.Frames.{Framing, Rooted, place_cells};
 
 use crate::form::Form;
 use crate::take::{change_entry, take_out};
+use crate::types::Types;
 use access::file::File;
 use judge::frame::{EVALUATED, GLOBALS, LOCALS, MAP_EXPRESSIONS};
 use judge::values::type_of;
@@ -62,7 +63,8 @@ pub fn take_place(
         return n;
     };
     let form = place_form(file, f, types, x - SPINE, y - SPINE);
-    let d = take_out(cells, types, form, c, &path[2..]);
+    let rows = Types { rows: types };
+    let d = take_out(cells, &rows, form, c, &path[2..]);
     let e = change_entry(cells, m, y, d);
     change_entry(cells, n, x, e)
 }

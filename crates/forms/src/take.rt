@@ -1,16 +1,15 @@
 // A need without the part at a path, with what that empties.
-ghost use Rattle.std.specs.Prelude.{◌+◌, ◌*◌, ◌<◌, length};
+ghost use Rattle.std.specs.Prelude.{◌*◌, ◌<◌, length};
 ghost use Rattle.part.specs.PartReq.{all, width};
 ghost use Rattle.part.specs.Store.{top, part, Good, Room, Made};
-ghost use Rattle.context.specs.Types.{types_of};
 ghost use Rattle.clearance.specs.Shape.{keep, members};
 ghost use Rattle.clearance.specs.IsNeed.{IsNeed};
-ghost use Rattle.judge.specs.Alike.{Lower};
 ghost use Rattle.needs.specs.Lean.{change, leaves};
 ghost use Rattle.forms.specs.ShapeBy.{shape_by};
 ghost use Rattle.forms.specs.Narrow.{level_cells, Narrow, or_all};
 
 use crate::form::{Form, is_whole, member_form, split_of};
+use crate::types::Types;
 use part::req::get;
 use part::store::{ALL_PIECE, EMPTY_PIECE, EXIST_PIECE, look, make};
 
@@ -75,16 +74,16 @@ fn members_around(cells: &mut [u32], n: u32, i: u32, d: u32) -> u32
 }
 
 // What is left of all, without the part at the path.
-fn take_all(cells: &mut [u32], types: &[u32], form: Form, path: &[u32]) -> u32
+fn take_all(cells: &mut [u32], types: &Types, form: Form, path: &[u32]) -> u32
     requires good { Good cells.old }
-    requires lower { Lower (types_of types.now) × Narrow (shape_by types.now form) }
+    requires narrow { Narrow (shape_by types.now.rows.now form) }
     requires room { Room cells.old (level_cells * length path.now) }
-    ensures { Made cells.old cells.new (leaves (shape_by types.now form) all path.now) (level_cells * length path.now) result }
+    ensures { Made cells.old cells.new (leaves (shape_by types.now.rows.now form) all path.now) (level_cells * length path.now) result }
 {
     let Some((i, rest)) = path.split_first() else {
         return EMPTY_PIECE;
     };
-    let Some(n) = split_of(types, form) else {
+    let Some(n) = split_of(types.rows, form) else {
         return ALL_PIECE;
     };
     let m = member_form(types, form, *i);
@@ -93,12 +92,12 @@ fn take_all(cells: &mut [u32], types: &[u32], form: Form, path: &[u32]) -> u32
 }
 
 // What is left of p, without the part at the path.
-pub fn take_out(cells: &mut [u32], types: &[u32], form: Form, p: u32, path: &[u32]) -> u32
+pub fn take_out(cells: &mut [u32], types: &Types, form: Form, p: u32, path: &[u32]) -> u32
     requires good { Good cells.old }
-    requires lower { Lower (types_of types.now) × Narrow (shape_by types.now form) }
-    requires p_bound { (p < top cells.old) × IsNeed (shape_by types.now form) (part cells.old p) }
+    requires narrow { Narrow (shape_by types.now.rows.now form) }
+    requires p_bound { (p < top cells.old) × IsNeed (shape_by types.now.rows.now form) (part cells.old p) }
     requires room { Room cells.old (level_cells * length path.now) }
-    ensures { Made cells.old cells.new (leaves (shape_by types.now form) (part cells.old p) path.now) (level_cells * length path.now) result }
+    ensures { Made cells.old cells.new (leaves (shape_by types.now.rows.now form) (part cells.old p) path.now) (level_cells * length path.now) result }
 {
     let Some((i, rest)) = path.split_first() else {
         return EMPTY_PIECE;
@@ -106,7 +105,7 @@ pub fn take_out(cells: &mut [u32], types: &[u32], form: Form, p: u32, path: &[u3
     if p == ALL_PIECE {
         return take_all(cells, types, form, path);
     }
-    if is_whole(types, form) {
+    if is_whole(types.rows, form) {
         return p;
     }
     let Some(c) = get(cells, p, *i) else {

@@ -6,13 +6,13 @@ ghost use Rattle.module.specs.Tables.{module_of, function_of};
 ghost use Rattle.context.specs.Types.{types_of};
 ghost use Rattle.clearance.specs.Shape.{member, trim};
 ghost use Rattle.clearance.specs.Scope.{result_shape};
-ghost use Rattle.judge.specs.Alike.{Lower};
 ghost use Rattle.judge.specs.Given.{scope_at};
 ghost use Rattle.forms.specs.ShapeBy.{shape_by};
 ghost use Rattle.forms.specs.Frames.{globals_shape, trim_globals};
 
 use crate::form::{Form, is_void, member_form};
 use crate::take::keep;
+use crate::types::Types;
 use access::file::File;
 use judge::frame::GLOBALS;
 use module::handles::{FunctionHandle, GlobalHandle};
@@ -20,14 +20,13 @@ use part::limits::SPINE;
 use part::store::{ALL_PIECE, EMPTY_PIECE, look};
 
 // What is left of the requirement p in its shape.
-pub fn trim_part(cells: &mut [u32], types: &[u32], form: Form, p: u32) -> u32
+pub fn trim_part(cells: &mut [u32], types: &Types, form: Form, p: u32) -> u32
     requires good { Good cells.old }
-    requires lower { Lower (types_of types.now) }
     requires p_bound { (p < top cells.old) × Room cells.old (entries (part cells.old p)) }
-    ensures { Made cells.old cells.new (trim (part cells.old p) (shape_by types.now form)) (entries (part cells.old p)) result }
+    ensures { Made cells.old cells.new (trim (part cells.old p) (shape_by types.now.rows.now form)) (entries (part cells.old p)) result }
 {
     if p == ALL_PIECE {
-        if is_void(types, form) {
+        if is_void(types.rows, form) {
             return EMPTY_PIECE;
         }
         return ALL_PIECE;
@@ -57,11 +56,10 @@ fn global_form(file: &File, types: &[u32], i: u32) -> Form
 }
 
 // What is left of p, a map of globals.
-fn trim_map(cells: &mut [u32], file: &File, types: &[u32], p: u32) -> u32
+fn trim_map(cells: &mut [u32], file: &File, types: &Types, p: u32) -> u32
     requires good { Good cells.old }
-    requires lower { Lower (types_of types.now) }
     requires p_bound { (p < top cells.old) × Room cells.old (entries (part cells.old p)) }
-    ensures { Made cells.old cells.new (trim (part cells.old p) (globals_shape file.now.bytes file.now.t types.now)) (entries (part cells.old p)) result }
+    ensures { Made cells.old cells.new (trim (part cells.old p) (globals_shape file.now.bytes file.now.t types.now.rows.now)) (entries (part cells.old p)) result }
 {
     if p == ALL_PIECE {
         return ALL_PIECE;
@@ -70,18 +68,17 @@ fn trim_map(cells: &mut [u32], file: &File, types: &[u32], p: u32) -> u32
         return EMPTY_PIECE;
     }
     let x = look(cells, p);
-    let m = global_form(file, types, x.index);
+    let m = global_form(file, types.rows, x.index);
     let c = trim_part(cells, types, m, x.child);
     let r = trim_map(cells, file, types, x.rest);
     keep(cells, x.index, c, r)
 }
 
 // What is left of p, asked of the globals at a function's end, as needs of its frame.
-pub fn trim_globals(cells: &mut [u32], file: &File, types: &[u32], p: u32) -> u32
+pub fn trim_globals(cells: &mut [u32], file: &File, types: &Types, p: u32) -> u32
     requires good { Good cells.old }
-    requires lower { Lower (types_of types.now) }
     requires p_bound { (p < top cells.old) × Room cells.old (1 + entries (part cells.old p)) }
-    ensures { Made cells.old cells.new (trim_globals file.now.bytes file.now.t types.now (part cells.old p)) (1 + entries (part cells.old p)) result }
+    ensures { Made cells.old cells.new (trim_globals file.now.bytes file.now.t types.now.rows.now (part cells.old p)) (1 + entries (part cells.old p)) result }
 {
     let m = trim_map(cells, file, types, p);
     keep(cells, SPINE + GLOBALS, m, EMPTY_PIECE)
@@ -99,12 +96,12 @@ fn result_form(file: &File, f: FunctionHandle, types: &[u32]) -> Form
 }
 
 // What is left of p, asked of a function's result.
-pub fn trim_value(cells: &mut [u32], file: &File, f: FunctionHandle, types: &[u32], p: u32) -> u32
+pub fn trim_value(cells: &mut [u32], file: &File, f: FunctionHandle, types: &Types, p: u32) -> u32
     requires good { Good cells.old }
-    requires lower { Lower (types_of types.now) × ((module_of file.now.bytes file.now.t).types ≡ types_of types.now) }
+    requires same { (module_of file.now.bytes file.now.t).types ≡ types_of types.now.rows.now }
     requires p_bound { (p < top cells.old) × Room cells.old (entries (part cells.old p)) }
     ensures { Made cells.old cells.new (trim (part cells.old p) (result_shape (scope_at file.now.bytes file.now.t f.0) (function_of file.now.bytes file.now.t f.0).result)) (entries (part cells.old p)) result }
 {
-    let form = result_form(file, f, types);
+    let form = result_form(file, f, types.rows);
     trim_part(cells, types, form, p)
 }

@@ -59,17 +59,7 @@ pub fn add_function(
     let b = world.file.body_block(f);
     let at = base + 4;
     let a = add_block(world, space, f, b, base, at, held, false, tally)?;
-    let tally = add_total(
-        world.file,
-        world.places,
-        &mut space.parts,
-        &space.open,
-        &mut space.totals,
-        f,
-        at,
-        here,
-        a.tally,
-    )?;
+    let tally = add_total(world.file, world.places, space, f, at, here, a.tally)?;
     Ok(Answer {
         tally,
         required: a.required,
@@ -206,7 +196,8 @@ fn add_holder(
     mark_statement(world.file, world.places, &mut space.open, fr, row, r)
 }
 
-// Two blocks one after the other, both from the base in the slots from `base` on. Their contexts are left in the slots from `at` on, and behind them. A statement of the block b holds them.
+// Two blocks one after the other, both from the base in the slots from `base` on. Their contexts are left in the slots from `at` on, and behind them.
+// A statement of the block b holds them.
 #[cycle(walk)]
 pub fn add_pair(
     world: &World,
@@ -470,15 +461,7 @@ pub fn add_call(
     let f = fr.function;
     let at = fr.at;
     let g = world.file.function_operand(row, 0);
-    let begun = begin_call(
-        world.file,
-        world.places,
-        &mut space.parts,
-        &mut space.open,
-        fr,
-        row,
-        tally.sum,
-    );
+    let begun = begin_call(world, space, fr, row, tally.sum);
     let own = begun.own;
     let others = Tally {
         sum: tally.sum - own,
@@ -494,14 +477,6 @@ pub fn add_call(
         others,
     )?;
     let sum = leave_call(world.file, &mut space.parts, g, at, a.tally.sum + own);
-    return_call(
-        world.file,
-        world.places,
-        &mut space.parts,
-        &mut space.open,
-        fr,
-        row,
-        a.required,
-        Tally { sum, ..a.tally },
-    )
+    let left = Tally { sum, ..a.tally };
+    return_call(world, space, fr, row, a.required, left)
 }

@@ -127,10 +127,6 @@ module _ {s rs : List ℕ} {n : ℕ} (l : Live s rs n) where
   pub live_within : ltb work_bound (cells_of (held_by s rs n)) ≡ false
   live_within = let a = loose_cells l.loose in le-ltb work_bound (cells_of (held_by s rs n)) (omega (arith, l.slim))
 
-  -- room for a step
-  pub live_room : Room s slack
-  live_room = omega (arith, l.slim, l.loose.long)
-
   pub live_less : {m : ℕ} → m ≤ n → Live s rs m
   live_less h = record { loose = loose_less l.loose h; slim = l.slim }
 

@@ -1,6 +1,6 @@
 // A need is put into the next slot. Whether the needs that are kept then pass the working bound is decided exactly, and mostly at once: each cell that
 // a slot reaches is in use, so that only where more are in use than the bound allows the store is collected.
-// Stays: the needs are the first n slots, a count beside fixed memory, since there is no heap.
+// Stays: n beside the parts. A pass reads the slots below n by number too (n - 1, an exit's), so a stack which keeps n would be opened for each of them.
 ghost use Rattle.std.specs.Prelude.{◌≡◌, ◌<◌, length, get_or, set};
 ghost use Rattle.part.specs.PartReq.{add};
 ghost use Rattle.part.specs.Store.{top, part};
@@ -15,7 +15,7 @@ use part::sums::sum;
 pub const WORK_BOUND: u32 = 65536;
 
 // Frees the cells that the first n slots do not reach.
-// Stays: a part of the slots is lent on, as a part of a slice.
+// Stays: no `Parts`. A part of an array field is lent by a `let` of the whole field alone, and what `parts.slots` holds behind that did not close.
 pub fn clean(cells: &mut [u32], slots: &mut [u32], n: usize)
     requires { Loose cells.old slots.old n }
     ensures { Cleaned cells.old slots.old n cells.new slots.new }

@@ -27,7 +27,7 @@ use Rattle.judge.proofs.ValueRows.{Each}
 use Rattle.judge.proofs.Unsized.{held_either}
 use Rattle.judge.proofs.Operands.{S, type_low, G, o, by-kind}
 
-module _ {bytes t : List ℕ} {f : ℕ} {types alike paths : List ℕ} {e : ℕ} {row : Kinded} (R : Row bytes t f types alike paths e row) where
+module _ {bytes t : List ℕ} {f : ℕ} {types alike : List ℕ} {paths : List Bool} {e : ℕ} {row : Kinded} (R : Row bytes t f types alike paths e row) where
   -- a literal, a zero value or a constant
   pub fits_fixed : {v : Bool} → (row.kind ≡ 0) ⊎ ((row.kind ≡ 1) ⊎ (row.kind ≡ 5)) → v ≡ is_value (S (G R)) e → Fits bytes t f e v
   unfolding expression_of fits_expression
@@ -80,7 +80,7 @@ module _ {bytes t : List ℕ} {f : ℕ} {types alike paths : List ℕ} {e : ℕ}
       ]
 
 -- judged: it fits, and neither its type nor its pointee holds an unsized array
-module _ {bytes t : List ℕ} {f : ℕ} {types alike paths : List ℕ} (given : Given bytes t f types alike paths) {held : List ℕ} (U : UnsizedTable (types_of types) held) (e : ℕ) (there : e < length (function_of bytes t f).expressions) {a : ℕ} {w : Bool} (own : a ≡ type_of (S given) e) (entry : w ≡ marked held a || pointee_holds (marked held) (get_or (types_of types) a Opaque)) where
+module _ {bytes t : List ℕ} {f : ℕ} {types alike : List ℕ} {paths : List Bool} (given : Given bytes t f types alike paths) {held : List Bool} (U : UnsizedTable (types_of types) held) (e : ℕ) (there : e < length (function_of bytes t f).expressions) {a : ℕ} {w : Bool} (own : a ≡ type_of (S given) e) (entry : w ≡ marked held a || pointee_holds (marked held) (get_or (types_of types) a Opaque)) where
   held_is : w ≡ holds_either (S given) (type_of (S given) e)
   held_is =
       entry ∙ rw own (held_either types held given.shapes.lower U (S given) given.values.same (type_of (S given) e) (type_low given e there))

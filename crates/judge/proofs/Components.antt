@@ -228,7 +228,7 @@ module _ (S : Scope) (L : Lower S.program.types) where
     compose_other (BindingArray base) a b c d = refl
     compose_other Opaque a b c d = refl
 
-module _ {bytes t : List ℕ} {f : ℕ} {types alike paths : List ℕ} {e : ℕ} {row : Kinded} (R : Row bytes t f types alike paths e row) where
+module _ {bytes t : List ℕ} {f : ℕ} {types alike : List ℕ} {paths : List Bool} {e : ℕ} {row : Kinded} (R : Row bytes t f types alike paths e row) where
   abbrev T : Scope
   T = S (G R)
 

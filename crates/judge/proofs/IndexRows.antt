@@ -26,7 +26,7 @@ module _ (S : Scope) (kind i : ℕ) (x y : TypeInner) {r : Bool} where
   unfolding indexed
   index_constant h q = rw (ne_eqb kind 4 h) q
 
-module _ {bytes t : List ℕ} {f : ℕ} {types alike paths : List ℕ} {e : ℕ} {row : Kinded} (R : Row bytes t f types alike paths e row) (low : 3 ≤ row.kind) (high : row.kind ≤ 4) where
+module _ {bytes t : List ℕ} {f : ℕ} {types alike : List ℕ} {paths : List Bool} {e : ℕ} {row : Kinded} (R : Row bytes t f types alike paths e row) (low : 3 ≤ row.kind) (high : row.kind ≤ 4) where
   base_below : o R 0 < e
   unfolding expression_of
   base_below =

@@ -46,7 +46,7 @@ argument-type [] d i l = absurd (omega arith)
 argument-type (x ∷ xs) d zero l = refl
 argument-type (x ∷ xs) d (suc i) l = argument-type xs d i (omega arith)
 
-module _ {bytes t : List ℕ} {f : ℕ} {types alike paths : List ℕ} (G : Given bytes t f types alike paths) where
+module _ {bytes t : List ℕ} {f : ℕ} {types alike : List ℕ} {paths : List Bool} (G : Given bytes t f types alike paths) where
   abbrev pub S : Scope
   S = scope_at bytes t f
 
@@ -80,7 +80,7 @@ module _ {bytes t : List ℕ} {f : ℕ} {types alike paths : List ℕ} (G : Give
         same-table types S G.values.same c b G.shapes (omega (arith, P.low, h, type_low p l)) (omega (arith, k, type_low v m)) s,
       )
 
-module _ {bytes t : List ℕ} {f : ℕ} {types alike paths : List ℕ} {e : ℕ} {row : Kinded} (R : Row bytes t f types alike paths e row) where
+module _ {bytes t : List ℕ} {f : ℕ} {types alike : List ℕ} {paths : List Bool} {e : ℕ} {row : Kinded} (R : Row bytes t f types alike paths e row) where
   abbrev pub G : Given bytes t f types alike paths
   G = R.given
 

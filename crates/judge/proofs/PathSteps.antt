@@ -7,7 +7,7 @@ use mathlib.Core.Logic.{◌⊎◌, inl, inr}
 use mathlib.Core.Path.{◌≡◌, refl, sym, ap, subst, ◌∙◌}
 use mathlib.Core.Bool.{Bool, true, false}
 use mathlib.Core.List.{List}
-use lib.Dec.{ltb, eqb}
+use lib.Dec.{ltb}
 use lib.ListN.{length, get_or, get_or-eq_default}
 use Rattle.field.specs.Limits.{max_expressions}
 use Rattle.module.specs.Module.{ExpressionHandle, Expression, Typed, Function}
@@ -98,7 +98,7 @@ other_kind path o =
     (λ h. refl, (λ h. refl, (λ h. refl, (λ h. absurd (h.index refl), (λ h. absurd (h.value refl), (λ h. refl, (λ h. refl, (λ h. refl, (λ h. refl, (λ h. refl, (λ h. absurd (h.global refl), (λ h. absurd (h.local refl), (λ h. refl, (λ h. refl, (λ h. refl, (λ h. refl, (λ h. refl, (λ h. refl, (λ h. refl, (λ h. refl, (λ h. refl, (λ h. refl, (λ h. refl, (λ h. refl, (λ h. refl, (λ h. refl, (λ h. refl, (λ h. refl, (λ h. refl, (λ h. refl, (λ h. refl, (λ h. refl, tt))))))))))))))))))))))))))))))))
     (λ k h. refl)
 
-module _ (bytes t : List ℕ) (f e : ℕ) (table : List ℕ) {r : Kinded} (row : r ≡ expression_row bytes t f e) where
+module _ (bytes t : List ℕ) (f e : ℕ) (table : List Bool) {r : Kinded} (row : r ≡ expression_row bytes t f e) where
   abbrev said : Bool
   said = path_by (marked table) (typed_at bytes t f e).expression
 
@@ -111,13 +111,12 @@ module _ (bytes t : List ℕ) (f e : ℕ) (table : List ℕ) {r : Kinded} (row :
   entry_variable (inl h) = said-by h
   entry_variable (inr h) = said-by h
 
-  module _ {b u : ℕ} (o : b ≡ operand_at bytes r 0) (w : u ≡ get_or table b 0) where
-    base_marked : eqb u 1 ≡ marked table (operand_at bytes r 0)
-    unfolding marked
-    base_marked = ap (λ (v : ℕ). eqb v 1) (w ∙ ap (λ (z : ℕ). get_or table z 0) o)
+  module _ {b : ℕ} {u : Bool} (o : b ≡ operand_at bytes r 0) (w : u ≡ marked table b) where
+    base_marked : u ≡ marked table (operand_at bytes r 0)
+    base_marked = w ∙ ap (marked table) o
 
     -- an index, constant or dynamic
-    pub entry-index : (r.kind ≡ 3) ⊎ (r.kind ≡ 4) → eqb u 1 ≡ said
+    pub entry-index : (r.kind ≡ 3) ⊎ (r.kind ≡ 4) → u ≡ said
     unfolding expression_of path_by
     entry-index (inl h) = base_marked ∙ said-by h
     entry-index (inr h) = base_marked ∙ said-by h
@@ -137,7 +136,7 @@ module _ (bytes t : List ℕ) (f : ℕ) (read : read_module bytes ≡ accepted (
   pub few : length F.expressions ≤ max_expressions
   few = function_valid.parts.few_expressions
 
-  pub entry_is : (table : List ℕ) {e : ℕ} (r : ℕ) → e < length F.expressions → Marks (path_among F.expressions) table e → eqb r 1 ≡ path_by (marked table) (typed_at bytes t f e).expression → eqb r 1 ≡ path_among F.expressions e
+  pub entry_is : (table : List Bool) {e : ℕ} (r : Bool) → e < length F.expressions → Marks (path_among F.expressions) table e → r ≡ path_by (marked table) (typed_at bytes t f e).expression → r ≡ path_among F.expressions e
   entry_is table {e} r l M h =
       let x = (get_or F.expressions e no_expression).expression in
       let lower = operands_lower F function_valid in
@@ -145,6 +144,6 @@ module _ (bytes t : List ℕ) (f : ℕ) (read : read_module bytes ≡ accepted (
       ∙ (paths_agree e (marked table) (path_among F.expressions) x (lower e) M.each ∙ sym (path_is F.expressions lower e)))
 
 -- the whole table
-pub filled : (xs : List Typed) (table : List ℕ) {n k : ℕ} → n ≡ length xs → length table ≡ n → n ≤ k → Marks (path_among xs) table k → PathTable xs table
+pub filled : (xs : List Typed) (table : List Bool) {n k : ℕ} → n ≡ length xs → length table ≡ n → n ≤ k → Marks (path_among xs) table k → PathTable xs table
 filled xs table e f l M =
     record { long = f ∙ e; is = λ S s a h. M.each a (omega arith) ∙ (rw (← s) (path-among S a)) }

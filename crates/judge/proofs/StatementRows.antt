@@ -38,7 +38,7 @@ module _ (S : Scope) (declared : Option FunctionResult) (v : ℕ) where
 result_low : (n : ℕ) (declared : Option FunctionResult) {x : FunctionResult} → some x ≡ declared → ResultBelow n declared → x.type < n
 result_low n declared q l = let z = rw (← q) at l in z.0
 
-module _ {bytes t : List ℕ} {f : ℕ} {types alike paths : List ℕ} (given : Given bytes t f types alike paths) where
+module _ {bytes t : List ℕ} {f : ℕ} {types alike : List ℕ} {paths : List Bool} (given : Given bytes t f types alike paths) where
   abbrev T : Scope
   T = S given
 

@@ -9,7 +9,6 @@ use mathlib.Core.List.{List, [], ◌∷◌, map}
 use lib.Dec.{eqb}
 use lib.ListN.{length, get_or}
 use borrow.Author.Count.{below_more}
-use borrow.Author.Tests.{eq-eqb, ne_eqb}
 use Rattle.module.specs.Module.{Member, TypeInner, Scalar, Vector, Matrix, Atomic, Pointer, Array, Struct, BindingArray, Opaque}
 use Rattle.module.specs.Knot.{knot, below}
 use Rattle.module.specs.Decode.{type_inner_of}
@@ -113,7 +112,7 @@ module _ (types : List TypeInner) (L : Lower types) where
       ∙ holds_agree (below (holds_among types) false t) (holds_among types) (get_or types t Opaque)
       (λ i l. below-lt (holds_among types) false t (get_or (bases (get_or types t Opaque)) i 0) (L.each t i l))
 
-  pub entry_is : (table : List ℕ) {n : ℕ} (r : ℕ) → Marks (holds_among types) table n → eqb r 1 ≡ holds_in (marked table) (get_or types n Opaque) → eqb r 1 ≡ holds_among types n
+  pub entry_is : (table : List Bool) {n : ℕ} (r : Bool) → Marks (holds_among types) table n → r ≡ holds_in (marked table) (get_or types n Opaque) → r ≡ holds_among types n
   entry_is table {n} r M e =
       e ∙ (holds_agree (marked table) (holds_among types) (get_or types n Opaque) (λ i l. M.each (get_or (bases (get_or types n Opaque)) i 0) (L.each n i l)) ∙ sym (holds_is n))
 
@@ -138,51 +137,44 @@ module _ (rows : List ℕ) (t : ℕ) {k : ℕ} (e : k ≡ number (get_or (types_
   itself-other n = rw e (itself-plain (get_or (types_of rows) t Opaque) (λ q. n (e ∙ q)))
 
 -- the table marks none of the first i types
-pub record Unmarked (table xs : List ℕ) (i : ℕ) : Type 0 where
+pub record Unmarked (table : List Bool) (xs : List ℕ) (i : ℕ) : Type 0 where
   pub each : (k : ℕ) → k < i → marked table (get_or xs k 0) ≡ false
 
-module _ (table xs : List ℕ) where
+module _ (table : List Bool) (xs : List ℕ) where
   pub unmarked_none : Unmarked table xs 0
   unmarked_none = record { each = λ k l. absurd (omega arith) }
 
   -- the entry u of the type that stands at i
-  module _ {i x u : ℕ} (l : i < length xs) (a : x ≡ get_or xs i 0) (e : u ≡ get_or table x 0) where
-    entry : u ≡ get_or table (get_or xs i 0) 0
-    entry = e ∙ ap (λ (z : ℕ). get_or table z 0) a
+  module _ {i x : ℕ} {u : Bool} (l : i < length xs) (a : x ≡ get_or xs i 0) (e : u ≡ marked table x) where
+    entry : u ≡ marked table (get_or xs i 0)
+    entry = e ∙ ap (marked table) a
 
-    pub some-found : u ≡ 1 → true ≡ some (marked table) xs
-    unfolding marked
-    some-found h =
-        sym (ap not (every-false (λ b. not (marked table b)) xs i l (ap not (eq-eqb (get_or table (get_or xs i 0) 0) 1 (sym entry ∙ h)))))
+    pub some-found : u ≡ true → true ≡ some (marked table) xs
+    some-found h = sym (ap not (every-false (λ b. not (marked table b)) xs i l (ap not (sym entry ∙ h))))
 
-    pub unmarked_next : (u ≡ 1 → ⊥) → Unmarked table xs i → Unmarked table xs (i + 1)
-    unfolding marked
+    pub unmarked_next : u ≡ false → Unmarked table xs i → Unmarked table xs (i + 1)
     unmarked_next n U =
-        record {
-          each =
-              below_more (λ (k : ℕ). marked table (get_or xs k 0) ≡ false) i U.each
-              (ne_eqb (get_or table (get_or xs i 0) 0) 1 (λ q. n (entry ∙ q)));
-        }
+        record { each = below_more (λ (k : ℕ). marked table (get_or xs k 0) ≡ false) i U.each (sym entry ∙ n) }
 
   pub unmarked_all : {n i : ℕ} → n ≡ length xs → n ≤ i → Unmarked table xs i → false ≡ some (marked table) xs
   unmarked_all e l U = sym (ap not (every_true (λ b. not (marked table b)) xs (λ k h. ap not (U.each k (omega arith)))))
 
 -- an entry: a pointer's, and by both answers
-pub entry_pointer : (table : List ℕ) (x : TypeInner) {k : ℕ} → k ≡ number x → k ≡ 4 → eqb 0 1 ≡ holds_in (marked table) x
+pub entry_pointer : (table : List Bool) (x : TypeInner) {k : ℕ} → k ≡ number x → k ≡ 4 → false ≡ holds_in (marked table) x
 entry_pointer table x e h = sym (pointer_holds (marked table) x (sym e ∙ h))
 
-module _ (table : List ℕ) (x : TypeInner) {k : ℕ} (q : k ≡ number x) (n : k ≡ 4 → ⊥) {a : Bool} (e : a ≡ itself x) where
+module _ (table : List Bool) (x : TypeInner) {k : ℕ} (q : k ≡ number x) (n : k ≡ 4 → ⊥) {a : Bool} (e : a ≡ itself x) where
   abbrev parts : holds_in (marked table) x ≡ itself x || some (marked table) (bases x)
   parts = holds_parts (marked table) x (λ z. n (q ∙ z))
 
-  pub entry_itself : a ≡ true → eqb 1 1 ≡ holds_in (marked table) x
+  pub entry_itself : a ≡ true → true ≡ holds_in (marked table) x
   entry_itself h = sym (parts ∙ rw (← e, h))
 
-  pub entry_some : {b r : Bool} → a ≡ false → b ≡ some (marked table) (bases x) → b ≡ r → r ≡ holds_in (marked table) x
-  entry_some h f q = sym q ∙ sym (parts ∙ rw (← e, h, ← f))
+  pub entry_some : {b : Bool} → a ≡ false → b ≡ some (marked table) (bases x) → b ≡ holds_in (marked table) x
+  entry_some h f = sym (parts ∙ rw (← e, h, ← f))
 
 -- the whole table
-pub filled : (rows table : List ℕ) {n k : ℕ} → n ≡ type_count rows → length table ≡ n → n ≤ k → Marks (holds_among (types_of rows)) table k → UnsizedTable (types_of rows) table
+pub filled : (rows : List ℕ) (table : List Bool) {n k : ℕ} → n ≡ type_count rows → length table ≡ n → n ≤ k → Marks (holds_among (types_of rows)) table k → UnsizedTable (types_of rows) table
 filled rows table {n} {k} e f l M =
     record {
       long = f ∙ (e ∙ sym (types_long rows));
@@ -215,28 +207,26 @@ pointee_agree holds other (Struct ms) f = refl
 pointee_agree holds other (BindingArray base) f = refl
 pointee_agree holds other Opaque f = refl
 
-module _ (rows table : List ℕ) (t : ℕ) {w : ℕ} (entry : w ≡ get_or table t 0) where
+module _ (rows : List ℕ) (table : List Bool) (t : ℕ) {w : Bool} (entry : w ≡ marked table t) where
   abbrev Either : Bool → Type 0
   Either r = r ≡ marked table t || pointee_holds (marked table) (get_or (types_of rows) t Opaque)
 
-  pub either_itself : w ≡ 1 → Either true
-  unfolding marked
-  either_itself h = sym (rw (eq-eqb (get_or table t 0) 1 (sym entry ∙ h)))
+  pub either_itself : w ≡ true → Either true
+  either_itself h = sym (rw (← entry, h))
 
-  module _ (n : w ≡ 1 → ⊥) {k : ℕ} (e : k ≡ number (get_or (types_of rows) t Opaque)) where
+  module _ (n : w ≡ false) {k : ℕ} (e : k ≡ number (get_or (types_of rows) t Opaque)) where
     unmarked : marked table t ≡ false
-    unfolding marked
-    unmarked = ne_eqb (get_or table t 0) 1 (λ q. n (entry ∙ q))
+    unmarked = sym entry ∙ n
 
-    pub either_pointee : {b u : ℕ} → k ≡ 4 → b ≡ type_word rows t 1 → u ≡ get_or table b 0 → Either (eqb u 1)
+    pub either_pointee : {b : ℕ} {u : Bool} → k ≡ 4 → b ≡ type_word rows t 1 → u ≡ marked table b → Either u
     either_pointee {b} h q v =
-        sym (rw (unmarked, row_is rows t 4 (omega arith) e h) (unfold type_inner_of pointee_holds marked in rw (v, q)))
+        sym (rw (unmarked, row_is rows t 4 (omega arith) e h) (unfold type_inner_of pointee_holds in rw (v, q)))
 
     pub either_none : (k ≡ 4 → ⊥) → Either false
     either_none h = sym (rw (unmarked, plain_pointee (marked table) (get_or (types_of rows) t Opaque) (λ z. h (e ∙ z))))
 
 -- by the table, where types are made of lower ones
-pub held_either : (types table : List ℕ) → Lower (types_of types) → UnsizedTable (types_of types) table → (S : Scope) → S.program.types ≡ types_of types → (t : ℕ) → t < length (types_of types) →
+pub held_either : (types : List ℕ) (table : List Bool) → Lower (types_of types) → UnsizedTable (types_of types) table → (S : Scope) → S.program.types ≡ types_of types → (t : ℕ) → t < length (types_of types) →
     marked table t || pointee_holds (marked table) (get_or (types_of types) t Opaque) ≡ holds_either S t
 unfolding holds_either inner
 held_either types table L U S s t l =

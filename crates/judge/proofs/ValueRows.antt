@@ -76,9 +76,9 @@ no-path S e l =
     )
     (unfold step_from in refl)
 
-not_marked : (table : List ℕ) (e : ℕ) → length table ≤ e → marked table e ≡ false
+not_marked : (table : List Bool) (e : ℕ) → length table ≤ e → marked table e ≡ false
 unfolding marked
-not_marked table e l = rw (get_or-eq_default table 0 {n = e} l)
+not_marked table e l = rw (get_or-eq_default table false {n = e} l)
 
 module _ (bytes t : List ℕ) (f : ℕ) where
   abbrev S : Scope
@@ -92,9 +92,8 @@ module _ (bytes t : List ℕ) (f : ℕ) where
   unfolding type_of typed
   type_none e h l = sym (ap (λ (x : Typed). x.type) (get_or-eq_default (function_of bytes t f).expressions no_expression {n = e} (omega arith)))
 
-  module _ {types paths : List ℕ} (G : Values bytes t f types paths) (e : ℕ) where
-    pub path_is : {w : ℕ} → w ≡ get_or paths e 0 → eqb w 1 ≡ is_path S e
-    unfolding marked
+  module _ {types : List ℕ} {paths : List Bool} (G : Values bytes t f types paths) (e : ℕ) where
+    pub path_is : {w : Bool} → w ≡ marked paths e → w ≡ is_path S e
     path_is h =
         elim (dec_lt e (length (function_of bytes t f).expressions)) [
           | yes l ↦ rw h (G.table.is S refl e l)

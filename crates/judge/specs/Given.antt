@@ -15,17 +15,17 @@ abbrev pub scope_at : List ℕ → List ℕ → ℕ → Scope
 scope_at bytes t f = record { program = module_of bytes t; function = function_of bytes t f }
 
 -- what says of an expression whether it is a value
-pub record Values (bytes t : List ℕ) (f : ℕ) (types paths : List ℕ) : Type 0 where
+pub record Values (bytes t : List ℕ) (f : ℕ) (types : List ℕ) (paths : List Bool) : Type 0 where
   pub same : (module_of bytes t).types ≡ types_of types
   pub table : PathTable (function_of bytes t f).expressions paths
 
-pub record Given (bytes t : List ℕ) (f : ℕ) (types alike paths : List ℕ) : Type 0 where
+pub record Given (bytes t : List ℕ) (f : ℕ) (types alike : List ℕ) (paths : List Bool) : Type 0 where
   pub of : There bytes t f
   pub values : Values bytes t f types paths
   pub shapes : Shapes types alike
 
 -- the row of an expression of the function
-pub record Row (bytes t : List ℕ) (f : ℕ) (types alike paths : List ℕ) (e : ℕ) (row : Kinded) : Type 0 where
+pub record Row (bytes t : List ℕ) (f : ℕ) (types alike : List ℕ) (paths : List Bool) (e : ℕ) (row : Kinded) : Type 0 where
   pub given : Given bytes t f types alike paths
   pub there : e < length (function_of bytes t f).expressions
   pub is : row ≡ expression_row bytes t f e

@@ -1,5 +1,5 @@
--- What a table of ones and zeroes says of a number.
-use Rattle.std.specs.Prelude.{ℕ, Bool, List, eqb, get_or}
+-- What a table says of a number; of one past its end, that it is not marked.
+use Rattle.std.specs.Prelude.{ℕ, Bool, false, List, get_or}
 
-unfoldable pub marked : List ℕ → ℕ → Bool
-marked table n = eqb (get_or table n 0) 1
+unfoldable pub marked : List Bool → ℕ → Bool
+marked table n = get_or table n false

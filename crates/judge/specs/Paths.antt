@@ -1,5 +1,5 @@
--- The table of the expressions that are paths: 1 for each of them and 0 for the others.
-use Rattle.std.specs.Prelude.{ℕ, ◌<◌, ◌≡◌, Bool, true, false, List, length}
+-- The table of the expressions that are paths.
+use Rattle.std.specs.Prelude.{◌<◌, ◌≡◌, Bool, true, false, List, length}
 use Rattle.module.specs.Module.{ExpressionHandle, Expression, Typed}
 use Rattle.module.specs.Way.{Way, constantly, dynamically, to_global, to_local, no_way, way_of}
 use Rattle.clearance.specs.Scope.{Scope, is_path}
@@ -17,6 +17,6 @@ unfoldable pub path_by : (ExpressionHandle → Bool) → Expression → Bool
 path_by path x = path_way path (way_of x)
 
 -- the table decides `is_path` in every scope whose function has these expressions
-pub record PathTable (expressions : List Typed) (table : List ℕ) : Type 0 where
+pub record PathTable (expressions : List Typed) (table : List Bool) : Type 0 where
   pub long : length table ≡ length expressions
   pub is : (S : Scope) → S.function.expressions ≡ expressions → (e : ExpressionHandle) → e < length expressions → marked table e ≡ is_path S e

@@ -1,5 +1,5 @@
 // Types fit by shape, by a table: for each type the lowest type that is alike.
-ghost use Rattle.std.specs.Prelude.{◌≡◌, ◌<◌, ◌≤◌, eqb, length, get_or};
+ghost use Rattle.std.specs.Prelude.{◌≡◌, ◌≤◌, eqb, length, get_or};
 ghost use Rattle.field.specs.Limits.{max_types};
 ghost use Rattle.module.specs.Module.{Opaque};
 ghost use Rattle.context.specs.Types.{type_count, types_of};
@@ -72,7 +72,7 @@ fn lowest(types: &[u32], table: &[u32], k: TypeHandle) -> TypeHandle
 }
 
 // The table: lowest first, since a type is made of lower ones.
-// Stays: by number, since an entry is made from the entries below it, and an iterator that writes would hold them all lent.
+// Stays: by number. `lowest` reads the entries below k, and `table.iter_mut()` would hold the table lent for writing from the first entry to the last.
 pub fn fill_alike(types: &[u32], table: &mut [u32])
     requires lower { Lower (types_of types.now) }
     requires table_len { length table.old ≡ type_count types.now }

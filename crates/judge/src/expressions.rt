@@ -6,6 +6,7 @@ ghost use Rattle.judge.specs.Unsized.{UnsizedTable};
 ghost use Rattle.judge.specs.Blamed.{blamed};
 ghost use Rattle.judge.specs.Subject.{scope_of, function_in, FitsOf};
 
+use crate::expression::SubjectExpression;
 use crate::indexes::fits_index;
 use crate::made::fits_made;
 use crate::named::fits_named;
@@ -22,20 +23,25 @@ pub fn fits_expression(subject: &Subject, e: ExpressionHandle) -> bool
     ensures { FitsOf subject.now e.0 result }
 {
     let row = subject.file.expression(subject.f, e);
+    let expression = SubjectExpression {
+        subject: &*subject,
+        row,
+        e,
+    };
     match ExpressionKind::try_from(row.kind) {
         Ok(ExpressionKind::Literal | ExpressionKind::ZeroValue | ExpressionKind::Constant) => {
             is_value(subject, e)
         }
-        Ok(ExpressionKind::AccessIndex | ExpressionKind::Access) => { fits_index(subject, row, e) }
+        Ok(ExpressionKind::AccessIndex | ExpressionKind::Access) => { fits_index(&expression) }
         Ok(ExpressionKind::Splat | ExpressionKind::Swizzle | ExpressionKind::Compose) => {
-            fits_made(subject, row, e)
+            fits_made(&expression)
         }
         Ok(
             ExpressionKind::FunctionArgument
             | ExpressionKind::GlobalVariable
             | ExpressionKind::LocalVariable
             | ExpressionKind::Load,
-        ) => fits_named(subject, row, e),
+        ) => fits_named(&expression),
         Ok(
             ExpressionKind::Unary
             | ExpressionKind::Binary
@@ -44,14 +50,14 @@ pub fn fits_expression(subject: &Subject, e: ExpressionHandle) -> bool
             | ExpressionKind::Relational
             | ExpressionKind::Math
             | ExpressionKind::As,
-        ) => fits_operator(subject, row, e),
+        ) => fits_operator(&expression),
         Ok(_) => false,
         Err(_) => is_value(subject, e),
     }
 }
 
 // Whether the expression e fits and neither its type nor its pointee holds an unsized array.
-pub fn judged_expression(subject: &Subject, held: &[u32], e: ExpressionHandle) -> bool
+pub fn judged_expression(subject: &Subject, held: &[bool], e: ExpressionHandle) -> bool
     requires unsized_table { UnsizedTable (types_of subject.now.types.now) held.now }
     requires e_in_bounds { e.0 < length (function_in subject.now).expressions }
     ensures { result ≡ judged_expression (scope_of subject.now) e.0 }
@@ -64,7 +70,7 @@ pub fn judged_expression(subject: &Subject, held: &[u32], e: ExpressionHandle) -
 }
 
 // The lowest expression that is not judged.
-pub fn blamed_expression(subject: &Subject, held: &[u32]) -> Option<u32>
+pub fn blamed_expression(subject: &Subject, held: &[bool]) -> Option<u32>
     requires unsized_table { UnsizedTable (types_of subject.now.types.now) held.now }
     ensures { blamed result ≡ blamed_expression (scope_of subject.now) }
 {

@@ -5,13 +5,12 @@ ghost use Rattle.clearance.specs.Scope.{inner};
 ghost use Rattle.clearance.specs.Judged.{same_part};
 ghost use Rattle.judge.specs.Shapes.{InTypes, Shapes, indexed};
 ghost use Rattle.judge.specs.Given.{fits_base};
-ghost use Rattle.judge.specs.Subject.{RowOf, scope_of, FitsOf};
+ghost use Rattle.judge.specs.Subject.{scope_of, FitsOf};
 
+use crate::expression::SubjectExpression;
 use crate::shapes::{pointee, same_element, same_part};
-use crate::subject::Subject;
 use crate::values::{is_path, is_value, type_of};
-use access::kinded::Kinded;
-use module::handles::{ExpressionHandle, TypeHandle};
+use module::handles::TypeHandle;
 use module::kinds::ExpressionKind;
 
 // Whether an index of the type a is of b's shape: a dynamic one, or the constant i.
@@ -28,42 +27,42 @@ fn same_index(types: &[u32], alike: &[u32], kind: u16, a: TypeHandle, i: u32, b:
 }
 
 // Whether the index e of its base fits, by the kind of its row.
-fn fits_base(subject: &Subject, row: Kinded, e: ExpressionHandle) -> bool
-    requires row { RowOf subject.now e.0 row }
-    requires le_kind { 3 ≤ row.kind }
-    requires kind_bound { row.kind ≤ 4 }
-    ensures { result ≡ fits_base (scope_of subject.now) subject.now.file.now.bytes row e.0 }
+fn fits_base(expression: &SubjectExpression) -> bool
+    requires le_kind { 3 ≤ expression.now.row.kind }
+    requires kind_bound { expression.now.row.kind ≤ 4 }
+    ensures { result ≡ fits_base (scope_of expression.now.subject.now) expression.now.subject.now.file.now.bytes expression.now.row expression.now.e.0 }
 {
-    let base = subject.file.expression_operand(row, 0);
-    let i = subject.file.operand(row, 1) as u32;
+    let subject = expression.subject;
+    let base = subject.file.expression_operand(expression.row, 0);
+    let i = subject.file.operand(expression.row, 1) as u32;
     let a = type_of(subject.file, subject.f, base);
-    let b = type_of(subject.file, subject.f, e);
+    let b = type_of(subject.file, subject.f, expression.e);
     if is_path(subject, base) {
         return same_index(
             subject.types,
             subject.alike,
-            row.kind,
+            expression.row.kind,
             pointee(subject.types, a),
             i,
             pointee(subject.types, b),
         );
     }
     is_value(subject, base)
-        && is_value(subject, e)
-        && same_index(subject.types, subject.alike, row.kind, a, i, b)
+        && is_value(subject, expression.e)
+        && same_index(subject.types, subject.alike, expression.row.kind, a, i, b)
 }
 
 // A constant index, or one by an expression, which is a value.
-pub fn fits_index(subject: &Subject, row: Kinded, e: ExpressionHandle) -> bool
-    requires row { RowOf subject.now e.0 row }
-    requires le_kind { 3 ≤ row.kind }
-    requires kind_bound { row.kind ≤ 4 }
-    ensures { FitsOf subject.now e.0 result }
+pub fn fits_index(expression: &SubjectExpression) -> bool
+    requires le_kind { 3 ≤ expression.now.row.kind }
+    requires kind_bound { expression.now.row.kind ≤ 4 }
+    ensures { FitsOf expression.now.subject.now expression.now.e.0 result }
 {
-    let fits = fits_base(subject, row, e);
-    match ExpressionKind::try_from(row.kind) {
+    let subject = expression.subject;
+    let fits = fits_base(expression);
+    match ExpressionKind::try_from(expression.row.kind) {
         Ok(ExpressionKind::Access) => {
-            let index = subject.file.expression_operand(row, 1);
+            let index = subject.file.expression_operand(expression.row, 1);
             is_value(subject, index) && fits
         }
         _ => fits,

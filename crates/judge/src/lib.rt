@@ -2,6 +2,7 @@
 #![tactic(auto)]
 
 pub mod alike;
+pub mod expression;
 pub mod expressions;
 pub mod frame;
 pub mod indexes;
@@ -13,5 +14,6 @@ pub mod rows;
 pub mod shapes;
 pub mod statements;
 pub mod subject;
+pub mod tables;
 pub mod unsized_types;
 pub mod values;

@@ -2,22 +2,20 @@
 ghost use Rattle.std.specs.Prelude.{◌≡◌, ◌&&◌, ◌||◌, ◌+◌, ◌<◌, ◌≤◌, ltb, eqb, length, get_or};
 ghost use Rattle.module.specs.Module.{Opaque};
 ghost use Rattle.module.specs.Decode.{tab};
-ghost use Rattle.module.specs.Tables.{module_of};
 ghost use Rattle.access.specs.Access.{operand_at};
 ghost use Rattle.context.specs.Types.{types_of};
 ghost use Rattle.clearance.specs.Scope.{inner, inner_of, is_scalar, is_vector};
 ghost use Rattle.clearance.specs.Judged.{every, part_type, same_part, component_count, count_components};
-ghost use Rattle.judge.specs.Given.{scope_at};
-ghost use Rattle.judge.specs.Subject.{RowOf, scope_of, FitsOf};
+ghost use Rattle.judge.specs.Subject.{scope_of, FitsOf};
 
+use crate::expression::SubjectExpression;
 use crate::rows::kind_at;
 use crate::shapes::{is_vector_of, part_count, same_part};
-use crate::subject::Subject;
 use crate::values::{all_values, is_value, type_of};
 use access::file::File;
 use access::kinded::Kinded;
 use bindings::types::first_word;
-use module::handles::{ExpressionHandle, FunctionHandle, TypeHandle};
+use module::handles::TypeHandle;
 use module::kinds::{ExpressionKind, TypeKind};
 
 // Whether each letter of a pattern is below n.
@@ -36,20 +34,24 @@ fn letters_below(file: &File, row: Kinded, n: u32) -> bool
 }
 
 // Letters of a vector that is a value, and a vector of as many.
-fn fits_swizzle(subject: &Subject, row: Kinded, e: ExpressionHandle) -> bool
-    requires row { RowOf subject.now e.0 row }
-    requires kind_value { row.kind ≡ 7 }
-    ensures { FitsOf subject.now e.0 result }
+fn fits_swizzle(expression: &SubjectExpression) -> bool
+    requires kind_value { expression.now.row.kind ≡ 7 }
+    ensures { FitsOf expression.now.subject.now expression.now.e.0 result }
 {
-    let vector = subject.file.expression_operand(row, 0);
+    let subject = expression.subject;
+    let vector = subject.file.expression_operand(expression.row, 0);
     let a = type_of(subject.file, subject.f, vector);
     if kind_at(subject.types, a) != TypeKind::Vector {
         return false;
     }
-    let letters = subject.file.operand(row, 1) as u32;
+    let letters = subject.file.operand(expression.row, 1) as u32;
     is_value(subject, vector)
-        && letters_below(subject.file, row, first_word(subject.types, a))
-        && is_vector_of(subject.types, letters, type_of(subject.file, subject.f, e))
+        && letters_below(subject.file, expression.row, first_word(subject.types, a))
+        && is_vector_of(
+            subject.types,
+            letters,
+            type_of(subject.file, subject.f, expression.e),
+        )
 }
 
 // How many components the type a gives: a scalar or a vector.
@@ -64,36 +66,40 @@ fn component_count(types: &[u32], a: TypeHandle) -> u32
 }
 
 // Whether the components are scalars and vectors, n components in all.
-fn joins(file: &File, f: FunctionHandle, types: &[u32], row: Kinded, n: u32) -> bool
-    requires { (module_of file.now.bytes file.now.t).types ≡ types_of types.now }
-    ensures { result ≡ (every (λ c. is_scalar (inner_of (scope_at file.now.bytes file.now.t f.0) c) || is_vector (inner_of (scope_at file.now.bytes file.now.t f.0) c)) (tab (operand_at file.now.bytes row 0) (λ i. operand_at file.now.bytes row (1 + i))) && eqb (count_components (scope_at file.now.bytes file.now.t f.0) (tab (operand_at file.now.bytes row 0) (λ i. operand_at file.now.bytes row (1 + i)))) n) }
+fn joins(expression: &SubjectExpression, n: u32) -> bool
+    ensures { result ≡ (every (λ c. is_scalar (inner_of (scope_of expression.now.subject.now) c) || is_vector (inner_of (scope_of expression.now.subject.now) c)) (tab (operand_at expression.now.subject.now.file.now.bytes expression.now.row 0) (λ i. operand_at expression.now.subject.now.file.now.bytes expression.now.row (1 + i))) && eqb (count_components (scope_of expression.now.subject.now) (tab (operand_at expression.now.subject.now.file.now.bytes expression.now.row 0) (λ i. operand_at expression.now.subject.now.file.now.bytes expression.now.row (1 + i)))) n) }
 {
-    let count = file.operand(row, 0);
+    let subject = expression.subject;
+    let count = subject.file.operand(expression.row, 0);
     let mut total: usize = 0;
     for i in 0..count {
-        let a = type_of(file, f, file.expression_operand(row, 1 + i));
-        match kind_at(types, a) {
+        let a = type_of(
+            subject.file,
+            subject.f,
+            subject.file.expression_operand(expression.row, 1 + i),
+        );
+        match kind_at(subject.types, a) {
             TypeKind::Scalar | TypeKind::Vector => {}
             _ => return false,
         }
-        total += component_count(types, a) as usize;
+        total += component_count(subject.types, a) as usize;
     }
     total == (n as usize)
 }
 
 // Whether each component is of the shape of the type a's part of its number.
-fn parts_fit(subject: &Subject, row: Kinded, e: ExpressionHandle, a: TypeHandle) -> bool
-    requires row { RowOf subject.now e.0 row }
-    requires kind_value { row.kind ≡ 8 }
-    requires a_in_bounds { a.0 < length (types_of subject.now.types.now) }
-    ensures { result ≡ every (λ i. same_part (scope_of subject.now) (part_type (scope_of subject.now) (inner (scope_of subject.now) a.0) i) (inner_of (scope_of subject.now) (operand_at subject.now.file.now.bytes row (1 + i)))) (tab (operand_at subject.now.file.now.bytes row 0) (λ i. i)) }
+fn parts_fit(expression: &SubjectExpression, a: TypeHandle) -> bool
+    requires kind_value { expression.now.row.kind ≡ 8 }
+    requires a_in_bounds { a.0 < length (types_of expression.now.subject.now.types.now) }
+    ensures { result ≡ every (λ i. same_part (scope_of expression.now.subject.now) (part_type (scope_of expression.now.subject.now) (inner (scope_of expression.now.subject.now) a.0) i) (inner_of (scope_of expression.now.subject.now) (operand_at expression.now.subject.now.file.now.bytes expression.now.row (1 + i)))) (tab (operand_at expression.now.subject.now.file.now.bytes expression.now.row 0) (λ i. i)) }
 {
-    let count = subject.file.operand(row, 0);
+    let subject = expression.subject;
+    let count = subject.file.operand(expression.row, 0);
     for i in 0..count {
         let b = type_of(
             subject.file,
             subject.f,
-            subject.file.expression_operand(row, 1 + i),
+            subject.file.expression_operand(expression.row, 1 + i),
         );
         if !same_part(subject.types, subject.alike, a, i as u32, b) {
             return false;
@@ -103,48 +109,41 @@ fn parts_fit(subject: &Subject, row: Kinded, e: ExpressionHandle, a: TypeHandle)
 }
 
 // A value of its components: a vector of scalars and vectors, or a matrix, an array or a struct of its parts.
-fn fits_compose(subject: &Subject, row: Kinded, e: ExpressionHandle) -> bool
-    requires row { RowOf subject.now e.0 row }
-    requires kind_value { row.kind ≡ 8 }
-    ensures { FitsOf subject.now e.0 result }
+fn fits_compose(expression: &SubjectExpression) -> bool
+    requires kind_value { expression.now.row.kind ≡ 8 }
+    ensures { FitsOf expression.now.subject.now expression.now.e.0 result }
 {
-    let values = all_values(subject, row);
-    let a = type_of(subject.file, subject.f, e);
+    let subject = expression.subject;
+    let values = all_values(subject, expression.row);
+    let a = type_of(subject.file, subject.f, expression.e);
     match kind_at(subject.types, a) {
-        TypeKind::Vector => values
-            && joins(
-                subject.file,
-                subject.f,
-                subject.types,
-                row,
-                first_word(subject.types, a),
-            ),
+        TypeKind::Vector => values && joins(expression, first_word(subject.types, a)),
         TypeKind::Matrix | TypeKind::Array | TypeKind::Struct => {
             values
-                && part_count(subject.types, a) == subject.file.operand(row, 0) as u32
-                && parts_fit(subject, row, e, a)
+                && part_count(subject.types, a) == subject.file.operand(expression.row, 0) as u32
+                && parts_fit(expression, a)
         }
         _ => false,
     }
 }
 
 // A vector of one scalar, letters of a vector, or components.
-pub fn fits_made(subject: &Subject, row: Kinded, e: ExpressionHandle) -> bool
-    requires row { RowOf subject.now e.0 row }
-    requires le_kind { 6 ≤ row.kind }
-    requires kind_bound { row.kind ≤ 8 }
-    ensures { FitsOf subject.now e.0 result }
+pub fn fits_made(expression: &SubjectExpression) -> bool
+    requires le_kind { 6 ≤ expression.now.row.kind }
+    requires kind_bound { expression.now.row.kind ≤ 8 }
+    ensures { FitsOf expression.now.subject.now expression.now.e.0 result }
 {
-    match ExpressionKind::try_from(row.kind) {
-        Ok(ExpressionKind::Swizzle) => fits_swizzle(subject, row, e),
+    let subject = expression.subject;
+    match ExpressionKind::try_from(expression.row.kind) {
+        Ok(ExpressionKind::Swizzle) => fits_swizzle(expression),
         Ok(ExpressionKind::Splat) => {
-            let value = subject.file.expression_operand(row, 0);
+            let value = subject.file.expression_operand(expression.row, 0);
             let a = type_of(subject.file, subject.f, value);
-            let b = type_of(subject.file, subject.f, e);
+            let b = type_of(subject.file, subject.f, expression.e);
             is_value(subject, value)
                 && kind_at(subject.types, a) == TypeKind::Scalar
                 && kind_at(subject.types, b) == TypeKind::Vector
         }
-        _ => fits_compose(subject, row, e),
+        _ => fits_compose(expression),
     }
 }

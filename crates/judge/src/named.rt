@@ -4,13 +4,13 @@ ghost use Rattle.context.specs.Types.{types_of};
 ghost use Rattle.clearance.specs.Scope.{inner, inner_of, is_path, is_pointer};
 ghost use Rattle.clearance.specs.Judged.{pointee, pointee_type, same};
 ghost use Rattle.judge.specs.Shapes.{InTypes, Shapes};
-ghost use Rattle.judge.specs.Subject.{RowOf, scope_of, function_in, FitsOf};
+ghost use Rattle.judge.specs.Subject.{scope_of, function_in, FitsOf};
 
+use crate::expression::SubjectExpression;
 use crate::rows::kind_at;
 use crate::shapes::{is_alike, pointee};
 use crate::subject::Subject;
 use crate::values::{is_path, is_value, type_of};
-use access::kinded::Kinded;
 use module::handles::{ExpressionHandle, TypeHandle};
 use module::kinds::{ExpressionKind, TypeKind};
 
@@ -35,33 +35,35 @@ pub fn leads_to(subject: &Subject, p: ExpressionHandle, v: ExpressionHandle) -> 
 }
 
 // An argument, a global, a local or a load.
-pub fn fits_named(subject: &Subject, row: Kinded, e: ExpressionHandle) -> bool
-    requires row { RowOf subject.now e.0 row }
-    requires le_kind { 9 ≤ row.kind }
-    requires kind_bound { row.kind ≤ 12 }
-    ensures { FitsOf subject.now e.0 result }
+pub fn fits_named(expression: &SubjectExpression) -> bool
+    requires le_kind { 9 ≤ expression.now.row.kind }
+    requires kind_bound { expression.now.row.kind ≤ 12 }
+    ensures { FitsOf expression.now.subject.now expression.now.e.0 result }
 {
-    let own = type_of(subject.file, subject.f, e);
-    match ExpressionKind::try_from(row.kind) {
+    let subject = expression.subject;
+    let own = type_of(subject.file, subject.f, expression.e);
+    match ExpressionKind::try_from(expression.row.kind) {
         Ok(ExpressionKind::GlobalVariable) => {
-            let a = subject.file.global(subject.file.global_operand(row, 0));
+            let a = subject
+                .file
+                .global(subject.file.global_operand(expression.row, 0));
             fits_variable(subject.types, subject.alike, a, own)
         }
         Ok(ExpressionKind::LocalVariable) => {
             let a = subject
                 .file
-                .local(subject.f, subject.file.local_operand(row, 0));
+                .local(subject.f, subject.file.local_operand(expression.row, 0));
             fits_variable(subject.types, subject.alike, a, own)
         }
         Ok(ExpressionKind::FunctionArgument) => {
             let a = subject
                 .file
-                .argument(subject.f, subject.file.operand(row, 0) as u32);
-            is_value(subject, e) && is_alike(subject.alike, a.ty, own)
+                .argument(subject.f, subject.file.operand(expression.row, 0) as u32);
+            is_value(subject, expression.e) && is_alike(subject.alike, a.ty, own)
         }
         _ => {
-            let pointer = subject.file.expression_operand(row, 0);
-            is_value(subject, e) && leads_to(subject, pointer, e)
+            let pointer = subject.file.expression_operand(expression.row, 0);
+            is_value(subject, expression.e) && leads_to(subject, pointer, expression.e)
         }
     }
 }

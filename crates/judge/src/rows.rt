@@ -1,5 +1,6 @@
 // A type's kind, and the types that it is made of, by its row in the table of types.
-ghost use Rattle.std.specs.Prelude.{◌≡◌, ◌<◌, length, get_or, min};
+// Stays: a slice. These hold for any words; a struct with `Lower` or `Shapes` is a literal at ten calls for eight clauses (alike, shapes, named, indexes).
+ghost use Rattle.std.specs.Prelude.{◌≡◌, ◌<◌, length, get_or};
 ghost use Rattle.module.specs.Module.{Opaque};
 ghost use Rattle.context.specs.Types.{type_word, types_of};
 ghost use Rattle.clearance.specs.Scope.{kind, bases};

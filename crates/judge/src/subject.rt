@@ -11,6 +11,6 @@ pub struct Subject<'a> {
     pub f: FunctionHandle,
     pub types: &'a [u32],
     pub alike: &'a [u32],
-    pub paths: &'a [u32],
+    pub paths: &'a [bool],
     pub ghost given: { Given file.now.bytes file.now.t f.0 types.now alike.now paths.now },
 }

@@ -1,6 +1,5 @@
-// Types that hold an array of count 0 or a binding array, by a table: 1 for each of them and 0 for the others, pointers among them.
-// Stays: 1 and 0 for yes and no, since the table is lent memory of words (no heap).
-ghost use Rattle.std.specs.Prelude.{◌≡◌, false, not, ◌||◌, ◌≤◌, eqb, length, get_or};
+// Types that hold an array of count 0 or a binding array, by a table. A pointer is none of them.
+ghost use Rattle.std.specs.Prelude.{◌≡◌, false, not, ◌||◌, ◌≤◌, length, get_or};
 ghost use Rattle.field.specs.Limits.{max_types};
 ghost use Rattle.module.specs.Module.{Opaque};
 ghost use Rattle.context.specs.Types.{type_count, types_of};
@@ -11,10 +10,10 @@ ghost use Rattle.judge.specs.Marked.{marked};
 ghost use Rattle.judge.specs.Unsized.{UnsizedTable};
 
 use crate::rows::{base_at, base_count, kind_at, second_word};
+use crate::tables::is_marked;
 use bindings::types::first_word;
 use module::handles::TypeHandle;
 use module::kinds::TypeKind;
-use module::tables::word;
 
 // Whether the type t is itself an array of count 0 or a binding array.
 fn is_unsized(types: &[u32], t: TypeHandle) -> bool
@@ -28,13 +27,13 @@ fn is_unsized(types: &[u32], t: TypeHandle) -> bool
 }
 
 // Whether the table marks one of the types that the type t is made of.
-fn some_base(types: &[u32], table: &[u32], t: TypeHandle) -> bool
+fn some_base(types: &[u32], table: &[bool], t: TypeHandle) -> bool
     ensures { result ≡ not (every (λ b. not (marked table.now b)) (bases (get_or (types_of types.now) t.0 Opaque))) }
 {
     let n = base_count(types, t);
     for i in 0..n {
         let b = base_at(types, t, i);
-        if word(table, b.0 as usize) == 1 {
+        if is_marked(table, b.0) {
             return true;
         }
     }
@@ -42,24 +41,18 @@ fn some_base(types: &[u32], table: &[u32], t: TypeHandle) -> bool
 }
 
 // The type t's entry, from those of the types that it is made of. A pointer does not hold its pointee.
-fn unsized_entry(types: &[u32], table: &[u32], t: TypeHandle) -> u32
-    ensures { eqb result 1 ≡ holds_in (marked table.now) (get_or (types_of types.now) t.0 Opaque) }
+fn unsized_entry(types: &[u32], table: &[bool], t: TypeHandle) -> bool
+    ensures { result ≡ holds_in (marked table.now) (get_or (types_of types.now) t.0 Opaque) }
 {
     if kind_at(types, t) == TypeKind::Pointer {
-        return 0;
+        return false;
     }
-    if is_unsized(types, t) {
-        return 1;
-    }
-    if some_base(types, table, t) {
-        return 1;
-    }
-    0
+    is_unsized(types, t) || some_base(types, table, t)
 }
 
 // The table: lowest first, since a type is made of lower ones.
-// Stays: by number, since an entry is made from the entries below it, and an iterator that writes would hold them all lent.
-pub fn fill_unsized(types: &[u32], table: &mut [u32])
+// Stays: by number. `unsized_entry` reads the entries below k, and `table.iter_mut()` would hold the table lent for writing to the last entry.
+pub fn fill_unsized(types: &[u32], table: &mut [bool])
     requires lower { Lower (types_of types.now) }
     requires table_len { length table.old ≡ type_count types.now }
     requires table_len_bound { length table.old ≤ max_types }
@@ -72,10 +65,9 @@ pub fn fill_unsized(types: &[u32], table: &mut [u32])
 }
 
 // Whether the table marks the type t or, of a pointer, its pointee.
-pub fn holds_either(types: &[u32], table: &[u32], t: TypeHandle) -> bool
+pub fn holds_either(types: &[u32], table: &[bool], t: TypeHandle) -> bool
     ensures { result ≡ marked table.now t.0 || pointee_holds (marked table.now) (get_or (types_of types.now) t.0 Opaque) }
 {
-    word(table, t.0 as usize) == 1
-        || (kind_at(types, t) == TypeKind::Pointer
-            && word(table, first_word(types, t) as usize) == 1)
+    is_marked(table, t.0)
+        || (kind_at(types, t) == TypeKind::Pointer && is_marked(table, first_word(types, t)))
 }

@@ -9,11 +9,11 @@ ghost use Rattle.judge.specs.Subject.{scope_of};
 
 use crate::rows::kind_at;
 use crate::subject::Subject;
+use crate::tables::is_marked;
 use access::file::File;
 use access::kinded::Kinded;
 use module::handles::{ExpressionHandle, FunctionHandle, TypeHandle};
 use module::kinds::TypeKind;
-use module::tables::word;
 
 // The type of the expression e; 0, where there is none.
 // Stays: 0 is what the definition says of an expression that is not there, and an Option would be opened to it at each of the calls.
@@ -30,7 +30,7 @@ pub fn type_of(file: &File, f: FunctionHandle, e: ExpressionHandle) -> TypeHandl
 pub fn is_path(subject: &Subject, e: ExpressionHandle) -> bool
     ensures { result ≡ is_path (scope_of subject.now) e.0 }
 {
-    word(subject.paths, e.0 as usize) == 1
+    is_marked(subject.paths, e.0)
 }
 
 // Whether the expression e is a value.

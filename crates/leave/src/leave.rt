@@ -12,7 +12,7 @@ use memory::stretches::{clear_context, forget};
 use module::handles::FunctionHandle;
 
 // Slots of records, from the first of a region on.
-// Stays: who takes it wants a begin and a count, and a `Range` would give the count by a subtraction.
+// Stays: `weigh`, `extend`, `forget` and the records' readers take a begin and a count; a `Range` would be made by a sum and read by a subtraction.
 #[derive(Clone, Copy)]
 pub struct Stretch {
     pub from: usize,

@@ -68,7 +68,7 @@ module _ (F : Function) (marks : List ℕ) (block : BlockHandle → Tree) (l : �
   unfolding statement_of statement
   past_of j = refl
 
-module _ {bytes t : List ℕ} {f : ℕ} {types alike paths s rs : List ℕ} {n : ℕ} {x : Exits} {p : Passing} {l : ℕ} {row : Kinded} (g : LeaveGiven bytes t f types alike paths s rs n x p l row) where
+module _ {bytes t : List ℕ} {f : ℕ} {types alike : List ℕ} {paths : List Bool} {s rs : List ℕ} {n : ℕ} {x : Exits} {p : Passing} {l : ℕ} {row : Kinded} (g : LeaveGiven bytes t f types alike paths s rs n x p l row) where
   abbrev S : Scope
   S = scope_at bytes t f
 

@@ -1,5 +1,5 @@
 -- What a statement that leaves is given, and what a pass comes to there, whatever the marks and the other blocks.
-use Rattle.std.specs.Prelude.{ℕ, ◌+◌, ◌<◌, ◌≤◌, ◌≡◌, false, List, length, get_or}
+use Rattle.std.specs.Prelude.{ℕ, ◌+◌, ◌<◌, ◌≤◌, ◌≡◌, Bool, false, List, length, get_or}
 use Rattle.module.specs.Module.{BlockHandle, Kill}
 use Rattle.module.specs.Tables.{function_of}
 use Rattle.access.specs.declared.kinded.Kinded.{Kinded}
@@ -13,7 +13,7 @@ use Rattle.standing.specs.Passing.{Passing}
 use Rattle.standing.specs.Exits.{Exits}
 use Rattle.judge.specs.declared.subject.Subject.{Subject}
 
-pub record LeaveGiven (bytes t : List ℕ) (f : ℕ) (types alike paths s rs : List ℕ) (n : ℕ) (x : Exits) (p : Passing) (l : ℕ) (row : Kinded) : Type 0 where
+pub record LeaveGiven (bytes t : List ℕ) (f : ℕ) (types alike : List ℕ) (paths : List Bool) (s rs : List ℕ) (n : ℕ) (x : Exits) (p : Passing) (l : ℕ) (row : Kinded) : Type 0 where
   pub world : World bytes t f types alike paths
   pub ready : Ready (scope_at bytes t f) s rs n
   pub targets : Targets n x

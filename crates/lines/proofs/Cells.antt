@@ -7,8 +7,9 @@ use native.Mathlib.Omega.{arith}
 use borrow.Author.Tests.{eq-eqb, ne_eqb}
 use Rattle.part.specs.Store.{part, means, top, Good, Seen}
 use Rattle.lines.specs.Text.{all_word, exist_word, number, text_from, whole_text, plain_text}
-use Rattle.lines.specs.Wrote.{Fits, Wrote}
-use Rattle.lines.proofs.Writing.{texts, Rooms, rooms, wrote_then, wrote_as}
+use Rattle.lines.specs.declared.text.Text.{Text}
+use Rattle.lines.specs.Wrote.{Fits, Writes}
+use Rattle.lines.proofs.Writing.{texts, Rooms, rooms, writes_then, writes_as}
 
 pub whole_all : {n : ℕ} → n ≡ 0 → whole_text n ≡ all_word
 unfolding whole_text
@@ -47,13 +48,13 @@ cell_rooms {s} {n} {i} {c} {r} {at} {b} whole seen e f =
     rooms ((b ∷ []) ∷ (number i ∷ ((58 ∷ []) ∷ (text_from (part s c) true ∷ (text_from (part s r) false ∷ []))))) f
     (cell_is whole seen ∙ rw (e, append-nil (text_from (part s r) false)))
 
-pub cell_wrote : {s as₁ bs cs ds es fs : List ℕ} {n i c r at b j k l m o : ℕ} (whole : Bool) → Seen s n i c r → b ≡ cond whole 123 44
-    → Wrote as₁ bs at (b ∷ []) j → Wrote bs cs j (number i) k → Wrote cs ds k (58 ∷ []) l → Wrote ds es l (text_from (part s c) true) m → Wrote es fs m (text_from (part s r) false) o
-    → Wrote as₁ fs at (text_from (part s n) whole) o
-cell_wrote {s} {as₁} {bs} {cs} {ds} {es} {fs} {n} {i} {c} {r} {at} {b} whole seen e v w x y z =
-    wrote_as
+pub cell_writes : {s : List ℕ} {t₁ t₂ t₃ t₄ t₅ t₆ : Text} {n i c r b : ℕ} (whole : Bool) → Seen s n i c r → b ≡ cond whole 123 44
+    → Writes t₁ t₂ (b ∷ []) → Writes t₂ t₃ (number i) → Writes t₃ t₄ (58 ∷ []) → Writes t₄ t₅ (text_from (part s c) true) → Writes t₅ t₆ (text_from (part s r) false)
+    → Writes t₁ t₆ (text_from (part s n) whole)
+cell_writes {s} {i = i} {c = c} {r = r} whole seen e v w x y z =
+    writes_as
     (ap (λ (d : ℕ). (d ∷ []) ++ (number i ++ ((58 ∷ []) ++ (text_from (part s c) true ++ text_from (part s r) false)))) e ∙ sym (cell_is whole seen))
-    (wrote_then v (wrote_then w (wrote_then x (wrote_then y z))))
+    (writes_then v (writes_then w (writes_then x (writes_then y z))))
 
 -- what the two calls of its own ask
 pub child_call : {s text : List ℕ} {n i c r at t : ℕ} → n ≡ t → Seen s n i c r → Good s → n < top s → Fits at text → (c < t) × (Good s × ((c < top s) × Fits at text))

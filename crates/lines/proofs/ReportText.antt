@@ -25,12 +25,14 @@ use Rattle.memory.specs.Layout.{exprs_slot}
 use Rattle.memory.specs.Memory.{read, records_of, context_at, Memory}
 use Rattle.memory.proofs.Slots.{read_at}
 use Rattle.state.specs.State.{records_in, state_of}
+use Rattle.marks.specs.declared.places.MarkPlaces.{MarkPlaces}
 use Rattle.marks.specs.Places.{slice, start_of}
 use Rattle.marks.proofs.Placed.{within}
 use Rattle.lines.specs.Text.{number, required_text, context_text, records_text, report_text, refused_word, refused_text}
 use Rattle.lines.specs.Reported.{statements_in, report_in, text_in, max_text, Reporting}
-use Rattle.lines.specs.Wrote.{longest, Wrote, Front}
-use Rattle.lines.proofs.Writing.{texts, Rooms, rooms, wrote_then, wrote_as, wrote_front}
+use Rattle.lines.specs.declared.text.Text.{Text}
+use Rattle.lines.specs.Wrote.{longest, Writes, Begins}
+use Rattle.lines.proofs.Writing.{texts, Rooms, rooms, writes_then, writes_as, writes_first}
 use Rattle.lines.proofs.Long.{ten_long, FewOwn, report_long}
 
 -- of the context in four slots
@@ -71,7 +73,7 @@ module _ (bytes : List ℕ) (m : Module) (was : read_module bytes ≡ accepted m
       omega (arith, report_long m f report few_own context exprs, stretch-few bytes m was f h, parts.few_expressions, parts.few_statements)
 
 -- as memory has it
-module _ {bytes t places s rs marks : List ℕ} {f at : ℕ} (h : Reporting bytes t places s rs marks f at) (required : Bool) where
+module _ {bytes t : List ℕ} {places : MarkPlaces} {s rs marks : List ℕ} {f at : ℕ} (h : Reporting bytes t places s rs marks f at) (required : Bool) where
   pub text_long : length (text_in bytes t s rs marks f at required) ≤ max_text
   unfolding text_in
   text_long =
@@ -84,20 +86,20 @@ module _ {bytes t places s rs marks : List ℕ} {f at : ℕ} (h : Reporting byte
   unfolding text_in report_text statements_in
   text_is = refl
 
-  pub report_rooms : Rooms 0 (required_text required ∷ (context_text (context_at (read s rs) at) ∷ (records_text 0 (records_in t exprs_slot f (read s rs)) ∷ (statements_in bytes t marks f ∷ []))))
+  pub report_rooms : {n : ℕ} → n ≡ 0 → Rooms n (required_text required ∷ (context_text (context_at (read s rs) at) ∷ (records_text 0 (records_in t exprs_slot f (read s rs)) ∷ (statements_in bytes t marks f ∷ []))))
   unfolding texts
-  report_rooms =
+  report_rooms z =
       rooms (required_text required ∷ (context_text (context_at (read s rs) at) ∷ (records_text 0 (records_in t exprs_slot f (read s rs)) ∷ (statements_in bytes t marks f ∷ []))))
-      (record { room = omega (arith, text_long) })
+      (record { room = omega (arith, z, text_long) })
       (text_is ∙ rw (append-nil (statements_in bytes t marks f)))
 
   pub items_within : items_to (row_at t f) ≤ max_items
   items_within = within bytes t h.marked.was_read f h.marked.function
 
-  pub report_front : {us vs ws xs ys : List ℕ} {i j k n : ℕ} → max_text ≤ length us → Wrote us vs 0 (required_text required) i → Wrote vs ws i (context_text (context_at (read s rs) at)) j
-      → Wrote ws xs j (records_text 0 (records_in t exprs_slot f (read s rs))) k → Wrote xs ys k (statements_in bytes t marks f) n → Front us ys (text_in bytes t s rs marks f at required) n
-  report_front {us} {vs} {ws} {xs} {ys} {i} {j} {k} {n} room a b c d =
-      wrote_front (wrote_as (sym text_is) (wrote_then a (wrote_then b (wrote_then c d)))) (omega (arith, text_long))
+  pub report_begins : {u v w x y : Text} → u.at ≡ 0 → max_text ≤ length u.out.now → Writes u v (required_text required) → Writes v w (context_text (context_at (read s rs) at))
+      → Writes w x (records_text 0 (records_in t exprs_slot f (read s rs))) → Writes x y (statements_in bytes t marks f) → Begins u y (text_in bytes t s rs marks f at required)
+  report_begins z room a b c d =
+      writes_first z (writes_as (sym text_is) (writes_then a (writes_then b (writes_then c d)))) (omega (arith, text_long))
 
 -- of a refusal
 module _ (n : ℕ) (h : n < longest) where
@@ -105,13 +107,13 @@ module _ (n : ℕ) (h : n < longest) where
   unfolding refused_text
   refused_long = omega (arith, length-append (number n) (10 ∷ []), ten_long n h)
 
-  pub refused_rooms : Rooms 0 (refused_word ∷ (number n ∷ ((10 ∷ []) ∷ [])))
+  pub refused_rooms : {at : ℕ} → at ≡ 0 → Rooms at (refused_word ∷ (number n ∷ ((10 ∷ []) ∷ [])))
   unfolding texts refused_text
-  refused_rooms = rooms (refused_word ∷ (number n ∷ ((10 ∷ []) ∷ []))) (record { room = omega (arith, refused_long) }) refl
+  refused_rooms z = rooms (refused_word ∷ (number n ∷ ((10 ∷ []) ∷ []))) (record { room = omega (arith, z, refused_long) }) refl
 
-  pub refused_front : {us vs ws xs : List ℕ} {i j k : ℕ} → max_text ≤ length us → Wrote us vs 0 refused_word i → Wrote vs ws i (number n) j → Wrote ws xs j (10 ∷ []) k → Front us xs (refused_text n) k
+  pub refused_begins : {u v w x : Text} → u.at ≡ 0 → max_text ≤ length u.out.now → Writes u v refused_word → Writes v w (number n) → Writes w x (10 ∷ []) → Begins u x (refused_text n)
   unfolding refused_text
-  refused_front room a b c = wrote_front (wrote_then a (wrote_then b c)) (omega (arith, refused_long))
+  refused_begins z room a b c = writes_first z (writes_then a (writes_then b c)) (omega (arith, refused_long))
 
 -- it is the text of the walk's report
 pub text_of : (bytes t s rs marks : List ℕ) (f at : ℕ) (required : Bool) (functions : List (Option FunctionReq)) (visits : ℕ)

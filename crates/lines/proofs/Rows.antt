@@ -9,8 +9,9 @@ use Rattle.part.specs.Store.{part, means, Seen}
 use Rattle.memory.specs.Memory.{read, record_of, records_of}
 use Rattle.memory.proofs.Slots.{read_at}
 use Rattle.lines.specs.Text.{number, part_text, line_text, variables_text, retval_word, retval_text, expr_word, record_text, records_text}
-use Rattle.lines.specs.Wrote.{Fits, Wrote}
-use Rattle.lines.proofs.Writing.{texts, Rooms, rooms, wrote_as}
+use Rattle.lines.specs.declared.text.Text.{Text}
+use Rattle.lines.specs.Wrote.{Fits, Writes}
+use Rattle.lines.proofs.Writing.{texts, Rooms, rooms, writes_as}
 use Rattle.lines.proofs.Along.{Splits}
 
 -- a line in five pieces
@@ -72,5 +73,5 @@ unfolding records_text records_of
 records_none s rs base n k h = let e : n - k ≡ 0 = omega arith in rw e
 
 -- nothing is written
-pub wrote_none : {xs text : List ℕ} {at : ℕ} → text ≡ [] → Wrote xs xs at text at
-wrote_none {xs} {text} {at} e = wrote_as (sym e) (record { is = refl; behind = omega arith })
+pub writes_none : {a : Text} {text : List ℕ} → text ≡ [] → Writes a a text
+writes_none e = writes_as (sym e) (record { same = refl; wrote = record { is = refl; behind = omega arith } })

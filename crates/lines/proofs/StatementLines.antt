@@ -14,12 +14,14 @@ use Rattle.access.specs.Access.{statement_number, statement_at, statement_row, o
 use Rattle.access.proofs.Access.{statement_is, statement-of}
 use Rattle.walk.specs.Resolve.{function_at}
 use Rattle.walk.specs.Marks.{stretch}
+use Rattle.marks.specs.declared.places.MarkPlaces.{MarkPlaces}
 use Rattle.marks.specs.Places.{slice, start_of}
 use Rattle.marks.proofs.Placed.{marks_suc, marks_within, at_function, statement_count, at_more}
 use Rattle.lines.specs.Text.{number, stmt_word, name_of, kind_name, marks_text, statement_text, statements_text}
 use Rattle.lines.specs.Reported.{Marked, statements_in}
-use Rattle.lines.specs.Wrote.{Fits, Wrote}
-use Rattle.lines.proofs.Writing.{texts, Rooms, rooms, wrote_then, wrote_as}
+use Rattle.lines.specs.declared.text.Text.{Text}
+use Rattle.lines.specs.Wrote.{Fits, Writes}
+use Rattle.lines.proofs.Writing.{texts, Rooms, rooms, writes_then, writes_as}
 use Rattle.lines.proofs.Along.{Splits}
 use Rattle.lines.proofs.Named.{name_is}
 
@@ -34,9 +36,9 @@ module _ (bytes t : List ℕ) (f s : ℕ) (ms : List ℕ) {r : Kinded} {c : ℕ}
   unfolding texts
   statement_rooms {at} fits = rooms (stmt_word ∷ (number s ∷ ((32 ∷ []) ∷ (kind_name r.kind ∷ (marks_text (take c ms) ∷ ((10 ∷ []) ∷ [])))))) fits line_is
 
-  pub statement_wrote : {as₁ bs cs ds es fs gs : List ℕ} {at i j k l m n : ℕ} → Wrote as₁ bs at stmt_word i → Wrote bs cs i (number s) j → Wrote cs ds j (32 ∷ []) k → Wrote ds es k (kind_name r.kind) l
-      → Wrote es fs l (marks_text (take c ms)) m → Wrote fs gs m (10 ∷ []) n → Wrote as₁ gs at (statement_text s (statement_at bytes t f s) ms) n
-  statement_wrote u v w x y z = wrote_as (sym line_is) (wrote_then u (wrote_then v (wrote_then w (wrote_then x (wrote_then y z)))))
+  pub statement_writes : {t₁ t₂ t₃ t₄ t₅ t₆ t₇ : Text} → Writes t₁ t₂ stmt_word → Writes t₂ t₃ (number s) → Writes t₃ t₄ (32 ∷ []) → Writes t₄ t₅ (kind_name r.kind)
+      → Writes t₅ t₆ (marks_text (take c ms)) → Writes t₆ t₇ (10 ∷ []) → Writes t₁ t₇ (statement_text s (statement_at bytes t f s) ms)
+  statement_writes u v w x y z = writes_as (sym line_is) (writes_then u (writes_then v (writes_then w (writes_then x (writes_then y z)))))
 
 -- the front of a stretch, and what is behind it
 drop_take : (c n : ℕ) (xs : List ℕ) → drop c (take (c + n) xs) ≡ take n (drop c xs)
@@ -92,7 +94,7 @@ pub lines_all : (bytes t ms : List ℕ) (f : ℕ) → statements_in bytes t ms f
 unfolding statements_in stretch
 lines_all bytes t ms f = left_all (function_at (module_of bytes t) f).statements ms (start_of (module_of bytes t) f)
 
-module _ {bytes t places ms : List ℕ} {f : ℕ} (marked : Marked bytes t places ms f) where
+module _ {bytes t : List ℕ} {places : MarkPlaces} {ms : List ℕ} {f : ℕ} (marked : Marked bytes t places ms f) where
   abbrev ss : List Statement
   ss = (function_at (module_of bytes t) f).statements
 
@@ -102,7 +104,7 @@ module _ {bytes t places ms : List ℕ} {f : ℕ} (marked : Marked bytes t place
   pub lines_none : (s : ℕ) → length (function_of bytes t f).statements ≤ s → lines_left bytes t ms f s ≡ []
   lines_none s h = left_none ss ms (start_of (module_of bytes t) f) s (omega (arith, long))
 
-  module _ {from : ℕ} (s : ℕ) (h : s < length (function_of bytes t f).statements) (p : from ≡ get_or places (statement_number t f s) 0) where
+  module _ {from : ℕ} (s : ℕ) (h : s < length (function_of bytes t f).statements) (p : from ≡ get_or places.firsts (statement_number t f s) 0) where
     at : from ≡ start_of (module_of bytes t) f + marks_before ss s
     at = p ∙ marked.placed.statements f s marked.function h
 

@@ -7,8 +7,9 @@ use Rattle.part.specs.Store.{part}
 use Rattle.context.specs.Contexts.{context_of}
 use Rattle.context.specs.declared.required_context.RequiredContext.{RequiredContext as Pieces}
 use Rattle.lines.specs.Text.{required_word, yes_word, no_word, required_text, global_word, arg_word, local_word, variables_text, retval_text, context_text}
-use Rattle.lines.specs.Wrote.{Fits, Wrote}
-use Rattle.lines.proofs.Writing.{texts, Rooms, rooms, wrote_then}
+use Rattle.lines.specs.declared.text.Text.{Text}
+use Rattle.lines.specs.Wrote.{Fits, Writes}
+use Rattle.lines.proofs.Writing.{texts, Rooms, rooms, writes_then}
 
 pub required_yes : {b : Bool} → b ≡ true → required_text b ≡ required_word ++ (yes_word ++ (10 ∷ []))
 unfolding required_text
@@ -24,6 +25,6 @@ context_rooms s c {at} f =
     rooms (variables_text global_word (part s c.globals) ∷ (retval_text (part s c.retval) ∷ (variables_text arg_word (part s c.args) ∷ (variables_text local_word (part s c.locals) ∷ [])))) f
     (rw (append-nil (variables_text local_word (part s c.locals))))
 
-pub context_wrote : (s : List ℕ) (c : Pieces) {us vs xs ys zs : List ℕ} {at i j k o : ℕ} → Wrote us vs at (variables_text global_word (part s c.globals)) i → Wrote vs xs i (retval_text (part s c.retval)) j → Wrote xs ys j (variables_text arg_word (part s c.args)) k → Wrote ys zs k (variables_text local_word (part s c.locals)) o → Wrote us zs at (context_text (context_of s c)) o
+pub context_writes : (s : List ℕ) (c : Pieces) {u v x y z : Text} → Writes u v (variables_text global_word (part s c.globals)) → Writes v x (retval_text (part s c.retval)) → Writes x y (variables_text arg_word (part s c.args)) → Writes y z (variables_text local_word (part s c.locals)) → Writes u z (context_text (context_of s c))
 unfolding context_text
-context_wrote s c v w x y = wrote_then v (wrote_then w (wrote_then x y))
+context_writes s c v w x y = writes_then v (writes_then w (writes_then x y))

@@ -13,11 +13,12 @@ use Rattle.memory.specs.Layout.{exprs_slot}
 use Rattle.memory.specs.Memory.{read, context_at, Memory}
 use Rattle.state.specs.State.{records_in}
 use Rattle.state.specs.Ready.{WasRead}
+use Rattle.marks.specs.declared.places.MarkPlaces.{MarkPlaces}
 use Rattle.marks.specs.Places.{slice, start_of, Places}
 use Rattle.lines.specs.Text.{statements_text, report_text}
 
 -- the statements of f, and their marks in the buffer of the open functions
-pub record Marked (bytes t places open_marks : List ℕ) (f : FunctionHandle) : Type 0 where
+pub record Marked (bytes t : List ℕ) (places : MarkPlaces) (open_marks : List ℕ) (f : FunctionHandle) : Type 0 where
   pub was_read : WasRead bytes t
   pub function : f < length (module_of bytes t).functions
   pub placed : Places bytes t places
@@ -47,7 +48,7 @@ abbrev pub max_text : ℕ
 max_text = 13 + 38 * max_pieces + 22 * max_statements + 4 * (2 * max_statements + max_expressions)
 
 -- memory has a report on f
-pub record Reporting (bytes t places s rs open_marks : List ℕ) (f : FunctionHandle) (at : ℕ) : Type 0 where
+pub record Reporting (bytes t : List ℕ) (places : MarkPlaces) (s rs open_marks : List ℕ) (f : FunctionHandle) (at : ℕ) : Type 0 where
   pub marked : Marked bytes t places open_marks f
   pub memory : Memory s rs
   pub high : at + 4 ≤ length rs

@@ -4,25 +4,26 @@ ghost use Rattle.part.specs.PartReq.{spine};
 ghost use Rattle.part.specs.Store.{Good, top, part};
 ghost use Rattle.lines.specs.Text.{line_text, variables_text, retval_text, context_text};
 ghost use Rattle.context.specs.Contexts.{context_of};
-ghost use Rattle.lines.specs.Wrote.{Fits, Wrote};
+ghost use Rattle.lines.specs.Wrote.{Fits, Writes};
 
 use crate::parts::write_part;
-use crate::text::{write_byte, write_number, write_word};
+use crate::text::Text;
 use context::required_context::RequiredContext;
 use part::limits::SPINE;
+use part::list::Entries;
 use part::store::{EMPTY_PIECE, look};
 
 // A line of a number and its requirement p.
-pub fn write_line(out: &mut [u8], at: usize, cells: &[u32], word: &[u8], n: u32, p: u32) -> usize
+pub fn write_line(text: &mut Text, cells: &[u32], word: &[u8], n: u32, p: u32)
     requires good { Good cells.now }
-    requires p_bound { (p < top cells.now) × Fits at (line_text word.now n (part cells.now p)) }
-    ensures { Wrote out.old out.new at (line_text word.now n (part cells.now p)) result }
+    requires p_bound { (p < top cells.now) × Fits text.old.at (line_text word.now n (part cells.now p)) }
+    ensures { Writes text.old text.new (line_text word.now n (part cells.now p)) }
 {
-    let number = write_word(out, at, word);
-    let space = write_number(out, number, n);
-    let part = write_byte(out, space, b' ');
-    let end = write_part(out, part, cells, p);
-    write_byte(out, end, b'\n')
+    text.word(word);
+    text.number(n);
+    text.byte(b' ');
+    write_part(text, cells, p);
+    text.byte(b'\n');
 }
 
 // The number of the variable whose entry has this index.
@@ -33,46 +34,40 @@ fn variable_of(index: u32) -> u32
 }
 
 // A line for each variable of a context's map.
-pub fn write_variables(out: &mut [u8], at: usize, cells: &[u32], word: &[u8], map: u32) -> usize
+pub fn write_variables(text: &mut Text, cells: &[u32], word: &[u8], map: u32)
     requires good { Good cells.now }
-    requires map_bound { (map < top cells.now) × Fits at (variables_text word.now (part cells.now map)) }
-    ensures { Wrote out.old out.new at (variables_text word.now (part cells.now map)) result }
+    requires map_bound { (map < top cells.now) × Fits text.old.at (variables_text word.now (part cells.now map)) }
+    ensures { Writes text.old text.new (variables_text word.now (part cells.now map)) }
 {
-    let mut n = map;
-    let mut next = at;
-    // Stays: an entry names the next.
-    while EMPTY_PIECE < n {
-        let x = look(cells, n);
+    for x in Entries::new(cells, map) {
         let k = variable_of(x.index);
-        next = write_line(out, next, cells, word, k, x.child);
-        n = x.rest;
+        write_line(text, cells, word, k, x.child);
     }
-    next
 }
 
 // The line of the returned value, where it is asked for.
-pub fn write_retval(out: &mut [u8], at: usize, cells: &[u32], map: u32) -> usize
+pub fn write_retval(text: &mut Text, cells: &[u32], map: u32)
     requires good { Good cells.now }
-    requires map_bound { (map < top cells.now) × Fits at (retval_text (part cells.now map)) }
-    ensures { Wrote out.old out.new at (retval_text (part cells.now map)) result }
+    requires map_bound { (map < top cells.now) × Fits text.old.at (retval_text (part cells.now map)) }
+    ensures { Writes text.old text.new (retval_text (part cells.now map)) }
 {
     if map <= EMPTY_PIECE {
-        return at;
+        return;
     }
     let x = look(cells, map);
-    let part = write_word(out, at, b"retval ");
-    let end = write_part(out, part, cells, x.child);
-    write_byte(out, end, b'\n')
+    text.word(b"retval ");
+    write_part(text, cells, x.child);
+    text.byte(b'\n');
 }
 
 // The lines of a context: globals, the returned value, arguments, locals.
-pub fn write_context(out: &mut [u8], at: usize, cells: &[u32], c: RequiredContext) -> usize
+pub fn write_context(text: &mut Text, cells: &[u32], c: RequiredContext)
     requires good { Good cells.now }
-    requires globals_bound { (c.globals < top cells.now) × (c.locals < top cells.now) × (c.args < top cells.now) × (c.retval < top cells.now) × Fits at (context_text (context_of cells.now c)) }
-    ensures { Wrote out.old out.new at (context_text (context_of cells.now c)) result }
+    requires globals_bound { (c.globals < top cells.now) × (c.locals < top cells.now) × (c.args < top cells.now) × (c.retval < top cells.now) × Fits text.old.at (context_text (context_of cells.now c)) }
+    ensures { Writes text.old text.new (context_text (context_of cells.now c)) }
 {
-    let retval = write_variables(out, at, cells, b"global ", c.globals);
-    let args = write_retval(out, retval, cells, c.retval);
-    let locals = write_variables(out, args, cells, b"arg ", c.args);
-    write_variables(out, locals, cells, b"local ", c.locals)
+    write_variables(text, cells, b"global ", c.globals);
+    write_retval(text, cells, c.retval);
+    write_variables(text, cells, b"arg ", c.args);
+    write_variables(text, cells, b"local ", c.locals);
 }

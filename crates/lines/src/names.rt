@@ -1,9 +1,9 @@
 // The name of a statement, by its kind.
 ghost use Rattle.std.specs.Prelude.{◌≡◌};
 ghost use Rattle.lines.specs.Text.{kind_name};
-ghost use Rattle.lines.specs.Wrote.{Fits, Wrote};
+ghost use Rattle.lines.specs.Wrote.{Fits, Writes};
 
-use crate::text::write_word;
+use crate::text::Text;
 use module::kinds::StatementKind;
 
 // An ImageAtomic has none.
@@ -36,9 +36,9 @@ fn name(kind: u16) -> &'static [u8]
     }
 }
 
-pub fn write_name(out: &mut [u8], at: usize, kind: u16) -> usize
-    requires { Fits at (kind_name kind) }
-    ensures { Wrote out.old out.new at (kind_name kind) result }
+pub fn write_name(text: &mut Text, kind: u16)
+    requires { Fits text.old.at (kind_name kind) }
+    ensures { Writes text.old text.new (kind_name kind) }
 {
-    write_word(out, at, name(kind))
+    text.word(name(kind));
 }

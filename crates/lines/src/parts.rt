@@ -1,10 +1,10 @@
 // Requirements, as the store has them.
-ghost use Rattle.std.specs.Prelude.{◌≡◌, cond, true, ◌<◌};
+ghost use Rattle.std.specs.Prelude.{◌≡◌, cond, ◌<◌};
 ghost use Rattle.part.specs.Store.{Good, top, part};
 ghost use Rattle.lines.specs.Text.{text_from, part_text, whole_text, plain_text};
-ghost use Rattle.lines.specs.Wrote.{Fits, Wrote};
+ghost use Rattle.lines.specs.Wrote.{Fits, Writes};
 
-use crate::text::{write_byte, write_number, write_word};
+use crate::text::Text;
 use part::store::{ALL_PIECE, EMPTY_PIECE, EXIST_PIECE, look};
 
 fn opening(whole: bool) -> u8
@@ -16,49 +16,48 @@ fn opening(whole: bool) -> u8
     b','
 }
 
-fn write_whole(out: &mut [u8], at: usize, n: u32) -> usize
-    requires { Fits at (whole_text n) }
-    ensures { Wrote out.old out.new at (whole_text n) result }
+fn write_whole(text: &mut Text, n: u32)
+    requires { Fits text.old.at (whole_text n) }
+    ensures { Writes text.old text.new (whole_text n) }
 {
     match n {
-        ALL_PIECE => write_word(out, at, b"all"),
-        EXIST_PIECE => write_word(out, at, b"exist"),
-        _ => write_word(out, at, b"{}"),
+        ALL_PIECE => text.word(b"all"),
+        EXIST_PIECE => text.word(b"exist"),
+        _ => text.word(b"{}"),
     }
 }
 
-fn write_plain(out: &mut [u8], at: usize, n: u32, whole: bool) -> usize
-    requires { Fits at (plain_text n whole) }
-    ensures { Wrote out.old out.new at (plain_text n whole) result }
+fn write_plain(text: &mut Text, n: u32, whole: bool)
+    requires { Fits text.old.at (plain_text n whole) }
+    ensures { Writes text.old text.new (plain_text n whole) }
 {
     if whole {
-        return write_whole(out, at, n);
+        return write_whole(text, n);
     }
-    write_byte(out, at, b'}')
+    text.byte(b'}');
 }
 
 // The requirement n as a whole, or as what stands behind an entry.
-fn write_from(out: &mut [u8], at: usize, cells: &[u32], n: u32, whole: bool) -> usize
+fn write_from(text: &mut Text, cells: &[u32], n: u32, whole: bool)
     requires good { Good cells.now }
-    requires n_bound { (n < top cells.now) × Fits at (text_from (part cells.now n) whole) }
-    ensures { Wrote out.old out.new at (text_from (part cells.now n) whole) result }
+    requires n_bound { (n < top cells.now) × Fits text.old.at (text_from (part cells.now n) whole) }
+    ensures { Writes text.old text.new (text_from (part cells.now n) whole) }
 {
     if n <= EMPTY_PIECE {
-        return write_plain(out, at, n, whole);
+        return write_plain(text, n, whole);
     }
     let x = look(cells, n);
-    let open = opening(whole);
-    let index = write_byte(out, at, open);
-    let colon = write_number(out, index, x.index);
-    let child = write_byte(out, colon, b':');
-    let rest = write_from(out, child, cells, x.child, true);
-    write_from(out, rest, cells, x.rest, false)
+    text.byte(opening(whole));
+    text.number(x.index);
+    text.byte(b':');
+    write_from(text, cells, x.child, true);
+    write_from(text, cells, x.rest, false);
 }
 
-pub fn write_part(out: &mut [u8], at: usize, cells: &[u32], n: u32) -> usize
+pub fn write_part(text: &mut Text, cells: &[u32], n: u32)
     requires good { Good cells.now }
-    requires n_bound { (n < top cells.now) × Fits at (part_text (part cells.now n)) }
-    ensures { Wrote out.old out.new at (part_text (part cells.now n)) result }
+    requires n_bound { (n < top cells.now) × Fits text.old.at (part_text (part cells.now n)) }
+    ensures { Writes text.old text.new (part_text (part cells.now n)) }
 {
-    write_from(out, at, cells, n, true)
+    write_from(text, cells, n, true);
 }

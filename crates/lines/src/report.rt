@@ -1,20 +1,21 @@
 // The whole text of a report, and of a refusal.
-ghost use Rattle.std.specs.Prelude.{◌+◌, ◌≤◌, length};
+ghost use Rattle.std.specs.Prelude.{◌≡◌, ◌+◌, ◌≤◌, length};
 ghost use Rattle.module.specs.Tables.{row_at, items_to, max_items};
 ghost use Rattle.memory.specs.Layout.{exprs_slot};
 ghost use Rattle.memory.specs.Memory.{read, context_at, Memory};
 ghost use Rattle.state.specs.State.{records_in};
 ghost use Rattle.lines.specs.Text.{context_text, records_text, refused_text};
 ghost use Rattle.lines.specs.Reported.{max_text, Reporting, text_in};
-ghost use Rattle.lines.specs.Wrote.{Fits, Wrote, Front};
+ghost use Rattle.lines.specs.Wrote.{Fits, Writes, Begins};
 
 use crate::contexts::write_context;
 use crate::records::write_records;
 use crate::required::write_required;
 use crate::statements::write_statements;
-use crate::text::{write_byte, write_number, write_word};
+use crate::text::Text;
 use access::file::File;
 use field::limits::{MAX_EXPRESSIONS, MAX_PIECES, MAX_STATEMENTS};
+use marks::places::MarkPlaces;
 use memory::layout::EXPRS;
 use memory::parts::Parts;
 use memory::stretches::load_context;
@@ -28,55 +29,49 @@ pub const MAX_TEXT: usize = 13
     + 4 * (2 * MAX_STATEMENTS + MAX_EXPRESSIONS);
 
 // The lines of the context in the four slots from k on.
-fn write_context_at(out: &mut [u8], at: usize, parts: &Parts, k: usize) -> usize
-    requires { Memory parts.now.cells parts.now.slots × (k + 4 ≤ length parts.now.slots) × Fits at (context_text (context_at (read parts.now.cells parts.now.slots) k)) }
-    ensures { Wrote out.old out.new at (context_text (context_at (read parts.now.cells parts.now.slots) k)) result }
+fn write_context_at(text: &mut Text, parts: &Parts, k: usize)
+    requires { Memory parts.now.cells parts.now.slots × (k + 4 ≤ length parts.now.slots) × Fits text.old.at (context_text (context_at (read parts.now.cells parts.now.slots) k)) }
+    ensures { Writes text.old text.new (context_text (context_at (read parts.now.cells parts.now.slots) k)) }
 {
     let c = load_context(&parts.slots, k);
-    write_context(out, at, &parts.cells, c)
+    write_context(text, &parts.cells, c);
 }
 
 // The lines of the records of f, which is open.
-fn write_records_of(
-    out: &mut [u8],
-    at: usize,
-    file: &File,
-    parts: &Parts,
-    f: FunctionHandle,
-) -> usize
-    requires { Memory parts.now.cells parts.now.slots × (items_to (row_at file.now.t f.0) ≤ max_items) × Fits at (records_text 0 (records_in file.now.t exprs_slot f.0 (read parts.now.cells parts.now.slots))) }
-    ensures { Wrote out.old out.new at (records_text 0 (records_in file.now.t exprs_slot f.0 (read parts.now.cells parts.now.slots))) result }
+fn write_records_of(text: &mut Text, file: &File, parts: &Parts, f: FunctionHandle)
+    requires { Memory parts.now.cells parts.now.slots × (items_to (row_at file.now.t f.0) ≤ max_items) × Fits text.old.at (records_text 0 (records_in file.now.t exprs_slot f.0 (read parts.now.cells parts.now.slots))) }
+    ensures { Writes text.old text.new (records_text 0 (records_in file.now.t exprs_slot f.0 (read parts.now.cells parts.now.slots))) }
 {
     let row = file.row(f);
     let first = EXPRS + row.expressions_from();
-    write_records(out, at, parts, first, row.expressions as usize)
+    write_records(text, parts, first, row.expressions as usize);
 }
 
-// The lines of the report on f, whose context stands in the slots from `at` on; they begin at byte 0, and the answer is their length.
+// The lines of the report on f, whose context stands in the slots from `at` on; they begin at byte 0.
 pub fn write_report_text(
-    out: &mut [u8],
+    text: &mut Text,
     file: &File,
-    places: &[u32],
+    places: &MarkPlaces,
     parts: &Parts,
     marks: &[u8],
     f: FunctionHandle,
     at: usize,
     required: bool,
-) -> usize
-    requires { Reporting file.now.bytes file.now.t places.now parts.now.cells parts.now.slots marks.now f.0 at × (max_text ≤ length out.old) }
-    ensures { Front out.old out.new (text_in file.now.bytes file.now.t parts.now.cells parts.now.slots marks.now f.0 at required) result }
+)
+    requires { Reporting file.now.bytes file.now.t places.now parts.now.cells parts.now.slots marks.now f.0 at × (text.old.at ≡ 0) × (max_text ≤ length text.old.out.now) }
+    ensures { Begins text.old text.new (text_in file.now.bytes file.now.t parts.now.cells parts.now.slots marks.now f.0 at required) }
 {
-    let context = write_required(out, 0, required);
-    let records = write_context_at(out, context, parts, at);
-    let statements = write_records_of(out, records, file, parts, f);
-    write_statements(out, statements, file, places, marks, f)
+    write_required(text, required);
+    write_context_at(text, parts, at);
+    write_records_of(text, file, parts, f);
+    write_statements(text, file, places, marks, f);
 }
 
-pub fn write_refused(out: &mut [u8], n: u32) -> usize
-    requires { max_text ≤ length out.old }
-    ensures { Front out.old out.new (refused_text n) result }
+pub fn write_refused(text: &mut Text, n: u32)
+    requires { (text.old.at ≡ 0) × (max_text ≤ length text.old.out.now) }
+    ensures { Begins text.old text.new (refused_text n) }
 {
-    let number = write_word(out, 0, b"refused ");
-    let end = write_number(out, number, n);
-    write_byte(out, end, b'\n')
+    text.word(b"refused ");
+    text.number(n);
+    text.byte(b'\n');
 }

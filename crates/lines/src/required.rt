@@ -1,15 +1,15 @@
 // The first line.
 ghost use Rattle.lines.specs.Text.{required_text};
-ghost use Rattle.lines.specs.Wrote.{Fits, Wrote};
+ghost use Rattle.lines.specs.Wrote.{Fits, Writes};
 
-use crate::text::write_word;
+use crate::text::Text;
 
-pub fn write_required(out: &mut [u8], at: usize, required: bool) -> usize
-    requires { Fits at (required_text required) }
-    ensures { Wrote out.old out.new at (required_text required) result }
+pub fn write_required(text: &mut Text, required: bool)
+    requires { Fits text.old.at (required_text required) }
+    ensures { Writes text.old text.new (required_text required) }
 {
     if required {
-        return write_word(out, at, b"required yes\n");
+        return text.word(b"required yes\n");
     }
-    write_word(out, at, b"required no\n")
+    text.word(b"required no\n");
 }

@@ -1,30 +1,15 @@
-// Bytes, words and numbers. A writer takes the position to write at, and answers the one behind what it wrote.
+// Bytes, words and numbers, written one behind the other.
 // Stays: a word and a number are written byte by byte, since a buffer that is too short takes what fits, and the position goes on: `copy_from_slice` would
 // need both cut first, and a `Display` refuses such a buffer.
 ghost use Rattle.std.specs.Prelude.{◌≡◌, [], ◌∷◌, ◌+◌, ◌<◌};
 ghost use Rattle.lines.specs.Text.{number};
-ghost use Rattle.lines.specs.Wrote.{Fits, Wrote};
+ghost use Rattle.lines.specs.Wrote.{Fits, Writes};
 
-pub fn write_byte(out: &mut [u8], at: usize, b: u8) -> usize
-    requires { Fits at (b ∷ []) }
-    ensures { Wrote out.old out.new at (b ∷ []) result }
-{
-    if out.len() <= at {
-        return at + 1;
-    }
-    out[at] = b;
-    at + 1
-}
-
-pub fn write_word(out: &mut [u8], at: usize, word: &[u8]) -> usize
-    requires { Fits at word.now }
-    ensures { Wrote out.old out.new at word.now result }
-{
-    let mut next = at;
-    for b in word {
-        next = write_byte(out, next, *b);
-    }
-    next
+// A text in a lent buffer, and where it ends: behind the buffer's end too.
+#[derive(Drop)]
+pub struct Text<'a> {
+    pub out: &'a mut [u8],
+    pub at: usize,
 }
 
 fn digit(n: u32) -> u8
@@ -34,14 +19,35 @@ fn digit(n: u32) -> u8
     48 + n as u8
 }
 
-// In decimal.
-pub fn write_number(out: &mut [u8], at: usize, n: u32) -> usize
-    requires { Fits at (number n) }
-    ensures { Wrote out.old out.new at (number n) result }
-{
-    if n < 10 {
-        return write_byte(out, at, digit(n));
+impl<'a> Text<'a> {
+    pub fn byte(&mut self, b: u8)
+        requires { Fits self.old.at (b ∷ []) }
+        ensures { Writes self.old self.new (b ∷ []) }
+    {
+        if self.at < self.out.len() {
+            self.out[self.at] = b;
+        }
+        self.at += 1;
     }
-    let next = write_number(out, at, n / 10);
-    write_byte(out, next, digit(n % 10))
+
+    pub fn word(&mut self, word: &[u8])
+        requires { Fits self.old.at word.now }
+        ensures { Writes self.old self.new word.now }
+    {
+        for b in word {
+            self.byte(*b);
+        }
+    }
+
+    // In decimal.
+    pub fn number(&mut self, n: u32)
+        requires { Fits self.old.at (number n) }
+        ensures { Writes self.old self.new (number n) }
+    {
+        if n < 10 {
+            return self.byte(digit(n));
+        }
+        self.number(n / 10);
+        self.byte(digit(n % 10));
+    }
 }

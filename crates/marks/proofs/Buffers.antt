@@ -30,6 +30,7 @@ use Rattle.memory.proofs.Records.{records_at}
 use Rattle.memory.proofs.Runs.{not_plain}
 use Rattle.state.specs.State.{records_in}
 use Rattle.state.specs.Ready.{WasRead}
+use Rattle.marks.specs.declared.places.MarkPlaces.{MarkPlaces}
 use Rattle.marks.specs.Places.{slice, start_of, mark_place, start_in, size_in, Places, Inside, AllInside, recorded_in}
 use Rattle.marks.proofs.Write.{slice_inside, slice-behind, slice-before, slice_written}
 use Rattle.marks.proofs.Fit.{start_suc}
@@ -63,7 +64,7 @@ statement_inside m f s h =
     let b = marks_within (function_at m f).statements (suc s) (omega arith) in
     omega arith
 
-module _ (bytes t places : List ℕ) (was : WasRead bytes t) (p : Places bytes t places) where
+module _ (bytes t : List ℕ) (places : MarkPlaces) (was : WasRead bytes t) (p : Places bytes t places) where
   abbrev m : Module
   m = module_of bytes t
 
@@ -90,7 +91,7 @@ module _ (bytes t places : List ℕ) (was : WasRead bytes t) (p : Places bytes t
       let b = p.starts (f + 1) (omega arith) in
       let c = start_suc m f in
       let d = ends f h in
-      record { entry = omega (arith, p.long, few bytes t was); ascends = omega arith; within = omega arith }
+      record { entry = omega (arith, few bytes t was); ascends = omega arith; within = omega arith }
 
   pub all_inside : (top : ℕ) → min_report ≤ top → AllInside places count top
   all_inside top l = record { first = first; each = λ f h. inside f top h l }
@@ -99,7 +100,7 @@ module _ (bytes t places : List ℕ) (was : WasRead bytes t) (p : Places bytes t
       first = p.starts 0 (omega arith) ∙ unfold start_of in refl
 
   -- The statement's own marks, written where the table says.
-  module _ (xs ys : List ℕ) (f s at : ℕ) (hf : f < count) (hs : s < length (function_of bytes t f).statements) (is : at ≡ get_or places (statement_number t f s) 0) (own : length ys ≡ mark_count (statement_at m f s)) where
+  module _ (xs ys : List ℕ) (f s at : ℕ) (hf : f < count) (hs : s < length (function_of bytes t f).statements) (is : at ≡ get_or places.firsts (statement_number t f s) 0) (own : length ys ≡ mark_count (statement_at m f s)) where
     within : marks_before (function_at m f).statements s + length ys ≤ stretch m f
     within =
         let e = ap (λ (x : Function). length x.statements) (at_function bytes t was f hf) in

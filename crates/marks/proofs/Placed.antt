@@ -1,4 +1,4 @@
--- The table of the marks' places, filled function by function and statement by statement, and what it says then.
+-- The tables of the marks' places, filled function by function and statement by statement, and what they say then.
 use mathlib.Core.Path.{◌≡◌, refl, ap, ◌∙◌, subst}
 use mathlib.Core.Logic.{⊎_elim}
 use mathlib.Core.List.{List, [], ◌∷◌}
@@ -19,7 +19,8 @@ use Rattle.valid.proofs.Accepted.{valid}
 use Rattle.walk.specs.Resolve.{function_at}
 use Rattle.walk.specs.Marks.{stretch}
 use Rattle.state.specs.Ready.{WasRead}
-use Rattle.marks.specs.Places.{start_of, mark_place, starts_at, places_size, Places, placed_in}
+use Rattle.marks.specs.declared.places.MarkPlaces.{MarkPlaces}
+use Rattle.marks.specs.Places.{start_of, mark_place, Places, placed_in}
 use Rattle.marks.proofs.Fit.{marks_fit, start_suc}
 
 -- the marks before a statement, with its own, and up to the last
@@ -51,11 +52,14 @@ start_within m f (suc g) h =
     omega arith)
     (eq-or-lt_of_le h)
 
--- the table with the functions below n
-unfoldable pub placed_to : (bytes t places : List ℕ) → ℕ → List ℕ
-placed_to bytes t places zero = places
-placed_to bytes t places (suc f) =
-    placed_in bytes t f (set (placed_to bytes t places f) (starts_at + f) (start_of (module_of bytes t) f)) (row_at t f).statements
+-- the tables with the functions below n
+unfoldable pub starts_to : (bytes t starts : List ℕ) → ℕ → List ℕ
+starts_to bytes t starts zero = starts
+starts_to bytes t starts (suc f) = set (starts_to bytes t starts f) f (start_of (module_of bytes t) f)
+
+unfoldable pub firsts_to : (bytes t firsts : List ℕ) → ℕ → List ℕ
+firsts_to bytes t firsts zero = firsts
+firsts_to bytes t firsts (suc f) = placed_in bytes t f (firsts_to bytes t firsts f) (row_at t f).statements
 
 module _ (bytes t : List ℕ) (was : WasRead bytes t) where
   abbrev m : Module
@@ -110,119 +114,111 @@ module _ (bytes t : List ℕ) (was : WasRead bytes t) where
       (omega arith, omega arith)
 
   -- the statements of a function
-  pub placed_long : (f : ℕ) (places : List ℕ) (n : ℕ) → length (placed_in bytes t f places n) ≡ length places
+  pub placed_long : (f : ℕ) (firsts : List ℕ) (n : ℕ) → length (placed_in bytes t f firsts n) ≡ length firsts
   unfolding placed_in
-  placed_long f places zero = refl
-  placed_long f places (suc s) = length-set (placed_in bytes t f places s) (statement_number t f s) (mark_place m f s) ∙ placed_long f places s
+  placed_long f firsts zero = refl
+  placed_long f firsts (suc s) = length-set (placed_in bytes t f firsts s) (statement_number t f s) (mark_place m f s) ∙ placed_long f firsts s
 
-  placed_outside : (f : ℕ) (places : List ℕ) (n k : ℕ) → ((s : ℕ) → s < n → k ≡ statement_number t f s → ⊥) → get_or (placed_in bytes t f places n) k 0 ≡ get_or places k 0
+  placed_outside : (f : ℕ) (firsts : List ℕ) (n k : ℕ) → ((s : ℕ) → s < n → k ≡ statement_number t f s → ⊥) → get_or (placed_in bytes t f firsts n) k 0 ≡ get_or firsts k 0
   unfolding placed_in
-  placed_outside f places zero k h = refl
-  placed_outside f places (suc s) k h =
-      get_or-set_other (placed_in bytes t f places s) (statement_number t f s) k (mark_place m f s) 0 (h s (omega arith))
-      ∙ placed_outside f places s k (λ i l. h i (omega arith))
+  placed_outside f firsts zero k h = refl
+  placed_outside f firsts (suc s) k h =
+      get_or-set_other (placed_in bytes t f firsts s) (statement_number t f s) k (mark_place m f s) 0 (h s (omega arith))
+      ∙ placed_outside f firsts s k (λ i l. h i (omega arith))
 
-  placed_at : (f : ℕ) (places : List ℕ) (n s : ℕ) → statement_number t f n ≤ length places → s < n → get_or (placed_in bytes t f places n) (statement_number t f s) 0 ≡ mark_place m f s
+  placed_at : (f : ℕ) (firsts : List ℕ) (n s : ℕ) → statement_number t f n ≤ length firsts → s < n → get_or (placed_in bytes t f firsts n) (statement_number t f s) 0 ≡ mark_place m f s
   unfolding placed_in
-  placed_at f places zero s l h = absurd (omega arith)
-  placed_at f places (suc n) s l h =
+  placed_at f firsts zero s l h = absurd (omega arith)
+  placed_at f firsts (suc n) s l h =
       ⊎_elim
       (λ e.
-      let i : statement_number t f n < length (placed_in bytes t f places n) = omega (arith, placed_long f places n) in
-      rw e (get_or-set_same (placed_in bytes t f places n) (statement_number t f n) (mark_place m f n) 0 i))
+      let i : statement_number t f n < length (placed_in bytes t f firsts n) = omega (arith, placed_long f firsts n) in
+      rw e (get_or-set_same (placed_in bytes t f firsts n) (statement_number t f n) (mark_place m f n) 0 i))
       (λ k.
       let ne : statement_number t f s ≡ statement_number t f n → ⊥ = omega arith in
-      get_or-set_other (placed_in bytes t f places n) (statement_number t f n) (statement_number t f s) (mark_place m f n) 0 ne
-      ∙ placed_at f places n s (omega arith) k)
+      get_or-set_other (placed_in bytes t f firsts n) (statement_number t f n) (statement_number t f s) (mark_place m f n) 0 ne
+      ∙ placed_at f firsts n s (omega arith) k)
       (eq-or-lt_of_le (le_of_suc-le-suc h))
 
   -- one statement more
-  pub placed_none : (f : ℕ) (places : List ℕ) → places ≡ placed_in bytes t f places 0
+  pub placed_none : (f : ℕ) (firsts : List ℕ) → firsts ≡ placed_in bytes t f firsts 0
   unfolding placed_in
-  placed_none f places = refl
+  placed_none f firsts = refl
 
-  pub placed_more : (f : ℕ) (places left final : List ℕ) (s at k : ℕ) → left ≡ placed_in bytes t f places s → at ≡ mark_place m f s → k ≡ statement_number t f s → final ≡ set left k at → final ≡ placed_in bytes t f places (s + 1)
+  pub placed_more : (f : ℕ) (firsts left final : List ℕ) (s at k : ℕ) → left ≡ placed_in bytes t f firsts s → at ≡ mark_place m f s → k ≡ statement_number t f s → final ≡ set left k at → final ≡ placed_in bytes t f firsts (s + 1)
   unfolding placed_in
-  placed_more f places left final s at k p q r e = e ∙ rw (add-one s, p, q, r)
+  placed_more f firsts left final s at k p q r e = e ∙ rw (add-one s, p, q, r)
 
-  pub to_none : (places : List ℕ) → places ≡ placed_to bytes t places 0
-  unfolding placed_to
-  to_none places = refl
+  -- one function more
+  pub starts_more : (starts left final : List ℕ) (f at : ℕ) → left ≡ starts_to bytes t starts f → at ≡ start_of m f → final ≡ set left f at → final ≡ starts_to bytes t starts (f + 1)
+  unfolding starts_to
+  starts_more starts left final f at p q e = e ∙ rw (add-one f, p, q)
 
-  pub to_more : (places left begun final : List ℕ) (f at k : ℕ) → left ≡ placed_to bytes t places f → at ≡ start_of m f → k ≡ starts_at + f → begun ≡ set left k at → final ≡ placed_in bytes t f begun (row_at t f).statements → final ≡ placed_to bytes t places (f + 1)
-  unfolding placed_to
-  to_more places left begun final f at k p q r b e = e ∙ rw (b, add-one f, p, q, r)
+  pub firsts_more : (firsts left final : List ℕ) (f : ℕ) → left ≡ firsts_to bytes t firsts f → final ≡ placed_in bytes t f left (row_at t f).statements → final ≡ firsts_to bytes t firsts (f + 1)
+  unfolding firsts_to
+  firsts_more firsts left final f p e = e ∙ rw (add-one f, p)
 
-  pub to_long : (places : List ℕ) (n : ℕ) → length (placed_to bytes t places n) ≡ length places
-  unfolding placed_to
-  to_long places zero = refl
-  to_long places (suc f) =
-      placed_long f (set (placed_to bytes t places f) (starts_at + f) (start_of m f)) (row_at t f).statements
-      ∙ length-set (placed_to bytes t places f) (starts_at + f) (start_of m f)
-      ∙ to_long places f
+  pub starts_long : (starts : List ℕ) (n : ℕ) → length (starts_to bytes t starts n) ≡ length starts
+  unfolding starts_to
+  starts_long starts zero = refl
+  starts_long starts (suc f) = length-set (starts_to bytes t starts f) f (start_of m f) ∙ starts_long starts f
 
-  pub placed_all : (f : ℕ) (places left : List ℕ) (s at : ℕ) → f < count → s ≡ (row_at t f).statements → left ≡ placed_in bytes t f places s → at ≡ mark_place m f s → (left ≡ placed_in bytes t f places (row_at t f).statements) × (at ≡ start_of m (f + 1))
-  placed_all f places left s at hf e p q = (rw e at p, (rw e at q) ∙ place_end f hf)
+  pub firsts_long : (firsts : List ℕ) (n : ℕ) → length (firsts_to bytes t firsts n) ≡ length firsts
+  unfolding firsts_to
+  firsts_long firsts zero = refl
+  firsts_long firsts (suc f) = placed_long f (firsts_to bytes t firsts f) (row_at t f).statements ∙ firsts_long firsts f
 
-  -- the items of a function end before the starts
+  pub placed_all : (f : ℕ) (firsts left : List ℕ) (s at : ℕ) → f < count → s ≡ (row_at t f).statements → left ≡ placed_in bytes t f firsts s → at ≡ mark_place m f s → (left ≡ placed_in bytes t f firsts (row_at t f).statements) × (at ≡ start_of m (f + 1))
+  placed_all f firsts left s at hf e p q = (rw e at p, (rw e at q) ∙ place_end f hf)
+
+  -- the items of a function are among the file's
   pub within : (f : ℕ) → f < count → items_to (row_at t f) ≤ max_items
   within f h = was.laid.within f (rw (functions_are t bytes) h)
 
-  module _ (places : List ℕ) (long : places_size ≤ length places) where
-    begun_long : (f : ℕ) → length (set (placed_to bytes t places f) (starts_at + f) (start_of m f)) ≡ length places
-    begun_long f = length-set (placed_to bytes t places f) (starts_at + f) (start_of m f) ∙ to_long places f
+  at_start : (starts : List ℕ) (n f : ℕ) → length starts ≡ max_functions + 1 → f < n → n ≤ count → get_or (starts_to bytes t starts n) f 0 ≡ start_of m f
+  unfolding starts_to
+  at_start starts zero f long h l = absurd (omega arith)
+  at_start starts (suc n) f long h l =
+      ⊎_elim
+      (λ e.
+      let i : n < length (starts_to bytes t starts n) = omega (arith, starts_long starts n, few) in
+      rw e (get_or-set_same (starts_to bytes t starts n) n (start_of m n) 0 i))
+      (λ k.
+      let ne : f ≡ n → ⊥ = omega arith in
+      get_or-set_other (starts_to bytes t starts n) n f (start_of m n) 0 ne ∙ at_start starts n f long k (omega arith))
+      (eq-or-lt_of_le (le_of_suc-le-suc h))
 
-    to_starts : (n g : ℕ) → g < n → n ≤ count → get_or (placed_to bytes t places n) (starts_at + g) 0 ≡ start_of m g
-    unfolding placed_to
-    to_starts zero g h l = absurd (omega arith)
-    to_starts (suc f) g h l =
-        let w = within f (omega arith) in
-        placed_outside f (set (placed_to bytes t places f) (starts_at + f) (start_of m f)) (row_at t f).statements (starts_at + g) (λ s i z. omega arith)
-        ∙ ⊎_elim
-        (λ e.
-        let i : starts_at + f < length (placed_to bytes t places f) = omega (arith, to_long places f, few) in
-        rw e (get_or-set_same (placed_to bytes t places f) (starts_at + f) (start_of m f) 0 i))
-        (λ k.
-        let ne : starts_at + g ≡ starts_at + f → ⊥ = omega arith in
-        get_or-set_other (placed_to bytes t places f) (starts_at + f) (starts_at + g) (start_of m f) 0 ne ∙ to_starts f g k (omega arith))
-        (eq-or-lt_of_le (le_of_suc-le-suc h))
+  at_statement : (firsts : List ℕ) (n f s : ℕ) → length firsts ≡ max_items → f < n → n ≤ count → s < (row_at t f).statements → get_or (firsts_to bytes t firsts n) (statement_number t f s) 0 ≡ mark_place m f s
+  unfolding firsts_to
+  at_statement firsts zero f s long h l hs = absurd (omega arith)
+  at_statement firsts (suc n) f s long h l hs =
+      ⊎_elim
+      (λ e.
+      let w = within n (omega arith) in
+      let i : s < (row_at t n).statements = subst (λ (k : ℕ). s < (row_at t k).statements) e hs in
+      rw e (placed_at n (firsts_to bytes t firsts n) (row_at t n).statements s (omega (arith, firsts_long firsts n)) i))
+      (λ k.
+      let before = earlier t was.laid f n k (rw (functions_are t bytes) (omega arith)) in
+      placed_outside n (firsts_to bytes t firsts n) (row_at t n).statements (statement_number t f s) (λ j i z. omega arith)
+      ∙ at_statement firsts n f s long k (omega arith) hs)
+      (eq-or-lt_of_le (le_of_suc-le-suc h))
 
-    to_statements : (n g s : ℕ) → g < n → n ≤ count → s < (row_at t g).statements → get_or (placed_to bytes t places n) (statement_number t g s) 0 ≡ mark_place m g s
-    unfolding placed_to
-    to_statements zero g s h l hs = absurd (omega arith)
-    to_statements (suc f) g s h l hs =
-        ⊎_elim
-        (λ e.
-        let w = within f (omega arith) in
-        let i : s < (row_at t f).statements = subst (λ (k : ℕ). s < (row_at t k).statements) e hs in
-        rw e (placed_at f (set (placed_to bytes t places f) (starts_at + f) (start_of m f)) (row_at t f).statements s (omega (arith, begun_long f)) i))
-        (λ k.
-        let before = earlier t was.laid g f k (rw (functions_are t bytes) (omega arith)) in
-        let w = within g (omega arith) in
-        let ne : statement_number t g s ≡ starts_at + f → ⊥ = omega arith in
-        placed_outside f (set (placed_to bytes t places f) (starts_at + f) (start_of m f)) (row_at t f).statements (statement_number t g s) (λ j i z. omega arith)
-        ∙ get_or-set_other (placed_to bytes t places f) (starts_at + f) (statement_number t g s) (start_of m f) 0 ne
-        ∙ to_statements f g s k (omega arith) hs)
-        (eq-or-lt_of_le (le_of_suc-le-suc h))
+  -- when all is placed
+  at_end : (starts : List ℕ) (f : ℕ) → length starts ≡ max_functions + 1 → f ≤ count → get_or (set (starts_to bytes t starts count) count (start_of m count)) f 0 ≡ start_of m f
+  at_end starts f long h =
+      ⊎_elim
+      (λ e.
+      let i : count < length (starts_to bytes t starts count) = omega (arith, starts_long starts count, few) in
+      rw e (get_or-set_same (starts_to bytes t starts count) count (start_of m count) 0 i))
+      (λ i.
+      let ne : f ≡ count → ⊥ = omega arith in
+      get_or-set_other (starts_to bytes t starts count) count f (start_of m count) 0 ne ∙ at_start starts count f long i (omega arith))
+      (eq-or-lt_of_le h)
 
-    -- when all is placed
-    pub places-made : (left final : List ℕ) (n at k : ℕ) → n ≡ count → left ≡ placed_to bytes t places n → at ≡ start_of m n → k ≡ starts_at + n → final ≡ set left k at → Places bytes t final
-    places-made left final n at k c p q r e =
-        rw (e, p, q, r, c)
-        (record {
-          long = omega (arith, length-set (placed_to bytes t places count) (starts_at + count) (start_of m count), to_long places count);
-          starts = λ f h.
-              ⊎_elim
-              (λ z.
-              let i : starts_at + count < length (placed_to bytes t places count) = omega (arith, to_long places count, few) in
-              rw z (get_or-set_same (placed_to bytes t places count) (starts_at + count) (start_of m count) 0 i))
-              (λ l.
-              let ne : starts_at + f ≡ starts_at + count → ⊥ = omega arith in
-              get_or-set_other (placed_to bytes t places count) (starts_at + count) (starts_at + f) (start_of m count) 0 ne ∙ to_starts count f l (omega arith))
-              (eq-or-lt_of_le h);
-          statements = λ f s hf hs.
-              let w = within f hf in
-              let i : s < (row_at t f).statements = omega (arith, statement_count f) in
-              let ne : statement_number t f s ≡ starts_at + count → ⊥ = omega arith in
-              get_or-set_other (placed_to bytes t places count) (starts_at + count) (statement_number t f s) (start_of m count) 0 ne ∙ to_statements count f s hf (omega arith) i;
-        })
+  pub places-made : (places : MarkPlaces) (starts firsts left : List ℕ) (n at : ℕ) → n ≡ count → length starts ≡ max_functions + 1 → length firsts ≡ max_items → left ≡ starts_to bytes t starts n → at ≡ start_of m n → places.starts ≡ set left n at → places.firsts ≡ firsts_to bytes t firsts n → Places bytes t places
+  places-made places starts firsts left n at c k l p q r e = record {
+    starts = λ f h. rw (r, p, q, c) (at_end starts f k h);
+    statements = λ f s hf hs.
+        let i : s < (row_at t f).statements = omega (arith, statement_count f) in
+        rw (e, c) (at_statement firsts count f s l hf (omega arith) i);
+  }

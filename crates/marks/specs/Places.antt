@@ -1,14 +1,14 @@
--- Where the marks of each function and of each statement stand in a buffer, and the table that says so: first by the statement's number among the
--- file's items, then by function.
+-- Where the marks of each function and of each statement stand in a buffer, and the tables that say so.
 use Rattle.std.specs.Prelude.{◌≡◌, Bool, not, List, ℕ, zero, suc, ◌+◌, ◌-◌, ◌<◌, ◌≤◌, eqb, length, get_or, set, take, drop}
 use Rattle.field.specs.Limits.{max_functions}
 use Rattle.module.specs.Module.{FunctionHandle, Module}
 use Rattle.module.specs.Marks.{marks_before}
 use Rattle.module.specs.Decode.{tab}
-use Rattle.module.specs.Tables.{max_items, function_of, module_of}
+use Rattle.module.specs.Tables.{function_of, module_of}
 use Rattle.access.specs.Access.{statement_number}
 use Rattle.walk.specs.Resolve.{function_at}
 use Rattle.walk.specs.Marks.{stretch}
+use Rattle.marks.specs.declared.places.MarkPlaces.{MarkPlaces}
 
 -- n bytes from `from` on
 abbrev pub slice : List ℕ → (from n : ℕ) → List ℕ
@@ -23,39 +23,31 @@ start_of m (suc f) = start_of m f + stretch m f
 abbrev pub mark_place : Module → FunctionHandle → (s : ℕ) → ℕ
 mark_place m f s = start_of m f + marks_before (function_at m f).statements s
 
--- the table's part by function, one more than there may be functions, and its size
-abbrev pub starts_at : ℕ
-starts_at = max_items
+-- where a function's marks begin by the tables, and how many they are
+abbrev pub start_in : MarkPlaces → FunctionHandle → ℕ
+start_in places f = get_or places.starts f 0
 
-abbrev pub places_size : ℕ
-places_size = starts_at + max_functions + 1
-
--- where a function's marks begin by the table, and how many they are
-abbrev pub start_in : List ℕ → FunctionHandle → ℕ
-start_in places f = get_or places (starts_at + f) 0
-
-abbrev pub size_in : List ℕ → FunctionHandle → ℕ
+abbrev pub size_in : MarkPlaces → FunctionHandle → ℕ
 size_in places f = start_in places (f + 1) - start_in places f
 
--- the table of a module that was read
-pub record Places (bytes t places : List ℕ) : Type 0 where
-  pub long : places_size ≤ length places
+-- the tables of a module that was read
+pub record Places (bytes t : List ℕ) (places : MarkPlaces) : Type 0 where
   pub starts : (f : ℕ) → f ≤ length (module_of bytes t).functions → start_in places f ≡ start_of (module_of bytes t) f
-  pub statements : (f s : ℕ) → f < length (module_of bytes t).functions → s < length (function_of bytes t f).statements → get_or places (statement_number t f s) 0 ≡ mark_place (module_of bytes t) f s
+  pub statements : (f s : ℕ) → f < length (module_of bytes t).functions → s < length (function_of bytes t f).statements → get_or places.firsts (statement_number t f s) 0 ≡ mark_place (module_of bytes t) f s
 
--- the table with the places of the first n statements of f
-unfoldable pub placed_in : (bytes t : List ℕ) → FunctionHandle → (places : List ℕ) → (n : ℕ) → List ℕ
-placed_in bytes t f places zero = places
-placed_in bytes t f places (suc s) = set (placed_in bytes t f places s) (statement_number t f s) (mark_place (module_of bytes t) f s)
+-- the table of the statements with the places of the first n of f
+unfoldable pub placed_in : (bytes t : List ℕ) → FunctionHandle → (firsts : List ℕ) → (n : ℕ) → List ℕ
+placed_in bytes t f firsts zero = firsts
+placed_in bytes t f firsts (suc s) = set (placed_in bytes t f firsts s) (statement_number t f s) (mark_place (module_of bytes t) f s)
 
 -- the marks of f lie within `top` bytes
-pub record Inside (places : List ℕ) (f top : ℕ) : Type 0 where
-  pub entry : starts_at + (f + 1) < length places
+pub record Inside (places : MarkPlaces) (f top : ℕ) : Type 0 where
+  pub entry : f < max_functions
   pub ascends : start_in places f ≤ start_in places (f + 1)
   pub within : start_in places (f + 1) ≤ top
 
 -- those of n functions do, one behind the other
-pub record AllInside (places : List ℕ) (n top : ℕ) : Type 0 where
+pub record AllInside (places : MarkPlaces) (n top : ℕ) : Type 0 where
   pub first : start_in places 0 ≡ 0
   pub each : (f : ℕ) → f < n → Inside places f top
 

@@ -1,46 +1,44 @@
--- The totals of marks and the report, as buffers have them: the totals have first a flag for each function, 1 where it has a total, and then the marks.
-use Rattle.std.specs.Prelude.{◌≡◌, Bool, not, cond, List, [], ◌++◌, ℕ, zero, suc, ◌+◌, ◌<◌, ◌≤◌, eqb, length, get_or, replicate}
+-- The totals of marks and the report, as buffers have them.
+use Rattle.std.specs.Prelude.{◌≡◌, Bool, true, false, cond, List, [], ◌++◌, ℕ, zero, suc, ◌<◌, eqb, length, get_or, set, replicate}
 use Rattle.std.proofs.Math.Option.{Option, some, none as nothing}
-use Rattle.field.specs.Limits.{max_functions, min_report}
 use Rattle.module.specs.Module.{FunctionHandle, Module}
 use Rattle.walk.specs.State.{FunctionReq}
-use Rattle.walk.specs.Marks.{stretch}
+use Rattle.walk.specs.Marks.{stretch, write_marks, add_marks}
+use Rattle.marks.specs.declared.places.MarkPlaces.{MarkPlaces}
+use Rattle.marks.specs.declared.totals.MarkTotals.{MarkTotals}
 use Rattle.marks.specs.Places.{slice, start_of, start_in, size_in}
 
-abbrev pub totals_at : ℕ
-totals_at = max_functions
-
-abbrev pub totals_size : ℕ
-totals_size = totals_at + min_report
-
--- the buffers of marks and of totals have their least sizes
-pub record Sized (marks totals : List ℕ) : Type 0 where
-  pub marks_long : min_report ≤ length marks
-  pub totals_long : totals_size ≤ length totals
-
 -- whether f has a total, and the total's marks
-abbrev pub has_total : (totals : List ℕ) → FunctionHandle → Bool
-has_total totals f = not (eqb (get_or totals f 0) 0)
+abbrev pub has_total : (totals : MarkTotals) → FunctionHandle → Bool
+has_total totals f = get_or totals.flags f false
 
-unfoldable pub total_in : Module → (totals : List ℕ) → FunctionHandle → Option (List ℕ)
-total_in m totals f = cond (has_total totals f) (some (slice totals (totals_at + start_of m f) (stretch m f))) nothing
+unfoldable pub total_in : Module → (totals : MarkTotals) → FunctionHandle → Option (List ℕ)
+total_in m totals f = cond (has_total totals f) (some (slice totals.marks (start_of m f) (stretch m f))) nothing
 
 -- the buffer has the marks of the state's totals
 abbrev pub marks_kept : Option FunctionReq → Option (List ℕ)
 marks_kept nothing = nothing
 marks_kept (some total) = some total.marks
 
-pub record Totals (m : Module) (totals : List ℕ) (fs : List (Option FunctionReq)) : Type 0 where
-  pub long : totals_size ≤ length totals
-  pub each : (f : ℕ) → f < length m.functions → total_in m totals f ≡ marks_kept (get_or fs f nothing)
+abbrev pub Totals : Module → (totals : MarkTotals) → List (Option FunctionReq) → Type 0
+Totals m totals fs = (f : ℕ) → f < length m.functions → total_in m totals f ≡ marks_kept (get_or fs f nothing)
+
+-- the first total of f has its marks in `marks`, and a later one is joined to them
+pub record MarksKept (places : MarkPlaces) (marks : List ℕ) (totals : MarkTotals) (f : FunctionHandle) (after : MarkTotals) : Type 0 where
+  pub flags_are : after.flags ≡ set totals.flags f true
+  pub marks_are : after.marks ≡ write_marks totals.marks (start_in places f) (slice marks (start_in places f) (size_in places f))
+
+pub record MarksJoined (places : MarkPlaces) (marks : List ℕ) (totals : MarkTotals) (f : FunctionHandle) (after : MarkTotals) : Type 0 where
+  pub flags_are : after.flags ≡ totals.flags
+  pub marks_are : after.marks ≡ write_marks totals.marks (start_in places f) (add_marks (slice totals.marks (start_in places f) (size_in places f)) (slice marks (start_in places f) (size_in places f)))
 
 -- A function's part of the report: the asked function's marks are those of its walk, another's those of its total, else 0.
-unfoldable pub part_in : (places marks totals : List ℕ) → (asked f : FunctionHandle) → List ℕ
+unfoldable pub part_in : MarkPlaces → (marks : List ℕ) → (totals : MarkTotals) → (asked f : FunctionHandle) → List ℕ
 part_in places marks totals asked f =
     cond (eqb f asked) (slice marks (start_in places f) (size_in places f))
-    (cond (eqb (get_or totals f 0) 0) (replicate (size_in places f) 0) (slice totals (totals_at + start_in places f) (size_in places f)))
+    (cond (has_total totals f) (slice totals.marks (start_in places f) (size_in places f)) (replicate (size_in places f) 0))
 
 -- the parts of the first n functions
-unfoldable pub report_in : (places marks totals : List ℕ) → (asked n : FunctionHandle) → List ℕ
+unfoldable pub report_in : MarkPlaces → (marks : List ℕ) → (totals : MarkTotals) → (asked n : FunctionHandle) → List ℕ
 report_in places marks totals asked zero = []
 report_in places marks totals asked (suc f) = report_in places marks totals asked f ++ part_in places marks totals asked f

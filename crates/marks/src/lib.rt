@@ -6,3 +6,4 @@ pub mod places;
 pub mod ray;
 pub mod report;
 pub mod set;
+pub mod totals;

@@ -1,12 +1,11 @@
-// The table of the marks' places: filled once, in one pass over the statements.
-// Stays: two tables in one array, since it is the caller's fixed memory.
-ghost use Rattle.std.specs.Prelude.{◌≡◌, ℕ, suc, ◌+◌, ◌-◌, ◌<◌, ◌≤◌, length, get_or};
-ghost use Rattle.module.specs.Decode.{statement_of};
+// The tables of the marks' places: filled once, in one pass over the statements.
+ghost use Rattle.std.specs.Prelude.{◌≡◌, suc, ◌+◌, ◌-◌, ◌<◌, ◌≤◌, length, get_or};
 ghost use Rattle.module.specs.Marks.{mark_count};
 ghost use Rattle.module.specs.Tables.{row_at, module_of};
 ghost use Rattle.access.specs.Access.{statement_number, statement_at};
 ghost use Rattle.state.specs.Ready.{WasRead};
-ghost use Rattle.marks.specs.Places.{starts_at, places_size, start_of, start_in, placed_in, Places};
+ghost use Rattle.field.specs.Limits.{max_functions};
+ghost use Rattle.marks.specs.Places.{start_of, start_in, placed_in, Places};
 
 use access::file::File;
 use field::limits::MAX_FUNCTIONS;
@@ -15,22 +14,27 @@ use module::kinds::StatementKind;
 use module::tables::{MAX_ITEMS, put, row_at, word};
 use std::ops::Range;
 
-// By function, behind the places by item.
-pub const STARTS: usize = MAX_ITEMS;
+// One more than there may be functions, since the last one's marks end there.
+pub const STARTS: usize = MAX_FUNCTIONS + 1;
 
-pub const PLACES: usize = STARTS + MAX_FUNCTIONS + 1;
+// Where the marks of each function begin, and those of each statement, by its number among the items of the file.
+#[derive(Drop)]
+pub struct MarkPlaces {
+    pub starts: [u32; STARTS],
+    pub firsts: [u32; MAX_ITEMS],
+}
 
 // Where the marks of the first f functions end: those of the function f, if there is one, begin there.
-pub fn start(places: &[u32], f: usize) -> usize
-    requires { starts_at + f < length places.now }
+pub fn start(places: &MarkPlaces, f: usize) -> usize
+    requires { f ≤ max_functions }
     ensures { result ≡ start_in places.now f }
 {
-    places[STARTS + f] as usize
+    places.starts[f] as usize
 }
 
 // The marks of f, by their places.
-pub fn range(places: &[u32], f: FunctionHandle) -> Range<usize>
-    requires { starts_at + (f.0 + 1) < length places.now }
+pub fn range(places: &MarkPlaces, f: FunctionHandle) -> Range<usize>
+    requires { f.0 < max_functions }
     ensures start { result.start ≡ start_in places.now f.0 }
     ensures end { result.end ≡ start_in places.now (f.0 + 1) }
 {
@@ -46,10 +50,10 @@ fn statement_number(file: &File, f: FunctionHandle, s: u32) -> usize
 }
 
 // Where the marks of the statement s of f begin.
-pub fn place(file: &File, places: &[u32], f: FunctionHandle, s: u32) -> usize
-    ensures { result ≡ get_or places.now (statement_number file.now.t f.0 s) 0 }
+pub fn place(file: &File, places: &MarkPlaces, f: FunctionHandle, s: u32) -> usize
+    ensures { result ≡ get_or places.now.firsts (statement_number file.now.t f.0 s) 0 }
 {
-    word(places, statement_number(file, f, s)) as usize
+    word(&places.firsts, statement_number(file, f, s)) as usize
 }
 
 // How many numbers there are from first to last.
@@ -79,28 +83,28 @@ pub fn mark_count(file: &File, f: FunctionHandle, s: u32) -> u32
 }
 
 // The places of the statements of f, whose marks begin at `first`. The answer is where they end.
-fn place_statements(file: &File, places: &mut [u32], f: FunctionHandle, first: u32) -> u32
+fn place_statements(file: &File, firsts: &mut [u32], f: FunctionHandle, first: u32) -> u32
     requires { WasRead file.now.bytes file.now.t × (f.0 < length (module_of file.now.bytes file.now.t).functions) × (first ≡ start_of (module_of file.now.bytes file.now.t) f.0) }
-    ensures { (places.new ≡ placed_in file.now.bytes file.now.t f.0 places.old (row_at file.now.t f.0).statements) × (result ≡ start_of (module_of file.now.bytes file.now.t) (f.0 + 1)) }
+    ensures { (firsts.new ≡ placed_in file.now.bytes file.now.t f.0 firsts.old (row_at file.now.t f.0).statements) × (result ≡ start_of (module_of file.now.bytes file.now.t) (f.0 + 1)) }
 {
     let n = file.statements(f);
     let mut at = first;
     for s in 0..n {
-        put(places, statement_number(file, f, s), at);
+        put(firsts, statement_number(file, f, s), at);
         at += mark_count(file, f, s);
     }
     at
 }
 
-pub fn place_marks(file: &File, places: &mut [u32])
-    requires { WasRead file.now.bytes file.now.t × (places_size ≤ length places.old) }
+pub fn place_marks(file: &File, places: &mut MarkPlaces)
+    requires { WasRead file.now.bytes file.now.t }
     ensures { Places file.now.bytes file.now.t places.new }
 {
     let n = file.functions();
     let mut at: u32 = 0;
     for f in 0..n {
-        put(places, STARTS + (f as usize), at);
-        at = place_statements(file, places, FunctionHandle(f), at);
+        put(&mut places.starts, f as usize, at);
+        at = place_statements(file, &mut places.firsts, FunctionHandle(f), at);
     }
-    put(places, STARTS + (n as usize), at);
+    put(&mut places.starts, n as usize, at);
 }

@@ -1,8 +1,7 @@
 // The first statement at which two totals' marks do not join: a RayQuery, in the order in which `BlockReq::add` goes through a function.
-ghost use Rattle.std.specs.Prelude.{◌≡◌, ℕ, ◌<◌, ◌≤◌, length};
-ghost use Rattle.std.proofs.Math.Option.{Option, none};
+ghost use Rattle.std.specs.Prelude.{◌≡◌, ◌<◌, length};
+ghost use Rattle.std.proofs.Math.Option.{none};
 ghost use Rattle.module.specs.Knot.{below};
-ghost use Rattle.module.specs.Decode.{statement_of};
 ghost use Rattle.module.specs.Tables.{module_of};
 ghost use Rattle.access.specs.Access.{operand_at};
 ghost use Rattle.walk.specs.Marks.{statement_at, body_of, ray_of, first_ray};

@@ -1,34 +1,24 @@
 // The report: each function's part of it is lent on to the writer of a part.
-ghost use Rattle.std.specs.Prelude.{◌≡◌, ◌+◌, ◌<◌, ◌≤◌, length};
-ghost use Rattle.field.specs.Limits.{min_report};
+ghost use Rattle.std.specs.Prelude.{◌≡◌, ◌≤◌, length};
+ghost use Rattle.field.specs.Limits.{max_functions, min_report};
 ghost use Rattle.walk.specs.Marks.{write_marks};
 ghost use Rattle.marks.specs.Places.{size_in, Inside, AllInside};
-ghost use Rattle.marks.specs.Report.{totals_at, Sized, part_in, report_in};
+ghost use Rattle.marks.specs.Report.{part_in, report_in};
 
 use crate::lent::{clear, copy};
-use crate::places::{range, start};
-use field::limits::{MAX_FUNCTIONS, MIN_REPORT};
+use crate::places::{MarkPlaces, range, start};
+use crate::totals::MarkTotals;
 use module::handles::FunctionHandle;
-
-// In a buffer of totals, behind the flags.
-pub const TOTALS: usize = MAX_FUNCTIONS;
-
-pub const TOTALS_SIZE: usize = TOTALS + MIN_REPORT;
-
-// The flag of a function: whether it has a total.
-pub const NO_TOTAL: u8 = 0;
-
-pub const HAS_TOTAL: u8 = 1;
 
 fn write_part(
     part: &mut [u8],
-    places: &[u32],
+    places: &MarkPlaces,
     marks: &[u8],
-    totals: &[u8],
+    totals: &MarkTotals,
     asked: FunctionHandle,
     f: FunctionHandle,
 )
-    requires { Inside places.now f.0 min_report × Sized marks.now totals.now × (length part.old ≡ size_in places.now f.0) × (f.0 < totals_at) }
+    requires { Inside places.now f.0 min_report × (min_report ≤ length marks.now) × (length part.old ≡ size_in places.now f.0) }
     ensures { part.new ≡ part_in places.now marks.now totals.now asked.0 f.0 }
 {
     let i = f.0 as usize;
@@ -37,23 +27,23 @@ fn write_part(
         copy(part, marks, from);
         return;
     }
-    if totals[i] == NO_TOTAL {
+    if !totals.flags[i] {
         clear(part);
         return;
     }
-    copy(part, totals, TOTALS + from);
+    copy(part, &totals.marks, from);
 }
 
 // The marks of the first n functions.
 pub fn write_report(
     report: &mut [u8],
-    places: &[u32],
+    places: &MarkPlaces,
     marks: &[u8],
-    totals: &[u8],
+    totals: &MarkTotals,
     asked: FunctionHandle,
     n: usize,
 )
-    requires { AllInside places.now n min_report × Sized marks.now totals.now × (n ≤ totals_at) × (min_report ≤ length report.old) }
+    requires { AllInside places.now n min_report × (min_report ≤ length marks.now) × (n ≤ max_functions) × (min_report ≤ length report.old) }
     ensures { report.new ≡ write_marks report.old 0 (report_in places.now marks.now totals.now asked.0 n) }
 {
     for f in 0..n {

@@ -1,14 +1,14 @@
 // A statement's own marks, and all marks of a function, in the buffers of the open functions and of the totals.
-ghost use Rattle.std.specs.Prelude.{◌≡◌, ◌||◌, [], ◌∷◌, ◌+◌, ◌<◌, ◌≤◌, length, replicate, set};
+ghost use Rattle.std.specs.Prelude.{◌≡◌, [], ◌∷◌, ◌+◌, ◌<◌, ◌≤◌, length, replicate};
 ghost use Rattle.field.specs.Limits.{min_report};
 ghost use Rattle.walk.specs.StatementReq.{any, mark, marks_of};
-ghost use Rattle.walk.specs.Marks.{write_marks, add_marks};
-ghost use Rattle.marks.specs.Places.{slice, start_in, size_in, Inside, recorded_in};
-ghost use Rattle.marks.specs.Report.{totals_at, Sized};
+ghost use Rattle.walk.specs.Marks.{write_marks};
+ghost use Rattle.marks.specs.Places.{start_in, size_in, Inside, recorded_in};
+ghost use Rattle.marks.specs.Report.{MarksKept, MarksJoined};
 
 use crate::lent::{add, clear, copy};
-use crate::places::range;
-use crate::report::{HAS_TOTAL, TOTALS};
+use crate::places::{MarkPlaces, range};
+use crate::totals::MarkTotals;
 use module::handles::FunctionHandle;
 use part::store::EMPTY_PIECE;
 
@@ -43,7 +43,7 @@ pub fn set_emit(marks: &mut [u8], at: usize, slots: &[u32], from: usize, n: usiz
 }
 
 // No mark of f is set.
-pub fn clear_marks(marks: &mut [u8], places: &[u32], f: FunctionHandle)
+pub fn clear_marks(marks: &mut [u8], places: &MarkPlaces, f: FunctionHandle)
     requires { Inside places.now f.0 (length marks.old) }
     ensures { marks.new ≡ write_marks marks.old (start_in places.now f.0) (replicate (size_in places.now f.0) 0) }
 {
@@ -51,28 +51,22 @@ pub fn clear_marks(marks: &mut [u8], places: &[u32], f: FunctionHandle)
 }
 
 // The first total of f: its marks as they are.
-pub fn keep_marks(totals: &mut [u8], marks: &[u8], places: &[u32], f: FunctionHandle)
-    requires { Inside places.now f.0 min_report × Sized marks.now totals.old × (f.0 < totals_at) }
-    ensures { totals.new ≡ write_marks (set totals.old f.0 1) (totals_at + start_in places.now f.0) (slice marks.now (start_in places.now f.0) (size_in places.now f.0)) }
+pub fn keep_marks(totals: &mut MarkTotals, marks: &[u8], places: &MarkPlaces, f: FunctionHandle)
+    requires { Inside places.now f.0 min_report × (min_report ≤ length marks.now) }
+    ensures { MarksKept places.now marks.now totals.old f.0 totals.new }
 {
     let own = range(places, f);
-    totals[f.0 as usize] = HAS_TOTAL;
-    copy(
-        &mut totals[TOTALS + own.start..TOTALS + own.end],
-        marks,
-        own.start,
-    );
+    totals.flags[f.0 as usize] = true;
+    let kept = &mut totals.marks[..];
+    copy(&mut kept[own.start..own.end], marks, own.start);
 }
 
 // A later one: joined to the marks of the total.
-pub fn add_marks(totals: &mut [u8], marks: &[u8], places: &[u32], f: FunctionHandle)
-    requires { Inside places.now f.0 min_report × Sized marks.now totals.old }
-    ensures { totals.new ≡ write_marks totals.old (totals_at + start_in places.now f.0) (add_marks (slice totals.old (totals_at + start_in places.now f.0) (size_in places.now f.0)) (slice marks.now (start_in places.now f.0) (size_in places.now f.0))) }
+pub fn add_marks(totals: &mut MarkTotals, marks: &[u8], places: &MarkPlaces, f: FunctionHandle)
+    requires { Inside places.now f.0 min_report × (min_report ≤ length marks.now) }
+    ensures { MarksJoined places.now marks.now totals.old f.0 totals.new }
 {
     let own = range(places, f);
-    add(
-        &mut totals[TOTALS + own.start..TOTALS + own.end],
-        marks,
-        own.start,
-    );
+    let kept = &mut totals.marks[..];
+    add(&mut kept[own.start..own.end], marks, own.start);
 }

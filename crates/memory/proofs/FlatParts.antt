@@ -17,13 +17,13 @@ use Rattle.part.specs.Insert.{insert}
 use Rattle.part.specs.Store.{part, Good, Made}
 use Rattle.part.proofs.Equations.{insert-none, insert_before, insert_at, insert-after}
 use Rattle.part.proofs.Pieces.{part-0, part-1, part-2}
-use Rattle.part.proofs.Write.{stay, kept_self}
+use Rattle.part.proofs.Write.{stay}
 use Rattle.part.proofs.Making.{kept_trans}
 use Rattle.context.specs.Swizzle.{Swizzled, asks, panics, is_flat, collected, swizzled}
 use Rattle.memory.specs.Layout.{all_slot, exist_slot, flat_slot, flat_count, globals_slot}
 use Rattle.memory.specs.Flat.{entry_of, flat_from, flat_of, digits_from, code}
 use Rattle.memory.specs.Want.{kid, after, tail, asked, first, Child}
-use Rattle.memory.specs.Memory.{Memory, Flats}
+use Rattle.memory.specs.Memory.{Memory}
 use Rattle.memory.specs.Picks.{digit_of, some_digit, Letters, FourDigits, Picks, Picking-on}
 use Rattle.memory.specs.declared.want.Want.{Want}
 use Rattle.std.specs.Prelude.{Some, None, IsSomeAnd}
@@ -62,35 +62,6 @@ module _ {s t : List ℕ} {r : ℕ} (k n c : ℕ) (h : 0 < n) (a : Made s t (fla
     is = b.is ∙ entry_made t k (c % 3) (part t r) ne (omega arith) ∙ rw a.is (sym (flat_suc k n c h));
     cost = omega (arith, a.cost, b.cost);
   }
-
--- `flats`
-pub flats_none : (s rs : List ℕ) → Good s → Flats s rs s rs 0
-flats_none s rs g = record {
-  kept = kept_self g;
-  cost = omega arith;
-  long = refl;
-  made = λ c h. absurd (omega arith);
-  before = λ k h. refl;
-  behind = λ k h. refl;
-}
-
-pub flats_more : {s rs t us u : List ℕ} (n : ℕ) {r : ℕ} → Flats s rs t us n → flat_slot + n < length us → Made t u (flat_from 0 4 n) 4 r
-    → Flats s rs u (set us (flat_slot + n) r) (n + 1)
-flats_more {s} {rs} {t} {us} {u} n {r} f l a = record {
-  kept = kept_trans f.kept a.kept;
-  cost = omega (arith, f.cost, a.cost);
-  long = length-set us (flat_slot + n) r ∙ f.long;
-  made = λ c h.
-      elim (ℕ_discrete c n) [
-        | yes e ↦ rw (e, get_or-set_same us (flat_slot + n) r 0 l) (a.piece, a.is)
-        | no ne ↦
-            let x : flat_slot + c ≡ flat_slot + n → ⊥ = λ z. ne (omega arith) in
-            let b = f.made c (omega arith) in
-            rw (get_or-set_other us (flat_slot + n) (flat_slot + c) r 0 x) (omega (arith, b.0, a.kept.tops), a.kept.same _ b.0 ∙ b.1)
-      ];
-  before = λ k h. get_or-set_other us (flat_slot + n) k r 0 (omega arith) ∙ f.before k h;
-  behind = λ k h. get_or-set_other us (flat_slot + n) k r 0 (omega arith) ∙ f.behind k (omega arith);
-}
 
 -- the part of a list of digits is that of its code
 pub data Digits : List ℕ → Type 0 where

@@ -85,9 +85,6 @@ module _ {s rs : List ℕ} {n g : ℕ} {w : Want} {sum : ℕ} (h : Totalling s r
   old_low : (globals_slot < length rs) × (get_or rs globals_slot 0 < top s)
   old_low = slot_low h.joining.memory globals_slot (omega arith)
 
-  pub global_inside : globals_slot < length rs
-  global_inside = old_low.0
-
   pub global_get : Good t × (get_or rs globals_slot 0 < top t)
   global_get = (a.kept.good, omega (arith, old_low.1, a.kept.tops))
 

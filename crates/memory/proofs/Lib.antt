@@ -1,3 +1,4 @@
+pub mod Cuts
 pub mod Asks
 pub mod Slots
 pub mod Records

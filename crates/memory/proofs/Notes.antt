@@ -11,7 +11,7 @@ use lib.ListN.{length, get_or, set, length-set, replicate, get_or-replicate}
 use lib.Seq.{get_or-set_same, get_or-set_other}
 use Rattle.field.specs.Limits.{max_depth}
 use Rattle.part.specs.PartReq.{PartReq, none, more, entries, over}
-use Rattle.part.specs.Store.{top, part, Good, Kept, Room, Made, Seen}
+use Rattle.part.specs.Store.{top, part, Good, Kept, Made, Seen}
 use Rattle.part.specs.Count.{same}
 use Rattle.part.specs.StoreLimits.{entries_cap}
 use Rattle.part.proofs.Pieces.{part-0, part-1, part-2}
@@ -19,10 +19,10 @@ use Rattle.part.proofs.Making.{kept_trans}
 use Rattle.part.proofs.Write.{kept_self}
 use Rattle.part.proofs.Counting.{same_is, same-pieces}
 use Rattle.memory.specs.Layout.{flat_slot, flat_count, globals_slot, slot_count, store_size}
-use Rattle.memory.specs.Want.{asked, Wants}
+use Rattle.memory.specs.Want.{asked}
 use Rattle.memory.specs.Memory.{read, sum_from, Recorded, missing, present, Memory, Filled, Flats, Empty, Putting, Noting, Noted}
 use Rattle.memory.specs.declared.want.Want.{Want}
-use Rattle.memory.proofs.Slots.{read_at, read-long, kept_read, sum_suc, sum_split, want_low, asked-small, kept_memory, set-memory, set-read, above}
+use Rattle.memory.proofs.Slots.{read_at, read-long, kept_read, sum_suc, sum_split, asked-small, kept_memory, set-memory, set-read, above}
 
 -- every slot has the empty part
 pub all_filled : {us : List ℕ} {n : ℕ} → us ≡ replicate n 2 → Filled us n
@@ -98,9 +98,6 @@ module _ {s rs : List ℕ} (m : Memory s rs) (a n : ℕ) (h : a + n ≤ length r
 
 -- `put`
 module _ {s rs : List ℕ} {at r sum : ℕ} (h : Putting s rs at r sum) where
-  pub put_old : Good s × (get_or rs at 0 < top s)
-  put_old = (h.memory.good, h.memory.below at h.high)
-
   module _ {less new : ℕ} (el : less ≡ min entries_cap (entries (part s (get_or rs at 0)))) (en : new ≡ min entries_cap (entries (part s r))) where
     less-is : less ≡ entries (part s (get_or rs at 0))
     less-is = omega (arith, el, h.old, h.few)
@@ -171,19 +168,12 @@ pub entries-single : (i : ℕ) (p : PartReq) → entries (more i p none) ≡ 1 +
 unfolding entries
 entries-single i p = omega arith
 
-pub piece_asked : {s rs : List ℕ} {w : Want} (k : ℕ) → Memory s rs → Wants s rs w → max_depth ≤ k → Room s k
-    → Good s × (((get_or rs w.slot 0 < top s) × ((w.down ≤ max_depth) × (w.up ≤ max_depth))) × Room s max_depth)
-piece_asked {s} {rs} {w} k m q l r = (m.good, (((want_low m w q).1, (omega (arith, q.deep), omega (arith, q.high))), omega arith))
-
 module _ {s rs : List ℕ} {at : ℕ} {w : Want} {sum : ℕ} (h : Noting s rs at w sum) {t : List ℕ} {p : ℕ} (a : Made s t (asked s rs w) max_depth p) where
   pub note_inside : at < length rs
   note_inside = omega (arith, h.high, h.memory.slots)
 
   old_kept : part t (get_or rs at 0) ≡ part s (get_or rs at 0)
   old_kept = a.kept.same _ (h.memory.below at note_inside)
-
-  pub note_is : Good t × (((get_or rs at 0 < top t) × (p < top t)) × Recorded (part t (get_or rs at 0)))
-  note_is = (a.kept.good, ((omega (arith, h.memory.below at note_inside, a.kept.tops), a.piece), rw old_kept (h.memory.records at h.low h.high)))
 
   -- the record is there already
   pub note_again : same (part t (get_or rs at 0)) (more 0 (part t p) none) ≡ true → Noted s rs at (more 0 (asked s rs w) none) sum (max_depth + 1) t rs sum
@@ -199,9 +189,6 @@ module _ {s rs : List ℕ} {at : ℕ} {w : Want} {sum : ℕ} (h : Noting s rs at
         sums = omega (arith, ap entries (sym old_kept ∙ is));
         spent = omega (arith, a.cost);
       }
-
-  pub note_make : Good t × (Room t 1 × ((p < top t) × (2 < top t)))
-  note_make = (a.kept.good, (omega (arith, h.roomy, a.cost, a.kept.long), (a.piece, omega (arith, a.kept.good.base))))
 
   module _ {u : List ℕ} {r : ℕ} (b : Made t u (more 0 (part t p) (part t 2)) 1 r) where
     su : Kept s u

@@ -343,9 +343,6 @@ forgotten-memory {s} {rs} from m a (suc n) b =
 
 -- a turn of `extend`
 module _ (rs us : List ℕ) (from to n k : ℕ) (is : us ≡ copied rs from to k) (b : from + n ≤ to) (l : to + n ≤ length rs) (h : k < n) where
-  pub extend_inside : (from + k < length us) × (to + k < length us)
-  extend_inside = let e = ap length is ∙ copied-long rs from to k in (omega arith, omega arith)
-
   as_it_was : get_or us (from + k) 0 ≡ get_or rs (from + k) 0
   as_it_was = rw is (copied-outside rs from to k (from + k) (λ e i z. omega arith))
 

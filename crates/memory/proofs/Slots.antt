@@ -10,12 +10,12 @@ use lib.ListN.{length, get_or, set, length-set, length-map, length-replicate}
 use lib.Seq.{get_or-set_same, get_or-set_other, ext_get_or}
 use Rattle.field.specs.Limits.{max_functions, max_pieces, max_depth}
 use Rattle.part.specs.PartReq.{PartReq, all, exist, none, entries, over}
-use Rattle.part.specs.Store.{top, part, Good, Below, Kept, Room}
+use Rattle.part.specs.Store.{top, part, Good, Below, Kept}
 use Rattle.part.specs.StoreLimits.{entries_cap}
 use Rattle.part.specs.Collect.{Collected}
 use Rattle.part.proofs.Reached.{sum_of, total, collected_total}
 use Rattle.module.specs.Tables.{max_items}
-use Rattle.memory.specs.Layout.{all_slot, exist_slot, ask, result, returned, flat_slot, flat_count, globals_slot, exprs_slot, totals_slot, functions_slot, stack_slot, room, most}
+use Rattle.memory.specs.Layout.{all_slot, exist_slot, ask, result, returned, flat_slot, flat_count, globals_slot, exprs_slot, totals_slot, functions_slot, stack_slot, most}
 use Rattle.memory.specs.Flat.{entry_of, flat_from}
 use Rattle.memory.specs.Want.{downs, wraps, asks, want_of, asked, Wants, Still}
 use Rattle.memory.specs.Memory.{read, sum_from, counted, Recorded, Memory, Tidied}
@@ -121,9 +121,6 @@ module _ {s rs : List ℕ} (m : Memory s rs) where
   pub slot_low : (k : ℕ) → k < stack_slot → (k < length rs) × (get_or rs k 0 < top s)
   slot_low k h = let l : k < length rs = omega (arith, m.slots) in (l, m.below k l)
 
-  pub want_low : (w : Want) → Wants s rs w → (w.slot < length rs) × (get_or rs w.slot 0 < top s)
-  want_low w q = slot_low w.slot (omega (arith, q.slot))
-
   -- the part of such a slot is small
   pub slot_small : (k : ℕ) → k < globals_slot → entries (part s (get_or rs k 0)) ≤ max_pieces + 4
   slot_small zero h = rw m.first (unfold entries in omega arith)
@@ -225,9 +222,6 @@ module _ {s rs t us : List ℕ} (m : Memory s rs) (few : counted (read s rs) ≤
     long = d.roots;
     roomy = omega (arith, collected_total d, total-small m, m.fits, d.long);
   }
-
-pub tidy_still : {s rs : List ℕ} → Memory s rs → Room s room → Tidied s rs s rs
-tidy_still m h = record { memory = m; same = refl; long = refl; roomy = h }
 
 -- the memory after more was made, and a slot that counts was set
 pub set-memory : {s rs t : List ℕ} {k r : ℕ} → Memory s rs → Kept s t → r < top t → globals_slot ≤ k → k < length rs

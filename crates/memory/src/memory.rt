@@ -80,14 +80,14 @@ pub fn weigh(parts: &Parts, a: usize, n: usize) -> usize
     ensures { result ≡ sum_from (read parts.now.cells parts.now.slots) a n }
 {
     let mut sum = 0;
-    for k in 0..n {
-        sum += entries(&parts.cells, parts.slots[a + k]) as usize;
+    for r in &parts.slots[a..a + n] {
+        sum += entries(&parts.cells, *r) as usize;
     }
     sum
 }
 
 // The slot `at` has the piece r then. Gives what records and totals count for.
-// Stays: the cells are only read, which a `&mut` of both would not say.
+// Stays: cells and slots apart: the cells are only read, and with a `&mut Parts` the contract and each caller's proof would carry that they stay.
 pub fn put(cells: &[u32], slots: &mut [u32], at: usize, r: u32, sum: usize) -> usize
     requires { Putting cells.now slots.old at r sum }
     ensures { Noted cells.now slots.old at (part cells.now r) sum 0 cells.now slots.new result }
@@ -136,7 +136,7 @@ fn join_entry(cells: &mut [u32], n: u32, i: u32, p: u32) -> u32
 }
 
 // What w asks, joined to the entry of the variable i in the map n: of arguments, or of locals.
-// Stays: the slots are only read, which a `&mut` of both would not say.
+// Stays: cells and slots apart: the slots are only read, and with a `&mut Parts` the contract and each caller's proof would carry that they stay.
 pub fn join_asked(cells: &mut [u32], slots: &[u32], n: u32, i: u32, w: Want) -> u32
     requires { Joining cells.old slots.now n i w }
     ensures { Made cells.old cells.new (joined (part cells.old n) i (asked cells.old slots.now w)) join_room result }

@@ -5,7 +5,7 @@ ghost use Rattle.memory.specs.Layout.{slot_count, store_size};
 use crate::layout::{CELLS, SLOTS};
 
 // The cells of their pieces, and the slots that name them. How many there are is a fact of the value, so that sums of slot numbers are known to fit.
-// Stays: both are fixed arrays, since nothing here has a heap; a piece and a slot go by their number.
+// Stays: arrays, made by one memset: a `Vec` allocates, and there is no heap here. Slots hold `u32`, as cells' words do, since `collect` renumbers words.
 #[derive(Drop)]
 pub struct Parts {
     pub cells: [u32; CELLS],

@@ -1,5 +1,5 @@
 // Stretches of slots: the four of a context, and the records of a function.
-ghost use Rattle.std.specs.Prelude.{◌≡◌, ◌+◌, ◌≤◌, ◌<◌, length, get_or};
+ghost use Rattle.std.specs.Prelude.{◌≡◌, ◌+◌, ◌≤◌, length, get_or};
 ghost use Rattle.memory.specs.Stretches.{four_set, pieces_at, copied, forgotten};
 
 use context::required_context::RequiredContext;

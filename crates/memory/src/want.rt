@@ -15,7 +15,7 @@ use field::limits::{MAX_DEPTH, MAX_ENTRIES};
 use part::store::{ALL_PIECE, EMPTY_PIECE, EXIST_PIECE, depth, look, make};
 
 // The part of a slot, `down` positions of entries on the way into it, and `up` indexes wrapped around, from path[MAX_DEPTH] on.
-// Stays: with no heap both stand in one array with their lengths beside it.
+// Stays: one array with two lengths, which is copied with each part by value: an `ArrayVec` is not Copy, and two arrays would be four fields for these three.
 #[derive(Clone, Copy)]
 pub struct Want {
     pub slot: usize,
@@ -86,10 +86,10 @@ pub fn kid(cells: &[u32], n: u32) -> u32
     ensures { (result < top cells.now) × (part cells.now result ≡ kid (part cells.now n)) }
 {
     if EMPTY_PIECE < n {
-        let x = look(cells, n);
-        return x.child;
+        look(cells, n).child
+    } else {
+        EMPTY_PIECE
     }
-    EMPTY_PIECE
 }
 
 // The entries of n after the first k.
@@ -99,13 +99,12 @@ pub fn tail(cells: &[u32], n: u32, k: u32) -> u32
     ensures { (result < top cells.now) × (part cells.now result ≡ tail (part cells.now n) k) }
 {
     let mut m = n;
-    for j in 0..k {
-        if EMPTY_PIECE < m {
-            let x = look(cells, m);
-            m = x.rest;
+    for _ in 0..k {
+        m = if EMPTY_PIECE < m {
+            look(cells, m).rest
         } else {
-            m = EMPTY_PIECE;
-        }
+            EMPTY_PIECE
+        };
     }
     m
 }
@@ -116,11 +115,9 @@ pub fn reach(cells: &[u32], w: Want, n: u32) -> u32
     requires n_bound { (n < top cells.now) × (w.down ≤ max_depth) }
     ensures { (result < top cells.now) × (part cells.now result ≡ core w (part cells.now n)) }
 {
-    let path = w.path;
-    let down = w.down;
     let mut m = n;
-    for k in 0..down {
-        let t = tail(cells, m, path[k]);
+    for k in &w.path[..w.down] {
+        let t = tail(cells, m, *k);
         m = kid(cells, t);
     }
     m
@@ -133,11 +130,9 @@ pub fn piece(cells: &mut [u32], w: Want, n: u32) -> u32
     requires room { Room cells.old max_depth }
     ensures { Made cells.old cells.new (asks w (part cells.old n)) max_depth result }
 {
-    let path = w.path;
-    let up = w.up;
     let mut m = reach(cells, w, n);
-    for k in 0..up {
-        m = make(cells, path[MAX_DEPTH + k], m, EMPTY_PIECE);
+    for i in &w.path[MAX_DEPTH..MAX_DEPTH + w.up] {
+        m = make(cells, *i, m, EMPTY_PIECE);
     }
     m
 }
@@ -268,7 +263,7 @@ pub fn swizzle(parts: &Parts, w: Want, pattern: [u32; 4]) -> Option<usize>
     }
     let mut digits: [usize; 4] = [UNASKED; 4];
     let mut k = 0;
-    // Stays: the entries end where one is missing; a `for` would need a count of them, which nothing else asks for, and a way out beside.
+    // Stays: no count of entries is known; `for k in 0.. { let Some(i) = entry(parts, w, k) else { break }; .. }` says the same in more words.
     while let Some(i) = entry(parts, w, k) {
         if 4 <= i {
             return None;

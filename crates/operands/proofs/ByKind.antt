@@ -36,7 +36,7 @@ use Rattle.operands.specs.Lists.{same_of, whole_of, both_same, both_whole, selec
 use Rattle.operands.specs.Arms.{asks_of, OperandsGiven, ArmGiven, AsksOperands}
 
 -- what the code is given, as a row and a list of asks
-pub arm_given : {bytes t : List ℕ} {f : ℕ} {types alike paths s rs : List ℕ} {n e : ℕ} {row : Kinded} → OperandsGiven bytes t f types alike paths s rs n e → row ≡ expression_row bytes t f e →
+pub arm_given : {bytes t : List ℕ} {f : ℕ} {types alike : List ℕ} {paths : List Bool} {s rs : List ℕ} {n e : ℕ} {row : Kinded} → OperandsGiven bytes t f types alike paths s rs n e → row ≡ expression_row bytes t f e →
     ArmGiven bytes t f types alike paths e row s rs n
 arm_given {bytes} {t} {f} {s = s} {rs = rs} {n = n} {e = e} g h =
     let S = scope_at bytes t f in
@@ -92,7 +92,7 @@ last_other k e d h =
           ]
     ]
 
-module _ {bytes t : List ℕ} {f : ℕ} {types alike paths : List ℕ} {e : ℕ} {row : Kinded} {s rs : List ℕ} {n : ℕ} (g : ArmGiven bytes t f types alike paths e row s rs n) where
+module _ {bytes t : List ℕ} {f : ℕ} {types alike : List ℕ} {paths : List Bool} {e : ℕ} {row : Kinded} {s rs : List ℕ} {n : ℕ} (g : ArmGiven bytes t f types alike paths e row s rs n) where
   abbrev S : Scope
   S = scope_at bytes t f
 

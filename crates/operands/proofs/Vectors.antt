@@ -43,7 +43,7 @@ low_numeric (suc zero) l = refl
 low_numeric (suc (suc k)) l = absurd (omega arith)
 
 -- by part
-module _ {bytes t : List ℕ} {f : ℕ} {types alike paths : List ℕ} {e : ℕ} {row : Kinded} (R : Row bytes t f types alike paths e row) (h : row.kind ≡ 17) where
+module _ {bytes t : List ℕ} {f : ℕ} {types alike : List ℕ} {paths : List Bool} {e : ℕ} {row : Kinded} (R : Row bytes t f types alike paths e row) (h : row.kind ≡ 17) where
   abbrev S : Scope
   S = scope_at bytes t f
 

@@ -12,13 +12,14 @@ use Rattle.hold.specs.Hold.{in_slot, Live}
 use Rattle.standing.specs.World.{World}
 use Rattle.operands.specs.AsksAll.{wanted_in, ListGiven, AsksAll}
 use Rattle.judge.specs.declared.subject.Subject.{Subject}
+use Rattle.judge.specs.declared.expression.SubjectExpression.{SubjectExpression}
 
 -- what the need a of the expression e asks
 abbrev pub asks_of : Scope → ℕ → PartReq → List Ask
 asks_of S e a = asks S (arm S e) a
 
 -- The last of n slots has the needs at hand, the one before it the part that is needed of the expression e.
-pub record OperandsGiven (bytes t : List ℕ) (f : ℕ) (types alike paths : List ℕ) (s rs : List ℕ) (n e : ℕ) : Type 0 where
+pub record OperandsGiven (bytes t : List ℕ) (f : ℕ) (types alike : List ℕ) (paths : List Bool) (s rs : List ℕ) (n e : ℕ) : Type 0 where
   pub world : World bytes t f types alike paths
   pub there : e < length (function_of bytes t f).expressions
   pub gives : gives (arm (scope_at bytes t f) e) ≡ true
@@ -32,13 +33,13 @@ abbrev pub OperandsGivenOf : Subject → List ℕ → List ℕ → ℕ → ℕ �
 OperandsGivenOf j s rs n e = OperandsGiven j.file.now.bytes j.file.now.t j.f.0 j.types.now j.alike.now j.paths.now s rs n e
 
 -- the same, with the expression's row
-pub record ArmGiven (bytes t : List ℕ) (f : ℕ) (types alike paths : List ℕ) (e : ℕ) (row : Kinded) (s rs : List ℕ) (n : ℕ) : Type 0 where
+pub record ArmGiven (bytes t : List ℕ) (f : ℕ) (types alike : List ℕ) (paths : List Bool) (e : ℕ) (row : Kinded) (s rs : List ℕ) (n : ℕ) : Type 0 where
   pub expression : Row bytes t f types alike paths e row
   pub gives : gives (arm (scope_at bytes t f) e) ≡ true
   pub asks : ListGiven (scope_at bytes t f) (asks_of (scope_at bytes t f) e (wanted_in s rs n)) s rs n
 
-abbrev pub ArmGivenOf : Subject → ℕ → Kinded → List ℕ → List ℕ → ℕ → Type 0
-ArmGivenOf j e row s rs n = ArmGiven j.file.now.bytes j.file.now.t j.f.0 j.types.now j.alike.now j.paths.now e row s rs n
+abbrev pub ArmGivenOf : SubjectExpression → List ℕ → List ℕ → ℕ → Type 0
+ArmGivenOf x s rs n = ArmGiven x.subject.now.file.now.bytes x.subject.now.file.now.t x.subject.now.f.0 x.subject.now.types.now x.subject.now.alike.now x.subject.now.paths.now x.e.0 x.row s rs n
 
 -- all of it was asked
 abbrev pub AsksOperands : List ℕ → List ℕ → (f e : ℕ) → (s rs : List ℕ) → ℕ → (u us : List ℕ) → Bool → Type 0

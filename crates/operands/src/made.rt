@@ -1,5 +1,5 @@
 // What is made of parts: a vector of letters, or of components. Each part of the result is asked of what it was made of, the last first.
-ghost use Rattle.std.specs.Prelude.{◌+◌, ◌<◌, ◌≤◌, map};
+ghost use Rattle.std.specs.Prelude.{◌<◌, ◌≤◌, map};
 ghost use Rattle.part.specs.Store.{top, Good};
 ghost use Rattle.access.specs.Access.{operand_at};
 ghost use Rattle.clearance.specs.Needs.{ask_whole, ask_picked, ask_components};

@@ -6,30 +6,30 @@ ghost use Rattle.context.specs.Types.{types_of};
 ghost use Rattle.clearance.specs.Scope.{inner_of, is_vector, any_vector, by_part};
 ghost use Rattle.judge.specs.Given.{scope_at};
 ghost use Rattle.operands.specs.Lists.{components};
-ghost use Rattle.judge.specs.Subject.{RowOf, scope_of};
+ghost use Rattle.judge.specs.Subject.{scope_of};
 
 use access::file::File;
 use access::kinded::Kinded;
+use judge::expression::SubjectExpression;
 use judge::rows::kind_at;
 use judge::shapes::is_alike;
-use judge::subject::Subject;
 use judge::values::type_of;
 use module::handles::{ExpressionHandle, FunctionHandle};
 use module::kinds::TypeKind;
 
 // Whether a binary operator is by part: both operands have the result's type, a scalar or a vector.
-pub fn by_part(subject: &Subject, row: Kinded, e: ExpressionHandle) -> bool
-    requires row { RowOf subject.now e.0 row }
-    requires kind_value { row.kind ≡ 17 }
-    ensures { result ≡ by_part (scope_of subject.now) e.0 (operand_at subject.now.file.now.bytes row 0) (operand_at subject.now.file.now.bytes row 1) }
+pub fn by_part(expression: &SubjectExpression) -> bool
+    requires kind_value { expression.now.row.kind ≡ 17 }
+    ensures { result ≡ by_part (scope_of expression.now.subject.now) expression.now.e.0 (operand_at expression.now.subject.now.file.now.bytes expression.now.row 0) (operand_at expression.now.subject.now.file.now.bytes expression.now.row 1) }
 {
-    let own = type_of(subject.file, subject.f, e);
+    let subject = expression.subject;
+    let own = type_of(subject.file, subject.f, expression.e);
     match kind_at(subject.types, own) {
         TypeKind::Scalar | TypeKind::Vector => {}
         _ => return false,
     }
-    let x = subject.file.expression_operand(row, 0);
-    let y = subject.file.expression_operand(row, 1);
+    let x = subject.file.expression_operand(expression.row, 0);
+    let y = subject.file.expression_operand(expression.row, 1);
     let first = is_alike(subject.alike, type_of(subject.file, subject.f, x), own);
     let second = is_alike(subject.alike, type_of(subject.file, subject.f, y), own);
     first && second

@@ -3,9 +3,11 @@ use Prim.Native.Nat.{ℕ, zero, suc, ◌+◌, ◌<◌, ◌≤◌}
 use native.Mathlib.Omega.{arith}
 use mathlib.Core.Path.{◌≡◌, refl, sym, ap, ◌∙◌}
 use mathlib.Core.Bool.{Bool, true, false, not, ◌&&◌}
+use mathlib.Core.Logic.{◌⊎◌, inl, inr}
 use mathlib.Core.List.{List}
 use lib.Dec.{eqb}
 use Rattle.part.specs.PartReq.{none, more, contains, add, entries, is_exist}
+use Rattle.part.specs.declared.store.Cell.{Cell}
 use Rattle.part.specs.Store.{top, part, Good, Room, Made, Seen}
 use Rattle.part.proofs.Equations.{all_contains, exist-contains, none-contains, contains-none, contains-lt, contains_gt, contains-eq, all_add, exist-add, none-add, add_none, add-lt, add_gt, add-eq}
 use Rattle.part.proofs.Sum.{add-contained}
@@ -27,9 +29,9 @@ and-true : (b : Bool) → b && true ≡ b
 and-true true = refl
 and-true false = refl
 
-module _ {s : List ℕ} {m i p n : ℕ} (g : Passing s m i p n) where
-  pub passed_end : n ≤ 2 → eqb n 0 ≡ contains (part s m) (more i (part s p) none)
-  passed_end h = sym (go n h) ∙ g.is
+module _ {s : List ℕ} {m i p : ℕ} where
+  pub passed_end : (n : ℕ) → n ≤ 2 → Passing s m i p n → eqb n 0 ≡ contains (part s m) (more i (part s p) none)
+  passed_end n h g = sym (go n h) ∙ g.is
     where
       go : (k : ℕ) → k ≤ 2 → contains (part s k) (more i (part s p) none) ≡ eqb k 0
       go zero h = rw part-0 (all_contains _)
@@ -37,25 +39,27 @@ module _ {s : List ℕ} {m i p n : ℕ} (g : Passing s m i p n) where
       go (suc (suc zero)) h = rw part-2 (none-contains _ _ _)
       go (suc (suc (suc k))) h = absurd (omega arith)
 
-  module _ {j c r : ℕ} (x : Seen s n j c r) where
-    pub passed_before : i < j → false ≡ contains (part s m) (more i (part s p) none)
-    passed_before h = sym (rw x.is (contains_gt j i _ _ _ _ h)) ∙ g.is
+  -- an entry below i is passed over
+  pub passed_after : (n : ℕ) (x : Cell) → Seen s n x.index x.child x.rest → x.index < i → Passing s m i p n → Passing s m i p x.rest
+  passed_after n x seen l g =
+      record { inside = omega (arith, g.inside, seen.rest_low); is = sym (ap (λ q. contains q (more i (part s p) none)) seen.is ∙ contains-lt x.index i _ _ _ _ l) ∙ g.is }
 
-    at : i ≡ j → contains (part s n) (more i (part s p) none) ≡ contains (part s c) (part s p) && not (is_exist (part s r))
-    at e = rw (x.is, contains-eq j i _ _ _ _ (sym e), contains-none (part s r))
+  -- at the first entry that is not
+  module _ {x : Cell} (at : (n : ℕ) × Seen s n x.index x.child x.rest × Passing s m i p n × (i ≤ x.index)) where
+    pub passed_in : x.child < top s
+    passed_in = omega (arith, at.2.inside, at.1.child_low)
 
-    pub passed_bare : i ≡ j → r ≡ 1 → false ≡ contains (part s m) (more i (part s p) none)
-    passed_bare e z =
-        let bare : is_exist (part s r) ≡ true = rw (z, part-1) in
-        sym (at e ∙ ap (λ b. contains (part s c) (part s p) && not b) bare ∙ and_not (contains (part s c) (part s p))) ∙ g.is
+    gives : x.index ≡ i → contains (part s at.0) (more i (part s p) none) ≡ contains (part s x.child) (part s p) && not (is_exist (part s x.rest))
+    gives e = rw (at.1.is, contains-eq x.index i _ _ _ _ e, contains-none (part s x.rest))
 
-    pub passed_at : i ≡ j → (r ≡ 1 → ⊥) → {b : Bool} → b ≡ contains (part s c) (part s p) → b ≡ contains (part s m) (more i (part s p) none)
-    passed_at e ne h = h ∙ sym (at e ∙ rw (not_exist s r ne) (and-true _)) ∙ g.is
+    pub passed_bare : (i < x.index) ⊎ ((x.index ≤ i) × (x.rest ≡ 1)) → false ≡ contains (part s m) (more i (part s p) none)
+    passed_bare (inl h) = sym (rw at.1.is (contains_gt x.index i _ _ _ _ h)) ∙ at.2.is
+    passed_bare (inr h) =
+        let bare : is_exist (part s x.rest) ≡ true = rw (h.1, part-1) in
+        sym (gives (omega (arith, at.3, h.0)) ∙ ap (λ b. contains (part s x.child) (part s p) && not b) bare ∙ and_not _) ∙ at.2.is
 
-    pub passed_after : j ≤ i → (i ≡ j → ⊥) → Passing s m i p r
-    passed_after h ne =
-        let l : j < i = omega arith in
-        record { inside = omega (arith, g.inside, x.rest_low); is = sym (ap (λ q. contains q (more i (part s p) none)) x.is ∙ contains-lt j i _ _ _ _ l) ∙ g.is }
+    pub passed_at : x.index ≤ i → (x.rest ≡ 1 → ⊥) → {b : Bool} → b ≡ contains (part s x.child) (part s p) → b ≡ contains (part s m) (more i (part s p) none)
+    passed_at h ne e = e ∙ sym (gives (omega (arith, at.3, h)) ∙ rw (not_exist s x.rest ne) (and-true _)) ∙ at.2.is
 
 -- the sum
 abbrev EntryAsked : List ℕ → (m p : ℕ) → Type 0

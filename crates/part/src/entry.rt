@@ -3,6 +3,7 @@ ghost use Rattle.std.specs.Prelude.{◌≡◌, ◌+◌, ◌<◌};
 ghost use Rattle.part.specs.PartReq.{none, more, contains, add, entries};
 ghost use Rattle.part.specs.Store.{top, part, Good, Room, Made};
 
+use crate::list::Entries;
 use crate::req::{contains, join};
 use crate::store::{ALL_PIECE, EMPTY_PIECE, EXIST_PIECE, look, make, remake};
 
@@ -12,22 +13,14 @@ pub fn contains_entry(cells: &[u32], m: u32, i: u32, p: u32) -> bool
     requires m_bound { (m < top cells.now) × (p < top cells.now) }
     ensures { result ≡ contains (part cells.now m) (more i (part cells.now p) none) }
 {
-    let mut n = m;
-    // Stays: the list goes by the numbers in its cells, and the piece at its end is what answers; an iterator would not give that.
-    while EMPTY_PIECE < n {
-        let x = look(cells, n);
-        if i < x.index {
-            return false;
-        }
-        if i == x.index {
-            if x.rest == EXIST_PIECE {
-                return false;
-            }
-            return contains(cells, x.child, p);
-        }
-        n = x.rest;
+    let mut list = Entries::new(cells, m);
+    let Some(x) = list.find(|x| i <= x.index) else {
+        return list.rest == ALL_PIECE;
+    };
+    if i < x.index || x.rest == EXIST_PIECE {
+        return false;
     }
-    n == ALL_PIECE
+    contains(cells, x.child, p)
 }
 
 // The sum of m and {i: p}.

@@ -1,12 +1,17 @@
 // The marks of a store, in the word that links its chains else: what some roots reach is marked, 2 where it is held as a part, and 1 where
 // it is only walked.
-// Stays: marks are numbers, since they stand in words of the lent store.
 ghost use Rattle.std.specs.Prelude.{◌<◌, length};
 ghost use Rattle.part.specs.Store.{top, Formed, Below};
 ghost use Rattle.part.specs.Collect.{Cleared, Rooted, Marking};
 ghost use Rattle.part.specs.Exact.{Raised, Mapped, Walked};
 
 use crate::store::{FIRST_CELL, peek, set_word, word};
+
+// The marks, 0 where there is none.
+// Stays: numbers in a word of the store; an enum would be turned into the word and back at each read, and `raise` goes by their order.
+pub(crate) const WALKED: u32 = 1;
+
+pub(crate) const HELD: u32 = 2;
 
 // Takes all marks away.
 pub(crate) fn clear(cells: &mut [u32])
@@ -39,7 +44,7 @@ pub(crate) fn mark_roots(cells: &mut [u32], roots: &[u32])
     ensures mapped { Mapped cells.old roots.now cells.new (length roots.now) }
 {
     for n in roots {
-        raise(cells, *n, 1);
+        raise(cells, *n, WALKED);
     }
 }
 
@@ -54,8 +59,8 @@ pub(crate) fn mark_down(cells: &mut [u32])
     for n in (FIRST_CELL..end).rev() {
         if 0 < word(cells, n, 6) {
             let x = peek(cells, n);
-            raise(cells, x.child, 2);
-            raise(cells, x.rest, 1);
+            raise(cells, x.child, HELD);
+            raise(cells, x.rest, WALKED);
         }
     }
 }

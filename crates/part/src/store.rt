@@ -1,7 +1,8 @@
 // A store of pieces: immutable cells in a lent slice, seven words to a cell: its index, the number of its child, that of its rest,
 // its entries, its depth, twice its width (and 1 more where it passes a limit), and a mark that only `collect` uses.
 // The number 0 is all, 1 is exist, 2 is the empty part, and n from 3 on is the cell at 7n. The slice's first word is the next free number.
-// Stays: cells by number in a lent slice, since memory is fixed and there is no heap.
+// Stays: one slice of words, of any length (part_run's, a walk's): rows and tables as arrays of their own would give each function their const lengths.
+// Stays: a piece is a number, since words hold it: with a type of its own each law on `part s n` would carry a projection.
 ghost use Rattle.std.specs.Prelude.{◌≡◌, ◌+◌, ◌*◌, ◌≤◌, ◌<◌, min, length, set};
 ghost use Rattle.part.specs.PartReq.{more, entries, depth, width, over};
 ghost use Rattle.part.specs.StoreLimits.{cell_words, store_words, entries_cap, buckets, table_words};
@@ -248,7 +249,7 @@ pub(crate) fn find(cells: &[u32], index: u32, child: u32, rest: u32) -> Option<u
     let h = hash(index, child, rest);
     let at = cells.len() - TABLE_WORDS + h;
     let mut n = cells[at];
-    // Stays: a chain goes by the numbers in its cells, and nothing says how long it is.
+    // Stays: a chain goes by the number in its cells' last word; an iterator with a contract by `Linked` would serve this one loop.
     while EMPTY_PIECE < n {
         let x = look(cells, n);
         if x == (Cell { index, child, rest }) {

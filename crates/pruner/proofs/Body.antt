@@ -29,6 +29,8 @@ use Rattle.sound.proofs.Walks.{module_valid}
 use Rattle.memory.specs.Layout.{globals_slot}
 use Rattle.memory.specs.Memory.{read, Memory}
 use Rattle.memory.proofs.Slots.{read-long, slot_low, set-memory, set-read}
+use Rattle.marks.specs.declared.places.MarkPlaces.{MarkPlaces}
+use Rattle.marks.specs.declared.totals.MarkTotals.{MarkTotals}
 use Rattle.state.specs.Ready.{WasRead}
 use Rattle.pruner.specs.Form.{pruner_pieces, only, read_totals, read_body, answered}
 use Rattle.pruner.specs.Stored.{pruner_in, HasTotals}
@@ -69,12 +71,11 @@ module _ (bytes t : List ℕ) (w : WasRead bytes t) {n : ℕ} (is-n : n ≡ leng
   unfolding read_body
   body_is fs = rw is-n refl
 
-  module _ (rs totals : List ℕ) {s b v : List ℕ} {a : Maybe (ℕ × ℕ)} (first : PieceWasRead s v b 6 0 (list (from b 6)) a) where
+  module _ (rs : List ℕ) (totals : MarkTotals) {s b v : List ℕ} {a : Maybe (ℕ × ℕ)} (first : PieceWasRead s v b 6 0 (list (from b 6)) a) where
     pub body_no_globals : a ≡ None → BodyWasRead bytes t s rs totals b v rs totals false
     body_no_globals e = record {
       kept = first.kept;
       long = refl;
-      marks_long = refl;
       by = many_refused (read_body m (from b 6)) (rw (body_is (from b 6), no_piece first e) tt);
     }
 
@@ -92,7 +93,6 @@ module _ (bytes t : List ℕ) (w : WasRead bytes t) {n : ℕ} (is-n : n ≡ leng
             record {
               kept = first.kept;
               long = refl;
-              marks_long = refl;
               by = many_refused (read_body m (from b 6)) (rw after_globals (many_globals g (read_totals m 0 (length (module_of bytes t).functions) (from b next)) more-than));
             }
 
@@ -114,12 +114,11 @@ module _ (bytes t : List ℕ) (w : WasRead bytes t) {n : ℕ} (is-n : n ≡ leng
               let inside : globals_slot < length (read s rs) = omega (arith, read-long s rs, there) in
               ap (λ (ps : List PartReq). get_or ps globals_slot none) reads ∙ get_or-set_same (read s rs) globals_slot g none inside
 
-          pub body_has : {places : List ℕ} → HasTotals bytes t places s rs totals → HasTotals bytes t places v (set rs globals_slot p) totals
+          pub body_has : {places : MarkPlaces} → HasTotals bytes t places s rs totals → HasTotals bytes t places v (set rs globals_slot p) totals
           body_has h = record {
             was_read = w;
             placed = h.placed;
             memory = set-memory mem first.kept (piece_placed first e).0 (omega arith) there (λ x y. absurd (omega arith));
-            totals_long = h.totals_long;
           }
 
           pub body_none : NoTotals bytes t s rs totals → NoTotals bytes t v (set rs globals_slot p) totals
@@ -128,7 +127,7 @@ module _ (bytes t : List ℕ) (w : WasRead bytes t) {n : ℕ} (is-n : n ≡ leng
           pub body_room : RoomBeside s b 6 (max_items + max_functions) → (next ≤ length b) × RoomBeside v b next (max_items + max_functions)
           body_room room = let q = (piece_placed first e).1 in (q.inside, omega (arith, q, first.kept.long))
 
-          module _ {u us after : List ℕ} {c : Next} (second : FunctionsWereRead bytes t v (set rs globals_slot p) totals b next count u us after c) where
+          module _ {u us : List ℕ} {after : MarkTotals} {c : Next} (second : FunctionsWereRead bytes t v (set rs globals_slot p) totals b next count u us after c) where
             kept_now : Kept s u
             kept_now = kept_on first.kept second.kept
 
@@ -142,7 +141,6 @@ module _ (bytes t : List ℕ) (w : WasRead bytes t) {n : ℕ} (is-n : n ≡ leng
                 record {
                   kept = kept_now;
                   long = long_now;
-                  marks_long = second.marks_long;
                   by = many_refused (read_body m (from b 6)) (rw after_globals (many_functions g count (read_totals m 0 (length (module_of bytes t).functions) (from b next)) exact many));
                 }
 
@@ -174,7 +172,6 @@ module _ (bytes t : List ℕ) (w : WasRead bytes t) {n : ℕ} (is-n : n ≡ leng
               ends_by true x = record {
                 kept = kept_now;
                 long = long_now;
-                marks_long = second.marks_long;
                 by = record {
                   is = nothing_left (ended b end x refl);
                   memory = F.memory;
@@ -183,7 +180,7 @@ module _ (bytes t : List ℕ) (w : WasRead bytes t) {n : ℕ} (is-n : n ≡ leng
                   unwalked = F.unwalked;
                 };
               }
-              ends_by false x = record { kept = kept_now; long = long_now; marks_long = second.marks_long; by = left_over (goes_on b end x refl) }
+              ends_by false x = record { kept = kept_now; long = long_now; by = left_over (goes_on b end x refl) }
 
               pub body_ends : {r : Bool} → r ≡ ltb (length b) (end + 2) → BodyWasRead bytes t s rs totals b u us after r
               body_ends {r} x = ends_by r x

@@ -18,6 +18,7 @@ use Rattle.request.proofs.Bytes.{from_cons, from_end}
 use Rattle.request.proofs.Entries.{kept_same}
 use Rattle.walk.specs.State.{FunctionReq, function_pieces}
 use Rattle.memory.specs.Memory.{read, Memory}
+use Rattle.marks.specs.declared.totals.MarkTotals.{MarkTotals}
 use Rattle.marks.specs.Report.{has_total}
 use Rattle.marks.proofs.Sums.{total_there, total_missing}
 use Rattle.block.specs.Standing.{total_of, total_in}
@@ -27,15 +28,15 @@ use Rattle.pruner.specs.Reading.{Next, RoomBeside, TooMany, kept_pieces, KeptBy,
 use Rattle.std.specs.Prelude.{Some, None}
 
 -- what a total counts for
-pub no_total : (m : Module) (t : List ℕ) (ps : List PartReq) (totals : List ℕ) (f : FunctionHandle) → has_total totals f ≡ false → total_in m t ps totals f ≡ nothing
+pub no_total : (m : Module) (t : List ℕ) (ps : List PartReq) (totals : MarkTotals) (f : FunctionHandle) → has_total totals f ≡ false → total_in m t ps totals f ≡ nothing
 unfolding total_in total_of
 no_total m t ps totals f e = rw (total_missing m totals f e) refl
 
-pub flagged_count : (m : Module) (t : List ℕ) (ps : List PartReq) (totals : List ℕ) (f : FunctionHandle) → has_total totals f ≡ true → function_pieces (total_in m t ps totals f) ≡ total_count t f ps
+pub flagged_count : (m : Module) (t : List ℕ) (ps : List PartReq) (totals : MarkTotals) (f : FunctionHandle) → has_total totals f ≡ true → function_pieces (total_in m t ps totals f) ≡ total_count t f ps
 unfolding total_in total_of function_pieces
 flagged_count m t ps totals f e = rw (total_there m totals f e) refl
 
-pub missing_count : (m : Module) (t : List ℕ) (ps : List PartReq) (totals : List ℕ) (f : FunctionHandle) → has_total totals f ≡ false → function_pieces (total_in m t ps totals f) ≡ 0
+pub missing_count : (m : Module) (t : List ℕ) (ps : List PartReq) (totals : MarkTotals) (f : FunctionHandle) → has_total totals f ≡ false → function_pieces (total_in m t ps totals f) ≡ 0
 unfolding function_pieces
 missing_count m t ps totals f e = rw (no_total m t ps totals f e) refl
 
@@ -44,12 +45,12 @@ unfolding function_pieces
 many_some sum malformed h = tt
 many_some sum (got total gs) h = h
 
-module _ (bytes t s rs totals b : List ℕ) (at : ℕ) (f : FunctionHandle) (sum : ℕ) where
+module _ (bytes t s rs : List ℕ) (totals : MarkTotals) (b : List ℕ) (at : ℕ) (f : FunctionHandle) (sum : ℕ) where
   abbrev m : Module
   m = module_of bytes t
 
   refuse : Memory s rs → read_total m f (from b at) ≡ malformed → TotalWasRead bytes t s rs totals b at f sum s rs totals None
-  refuse mem e = record { kept = kept_same mem.good; long = refl; marks_long = refl; by = rw e tt }
+  refuse mem e = record { kept = kept_same mem.good; long = refl; by = rw e tt }
 
   pub total_ends : Memory s rs → length b < at + 2 → TotalWasRead bytes t s rs totals b at f sum s rs totals None
   unfolding read_total
@@ -68,7 +69,6 @@ module _ (bytes t s rs totals b : List ℕ) (at : ℕ) (f : FunctionHandle) (sum
     total_none mem flag few e = record {
       kept = kept_same mem.good;
       long = refl;
-      marks_long = refl;
       by = record {
         is = none_read e ∙ rw (no_total m t (read s rs) totals f flag) refl;
         sums = omega (arith, missing_count m t (read s rs) totals f flag);
@@ -90,7 +90,7 @@ module _ (bytes t s rs totals b : List ℕ) (at : ℕ) (f : FunctionHandle) (sum
     pub kept_room : RoomBeside s b at (1 + (row_at t f).expressions) → RoomBeside s b (at + 2) (1 + (row_at t f).expressions)
     kept_room room = omega arith
 
-    by_kept : (u us after : List ℕ) (r : Next) → x ≡ 1 → KeptBy bytes t s rs totals b (at + 2) f sum u us after r → TotalBy bytes t s rs totals b at f sum u us after r
+    by_kept : (u us : List ℕ) (after : MarkTotals) (r : Next) → x ≡ 1 → KeptBy bytes t s rs totals b (at + 2) f sum u us after r → TotalBy bytes t s rs totals b at f sum u us after r
     by_kept u us after None e k = rw (one_read e) (many_some sum (read_kept m f (from b (at + 2))) k)
     by_kept u us after (Some (next, n)) e k = record {
       is = one_read e ∙ k.is;
@@ -103,5 +103,5 @@ module _ (bytes t s rs totals b : List ℕ) (at : ℕ) (f : FunctionHandle) (sum
       others = k.others;
     }
 
-    pub total_kept : {u us after : List ℕ} {r : Next} → x ≡ 1 → KeptWasRead bytes t s rs totals b (at + 2) f sum u us after r → TotalWasRead bytes t s rs totals b at f sum u us after r
-    total_kept {u} {us} {after} {r} e k = record { kept = k.kept; long = k.long; marks_long = k.marks_long; by = by_kept u us after r e k.by }
+    pub total_kept : {u us : List ℕ} {after : MarkTotals} {r : Next} → x ≡ 1 → KeptWasRead bytes t s rs totals b (at + 2) f sum u us after r → TotalWasRead bytes t s rs totals b at f sum u us after r
+    total_kept {u} {us} {after} {r} e k = record { kept = k.kept; long = k.long; by = by_kept u us after r e k.by }

@@ -5,7 +5,7 @@ use mathlib.Core.Path.{◌≡◌, refl, ap, sym, subst, ◌∙◌}
 use mathlib.Core.Bool.{Bool, true, false}
 use mathlib.Core.List.{List, [], ◌∷◌}
 use mathlib.Core.Option.{Option, some, none as nothing}
-use lib.ListN.{length, set, take, drop, length-set, length-drop}
+use lib.ListN.{length, set}
 use Rattle.field.specs.Limits.{max_pieces, min_report}
 use Rattle.module.specs.Module.{FunctionHandle, Function, Module}
 use Rattle.module.specs.Tables.{row_at, expressions_from, function_of, module_of}
@@ -23,8 +23,10 @@ use Rattle.sound.proofs.Walks.{module_valid}
 use Rattle.memory.specs.Layout.{totals_slot, functions_slot}
 use Rattle.memory.specs.Memory.{read, context_at, Memory}
 use Rattle.memory.proofs.Runs.{context_same}
+use Rattle.marks.specs.declared.places.MarkPlaces.{MarkPlaces}
+use Rattle.marks.specs.declared.totals.MarkTotals.{MarkTotals}
 use Rattle.marks.specs.Places.{slice, start_in, size_in, Inside}
-use Rattle.marks.specs.Report.{totals_at, Sized, has_total}
+use Rattle.marks.specs.Report.{has_total, MarksKept}
 use Rattle.marks.specs.Report as report
 use Rattle.marks.proofs.Placed.{few, at_function}
 use Rattle.marks.proofs.Buffers.{inside, size_is}
@@ -38,12 +40,6 @@ use Rattle.pruner.specs.Form.{only, read_marks, read_records, known_in, read_kep
 use Rattle.pruner.specs.Stored.{HasTotals}
 use Rattle.pruner.specs.Reading.{Next, RoomBeside, MarksAre, MarksWereRead, TooMany, RecordsBy, RecordsWereRead, ContextIs, ContextBy, ContextWasStored, kept_pieces, KeptBy, KeptWasRead}
 use Rattle.std.specs.Prelude.{Some, None}
-
-drop-drop : (n m : ℕ) (xs : List ℕ) → drop m (drop n xs) ≡ drop (n + m) xs
-drop-drop zero m xs = let z : 0 + m ≡ m = omega arith in rw z refl
-drop-drop (suc n) zero [] = let z : suc n + 0 ≡ suc n = omega arith in rw z refl
-drop-drop (suc n) (suc m) [] = let z : suc n + suc m ≡ suc (n + suc m) = omega arith in rw z refl
-drop-drop (suc n) m (x ∷ xs) = let z : suc n + m ≡ suc (n + m) = omega arith in rw z (drop-drop n m xs)
 
 -- what counts for too much with more after it
 module _ (marks : List ℕ) (sum : ℕ) where
@@ -62,7 +58,7 @@ module _ (marks : List ℕ) (sum : ℕ) where
   many_last c count malformed e h = tt
   many_last c count (got es ks) e h = omega arith
 
-module _ {bytes t places s rs totals : List ℕ} (h : HasTotals bytes t places s rs totals) (f : FunctionHandle) (there : f < length (module_of bytes t).functions) where
+module _ {bytes t : List ℕ} {places : MarkPlaces} {s rs : List ℕ} {totals : MarkTotals} (h : HasTotals bytes t places s rs totals) (f : FunctionHandle) (there : f < length (module_of bytes t).functions) where
   abbrev m : Module
   m = module_of bytes t
 
@@ -102,8 +98,8 @@ module _ {bytes t places s rs totals : List ℕ} (h : HasTotals bytes t places s
     pub ascending : from' ≤ to
     ascending = omega (arith, lies.ascends)
 
-    pub behind_flags : totals_at + from' + (to - from') ≤ length (set totals f 1)
-    behind_flags = omega (arith, lies.ascends, lies.within, h.totals_long, length-set totals f 1)
+    pub marks_there : from' + (to - from') ≤ length totals.marks
+    marks_there = let l = totals.marks_long in omega (arith, lies.ascends, lies.within)
 
     pub few_marks : from' + (to - from') ≤ min_report
     few_marks = omega (arith, lies.ascends, lies.within)
@@ -111,27 +107,24 @@ module _ {bytes t places s rs totals : List ℕ} (h : HasTotals bytes t places s
     size : to - from' ≡ stretch m f
     size = let e = size_is bytes t places h.was_read h.placed f there in omega arith
 
-    module _ (sum : ℕ) {b : List ℕ} {at : ℕ} {after : List ℕ} {r : Bool} (marks : MarksWereRead b (set totals f 1) at (totals_at + from') (to - from') after r) where
-      after-long : length after ≡ length totals
-      after-long = marks.long ∙ length-set totals f 1
-
-      pub kept_no_marks : Memory s rs → r ≡ false → KeptWasRead bytes t s rs totals b at f sum s rs after None
+    module _ (sum : ℕ) {b : List ℕ} {at : ℕ} {ys : List ℕ} {r : Bool} (marks : MarksWereRead b totals.marks at from' (to - from') ys r) where
+      pub kept_no_marks : {after : MarkTotals} → Memory s rs → r ≡ false → KeptWasRead bytes t s rs totals b at f sum s rs after None
       kept_no_marks mem e =
-          let none-such : read_marks (stretch m f) (from b at) ≡ malformed = rw (← size) (subst (MarksAre b (set totals f 1) after at (totals_at + from') (to - from')) e marks.are) in
-          record { kept = kept_same mem.good; long = refl; marks_long = after-long; by = rw (no_such none-such) tt }
+          let none-such : read_marks (stretch m f) (from b at) ≡ malformed = rw (← size) (subst (MarksAre b totals.marks ys at from' (to - from')) e marks.are) in
+          record { kept = kept_same mem.good; long = refl; by = rw (no_such none-such) tt }
         where
           no_such : read_marks (stretch m f) (from b at) ≡ malformed → read_kept m f (from b at) ≡ malformed
           no_such z = unfold read_kept in rw z refl
 
       module _ (e : r ≡ true) where
         abbrev own-marks : List ℕ
-        own-marks = slice after (totals_at + from') (to - from')
+        own-marks = slice ys from' (to - from')
 
         abbrev lists : ℕ
         lists = at + 2 * (to - from')
 
-        are : (read_marks (to - from') (from b at) ≡ got own-marks (from b lists)) × (lists ≤ length b) × (after ≡ write_marks (set totals f 1) (totals_at + from') own-marks)
-        are = subst (MarksAre b (set totals f 1) after at (totals_at + from') (to - from')) e marks.are
+        are : (read_marks (to - from') (from b at) ≡ got own-marks (from b lists)) × (lists ≤ length b) × (ys ≡ write_marks totals.marks from' own-marks)
+        are = subst (MarksAre b totals.marks ys at from' (to - from')) e marks.are
 
         abbrev after_marks : Read FunctionReq
         after_marks =
@@ -143,28 +136,10 @@ module _ {bytes t places s rs totals : List ℕ} (h : HasTotals bytes t places s
         after-marks = let read_them : read_marks (stretch m f) (from b at) ≡ got own-marks (from b lists) = rw (← size) are.0 in rw read_them refl
 
         -- the marks in the buffer of totals
-        marks_is : own-marks ≡ slice (drop totals_at after) (start_in places f) (size_in places f)
+        marks_is : own-marks ≡ slice ys (start_in places f) (size_in places f)
         marks_is =
             let one : to - from' ≡ size_in places f = omega arith in
-            rw (one, a) (ap (take (size_in places f)) (sym (drop-drop totals_at (start_in places f) after)))
-
-        sized : Sized (drop totals_at after) totals
-        sized = record { marks_long = omega (arith, length-drop totals_at after, after-long, h.totals_long); totals_long = h.totals_long }
-
-        after_is : after ≡ write_marks (set totals f 1) (totals_at + start_in places f) (slice (drop totals_at after) (start_in places f) (size_in places f))
-        after_is = are.2 ∙ rw (marks_is, a) refl
-
-        own_total : report.total_in m after f ≡ some own-marks
-        own_total =
-            ap (λ (ys : List ℕ). report.total_in m ys f) after_is ∙ kept-own bytes t places h.was_read h.placed totals (drop totals_at after) f there sized
-            ∙ ap some
-            (let start = h.placed.starts f (omega arith) in
-            let width = size_is bytes t places h.was_read h.placed f there in
-            rw (← start, ← width) (sym marks_is))
-
-        other_total : (g : ℕ) → g < length (module_of bytes t).functions → (g ≡ f → ⊥) → report.total_in m after g ≡ report.total_in m totals g
-        other_total g l ne =
-            ap (λ (ys : List ℕ). report.total_in m ys g) after_is ∙ kept-other bytes t places h.was_read h.placed totals (drop totals_at after) f there sized g l ne
+            rw (one, a)
 
         pub lists-inside : lists ≤ length b
         lists-inside = are.1
@@ -177,13 +152,12 @@ module _ {bytes t places s rs totals : List ℕ} (h : HasTotals bytes t places s
           abbrev wanted : Read RequiredContext
           wanted = only (known_context g x l) (read_context_body (from b lists))
 
-          pub kept_no_context : q ≡ None → KeptWasRead bytes t s rs totals b at f sum v vs after None
+          pub kept_no_context : {after : MarkTotals} → q ≡ None → KeptWasRead bytes t s rs totals b at f sum v vs after None
           kept_no_context z =
               let many : TooMany pieces sum wanted = subst (ContextBy s rs b lists (functions_slot + 4 * f) sum wanted v vs) z context.by in
               record {
                 kept = context.kept;
                 long = context.long;
-                marks_long = after-long;
                 by = rw (after-marks, ← known_same gs xs ls (from b lists)) (many_context own-marks sum (length (function_at m f).expressions) wanted many);
               }
 
@@ -210,7 +184,24 @@ module _ {bytes t places s rs totals : List ℕ} (h : HasTotals bytes t places s
               pub base_inside : totals_slot + p.from + p.n ≤ functions_slot
               base_inside = omega (arith, fits f h.was_read there, own.from, own.n)
 
-              module _ (u us : List ℕ) where
+              module _ (u us : List ℕ) (after : MarkTotals) (flags : after.flags ≡ set totals.flags f true) (are_ys : after.marks ≡ ys) where
+                is_kept : MarksKept places ys totals f after
+                is_kept = record { flags_are = flags; marks_are = are_ys ∙ are.2 ∙ rw (marks_is, a) refl }
+
+                there_long : min_report ≤ length ys
+                there_long = let l = totals.marks_long in omega (arith, marks.long)
+
+                own_total : report.total_in m after f ≡ some own-marks
+                own_total =
+                    kept-own bytes t places h.was_read h.placed totals after ys f there there_long is_kept
+                    ∙ ap some
+                    (let start = h.placed.starts f (omega arith) in
+                    let width = size_is bytes t places h.was_read h.placed f there in
+                    rw (← start, ← width) (sym marks_is))
+
+                other_total : (g : ℕ) → g < length (module_of bytes t).functions → (g ≡ f → ⊥) → report.total_in m after g ≡ report.total_in m totals g
+                other_total g l ne = kept-other bytes t places h.was_read h.placed totals after ys f there there_long is_kept g ne
+
                 kept_records : (w : Next) → RecordsBy v vs b next (totals_slot + expressions_from (row_at t f)) (row_at t f).expressions count u us w → KeptBy bytes t s rs totals b at f sum u us after w
                 kept_records None many =
                     rw after_context (many_last own-marks sum c count (read_records (row_at t f).expressions (from b next)) C.sums many)
@@ -251,6 +242,5 @@ module _ {bytes t places s rs totals : List ℕ} (h : HasTotals bytes t places s
                     record {
                       kept = kept_on context.kept records.kept;
                       long = records.long ∙ context.long;
-                      marks_long = after-long;
                       by = kept_records w by_row;
                     }

@@ -21,6 +21,8 @@ use Rattle.walk.specs.State.{FunctionReq, total_pieces}
 use Rattle.walk.specs.Requests.{fresh}
 use Rattle.memory.specs.Memory.{read}
 use Rattle.marks.proofs.Placed.{few}
+use Rattle.marks.specs.declared.places.MarkPlaces.{MarkPlaces}
+use Rattle.marks.specs.declared.totals.MarkTotals.{MarkTotals}
 use Rattle.state.specs.State.{totals_sum}
 use Rattle.block.specs.Standing.{total_in, functions_in}
 use Rattle.pruner.specs.Form.{is_pruner, is_fresh, stated, answered, read_body, read_pruner}
@@ -50,19 +52,43 @@ module _ (m : Module) (b : List ℕ) where
     unfolding read_pruner
     means_body e = rw (asked, e) refl
 
-module _ {bytes t places s rs totals : List ℕ} (h : HasTotals bytes t places s rs totals) (untold : Untold s rs) {n : ℕ} (is-n : n ≡ length (module_of bytes t).functions) where
+module _ {bytes t : List ℕ} {places : MarkPlaces} {s rs : List ℕ} {totals : MarkTotals} (h : HasTotals bytes t places s rs totals) (untold : Untold s rs) {n : ℕ} (is-n : n ≡ length (module_of bytes t).functions) where
   abbrev m : Module
   m = module_of bytes t
 
-  pub flags_there : n ≤ length totals
-  flags_there = omega (arith, few bytes t h.was_read, h.totals_long)
+  pub flags_there : n ≤ length totals.flags
+  flags_there = let l = totals.flags_long in omega (arith, few bytes t h.was_read)
 
-  module _ {cleared : List ℕ} (c : FlagsCleared totals n cleared) where
+  -- the body of the record that stands there
+  module _ (b : List ℕ) {asked : Bool} (is_asked : asked ≡ is_fresh b) (e : asked ≡ false) {found : Maybe ℕ} (there : RecordLength b found) {end : ℕ} (z : found ≡ Some end) where
+    pub stands : Stands b end
+    stands = subst (RecordLength b) z there
+
+    pub body_there : 6 ≤ length (take end b)
+    body_there = omega (arith, length-take-le end b stands.inside, stands.is)
+
+    pub body_fits : RoomBeside s (take end b) 6 (max_items + max_functions)
+    body_fits = omega (arith, length-take-le end b stands.inside, stands.small, untold.room)
+
+    means_this : read_pruner m b ≡ answered (whole (read_body m (from (take end b) 6)))
+    means_this = means_body m b (sym is_asked ∙ e) stands.there ∙ rw stands.is refl
+
+    by_body : (u us : List ℕ) (after : MarkTotals) (r : Bool) → BodyBy bytes t s rs (take end b) u us after r → PrunerBy bytes t s rs b u us after r
+    by_body u us after true k = record {
+      is = means_this ∙ k.is;
+      memory = k.memory;
+      same = k.same;
+      totals-sum = k.totals-sum;
+      unwalked = k.unwalked;
+    }
+    by_body u us after false k = means_this ∙ k
+
+  module _ (cleared : MarkTotals) (c : FlagsCleared totals.flags n cleared.flags) where
     pub none_yet : NoTotals bytes t s rs cleared
     none_yet = record { flags = λ g l. c.flags g (omega arith); slots = untold.slots }
 
     pub cleared-has : HasTotals bytes t places s rs cleared
-    cleared-has = record { was_read = h.was_read; placed = h.placed; memory = h.memory; totals_long = omega (arith, h.totals_long, c.long) }
+    cleared-has = record { was_read = h.was_read; placed = h.placed; memory = h.memory }
 
     first : Through bytes t s rs cleared [] 0 0 s rs cleared 0 0 0
     first = through_first h.was_read h.memory none_yet (omega arith) (omega arith)
@@ -86,7 +112,6 @@ module _ {bytes t places s rs totals : List ℕ} (h : HasTotals bytes t places s
       tells_fresh e = record {
         kept = kept_same h.memory.good;
         long = refl;
-        marks_long = c.long;
         by = record {
           is = means_fresh m b (sym is_asked ∙ e) ∙ ap accepted fresh_in;
           memory = h.memory;
@@ -101,32 +126,9 @@ module _ {bytes t places s rs totals : List ℕ} (h : HasTotals bytes t places s
         tells_none z = record {
           kept = kept_same h.memory.good;
           long = refl;
-          marks_long = c.long;
           by = means_none m b (sym is_asked ∙ e) (subst (RecordLength b) z there);
         }
 
         module _ {end : ℕ} (z : found ≡ Some end) where
-          pub stands : Stands b end
-          stands = subst (RecordLength b) z there
-
-          pub body_there : 6 ≤ length (take end b)
-          body_there = omega (arith, length-take-le end b stands.inside, stands.is)
-
-          pub body_fits : RoomBeside s (take end b) 6 (max_items + max_functions)
-          body_fits = omega (arith, length-take-le end b stands.inside, stands.small, untold.room)
-
-          means_this : read_pruner m b ≡ answered (whole (read_body m (from (take end b) 6)))
-          means_this = means_body m b (sym is_asked ∙ e) stands.there ∙ rw stands.is refl
-
-          by_body : (u us after : List ℕ) (r : Bool) → BodyBy bytes t s rs (take end b) u us after r → PrunerBy bytes t s rs b u us after r
-          by_body u us after true k = record {
-            is = means_this ∙ k.is;
-            memory = k.memory;
-            same = k.same;
-            totals-sum = k.totals-sum;
-            unwalked = k.unwalked;
-          }
-          by_body u us after false k = means_this ∙ k
-
-          pub tells_body : {u us after : List ℕ} {r : Bool} → BodyWasRead bytes t s rs cleared (take end b) u us after r → PrunerWasRead bytes t s rs totals b u us after r
-          tells_body {u} {us} {after} {r} k = record { kept = k.kept; long = k.long; marks_long = k.marks_long ∙ c.long; by = by_body u us after r k.by }
+          pub tells_body : {u us : List ℕ} {after : MarkTotals} {r : Bool} → BodyWasRead bytes t s rs cleared (take end b) u us after r → PrunerWasRead bytes t s rs totals b u us after r
+          tells_body {u} {us} {after} {r} k = record { kept = k.kept; long = k.long; by = by_body b is_asked e there z u us after r k.by }

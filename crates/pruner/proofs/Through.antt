@@ -27,6 +27,8 @@ use Rattle.memory.specs.Memory.{read, sum_from, context_at, Memory}
 use Rattle.memory.proofs.Slots.{read-long}
 use Rattle.memory.proofs.Records.{records_none}
 use Rattle.memory.proofs.Runs.{context_pieces, records_same, context_same}
+use Rattle.marks.specs.declared.places.MarkPlaces.{MarkPlaces}
+use Rattle.marks.specs.declared.totals.MarkTotals.{MarkTotals}
 use Rattle.marks.specs.Report.{has_total}
 use Rattle.marks.specs.Report as report
 use Rattle.marks.proofs.Placed.{few}
@@ -81,11 +83,10 @@ unfoldable pub exprs_to : List ℕ → ℕ → ℕ
 exprs_to t zero = 0
 exprs_to t (suc f) = exprs_to t f + (row_at t f).expressions
 
-pub record Through (bytes t s rs totals b : List ℕ) (at sum : ℕ) (u us now : List ℕ) (f next count : ℕ) : Type 0 where
+pub record Through (bytes t s rs : List ℕ) (totals : MarkTotals) (b : List ℕ) (at sum : ℕ) (u us : List ℕ) (now : MarkTotals) (f next count : ℕ) : Type 0 where
   pub few : f ≤ length (module_of bytes t).functions
   pub kept : Kept s u
   pub long : length us ≡ length rs
-  pub marks_long : length now ≡ length totals
   pub memory : Memory u us
   pub spent : SpentBeside s u b at next (f + exprs_to t f)
   pub same : (k : ℕ) → (totals_slot ≤ k → k < stack_slot → ⊥) → get_or (read u us) k none ≡ get_or (read s rs) k none
@@ -112,14 +113,14 @@ module _ {bytes t : List ℕ} (w : WasRead bytes t) where
   exprs_fit f l = omega (arith, exprs_before f l, w.laid.within f (rw (functions_are t bytes) l))
 
   -- a total that is the same has the same flag
-  same_flag : (xs ys : List ℕ) (g : ℕ) → report.total_in m xs g ≡ report.total_in m ys g → has_total xs g ≡ false → has_total ys g ≡ false
+  same_flag : (xs ys : MarkTotals) (g : ℕ) → report.total_in m xs g ≡ report.total_in m ys g → has_total xs g ≡ false → has_total ys g ≡ false
   same_flag xs ys g same e = by (has_total ys g) refl
     where
       by : (b : Bool) → has_total ys g ≡ b → has_total ys g ≡ false
       by false z = z
       by true z = absurd (none-ne-some _ (sym (total_missing m xs g e) ∙ same ∙ total_there m ys g z))
 
-  all_totals : (ps : List PartReq) (now : List ℕ) {f : ℕ} → f ≡ n → tab f (total_in m t ps now) ≡ functions_in m t ps now
+  all_totals : (ps : List PartReq) (now : MarkTotals) {f : ℕ} → f ≡ n → tab f (total_in m t ps now) ≡ functions_in m t ps now
   unfolding functions_in
   all_totals ps now e = rw e refl
 
@@ -136,7 +137,7 @@ module _ {bytes t : List ℕ} (w : WasRead bytes t) where
         sum_zero ps (functions_slot + 4 * g) 4 (λ j i. h (functions_slot + 4 * g + j) (omega arith) (omega arith)),
       )
 
-  pub through_first : {s rs totals b : List ℕ} {at sum : ℕ} → Memory s rs → NoTotals bytes t s rs totals → at ≤ length b → sum ≤ max_pieces
+  pub through_first : {s rs : List ℕ} {totals : MarkTotals} {b : List ℕ} {at sum : ℕ} → Memory s rs → NoTotals bytes t s rs totals → at ≤ length b → sum ≤ max_pieces
       → Through bytes t s rs totals b at sum s rs totals 0 at sum
   unfolding tab total_pieces exprs_to
   through_first {s} {rs} {totals} {b} {at} {sum} mem e h l =
@@ -145,7 +146,6 @@ module _ {bytes t : List ℕ} (w : WasRead bytes t) where
         few = omega arith;
         kept = kept_same mem.good;
         long = refl;
-        marks_long = refl;
         memory = mem;
         spent = record { further = omega arith; inside = h; cost = omega arith };
         same = λ k out. refl;
@@ -162,13 +162,13 @@ module _ {bytes t : List ℕ} (w : WasRead bytes t) where
         rest = rw all (after_none (read_totals m 0 n (from b at)));
       }
 
-  module _ {s rs totals b : List ℕ} {at sum : ℕ} {u us now : List ℕ} {f next count : ℕ} (so : Through bytes t s rs totals b at sum u us now f next count) where
+  module _ {s rs : List ℕ} {totals : MarkTotals} {b : List ℕ} {at sum : ℕ} {u us : List ℕ} {now : MarkTotals} {f next count : ℕ} (so : Through bytes t s rs totals b at sum u us now f next count) where
     module _ (l : f < n) where
       left : n - f ≡ suc (n - (f + 1))
       left = omega arith
 
-      pub through_has : {places : List ℕ} → HasTotals bytes t places s rs totals → HasTotals bytes t places u us now
-      through_has h = record { was_read = w; placed = h.placed; memory = so.memory; totals_long = omega (arith, h.totals_long, so.marks_long) }
+      pub through_has : {places : MarkPlaces} → HasTotals bytes t places s rs totals → HasTotals bytes t places u us now
+      through_has h = record { was_read = w; placed = h.placed; memory = so.memory }
 
       pub through_flag : has_total now f ≡ false
       through_flag = (so.later f (omega arith) l).0
@@ -176,7 +176,7 @@ module _ {bytes t : List ℕ} (w : WasRead bytes t) where
       pub through_room : RoomBeside s b at (max_items + max_functions) → RoomBeside u b next (1 + (row_at t f).expressions)
       through_room room = omega (arith, so.spent, so.kept.long, exprs_fit f l, few bytes t w)
 
-      module _ {v vs then : List ℕ} {a : Next} (was : TotalWasRead bytes t u us now b next f count v vs then a) where
+      module _ {v vs : List ℕ} {then : MarkTotals} {a : Next} (was : TotalWasRead bytes t u us now b next f count v vs then a) where
         abbrev others : Option FunctionReq → List ℕ → Read (List (Option FunctionReq))
         others o gs = read_totals m (suc f) (n - (f + 1)) gs >>= λ ts hs. got (o ∷ ts) hs
 
@@ -190,7 +190,6 @@ module _ {bytes t : List ℕ} (w : WasRead bytes t) where
             record {
               kept = kept_on so.kept was.kept;
               long = was.long ∙ so.long;
-              marks_long = was.marks_long ∙ so.marks_long;
               by = rw next-total (many_total (tab f (total_in m t (read u us) now)) sum m f (n - (f + 1)) count (read_total m f (from b next)) so.sums many);
             }
 
@@ -264,7 +263,6 @@ module _ {bytes t : List ℕ} (w : WasRead bytes t) where
                 few = omega arith;
                 kept = kept_on so.kept was.kept;
                 long = was.long ∙ so.long;
-                marks_long = was.marks_long ∙ so.marks_long;
                 memory = R.memory;
                 spent = record {
                   further = omega (arith, so.spent.further, R.spent.further);
@@ -299,7 +297,6 @@ module _ {bytes t : List ℕ} (w : WasRead bytes t) where
         record {
           kept = so.kept;
           long = so.long;
-          marks_long = so.marks_long;
           by = record {
             is = so.rest ∙ rw (none_left, these) (last (functions_in m t (read u us) now));
             sums = rw (← these) so.sums;

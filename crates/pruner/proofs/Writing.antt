@@ -8,41 +8,43 @@ use mathlib.Core.List.{List, [], ◌∷◌, ◌++◌, append_assoc, append-nil}
 use mathlib.Core.Option.{some}
 use lib.ListN.{length, get_or, take, drop, length-append, length-take, length-drop}
 use lib.Seq.{take-suc, get_or-drop}
-use Rattle.field.specs.Field.{set_field}
 use Rattle.part.specs.PartReq.{PartReq, all, exist, none, more}
-use Rattle.part.specs.Store.{part}
+use Rattle.part.specs.Store.{part, top, Below}
+use Rattle.context.specs.Contexts.{context_of, HasContext}
 use Rattle.request.specs.Fields.{bytes_of}
-use Rattle.request.specs.Part.{write_return, write_variables}
+use Rattle.request.specs.Part.{write_return}
 use Rattle.request.specs.Context.{write_context_body}
-use Rattle.request.specs.Written.{Fits, Written}
-use Rattle.request.proofs.Writing.{written_one, written_then, written_long, fits_then}
+use Rattle.request.specs.declared.writer.Writer.{Writer}
+use Rattle.request.specs.Written.{HasRoom, Writes}
+use Rattle.request.proofs.Writing.{writes_then, written_long, room_then, room_first}
 use Rattle.walk.specs.State.{FunctionReq}
 use Rattle.memory.specs.Memory.{read, record_of, records_of, context_at}
+use Rattle.memory.specs.Stretches.{pieces_at}
 use Rattle.memory.proofs.Slots.{read_at}
 use Rattle.pruner.specs.Form.{write_record, write_records, write_total}
 
 -- k of n are written, which are the fields fs
-pub record Going (n k : ℕ) (a o : List ℕ) (at : ℕ) (fs : List ℕ) (next : ℕ) : Type 0 where
+pub record Going (n k : ℕ) (a b : Writer) (fs : List ℕ) : Type 0 where
   pub few : k ≤ n
-  pub written : Written a o at fs next
+  pub writes : Writes a b fs
 
-pub none_written : {n at : ℕ} {a : List ℕ} → Going n 0 a a at [] at
+pub none_written : {n : ℕ} {a : Writer} → Going n 0 a a []
 unfolding bytes_of
-none_written = record { few = omega arith; written = record { is = refl; next_is = omega arith } }
+none_written = record { few = omega arith; writes = record { same = refl; written = record { is = refl; next_is = omega arith } } }
 
 -- those before the n-th are all
-pub all_written : (fs : ℕ → List ℕ) {n k at next : ℕ} {a o : List ℕ} → Going n k a o at (fs k) next → n ≤ k → Written a o at (fs n) next
-all_written fs {n} {k} g l = let same : k ≡ n = omega (arith, g.few) in rw same at g.written
+pub all_written : (fs : ℕ → List ℕ) {n k : ℕ} {a b : Writer} → Going n k a b (fs k) → n ≤ k → Writes a b (fs n)
+all_written fs {n} {k} g l = let same : k ≡ n = omega (arith, g.few) in rw same at g.writes
 
-pub one_more : (fs : ℕ → List ℕ) (gs : List ℕ) {n k at next end : ℕ} {a o p : List ℕ} → Going n k a o at (fs k) next → k < n → fs (k + 1) ≡ fs k ++ gs
-    → Written o p next gs end → Going n (k + 1) a p at (fs (k + 1)) end
-one_more fs gs {k = k} g l e w = record { few = omega arith; written = rw e (written_then (fs k) gs g.written w) }
+pub one_more : (fs : ℕ → List ℕ) (gs : List ℕ) {n k : ℕ} {a b c : Writer} → Going n k a b (fs k) → k < n → fs (k + 1) ≡ fs k ++ gs
+    → Writes b c gs → Going n (k + 1) a c (fs (k + 1))
+one_more fs gs {k = k} g l e w = record { few = omega arith; writes = rw e (writes_then (fs k) gs g.writes w) }
 
 -- there is room for one more
-pub next-room : (fs : ℕ → List ℕ) (gs : List ℕ) {n k at next : ℕ} {a o : List ℕ} → Going n k a o at (fs k) next → fs (k + 1) ≡ fs k ++ gs
-    → length (fs (k + 1)) ≤ length (fs n) → Fits a at (fs n) → Fits o next gs
+pub next-room : (fs : ℕ → List ℕ) (gs : List ℕ) {n k : ℕ} {a b : Writer} → Going n k a b (fs k) → fs (k + 1) ≡ fs k ++ gs
+    → length (fs (k + 1)) ≤ length (fs n) → HasRoom a (fs n) → HasRoom b gs
 next-room fs gs {k = k} g e l h =
-    omega (arith, written_long g.written, g.written.next_is, ap length e, length-append (fs k) gs)
+    omega (arith, written_long g.writes.written, g.writes.written.next_is, ap length e, length-append (fs k) gs)
 
 -- marks
 module _ (marks : List ℕ) (from n : ℕ) (inside : from + n ≤ length marks) where
@@ -58,12 +60,12 @@ module _ (marks : List ℕ) (from n : ℕ) (inside : from + n ≤ length marks) 
   marks_grow : (k : ℕ) → k < n → length (marks_of (k + 1)) ≤ length (marks_of n)
   marks_grow k l = simp (length-take, length-drop) (omega arith)
 
-  module _ {a o : List ℕ} {at k next : ℕ} (g : Going n k a o at (marks_of k) next) (l : k < n) where
-    pub mark_room : Fits a at (marks_of n) → next + 2 ≤ length o
+  module _ {a b : Writer} {k : ℕ} (g : Going n k a b (marks_of k)) (l : k < n) where
+    pub mark_room : HasRoom a (marks_of n) → HasRoom b (get_or marks (from + k) 0 ∷ [])
     mark_room h = next-room marks_of (get_or marks (from + k) 0 ∷ []) g (mark_more l) (marks_grow k l) h
 
-    pub mark_again : {p : List ℕ} → p ≡ set_field o next (get_or marks (from + k) 0) → Going n (k + 1) a p at (marks_of (k + 1)) (next + 2)
-    mark_again e = one_more marks_of (get_or marks (from + k) 0 ∷ []) g l (mark_more l) (written_one e)
+    pub mark_again : {c : Writer} → Writes b c (get_or marks (from + k) 0 ∷ []) → Going n (k + 1) a c (marks_of (k + 1))
+    mark_again w = one_more marks_of (get_or marks (from + k) 0 ∷ []) g l (mark_more l) w
 
 -- records
 return_record : (p : PartReq) → write_return p ≡ write_record (record_of p)
@@ -99,7 +101,7 @@ module _ (s rs : List ℕ) (base n : ℕ) (inside : base + n ≤ length rs) wher
   abbrev record_fields : ℕ → List ℕ
   record_fields k = write_records (records_of (read s rs) base k)
 
-  pub records_none : {at : ℕ} {a : List ℕ} → Going n 0 a a at (record_fields 0) at
+  pub records_none : {a : Writer} → Going n 0 a a (record_fields 0)
   unfolding write_records records_of
   records_none = none_written
 
@@ -113,65 +115,22 @@ module _ (s rs : List ℕ) (base n : ℕ) (inside : base + n ≤ length rs) wher
       ∙ ap (λ (p : PartReq). record_fields k ++ write_record (record_of p)) here
       ∙ ap (λ (fs : List ℕ). record_fields k ++ fs) (sym (return_record (part s (get_or rs (base + k) 0))))
 
-  module _ {a o : List ℕ} {at k next : ℕ} (g : Going n k a o at (record_fields k) next) (l : k < n) where
-    pub record_room : Fits a at (record_fields n) → Fits o next (written k)
+  module _ {a b : Writer} {k : ℕ} (g : Going n k a b (record_fields k)) (l : k < n) where
+    pub record_room : HasRoom a (record_fields n) → HasRoom b (written k)
     record_room h = next-room record_fields (written k) g (record_more l) (records_grow (read s rs) base (k + 1) n (omega arith)) h
 
-    pub record_again : {p : List ℕ} {end : ℕ} → Written o p next (written k) end → Going n (k + 1) a p at (record_fields (k + 1)) end
+    pub record_again : {c : Writer} → Writes b c (written k) → Going n (k + 1) a c (record_fields (k + 1))
     record_again w = one_more record_fields (written k) g l (record_more l) w
 
-pub front : (o : List ℕ) (at : ℕ) (fs gs : List ℕ) → Fits o at (fs ++ gs) → Fits o at fs
-front o at fs gs h = omega (arith, length-append fs gs)
-
--- the lists of the context in the four slots from x on, one after the other
+-- the context in the four slots from x on
 module _ (s rs : List ℕ) (x : ℕ) (inside : x + 4 ≤ length rs) where
-  abbrev retval_fields : List ℕ
-  retval_fields = write_return (part s (get_or rs (x + 3) 0))
-
-  abbrev globals_fields : List ℕ
-  globals_fields = write_variables (part s (get_or rs x 0))
-
-  abbrev args_fields : List ℕ
-  args_fields = write_variables (part s (get_or rs (x + 2) 0))
-
-  abbrev locals_fields : List ℕ
-  locals_fields = write_variables (part s (get_or rs (x + 1) 0))
-
-  lists_are : write_context_body (context_at (read s rs) x) ≡ retval_fields ++ (globals_fields ++ (args_fields ++ locals_fields))
-  unfolding write_context_body
-  lists_are =
+  pub context_is : context_at (read s rs) x ≡ context_of s (pieces_at rs x)
+  context_is =
       rw (read_at s rs x (omega arith), read_at s rs (x + 1) (omega arith), read_at s rs (x + 2) (omega arith), read_at s rs (x + 3) (omega arith))
 
-  module _ (o : List ℕ) (at : ℕ) (room : Fits o at (write_context_body (context_at (read s rs) x))) where
-    lists_fit : Fits o at (retval_fields ++ (globals_fields ++ (args_fields ++ locals_fields)))
-    lists_fit = rw lists_are at room
-
-    pub retval_fits : Fits o at retval_fields
-    retval_fits = front o at retval_fields (globals_fields ++ (args_fields ++ locals_fields)) lists_fit
-
-    module _ {p : List ℕ} {a : ℕ} (first : Written o p at retval_fields a) where
-      later_fit : Fits p a (globals_fields ++ (args_fields ++ locals_fields))
-      later_fit = fits_then retval_fields (globals_fields ++ (args_fields ++ locals_fields)) first lists_fit
-
-      pub globals_fit : Fits p a globals_fields
-      globals_fit = front p a globals_fields (args_fields ++ locals_fields) later_fit
-
-      module _ {q : List ℕ} {b : ℕ} (second : Written p q a globals_fields b) where
-        last_fit : Fits q b (args_fields ++ locals_fields)
-        last_fit = fits_then globals_fields (args_fields ++ locals_fields) second later_fit
-
-        pub args_fit : Fits q b args_fields
-        args_fit = front q b args_fields locals_fields last_fit
-
-        module _ {r : List ℕ} {d : ℕ} (third : Written q r b args_fields d) where
-          pub locals_fit : Fits r d locals_fields
-          locals_fit = fits_then args_fields locals_fields third last_fit
-
-          pub lists_written : {t : List ℕ} {end : ℕ} → Written r t d locals_fields end → Written o t at (write_context_body (context_at (read s rs) x)) end
-          lists_written fourth =
-              rw lists_are
-              (written_then retval_fields (globals_fields ++ (args_fields ++ locals_fields)) first
-              (written_then globals_fields (args_fields ++ locals_fields) second (written_then args_fields locals_fields third fourth)))
+  pub pieces_there : Below rs (top s) → HasContext s (pieces_at rs x)
+  pieces_there below =
+      record { globals = below x (omega arith); locals = below (x + 1) (omega arith); args = below (x + 2) (omega arith); retval = below (x + 3) (omega arith) }
 
 -- a total: 1, its marks, its context and its records
 abbrev context_fields : FunctionReq → List ℕ
@@ -180,34 +139,34 @@ context_fields t = write_context_body t.context
 abbrev exprs_fields : FunctionReq → List ℕ
 exprs_fields t = write_records t.exprs
 
-module _ (t : FunctionReq) (o : List ℕ) (at : ℕ) (room : Fits o at (write_total (some t))) where
-  total_fits : Fits o at ((1 ∷ []) ++ (t.marks ++ ((context_fields t) ++ (exprs_fields t))))
+module _ (t : FunctionReq) (a : Writer) (room : HasRoom a (write_total (some t))) where
+  total_fits : HasRoom a ((1 ∷ []) ++ (t.marks ++ ((context_fields t) ++ (exprs_fields t))))
   unfolding write_total
   total_fits = room
 
-  pub flag_room : at + 2 ≤ length o
-  flag_room = front o at (1 ∷ []) (t.marks ++ ((context_fields t) ++ (exprs_fields t))) total_fits
+  pub flag_room : HasRoom a (1 ∷ [])
+  flag_room = room_first a (1 ∷ []) (t.marks ++ ((context_fields t) ++ (exprs_fields t))) total_fits
 
-  module _ {p : List ℕ} (flag : p ≡ set_field o at 1) where
-    after_flag : Fits p (at + 2) (t.marks ++ ((context_fields t) ++ (exprs_fields t)))
-    after_flag = fits_then (1 ∷ []) (t.marks ++ ((context_fields t) ++ (exprs_fields t))) (written_one flag) total_fits
+  module _ {b : Writer} (flag : Writes a b (1 ∷ [])) where
+    after_flag : HasRoom b (t.marks ++ ((context_fields t) ++ (exprs_fields t)))
+    after_flag = room_then (1 ∷ []) (t.marks ++ ((context_fields t) ++ (exprs_fields t))) flag total_fits
 
-    pub marks_fit : Fits p (at + 2) t.marks
-    marks_fit = front p (at + 2) t.marks ((context_fields t) ++ (exprs_fields t)) after_flag
+    pub marks_fit : HasRoom b t.marks
+    marks_fit = room_first b t.marks ((context_fields t) ++ (exprs_fields t)) after_flag
 
-    module _ {q : List ℕ} {a : ℕ} (first : Written p q (at + 2) t.marks a) where
-      after-marks : Fits q a ((context_fields t) ++ (exprs_fields t))
-      after-marks = fits_then t.marks ((context_fields t) ++ (exprs_fields t)) first after_flag
+    module _ {c : Writer} (first : Writes b c t.marks) where
+      after-marks : HasRoom c ((context_fields t) ++ (exprs_fields t))
+      after-marks = room_then t.marks ((context_fields t) ++ (exprs_fields t)) first after_flag
 
-      pub context_fits : Fits q a (context_fields t)
-      context_fits = front q a (context_fields t) (exprs_fields t) after-marks
+      pub context_fits : HasRoom c (context_fields t)
+      context_fits = room_first c (context_fields t) (exprs_fields t) after-marks
 
-      module _ {r : List ℕ} {b : ℕ} (second : Written q r a (context_fields t) b) where
-        pub exprs_fit : Fits r b (exprs_fields t)
-        exprs_fit = fits_then (context_fields t) (exprs_fields t) second after-marks
+      module _ {d : Writer} (second : Writes c d (context_fields t)) where
+        pub exprs_fit : HasRoom d (exprs_fields t)
+        exprs_fit = room_then (context_fields t) (exprs_fields t) second after-marks
 
-        pub total_written : {u : List ℕ} {end : ℕ} → Written r u b (exprs_fields t) end → Written o u at (write_total (some t)) end
+        pub total_writes : {e : Writer} → Writes d e (exprs_fields t) → Writes a e (write_total (some t))
         unfolding write_total
-        total_written third =
-            written_then (1 ∷ []) (t.marks ++ ((context_fields t) ++ (exprs_fields t))) (written_one flag)
-            (written_then t.marks ((context_fields t) ++ (exprs_fields t)) first (written_then (context_fields t) (exprs_fields t) second third))
+        total_writes third =
+            writes_then (1 ∷ []) (t.marks ++ ((context_fields t) ++ (exprs_fields t))) flag
+            (writes_then t.marks ((context_fields t) ++ (exprs_fields t)) first (writes_then (context_fields t) (exprs_fields t) second third))

@@ -16,6 +16,7 @@ use Rattle.walk.specs.State.{FunctionReq, record_pieces, function_pieces, total_
 use Rattle.walk.specs.Marks.{write_marks}
 use Rattle.memory.specs.Layout.{globals_slot, totals_slot, functions_slot, stack_slot}
 use Rattle.memory.specs.Memory.{read, records_of, context_at, Memory}
+use Rattle.marks.specs.declared.totals.MarkTotals.{MarkTotals}
 use Rattle.marks.specs.Places.{slice}
 use Rattle.marks.specs.Report.{has_total}
 use Rattle.marks.specs.Report as report
@@ -130,7 +131,7 @@ abbrev pub kept_pieces : FunctionReq → ℕ
 kept_pieces total = record_pieces total.exprs + pieces total.context
 
 -- The total of f was read: its context and its records stand in its slots, its marks behind the flags, and its flag is set. Of other functions nothing has changed.
-pub record KeptIs (bytes t s rs totals b : List ℕ) (at : ℕ) (f : FunctionHandle) (sum : ℕ) (u us after : List ℕ) (next m : ℕ) : Type 0 where
+pub record KeptIs (bytes t s rs : List ℕ) (totals : MarkTotals) (b : List ℕ) (at : ℕ) (f : FunctionHandle) (sum : ℕ) (u us : List ℕ) (after : MarkTotals) (next m : ℕ) : Type 0 where
   pub is : (read_kept (module_of bytes t) f (from b at) >>= λ total gs. got (some total) gs) ≡ got (total_in (module_of bytes t) t (read u us) after f) (from b next)
   pub sums : m ≡ sum + total_count t f (read u us)
   pub few : m ≤ max_pieces
@@ -141,18 +142,17 @@ pub record KeptIs (bytes t s rs totals b : List ℕ) (at : ℕ) (f : FunctionHan
   pub flagged : has_total after f ≡ true
   pub others : (g : ℕ) → g < length (module_of bytes t).functions → (g ≡ f → ⊥) → report.total_in (module_of bytes t) after g ≡ report.total_in (module_of bytes t) totals g
 
-abbrev pub KeptBy : (bytes t s rs totals b : List ℕ) → (at : ℕ) → FunctionHandle → (sum : ℕ) → (u us after : List ℕ) → Next → Type 0
+abbrev pub KeptBy : (bytes t s rs : List ℕ) (totals : MarkTotals) (b : List ℕ) → (at : ℕ) → FunctionHandle → (sum : ℕ) → (u us : List ℕ) (after : MarkTotals) → Next → Type 0
 KeptBy bytes t s rs totals b at f sum u us after None = TooMany kept_pieces sum (read_kept (module_of bytes t) f (from b at))
 KeptBy bytes t s rs totals b at f sum u us after (Some (next, m)) = KeptIs bytes t s rs totals b at f sum u us after next m
 
-pub record KeptWasRead (bytes t s rs totals b : List ℕ) (at : ℕ) (f : FunctionHandle) (sum : ℕ) (u us after : List ℕ) (r : Next) : Type 0 where
+pub record KeptWasRead (bytes t s rs : List ℕ) (totals : MarkTotals) (b : List ℕ) (at : ℕ) (f : FunctionHandle) (sum : ℕ) (u us : List ℕ) (after : MarkTotals) (r : Next) : Type 0 where
   pub kept : Kept s u
   pub long : length us ≡ length rs
-  pub marks_long : length after ≡ length totals
   pub by : KeptBy bytes t s rs totals b at f sum u us after r
 
 -- The same of a total with its flag: where it is 0, nothing has changed.
-pub record TotalIs (bytes t s rs totals b : List ℕ) (at : ℕ) (f : FunctionHandle) (sum : ℕ) (u us after : List ℕ) (next m : ℕ) : Type 0 where
+pub record TotalIs (bytes t s rs : List ℕ) (totals : MarkTotals) (b : List ℕ) (at : ℕ) (f : FunctionHandle) (sum : ℕ) (u us : List ℕ) (after : MarkTotals) (next m : ℕ) : Type 0 where
   pub is : read_total (module_of bytes t) f (from b at) ≡ got (total_in (module_of bytes t) t (read u us) after f) (from b next)
   pub sums : m ≡ sum + function_pieces (total_in (module_of bytes t) t (read u us) after f)
   pub few : m ≤ max_pieces
@@ -163,23 +163,22 @@ pub record TotalIs (bytes t s rs totals b : List ℕ) (at : ℕ) (f : FunctionHa
   pub unwalked : has_total after f ≡ false → read u us ≡ read s rs
   pub others : (g : ℕ) → g < length (module_of bytes t).functions → (g ≡ f → ⊥) → report.total_in (module_of bytes t) after g ≡ report.total_in (module_of bytes t) totals g
 
-abbrev pub TotalBy : (bytes t s rs totals b : List ℕ) → (at : ℕ) → FunctionHandle → (sum : ℕ) → (u us after : List ℕ) → Next → Type 0
+abbrev pub TotalBy : (bytes t s rs : List ℕ) (totals : MarkTotals) (b : List ℕ) → (at : ℕ) → FunctionHandle → (sum : ℕ) → (u us : List ℕ) (after : MarkTotals) → Next → Type 0
 TotalBy bytes t s rs totals b at f sum u us after None = TooMany function_pieces sum (read_total (module_of bytes t) f (from b at))
 TotalBy bytes t s rs totals b at f sum u us after (Some (next, m)) = TotalIs bytes t s rs totals b at f sum u us after next m
 
-pub record TotalWasRead (bytes t s rs totals b : List ℕ) (at : ℕ) (f : FunctionHandle) (sum : ℕ) (u us after : List ℕ) (r : Next) : Type 0 where
+pub record TotalWasRead (bytes t s rs : List ℕ) (totals : MarkTotals) (b : List ℕ) (at : ℕ) (f : FunctionHandle) (sum : ℕ) (u us : List ℕ) (after : MarkTotals) (r : Next) : Type 0 where
   pub kept : Kept s u
   pub long : length us ≡ length rs
-  pub marks_long : length after ≡ length totals
   pub by : TotalBy bytes t s rs totals b at f sum u us after r
 
 -- no function has a total yet
-pub record NoTotals (bytes t s rs totals : List ℕ) : Type 0 where
+pub record NoTotals (bytes t s rs : List ℕ) (totals : MarkTotals) : Type 0 where
   pub flags : (g : ℕ) → g < length (module_of bytes t).functions → has_total totals g ≡ false
   pub slots : (k : ℕ) → totals_slot ≤ k → k < stack_slot → get_or (read s rs) k none ≡ none
 
 -- The totals of all functions were read. A function without one has nothing in its slots.
-pub record FunctionsAre (bytes t s rs b : List ℕ) (at sum : ℕ) (u us after : List ℕ) (next m : ℕ) : Type 0 where
+pub record FunctionsAre (bytes t s rs b : List ℕ) (at sum : ℕ) (u us : List ℕ) (after : MarkTotals) (next m : ℕ) : Type 0 where
   pub is : read_totals (module_of bytes t) 0 (length (module_of bytes t).functions) (from b at) ≡ got (functions_in (module_of bytes t) t (read u us) after) (from b next)
   pub sums : m ≡ sum + total_pieces (functions_in (module_of bytes t) t (read u us) after)
   pub few : m ≤ max_pieces
@@ -189,38 +188,36 @@ pub record FunctionsAre (bytes t s rs b : List ℕ) (at sum : ℕ) (u us after :
   pub totals-sum : total_pieces (functions_in (module_of bytes t) t (read u us) after) ≡ totals_sum (read u us)
   pub unwalked : (g : ℕ) → g < length (module_of bytes t).functions → has_total after g ≡ false → total_count t g (read u us) ≡ 0
 
-abbrev pub FunctionsBy : (bytes t s rs b : List ℕ) → (at sum : ℕ) → (u us after : List ℕ) → Next → Type 0
+abbrev pub FunctionsBy : (bytes t s rs b : List ℕ) → (at sum : ℕ) → (u us : List ℕ) (after : MarkTotals) → Next → Type 0
 FunctionsBy bytes t s rs b at sum u us after None = TooMany total_pieces sum (read_totals (module_of bytes t) 0 (length (module_of bytes t).functions) (from b at))
 FunctionsBy bytes t s rs b at sum u us after (Some (next, m)) = FunctionsAre bytes t s rs b at sum u us after next m
 
-pub record FunctionsWereRead (bytes t s rs totals b : List ℕ) (at sum : ℕ) (u us after : List ℕ) (r : Next) : Type 0 where
+pub record FunctionsWereRead (bytes t s rs : List ℕ) (totals : MarkTotals) (b : List ℕ) (at sum : ℕ) (u us : List ℕ) (after : MarkTotals) (r : Next) : Type 0 where
   pub kept : Kept s u
   pub long : length us ≡ length rs
-  pub marks_long : length after ≡ length totals
   pub by : FunctionsBy bytes t s rs b at sum u us after r
 
 -- The body of a buffer's record was read: memory has the pruner that it means. What else memory has is as it was.
-pub record BodyIs (bytes t s rs b : List ℕ) (u us after : List ℕ) : Type 0 where
+pub record BodyIs (bytes t s rs b : List ℕ) (u us : List ℕ) (after : MarkTotals) : Type 0 where
   pub is : answered (whole (read_body (module_of bytes t) (from b 6))) ≡ accepted (pruner_in bytes t u us after)
   pub memory : Memory u us
   pub same : (k : ℕ) → (k ≡ globals_slot → ⊥) → (totals_slot ≤ k → k < stack_slot → ⊥) → get_or (read u us) k none ≡ get_or (read s rs) k none
   pub totals-sum : total_pieces (functions_in (module_of bytes t) t (read u us) after) ≡ totals_sum (read u us)
   pub unwalked : (g : ℕ) → g < length (module_of bytes t).functions → has_total after g ≡ false → total_count t g (read u us) ≡ 0
 
-abbrev pub BodyBy : (bytes t s rs b : List ℕ) → (u us after : List ℕ) → Bool → Type 0
+abbrev pub BodyBy : (bytes t s rs b : List ℕ) → (u us : List ℕ) (after : MarkTotals) → Bool → Type 0
 BodyBy bytes t s rs b u us after true = BodyIs bytes t s rs b u us after
 BodyBy bytes t s rs b u us after false = answered (whole (read_body (module_of bytes t) (from b 6))) ≡ refused 19
 
-pub record BodyWasRead (bytes t s rs totals b : List ℕ) (u us after : List ℕ) (r : Bool) : Type 0 where
+pub record BodyWasRead (bytes t s rs : List ℕ) (totals : MarkTotals) (b : List ℕ) (u us : List ℕ) (after : MarkTotals) (r : Bool) : Type 0 where
   pub kept : Kept s u
   pub long : length us ≡ length rs
-  pub marks_long : length after ≡ length totals
   pub by : BodyBy bytes t s rs b u us after r
 
 -- none of the first n functions has a flag
-pub record FlagsCleared (before : List ℕ) (n : ℕ) (after : List ℕ) : Type 0 where
+pub record FlagsCleared (before : List Bool) (n : ℕ) (after : List Bool) : Type 0 where
   pub long : length after ≡ length before
-  pub flags : (g : ℕ) → g < n → has_total after g ≡ false
+  pub flags : (g : ℕ) → g < n → get_or after g false ≡ false
 
 -- how long the record PN is that stands at the front of s
 pub record Stands (s : List ℕ) (r : ℕ) : Type 0 where
@@ -241,19 +238,18 @@ pub record Untold (s rs : List ℕ) : Type 0 where
   pub room : cell_words * (top s + (max_items + max_functions)) + table_words + 2 * min_pruner ≤ length s + 12
 
 -- A lent buffer was read: memory has the pruner that it means. What else memory has is as it was.
-pub record PrunerIs (bytes t s rs b : List ℕ) (u us after : List ℕ) : Type 0 where
+pub record PrunerIs (bytes t s rs b : List ℕ) (u us : List ℕ) (after : MarkTotals) : Type 0 where
   pub is : read_pruner (module_of bytes t) b ≡ accepted (pruner_in bytes t u us after)
   pub memory : Memory u us
   pub same : (k : ℕ) → (k ≡ globals_slot → ⊥) → (totals_slot ≤ k → k < stack_slot → ⊥) → get_or (read u us) k none ≡ get_or (read s rs) k none
   pub totals-sum : total_pieces (functions_in (module_of bytes t) t (read u us) after) ≡ totals_sum (read u us)
   pub unwalked : (g : ℕ) → g < length (module_of bytes t).functions → has_total after g ≡ false → total_count t g (read u us) ≡ 0
 
-abbrev pub PrunerBy : (bytes t s rs b : List ℕ) → (u us after : List ℕ) → Bool → Type 0
+abbrev pub PrunerBy : (bytes t s rs b : List ℕ) → (u us : List ℕ) (after : MarkTotals) → Bool → Type 0
 PrunerBy bytes t s rs b u us after true = PrunerIs bytes t s rs b u us after
 PrunerBy bytes t s rs b u us after false = read_pruner (module_of bytes t) b ≡ refused 19
 
-pub record PrunerWasRead (bytes t s rs totals b : List ℕ) (u us after : List ℕ) (r : Bool) : Type 0 where
+pub record PrunerWasRead (bytes t s rs : List ℕ) (totals : MarkTotals) (b : List ℕ) (u us : List ℕ) (after : MarkTotals) (r : Bool) : Type 0 where
   pub kept : Kept s u
   pub long : length us ≡ length rs
-  pub marks_long : length after ≡ length totals
   pub by : PrunerBy bytes t s rs b u us after r

@@ -8,8 +8,9 @@ use Rattle.walk.specs.State.{FunctionReq}
 use Rattle.walk.specs.Requests.{Pruner}
 use Rattle.memory.specs.Layout.{globals_slot}
 use Rattle.memory.specs.Memory.{read, records_of, context_at, Memory}
+use Rattle.marks.specs.declared.places.MarkPlaces.{MarkPlaces}
+use Rattle.marks.specs.declared.totals.MarkTotals.{MarkTotals}
 use Rattle.marks.specs.Places.{Places}
-use Rattle.marks.specs.Report.{totals_size}
 use Rattle.state.specs.Ready.{WasRead}
 use Rattle.block.specs.Standing.{functions_in}
 
@@ -27,12 +28,11 @@ pub record Stored (s rs marks : List ℕ) (from n context base count : ℕ) : Ty
   pub records_there : base + count ≤ length rs
 
 -- the totals of globals and of each function
-abbrev pub pruner_in : (bytes t s rs totals : List ℕ) → Pruner
+abbrev pub pruner_in : (bytes t s rs : List ℕ) (totals : MarkTotals) → Pruner
 pruner_in bytes t s rs totals = record { globals = get_or (read s rs) globals_slot none; functions = functions_in (module_of bytes t) t (read s rs) totals }
 
 -- a memory and marks of totals, with the tables of a module that was read
-pub record HasTotals (bytes t places s rs totals : List ℕ) : Type 0 where
+pub record HasTotals (bytes t : List ℕ) (places : MarkPlaces) (s rs : List ℕ) (totals : MarkTotals) : Type 0 where
   pub was_read : WasRead bytes t
   pub placed : Places bytes t places
   pub memory : Memory s rs
-  pub totals_long : totals_size ≤ length totals

@@ -9,6 +9,8 @@ use crate::reader::read_map;
 use crate::total::read_total;
 use access::file::File;
 use field::limits::MAX_PIECES;
+use marks::places::MarkPlaces;
+use marks::totals::MarkTotals;
 use memory::layout::GLOBALS;
 use memory::parts::Parts;
 use module::handles::FunctionHandle;
@@ -16,18 +18,18 @@ use part::store::entries;
 use request::record::ends;
 
 // No function has a total.
-pub fn clear_flags(totals: &mut [u8], n: usize)
-    requires { n ≤ length totals.old }
-    ensures { FlagsCleared totals.old n totals.new }
+pub fn clear_flags(flags: &mut [bool], n: usize)
+    requires { n ≤ length flags.old }
+    ensures { FlagsCleared flags.old n flags.new }
 {
-    totals[..n].fill(0);
+    flags[..n].fill(false);
 }
 
 pub fn read_functions(
     file: &File,
-    places: &[u32],
+    places: &MarkPlaces,
     parts: &mut Parts,
-    totals: &mut [u8],
+    totals: &mut MarkTotals,
     pruner: &[u8],
     at: usize,
     sum: usize,
@@ -58,9 +60,9 @@ pub fn read_functions(
 // The fields of a buffer's record, behind its header. Whether they are totals that 16 allows.
 pub fn read_body(
     file: &File,
-    places: &[u32],
+    places: &MarkPlaces,
     parts: &mut Parts,
-    totals: &mut [u8],
+    totals: &mut MarkTotals,
     pruner: &[u8],
 ) -> bool
     requires has_totals { HasTotals file.now.bytes file.now.t places.now parts.old.cells parts.old.slots totals.old × NoTotals file.now.bytes file.now.t parts.old.cells parts.old.slots totals.old }

@@ -5,21 +5,25 @@ ghost use Rattle.pruner.specs.Reading.{Untold, PrunerWasRead};
 use crate::buffer::{clear_flags, read_body};
 use crate::frame::{is_fresh, record_length};
 use access::file::File;
+use marks::places::MarkPlaces;
+use marks::totals::MarkTotals;
 use memory::parts::Parts;
 
+// Stays: file, places, parts and totals go one by one, here, in buffer, total and totals: a `World` says of the types' rows too, and a `Workspace` has the
+// open marks and totals of just one length, and no caller of these functions owes that.
 // Whether the buffer means totals.
 pub fn read_pruner(
     file: &File,
-    places: &[u32],
+    places: &MarkPlaces,
     parts: &mut Parts,
-    totals: &mut [u8],
+    totals: &mut MarkTotals,
     pruner: &[u8],
 ) -> bool
     requires { HasTotals file.now.bytes file.now.t places.now parts.old.cells parts.old.slots totals.old × Untold parts.old.cells parts.old.slots }
     ensures { PrunerWasRead file.now.bytes file.now.t parts.old.cells parts.old.slots totals.old pruner.now parts.new.cells parts.new.slots totals.new result }
 {
     let n = file.functions() as usize;
-    clear_flags(totals, n);
+    clear_flags(&mut totals.flags, n);
     if is_fresh(pruner) {
         return true;
     }

@@ -11,9 +11,9 @@ use crate::reader::read_marks;
 use access::file::File;
 use field::field::read;
 use leave::leave::records_of;
-use marks::places::start;
-use marks::report::{HAS_TOTAL, TOTALS};
-use memory::layout::{FUNCTIONS, TOTALS as RECORDS};
+use marks::places::{MarkPlaces, range};
+use marks::totals::MarkTotals;
+use memory::layout::{FUNCTIONS, TOTALS};
 use memory::parts::Parts;
 use module::handles::FunctionHandle;
 use request::record::ends;
@@ -21,9 +21,9 @@ use request::record::ends;
 // The total of f, from the byte after its flag on.
 pub fn read_kept(
     file: &File,
-    places: &[u32],
+    places: &MarkPlaces,
     parts: &mut Parts,
-    totals: &mut [u8],
+    totals: &mut MarkTotals,
     pruner: &[u8],
     at: usize,
     f: FunctionHandle,
@@ -34,10 +34,10 @@ pub fn read_kept(
     ensures { KeptWasRead file.now.bytes file.now.t parts.old.cells parts.old.slots totals.old pruner.now at f.0 sum parts.new.cells parts.new.slots totals.new result }
 {
     let i = f.0 as usize;
-    let from = start(places, i);
-    let n = start(places, i + 1) - from;
-    totals[i] = HAS_TOTAL;
-    if !read_marks(pruner, at, totals, TOTALS + from, n) {
+    let own = range(places, f);
+    let n = own.end - own.start;
+    totals.flags[i] = true;
+    if !read_marks(pruner, at, &mut totals.marks, own.start, n) {
         return None;
     }
     let slot = FUNCTIONS + 4 * i;
@@ -47,16 +47,16 @@ pub fn read_kept(
     let lists = at + 2 * n;
     let (next, count) = read_context(parts, pruner, lists, slot, g, a, l, sum)?;
     let records = records_of(file, f);
-    let base = RECORDS + records.from;
+    let base = TOTALS + records.from;
     read_records(parts, pruner, next, base, records.n, count)
 }
 
 // The total of f after 1, or none after 0. It has none yet.
 pub fn read_total(
     file: &File,
-    places: &[u32],
+    places: &MarkPlaces,
     parts: &mut Parts,
-    totals: &mut [u8],
+    totals: &mut MarkTotals,
     pruner: &[u8],
     at: usize,
     f: FunctionHandle,

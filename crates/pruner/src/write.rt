@@ -1,60 +1,54 @@
-// A function's total written from a walk's memory into a lent slice, list by list. What lies before and after stays.
-ghost use Rattle.std.specs.Prelude.{◌+◌, ◌≤◌, ◌<◌, length, take, drop};
+// A function's total written from a walk's memory, list by list.
+ghost use Rattle.std.specs.Prelude.{◌+◌, ◌≤◌, length, take, drop};
 ghost use Rattle.part.specs.Store.{top, Good, Below};
-ghost use Rattle.request.specs.Written.{Fits, Written};
+ghost use Rattle.request.specs.Written.{HasRoom, Writes};
 ghost use Rattle.std.proofs.Math.Option.{some};
 ghost use Rattle.request.specs.Context.{write_context_body};
 ghost use Rattle.memory.specs.Memory.{read, records_of, context_at};
 ghost use Rattle.pruner.specs.Form.{write_records, write_total};
 ghost use Rattle.pruner.specs.Stored.{total_in, Stored};
 
-use field::field::write;
 use memory::parts::Parts;
-use request::write::{write_return, write_variables};
+use memory::stretches::load_context;
+use request::write::{write_context_body, write_return};
+use request::writer::Writer;
 
-// Stays: the two loops here write marks and records. One loop for both is no plainer: a closure would write into the lent slice and give the
-// next place, and its contract would say for each call what theirs say once.
+// Stays: the two loops here write marks and records. One loop for both is no plainer: a closure would write by the writer, and its contract would say
+// for each call what theirs say once.
 // The n marks from the byte `from` on, one field each.
-pub fn write_marks(marks: &[u8], from: usize, n: usize, out: &mut [u8], at: usize) -> usize
+pub fn write_marks(marks: &[u8], from: usize, n: usize, writer: &mut Writer)
     requires n_in_bounds { from + n ≤ length marks.now }
-    requires fits { Fits out.old at (take n (drop from marks.now)) }
-    ensures { Written out.old out.new at (take n (drop from marks.now)) result }
+    requires fits { HasRoom writer.old (take n (drop from marks.now)) }
+    ensures { Writes writer.old writer.new (take n (drop from marks.now)) }
 {
-    let mut next = at;
     for k in 0..n {
-        write(out, next, marks[from + k] as u16);
-        next += 2;
+        writer.field(marks[from + k] as u16);
     }
-    next
 }
 
 // The records of n expressions, whose slots begin at `base`.
-pub fn write_records(parts: &Parts, base: usize, n: usize, out: &mut [u8], at: usize) -> usize
+pub fn write_records(parts: &Parts, base: usize, n: usize, writer: &mut Writer)
     requires good { Good parts.now.cells }
     requires below { Below parts.now.slots (top parts.now.cells) }
     requires n_in_bounds { base + n ≤ length parts.now.slots }
-    requires fits { Fits out.old at (write_records (records_of (read parts.now.cells parts.now.slots) base n)) }
-    ensures { Written out.old out.new at (write_records (records_of (read parts.now.cells parts.now.slots) base n)) result }
+    requires fits { HasRoom writer.old (write_records (records_of (read parts.now.cells parts.now.slots) base n)) }
+    ensures { Writes writer.old writer.new (write_records (records_of (read parts.now.cells parts.now.slots) base n)) }
 {
-    let mut next = at;
     for k in 0..n {
-        next = write_return(&parts.cells, parts.slots[base + k], out, next);
+        write_return(&parts.cells, parts.slots[base + k], writer);
     }
-    next
 }
 
-// The lists of the context in the four slots from `context` on, in the order of a context's record.
-pub fn write_lists(parts: &Parts, context: usize, out: &mut [u8], at: usize) -> usize
+// The lists of the context in the four slots from `context` on, in the order of its record.
+pub fn write_lists(parts: &Parts, context: usize, writer: &mut Writer)
     requires good { Good parts.now.cells }
     requires below { Below parts.now.slots (top parts.now.cells) }
     requires context_in_bounds { context + 4 ≤ length parts.now.slots }
-    requires fits { Fits out.old at (write_context_body (context_at (read parts.now.cells parts.now.slots) context)) }
-    ensures { Written out.old out.new at (write_context_body (context_at (read parts.now.cells parts.now.slots) context)) result }
+    requires fits { HasRoom writer.old (write_context_body (context_at (read parts.now.cells parts.now.slots) context)) }
+    ensures { Writes writer.old writer.new (write_context_body (context_at (read parts.now.cells parts.now.slots) context)) }
 {
-    let globals = write_return(&parts.cells, parts.slots[context + 3], out, at);
-    let args = write_variables(&parts.cells, parts.slots[context], out, globals);
-    let locals = write_variables(&parts.cells, parts.slots[context + 2], out, args);
-    write_variables(&parts.cells, parts.slots[context + 1], out, locals)
+    let c = load_context(&parts.slots, context);
+    write_context_body(&parts.cells, c, writer);
 }
 
 // A function's total, after 1: n marks from the byte `from` on, the context in the slots from `context` on, and `count` records in those from `base` on.
@@ -66,15 +60,14 @@ pub fn write_total(
     context: usize,
     base: usize,
     count: usize,
-    out: &mut [u8],
-    at: usize,
-) -> usize
+    writer: &mut Writer,
+)
     requires stored { Stored parts.now.cells parts.now.slots marks.now from n context base count }
-    requires fits { Fits out.old at (write_total (some (total_in parts.now.cells parts.now.slots marks.now from n context base count))) }
-    ensures { Written out.old out.new at (write_total (some (total_in parts.now.cells parts.now.slots marks.now from n context base count))) result }
+    requires fits { HasRoom writer.old (write_total (some (total_in parts.now.cells parts.now.slots marks.now from n context base count))) }
+    ensures { Writes writer.old writer.new (write_total (some (total_in parts.now.cells parts.now.slots marks.now from n context base count))) }
 {
-    write(out, at, 1);
-    let lists = write_marks(marks, from, n, out, at + 2);
-    let records = write_lists(parts, context, out, lists);
-    write_records(parts, base, count, out, records)
+    writer.field(1);
+    write_marks(marks, from, n, writer);
+    write_lists(parts, context, writer);
+    write_records(parts, base, count, writer);
 }

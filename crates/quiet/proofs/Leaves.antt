@@ -62,7 +62,7 @@ module _ (S : Scope) (n : PartReq) (first last : ℕ) where
       record { is = sym (p.is ∙ rw z); long = p.long }
 
 -- A statement, by its row
-module _ {bytes t : List ℕ} {f : ℕ} {types alike paths : List ℕ} (w : World bytes t f types alike paths) {s : ℕ} (l : s < length (function_of bytes t f).statements) {row : Kinded} (is : row ≡ statement_row bytes t f s) where
+module _ {bytes t : List ℕ} {f : ℕ} {types alike : List ℕ} {paths : List Bool} (w : World bytes t f types alike paths) {s : ℕ} (l : s < length (function_of bytes t f).statements) {row : Kinded} (is : row ≡ statement_row bytes t f s) where
   abbrev S : Scope
   S = scope_at bytes t f
 

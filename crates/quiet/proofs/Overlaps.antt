@@ -37,13 +37,13 @@ some-by (suc (suc zero)) h s = refl
 some-by (suc (suc (suc p))) h s = rw (lt-ltb 2 (suc (suc (suc p))) (omega arith))
 
 -- A store, whatever its value
-pub store_below : {bytes t : List ℕ} {f : ℕ} {types alike paths : List ℕ} → World bytes t f types alike paths → {p : ℕ} → Pointer bytes t f p → (v : ℕ) (n : PartReq) →
+pub store_below : {bytes t : List ℕ} {f : ℕ} {types alike : List ℕ} {paths : List Bool} → World bytes t f types alike paths → {p : ℕ} → Pointer bytes t f p → (v : ℕ) (n : PartReq) →
     Tidy n (frame (scope_at bytes t f)) → overlap (scope_at bytes t f) (store p v) n ≡ below n (target (path_of (scope_at bytes t f) p))
 unfolding overlap
 store_below {bytes} {t} {f} w {p} h v n d =
     hit-below (frame (scope_at bytes t f)) n _ d (landed (scope_at bytes t f) w.read w.judged p h.there h.path).place.within
 
-module _ {bytes t : List ℕ} {f : ℕ} {types alike paths cells : List ℕ} {m : ℕ} (g : Needing bytes t f types alike paths cells m) where
+module _ {bytes t : List ℕ} {f : ℕ} {types alike : List ℕ} {paths : List Bool} {cells : List ℕ} {m : ℕ} (g : Needing bytes t f types alike paths cells m) where
   abbrev S : Scope
   S = scope_at bytes t f
 

@@ -13,7 +13,7 @@ use Rattle.standing.specs.World.{World}
 use Rattle.quiet.specs.declared.need.Need.{Need}
 
 -- a need, as the piece m of a store
-pub record Needing (bytes t : List ℕ) (f : ℕ) (types alike paths cells : List ℕ) (m : ℕ) : Type 0 where
+pub record Needing (bytes t : List ℕ) (f : ℕ) (types alike : List ℕ) (paths : List Bool) (cells : List ℕ) (m : ℕ) : Type 0 where
   pub world : World bytes t f types alike paths
   pub store : Good cells
   pub there : m < top cells

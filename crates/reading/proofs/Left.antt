@@ -9,7 +9,7 @@ use Rattle.field.specs.Limits.{max_bytes}
 use Rattle.module.specs.declared.tables.Counts.{Counts}
 use Rattle.module.specs.Scan.{values}
 use Rattle.module.specs.File.{Next, go, stop, ended, record_next, answer_of, onward, read_from, read_module}
-use Rattle.module.specs.Tables.{words, max_items, reading_of}
+use Rattle.module.specs.Tables.{words, reading_of}
 use Rattle.std.specs.Prelude.{Result, Ok, Err}
 use Rattle.field.specs.declared.refusal.Refusal.{Refusal}
 use Rattle.field.specs.Refusal.{number}
@@ -22,13 +22,13 @@ use Rattle.reading.proofs.Zeros.{get_d_zeros}
 use Rattle.reading.proofs.Numbers.{from_end, from_next, from_start}
 
 -- `fuel` is more than there are records from `at` on
-pub record Left (bytes t seen held : List ℕ) (c : Counts) (at : ℕ) : Type 0 where
-  pub between : Between bytes t seen held c at
+pub record Left (bytes t seen : List ℕ) (c : Counts) (at : ℕ) : Type 0 where
+  pub between : Between bytes t seen c at
   pub fuel : ℕ
   pub enough : length bytes < at + fuel
   pub rest : read_from fuel bytes at (reading_of bytes t c) ≡ read_module bytes
 
-module _ (bytes t seen held : List ℕ) where
+module _ (bytes t seen : List ℕ) where
   module _ (size : length bytes ≤ max_bytes) (table : words ≤ length t) where
     none_yet : Progress bytes t (no_counts (length bytes)) 0
     none_yet =
@@ -50,8 +50,8 @@ module _ (bytes t seen held : List ℕ) where
           number = λ h. absurd (omega arith);
         }
 
-    pub left_first : (n : ℕ) (c : Counts) → seen ≡ zeros n → values ≤ n → max_items ≤ length held → c ≡ no_counts (length bytes) → Left bytes t seen held c 0
-    left_first n c e v h k =
+    pub left_first : (n : ℕ) (c : Counts) → seen ≡ zeros n → values ≤ n → c ≡ no_counts (length bytes) → Left bytes t seen c 0
+    left_first n c e v k =
         rw k
         (record {
           between =
@@ -63,7 +63,6 @@ module _ (bytes t seen held : List ℕ) where
                       room = rw (length-replicate {A = ℕ} n 0) v;
                       low = λ k. rw (get_d_zeros n k) (omega arith);
                     });
-                room = h;
               };
           fuel = suc (length bytes);
           enough = omega arith;
@@ -85,7 +84,7 @@ module _ (bytes t : List ℕ) (c : Counts) (at fuel : ℕ) (enough : length byte
       ∙ ap (λ (n : ℕ). read_from n bytes at (reading_of bytes t c)) (sym f)
       ∙ rest
 
-module _ {bytes t seen held : List ℕ} {c : Counts} {at : ℕ} (l : Left bytes t seen held c at) where
+module _ {bytes t seen : List ℕ} {c : Counts} {at : ℕ} (l : Left bytes t seen c at) where
   pub left_done : length bytes ≤ at → Passed bytes t (Ok c)
   left_done h =
       let e : at ≡ length bytes = omega (arith, l.between.progress.used.here) in
@@ -98,13 +97,13 @@ module _ {bytes t seen held : List ℕ} {c : Counts} {at : ℕ} (l : Left bytes 
         let q : stop (number n) ≡ record_next bytes at (reading_of bytes t c) = sym (ap (next_of bytes u) k) ∙ r.is in
         sym (fuelled bytes t c at l.fuel l.enough l.rest (l.fuel - 1) (omega (arith, l.enough)) there (stop (number n)) q)
 
-    pub left_again : (after-held : List ℕ) (d : Counts) (next : ℕ) → s ≡ Ok d → max_items ≤ length after-held → next ≡ after bytes at → Left bytes u after-seen after-held d next
+    pub left_again : (d : Counts) (next : ℕ) → s ≡ Ok d → next ≡ after bytes at → Left bytes u after-seen d next
     unfolding next_of
-    left_again after-held d next k h e =
+    left_again d next k e =
         let q : go (reading_of bytes u d) ≡ record_next bytes at (reading_of bytes t c) = sym (ap (next_of bytes u) k) ∙ r.is in
         rw e
         (record {
-          between = record { progress = r.progress d k; unseen = r.unseen d k; room = h };
+          between = record { progress = r.progress d k; unseen = r.unseen d k };
           fuel = l.fuel - 1;
           enough = omega (arith, l.enough);
           rest = fuelled bytes t c at l.fuel l.enough l.rest (l.fuel - 1) (omega (arith, l.enough)) there (go (reading_of bytes u d)) q;

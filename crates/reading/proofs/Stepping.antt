@@ -129,7 +129,7 @@ module _ (bytes t : List ℕ) (c : Counts) (at : ℕ) (mark : Mark) (p : Bool) (
   pub elsewhere : (seen : List ℕ) → p ≡ false → Stepped bytes t seen at (mark_next bytes at (some mark) (reading_of bytes t c)) (Err MarkMisplaced)
   elsewhere seen e = stops bytes t seen at MarkMisplaced (mark_next bytes at (some mark) (reading_of bytes t c)) (elsewhere_next e)
 
-  module _ (seen held : List ℕ) (b : Between bytes t seen held c at) (e : p ≡ true) (s : Result Counts Refusal) (u : List ℕ) (is-step : s ≡ step_at bytes t mark c) (is-table : u ≡ table_at bytes t mark c) where
+  module _ (seen : List ℕ) (b : Between bytes t seen c at) (e : p ≡ true) (s : Result Counts Refusal) (u : List ℕ) (is-step : s ≡ step_at bytes t mark c) (is-table : u ≡ table_at bytes t mark c) where
     ends_next : ended_at mark (reading_of bytes t c) ≡ next_of bytes u s
     ends_next = rw (is-step, is-table) (sym (at_is bytes t c at b.progress mark))
 

@@ -7,7 +7,6 @@ use Rattle.module.specs.Record.{length_at}
 use Rattle.module.specs.File.{Next, placed}
 use Rattle.module.specs.Reading.{rank}
 use Rattle.module.specs.Scan.{Fresh}
-use Rattle.module.specs.Tables.{max_items}
 use Rattle.reading.specs.Progress.{Progress, Ready}
 use Rattle.reading.specs.Ends.{next_of}
 
@@ -20,10 +19,9 @@ abbrev pub Unseen : List ℕ → ℕ → Type 0
 Unseen seen at = Fresh seen (8 * at + 8)
 
 -- between two records
-pub record Between (bytes t seen held : List ℕ) (c : Counts) (at : ℕ) : Type 0 where
+pub record Between (bytes t seen : List ℕ) (c : Counts) (at : ℕ) : Type 0 where
   pub progress : Progress bytes t c at
   pub unseen : Unseen seen at
-  pub room : max_items ≤ length held
 
 -- before the body of a record: it is whole, and its mark is in its place
 pub record Begun (bytes t seen : List ℕ) (c : Counts) (at : ℕ) (mark : Mark) : Type 0 where

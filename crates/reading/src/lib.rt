@@ -6,3 +6,4 @@ pub mod blocks;
 pub mod ends;
 pub mod read;
 pub mod record;
+pub mod room;

@@ -10,6 +10,7 @@ ghost use Rattle.reading.specs.Reads.{Answered, Reads, Passed, no_counts};
 
 use crate::ends::ended;
 use crate::record::record_next;
+use crate::room::Room;
 use field::limits::MAX_BYTES;
 use field::refusal::Refusal;
 use module::tables::{Counts, HEAD, MAX_ITEMS, Row, Stage, put};
@@ -36,36 +37,28 @@ fn no_counts(size: u32) -> Counts
 }
 
 // All records, up to the first that is refused.
-fn records(
-    bytes: &[u8],
-    t: &mut [u32],
-    seen: &mut [u32],
-    held: &mut [u32],
-) -> Result<Counts, Refusal>
+fn records(bytes: &[u8], t: &mut [u32], room: &mut Room) -> Result<Counts, Refusal>
     requires bytes_len_bound { length bytes.now ≤ max_bytes }
     requires words_in_bounds { words ≤ length t.old }
-    requires values_in_bounds { values ≤ length seen.old }
-    requires max_items_in_bounds { max_items ≤ length held.old }
     ensures { Passed bytes.now t.new result }
 {
-    seen.fill(0);
+    room.seen.fill(0);
     let mut c = no_counts(bytes.len() as u32);
     let mut at: u32 = 0;
     // Stays: a record says where the next one begins, and the first that is refused ends the loop.
     while (at as usize) < bytes.len() {
-        c = record_next(bytes, t, seen, held, at, c)?;
+        c = record_next(bytes, t, room, at, c)?;
         at += 4 + (field::field::get(bytes, (at as usize) + 2) as u32);
     }
     Ok(c)
 }
 
 // The end of the file is the end of its last function. The counts of the whole go into the tables.
-fn finish(bytes: &[u8], t: &mut [u32], held: &mut [u32], c: Counts) -> Result<(), Refusal>
-    requires progress { Progress bytes.now t.old c (length bytes.now) }
-    requires max_items_in_bounds { max_items ≤ length held.old }
+fn finish(bytes: &[u8], t: &mut [u32], room: &mut Room, c: Counts) -> Result<(), Refusal>
+    requires { Progress bytes.now t.old c (length bytes.now) }
     ensures { Answered bytes.now t.new (answer_of (ended (reading_of bytes.now t.old c))) (number_of result) }
 {
-    let d = ended(bytes, t, held, c)?;
+    let d = ended(bytes, t, room.held, c)?;
     put(t, HEAD, d.types);
     put(t, HEAD + 1, d.globals);
     put(t, HEAD + 2, d.functions);
@@ -82,8 +75,9 @@ pub fn read(bytes: &[u8], t: &mut [u32], seen: &mut [u32], held: &mut [u32]) -> 
     if MAX_BYTES < bytes.len() {
         return Err(Refusal::ModuleTooLong);
     }
-    let c = records(bytes, t, seen, held)?;
-    finish(bytes, t, held, c)
+    let mut room = Room { seen, held };
+    let c = records(bytes, t, &mut room)?;
+    finish(bytes, t, &mut room, c)
 }
 
 // The same with room of its own, which is gone when it ends.

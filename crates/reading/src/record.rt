@@ -7,6 +7,7 @@ ghost use Rattle.reading.specs.Steps.{after, Between, Begun, Stepped};
 
 use crate::add::add;
 use crate::ends::ended_at;
+use crate::room::Room;
 use field::refusal::Refusal;
 use module::checks::{fine, over, placed};
 use module::record::{Mark, mark_of};
@@ -37,19 +38,18 @@ fn body_next(
 fn mark_next(
     bytes: &[u8],
     t: &mut [u32],
-    seen: &mut [u32],
-    held: &mut [u32],
+    room: &mut Room,
     at: u32,
     mark: Mark,
     c: Counts,
 ) -> Result<Counts, Refusal>
-    requires between { Between bytes.now t.old seen.old held.old c at }
+    requires between { Between bytes.now t.old room.old.seen.now c at }
     requires at_in_bounds { after bytes.now at ≤ length bytes.now }
-    ensures { Stepped bytes.now t.new seen.new at (mark_next bytes.now at (some mark) (reading_of bytes.now t.old c)) result }
+    ensures { Stepped bytes.now t.new room.new.seen.now at (mark_next bytes.now at (some mark) (reading_of bytes.now t.old c)) result }
 {
     if placed(mark, c.stage) {
-        let d = ended_at(bytes, t, held, mark, c)?;
-        return body_next(bytes, t, seen, at, mark, d);
+        let d = ended_at(bytes, t, room.held, mark, c)?;
+        return body_next(bytes, t, room.seen, at, mark, d);
     }
     Err(Refusal::MarkMisplaced)
 }
@@ -58,14 +58,13 @@ fn mark_next(
 pub fn record_next(
     bytes: &[u8],
     t: &mut [u32],
-    seen: &mut [u32],
-    held: &mut [u32],
+    room: &mut Room,
     at: u32,
     c: Counts,
 ) -> Result<Counts, Refusal>
-    requires between { Between bytes.now t.old seen.old held.old c at }
+    requires between { Between bytes.now t.old room.old.seen.now c at }
     requires at_in_bounds { at < length bytes.now }
-    ensures { Stepped bytes.now t.new seen.new at (record_next bytes.now at (reading_of bytes.now t.old c)) result }
+    ensures { Stepped bytes.now t.new room.new.seen.now at (record_next bytes.now at (reading_of bytes.now t.old c)) result }
 {
     let left = bytes.len() - (at as usize);
     if left < 4 {
@@ -77,5 +76,5 @@ pub fn record_next(
     let Some(mark) = mark_of(field::field::get(bytes, at as usize)) else {
         return Err(Refusal::MarkMisplaced);
     };
-    mark_next(bytes, t, seen, held, at, mark, c)
+    mark_next(bytes, t, room, at, mark, c)
 }

@@ -16,6 +16,8 @@ use Rattle.type_table.proofs.AllSized.{all_sized}
 use Rattle.request.specs.Fields as reading
 use Rattle.request.specs.Request.{Request, read_request}
 use Rattle.walk.specs.Requests.{Pruner, fresh}
+use Rattle.marks.specs.declared.places.MarkPlaces.{MarkPlaces}
+use Rattle.marks.specs.declared.totals.MarkTotals.{MarkTotals}
 use Rattle.state.specs.Ready.{WasRead}
 use Rattle.pruner.specs.Form.{read_pruner}
 use Rattle.pruner.proofs.Back.{read_pruner-zero}
@@ -60,7 +62,7 @@ unfolding after_request request_text
 asked_refused m (reading.refused k) e = ap refused_text (cc)
 asked_refused m (reading.accepted q) e = absurd (with_refused q (read_pruner m none_yet) (fresh m) (read_pruner-zero m []) e)
 
-module _ {bytes t places s rs open_marks totals asked-bytes : List ℕ} {b : Result Begun Refusal} (B : Begins bytes t places min_report asked-bytes none_yet s rs open_marks totals b) where
+module _ {bytes t : List ℕ} {places : MarkPlaces} {s rs open_marks : List ℕ} {totals : MarkTotals} {asked-bytes : List ℕ} {b : Result Begun Refusal} (B : Begins bytes t places min_report asked-bytes none_yet s rs open_marks totals b) where
   pub request_refused : {e : Refusal} → b ≡ Err e → TextIs (request_text (module_of bytes t) (read_request (module_of bytes t) min_report asked-bytes)) bytes t asked-bytes places s rs open_marks (Err e)
   request_refused z = record { by = asked_refused (module_of bytes t) (read_request (module_of bytes t) min_report asked-bytes) (rw z at B.by) }
 

@@ -19,6 +19,8 @@ use Rattle.walk.specs.Requests.{Answer, Pruner, fresh, request, end_count, repor
 use Rattle.walk.proofs.Ends.{ended}
 use Rattle.memory.specs.Layout.{stack_slot}
 use Rattle.memory.specs.Memory.{read, Memory}
+use Rattle.marks.specs.declared.places.MarkPlaces.{MarkPlaces}
+use Rattle.marks.specs.declared.totals.MarkTotals.{MarkTotals}
 use Rattle.state.specs.declared.answer.Tally.{Tally}
 use Rattle.state.specs.declared.answer.Halt.{Halt}
 use Rattle.state.specs.declared.answer.Answer as walked
@@ -38,8 +40,8 @@ use Rattle.report.specs.Outcome.{Shows, Asked, Walked}
 use Rattle.report.proofs.Shown.{shows as shown, fresh-shows}
 
 -- the walk of the request q has ended
-module _ {bytes t types places s rs open_marks totals : List ℕ} {q : Request} (L : Loaded bytes t types places s rs open_marks totals q (fresh (module_of bytes t)))
-    {visits sum : ℕ} {b : Bool} {u us open_after totals-after : List ℕ}
+module _ {bytes t types : List ℕ} {places : MarkPlaces} {s rs open_marks : List ℕ} {totals : MarkTotals} {q : Request} (L : Loaded bytes t types places s rs open_marks totals q (fresh (module_of bytes t)))
+    {visits sum : ℕ} {b : Bool} {u us open_after : List ℕ} {totals-after : MarkTotals}
     (E : FunctionEnded bytes t types places s rs open_marks totals q.function stack_slot 0 (walks bytes t (fresh (module_of bytes t)) q) visits sum b u us open_after totals-after) where
   base_few : pieces (record { globals = q.globals; locals = none; args = none; retval = return_entry q.retval }) ≤ 2 * max_pieces
   base_few = omega (arith, L.base_few, ap pieces L.base_is)
@@ -76,11 +78,11 @@ module _ {bytes t types places s rs open_marks totals : List ℕ} {q : Request} 
         → Shows (answer_text (module_of bytes t) q (request (module_of bytes t) (fresh (module_of bytes t)) q).0) bytes t asked-bytes places u us open_after q.function b
     shows l = record { reporting = reporting; q = q; asks = asks; function_is = refl; is = text l }
 
-module _ {bytes t types places s rs open_marks totals : List ℕ} {h : Handle} {sum : ℕ} (A : Asked bytes t types places s rs open_marks totals h.0 sum) where
+module _ {bytes t types : List ℕ} {places : MarkPlaces} {s rs open_marks : List ℕ} {totals : MarkTotals} {h : Handle} {sum : ℕ} (A : Asked bytes t types places s rs open_marks totals h.0 sum) where
   pub walk_enters : FunctionEntered bytes t types places s rs open_marks totals h.0 stack_slot 0 sum 0
   walk_enters = rw (← A.function_is, A.sum_is) (enters A.loaded)
 
-  module _ {a : Result walked.Answer Halt} {u us open_after totals-after : List ℕ}
+  module _ {a : Result walked.Answer Halt} {u us open_after : List ℕ} {totals-after : MarkTotals}
       (E : FunctionEnds bytes t types places s rs open_marks totals h.0 stack_slot 0 (walk_in bytes t s rs open_marks totals h.0) a u us open_after totals-after) where
     pub walk_halted : {stop : Halt} → a ≡ Err stop → Walked bytes t types places s rs open_marks totals h.0 u us open_after (Err stop.refusal)
     unfolding answer_text

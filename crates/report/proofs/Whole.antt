@@ -16,10 +16,12 @@ use Rattle.module.specs.declared.handles.FunctionHandle.{FunctionHandle as Handl
 use Rattle.request.specs.Request.{read_request}
 use Rattle.reading.specs.Reads.{Reads}
 use Rattle.memory.specs.Layout.{stack_slot}
+use Rattle.marks.specs.declared.places.MarkPlaces.{MarkPlaces}
 use Rattle.state.specs.Ready.{WasRead}
 use Rattle.lines.specs.Reported.{report_in, text_in, max_text}
-use Rattle.lines.specs.Wrote.{longest, Wrote, Front}
-use Rattle.lines.proofs.Writing.{wrote_then, wrote_front}
+use Rattle.lines.specs.declared.text.Text.{Text}
+use Rattle.lines.specs.Wrote.{longest, Writes, Begins}
+use Rattle.lines.proofs.Writing.{writes_then, writes_first}
 use Rattle.lines.proofs.ReportText.{text_long}
 use Rattle.checking.specs.Word.{said, Roomy}
 use Rattle.checking.specs.declared.words.Verdict.{Verdict}
@@ -39,13 +41,13 @@ module _ (input : List ℕ) {at : ℕ} (e : at ≡ module_bytes input 0) where
 
 -- the request of a module that was read, both as the code has them
 module _ (input : List ℕ) {b t asked : List ℕ} (e : b ≡ module_in input) (q : asked ≡ request_in input) where
-  pub input-walked : {places s rs open_marks : List ℕ} {r : Result Reported Refusal} → WasRead b t
+  pub input-walked : {places : MarkPlaces} {s rs open_marks : List ℕ} {r : Result Reported Refusal} → WasRead b t
       → TextIs (request_text (module_of b t) (read_request (module_of b t) min_report asked)) b t asked places s rs open_marks r
       → TextIs (report_input input) b t (request_in input) places s rs open_marks r
   unfolding report_input module_text
   input-walked w T = rw (← e, w.module_is) (rw q at T)
 
-pub input-refused : (input : List ℕ) {t b u places s rs open_marks : List ℕ} {e : Refusal} → Reads (module_in input) t (number e)
+pub input-refused : (input : List ℕ) {t b u : List ℕ} {places : MarkPlaces} {s rs open_marks : List ℕ} {e : Refusal} → Reads (module_in input) t (number e)
     → TextIs (report_input input) b u (request_in input) places s rs open_marks (Err e)
 unfolding report_input module_text
 input-refused input {e = e} R = record { by = rw (R.refuses (some_number e)) }
@@ -54,19 +56,20 @@ pub was_read : {bytes t : List ℕ} {n : ℕ} → Reads bytes t n → n ≡ 0 �
 was_read R z = record { module_is = (R.accepts z).0; laid = (R.accepts z).1 }
 
 -- the text is written
-module _ {text bytes t asked-bytes places s rs open_marks : List ℕ} {a : Result Reported Refusal} (T : TextIs text bytes t asked-bytes places s rs open_marks a) where
+module _ {text bytes t asked-bytes : List ℕ} {places : MarkPlaces} {s rs open_marks : List ℕ} {a : Result Reported Refusal} (T : TextIs text bytes t asked-bytes places s rs open_marks a) where
   pub reported : {f : Handle} {required : Bool} → a ≡ Ok (record { function = f; required = required }) → Shows text bytes t asked-bytes places s rs open_marks f.0 required
   reported e = rw e at T.by
 
 -- a text behind a text
-front-then : {xs ys zs text more : List ℕ} {n r : ℕ} → Front xs ys text n → Wrote ys zs n more r → length text + length more ≤ length xs → Front xs zs (text ++ more) r
-front-then {xs} {ys} {zs} {text} {more} {n} {r} F W l =
-    let all = sets-eq text xs 0 (omega arith) ∙ ap (λ (e : ℕ). text ++ drop e xs) (zero-add (length text)) in
-    let first : Wrote xs ys 0 text n = record { is = F.is ∙ sym all; behind = omega (arith, F.behind) } in
-    wrote_front (wrote_then first W) (omega (arith, length-append text more))
+begins-then : {a b c : Text} {text more : List ℕ} → a.at ≡ 0 → Begins a b text → Writes b c more → length text + length more ≤ length a.out.now → Begins a c (text ++ more)
+begins-then {a} {b} {c} {text} {more} z B W l =
+    let F = B.front in
+    let all = sets-eq text a.out.now 0 (omega arith) ∙ ap (λ (e : ℕ). text ++ drop e a.out.now) (zero-add (length text)) in
+    let first : Writes a b text = record { same = B.same; wrote = record { is = F.is ∙ rw z (sym all); behind = omega (arith, F.behind, z) } } in
+    writes_first z (writes_then first W) (omega (arith, length-append text more))
 
 -- by what memory has, and its check
-module _ {text bytes t asked-bytes places s rs open_marks : List ℕ} {f : ℕ} {required : Bool} (S : Shows text bytes t asked-bytes places s rs open_marks f required) where
+module _ {text bytes t asked-bytes : List ℕ} {places : MarkPlaces} {s rs open_marks : List ℕ} {f : ℕ} {required : Bool} (S : Shows text bytes t asked-bytes places s rs open_marks f required) where
   module _ {v : Verdict} (C : Checks bytes t s rs open_marks (stack_slot + 4) asked-bytes v) where
     answers : said v ≡ check_of (module_of bytes t) S.q (report_in bytes t s rs open_marks f (stack_slot + 4) required)
     answers =
@@ -76,12 +79,12 @@ module _ {text bytes t asked-bytes places s rs open_marks : List ℕ} {f : ℕ} 
     whole : text ≡ text_in bytes t s rs open_marks f (stack_slot + 4) required ++ check_line (said v)
     whole = S.is ∙ rw answers
 
-    module _ {before between : List ℕ} {n : ℕ} (F : Front before between (text_in bytes t s rs open_marks f (stack_slot + 4) required) n) where
-      short : n ≤ max_text
-      short = omega (arith, F.behind, text_long S.reporting required)
+    module _ {before between : Text} (B : Begins before between (text_in bytes t s rs open_marks f (stack_slot + 4) required)) where
+      short : between.at ≤ max_text
+      short = omega (arith, B.front.behind, text_long S.reporting required)
 
-      pub line_asks : Roomy (said v) × (n + max_line < longest)
+      pub line_asks : Roomy (said v) × (between.at + max_line < longest)
       line_asks = (C.roomy, omega (arith, short))
 
-      pub wrote_whole : {after : List ℕ} {r : ℕ} → max_text + max_line ≤ length before → Wrote between after n (check_line (said v)) r → Front before after text r
-      wrote_whole room W = rw whole (front-then F W (omega (arith, line_long (said v) C.roomy, text_long S.reporting required)))
+      pub begins_whole : {after : Text} → before.at ≡ 0 → max_text + max_line ≤ length before.out.now → Writes between after (check_line (said v)) → Begins before after text
+      begins_whole z room W = rw whole (begins-then z B W (omega (arith, line_long (said v) C.roomy, text_long S.reporting required)))

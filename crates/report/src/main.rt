@@ -9,18 +9,19 @@ ghost use Rattle.report_text.specs.Split.{request_in};
 ghost use Rattle.report_text.specs.Input.{max_input, report_input};
 ghost use Rattle.report.specs.Outcome.{TextIs};
 
-use crate::outcome::{Outcome, behind, front, read_front, walk_read};
+use crate::outcome::{Outcome, behind, front, walk_read};
 use crate::text::write_text;
 use access::file::File;
 use block::workspace::Workspace;
+use boundary_check::check::read_file;
 use check_text::line::MAX_LINE;
-use field::limits::MIN_REPORT;
+use field::limits::{MAX_FUNCTIONS, MIN_REPORT};
 use lines::report::MAX_TEXT;
-use marks::places::PLACES;
-use marks::report::TOTALS_SIZE;
+use marks::places::{MarkPlaces, STARTS};
+use marks::totals::MarkTotals;
 use memory::layout::{CELLS, SLOTS};
 use memory::parts::Parts;
-use module::tables::WORDS;
+use module::tables::{MAX_ITEMS, WORDS};
 use report_text::split::MAX_INPUT;
 use std::io;
 use std::io::Read;
@@ -60,7 +61,7 @@ fn print(
     rt: &impl Print,
     input: &[u8],
     file: &File,
-    places: &[u32],
+    places: &MarkPlaces,
     space: &mut Workspace,
     outcome: Outcome,
 ) -> io::Result<()>
@@ -75,11 +76,12 @@ fn answer(
     rt: &impl Print,
     input: &[u8],
     t: &mut [u32; WORDS],
-    places: &mut [u32; PLACES],
+    places: &mut MarkPlaces,
     space: &mut Workspace,
 ) -> io::Result<()> {
-    let read = read_front(input, t, &mut space.parts);
-    let file = File::new(front(input), t);
+    let bytes = front(input);
+    let read = read_file(bytes, t, &mut space.parts);
+    let file = File::new(bytes, t);
     let outcome = match read {
         Err(refusal) => Err(refusal),
         Ok(()) => walk_read(&file, places, space, behind(input)),
@@ -89,14 +91,20 @@ fn answer(
 
 fn report(rt: &impl Print, input: &[u8]) -> io::Result<()> {
     let mut t: [u32; WORDS] = [0; WORDS];
-    let mut places: [u32; PLACES] = [0; PLACES];
+    let mut places = MarkPlaces {
+        starts: [0; STARTS],
+        firsts: [0; MAX_ITEMS],
+    };
     let mut space = Workspace {
         parts: Parts {
             cells: [0; CELLS],
             slots: [0; SLOTS],
         },
         open: [0; MIN_REPORT],
-        totals: [0; TOTALS_SIZE],
+        totals: MarkTotals {
+            flags: [false; MAX_FUNCTIONS],
+            marks: [0; MIN_REPORT],
+        },
     };
     answer(rt, input, &mut t, &mut places, &mut space)
 }

@@ -1,11 +1,9 @@
 // From the bytes of an input to the end of the walk of its request.
-ghost use Rattle.std.specs.Prelude.{◌≡◌, ◌*◌, ◌≤◌, length};
+ghost use Rattle.std.specs.Prelude.{◌≡◌, ◌*◌, length};
 ghost use Rattle.field.specs.Limits.{min_report};
-ghost use Rattle.field.specs.Refusal.{number_of};
-ghost use Rattle.module.specs.Tables.{words, module_of};
+ghost use Rattle.module.specs.Tables.{module_of};
 ghost use Rattle.context.specs.Types.{type_words};
 ghost use Rattle.request.specs.Request.{read_request};
-ghost use Rattle.reading.specs.Reads.{Reads};
 ghost use Rattle.state.specs.Ready.{WasRead};
 ghost use Rattle.report_text.specs.Split.{module_in, request_in};
 ghost use Rattle.report_text.specs.Input.{request_text};
@@ -18,11 +16,9 @@ use context::remove::TYPE_WORDS;
 use field::limits::{MAX_TYPES, MIN_REPORT};
 use field::refusal::Refusal;
 use function::add::add_function;
-use marks::places::{PLACES, place_marks};
+use marks::places::{MarkPlaces, place_marks};
 use memory::layout::STACK;
-use memory::parts::Parts;
 use module::handles::FunctionHandle;
-use reading::read::{HELD, SEEN, read};
 use report_text::split::split;
 use requests::begin::begin_request;
 use requests::finish::totals_over;
@@ -67,10 +63,11 @@ fn walk_function(world: &World, space: &mut Workspace, f: FunctionHandle, sum: u
 }
 
 // The request of a module that was read, with a row for each type.
+// Stays: boundary's `request_of` makes its world so too. One maker would lend `places` on, which are read after the walk: it takes a clause over that borrow.
 fn walk_request(
     file: &File,
     table: &mut [u32],
-    places: &mut [u32; PLACES],
+    places: &mut MarkPlaces,
     space: &mut Workspace,
     request: &[u8],
 ) -> Outcome
@@ -93,7 +90,7 @@ fn walk_request(
 // The request of a module that was read, asked of a fresh pruner.
 pub fn walk_read(
     file: &File,
-    places: &mut [u32; PLACES],
+    places: &mut MarkPlaces,
     space: &mut Workspace,
     request: &[u8],
 ) -> Outcome
@@ -121,14 +118,4 @@ pub fn behind(input: &[u8]) -> &[u8]
     let n = input.len();
     let at = split(input);
     &input[at..n]
-}
-
-// Reads the module. The walk's memory is room for its reading.
-pub fn read_front(input: &[u8], t: &mut [u32], parts: &mut Parts) -> Result<(), Refusal>
-    requires { words ≤ length t.old }
-    ensures { Reads (module_in input.now) t.new (number_of result) }
-{
-    let cells = &mut parts.cells[..];
-    let slots = &mut parts.slots[..];
-    read(front(input), t, &mut cells[0..SEEN], &mut slots[0..HELD])
 }

@@ -3,11 +3,16 @@ use Prim.Native.Nat.{ℕ, zero, suc, ◌+◌, ◌-◌, ◌<◌, ◌≤◌}
 use native.Mathlib.Omega.{arith}
 use native.Mathlib.Nat.{add-zero}
 use mathlib.Core.Path.{◌≡◌, refl, sym, ap, ◌∙◌}
-use mathlib.Core.Bool.{true, false}
+use mathlib.Core.Bool.{Bool, true, false, true≢false}
 use mathlib.Core.List.{List, [], ◌∷◌}
-use lib.ListN.{length, drop, length-drop}
+use lib.ListN.{length, drop, take, length-drop}
 use lib.Seq.{drop-drop, get_or-drop}
 use borrow.Author.Tests.{le-leb, lt-leb, eq-eqb, ne_eqb}
+use Rattle.std.specs.Prelude.{nat_eq, get_or}
+use Rattle.std.specs.List.{starts_with}
+use Rattle.std.proofs.lemmas.Bool.Decides.{Decides-eqb}
+use Rattle.std.proofs.lemmas.List.{take_all}
+use Rattle.std.proofs.lemmas.Slice.Eq.{starts_is}
 use Rattle.field.specs.Field.{field_at}
 use Rattle.report_text.specs.Split.{request_mark, heads_request, module_bytes}
 
@@ -23,6 +28,27 @@ heads_other l n h = rw (le-leb 4 (length l) h, ne_eqb (field_at l 0) request_mar
 heads_few : (l : List ℕ) → length l < 4 → heads_request l ≡ false
 unfolding heads_request
 heads_few l h = rw (lt-leb 4 (length l) h)
+
+-- the letters as they are compared
+abbrev letters_first : List ℕ → Bool
+letters_first l = starts_with nat_eq l (82 ∷ (81 ∷ []))
+
+begins_with : (l : List ℕ) → letters_first l ≡ true → field_at l 0 ≡ request_mark
+unfolding field_at
+begins_with l e = ap (λ (x : List ℕ). field_at x 0) ((starts_is Decides-eqb l (82 ∷ (81 ∷ [])) (letters_first l) refl).0 e)
+
+-- the first is a byte, so that no other two make the same field
+both_letters : (l : List ℕ) → get_or l 0 0 < 256 → 2 ≤ length l → field_at l 0 ≡ request_mark → l ≡ 82 ∷ (81 ∷ drop 2 l)
+unfolding field_at
+both_letters [] b h e = absurd (omega arith)
+both_letters (x ∷ []) b h e = absurd (omega arith)
+both_letters (x ∷ (y ∷ l)) b h e =
+    let p : x ≡ 82 = omega arith in
+    let q : y ≡ 81 = omega arith in
+    rw (p, q) refl
+
+begins_other : (l : List ℕ) → get_or l 0 0 < 256 → 2 ≤ length l → letters_first l ≡ false → field_at l 0 ≡ request_mark → ⊥
+begins_other l b h n e = true≢false (sym ((starts_is Decides-eqb l (82 ∷ (81 ∷ [])) (letters_first l) refl).1 (drop 2 l) (both_letters l b h e)) ∙ n)
 
 -- the bytes before a request that begins at once, or behind the record at the front
 pub found : (l : List ℕ) → heads_request l ≡ true → module_bytes l 0 ≡ 0
@@ -74,25 +100,30 @@ module _ {s : List ℕ} {at : ℕ} (p : Passed s at) where
       let e : at + (i + 1) ≡ at + i + 1 = omega arith in
       rw (get_or-drop at s i 0, get_or-drop at s (i + 1) 0, e)
 
-  mark_there : field_at (drop at s) 0 ≡ field_at s at
-  mark_there = rw (field_there 0, add-zero at)
-
   left : length (drop at s) ≡ length s - at
   left = length-drop at s
 
+  -- what is compared is all that is left
+  all_left : take (length s - at) (drop at s) ≡ drop at s
+  all_left = take_all (length s - at) (drop at s) (omega (arith, left))
+
   -- a request
-  pub passed_found : 4 ≤ length s - at → field_at s at ≡ request_mark → at ≡ module_bytes s 0
-  passed_found h e = omega (arith, p.is, found (drop at s) (heads (drop at s) (omega (arith, left)) (mark_there ∙ e)))
+  pub passed_found : 4 ≤ length s - at → letters_first (take (length s - at) (drop at s)) ≡ true → at ≡ module_bytes s 0
+  passed_found h e =
+      omega (arith, p.is, found (drop at s) (heads (drop at s) (omega (arith, left)) (begins_with (drop at s) (rw all_left at e))))
 
   -- fewer than four bytes
   pub passed_end : length s - at < 4 → length s ≡ module_bytes s 0
   passed_end h = omega (arith, p.is, p.inside, left, few (drop at s) 0 (omega (arith, left)))
 
   -- another record
-  module _ (h : 4 ≤ length s - at) (other : field_at s at ≡ request_mark → ⊥) where
+  module _ (h : 4 ≤ length s - at) (byte : get_or s at 0 < 256) (n : letters_first (take (length s - at) (drop at s)) ≡ false) where
+    other : field_at (drop at s) 0 ≡ request_mark → ⊥
+    other = begins_other (drop at s) (rw (get_or-drop at s 0 0, add-zero at) byte) (omega (arith, left)) (rw all_left at n)
+
     onward : module_bytes (drop at s) 0 ≡ module_bytes (drop at s) (4 + field_at s (at + 2))
     onward =
-        passes (drop at s) (heads_other (drop at s) (λ e. other (sym mark_there ∙ e)) (omega (arith, left)))
+        passes (drop at s) (heads_other (drop at s) other (omega (arith, left)))
         ∙ rw (field_there 2)
 
     pub passed_cut : length s - at < 4 + field_at s (at + 2) → length s ≡ module_bytes s 0

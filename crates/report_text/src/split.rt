@@ -5,10 +5,6 @@ ghost use Rattle.report_text.specs.Split.{module_bytes};
 use field::field::get;
 use field::limits::MAX_BYTES;
 
-// The mark RQ, its letters as one field.
-// Stays: a number, since `u16::from_le_bytes(*b"RQ")` is no constant expression here.
-const REQUEST: u16 = 20818;
-
 // So much of its input the program reads.
 pub const MAX_INPUT: usize = MAX_BYTES + 4 + 65535 + 1;
 
@@ -20,7 +16,7 @@ pub fn split(input: &[u8]) -> usize
     let mut at = 0;
     // Stays: a record says where the next one begins.
     while 4 <= n - at {
-        if get(input, at) == REQUEST {
+        if input[at..].starts_with(b"RQ") {
             return at;
         }
         let long = 4 + (get(input, at + 2) as usize);

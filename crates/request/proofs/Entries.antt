@@ -108,10 +108,6 @@ kept_on k l =
       same = λ n h. l.same n (omega arith) ∙ k.same n h;
     }
 
--- room for a cell where four bytes have been passed
-pub room_one : {s t b : List ℕ} (at : ℕ) {next : ℕ} → Kept s t → Spent s t b (at + 4) next → RoomFor s b at → Room t 1
-room_one at k p r = omega arith
-
 -- what the code answers
 pub refuse : {s t b : List ℕ} {at : ℕ} {r : Read PartReq} → Kept s t → r ≡ malformed → PartWasRead s t b at r None
 refuse k e = record { kept = k; is = sym e; placed = tt }
@@ -155,9 +151,6 @@ module _ {b : List ℕ} {at low n i k : ℕ} (x : Index b at low n i k) (base d 
 module _ (d : ℕ) {s t u b : List ℕ} {at low n i k : ℕ} {y z : ℕ × ℕ} (x : Index b at low n i k)
     (first : PartWasRead s t b (at + 2 + 2) (read_part d (from b (at + 2))) (Some y))
     (later : PartWasRead t u b y.1 (read_entries (read_part d) 0 (i + 1) k (from b y.1)) (Some z)) where
-  pub room_entry : RoomFor s b at → Room u 1
-  room_entry h = omega (arith, first.placed.1, later.placed.1)
-
   pub entry_made : {v : List ℕ} {m : ℕ} → Made u v (more i (part u y.0) (part u z.0)) 1 m
       → PartWasRead s v b at (read_entries (read_part d) 0 low n (from b at)) (Some (m, z.1))
   entry_made made =

@@ -1,20 +1,21 @@
 -- A request's record as the code writes it: the body field by field, then the header and the function before it; and how long it gets.
 use Prim.Native.Nat.{ℕ, ◌+◌, ◌-◌, ◌*◌, ◌≤◌, ◌<◌, ◌^◌}
 use native.Mathlib.Omega.{arith}
-use mathlib.Core.Path.{◌≡◌, ap, sym, ◌∙◌}
+use mathlib.Core.Path.{◌≡◌, sym, ◌∙◌}
 use mathlib.Core.List.{List, ◌∷◌, ◌++◌}
 use lib.ListN.{length, set, length-set, length-append}
-use lib.Seq.{sets, length-sets}
+use lib.Seq.{sets}
 use Rattle.field.specs.Field.{set_field}
 use Rattle.part.specs.PartReq.{PartReq, all, exist, none, more, entries}
 use Rattle.part.specs.Store.{part}
 use Rattle.request.specs.Fields.{bytes_of, as_field}
 use Rattle.request.specs.Part.{with_code, write_entries, write_part, write_return, write_variables}
 use Rattle.request.specs.Request.{write_body, write_request}
-use Rattle.request.specs.Written.{Fits, Written}
+use Rattle.request.specs.declared.writer.Writer.{Writer}
+use Rattle.request.specs.Written.{Fits, Written, HasRoom, Writes}
 use Rattle.request.proofs.Bytes.{length-bytes_of}
-use Rattle.request.proofs.Writing.{written_then, written_long, fits_then}
-use Rattle.request.proofs.ContextBytes.{before_body, front}
+use Rattle.request.proofs.Writing.{writes_then, written_long, room_then}
+use Rattle.request.proofs.ContextBytes.{before_body}
 
 pub length-request : (f : ℕ) (p q : PartReq) → length (write_request f p q) ≡ 6 + 2 * length (write_return p ++ write_variables q)
 unfolding write_request write_body bytes_of
@@ -31,15 +32,21 @@ module _ (s o : List ℕ) (f retval globals : ℕ) (room : length (write_request
   body_room = omega (arith, length-request f (part s retval) (part s globals))
 
   pub return_fits : Fits o 6 return_fields
-  return_fits = front o 6 return_fields _ body_room
+  return_fits = omega (arith, body_room, length-append return_fields globals-fields)
 
-  module _ {p : List ℕ} {a : ℕ} (first : Written o p 6 return_fields a) where
-    pub globals_fit : Fits p a globals-fields
-    globals_fit = fits_then return_fields globals-fields first body_room
+  module _ {a b : Writer} (o_is : a.out.now ≡ o) (at_is : a.at ≡ 6) (first : Writes a b return_fields) where
+    pub globals_fit : HasRoom b globals-fields
+    globals_fit = room_then return_fields globals-fields first (rw (o_is, at_is) body_room)
 
-    module _ {t : List ℕ} {end : ℕ} (last : Written p t a globals-fields end) where
+    module _ {d : Writer} (last : Writes b d globals-fields) where
+      abbrev t : List ℕ
+      t = d.out.now
+
+      abbrev end : ℕ
+      end = d.at
+
       rest_written : Written o t 6 (return_fields ++ globals-fields) end
-      rest_written = written_then return_fields globals-fields first last
+      rest_written = rw (o_is, at_is) at (writes_then return_fields globals-fields first last).written
 
       pub head_room : 6 ≤ length t
       head_room = omega (arith, written_long rest_written, length-request f (part s retval) (part s globals))
@@ -56,10 +63,6 @@ module _ (s o : List ℕ) (f retval globals : ℕ) (room : length (write_request
       request_written {u} {v} {g} small e h w =
           let long : end - 4 ≡ as_field (2 * length (as_field f ∷ (return_fields ++ globals-fields))) = omega (arith, rest_written.next_is, end_is) in
           w ∙ rw (e, h, long, rest_written.is) (before_body o (bytes_of (return_fields ++ globals-fields)) _ _ _ _ _ _)
-
-      pub still_long : {u v : List ℕ} {g : ℕ} → length (write_request f (part s retval) (part s globals)) < 2 ^ 16 → u ≡ set_field (set (set t 0 82) 1 81) 2 (end - 4) → g ≡ as_field f → v ≡ set_field u 4 g → length v ≡ length o
-      still_long small e h w =
-          ap length (request_written small e h w) ∙ length-sets o 0 (write_request f (part s retval) (part s globals))
 
 -- an entry has at most three fields: its index, and the code and the count of its part
 code_long : (p : PartReq) (fs : List ℕ) → length (with_code p fs) ≤ 2 + length fs

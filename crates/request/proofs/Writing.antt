@@ -6,17 +6,20 @@ use native.Mathlib.Numerals.{add-one, add-two}
 use native.Mathlib.Nat.{add-zero}
 use mathlib.Core.Path.{◌≡◌, refl, ap, sym, ◌∙◌}
 use mathlib.Core.Bool.{false}
-use native.Mathlib.Decide.{dec_lt}
 use mathlib.Core.List.{List, [], ◌∷◌, ◌++◌}
 use lib.ListN.{length, set, length-append}
 use lib.Seq.{sets, length-sets}
-use Rattle.field.specs.Field.{set_field}
+use Rattle.field.specs.Field.{set_field, set_word}
 use Rattle.part.specs.PartReq.{PartReq, all, exist, none, more, width, is_all, is_exist}
 use Rattle.part.specs.Store.{top, part, Seen}
 use Rattle.part.proofs.Pieces.{part-0, part-1, part-2, not_all, not_exist}
 use Rattle.request.specs.Fields.{bytes_of, as_field}
+use Rattle.context.specs.Contexts.{context_of}
+use Rattle.context.specs.declared.required_context.RequiredContext.{RequiredContext as Pieces}
 use Rattle.request.specs.Part.{with_code, write_entries, write_part, write_return, write_variables}
-use Rattle.request.specs.Written.{Fits, Written}
+use Rattle.request.specs.Context.{write_context_body}
+use Rattle.request.specs.declared.writer.Writer.{Writer}
+use Rattle.request.specs.Written.{Written, HasRoom, Writes}
 
 -- one field, and the others after it
 sets-cons : (o : List ℕ) (at f : ℕ) (fs : List ℕ) → sets o at (bytes_of (f ∷ fs)) ≡ sets (set_field o at f) (at + 2) (bytes_of fs)
@@ -35,19 +38,29 @@ pub written_one : {o p : List ℕ} {at f : ℕ} → p ≡ set_field o at f → W
 unfolding bytes_of
 written_one {o} {p} {at} {f} e = record { is = e ∙ sym (sets-cons o at f []); next_is = omega arith }
 
-pub written_then : {o p q : List ℕ} {at mid next : ℕ} (fs gs : List ℕ) → Written o p at fs mid → Written p q mid gs next → Written o q at (fs ++ gs) next
-written_then {o} {p} {q} {at} {mid} fs gs v w =
+pub written_two : {o p : List ℕ} {at : ℕ} (w : ℕ) → p ≡ set_word o at w → Written o p at (w % 65536 ∷ (w / 65536 ∷ [])) (at + 4)
+unfolding set_word bytes_of set_field
+written_two {o} {p} {at} w e = record { is = e ∙ sym (sets-cons o at (w % 65536) (w / 65536 ∷ []) ∙ sets-cons (set_field o at (w % 65536)) (at + 2) (w / 65536) []); next_is = omega arith }
+
+pub writes_then : {a b c : Writer} (fs gs : List ℕ) → Writes a b fs → Writes b c gs → Writes a c (fs ++ gs)
+writes_then {a} fs gs v w =
     record {
-      is = w.is ∙ rw (v.is, v.next_is) (sym (sets-append o at fs gs));
-      next_is = w.next_is ∙ rw (v.next_is, length-append fs gs) (omega arith);
+      same = w.same ∙ v.same;
+      written = record {
+        is = w.written.is ∙ rw (v.written.is, v.written.next_is) (sym (sets-append a.out.now a.at fs gs));
+        next_is = w.written.next_is ∙ rw (v.written.next_is, length-append fs gs) (omega arith);
+      };
     }
 
 pub written_long : {o p : List ℕ} {at next : ℕ} {fs : List ℕ} → Written o p at fs next → length p ≡ length o
 written_long {o} {p} {at} {next} {fs} w = ap length w.is ∙ length-sets o at (bytes_of fs)
 
 -- there is room for what follows
-pub fits_then : {o p : List ℕ} {at mid : ℕ} (fs gs : List ℕ) → Written o p at fs mid → Fits o at (fs ++ gs) → Fits p mid gs
-fits_then fs gs v h = omega (arith, written_long v, v.next_is, length-append fs gs)
+pub room_then : {a b : Writer} (fs gs : List ℕ) → Writes a b fs → HasRoom a (fs ++ gs) → HasRoom b gs
+room_then fs gs v h = omega (arith, written_long v.written, v.written.next_is, length-append fs gs)
+
+pub room_first : (a : Writer) (fs gs : List ℕ) → HasRoom a (fs ++ gs) → HasRoom a fs
+room_first a fs gs h = omega (arith, length-append fs gs)
 
 -- all and exist are their codes alone, which are their numbers
 part-code : (s : List ℕ) (n : ℕ) → n < 2 → write_part (part s n) ≡ n ∷ []
@@ -67,38 +80,49 @@ counted (more i p r) h k = refl
 part_count : (s : List ℕ) (n : ℕ) → 2 ≤ n → write_part (part s n) ≡ 2 ∷ (as_field (width (part s n)) ∷ write_entries (part s n))
 part_count s n h = counted (part s n) (not_all s n (omega arith)) (not_exist s n (omega arith))
 
-module _ (s o : List ℕ) (n at : ℕ) (room : Fits o at (write_part (part s n))) where
-  pub code_room : at + 2 ≤ length o
-  code_room = elim (dec_lt n 2) [
-    | yes l ↦ let h : Fits o at (n ∷ []) = rw (part-code s n l) at room in omega arith
-    | no g ↦ let h : Fits o at (2 ∷ (as_field (width (part s n)) ∷ write_entries (part s n))) = rw (part_count s n (omega arith)) at room in omega arith
-  ]
+module _ (s : List ℕ) (n : ℕ) (a : Writer) (room : HasRoom a (write_part (part s n))) where
+  pub code_room : n < 2 → HasRoom a (n ∷ [])
+  code_room l = rw (part-code s n l) at room
 
-  pub count_room : 2 ≤ n → Fits o (at + 4) (write_entries (part s n))
-  count_room g = let h : Fits o at (2 ∷ (as_field (width (part s n)) ∷ write_entries (part s n))) = rw (part_count s n g) at room in omega arith
+  module _ (g : 2 ≤ n) where
+    counted_room : HasRoom a ((2 ∷ []) ++ ((as_field (width (part s n)) ∷ []) ++ write_entries (part s n)))
+    counted_room = rw (part_count s n g) at room
 
-pub code_written : (s : List ℕ) {o p : List ℕ} {n at : ℕ} → n < 2 → p ≡ set_field o at n → Written o p at (write_part (part s n)) (at + 2)
-code_written s {o} {p} {n} {at} h e = rw (part-code s n h) (written_one e)
+    pub kind_room : a.at + 2 ≤ length a.out.now
+    kind_room = omega (arith, counted_room)
 
-pub count_written : (s : List ℕ) {o p q v : List ℕ} {n w f at next : ℕ} → 2 ≤ n → p ≡ set_field o at 2 → w ≡ width (part s n) → f ≡ as_field w → q ≡ set_field p (at + 2) f
-    → Written q v (at + 4) (write_entries (part s n)) next → Written o v at (write_part (part s n)) next
-count_written s {o} {p} {q} {v} {n} {w} {f} {at} {next} h e wide field g rest =
-    let four : at + 2 + 2 ≡ at + 4 = omega arith in
-    let first : Written o p at (2 ∷ []) (at + 2) = written_one e in
-    let second : Written p q (at + 2) (f ∷ []) (at + 4) = rw four at (written_one g) in
-    let whole : Written o v at (2 ∷ (f ∷ write_entries (part s n))) next = written_then (2 ∷ []) _ first (written_then (f ∷ []) _ second rest) in
-    rw (part_count s n h) (rw (field ∙ ap as_field wide) at whole)
+    module _ {b : Writer} (first : Writes a b (2 ∷ [])) where
+      after_kind : HasRoom b ((as_field (width (part s n)) ∷ []) ++ write_entries (part s n))
+      after_kind = room_then (2 ∷ []) ((as_field (width (part s n)) ∷ []) ++ write_entries (part s n)) first counted_room
 
--- the entries from the piece m on are still to be written, from the byte `next` on
-pub record Left (s a : List ℕ) (at n : ℕ) (o : List ℕ) (m next : ℕ) : Type 0 where
+      pub count_room : b.at + 2 ≤ length b.out.now
+      count_room = omega (arith, after_kind)
+
+      module _ {w f : ℕ} (wide : w ≡ width (part s n)) (field : f ≡ as_field w) {c : Writer} (second : Writes b c (f ∷ [])) where
+        count_is : Writes b c (as_field (width (part s n)) ∷ [])
+        count_is = rw (field ∙ ap as_field wide) at second
+
+        pub entries_room : HasRoom c (write_entries (part s n))
+        entries_room = room_then (as_field (width (part s n)) ∷ []) (write_entries (part s n)) count_is after_kind
+
+        pub count_writes : {d : Writer} → Writes c d (write_entries (part s n)) → Writes a d (write_part (part s n))
+        count_writes rest =
+            rw (part_count s n g) (writes_then (2 ∷ []) (as_field (width (part s n)) ∷ write_entries (part s n)) first (writes_then (as_field (width (part s n)) ∷ []) (write_entries (part s n)) count_is rest))
+
+pub code_writes : (s : List ℕ) {a b : Writer} {n : ℕ} → n < 2 → Writes a b (n ∷ []) → Writes a b (write_part (part s n))
+code_writes s {n = n} h w = rw (part-code s n h) w
+
+-- the entries from the piece m on are still to be written
+pub record Left (s : List ℕ) (a : Writer) (n : ℕ) (b : Writer) (m : ℕ) : Type 0 where
   pub low : m < top s
   pub under : m ≤ n
-  pub long : length o ≡ length a
-  pub rest_is : sets o next (bytes_of (write_entries (part s m))) ≡ sets a at (bytes_of (write_entries (part s n)))
-  pub end_is : next + 2 * length (write_entries (part s m)) ≡ at + 2 * length (write_entries (part s n))
+  pub same : b.out.ghost_name ≡ a.out.ghost_name
+  pub long : length b.out.now ≡ length a.out.now
+  pub rest_is : sets b.out.now b.at (bytes_of (write_entries (part s m))) ≡ sets a.out.now a.at (bytes_of (write_entries (part s n)))
+  pub end_is : b.at + 2 * length (write_entries (part s m)) ≡ a.at + 2 * length (write_entries (part s n))
 
-pub left_first : {s a : List ℕ} {at n : ℕ} → n < top s → Left s a at n a n at
-left_first h = record { low = h; under = omega arith; long = refl; rest_is = refl; end_is = refl }
+pub left_first : {s : List ℕ} {a : Writer} {n : ℕ} → n < top s → Left s a n a n
+left_first h = record { low = h; under = omega arith; same = refl; long = refl; rest_is = refl; end_is = refl }
 
 no_entries : (s : List ℕ) (m : ℕ) → m ≤ 2 → write_entries (part s m) ≡ []
 unfolding write_entries
@@ -111,45 +135,48 @@ entries_seen : {s : List ℕ} {m i c r : ℕ} → Seen s m i c r → write_entri
 unfolding write_entries write_part
 entries_seen x = rw x.is
 
-module _ {s a o : List ℕ} {at n m next : ℕ} (so : Left s a at n o m next) where
-  pub left_done : m ≤ 2 → Written a o at (write_entries (part s n)) next
+module _ {s : List ℕ} {a b : Writer} {n m : ℕ} (so : Left s a n b m) where
+  pub left_done : m ≤ 2 → Writes a b (write_entries (part s n))
   unfolding bytes_of
   left_done h =
       let none_left = no_entries s m h in
       record {
-        is = rw none_left at so.rest_is;
-        next_is = let e : next + 2 * length {A = ℕ} [] ≡ at + 2 * length (write_entries (part s n)) = rw none_left at so.end_is in omega arith;
+        same = so.same;
+        written = record {
+          is = rw none_left at so.rest_is;
+          next_is = let e : b.at + 2 * length {A = ℕ} [] ≡ a.at + 2 * length (write_entries (part s n)) = rw none_left at so.end_is in omega arith;
+        };
       }
 
-  module _ {i c r : ℕ} (x : Seen s m i c r) (room : Fits a at (write_entries (part s n))) where
-    left_room : Fits o next (as_field i ∷ (write_part (part s c) ++ write_entries (part s r)))
-    left_room = rw (entries_seen x) at (let h : Fits o next (write_entries (part s m)) = omega arith in h)
+  module _ {i c r : ℕ} (x : Seen s m i c r) (room : HasRoom a (write_entries (part s n))) where
+    left_room : HasRoom b (as_field i ∷ (write_part (part s c) ++ write_entries (part s r)))
+    left_room = rw (entries_seen x) at (let h : HasRoom b (write_entries (part s m)) = omega (arith, so.long, so.end_is) in h)
 
-    pub index_room : next + 2 ≤ length o
+    pub index_room : b.at + 2 ≤ length b.out.now
     index_room = omega (arith, left_room)
 
-    module _ {p : List ℕ} {f : ℕ} (field : f ≡ as_field i) (wrote : p ≡ set_field o next f) where
-      first_field : Written o p next (as_field i ∷ []) (next + 2)
-      first_field = rw field at (written_one wrote)
+    module _ {p : Writer} {f : ℕ} (field : f ≡ as_field i) (wrote : Writes b p (f ∷ [])) where
+      first_field : Writes b p (as_field i ∷ [])
+      first_field = rw field at wrote
 
-      pub child_room : Fits p (next + 2) (write_part (part s c))
+      pub child_room : HasRoom p (write_part (part s c))
       child_room =
-          let h : Fits p (next + 2) (write_part (part s c) ++ write_entries (part s r)) = fits_then (as_field i ∷ []) (write_part (part s c) ++ write_entries (part s r)) first_field left_room in
-          omega (arith, length-append (write_part (part s c)) (write_entries (part s r)))
+          room_first p (write_part (part s c)) (write_entries (part s r)) (room_then (as_field i ∷ []) (write_part (part s c) ++ write_entries (part s r)) first_field left_room)
 
-      pub left_again : {q : List ℕ} {end : ℕ} → Written p q (next + 2) (write_part (part s c)) end → Left s a at n q r end
-      left_again {q} {end} child =
-          let entry : Written o q next (as_field i ∷ write_part (part s c)) end = written_then (as_field i ∷ []) (write_part (part s c)) first_field child in
+      pub left_again : {q : Writer} → Writes p q (write_part (part s c)) → Left s a n q r
+      left_again {q} child =
+          let entry : Writes b q (as_field i ∷ write_part (part s c)) = writes_then (as_field i ∷ []) (write_part (part s c)) first_field child in
           let size : length (as_field i ∷ (write_part (part s c) ++ write_entries (part s r))) ≡ length (as_field i ∷ write_part (part s c)) + length (write_entries (part s r)) = length-append (as_field i ∷ write_part (part s c)) (write_entries (part s r)) in
-          let end_is : next + 2 * length (as_field i ∷ (write_part (part s c) ++ write_entries (part s r))) ≡ at + 2 * length (write_entries (part s n)) = rw (entries_seen x) at so.end_is in
+          let end_is : b.at + 2 * length (as_field i ∷ (write_part (part s c) ++ write_entries (part s r))) ≡ a.at + 2 * length (write_entries (part s n)) = rw (entries_seen x) at so.end_is in
           record {
             low = omega (arith, x.rest_low, so.low);
             under = omega (arith, x.rest_low, so.under);
-            long = written_long entry ∙ so.long;
+            same = entry.same ∙ so.same;
+            long = written_long entry.written ∙ so.long;
             rest_is =
-                rw (entry.is, entry.next_is)
-                (sym (sets-append o next (as_field i ∷ write_part (part s c)) (write_entries (part s r))) ∙ (rw (entries_seen x) at so.rest_is));
-            end_is = omega (arith, entry.next_is, size, end_is);
+                rw (entry.written.is, entry.written.next_is)
+                (sym (sets-append b.out.now b.at (as_field i ∷ write_part (part s c)) (write_entries (part s r))) ∙ (rw (entries_seen x) at so.rest_is));
+            end_is = omega (arith, entry.written.next_is, size, end_is);
           }
 
 -- the return part and a list of variables
@@ -164,31 +191,76 @@ return_seen : {s : List ℕ} {n i c r : ℕ} → Seen s n i c r → write_return
 unfolding write_return
 return_seen x = rw x.is
 
-module _ (s o : List ℕ) (n at : ℕ) where
-  pub return_room : n < 3 → Fits o at (write_return (part s n)) → at + 2 ≤ length o
-  return_room h room = let f : Fits o at (3 ∷ []) = rw (return_none s n h) at room in omega arith
+module _ (s : List ℕ) (n : ℕ) (a : Writer) where
+  pub return_room : n < 3 → HasRoom a (write_return (part s n)) → HasRoom a (3 ∷ [])
+  return_room h room = rw (return_none s n h) at room
 
-  pub return_written : {p : List ℕ} → n < 3 → p ≡ set_field o at 3 → Written o p at (write_return (part s n)) (at + 2)
-  return_written h e = rw (return_none s n h) (written_one e)
+  pub return_writes : {b : Writer} → n < 3 → Writes a b (3 ∷ []) → Writes a b (write_return (part s n))
+  return_writes h w = rw (return_none s n h) w
 
-  pub return_child_room : {i c r : ℕ} → Seen s n i c r → Fits o at (write_return (part s n)) → Fits o at (write_part (part s c))
+  pub return_child_room : {i c r : ℕ} → Seen s n i c r → HasRoom a (write_return (part s n)) → HasRoom a (write_part (part s c))
   return_child_room x room = rw (return_seen x) at room
 
-  pub return_part_written : {p : List ℕ} {i c r next : ℕ} → Seen s n i c r → Written o p at (write_part (part s c)) next → Written o p at (write_return (part s n)) next
-  return_part_written x w = rw (return_seen x) w
+  pub return_part_writes : {b : Writer} {i c r : ℕ} → Seen s n i c r → Writes a b (write_part (part s c)) → Writes a b (write_return (part s n))
+  return_part_writes x w = rw (return_seen x) w
 
-  pub variables_room : Fits o at (write_variables (part s n)) → at + 2 ≤ length o
+  pub variables_room : HasRoom a (write_variables (part s n)) → a.at + 2 ≤ length a.out.now
   unfolding write_variables
   variables_room room = omega arith
 
-  module _ {p : List ℕ} {w f : ℕ} (wide : w ≡ width (part s n)) (field : f ≡ as_field w) (wrote : p ≡ set_field o at f) where
-    count_field : Written o p at (as_field (width (part s n)) ∷ []) (at + 2)
-    count_field = rw (field ∙ ap as_field wide) at (written_one wrote)
+  module _ {b : Writer} {w f : ℕ} (wide : w ≡ width (part s n)) (field : f ≡ as_field w) (wrote : Writes a b (f ∷ [])) where
+    count_field : Writes a b (as_field (width (part s n)) ∷ [])
+    count_field = rw (field ∙ ap as_field wide) at wrote
 
-    pub variables_left : Fits o at (write_variables (part s n)) → Fits p (at + 2) (write_entries (part s n))
+    pub variables_left : HasRoom a (write_variables (part s n)) → HasRoom b (write_entries (part s n))
     unfolding write_variables
-    variables_left room = fits_then (as_field (width (part s n)) ∷ []) (write_entries (part s n)) count_field room
+    variables_left room = room_then (as_field (width (part s n)) ∷ []) (write_entries (part s n)) count_field room
 
-    pub variables_written : {q : List ℕ} {next : ℕ} → Written p q (at + 2) (write_entries (part s n)) next → Written o q at (write_variables (part s n)) next
+    pub variables_writes : {d : Writer} → Writes b d (write_entries (part s n)) → Writes a d (write_variables (part s n))
     unfolding write_variables
-    variables_written rest = written_then (as_field (width (part s n)) ∷ []) (write_entries (part s n)) count_field rest
+    variables_writes rest = writes_then (as_field (width (part s n)) ∷ []) (write_entries (part s n)) count_field rest
+
+-- the lists of a context, one after the other
+module _ (s : List ℕ) (c : Pieces) (a : Writer) (room : HasRoom a (write_context_body (context_of s c))) where
+  abbrev return_fields : List ℕ
+  return_fields = write_return (part s c.retval)
+
+  abbrev globals_fields : List ℕ
+  globals_fields = write_variables (part s c.globals)
+
+  abbrev args_fields : List ℕ
+  args_fields = write_variables (part s c.args)
+
+  abbrev locals_fields : List ℕ
+  locals_fields = write_variables (part s c.locals)
+
+  body_room : HasRoom a (return_fields ++ (globals_fields ++ (args_fields ++ locals_fields)))
+  unfolding write_context_body
+  body_room = room
+
+  pub return_fits : HasRoom a return_fields
+  return_fits = room_first a return_fields (globals_fields ++ (args_fields ++ locals_fields)) body_room
+
+  module _ {b : Writer} (first : Writes a b return_fields) where
+    after_return : HasRoom b (globals_fields ++ (args_fields ++ locals_fields))
+    after_return = room_then return_fields (globals_fields ++ (args_fields ++ locals_fields)) first body_room
+
+    pub globals_fit : HasRoom b globals_fields
+    globals_fit = room_first b globals_fields (args_fields ++ locals_fields) after_return
+
+    module _ {d : Writer} (second : Writes b d globals_fields) where
+      after_globals : HasRoom d (args_fields ++ locals_fields)
+      after_globals = room_then globals_fields (args_fields ++ locals_fields) second after_return
+
+      pub args_fit : HasRoom d args_fields
+      args_fit = room_first d args_fields locals_fields after_globals
+
+      module _ {e : Writer} (third : Writes d e args_fields) where
+        pub locals_fit : HasRoom e locals_fields
+        locals_fit = room_then args_fields locals_fields third after_globals
+
+        pub lists_write : {f : Writer} → Writes e f locals_fields → Writes a f (write_context_body (context_of s c))
+        unfolding write_context_body
+        lists_write fourth =
+            writes_then return_fields (globals_fields ++ (args_fields ++ locals_fields)) first
+            (writes_then globals_fields (args_fields ++ locals_fields) second (writes_then args_fields locals_fields third fourth))

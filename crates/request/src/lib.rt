@@ -7,3 +7,4 @@ pub mod parts;
 pub mod record;
 pub mod requests;
 pub mod write;
+pub mod writer;

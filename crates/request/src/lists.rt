@@ -1,6 +1,6 @@
 // The return part and the lists of variables. Of a list only as many entries are kept as there are variables: its recursion goes no deeper.
-// Stays: pieces are numbers in lent words, for there is no heap.
-ghost use Rattle.std.specs.Prelude.{◌+◌, ◌-◌, ◌≤◌, ◌<◌, length};
+// Stays: a piece is its number, with no type of its own: cells and slots hold it as a word, and laws over them would carry a projection.
+ghost use Rattle.std.specs.Prelude.{◌≤◌, length};
 ghost use Rattle.field.specs.Limits.{absent, max_depth};
 ghost use Rattle.part.specs.PartReq.{spine};
 ghost use Rattle.part.specs.Store.{Good, Room, Made};

@@ -1,6 +1,6 @@
 // Requirements read into the store. Its recursion goes as deep as a part does, and along the entries of each level: both have limits.
-// Stays: pieces are numbers in lent words, for there is no heap.
-ghost use Rattle.std.specs.Prelude.{◌+◌, ◌-◌, ◌≤◌, length};
+// Stays: a piece is its number, with no type of its own: cells and slots hold it as a word, and laws over them would carry a projection.
+ghost use Rattle.std.specs.Prelude.{◌+◌, ◌≤◌, length};
 ghost use Rattle.part.specs.Store.{Good};
 ghost use Rattle.request.specs.Part.{read_part, read_entries};
 ghost use Rattle.request.specs.Answers.{from, RoomFor, PartWasRead};

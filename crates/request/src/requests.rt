@@ -1,5 +1,5 @@
 // Requests: 12 of the whole, then 11, then 18.
-ghost use Rattle.std.specs.Prelude.{◌≡◌, ◌-◌, ◌≤◌, ◌<◌, length};
+ghost use Rattle.std.specs.Prelude.{◌≡◌, ◌-◌, ◌≤◌, length};
 ghost use Rattle.field.specs.Limits.{absent};
 ghost use Rattle.part.specs.Store.{Good};
 ghost use Rattle.request.specs.Request.{is_request, judge, request_of, finish};

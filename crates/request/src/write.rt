@@ -1,19 +1,20 @@
-// Requirements, contexts and requests written from the store into a lent slice. What lies before and after stays.
-// Stays: pieces are numbers in lent words, for there is no heap.
-ghost use Rattle.std.specs.Prelude.{◌≡◌, ◌+◌, ◌≤◌, ◌<◌, ◌^◌, length};
+// Requirements, contexts and requests written from the store.
+ghost use Rattle.std.specs.Prelude.{◌≡◌, ◌≤◌, ◌<◌, ◌^◌, length};
 ghost use Rattle.std.proofs.lemmas.List.Edits.{sets};
 ghost use Rattle.part.specs.Store.{top, part, Good};
 ghost use Rattle.context.specs.Contexts.{context_of, HasContext};
 ghost use Rattle.request.specs.Fields.{as_field};
 ghost use Rattle.request.specs.Part.{write_part, write_entries, write_return, write_variables};
-ghost use Rattle.request.specs.Context.{write_context};
+ghost use Rattle.request.specs.Context.{write_context_body, write_context};
 ghost use Rattle.request.specs.Request.{write_request};
-ghost use Rattle.request.specs.Written.{Fits, Written};
+ghost use Rattle.request.specs.Written.{HasRoom, Writes};
 
 use crate::codes::{ENTRIES_CODE, NO_RETURN};
+use crate::writer::Writer;
 use context::required_context::RequiredContext;
-use field::field::{write, write_word};
+use field::field::write;
 use module::handles::FunctionHandle;
+use part::list::Entries;
 use part::store::{EMPTY_PIECE, EXIST_PIECE, look, width};
 
 // The lowest 16 bits.
@@ -23,66 +24,71 @@ fn field_of(x: u32) -> u16
     (x % 65536) as u16
 }
 
-// Code, count and entries of the piece n, from the byte `at` on. What is returned is where they end.
+// Code, count and entries of the piece n.
 #[cycle(write_entries_write_part)]
-pub fn write_part(cells: &[u32], n: u32, out: &mut [u8], at: usize) -> usize
+pub fn write_part(cells: &[u32], n: u32, writer: &mut Writer)
     requires good { Good cells.now }
     requires n_bound { n < top cells.now }
-    requires fits { Fits out.old at (write_part (part cells.now n)) }
-    ensures { Written out.old out.new at (write_part (part cells.now n)) result }
+    requires fits { HasRoom writer.old (write_part (part cells.now n)) }
+    ensures { Writes writer.old writer.new (write_part (part cells.now n)) }
 {
     // all and exist have their number for a code
     if n <= EXIST_PIECE {
-        write(out, at, n as u16);
-        return at + 2;
+        return writer.field(n as u16);
     }
-    write(out, at, ENTRIES_CODE);
-    write(out, at + 2, field_of(width(cells, n)));
-    write_entries(cells, n, out, at + 4)
+    writer.field(ENTRIES_CODE);
+    writer.field(field_of(width(cells, n)));
+    write_entries(cells, n, writer);
 }
 
 // The entries of the piece n.
 #[cycle(write_entries_write_part)]
-fn write_entries(cells: &[u32], n: u32, out: &mut [u8], at: usize) -> usize
+fn write_entries(cells: &[u32], n: u32, writer: &mut Writer)
     requires good { Good cells.now }
     requires n_bound { n < top cells.now }
-    requires fits { Fits out.old at (write_entries (part cells.now n)) }
-    ensures { Written out.old out.new at (write_entries (part cells.now n)) result }
+    requires fits { HasRoom writer.old (write_entries (part cells.now n)) }
+    ensures { Writes writer.old writer.new (write_entries (part cells.now n)) }
 {
-    let mut m = n;
-    let mut next = at;
-    // Stays: the list goes by the numbers in its cells, and nothing says how long it is.
-    while EMPTY_PIECE < m {
-        let x = look(cells, m);
-        write(out, next, field_of(x.index));
-        next = write_part(cells, x.child, out, next + 2);
-        m = x.rest;
+    for x in Entries::new(cells, n) {
+        writer.field(field_of(x.index));
+        write_part(cells, x.child, writer);
     }
-    next
 }
 
-pub fn write_return(cells: &[u32], n: u32, out: &mut [u8], at: usize) -> usize
+pub fn write_return(cells: &[u32], n: u32, writer: &mut Writer)
     requires good { Good cells.now }
     requires n_bound { n < top cells.now }
-    requires fits { Fits out.old at (write_return (part cells.now n)) }
-    ensures { Written out.old out.new at (write_return (part cells.now n)) result }
+    requires fits { HasRoom writer.old (write_return (part cells.now n)) }
+    ensures { Writes writer.old writer.new (write_return (part cells.now n)) }
 {
     if n <= EMPTY_PIECE {
-        write(out, at, NO_RETURN);
-        return at + 2;
+        return writer.field(NO_RETURN);
     }
     let x = look(cells, n);
-    write_part(cells, x.child, out, at)
+    write_part(cells, x.child, writer);
 }
 
-pub fn write_variables(cells: &[u32], n: u32, out: &mut [u8], at: usize) -> usize
+pub fn write_variables(cells: &[u32], n: u32, writer: &mut Writer)
     requires good { Good cells.now }
     requires n_bound { n < top cells.now }
-    requires fits { Fits out.old at (write_variables (part cells.now n)) }
-    ensures { Written out.old out.new at (write_variables (part cells.now n)) result }
+    requires fits { HasRoom writer.old (write_variables (part cells.now n)) }
+    ensures { Writes writer.old writer.new (write_variables (part cells.now n)) }
 {
-    write(out, at, field_of(width(cells, n)));
-    write_entries(cells, n, out, at + 2)
+    writer.field(field_of(width(cells, n)));
+    write_entries(cells, n, writer);
+}
+
+// The lists of a context, in the order of its record.
+pub fn write_context_body(cells: &[u32], c: RequiredContext, writer: &mut Writer)
+    requires good { Good cells.now }
+    requires has_context { HasContext cells.now c }
+    requires fits { HasRoom writer.old (write_context_body (context_of cells.now c)) }
+    ensures { Writes writer.old writer.new (write_context_body (context_of cells.now c)) }
+{
+    write_return(cells, c.retval, writer);
+    write_variables(cells, c.globals, writer);
+    write_variables(cells, c.args, writer);
+    write_variables(cells, c.locals, writer);
 }
 
 // The context's record, from the first byte on. What is returned is its length.
@@ -92,14 +98,10 @@ pub fn write_context(cells: &[u32], c: RequiredContext, out: &mut [u8]) -> usize
     requires c_in_bounds { (length (write_context (context_of cells.now c)) ≤ length out.old) × (length (write_context (context_of cells.now c)) < 2 ^ 32) }
     ensures { (out.new ≡ sets out.old 0 (write_context (context_of cells.now c))) × (result ≡ length (write_context (context_of cells.now c))) }
 {
-    let afterReturn = write_return(cells, c.retval, out, 6);
-    let afterGlobals = write_variables(cells, c.globals, out, afterReturn);
-    let afterArgs = write_variables(cells, c.args, out, afterGlobals);
-    let end = write_variables(cells, c.locals, out, afterArgs);
-    out[0] = b'C';
-    out[1] = b'X';
-    write_word(out, 2, (end - 6) as u32);
-    end
+    let mut writer = Writer { out, at: 6 };
+    write_context_body(cells, c, &mut writer);
+    writer.head(b'C', b'X');
+    writer.at
 }
 
 // The record of a request for this function, from the first byte on. What is returned is its length.
@@ -115,11 +117,13 @@ pub fn write_request(
     requires globals_in_bounds { (length (write_request function.0 (part cells.now retval) (part cells.now globals)) ≤ length out.old) × (length (write_request function.0 (part cells.now retval) (part cells.now globals)) < 2 ^ 16) }
     ensures { (out.new ≡ sets out.old 0 (write_request function.0 (part cells.now retval) (part cells.now globals))) × (result ≡ length (write_request function.0 (part cells.now retval) (part cells.now globals))) }
 {
-    let afterReturn = write_return(cells, retval, out, 6);
-    let end = write_variables(cells, globals, out, afterReturn);
-    out[0] = b'R';
-    out[1] = b'Q';
-    write(out, 2, (end - 4) as u16);
-    write(out, 4, field_of(function.0));
+    let mut writer = Writer { out, at: 6 };
+    write_return(cells, retval, &mut writer);
+    write_variables(cells, globals, &mut writer);
+    let end = writer.at;
+    writer.out[0] = b'R';
+    writer.out[1] = b'Q';
+    write(writer.out, 2, (end - 4) as u16);
+    write(writer.out, 4, field_of(function.0));
     end
 }

@@ -26,8 +26,9 @@ use Rattle.sound.proofs.Asked as sound
 use Rattle.memory.specs.Layout.{globals_slot, exprs_slot, totals_slot, stack_slot, most}
 use Rattle.memory.specs.Memory.{read, sum_from, counted, context_at, Memory, Tidied}
 use Rattle.memory.proofs.Slots.{read-long, sum_none, sum_suc, sum_split}
+use Rattle.marks.specs.declared.places.MarkPlaces.{MarkPlaces}
+use Rattle.marks.specs.declared.totals.MarkTotals.{MarkTotals}
 use Rattle.marks.specs.Places.{Places, Inside, start_in, size_in}
-use Rattle.marks.specs.Report.{totals_size}
 use Rattle.marks.proofs.Buffers.{all_inside, cleared_own}
 use Rattle.marks.proofs.Write.{write_long}
 use Rattle.state.specs.Ready.{WasRead}
@@ -62,18 +63,17 @@ same_judge : {n g functions globals : ℕ} → n ≡ functions → g ≡ globals
 same_judge a b report o e = rw (← a, ← b) e
 
 -- tables of a module that was read, and buffers that are long enough
-pub record Beginning (bytes t places s rs open_marks totals : List ℕ) : Type 0 where
+pub record Beginning (bytes t : List ℕ) (places : MarkPlaces) (s rs open_marks : List ℕ) (totals : MarkTotals) : Type 0 where
   pub was_read : WasRead bytes t
   pub placed : Places bytes t places
   pub open_long : min_report ≤ length open_marks
-  pub totals_long : totals_size ≤ length totals
 
 -- a world and a workspace have them
-pub beginning_of : (w : World) (m : Workspace) → min_report ≤ length m.open → totals_size ≤ length m.totals →
+pub beginning_of : (w : World) (m : Workspace) → min_report ≤ length m.open →
     Beginning w.file.now.bytes w.file.now.t w.places.now m.parts.cells m.parts.slots m.open m.totals
-beginning_of w m a b = record { was_read = w.was_read; placed = w.placed; open_long = a; totals_long = b }
+beginning_of w m a = record { was_read = w.was_read; placed = w.placed; open_long = a }
 
-module _ {bytes t places s rs open_marks totals : List ℕ} (B : Beginning bytes t places s rs open_marks totals) where
+module _ {bytes t : List ℕ} {places : MarkPlaces} {s rs open_marks : List ℕ} {totals : MarkTotals} (B : Beginning bytes t places s rs open_marks totals) where
   abbrev m : Module
   m = module_of bytes t
 
@@ -103,7 +103,7 @@ module _ {bytes t places s rs open_marks totals : List ℕ} (B : Beginning bytes
       is_read = same_judge functions globals report (request_of request) stands.is
 
       pub has_totals : HasTotals bytes t places u us totals
-      has_totals = record { was_read = B.was_read; placed = B.placed; memory = S.memory; totals_long = B.totals_long }
+      has_totals = record { was_read = B.was_read; placed = B.placed; memory = S.memory }
 
       pub untold : Untold u us
       untold = record {
@@ -112,7 +112,7 @@ module _ {bytes t places s rs open_marks totals : List ℕ} (B : Beginning bytes
         room = omega (arith, S.cost, S.memory.fits);
       }
 
-      module _ {v vs after : List ℕ} {r : Bool} (P : PrunerWasRead bytes t u us totals pruner v vs after r) where
+      module _ {v vs : List ℕ} {after : MarkTotals} {r : Bool} (P : PrunerWasRead bytes t u us totals pruner v vs after r) where
         -- the totals are refused
         pub begins_19 : r ≡ false → Begins bytes t places report request pruner v vs open_marks after (Err PrunerUnfit)
         unfolding after_request with_totals
@@ -182,7 +182,6 @@ module _ {bytes t places s rs open_marks totals : List ℕ} (B : Beginning bytes
                   typed = typed;
                   placed = B.placed;
                   open_long = rw marks (omega (arith, write_long open_marks (start_in places f.0) (replicate (size_in places f.0) 0), B.open_long));
-                  totals_long = omega (arith, P.marks_long, B.totals_long);
                   memory = T.memory;
                   slots_long = omega (arith, T.long, P.long, S.long);
                   globals_are = rw T.same;

@@ -30,6 +30,8 @@ use Rattle.memory.proofs.Slots.{read-long, sum_none, sum_suc, sum_split, counted
 use Rattle.memory.proofs.Records.{records_none}
 use Rattle.memory.proofs.Runs.{context_pieces}
 use Rattle.marks.proofs.Placed.{at_function}
+use Rattle.marks.specs.declared.places.MarkPlaces.{MarkPlaces}
+use Rattle.marks.specs.declared.totals.MarkTotals.{MarkTotals}
 use Rattle.state.specs.State.{records_in, totals_sum}
 use Rattle.state.proofs.Own.{fits}
 use Rattle.block.specs.Standing.{state_in, Standing}
@@ -79,7 +81,7 @@ unfolding step_function entered
 same_walk bytes m r f globals retval st before a b c =
     function_is bytes m r f nowhere 0 globals retval st ∙ rw (a, b, c) (sym (function_is bytes m r f nowhere 0 globals retval before))
 
-module _ {bytes t types places s rs open_marks totals : List ℕ} {q : Request} {pruner : Pruner} (L : Loaded bytes t types places s rs open_marks totals q pruner) where
+module _ {bytes t types : List ℕ} {places : MarkPlaces} {s rs open_marks : List ℕ} {totals : MarkTotals} {q : Request} {pruner : Pruner} (L : Loaded bytes t types places s rs open_marks totals q pruner) where
   abbrev m : Module
   m = module_of bytes t
 
@@ -156,7 +158,6 @@ module _ {bytes t types places s rs open_marks totals : List ℕ} {q : Request} 
         typed = L.typed;
         placed = L.placed;
         open_long = L.open_long;
-        totals_long = L.totals_long;
         totals-sum = L.totals-sum;
         unwalked = L.unwalked;
         proper = first_proper;

@@ -15,6 +15,8 @@ use Rattle.context.specs.RequiredContext.{return_entry}
 use Rattle.walk.specs.Requests.{Pruner, reported, refused, end_count, ended, begun, walk_request, report_of, answered, request}
 use Rattle.memory.specs.Layout.{exprs_slot}
 use Rattle.memory.specs.Memory.{read}
+use Rattle.marks.specs.declared.places.MarkPlaces.{MarkPlaces}
+use Rattle.marks.specs.declared.totals.MarkTotals.{MarkTotals}
 use Rattle.state.specs.State.{records_in}
 use Rattle.block.specs.Standing.{state_in}
 use Rattle.block.specs.Functions.{FunctionEnded}
@@ -36,7 +38,7 @@ module _ (bytes t : List ℕ) (pruner : Pruner) (q : Request) where
   unfolding request walk_request
   request-halts e = rw (← e)
 
-  module _ {types places s rs open_marks totals : List ℕ} {base visits sum : ℕ} {b : Bool} {u us open_after totals-after : List ℕ}
+  module _ {types : List ℕ} {places : MarkPlaces} {s rs open_marks : List ℕ} {totals : MarkTotals} {base visits sum : ℕ} {b : Bool} {u us open_after : List ℕ} {totals-after : MarkTotals}
       (E : FunctionEnded bytes t types places s rs open_marks totals q.function base 0 (walks bytes t pruner q) visits sum b u us open_after totals-after) where
     abbrev pub last : State
     last = state_in bytes t u us open_after totals-after q.function (base + 4) visits

@@ -10,7 +10,7 @@ use lib.ListN.{length, set, drop}
 use lib.Seq.{sets, sets-eq}
 use Rattle.std.specs.Prelude.{Ok, Err}
 use Rattle.field.specs.declared.refusal.Refusal.TheVariants.{PiecesLimit}
-use Rattle.field.specs.Limits.{max_expressions, max_pieces, min_report}
+use Rattle.field.specs.Limits.{max_functions, max_expressions, max_pieces, min_report}
 use Rattle.part.specs.StoreLimits.{entries_cap}
 use Rattle.module.specs.Module.{FunctionHandle, Module}
 use Rattle.module.specs.Tables.{row_at, expressions_from, module_of}
@@ -25,8 +25,10 @@ use Rattle.sound.proofs.There.{function_valid}
 use Rattle.memory.specs.Layout.{exprs_slot}
 use Rattle.memory.specs.Memory.{read, context_at, Memory}
 use Rattle.memory.proofs.Records.{records_pieces}
+use Rattle.marks.specs.declared.places.MarkPlaces.{MarkPlaces}
+use Rattle.marks.specs.declared.totals.MarkTotals.{MarkTotals}
 use Rattle.marks.specs.Places.{AllInside}
-use Rattle.marks.specs.Report.{totals_at, Sized, marks_kept, Totals, report_in}
+use Rattle.marks.specs.Report.{marks_kept, Totals, report_in}
 use Rattle.marks.specs.Report as report
 use Rattle.marks.proofs.Buffers.{all_inside}
 use Rattle.marks.proofs.Sums.{report_is}
@@ -56,14 +58,14 @@ kept-marks nothing c es = refl
 kept-marks (some ms) c es = refl
 
 -- as the walk stands at its end
-module _ {bytes t types places s rs open_marks totals : List ℕ} {f at held sum visits : ℕ} (S : Standing bytes t types places s rs open_marks totals f at held sum visits) where
+module _ {bytes t types : List ℕ} {places : MarkPlaces} {s rs open_marks : List ℕ} {totals : MarkTotals} {f at held sum visits : ℕ} (S : Standing bytes t types places s rs open_marks totals f at held sum visits) where
   abbrev m : Module
   m = module_of bytes t
 
   abbrev records : Records
   records = records_in t exprs_slot f (read s rs)
 
-  few_functions : length (module_of bytes t).functions ≤ totals_at
+  few_functions : length (module_of bytes t).functions ≤ max_functions
   few_functions = (valid bytes m S.ready.was_read.module_is).few_functions
 
   pub own-pieces : own_in t s rs f ≡ record_pieces records
@@ -89,21 +91,15 @@ module _ {bytes t types places s rs open_marks totals : List ℕ} {f at held sum
 
   totals_are : Totals m totals (functions_in m t (read s rs) totals)
   unfolding functions_in total_in
-  totals_are = record {
-    long = S.totals_long;
-    each = λ g l.
-        kept-marks (report.total_in m totals g) _ _
-        ∙ ap marks_kept (sym (get_d_tab (length m.functions) (total_in m t (read s rs) totals) g nothing l));
-  }
+  totals_are g l =
+      kept-marks (report.total_in m totals g) _ _
+      ∙ ap marks_kept (sym (get_d_tab (length m.functions) (total_in m t (read s rs) totals) g nothing l))
 
   fine_pruner : FinePruner m (pruner_in bytes t s rs totals)
   fine_pruner = record { globals = S.proper.globals; functions = S.proper.functions }
 
   has_totals : HasTotals bytes t places s rs totals
-  has_totals = record { was_read = S.ready.was_read; placed = S.placed; memory = S.ready.memory; totals_long = S.totals_long }
-
-  sized : Sized open_marks totals
-  sized = record { marks_long = S.open_long; totals_long = S.totals_long }
+  has_totals = record { was_read = S.ready.was_read; placed = S.placed; memory = S.ready.memory }
 
   answering : Answering t s rs f at
   answering =
@@ -127,7 +123,7 @@ module _ {bytes t types places s rs open_marks totals : List ℕ} {f at held sum
       (marks_set buffer 0 _
       ∙ ap (sets buffer 0) (report_is bytes t places S.ready.was_read S.placed totals open_marks f (state_in bytes t s rs open_marks totals f at visits) totals_are refl))
 
-module _ {bytes t places s rs open_marks totals : List ℕ} {f : FunctionHandle} {base : ℕ} {required : Bool} {visits sum : ℕ} {pruner report answer : List ℕ}
+module _ {bytes t : List ℕ} {places : MarkPlaces} {s rs open_marks : List ℕ} {totals : MarkTotals} {f : FunctionHandle} {base : ℕ} {required : Bool} {visits sum : ℕ} {pruner report answer : List ℕ}
     (F : Finishing bytes t places s rs open_marks totals f base required visits sum pruner report answer) where
   pub finish_own : (Memory s rs × Placed t rs f) × (own_in t s rs f ≤ entries_cap)
   finish_own = own_asks F.ended.standing (omega (arith, F.ended.sum_few))
@@ -135,10 +131,10 @@ module _ {bytes t places s rs open_marks totals : List ℕ} {f : FunctionHandle}
   pub finish_sub : own_in t s rs f ≤ sum
   finish_sub = own_few F.ended.standing
 
-  pub finish_report : {n : ℕ} → n ≡ length (module_of bytes t).functions → AllInside places n min_report × Sized open_marks totals × (n ≤ totals_at) × (min_report ≤ length report)
+  pub finish_report : {n : ℕ} → n ≡ length (module_of bytes t).functions → AllInside places n min_report × (min_report ≤ length open_marks) × (n ≤ max_functions) × (min_report ≤ length report)
   finish_report e =
       let S = F.ended.standing in
-      rw e (all_inside bytes t places S.ready.was_read S.placed min_report (le_refl min_report), sized S, few_functions S, F.report_long)
+      rw e (all_inside bytes t places S.ready.was_read S.placed min_report (le_refl min_report), S.open_long, few_functions S, F.report_long)
 
   pub finish_pruner : {own : ℕ} → own ≡ own_in t s rs f → sum - own ≤ max_pieces
       → HasTotals bytes t places s rs totals × ((min_pruner ≤ length pruner) × (length (write_pruner (pruner_in bytes t s rs totals)) ≤ min_pruner))

@@ -25,6 +25,8 @@ use Rattle.walk.specs.Requests.{Pruner, request, fresh}
 use Rattle.sound.proofs.Asked as sound
 use Rattle.memory.specs.Layout.{stack_slot}
 use Rattle.memory.specs.Memory.{read}
+use Rattle.marks.specs.declared.places.MarkPlaces.{MarkPlaces}
+use Rattle.marks.specs.declared.totals.MarkTotals.{MarkTotals}
 use Rattle.state.specs.declared.answer.Tally.{Tally}
 use Rattle.state.specs.declared.answer.Halt.{Halt}
 use Rattle.state.specs.declared.answer.Answer.{Answer}
@@ -43,11 +45,11 @@ use Rattle.requests.proofs.Begins.{enters, walks-request}
 use Rattle.requests.proofs.Ends.{walks, request-halts}
 
 -- the walk of f, as memory has it at its beginning
-abbrev pub walk_in : (bytes t s rs open_marks totals : List ℕ) → ℕ → Out Bool
+abbrev pub walk_in : (bytes t s rs open_marks : List ℕ) (totals : MarkTotals) → ℕ → Out Bool
 walk_in bytes t s rs open_marks totals f =
     add_function (module_of bytes t) f nowhere 0 (get_or (read s rs) stack_slot none) (get_or (read s rs) (stack_slot + 3) none) (state_in bytes t s rs open_marks totals f stack_slot 0)
 
-module _ {bytes t types places s rs open_marks totals : List ℕ} {f : ℕ} where
+module _ {bytes t types : List ℕ} {places : MarkPlaces} {s rs open_marks : List ℕ} {totals : MarkTotals} {f : ℕ} where
   -- it is the walk of the request that was loaded
   pub walk_is : {q : Request} {old : Pruner} → Loaded bytes t types places s rs open_marks totals q old → q.function ≡ f → walk_in bytes t s rs open_marks totals f ≡ walks bytes t old q
   walk_is L named = ap (walk_in bytes t s rs open_marks totals) (sym named) ∙ walks-request L
@@ -56,7 +58,7 @@ module _ {bytes t types places s rs open_marks totals : List ℕ} {f : ℕ} wher
     pub walk_enters : FunctionEntered bytes t types places s rs open_marks totals f stack_slot 0 sum 0
     walk_enters = rw (← W.function_is, W.sum_is) (enters W.loaded)
 
-    module _ {a : Result Answer Halt} {u us open_after totals-after : List ℕ}
+    module _ {a : Result Answer Halt} {u us open_after : List ℕ} {totals-after : MarkTotals}
         (E : FunctionEnds bytes t types places s rs open_marks totals f stack_slot 0 (walk_in bytes t s rs open_marks totals f) a u us open_after totals-after) where
       -- the walk was refused
       pub walk_halted : {stop : Halt} → a ≡ Err stop → Walked bytes t types places s rs open_marks totals f sum pruner report answer (Err stop) pruner report answer
@@ -142,7 +144,7 @@ module _ (m : Module) (lent : Lent) where
     unfolding serve_read on_request lent_pruner on_pruner
     serve_walks h l = rw (asked_read, le-ltb (length lent.pruner) min_pruner h, old-read, le-ltb (length lent.answer) min_answer l)
 
-module _ {bytes t places s rs open_marks totals asked-bytes pruner : List ℕ} (report answer : List ℕ) {b : Result Begun Refusal} (B : Begins bytes t places (length report) asked-bytes pruner s rs open_marks totals b) where
+module _ {bytes t : List ℕ} {places : MarkPlaces} {s rs open_marks : List ℕ} {totals : MarkTotals} {asked-bytes pruner : List ℕ} (report answer : List ℕ) {b : Result Begun Refusal} (B : Begins bytes t places (length report) asked-bytes pruner s rs open_marks totals b) where
   abbrev lent : Lent
   lent = record { pruner = pruner; report = report; answer = answer }
 

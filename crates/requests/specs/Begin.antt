@@ -19,6 +19,8 @@ use Rattle.request.specs.declared.requests.Request as declared
 use Rattle.walk.specs.Requests.{Pruner}
 use Rattle.memory.specs.Layout.{globals_slot, stack_slot, slot_count, flat_count}
 use Rattle.memory.specs.Memory.{read, context_at, with_context, Memory}
+use Rattle.marks.specs.declared.places.MarkPlaces.{MarkPlaces}
+use Rattle.marks.specs.declared.totals.MarkTotals.{MarkTotals}
 use Rattle.state.specs.State.{totals_sum}
 use Rattle.pruner.specs.Form.{pruner_pieces, read_pruner}
 use Rattle.requests.specs.Loaded.{Loaded}
@@ -94,7 +96,7 @@ pub record Weighing (s rs : List ℕ) : Type 0 where
   pub few : entries (get_or (read s rs) globals_slot none) + totals_sum (read s rs) ≤ entries_cap
 
 -- Memory has the request and the totals: with the types' table the walk can begin.
-pub record Ready (bytes t places : List ℕ) (report : ℕ) (request pruner s rs open_marks totals : List ℕ) (f sum : ℕ) : Type 0 where
+pub record Ready (bytes t : List ℕ) (places : MarkPlaces) (report : ℕ) (request pruner s rs open_marks : List ℕ) (totals : MarkTotals) (f sum : ℕ) : Type 0 where
   pub q : Request
   pub old : Pruner
   pub is : beginning (module_of bytes t) report request pruner ≡ reading.accepted (q, old)
@@ -102,11 +104,11 @@ pub record Ready (bytes t places : List ℕ) (report : ℕ) (request pruner s rs
   pub sum_is : sum ≡ pruner_pieces old
   pub loaded : (types : List ℕ) → types_of types ≡ (module_of bytes t).types → Loaded bytes t types places s rs open_marks totals q old
 
-abbrev pub BeginsBy : (bytes t places : List ℕ) → (report : ℕ) → (request pruner s rs open_marks totals : List ℕ) → Result Begun Refusal → Type 0
+abbrev pub BeginsBy : (bytes t : List ℕ) (places : MarkPlaces) → (report : ℕ) → (request pruner s rs open_marks : List ℕ) (totals : MarkTotals) → Result Begun Refusal → Type 0
 BeginsBy bytes t places report request pruner s rs open_marks totals (Err e) = beginning (module_of bytes t) report request pruner ≡ reading.refused (number e)
 BeginsBy bytes t places report request pruner s rs open_marks totals (Ok b) = Ready bytes t places report request pruner s rs open_marks totals b.function.0 b.sum
 
-pub record Begins (bytes t places : List ℕ) (report : ℕ) (request pruner s rs open_marks totals : List ℕ) (r : Result Begun Refusal) : Type 0 where
+pub record Begins (bytes t : List ℕ) (places : MarkPlaces) (report : ℕ) (request pruner s rs open_marks : List ℕ) (totals : MarkTotals) (r : Result Begun Refusal) : Type 0 where
   pub by : BeginsBy bytes t places report request pruner s rs open_marks totals r
 
 abbrev pub BeginsOf : World → (report : ℕ) → (request pruner : List ℕ) → Workspace → Result Begun Refusal → Type 0

@@ -9,6 +9,8 @@ use Rattle.walk.specs.State.{nowhere as no_place, Out}
 use Rattle.walk.specs.Function.{add_function}
 use Rattle.context.specs.RequiredContext.{return_entry}
 use Rattle.walk.specs.Requests.{Pruner, begun, request}
+use Rattle.marks.specs.declared.places.MarkPlaces.{MarkPlaces}
+use Rattle.marks.specs.declared.totals.MarkTotals.{MarkTotals}
 use Rattle.state.specs.State.{place_of}
 use Rattle.state.specs.declared.answer.Answer.{Answer}
 use Rattle.state.specs.declared.answer.Halt.{Halt}
@@ -25,12 +27,12 @@ reply_of (Ok n) = visited n
 reply_of (Err h) = refused_at (number h.refusal) (place_of h.place)
 
 -- the walk of f has ended, and the buffers are long enough
-pub record Finishing (bytes t places s rs open_marks totals : List ℕ) (f : FunctionHandle) (base : ℕ) (required : Bool) (visits sum : ℕ) (pruner report answer : List ℕ) : Type 0 where
+pub record Finishing (bytes t : List ℕ) (places : MarkPlaces) (s rs open_marks : List ℕ) (totals : MarkTotals) (f : FunctionHandle) (base : ℕ) (required : Bool) (visits sum : ℕ) (pruner report answer : List ℕ) : Type 0 where
   pub types : List ℕ
   pub cells_before : List ℕ
   pub slots_before : List ℕ
   pub open_before : List ℕ
-  pub totals_before : List ℕ
+  pub totals_before : MarkTotals
   pub total : Out Bool
   pub ended : FunctionEnded bytes t types places cells_before slots_before open_before totals_before f base 0 total visits sum required s rs open_marks totals
   pub pruner_long : min_pruner ≤ length pruner
@@ -41,9 +43,9 @@ abbrev pub FinishingOf : World → Workspace → FunctionHandle → (base : ℕ)
 FinishingOf w m f base a pruner report answer = Finishing w.file.now.bytes w.file.now.t w.places.now m.parts.cells m.parts.slots m.open m.totals f base a.required a.tally.visits a.tally.sum pruner report answer
 
 -- Where that walk was the one of a request, the reply and the buffers are the definition's.
-pub record Finished (bytes t places s rs open_marks totals : List ℕ) (f : FunctionHandle) (base : ℕ) (required : Bool) (visits sum : ℕ) (pruner report answer : List ℕ) (r : Result ℕ Halt)
+pub record Finished (bytes t : List ℕ) (places : MarkPlaces) (s rs open_marks : List ℕ) (totals : MarkTotals) (f : FunctionHandle) (base : ℕ) (required : Bool) (visits sum : ℕ) (pruner report answer : List ℕ) (r : Result ℕ Halt)
     (pruner-after report-after answer-after : List ℕ) : Type 0 where
-  pub by : (types cells_before slots_before open_before totals_before : List ℕ) (old : Pruner) (q : Request) → q.function ≡ f
+  pub by : (types cells_before slots_before open_before : List ℕ) (totals_before : MarkTotals) (old : Pruner) (q : Request) → q.function ≡ f
       → FunctionEnded bytes t types places cells_before slots_before open_before totals_before q.function base 0 (add_function (module_of bytes t) q.function no_place 0 q.globals (return_entry q.retval) (begun old)) visits sum required s rs open_marks totals
       → (reply_of r, record { pruner = pruner-after; report = report-after; answer = answer-after }) ≡ finish (record { pruner = pruner; report = report; answer = answer }) (request (module_of bytes t) old q)
 

@@ -13,20 +13,21 @@ use Rattle.walk.specs.Requests.{Pruner}
 use Rattle.walk.specs.Proper.{FineRequest, FinePruner}
 use Rattle.memory.specs.Layout.{globals_slot, exprs_slot, totals_slot, functions_slot, stack_slot, slot_count, room}
 use Rattle.memory.specs.Memory.{read, context_at, Memory}
+use Rattle.marks.specs.declared.places.MarkPlaces.{MarkPlaces}
+use Rattle.marks.specs.declared.totals.MarkTotals.{MarkTotals}
 use Rattle.marks.specs.Places.{slice, start_of, Places}
-use Rattle.marks.specs.Report.{totals_size, has_total}
+use Rattle.marks.specs.Report.{has_total}
 use Rattle.state.specs.State.{records_in, totals_sum}
 use Rattle.state.specs.Ready.{WasRead}
 use Rattle.block.specs.Standing.{functions_in}
 use Rattle.block.specs.Blocks.{context_in}
 use Rattle.pruner.specs.Form.{pruner_pieces}
 
-pub record Loaded (bytes t types places s rs open_marks totals : List ℕ) (q : Request) (pruner : Pruner) : Type 0 where
+pub record Loaded (bytes t types : List ℕ) (places : MarkPlaces) (s rs open_marks : List ℕ) (totals : MarkTotals) (q : Request) (pruner : Pruner) : Type 0 where
   pub was_read : WasRead bytes t
   pub typed : types_of types ≡ (module_of bytes t).types
   pub placed : Places bytes t places
   pub open_long : min_report ≤ length open_marks
-  pub totals_long : totals_size ≤ length totals
   pub memory : Memory s rs
   pub slots_long : slot_count ≤ length rs
   pub globals_are : get_or (read s rs) globals_slot none ≡ pruner.globals

@@ -4,6 +4,8 @@ use Rattle.field.specs.Limits.{min_report}
 use Rattle.module.specs.Tables.{module_of}
 use Rattle.request.specs.Request.{Request}
 use Rattle.walk.specs.Requests.{Pruner, request}
+use Rattle.marks.specs.declared.places.MarkPlaces.{MarkPlaces}
+use Rattle.marks.specs.declared.totals.MarkTotals.{MarkTotals}
 use Rattle.pruner.specs.Form.{min_pruner, pruner_pieces}
 use Rattle.requests.specs.Answer.{min_answer}
 use Rattle.requests.specs.Loaded.{Loaded}
@@ -14,7 +16,7 @@ use Rattle.block.specs.declared.world.World.{World}
 use Rattle.block.specs.declared.workspace.Workspace.{Workspace}
 
 -- a request was loaded, `sum` is what its totals count for, and the buffers are long enough
-pub record Walking (bytes t types places s rs open_marks totals : List ℕ) (f sum : ℕ) (pruner report answer : List ℕ) : Type 0 where
+pub record Walking (bytes t types : List ℕ) (places : MarkPlaces) (s rs open_marks : List ℕ) (totals : MarkTotals) (f sum : ℕ) (pruner report answer : List ℕ) : Type 0 where
   pub q : Request
   pub old : Pruner
   pub function_is : q.function ≡ f
@@ -28,7 +30,7 @@ abbrev pub WalkingOf : World → Workspace → ℕ → ℕ → List ℕ → List
 WalkingOf w m f sum pruner report answer = Walking w.file.now.bytes w.file.now.t w.types.now w.places.now m.parts.cells m.parts.slots m.open m.totals f sum pruner report answer
 
 -- the reply and the buffers are those of whatever request was loaded
-pub record Walked (bytes t types places s rs open_marks totals : List ℕ) (f sum : ℕ) (pruner report answer : List ℕ) (r : Result ℕ Halt) (pruner-after report-after answer-after : List ℕ) : Type 0 where
+pub record Walked (bytes t types : List ℕ) (places : MarkPlaces) (s rs open_marks : List ℕ) (totals : MarkTotals) (f sum : ℕ) (pruner report answer : List ℕ) (r : Result ℕ Halt) (pruner-after report-after answer-after : List ℕ) : Type 0 where
   pub by : (q : Request) (old : Pruner) → q.function ≡ f → sum ≡ pruner_pieces old → Loaded bytes t types places s rs open_marks totals q old
       → (reply_of r, record { pruner = pruner-after; report = report-after; answer = answer-after }) ≡ finish (record { pruner = pruner; report = report; answer = answer }) (request (module_of bytes t) old q)
 

@@ -2,27 +2,27 @@
 ghost use Rattle.std.specs.Prelude.{◌≡◌, [], ◌∷◌, ◌≤◌, ◌<◌, ◌/◌, ◌%◌, length};
 ghost use Rattle.std.proofs.lemmas.List.Edits.{sets};
 ghost use Rattle.walk.specs.StatementReq.{mark};
-ghost use Rattle.request.specs.Written.{Written};
+ghost use Rattle.request.specs.Written.{HasRoom, Writes};
 ghost use Rattle.requests.specs.Answer.{min_answer, Answering, answer_in};
 
 use access::file::File;
-use field::field::{write, write_word};
 use leave::leave::records_of;
 use memory::layout::EXPRS;
 use memory::parts::Parts;
 use module::handles::FunctionHandle;
 use pruner::write::{write_lists, write_records};
+use request::writer::Writer;
 
 // the least buffer
 pub const MIN_ANSWER: usize = 327680;
 
 // The fields before the context.
-fn write_verdict(out: &mut [u8], required: bool, visits: usize)
-    requires { (12 ≤ length out.old) × (visits < 4294967296) }
-    ensures { Written out.old out.new 6 (mark required ∷ (visits % 65536 ∷ (visits / 65536 ∷ []))) 12 }
+fn write_verdict(writer: &mut Writer, required: bool, visits: usize)
+    requires { HasRoom writer.old (mark required ∷ (visits % 65536 ∷ (visits / 65536 ∷ []))) × (visits < 4294967296) }
+    ensures { Writes writer.old writer.new (mark required ∷ (visits % 65536 ∷ (visits / 65536 ∷ []))) }
 {
-    write(out, 6, u16::from(required));
-    write_word(out, 8, visits as u32);
+    writer.field(u16::from(required));
+    writer.word(visits as u32);
 }
 
 // From the first byte on; what lies past it stays.
@@ -41,11 +41,9 @@ pub fn write_answer(
     ensures { out.new ≡ sets out.old 0 (answer_in file.now.t parts.now.cells parts.now.slots f.0 at required visits) }
 {
     let own = records_of(file, f);
-    let from = own.from;
-    write_verdict(out, required, visits);
-    let lists = write_lists(parts, at, out, 12);
-    let end = write_records(parts, EXPRS + from, own.n, out, lists);
-    out[0] = b'A';
-    out[1] = b'N';
-    write_word(out, 2, (end - 6) as u32);
+    let mut writer = Writer { out, at: 6 };
+    write_verdict(&mut writer, required, visits);
+    write_lists(parts, at, &mut writer);
+    write_records(parts, EXPRS + own.from, own.n, &mut writer);
+    writer.head(b'A', b'N');
 }

@@ -1,5 +1,5 @@
 // How a request begins: what it asks, and the totals that are lent, go into a walk's memory.
-ghost use Rattle.std.specs.Prelude.{◌≡◌, ◌+◌, ◌≤◌, length, get_or};
+ghost use Rattle.std.specs.Prelude.{◌≡◌, ◌+◌, ◌≤◌, get_or};
 ghost use Rattle.field.specs.Limits.{absent};
 ghost use Rattle.part.specs.PartReq.{none, entries};
 ghost use Rattle.memory.specs.Layout.{globals_slot};

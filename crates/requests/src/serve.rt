@@ -6,10 +6,10 @@ use crate::begin::begin_request;
 use crate::finish::{Reply, finish_request};
 use block::workspace::Workspace;
 use block::world::World;
-use field::limits::MIN_REPORT;
+use field::limits::{MAX_FUNCTIONS, MIN_REPORT};
 use field::refusal::Refusal;
 use function::add::add_function;
-use marks::report::TOTALS_SIZE;
+use marks::totals::MarkTotals;
 use memory::layout::{CELLS, SLOTS, STACK};
 use memory::parts::Parts;
 use module::handles::FunctionHandle;
@@ -86,7 +86,10 @@ pub fn serve_read(
             slots: [0; SLOTS],
         },
         open: [0; MIN_REPORT],
-        totals: [0; TOTALS_SIZE],
+        totals: MarkTotals {
+            flags: [false; MAX_FUNCTIONS],
+            marks: [0; MIN_REPORT],
+        },
     };
     serve_in(world, &mut space, request, pruner, report, answer)
 }

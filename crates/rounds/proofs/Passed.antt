@@ -3,7 +3,7 @@ use Prim.Native.Nat.{ℕ, ◌+◌, ◌-◌, ◌*◌, ◌<◌, ◌≤◌}
 use native.Mathlib.Omega.{arith}
 use native.Mathlib.Decide.{dec_lt}
 use mathlib.Core.Path.{◌≡◌, refl, sym, ap, ◌∙◌}
-use mathlib.Core.Bool.{true, false}
+use mathlib.Core.Bool.{Bool, true, false}
 use mathlib.Core.List.{List, ◌∷◌}
 use lib.ListN.{length, get_or, get_or-eq_default}
 use borrow.Author.Tests.{lt-ltb, le-ltb}
@@ -106,7 +106,7 @@ module _ {S : Scope} {R : Request} {o : Table} {s rs : List ℕ} (b : Between S 
   between_once a = sym (ap (λ p. p >>= λ c _. pass (setting S R) (reentry o) a (apart_of S R o) (ending S R) c) between_fits)
 
 -- what the pass is given
-module _ {bytes t : List ℕ} {f : ℕ} {types alike paths firsts s rs path : List ℕ} (g : Rounding bytes t f types alike paths firsts s rs path) where
+module _ {bytes t : List ℕ} {f : ℕ} {types alike : List ℕ} {paths : List Bool} {firsts s rs path : List ℕ} (g : Rounding bytes t f types alike paths firsts s rs path) where
   pub round_course : Course bytes t f types alike paths firsts s rs path (stack_slot + 1) to_end anew
   round_course = record { world = g.world; begins = g.begins; ready = g.ready; targets = end_targets; going = refl; long = g.path_long }
 

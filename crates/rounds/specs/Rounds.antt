@@ -1,5 +1,5 @@
 -- What stands in memory between two rounds, and what it takes to begin, one round, the copy of its table and its answer come to.
-use Rattle.std.specs.Prelude.{ℕ, ◌+◌, ◌*◌, ◌<◌, ◌≤◌, ◌≡◌, false, List, [], length, get_or}
+use Rattle.std.specs.Prelude.{ℕ, ◌+◌, ◌*◌, ◌<◌, ◌≤◌, ◌≡◌, Bool, false, List, [], length, get_or}
 use Rattle.std.proofs.Math.Option.{some}
 use Rattle.part.specs.PartReq.{is_all, entries}
 use Rattle.part.specs.StoreLimits.{cell_words, table_words}
@@ -61,7 +61,7 @@ pub record Begins (S : Scope) (R : Request) (s rs t us : List ℕ) : Type 0 wher
   pub between : Between S R [] t us
 
 -- what a round is given
-pub record Rounding (bytes t : List ℕ) (f : ℕ) (types alike paths firsts s rs path : List ℕ) : Type 0 where
+pub record Rounding (bytes t : List ℕ) (f : ℕ) (types alike : List ℕ) (paths : List Bool) (firsts s rs path : List ℕ) : Type 0 where
   pub world : World bytes t f types alike paths
   pub begins : Firsts (function_of bytes t f).statements firsts
   pub ready : Ready (scope_at bytes t f) s rs (stack_slot + 1)

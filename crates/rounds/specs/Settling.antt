@@ -1,5 +1,5 @@
 -- What the rounds of a check are given, and what they answer.
-use Rattle.std.specs.Prelude.{ℕ, ◌+◌, ◌*◌, ◌<◌, ◌≤◌, ◌≡◌, false, List, length}
+use Rattle.std.specs.Prelude.{ℕ, ◌+◌, ◌*◌, ◌<◌, ◌≤◌, ◌≡◌, Bool, false, List, length}
 use Rattle.std.proofs.Math.Option.{some}
 use Rattle.part.specs.PartReq.{is_all, entries}
 use Rattle.part.specs.StoreLimits.{cell_words, table_words}
@@ -28,7 +28,7 @@ abbrev pub reported : (marks : List ℕ) → RequiredContext → Report
 reported marks c = record { marks = marks; globals = c.globals; args = c.args }
 
 -- The request's parts are pieces of a store that has room for them once more, trimmed, and for the bound.
-pub record Settling (bytes t : List ℕ) (f : ℕ) (types alike paths firsts s rs path : List ℕ) (g v : ℕ) : Type 0 where
+pub record Settling (bytes t : List ℕ) (f : ℕ) (types alike : List ℕ) (paths : List Bool) (firsts s rs path : List ℕ) (g v : ℕ) : Type 0 where
   pub world : World bytes t f types alike paths
   pub begins : Firsts (function_of bytes t f).statements firsts
   pub good : Good s

@@ -8,6 +8,7 @@ ghost use Rattle.rounds.specs.Rounds.{Cleared, Asked, Begins, Renewed};
 use crate::pieces::AskedPieces;
 use access::file::File;
 use forms::trim::{trim_globals, trim_value};
+use forms::types::Types;
 use hold::hold::copy;
 use memory::parts::Parts;
 use module::handles::FunctionHandle;
@@ -27,8 +28,9 @@ pub fn begin(file: &File, f: FunctionHandle, types: &[u32], parts: &mut Parts, a
     requires { Asked file.now.bytes file.now.t types.now parts.old.cells parts.old.slots asked.globals asked.value }
     ensures { Begins (scope_at file.now.bytes file.now.t f.0) (asked_by parts.old.cells asked.globals asked.value) parts.old.cells parts.old.slots parts.new.cells parts.new.slots }
 {
-    let v = trim_value(&mut parts.cells, file, f, types, asked.value);
-    let e = trim_globals(&mut parts.cells, file, types, asked.globals);
+    let types = Types { rows: types };
+    let v = trim_value(&mut parts.cells, file, f, &types, asked.value);
+    let e = trim_globals(&mut parts.cells, file, &types, asked.globals);
     clear_tables(&mut parts.slots);
     parts.slots[ASKED] = v;
     parts.slots[END] = e;

@@ -21,22 +21,6 @@ slot_other s rs i j a h = ap (part s) (get_or-set_other rs i j a 0 h)
 pub slot_same : (s rs : List ℕ) (i a : ℕ) → i < length rs → in_slot s (set rs i a) i ≡ part s a
 slot_same s rs i a h = ap (part s) (get_or-set_same rs i a 0 h)
 
-pub ready_less : {S : Scope} {s rs : List ℕ} {n m : ℕ} → stack_slot < m → m ≤ n → Ready S s rs n → Ready S s rs m
-ready_less h l d = record {
-  live = record {
-    loose = record {
-      good = d.live.loose.good;
-      few = omega (arith, d.live.loose.few);
-      pieces = λ j a. d.live.loose.pieces j (omega arith);
-      long = d.live.loose.long;
-    };
-    slim = d.live.slim;
-  };
-  high = h;
-  needs = λ j a. d.needs j (omega arith);
-  asked = d.asked;
-}
-
 -- slot j has a piece a that is a need
 module _ {S : Scope} {s rs : List ℕ} {n : ℕ} (d : Ready S s rs n) (a : ℕ) (low : a < top s) (need : Kept S (part s a)) where
   set-live : (m j : ℕ) → m ≤ n + 1 → m ≤ length rs → j < length rs → ((i : ℕ) → i < m → (i ≡ j → ⊥) → i < n) → Live s (set rs j a) m

@@ -1,5 +1,5 @@
 // The lowest statement of a body that leaves where it is not allowed. What is later in the definition's order comes first.
-ghost use Rattle.std.specs.Prelude.{◌≡◌, List, ℕ, ◌+◌, ◌*◌, ◌<◌};
+ghost use Rattle.std.specs.Prelude.{◌≡◌, List, ℕ};
 ghost use Rattle.module.specs.Tables.{function_of};
 ghost use Rattle.access.specs.Access.{operand_at};
 ghost use Rattle.valid.specs.There.{There};

@@ -35,7 +35,7 @@ pub fn resolve_var(
 {
     let mut x = e;
     let mut p = ALL_PIECE;
-    // Stays: each pointer names the next; nothing is counted.
+    // Stays: a pointer names the next, below it, and its kind ends the loop; a `for` would count expressions, and still need an answer behind it.
     loop {
         let row = file.expression(f, x);
         match ExpressionKind::try_from(row.kind) {

@@ -13,6 +13,7 @@ ghost use Rattle.target.specs.Target.{Sees, HasTarget, subpart_of, HasFound};
 
 use crate::resolve::Target;
 use access::file::File;
+use context::remove::SizedTypes;
 use context::required_context::{RequiredContext, VarRef};
 use module::handles::{FunctionHandle, TypeHandle};
 use part::req::get;
@@ -27,7 +28,7 @@ pub fn check_part(cells: &[u32], q: u32, required: Option<u32>) -> Option<u32>
     let whole = required?;
     let mut n = q;
     let mut p = whole;
-    // Stays: an entry names the next, below it; nothing is counted.
+    // Stays: it goes down by the child, and not along a list as `Entries` does; this loop alone goes so, and the piece that it ends at answers.
     while EMPTY_PIECE < n {
         let x = look(cells, n);
         if p == ALL_PIECE {
@@ -88,5 +89,6 @@ pub fn take_out(
 {
     let var = target.var;
     let ty = variable_type(file, f, var);
-    c.remove(cells, types, var, ty, target.part)
+    let types = SizedTypes { rows: types };
+    c.remove(cells, &types, var, ty, target.part)
 }

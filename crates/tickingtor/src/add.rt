@@ -4,6 +4,7 @@ ghost use Rattle.boundary.specs.Answers.{Answers, add_answer};
 
 use boundary::add::{ADD_WORDS, add_in};
 use boundary::answer::word_of;
+use boundary::room::FileRoom;
 use context::remove::TYPE_WORDS;
 use field::limits::MAX_TYPES;
 use module::tables::WORDS;
@@ -22,10 +23,14 @@ pub extern "C" fn tickingtor_add_binding(
     let mut t: [u32; WORDS] = [0; WORDS];
     let mut seen: [u32; SEEN] = [0; SEEN];
     let mut held: [u32; HELD] = [0; HELD];
-    let mut table: [u32; TYPE_WORDS * MAX_TYPES] = [0; TYPE_WORDS * MAX_TYPES];
+    let mut rows: [u32; TYPE_WORDS * MAX_TYPES] = [0; TYPE_WORDS * MAX_TYPES];
     let mut cells: [u32; ADD_WORDS] = [0; ADD_WORDS];
     let mut parts: [u32; MAX_TYPES] = [0; MAX_TYPES];
-    word_of(add_in(
-        bytes, &mut t, &mut seen, &mut held, &mut table, &mut cells, &mut parts, request, b, out,
-    ))
+    let room = FileRoom {
+        t: &mut t,
+        rows: &mut rows,
+        seen: &mut seen,
+        held: &mut held,
+    };
+    word_of(add_in(bytes, room, &mut cells, &mut parts, request, b, out))
 }

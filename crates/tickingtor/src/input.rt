@@ -5,6 +5,7 @@ ghost use Rattle.boundary.specs.Answers.{Answers, input_answer};
 use access::whole::Bound;
 use boundary::answer::word_of;
 use boundary::input::input_in;
+use boundary::room::FileRoom;
 use context::remove::TYPE_WORDS;
 use field::limits::{MAX_ARGUMENTS, MAX_TYPES};
 use module::handles::{FunctionHandle, TypeHandle};
@@ -25,7 +26,7 @@ pub extern "C" fn tickingtor_input_to_bindings(
     let mut t: [u32; WORDS] = [0; WORDS];
     let mut seen: [u32; SEEN] = [0; SEEN];
     let mut held: [u32; HELD] = [0; HELD];
-    let mut table: [u32; TYPE_WORDS * MAX_TYPES] = [0; TYPE_WORDS * MAX_TYPES];
+    let mut rows: [u32; TYPE_WORDS * MAX_TYPES] = [0; TYPE_WORDS * MAX_TYPES];
     let mut sets: [u64; MAX_TYPES] = [0; MAX_TYPES];
     let unread = Bound {
         ty: TypeHandle(0),
@@ -33,8 +34,11 @@ pub extern "C" fn tickingtor_input_to_bindings(
     };
     let mut args: [Bound; MAX_ARGUMENTS] = [unread; MAX_ARGUMENTS];
     let function = FunctionHandle(f);
-    word_of(input_in(
-        bytes, &mut t, &mut seen, &mut held, &mut table, &mut sets, &mut args, function, context,
-        out,
-    ))
+    let room = FileRoom {
+        t: &mut t,
+        rows: &mut rows,
+        seen: &mut seen,
+        held: &mut held,
+    };
+    word_of(input_in(bytes, room, &mut sets, &mut args, function, context, out))
 }

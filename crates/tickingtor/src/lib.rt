@@ -1,5 +1,5 @@
 // What a program in C or Rust calls, on byte slices and numbers. No function here asks anything of its caller.
-// Stays: the slices are lent by C, and the arrays worked in are local and of fixed size, since there is no heap.
+// Stays: slices and numbers, since C calls them; arrays in locals, as long as the limits allow, since the archive links with no allocator.
 #![tactic(auto)]
 
 pub mod add;

@@ -4,6 +4,7 @@ ghost use Rattle.boundary.specs.Answers.{Answers, output_answer};
 
 use boundary::answer::word_of;
 use boundary::output::{OUTPUT_WORDS, output_in};
+use boundary::room::FileRoom;
 use context::remove::TYPE_WORDS;
 use field::limits::MAX_TYPES;
 use module::handles::FunctionHandle;
@@ -24,12 +25,15 @@ pub extern "C" fn tickingtor_output_from_bindings(
     let mut t: [u32; WORDS] = [0; WORDS];
     let mut seen: [u32; SEEN] = [0; SEEN];
     let mut held: [u32; HELD] = [0; HELD];
-    let mut table: [u32; TYPE_WORDS * MAX_TYPES] = [0; TYPE_WORDS * MAX_TYPES];
+    let mut rows: [u32; TYPE_WORDS * MAX_TYPES] = [0; TYPE_WORDS * MAX_TYPES];
     let mut cells: [u32; OUTPUT_WORDS] = [0; OUTPUT_WORDS];
     let mut parts: [u32; MAX_TYPES] = [0; MAX_TYPES];
     let function = FunctionHandle(f);
-    word_of(output_in(
-        bytes, &mut t, &mut seen, &mut held, &mut table, &mut cells, &mut parts, function, list,
-        out,
-    ))
+    let room = FileRoom {
+        t: &mut t,
+        rows: &mut rows,
+        seen: &mut seen,
+        held: &mut held,
+    };
+    word_of(output_in(bytes, room, &mut cells, &mut parts, function, list, out))
 }

@@ -65,7 +65,7 @@ none_left nothing (some n) h = never cc
 none_left nothing nothing h = (refl, refl)
 
 -- the tables have as many words as are filled
-pub record Marked (bytes t : List ℕ) (f : ℕ) (types alike held paths firsts s rs path : List ℕ) (g v : ℕ) : Type 0 where
+pub record Marked (bytes t : List ℕ) (f : ℕ) (types alike : List ℕ) (held paths : List Bool) (firsts s rs path : List ℕ) (g v : ℕ) : Type 0 where
   pub was_read : WasRead bytes t
   pub sized : Sized bytes t f types alike held paths
   pub firsts_long : max_statements ≤ length firsts
@@ -74,7 +74,7 @@ pub record Marked (bytes t : List ℕ) (f : ℕ) (types alike held paths firsts 
   pub path_long : max_expressions + 2 ≤ length path
   pub stored : Stored (module_of bytes t) s f g v
 
-module _ {bytes t : List ℕ} {f : ℕ} {types alike held paths firsts s rs path : List ℕ} {g v : ℕ} (M : Marked bytes t f types alike held paths firsts s rs path g v) where
+module _ {bytes t : List ℕ} {f : ℕ} {types alike : List ℕ} {held paths : List Bool} {firsts s rs path : List ℕ} {g v : ℕ} (M : Marked bytes t f types alike held paths firsts s rs path g v) where
   abbrev m : Module
   m = module_of bytes t
 
@@ -109,7 +109,7 @@ module _ {bytes t : List ℕ} {f : ℕ} {types alike held paths firsts s rs path
     nothing-blamed marks = none_left _ _ (rw judged at (J.is marks))
 
     -- a function of which nothing is to blame is a world for the rounds
-    world : {rows same ways unsized : List ℕ} → Tables bytes t f rows same unsized ways → World bytes t f rows same ways
+    world : {rows same : List ℕ} {ways unsized : List Bool} → Tables bytes t f rows same unsized ways → World bytes t f rows same ways
     world T = record {
       given = T.given;
       read = read_function S _ (valid bytes m M.was_read.module_is) fine;
@@ -117,7 +117,7 @@ module _ {bytes t : List ℕ} {f : ℕ} {types alike held paths firsts s rs path
       fit = λ n l. rw (← statement_is bytes t f n Kill l) (statements-fit S (body_tree (function_of bytes t f) []) (nothing-blamed []).1 n Kill l);
     }
 
-    pub settling : {rows same ways unsized marked : List ℕ} → Tables bytes t f rows same unsized ways → Firsts (function_of bytes t f).statements marked → Settling bytes t f rows same ways marked s rs path g v
+    pub settling : {rows same : List ℕ} {ways unsized : List Bool} {marked : List ℕ} → Tables bytes t f rows same unsized ways → Firsts (function_of bytes t f).statements marked → Settling bytes t f rows same ways marked s rs path g v
     settling T F = record {
       world = world T;
       begins = F;

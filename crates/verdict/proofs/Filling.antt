@@ -2,6 +2,7 @@
 use Prim.Native.Nat.{ℕ, ◌*◌, ◌≤◌}
 use native.Mathlib.Omega.{arith}
 use mathlib.Core.Path.{◌≡◌, sym, ◌∙◌}
+use mathlib.Core.Bool.{Bool}
 use mathlib.Core.List.{List}
 use lib.ListN.{length}
 use Rattle.std.specs.Prelude.{Option, Some, None}
@@ -37,7 +38,7 @@ module _ {bytes t : List ℕ} {f : ℕ} (T : There bytes t f) where
     pub words_asked : {l : ℕ} → l ≡ length (module_of bytes t).types → Lower (types_of types) × ((l ≡ type_count types) × (l ≤ max_types))
     words_asked e = (lower, (e ∙ rw (← rows) (types_long types), omega (arith, few_types, e)))
 
-    pub filled : {alike held paths : List ℕ} → AlikeTable (types_of types) alike → UnsizedTable (types_of types) held → PathTable (function_of bytes t f).expressions paths → Tables bytes t f types alike held paths
+    pub filled : {alike : List ℕ} {held paths : List Bool} → AlikeTable (types_of types) alike → UnsizedTable (types_of types) held → PathTable (function_of bytes t f).expressions paths → Tables bytes t f types alike held paths
     filled A U P = record {
       given = record {
         of = T;

@@ -84,10 +84,6 @@ loaded_long functions globals request G h = record { good = G; is = rw h.0 (sym 
 pub reading_room : {s : List ℕ} (request : List ℕ) {k : ℕ} → k ≡ length s → Store s → length request ≤ 4 + absent → {n : ℕ} → n ≡ 3 → cell_words * n + table_words + 2 * length request ≤ k + 2 * 0
 reading_room request e S h z = omega (arith, S.long)
 
-held_pieces : (s t : List ℕ) (n : ℕ) (a : Result declared.Request Refusal) → top s ≡ 3 → n ≤ 4 + absent → RequestHeld s t n a → Pieces t n a
-held_pieces s t n (Err r) e l h = tt
-held_pieces s t n (Ok q) e l h = (h.0, h.1, omega (arith, h.2), l)
-
 -- What the request's answer says of it
 
 module _ (functions globals : ℕ) where

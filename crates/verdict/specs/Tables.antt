@@ -1,5 +1,5 @@
 -- The tables of a function, and what they say of whether it is judged.
-use Rattle.std.specs.Prelude.{ℕ, ◌*◌, ◌≡◌, List, length, Option as Maybe, Some, None}
+use Rattle.std.specs.Prelude.{ℕ, ◌*◌, ◌≡◌, Bool, List, length, Option as Maybe, Some, None}
 use Rattle.std.proofs.Math.Option.{Option, some, none as nothing}
 use Rattle.module.specs.Tables.{function_of, module_of}
 use Rattle.context.specs.Types.{type_words, types_of}
@@ -13,13 +13,13 @@ use Rattle.checking.specs.Word.{said}
 use Rattle.checking.specs.declared.words.Verdict.{Verdict}
 
 -- as many words as are filled
-pub record Sized (bytes t : List ℕ) (f : ℕ) (types alike held paths : List ℕ) : Type 0 where
+pub record Sized (bytes t : List ℕ) (f : ℕ) (types alike : List ℕ) (held paths : List Bool) : Type 0 where
   pub types_long : length types ≡ type_words * length (module_of bytes t).types
   pub alike_long : length alike ≡ length (module_of bytes t).types
   pub held_long : length held ≡ length (module_of bytes t).types
   pub paths_long : length paths ≡ length (function_of bytes t f).expressions
 
-pub record Tables (bytes t : List ℕ) (f : ℕ) (types alike held paths : List ℕ) : Type 0 where
+pub record Tables (bytes t : List ℕ) (f : ℕ) (types alike : List ℕ) (held paths : List Bool) : Type 0 where
   pub given : Given bytes t f types alike paths
   pub unsized : UnsizedTable (types_of types) held
 

@@ -1,5 +1,5 @@
 // The check of a module that was read, with tables of its own.
-// Stays: the arrays worked in are local and of fixed size, since there is no heap.
+// Stays: 45 KB of arrays anew at each check. Its two callers (boundary_check, check_text) have none to lend, so that each would make this literal.
 ghost use Rattle.std.specs.Prelude.{◌≡◌};
 ghost use Rattle.module.specs.Tables.{module_of};
 ghost use Rattle.request.specs.Request.{request_of};
@@ -30,8 +30,8 @@ pub fn check_in(
     let mut scratch = Scratch {
         rows: [0; TYPE_WORDS * MAX_TYPES],
         alike: [0; MAX_TYPES],
-        held: [0; MAX_TYPES],
-        paths: [0; MAX_EXPRESSIONS],
+        held: [false; MAX_TYPES],
+        paths: [false; MAX_EXPRESSIONS],
         firsts: [0; MAX_STATEMENTS],
         path: [0; PATH],
     };

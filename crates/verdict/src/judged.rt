@@ -9,7 +9,7 @@ use judge::subject::Subject;
 use strays::blame::blamed_statement;
 
 // The answer where something is not judged.
-pub fn unjudged(subject: &Subject, held: &[u32]) -> Option<Verdict>
+pub fn unjudged(subject: &Subject, held: &[bool]) -> Option<Verdict>
     requires { UnsizedTable (types_of subject.now.types.now) held.now }
     ensures { JudgesOf subject.now result }
 {

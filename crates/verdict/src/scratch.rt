@@ -10,8 +10,8 @@ pub const PATH: usize = MAX_EXPRESSIONS + 2;
 pub struct Scratch {
     pub rows: [u32; TYPE_WORDS * MAX_TYPES],
     pub alike: [u32; MAX_TYPES],
-    pub held: [u32; MAX_TYPES],
-    pub paths: [u32; MAX_EXPRESSIONS],
+    pub held: [bool; MAX_TYPES],
+    pub paths: [bool; MAX_EXPRESSIONS],
     pub firsts: [u32; MAX_STATEMENTS],
     pub path: [u32; PATH],
 }

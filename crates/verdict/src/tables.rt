@@ -14,8 +14,8 @@ pub fn fill_tables(
     f: FunctionHandle,
     types: &mut [u32],
     alike: &mut [u32],
-    held: &mut [u32],
-    paths: &mut [u32],
+    held: &mut [bool],
+    paths: &mut [bool],
 )
     requires { There file.now.bytes file.now.t f.0 × Sized file.now.bytes file.now.t f.0 types.old alike.old held.old paths.old }
     ensures { Tables file.now.bytes file.now.t f.0 types.new alike.new held.new paths.new }

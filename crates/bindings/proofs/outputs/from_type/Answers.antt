@@ -9,7 +9,7 @@ loop-i-init c = making_none _ _ _ _ _ c.requires.good c.member_count-i.ensures
 
 pub make-r-requires : goal.make-r-requires
 make-r-requires c =
-    let q9 = making_asks _ _ _ _ _ c.loop-i-test.true c.loop-i.invariant c.member_at-m.ensures c.from_binding-q.ensures (count_small _ _ c.requires.all_sized) c.requires.held.1 c.requires.good.base c.requires.held.0 in
+    let q9 = making_asks _ _ _ _ _ c.loop-i-test.true c.loop-i.invariant c.member_at-m.ensures c.from_binding-q.ensures (count_small _ _ c.args.types.now.all_sized) c.requires.held.1 c.requires.good.base c.requires.held.0 in
     record { good = q9.0; room = q9.1.0; child_bound = q9.1.1 }
 
 pub loop-i-preserved-then-q-ne-EMPTY_PIECE : goal.loop-i-preserved-then-q-ne-EMPTY_PIECE
@@ -22,4 +22,4 @@ loop-i-preserved c =
 
 pub returns : goal.returns
 returns c =
-    making_all _ _ _ _ _ c.loop-i-test.false (count_small _ _ c.requires.all_sized) c.loop-i.invariant
+    making_all _ _ _ _ _ c.loop-i-test.false (count_small _ _ c.args.types.now.all_sized) c.loop-i.invariant

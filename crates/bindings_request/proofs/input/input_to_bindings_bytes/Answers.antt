@@ -36,20 +36,17 @@ pub fill-requires-clause-args_len_bound : goal.fill-requires-clause-args_len_bou
 fill-requires-clause-args_len_bound c =
     omega (arith, c.arguments-n.ensures, arguments-few c.requires.tables c.args.f.0 (omega (arith, c.if-functions-f.false, c.functions.ensures)))
 
-pub all_table-requires-clause-all_bound : goal.all_table-requires-clause-all_bound
-all_table-requires-clause-all_bound c = rows_bound c.requires.tables
+pub invariant_of-types : goal.invariant_of-types
+invariant_of-types c = record { all_bound = rows_bound c.requires.tables }
 
 pub all_table-requires-clause-sets_len_bound : goal.all_table-requires-clause-sets_len_bound
 all_table-requires-clause-sets_len_bound c = omega (arith, rows_few c.requires.tables, c.requires.sets_len.0)
 
-pub input_to_bindings-requires-clause-list_at : goal.input_to_bindings-requires-clause-list_at
-input_to_bindings-requires-clause-list_at c =
+pub invariant_of-variables : goal.invariant_of-variables
+invariant_of-variables c =
     let h : c.args.f.0 < length (module_of c.args.file.now.bytes c.args.file.now.t).functions = omega (arith, c.if-functions-f.false, c.functions.ensures) in
     let A = needing_accepts c.requires.tables (length c.args.out.now) h c.args.context.now c.globals.ensures c.arguments-n.ensures c.locals-l.ensures (ap status (sym c.in_ok-check_context.was) ∙ c.check_context.ensures) refl in
-    needing_args c.requires.tables (length c.args.out.now) h c.args.context.now A c.args_at.ensures
-
-pub input_to_bindings-requires-clause-all_bound : goal.input_to_bindings-requires-clause-all_bound
-input_to_bindings-requires-clause-all_bound c = rows_bound c.requires.tables
+    record { readable = needing_args c.requires.tables (length c.args.out.now) h c.args.context.now A c.args_at.ensures }
 
 pub input_to_bindings-requires-clause-bound_args : goal.input_to_bindings-requires-clause-bound_args
 input_to_bindings-requires-clause-bound_args c =

@@ -4,4 +4,4 @@ use Rattle.bindings_request.proofs.Walking.{Grown}
 use Rattle.bindings_request.proofs.needed.all_table.Given as goal
 
 abbrev pub invariant-loop-t : goal.invariant-loop-t
-invariant-loop-t l = Grown (types_of l.types) l.initial.sets l.sets l.t
+invariant-loop-t l = Grown (types_of l.types.rows.now) l.initial.sets l.sets l.t

@@ -3,8 +3,8 @@ use mathlib.Core.Path.{◌∙◌}
 use Rattle.bindings_request.proofs.Walking.{zeros_read, zeros_all}
 use Rattle.bindings_request.proofs.needed.type_all.Goals as goal
 
-pub type_step-requires-clause-readable : goal.type_step-requires-clause-readable
-type_step-requires-clause-readable c = zeros_read
+pub invariant_of-part : goal.invariant_of-part
+invariant_of-part c = record { readable = zeros_read }
 
 pub returns : goal.returns
 returns c = c.type_step.ensures ∙ rw zeros_all

@@ -21,12 +21,12 @@ returns-in_err-check_length c =
 
 pub slice_bounds-add_binding_bytes-end : goal.slice_bounds-add_binding_bytes-end
 slice_bounds-add_binding_bytes-end c =
-    omega (arith, c.requires.max_types_in_bounds.1, c.types-n.ensures, types-few _ _ (rw c.in_ok-file.was at c.read_rows.ensures).1.read)
+    omega (arith, c.requires.max_types_in_bounds, c.types-n.ensures, types-few _ _ (rw c.in_ok-file.was at c.read_rows.ensures).1.read)
 
 pub add_binding_bytes-requires-clause-parts_len : goal.add_binding_bytes-requires-clause-parts_len
 add_binding_bytes-requires-clause-parts_len c =
     let T = (rw c.in_ok-file.was at c.read_rows.ensures).1 in
-    (as_many _ _ T.read _ T.rows (ones_part _ _ T.read c.types-n.ensures _ c.requires.max_types_in_bounds.1), lent_part _ _ T.read c.types-n.ensures _ _ _ 65539 c.requires.max_types_in_bounds.1 c.requires.cells_len_bound.0 c.requires.cells_len_bound.1 (rw c.in_ok-check_length.was at c.check_length.ensures).1)
+    (as_many _ _ T.read _ T.rows (ones_part _ _ T.read c.types-n.ensures _ c.requires.max_types_in_bounds), lent_part _ _ T.read c.types-n.ensures _ _ _ 65539 c.requires.max_types_in_bounds c.requires.cells_len_bound.0 c.requires.cells_len_bound.1 (rw c.in_ok-check_length.was at c.check_length.ensures).1)
 
 pub returns : goal.returns
 returns c =

@@ -12,12 +12,12 @@ returns-in_err-file c =
 
 pub slice_bounds-input_to_bindings_bytes-end : goal.slice_bounds-input_to_bindings_bytes-end
 slice_bounds-input_to_bindings_bytes-end c =
-    omega (arith, c.requires.max_types_in_bounds.1.0, c.types-n.ensures, types-few _ _ (rw c.in_ok-file.was at c.read_rows.ensures).1.read)
+    omega (arith, c.requires.max_types_in_bounds.0, c.types-n.ensures, types-few _ _ (rw c.in_ok-file.was at c.read_rows.ensures).1.read)
 
 pub input_to_bindings_bytes-requires-clause-sets_len : goal.input_to_bindings_bytes-requires-clause-sets_len
 input_to_bindings_bytes-requires-clause-sets_len c =
     let T = (rw c.in_ok-file.was at c.read_rows.ensures).1 in
-    (as_many _ _ T.read _ T.rows (ones_part _ _ T.read c.types-n.ensures _ c.requires.max_types_in_bounds.1.0), c.requires.max_types_in_bounds.1.1)
+    (as_many _ _ T.read _ T.rows (ones_part _ _ T.read c.types-n.ensures _ c.requires.max_types_in_bounds.0), c.requires.max_types_in_bounds.1)
 
 pub returns : goal.returns
 returns c =

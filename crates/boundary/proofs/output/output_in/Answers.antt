@@ -12,12 +12,12 @@ returns-in_err-file c =
 
 pub slice_bounds-output_from_bindings_bytes-end : goal.slice_bounds-output_from_bindings_bytes-end
 slice_bounds-output_from_bindings_bytes-end c =
-    omega (arith, c.requires.max_types_in_bounds.1, c.types-n.ensures, types-few _ _ (rw c.in_ok-file.was at c.read_rows.ensures).1.read)
+    omega (arith, c.requires.max_types_in_bounds, c.types-n.ensures, types-few _ _ (rw c.in_ok-file.was at c.read_rows.ensures).1.read)
 
 pub output_from_bindings_bytes-requires-clause-parts_len : goal.output_from_bindings_bytes-requires-clause-parts_len
 output_from_bindings_bytes-requires-clause-parts_len c =
     let T = (rw c.in_ok-file.was at c.read_rows.ensures).1 in
-    (as_many _ _ T.read _ T.rows (ones_part _ _ T.read c.types-n.ensures _ c.requires.max_types_in_bounds.1), lent_part _ _ T.read c.types-n.ensures _ _ _ 0 c.requires.max_types_in_bounds.1 c.requires.cells_len_bound.0 c.requires.cells_len_bound.1 (omega arith))
+    (as_many _ _ T.read _ T.rows (ones_part _ _ T.read c.types-n.ensures _ c.requires.max_types_in_bounds), lent_part _ _ T.read c.types-n.ensures _ _ _ 0 c.requires.max_types_in_bounds c.requires.cells_len_bound.0 c.requires.cells_len_bound.1 (omega arith))
 
 pub returns : goal.returns
 returns c =

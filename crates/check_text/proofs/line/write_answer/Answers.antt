@@ -2,21 +2,21 @@
 use Rattle.checking.specs.Line.{answer_text}
 use Rattle.check_text.proofs.line.write_answer.Goals as goal
 
-pub write_word-requires : goal.write_word-requires
+pub word-requires : goal.word-requires
 unfolding answer_text
-write_word-requires c = rw c.in-Clear.is at c.requires
+word-requires c = rw c.in-Clear.is at c.requires
 
 pub returns-in-Clear : goal.returns-in-Clear
 unfolding answer_text
-returns-in-Clear c = rw c.in-Clear.is c.write_word.ensures
+returns-in-Clear c = rw c.in-Clear.is c.word.ensures
 
-pub write_word-requires-in-Start : goal.write_word-requires-in-Start
+pub word-requires-in-Start : goal.word-requires-in-Start
 unfolding answer_text
-write_word-requires-in-Start c = rw c.in-Start.is at c.requires
+word-requires-in-Start c = rw c.in-Start.is at c.requires
 
 pub returns-in-Start : goal.returns-in-Start
 unfolding answer_text
-returns-in-Start c = rw c.in-Start.is c.write_word-in-Start.ensures
+returns-in-Start c = rw c.in-Start.is c.word-in-Start.ensures
 
 pub write_named-requires : goal.write_named-requires
 unfolding answer_text

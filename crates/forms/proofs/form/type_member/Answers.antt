@@ -23,7 +23,7 @@ base_at-requires c =
 
 pub returns-in-Struct : goal.returns-in-Struct
 returns-in-Struct c =
-    part_member _ _ c.kind_at.ensures c.type_extent.ensures c.if-type_extent-i.false c.requires (ap type_number c.in-Struct.is) c.base_at.ensures
+    part_member _ _ c.kind_at.ensures c.type_extent.ensures c.if-type_extent-i.false c.args.types.now.lower (ap type_number c.in-Struct.is) c.base_at.ensures
 
 pub base_at-requires-in_default : goal.base_at-requires-in_default
 base_at-requires-in_default c =
@@ -31,4 +31,4 @@ base_at-requires-in_default c =
 
 pub returns-in_default : goal.returns-in_default
 returns-in_default c =
-    part_base _ _ c.kind_at.ensures c.type_extent.ensures c.if-type_extent-i.false c.requires (is_not Vector c.in_default.not-Vector) (is_not Matrix c.in_default.not-Matrix) (is_not Struct c.in_default.not-Struct) c.base_at-in_default.ensures
+    part_base _ _ c.kind_at.ensures c.type_extent.ensures c.if-type_extent-i.false c.args.types.now.lower (is_not Vector c.in_default.not-Vector) (is_not Matrix c.in_default.not-Matrix) (is_not Struct c.in_default.not-Struct) c.base_at-in_default.ensures

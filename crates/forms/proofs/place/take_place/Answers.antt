@@ -20,7 +20,7 @@ place_form-form-requires c =
 pub take_out-d-requires : goal.take_out-d-requires
 take_out-d-requires c =
     let q9 = out_asks (c.requires.good, (c.requires.framing, (c.requires.n_bound, (c.requires.need, c.requires.room)))) (map_there (c.requires.good, (c.requires.framing, (c.requires.n_bound, (c.requires.need, c.requires.room)))) refl c.get.result c.get.ensures c.in-Some.is) refl refl (value_there (c.requires.good, (c.requires.framing, (c.requires.n_bound, (c.requires.need, c.requires.room)))) (map_there (c.requires.good, (c.requires.framing, (c.requires.n_bound, (c.requires.need, c.requires.room)))) refl c.get.result c.get.ensures c.in-Some.is) refl refl c.get-2.result c.get-2.ensures c.in-Some-get.is) _ c.place_form-form.ensures in
-    record { good = q9.0; lower = q9.1.0; p_bound = q9.1.1.0; room = rw (take_rest c.args.path.now 2) q9.1.1.1 }
+    record { good = q9.0; narrow = q9.1.0; p_bound = q9.1.1.0; room = rw (take_rest c.args.path.now 2) q9.1.1.1 }
 
 pub change_entry-e-requires : goal.change_entry-e-requires
 change_entry-e-requires c =

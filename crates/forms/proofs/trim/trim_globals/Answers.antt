@@ -4,4 +4,4 @@ use Rattle.forms.proofs.trim.trim_globals.Goals as goal
 
 pub returns : goal.returns
 returns c =
-    globals_trimmed _ _ _ (c.requires.good, (c.requires.lower, c.requires.p_bound)) c.trim_map-m.ensures c.keep.ensures
+    globals_trimmed _ _ _ _ c.trim_map-m.ensures c.keep.ensures

@@ -6,16 +6,16 @@ use Rattle.judge.proofs.made.fits_swizzle.Goals as goal
 
 pub returns-then-ne : goal.returns-then-ne
 returns-then-ne c =
-    swizzle_other c.requires.row c.requires.kind_value c.expression_operand-vector.ensures c.type_of-a.ensures c.kind_at.ensures (search rules)
+    swizzle_other c.args.expression.now.row_of c.requires.kind_value c.expression_operand-vector.ensures c.type_of-a.ensures c.kind_at.ensures (search rules)
 
 pub letters_below-requires : goal.letters_below-requires
-letters_below-requires c = few_letters c.requires.row c.requires.kind_value
+letters_below-requires c = few_letters c.args.expression.now.row_of c.requires.kind_value
 
 pub returns-then-letters_below : goal.returns-then-letters_below
 returns-then-letters_below c =
-    let sized = c.is_vector_of.ensures (S c.requires.row.given) c.requires.row.given.values.same in
-    fits-swizzle c.requires.row c.requires.kind_value c.expression_operand-vector.ensures c.type_of-a.ensures c.kind_at.ensures (search rules) (search (rules, sized))
+    let sized = c.is_vector_of.ensures (S c.args.expression.now.row_of.given) c.args.expression.now.row_of.given.values.same in
+    fits-swizzle c.args.expression.now.row_of c.requires.kind_value c.expression_operand-vector.ensures c.type_of-a.ensures c.kind_at.ensures (search rules) (search (rules, sized))
 
 pub returns-else-letters_below : goal.returns-else-letters_below
 returns-else-letters_below c =
-    fits-swizzle c.requires.row c.requires.kind_value c.expression_operand-vector.ensures c.type_of-a.ensures c.kind_at.ensures (search rules) (search rules)
+    fits-swizzle c.args.expression.now.row_of c.requires.kind_value c.expression_operand-vector.ensures c.type_of-a.ensures c.kind_at.ensures (search rules) (search rules)

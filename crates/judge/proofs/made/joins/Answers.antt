@@ -9,15 +9,15 @@ loop-i-init c = joined_none _ _
 
 pub returns-in_default : goal.returns-in_default
 returns-in_default c =
-    joined_fails _ _ c.requires _ c.expression_operand.ensures c.type_of-a.ensures c.kind_at.ensures _ _ c.operand-count.ensures c.loop-i-test.true (search rules)
+    joined_fails _ _ c.args.expression.now.row_of.given.values.same _ c.expression_operand.ensures c.type_of-a.ensures c.kind_at.ensures _ _ c.operand-count.ensures c.loop-i-test.true (search rules)
 
 pub overflow_add-total : goal.overflow_add-total
 overflow_add-total c = omega (arith, c.loop-i-test.true, c.loop-i.invariant.small)
 
 pub loop-i-preserved : goal.loop-i-preserved
 loop-i-preserved c =
-    joined_next _ _ c.requires _ c.expression_operand.ensures c.type_of-a.ensures c.kind_at.ensures (search rules) c.component_count.ensures (omega arith) c.loop-i.invariant
+    joined_next _ _ c.args.expression.now.row_of.given.values.same _ c.expression_operand.ensures c.type_of-a.ensures c.kind_at.ensures (search rules) c.component_count.ensures (omega arith) c.loop-i.invariant
 
 pub returns : goal.returns
 returns c =
-    joined_all _ _ c.requires _ _ _ c.operand-count.ensures c.loop-i-test.false c.loop-i.auto.i-end c.loop-i.invariant
+    joined_all _ _ c.args.expression.now.row_of.given.values.same _ _ _ c.operand-count.ensures c.loop-i-test.false c.loop-i.auto.i-end c.loop-i.invariant

@@ -6,4 +6,4 @@ use Rattle.judge.proofs.Components.{Joined}
 use Rattle.judge.proofs.made.joins.Given as goal
 
 abbrev pub invariant-loop-i : goal.invariant-loop-i
-invariant-loop-i l = Joined (scope_at l.file.bytes l.file.t l.f.0) (λ k. operand_at l.file.bytes l.row (1 + k)) l.i l.total
+invariant-loop-i l = Joined (scope_at l.expression.subject.now.file.now.bytes l.expression.subject.now.file.now.t l.expression.subject.now.f.0) (λ k. operand_at l.expression.subject.now.file.now.bytes l.expression.row (1 + k)) l.i l.total

@@ -8,15 +8,15 @@ loop-i-init c = each_none _
 
 pub same_part-requires : goal.same_part-requires
 same_part-requires c =
-    record { shapes = c.requires.row.given.shapes; a_in_bounds = c.requires.a_in_bounds; b_in_bounds = part_low c.requires.row c.requires.kind_value c.operand-count.ensures c.loop-i-test.true c.expression_operand.ensures c.type_of-b.ensures }
+    record { shapes = c.args.expression.now.row_of.given.shapes; a_in_bounds = c.requires.a_in_bounds; b_in_bounds = part_low c.args.expression.now.row_of c.requires.kind_value c.operand-count.ensures c.loop-i-test.true c.expression_operand.ensures c.type_of-b.ensures }
 
 pub returns-then-not-same_part : goal.returns-then-not-same_part
 returns-then-not-same_part c =
-    each_fails _ _ (λ i. i) c.operand-count.ensures c.loop-i-test.true (part_here c.requires.row _ _ c.expression_operand.ensures c.type_of-b.ensures (c.same_part.ensures _ c.requires.row.given.values.same)) c.if-not-same_part.true
+    each_fails _ _ (λ i. i) c.operand-count.ensures c.loop-i-test.true (part_here c.args.expression.now.row_of _ _ c.expression_operand.ensures c.type_of-b.ensures (c.same_part.ensures _ c.args.expression.now.row_of.given.values.same)) c.if-not-same_part.true
 
 pub loop-i-preserved : goal.loop-i-preserved
 loop-i-preserved c =
-    each_next _ (part_here c.requires.row _ _ c.expression_operand.ensures c.type_of-b.ensures (c.same_part.ensures _ c.requires.row.given.values.same)) c.if-not-same_part.false c.loop-i.invariant
+    each_next _ (part_here c.args.expression.now.row_of _ _ c.expression_operand.ensures c.type_of-b.ensures (c.same_part.ensures _ c.args.expression.now.row_of.given.values.same)) c.if-not-same_part.false c.loop-i.invariant
 
 pub returns : goal.returns
 returns c = each_all _ _ (λ i. i) c.operand-count.ensures c.loop-i-test.false c.loop-i.invariant

@@ -7,8 +7,8 @@ use Rattle.judge.proofs.operators.fits_math.Goals as goal
 
 pub returns-then-maybe_value-2 : goal.returns-then-maybe_value-2
 unfolding expression_of fits_expression
-returns-then-maybe_value-2 c = by-kind c.requires.row 21 c.requires.kind_value (search rules)
+returns-then-maybe_value-2 c = by-kind c.args.expression.now.row_of 21 c.requires.kind_value (search rules)
 
 pub returns-else-maybe_value-2 : goal.returns-else-maybe_value-2
 unfolding expression_of fits_expression
-returns-else-maybe_value-2 c = by-kind c.requires.row 21 c.requires.kind_value (search rules)
+returns-else-maybe_value-2 c = by-kind c.args.expression.now.row_of 21 c.requires.kind_value (search rules)

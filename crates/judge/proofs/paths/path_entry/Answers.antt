@@ -8,7 +8,7 @@ returns-in-Ok-GlobalVariable c = entry_variable _ _ _ _ _ c.expression-row.ensur
 
 pub returns-in-Ok-AccessIndex : goal.returns-in-Ok-AccessIndex
 returns-in-Ok-AccessIndex c =
-    entry-index _ _ _ _ _ c.expression-row.ensures c.expression_operand-base.ensures c.word.ensures (search rules)
+    entry-index _ _ _ _ _ c.expression-row.ensures c.expression_operand-base.ensures c.is_marked.ensures (search rules)
 
 pub returns-in_default : goal.returns-in_default
 returns-in_default c =

@@ -3,4 +3,4 @@ use Rattle.judge.proofs.ValueRows.{path_is}
 use Rattle.judge.proofs.values.is_path.Goals as goal
 
 pub returns : goal.returns
-returns c = path_is _ _ _ c.args.subject.now.given.values _ c.word.ensures
+returns c = path_is _ _ _ c.args.subject.now.given.values _ c.is_marked.ensures

@@ -6,4 +6,4 @@ use Rattle.lines.proofs.Own.{marks_left}
 use Rattle.lines.proofs.own_marks.write_own_marks.Given as goal
 
 abbrev pub invariant-loop-k : goal.invariant-loop-k
-invariant-loop-k l = Along l.initial.out l.out l.at l.next (marks_text (take l.n (drop l.from l.marks))) (marks_left l.marks l.from l.n l.k)
+invariant-loop-k l = Along l.initial.text l.text (marks_text (take l.n (drop l.from l.marks))) (marks_left l.marks l.from l.n l.k)

@@ -2,7 +2,7 @@
 use Prim.Native.Nat.{◌+◌}
 use mathlib.Core.Path.{sym, ap}
 use Rattle.lines.specs.Text.{context_text}
-use Rattle.lines.proofs.Writing.{fits_as, wrote_as}
+use Rattle.lines.proofs.Writing.{fits_as, writes_as}
 use Rattle.lines.proofs.ReportText.{context_there}
 use native.Mathlib.Omega.{arith}
 use Rattle.lines.proofs.report.write_context_at.Goals as goal
@@ -14,4 +14,4 @@ write_context-requires c =
 
 pub returns : goal.returns
 returns c =
-    wrote_as (sym (ap context_text (context_there c.args.parts.now.cells c.args.parts.now.slots c.args.k c.requires.1))) (rw c.load_context-c.ensures at c.write_context.ensures)
+    writes_as (sym (ap context_text (context_there c.args.parts.now.cells c.args.parts.now.slots c.args.k c.requires.1))) (rw c.load_context-c.ensures at c.write_context.ensures)

@@ -1,6 +1,6 @@
 -- `lines::report::write_records_of` meets its contract.
 use mathlib.Core.Path.{sym}
-use Rattle.lines.proofs.Writing.{fits_as, wrote_as}
+use Rattle.lines.proofs.Writing.{fits_as, writes_as}
 use Rattle.lines.proofs.ReportText.{records_there, records_within}
 use Rattle.lines.proofs.report.write_records_of.Goals as goal
 
@@ -10,4 +10,4 @@ write_records-requires c =
 
 pub returns : goal.returns
 returns c =
-    wrote_as (sym (records_there c.args.file.now.t c.args.f.0 c.row-row.ensures c.requires.1 c.args.parts.now.cells c.args.parts.now.slots)) (rw c.expressions_from-first.ensures at c.write_records.ensures)
+    writes_as (sym (records_there c.args.file.now.t c.args.f.0 c.row-row.ensures c.requires.1 c.args.parts.now.cells c.args.parts.now.slots)) (rw c.expressions_from-first.ensures at c.write_records.ensures)

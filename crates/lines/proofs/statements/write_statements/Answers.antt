@@ -6,15 +6,15 @@ use Rattle.lines.proofs.statements.write_statements.Goals as goal
 
 pub loop-s-init : goal.loop-s-init
 loop-s-init c =
-    along_none _ _ (lines_all c.args.file.now.bytes c.args.file.now.t c.args.marks.now c.args.f.0)
+    along_none _ (lines_all c.args.file.now.bytes c.args.file.now.t c.args.marks.now c.args.f.0)
 
-pub write_statement-next-requires : goal.write_statement-next-requires
-write_statement-next-requires c =
+pub write_statement-requires : goal.write_statement-requires
+write_statement-requires c =
     (marks_there c.requires.0 c.loop-s.s (omega (arith, c.statements-n.ensures)) c.place-from.ensures, along_fits c.requires.1 c.loop-s.invariant (lines_next c.requires.0 c.loop-s.s (omega (arith, c.statements-n.ensures)) c.place-from.ensures))
 
 pub loop-s-preserved : goal.loop-s-preserved
 loop-s-preserved c =
-    along_more c.loop-s.invariant (lines_next c.requires.0 c.loop-s.s (omega (arith, c.statements-n.ensures)) c.place-from.ensures) c.write_statement-next.ensures
+    along_more c.loop-s.invariant (lines_next c.requires.0 c.loop-s.s (omega (arith, c.statements-n.ensures)) c.place-from.ensures) c.write_statement.ensures
 
 pub returns : goal.returns
 returns c =

@@ -5,4 +5,4 @@ use Rattle.lines.proofs.StatementLines.{lines_left}
 use Rattle.lines.proofs.statements.write_statements.Given as goal
 
 abbrev pub invariant-loop-s : goal.invariant-loop-s
-invariant-loop-s l = Along l.initial.out l.out l.at l.next (statements_in l.file.bytes l.file.t l.marks l.f.0) (lines_left l.file.bytes l.file.t l.marks l.f.0 l.s)
+invariant-loop-s l = Along l.initial.text l.text (statements_in l.file.bytes l.file.t l.marks l.f.0) (lines_left l.file.bytes l.file.t l.marks l.f.0 l.s)

@@ -18,8 +18,8 @@ loop-s-preserved c =
     let l = statement_count _ _ c.requires.0 c.args.f.0 in
     (placed_more _ _ c.requires.0 _ _ _ _ _ _ _ c.loop-s.invariant.0 c.loop-s.invariant.1 c.statement_number.ensures c.put.ensures, (at_more _ _ c.requires.0 _ c.loop-s.s _ _ c.requires.1 (omega (arith, c.statements-n.ensures)) c.loop-s.invariant.1 c.mark_count-at.ensures).0)
 
-pub shape_of-places : goal.shape_of-places
-shape_of-places c = ap length c.loop-s.invariant.0 ∙ placed_long _ _ c.requires.0 c.args.f.0 _ _
+pub shape_of-firsts : goal.shape_of-firsts
+shape_of-firsts c = ap length c.loop-s.invariant.0 ∙ placed_long _ _ c.requires.0 c.args.f.0 _ _
 
 pub returns : goal.returns
 returns c =

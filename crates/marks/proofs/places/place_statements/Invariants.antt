@@ -5,4 +5,4 @@ use Rattle.marks.specs.Places.{placed_in, mark_place}
 use Rattle.marks.proofs.places.place_statements.Given as goal
 
 abbrev pub invariant-loop-s : goal.invariant-loop-s
-invariant-loop-s l = (l.places ≡ placed_in l.file.bytes l.file.t l.f.0 l.initial.places l.s) × (l.at ≡ mark_place (module_of l.file.bytes l.file.t) l.f.0 l.s)
+invariant-loop-s l = (l.firsts ≡ placed_in l.file.bytes l.file.t l.f.0 l.initial.firsts l.s) × (l.at ≡ mark_place (module_of l.file.bytes l.file.t) l.f.0 l.s)

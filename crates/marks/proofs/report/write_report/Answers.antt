@@ -16,7 +16,7 @@ slice_bounds-write_part-end c =
 
 pub write_part-requires : goal.write_part-requires
 write_part-requires c =
-    let i = c.requires.0.each c.loop-f.f c.loop-f-test.true in let l = still_long _ _ _ 0 c.loop-f.invariant in (i, c.requires.1, lent_long c.loop-f.report _ _ _ 0 c.range.result.start c.range.result.end i (omega (arith, c.requires.3)) (omega arith) (omega arith), omega (arith, c.requires.2))
+    let i = c.requires.0.each c.loop-f.f c.loop-f-test.true in let l = still_long _ _ _ 0 c.loop-f.invariant in (i, c.requires.1, lent_long c.loop-f.report _ _ _ c.range.result.start c.range.result.end i (omega (arith, c.requires.3)) (omega arith) (omega arith))
 
 pub loop-f-preserved : goal.loop-f-preserved
 loop-f-preserved c =

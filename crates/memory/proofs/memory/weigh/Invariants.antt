@@ -3,5 +3,5 @@ use mathlib.Core.Path.{◌≡◌}
 use Rattle.memory.specs.Memory.{read, sum_from}
 use Rattle.memory.proofs.memory.weigh.Given as goal
 
-abbrev pub invariant-loop-k : goal.invariant-loop-k
-invariant-loop-k l = l.sum ≡ sum_from (read l.parts.cells l.parts.slots) l.a l.k
+abbrev pub invariant-loop-r : goal.invariant-loop-r
+invariant-loop-r l = l.sum ≡ sum_from (read l.parts.cells l.parts.slots) l.a l.r-index

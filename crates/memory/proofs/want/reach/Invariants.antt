@@ -6,4 +6,4 @@ use Rattle.memory.specs.Want.{downs}
 use Rattle.memory.proofs.want.reach.Given as goal
 
 abbrev pub invariant-loop-k : goal.invariant-loop-k
-invariant-loop-k l = (l.m < top l.cells) × (part l.cells l.m ≡ downs l.path l.k (part l.cells l.n))
+invariant-loop-k l = (l.m < top l.cells) × (part l.cells l.m ≡ downs l.fn.w.path l.k-index (part l.cells l.n))

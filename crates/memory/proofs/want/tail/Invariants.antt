@@ -5,5 +5,5 @@ use Rattle.part.specs.Store.{top, part}
 use Rattle.memory.specs.Want.{tail}
 use Rattle.memory.proofs.want.tail.Given as goal
 
-abbrev pub invariant-loop-j : goal.invariant-loop-j
-invariant-loop-j l = (l.m < top l.cells) × (part l.cells l.m ≡ tail (part l.cells l.n) l.j)
+abbrev pub invariant-loop : goal.invariant-loop
+invariant-loop l = (l.m < top l.cells) × (part l.cells l.m ≡ tail (part l.cells l.n) l.counter)

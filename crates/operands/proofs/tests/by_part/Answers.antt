@@ -6,12 +6,12 @@ use Rattle.operands.proofs.tests.by_part.Goals as goal
 
 pub returns-in_default : goal.returns-in_default
 returns-in_default c =
-    part_not c.requires.row c.requires.kind_value c.type_of-own.ensures c.kind_at.ensures (not_simple _ c.in_default.not-Scalar c.in_default.not-Vector)
+    part_not c.args.expression.now.row_of c.requires.kind_value c.type_of-own.ensures c.kind_at.ensures (not_simple _ c.in_default.not-Scalar c.in_default.not-Vector)
 
 pub returns-then-first : goal.returns-then-first
 returns-then-first c =
-    part_is c.requires.row c.requires.kind_value c.type_of-own.ensures c.kind_at.ensures (simple c.in-Scalar.is) c.expression_operand-x.ensures c.expression_operand-y.ensures c.type_of.ensures c.is_alike-first.ensures c.type_of-2.ensures c.is_alike-second.ensures (rw c.if-first.true refl)
+    part_is c.args.expression.now.row_of c.requires.kind_value c.type_of-own.ensures c.kind_at.ensures (simple c.in-Scalar.is) c.expression_operand-x.ensures c.expression_operand-y.ensures c.type_of.ensures c.is_alike-first.ensures c.type_of-2.ensures c.is_alike-second.ensures (rw c.if-first.true refl)
 
 pub returns-else-first : goal.returns-else-first
 returns-else-first c =
-    part_is c.requires.row c.requires.kind_value c.type_of-own.ensures c.kind_at.ensures (simple c.in-Scalar.is) c.expression_operand-x.ensures c.expression_operand-y.ensures c.type_of.ensures c.is_alike-first.ensures c.type_of-2.ensures c.is_alike-second.ensures (rw c.if-first.false refl)
+    part_is c.args.expression.now.row_of c.requires.kind_value c.type_of-own.ensures c.kind_at.ensures (simple c.in-Scalar.is) c.expression_operand-x.ensures c.expression_operand-y.ensures c.type_of.ensures c.is_alike-first.ensures c.type_of-2.ensures c.is_alike-second.ensures (rw c.if-first.false refl)

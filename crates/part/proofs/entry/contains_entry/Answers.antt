@@ -1,19 +1,30 @@
--- `contains_entry` meets its contract. Each turn of the loop keeps the answer (`Passing`); the measure is the number of the piece.
-use Rattle.part.proofs.Entries.{passed_before, passed_bare, passed_at, passed_after, passed_end}
+-- `contains_entry` meets its contract: it stops at the first entry that is not below i; those before it keep the answer (`Passing`).
+use Rattle.std.proofs.Common.{◌<◌, ◌≤◌, rules}
+use borrow.Author.Tests.{tests}
+use Rattle.part.proofs.Listing.{found, missed}
+use Rattle.part.proofs.Entries.{Passing, passed_after, passed_end, passed_in, passed_bare, passed_at}
 use Rattle.part.proofs.entry.contains_entry.Goals as goal
 
+pub returns-in_default : goal.returns-in_default
+returns-in_default c =
+    let i = c.args.i in
+    let end = missed _ (Passing c.args.cells.now c.args.m i c.args.p) (λ x. x.index < i) (λ x. i ≤ x.index) passed_after (λ x q k. search (rules, tests)) (λ x q k. search (rules, tests)) c.in_default.ensures.ran (search rules) (search rules) in
+    passed_end _ end.0 end.1
+
 pub returns-then-i-x : goal.returns-then-i-x
-returns-then-i-x c = passed_before c.loop-n.invariant c.look-x.ensures c.if-i-x.true
+returns-then-i-x c =
+    let i = c.args.i in
+    let at = found _ (Passing c.args.cells.now c.args.m i c.args.p) (λ x. x.index < i) (λ x. i ≤ x.index) passed_after (λ x q k. search (rules, tests)) (λ x q k. search (rules, tests)) c.in-Some.ensures.ran (search rules) (search rules) in
+    passed_bare at c.then-i-x.either
 
-pub returns-then-x-eq-EXIST_PIECE : goal.returns-then-x-eq-EXIST_PIECE
-returns-then-x-eq-EXIST_PIECE c = passed_bare c.loop-n.invariant c.look-x.ensures c.if-i-x-2.true c.if-x-eq-EXIST_PIECE.true
-
-pub returns-then-i-x-2 : goal.returns-then-i-x-2
-returns-then-i-x-2 c =
-    passed_at c.loop-n.invariant c.look-x.ensures c.if-i-x-2.true c.if-x-eq-EXIST_PIECE.false c.contains.ensures
-
-pub loop-n-preserved : goal.loop-n-preserved
-loop-n-preserved c = passed_after c.loop-n.invariant c.look-x.ensures c.if-i-x.false c.if-i-x-2.false
+pub contains-requires-clause-a_bound : goal.contains-requires-clause-a_bound
+contains-requires-clause-a_bound c =
+    let i = c.args.i in
+    let at = found _ (Passing c.args.cells.now c.args.m i c.args.p) (λ x. x.index < i) (λ x. i ≤ x.index) passed_after (λ x q k. search (rules, tests)) (λ x q k. search (rules, tests)) c.in-Some.ensures.ran (search rules) (search rules) in
+    (passed_in at, c.requires.m_bound.1)
 
 pub returns : goal.returns
-returns c = passed_end c.loop-n.invariant c.loop-n-test.false
+returns c =
+    let i = c.args.i in
+    let at = found _ (Passing c.args.cells.now c.args.m i c.args.p) (λ x. x.index < i) (λ x. i ≤ x.index) passed_after (λ x q k. search (rules, tests)) (λ x q k. search (rules, tests)) c.in-Some.ensures.ran (search rules) (search rules) in
+    passed_at at c.if-i-x.false c.if-x-eq-EXIST_PIECE.false c.contains.ensures

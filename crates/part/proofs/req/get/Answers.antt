@@ -1,18 +1,18 @@
--- `get` meets its contract. Each turn of the loop keeps what is found (`Getting`); the measure is the number of the piece.
-use Rattle.part.proofs.Reading.{get_before, get_at, get_after, get_all, get_none}
+-- `get` meets its contract: it stops at the first entry that is not below the index; those before it keep what is found (`Getting`).
+use Rattle.std.proofs.Common.{◌<◌, ◌≤◌, rules}
+use borrow.Author.Tests.{tests}
+use Rattle.part.proofs.Listing.{found, missed}
+use Rattle.part.proofs.Reading.{Getting, get_at, get_after, get_end}
 use Rattle.part.proofs.req.get.Goals as goal
 
-pub returns-then-j-x : goal.returns-then-j-x
-returns-then-j-x c = get_before c.loop-n.invariant c.look-x.ensures c.if-j-x.true
+pub returns-in-Some : goal.returns-in-Some
+returns-in-Some c =
+    let j = c.args.j in
+    let at = found _ (Getting c.args.cells.now c.args.a j) (λ x. x.index < j) (λ x. j ≤ x.index) get_after (λ x q k. search (rules, tests)) (λ x q k. search (rules, tests)) c.in-Some.ensures.ran (search rules) (search rules) in
+    rw c.then_some.ensures (get_at at)
 
-pub returns-then-j-x-2 : goal.returns-then-j-x-2
-returns-then-j-x-2 c = get_at c.loop-n.invariant c.look-x.ensures c.if-j-x-2.true
-
-pub loop-n-preserved : goal.loop-n-preserved
-loop-n-preserved c = get_after c.loop-n.invariant c.look-x.ensures c.if-j-x.false c.if-j-x-2.false
-
-pub returns-then-n-eq-ALL_PIECE : goal.returns-then-n-eq-ALL_PIECE
-returns-then-n-eq-ALL_PIECE c = get_all c.loop-n.invariant c.requires.good c.if-n-eq-ALL_PIECE.true
-
-pub returns-else-n-eq-ALL_PIECE : goal.returns-else-n-eq-ALL_PIECE
-returns-else-n-eq-ALL_PIECE c = get_none c.loop-n.invariant c.loop-n-test.false c.if-n-eq-ALL_PIECE.false
+pub returns-in-None : goal.returns-in-None
+returns-in-None c =
+    let j = c.args.j in
+    let end = missed _ (Getting c.args.cells.now c.args.a j) (λ x. x.index < j) (λ x. j ≤ x.index) get_after (λ x q k. search (rules, tests)) (λ x q k. search (rules, tests)) c.in-None.ensures.ran (search rules) (search rules) in
+    rw c.then_some-in-None.ensures (get_end _ c.requires.good end.0 end.1)

@@ -7,16 +7,16 @@ clear_flags-requires c = flags_there c.requires.0 c.requires.1 c.functions-n.ens
 
 pub returns-then-is_fresh : goal.returns-then-is_fresh
 returns-then-is_fresh c =
-    tells_fresh c.requires.0 c.requires.1 c.functions-n.ensures c.clear_flags.ensures c.args.pruner.now c.is_fresh.ensures c.if-is_fresh.true
+    tells_fresh c.requires.0 c.requires.1 c.functions-n.ensures _ c.clear_flags.ensures c.args.pruner.now c.is_fresh.ensures c.if-is_fresh.true
 
 pub returns-in_default : goal.returns-in_default
 returns-in_default c =
-    tells_none c.requires.0 c.requires.1 c.functions-n.ensures c.clear_flags.ensures c.args.pruner.now c.is_fresh.ensures c.if-is_fresh.false c.record_length.ensures c.in_default.is
+    tells_none c.requires.0 c.requires.1 c.functions-n.ensures _ c.clear_flags.ensures c.args.pruner.now c.is_fresh.ensures c.if-is_fresh.false c.record_length.ensures c.in_default.is
 
 pub read_body-requires : goal.read_body-requires
 read_body-requires c =
-    record { has_totals = (cleared-has c.requires.0 c.requires.1 c.functions-n.ensures c.clear_flags.ensures, none_yet c.requires.0 c.requires.1 c.functions-n.ensures c.clear_flags.ensures); in_bounds = (body_there c.requires.0 c.requires.1 c.functions-n.ensures c.clear_flags.ensures c.args.pruner.now c.is_fresh.ensures c.if-is_fresh.false c.record_length.ensures c.in-Some.is, body_fits c.requires.0 c.requires.1 c.functions-n.ensures c.clear_flags.ensures c.args.pruner.now c.is_fresh.ensures c.if-is_fresh.false c.record_length.ensures c.in-Some.is) }
+    record { has_totals = (cleared-has c.requires.0 c.requires.1 c.functions-n.ensures _ c.clear_flags.ensures, none_yet c.requires.0 c.requires.1 c.functions-n.ensures _ c.clear_flags.ensures); in_bounds = (body_there c.requires.0 c.requires.1 c.functions-n.ensures c.args.pruner.now c.is_fresh.ensures c.if-is_fresh.false c.record_length.ensures c.in-Some.is, body_fits c.requires.0 c.requires.1 c.functions-n.ensures c.args.pruner.now c.is_fresh.ensures c.if-is_fresh.false c.record_length.ensures c.in-Some.is) }
 
 pub returns : goal.returns
 returns c =
-    tells_body c.requires.0 c.requires.1 c.functions-n.ensures c.clear_flags.ensures c.args.pruner.now c.is_fresh.ensures c.if-is_fresh.false c.record_length.ensures c.in-Some.is c.read_body.ensures
+    tells_body c.requires.0 c.requires.1 c.functions-n.ensures _ c.clear_flags.ensures c.args.pruner.now c.is_fresh.ensures c.if-is_fresh.false c.record_length.ensures c.in-Some.is c.read_body.ensures

@@ -6,32 +6,29 @@ use Rattle.pruner.proofs.totals.write_function.Goals as goal
 pub bounds-totals-i : goal.bounds-totals-i
 bounds-totals-i c = flag_there c.requires.has_totals.0 c.args.f.0 c.requires.has_totals.1
 
-pub write-requires : goal.write-requires
-write-requires c =
-    none_room c.requires.has_totals.0 c.args.f.0 c.requires.has_totals.1 c.args.out.now c.args.at c.if-totals-i-eq-NO_TOTAL.true c.requires.fits
+pub field-requires : goal.field-requires
+field-requires c =
+    none_room c.requires.has_totals.0 c.args.f.0 c.requires.has_totals.1 c.args.writer.now c.if-not-totals-i.true c.requires.fits
 
-pub returns-then-totals-i-eq-NO_TOTAL : goal.returns-then-totals-i-eq-NO_TOTAL
-returns-then-totals-i-eq-NO_TOTAL c =
-    none_done c.requires.has_totals.0 c.args.f.0 c.requires.has_totals.1 c.args.out.now c.args.at c.if-totals-i-eq-NO_TOTAL.true c.write.ensures
+pub returns-then-not-totals-i : goal.returns-then-not-totals-i
+returns-then-not-totals-i c =
+    none_done c.requires.has_totals.0 c.args.f.0 c.requires.has_totals.1 c.args.writer.now c.if-not-totals-i.true c.field.ensures
 
-pub start-from-requires : goal.start-from-requires
-start-from-requires c = omega (arith, starts_there c.requires.has_totals.0 c.args.f.0 c.requires.has_totals.1)
+pub range-own-requires : goal.range-own-requires
+range-own-requires c = starts_there c.requires.has_totals.0 c.args.f.0 c.requires.has_totals.1
 
-pub start-requires : goal.start-requires
-start-requires c = starts_there c.requires.has_totals.0 c.args.f.0 c.requires.has_totals.1
-
-pub overflow_sub-n : goal.overflow_sub-n
-overflow_sub-n c =
-    ascends c.requires.has_totals.0 c.args.f.0 c.requires.has_totals.1 c.records_of-records.ensures c.start-from.ensures c.start.ensures
+pub overflow_sub-own : goal.overflow_sub-own
+overflow_sub-own c =
+    ascends c.requires.has_totals.0 c.args.f.0 c.requires.has_totals.1 c.records_of-records.ensures c.range-own.ensures.start c.range-own.ensures.end
 
 pub overflow_add-records : goal.overflow_add-records
 overflow_add-records c =
-    omega (arith, records_small c.requires.has_totals.0 c.args.f.0 c.requires.has_totals.1 c.records_of-records.ensures c.start-from.ensures c.start.ensures)
+    omega (arith, records_small c.requires.has_totals.0 c.args.f.0 c.requires.has_totals.1 c.records_of-records.ensures c.range-own.ensures.start c.range-own.ensures.end)
 
 pub write_total-requires : goal.write_total-requires
 write_total-requires c =
-    record { stored = total_stored c.requires.has_totals.0 c.args.f.0 c.requires.has_totals.1 c.records_of-records.ensures c.start-from.ensures c.start.ensures; fits = total-room c.requires.has_totals.0 c.args.f.0 c.requires.has_totals.1 c.records_of-records.ensures c.start-from.ensures c.start.ensures c.args.out.now c.args.at c.if-totals-i-eq-NO_TOTAL.false c.requires.fits }
+    record { stored = total_stored c.requires.has_totals.0 c.args.f.0 c.requires.has_totals.1 c.records_of-records.ensures c.range-own.ensures.start c.range-own.ensures.end; fits = total-room c.requires.has_totals.0 c.args.f.0 c.requires.has_totals.1 c.records_of-records.ensures c.range-own.ensures.start c.range-own.ensures.end c.args.writer.now c.if-not-totals-i.false c.requires.fits }
 
 pub returns : goal.returns
 returns c =
-    total-done c.requires.has_totals.0 c.args.f.0 c.requires.has_totals.1 c.records_of-records.ensures c.start-from.ensures c.start.ensures c.args.out.now c.args.at c.if-totals-i-eq-NO_TOTAL.false c.write_total.ensures
+    total-done c.requires.has_totals.0 c.args.f.0 c.requires.has_totals.1 c.records_of-records.ensures c.range-own.ensures.start c.range-own.ensures.end c.args.writer.now c.if-not-totals-i.false c.write_total.ensures

@@ -10,13 +10,13 @@ pub loop-f-init : goal.loop-f-init
 loop-f-init c =
     functions_none (total_in (module_of c.args.file.now.bytes c.args.file.now.t) c.args.file.now.t (read c.args.parts.now.cells c.args.parts.now.slots) c.args.totals.now)
 
-pub write_function-next-requires : goal.write_function-next-requires
-write_function-next-requires c =
-    record { has_totals = (c.requires.has_totals, omega (arith, c.functions-f-end.ensures, c.loop-f-test.true)); fits = function_room (total_in (module_of c.args.file.now.bytes c.args.file.now.t) c.args.file.now.t (read c.args.parts.now.cells c.args.parts.now.slots) c.args.totals.now) c.loop-f.invariant c.loop-f-test.true (functions_room c.args.file.now.bytes c.args.file.now.t c.args.parts.now.cells c.args.parts.now.slots c.args.totals.now c.functions-f-end.ensures c.args.out.now c.args.at c.requires.fits) }
+pub write_function-requires : goal.write_function-requires
+write_function-requires c =
+    record { has_totals = (c.requires.has_totals, omega (arith, c.functions-f-end.ensures, c.loop-f-test.true)); fits = function_room (total_in (module_of c.args.file.now.bytes c.args.file.now.t) c.args.file.now.t (read c.args.parts.now.cells c.args.parts.now.slots) c.args.totals.now) c.loop-f.invariant c.loop-f-test.true (functions_room c.args.file.now.bytes c.args.file.now.t c.args.parts.now.cells c.args.parts.now.slots c.args.totals.now c.functions-f-end.ensures c.args.writer.now c.requires.fits) }
 
 pub loop-f-preserved : goal.loop-f-preserved
 loop-f-preserved c =
-    function_again (total_in (module_of c.args.file.now.bytes c.args.file.now.t) c.args.file.now.t (read c.args.parts.now.cells c.args.parts.now.slots) c.args.totals.now) c.loop-f.invariant c.loop-f-test.true c.write_function-next.ensures
+    function_again (total_in (module_of c.args.file.now.bytes c.args.file.now.t) c.args.file.now.t (read c.args.parts.now.cells c.args.parts.now.slots) c.args.totals.now) c.loop-f.invariant c.loop-f-test.true c.write_function.ensures
 
 pub returns : goal.returns
 returns c =

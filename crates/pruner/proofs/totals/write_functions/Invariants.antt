@@ -8,4 +8,4 @@ use Rattle.pruner.proofs.Writing.{Going}
 use Rattle.pruner.proofs.totals.write_functions.Given as goal
 
 abbrev pub invariant-loop-f : goal.invariant-loop-f
-invariant-loop-f l = Going l.f-end l.f l.initial.out l.out l.at (write_totals (tab l.f (total_in (module_of l.file.bytes l.file.t) l.file.t (read l.parts.cells l.parts.slots) l.totals))) l.next
+invariant-loop-f l = Going l.f-end l.f l.initial.writer l.writer (write_totals (tab l.f (total_in (module_of l.file.bytes l.file.t) l.file.t (read l.parts.cells l.parts.slots) l.totals)))

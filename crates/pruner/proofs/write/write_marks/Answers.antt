@@ -7,13 +7,13 @@ use Rattle.pruner.proofs.write.write_marks.Goals as goal
 pub loop-k-init : goal.loop-k-init
 loop-k-init c = none_written
 
-pub write-requires : goal.write-requires
-write-requires c =
+pub field-requires : goal.field-requires
+field-requires c =
     mark_room c.args.marks.now c.args.from c.args.n c.requires.n_in_bounds c.loop-k.invariant c.loop-k-test.true c.requires.fits
 
 pub loop-k-preserved : goal.loop-k-preserved
 loop-k-preserved c =
-    mark_again c.args.marks.now c.args.from c.args.n c.requires.n_in_bounds c.loop-k.invariant c.loop-k-test.true c.write.ensures
+    mark_again c.args.marks.now c.args.from c.args.n c.requires.n_in_bounds c.loop-k.invariant c.loop-k-test.true c.field.ensures
 
 pub returns : goal.returns
 returns c =

@@ -4,4 +4,4 @@ use Rattle.pruner.proofs.Writing.{Going}
 use Rattle.pruner.proofs.write.write_marks.Given as goal
 
 abbrev pub invariant-loop-k : goal.invariant-loop-k
-invariant-loop-k l = Going l.n l.k l.initial.out l.out l.at (take l.k (drop l.from l.marks)) l.next
+invariant-loop-k l = Going l.n l.k l.initial.writer l.writer (take l.k (drop l.from l.marks))

@@ -9,13 +9,13 @@ use Rattle.pruner.proofs.write.write_records.Goals as goal
 pub loop-k-init : goal.loop-k-init
 loop-k-init c = records_none c.args.parts.now.cells c.args.parts.now.slots c.args.base c.args.n c.requires.n_in_bounds
 
-pub write_return-next-requires : goal.write_return-next-requires
-write_return-next-requires c =
+pub write_return-requires : goal.write_return-requires
+write_return-requires c =
     record { good = c.requires.good; n_bound = c.requires.below (c.args.base + c.loop-k.k) (omega (arith, c.requires.n_in_bounds)); fits = record_room c.args.parts.now.cells c.args.parts.now.slots c.args.base c.args.n c.requires.n_in_bounds c.loop-k.invariant c.loop-k-test.true c.requires.fits }
 
 pub loop-k-preserved : goal.loop-k-preserved
 loop-k-preserved c =
-    record_again c.args.parts.now.cells c.args.parts.now.slots c.args.base c.args.n c.requires.n_in_bounds c.loop-k.invariant c.loop-k-test.true c.write_return-next.ensures
+    record_again c.args.parts.now.cells c.args.parts.now.slots c.args.base c.args.n c.requires.n_in_bounds c.loop-k.invariant c.loop-k-test.true c.write_return.ensures
 
 pub returns : goal.returns
 returns c =

@@ -5,4 +5,4 @@ use Rattle.pruner.proofs.Writing.{Going}
 use Rattle.pruner.proofs.write.write_records.Given as goal
 
 abbrev pub invariant-loop-k : goal.invariant-loop-k
-invariant-loop-k l = Going l.n l.k l.initial.out l.out l.at (write_records (records_of (read l.parts.cells l.parts.slots) l.base l.k)) l.next
+invariant-loop-k l = Going l.n l.k l.initial.writer l.writer (write_records (records_of (read l.parts.cells l.parts.slots) l.base l.k))

@@ -1,7 +1,6 @@
 -- `reading::read::read` meets its contract: by the length of the bytes, and what comes of the records.
 use Rattle.std.proofs.lemmas.Result.{err_from_is_err_and}
 use Rattle.reading.proofs.Finishing.{read_too_long, read_refused, passed_on, read_finished}
-use native.Mathlib.Omega.{arith}
 use Rattle.reading.proofs.read.read.Goals as goal
 
 pub returns-then-bytes-gt-MAX_BYTES : goal.returns-then-bytes-gt-MAX_BYTES
@@ -13,8 +12,7 @@ returns-in_err-c c =
     rw (p.1, p.2) (read_refused _ _ _ c.in_err-c.ensures)
 
 pub finish-requires : goal.finish-requires
-finish-requires c =
-    record { progress = passed_on _ _ _ c.in_ok-c.ensures; max_items_in_bounds = omega (arith, c.requires.max_items_in_bounds, c.records.auto) }
+finish-requires c = passed_on _ _ _ c.in_ok-c.ensures
 
 pub returns : goal.returns
 returns c = read_finished _ _ _ c.in_ok-c.ensures _ _ c.finish.ensures

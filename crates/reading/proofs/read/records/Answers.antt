@@ -7,7 +7,7 @@ use Rattle.reading.proofs.read.records.Goals as goal
 
 pub loop-at-init : goal.loop-at-init
 loop-at-init c =
-    (left_first _ _ _ _ c.requires.bytes_len_bound c.requires.words_in_bounds _ _ (c.fill.ensures.after (λ y e. e)) c.requires.values_in_bounds c.requires.max_items_in_bounds c.no_counts-c.ensures, refl, refl, refl)
+    (left_first _ _ _ c.requires.bytes_len_bound c.requires.words_in_bounds _ _ (c.fill.ensures.after (λ y e. e)) c.args.room.now.values_seen c.no_counts-c.ensures, refl)
 
 pub overflow_cast-at : goal.overflow_cast-at
 overflow_cast-at c =
@@ -40,7 +40,7 @@ loop-at-smaller c = omega (arith, c.loop-at-test.true)
 
 pub loop-at-preserved : goal.loop-at-preserved
 loop-at-preserved c =
-    (left_again c.loop-at.invariant.0 c.loop-at-test.true c.in_ok-c.ensures _ _ _ refl (omega (arith, c.loop-at.invariant.0.between.room, c.record_next.auto)) (omega (arith, c.get.ensures)), omega (arith, c.loop-at.invariant.1, c.record_next.auto), omega (arith, c.loop-at.invariant.2, c.record_next.auto), omega (arith, c.loop-at.invariant.3, c.record_next.auto))
+    (left_again c.loop-at.invariant.0 c.loop-at-test.true c.in_ok-c.ensures _ _ refl (omega (arith, c.get.ensures)), omega (arith, c.loop-at.invariant.1, c.record_next.auto))
 
 pub returns : goal.returns
 returns c = left_done c.loop-at.invariant.0 c.loop-at-test.false

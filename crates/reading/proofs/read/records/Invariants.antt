@@ -6,7 +6,7 @@ use Rattle.reading.proofs.Left.{Left}
 use Rattle.reading.proofs.read.records.Given as goal
 
 abbrev pub invariant-loop-at : goal.invariant-loop-at
-invariant-loop-at l = Left l.bytes l.t l.seen l.held l.c l.at × (length l.t ≡ length l.initial.t) × (length l.seen ≡ length l.initial.seen) × (length l.held ≡ length l.initial.held)
+invariant-loop-at l = Left l.bytes l.t l.room.seen.now l.c l.at × (length l.t ≡ length l.initial.t)
 
 abbrev pub decreases-loop-at : goal.decreases-loop-at
 decreases-loop-at l = length l.bytes - l.at

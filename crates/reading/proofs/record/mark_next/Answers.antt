@@ -7,15 +7,15 @@ use Rattle.reading.proofs.record.mark_next.Goals as goal
 pub returns-in_err-d : goal.returns-in_err-d
 returns-in_err-d c =
     let p = err_from_is_err_and c.from_residual.result c.from_residual.ensures.1 in
-    rw (p.1, p.2) (ends_wrong _ _ _ _ _ _ c.placed.ensures _ _ c.requires.between c.if-placed.true _ _ c.in_err-d.ensures.value c.in_err-d.ensures.t_after _ refl)
+    rw (p.1, p.2) (ends_wrong _ _ _ _ _ _ c.placed.ensures _ c.requires.between c.if-placed.true _ _ c.in_err-d.ensures.value c.in_err-d.ensures.t_after _ refl)
 
 pub body_next-requires : goal.body_next-requires
 body_next-requires c =
-    begun _ _ _ _ _ _ c.placed.ensures _ _ c.requires.between c.if-placed.true _ _ c.in_ok-d.ensures.value c.in_ok-d.ensures.t_after _ refl c.requires.at_in_bounds
+    begun _ _ _ _ _ _ c.placed.ensures _ c.requires.between c.if-placed.true _ _ c.in_ok-d.ensures.value c.in_ok-d.ensures.t_after _ refl c.requires.at_in_bounds
 
 pub returns-then-placed : goal.returns-then-placed
 returns-then-placed c =
-    then_body _ _ _ _ _ _ c.placed.ensures _ _ c.requires.between c.if-placed.true _ _ c.in_ok-d.ensures.value c.in_ok-d.ensures.t_after _ refl _ _ _ c.body_next.ensures
+    then_body _ _ _ _ _ _ c.placed.ensures _ c.requires.between c.if-placed.true _ _ c.in_ok-d.ensures.value c.in_ok-d.ensures.t_after _ refl _ _ _ c.body_next.ensures
 
 pub returns : goal.returns
 returns c = elsewhere _ _ _ _ _ _ c.placed.ensures _ c.if-placed.false

@@ -5,8 +5,8 @@ use Rattle.context.proofs.required_context.RequiredContext.remove.Goals as goal
 
 pub alter-requires : goal.alter-requires
 alter-requires c =
-    let q9 = map_asks c.args.var c.requires.good c.requires.all_sized c.requires.has_context.0 c.requires.has_context.1.1 c.requires.room in
-    rw c.entry_of-m.ensures.0 (record { good = q9.0; all_sized = q9.1.0; m_bound = q9.1.1.0; room = q9.1.1.1 })
+    let q9 = map_asks c.args.var c.requires.good c.requires.has_context.0 c.requires.has_context.1.1 c.requires.room in
+    rw c.entry_of-m.ensures.0 (record { good = q9.0; m_bound = q9.1.0; room = q9.1.1 })
 
 pub returns-in_err-left : goal.returns-in_err-left
 returns-in_err-left c =

@@ -1,7 +1,0 @@
--- `context_bytes::find::is_all` meets its contract, by the part's code.
-use mathlib.Core.Path.{refl, ◌∙◌}
-use Rattle.context_bytes.proofs.Found.{is_all_by}
-use Rattle.context_bytes.proofs.find.is_all.Goals as goal
-
-pub returns : goal.returns
-returns c = c.eq.ensures ∙ is_all_by c.requires _ refl refl (λ n. refl) c.part_code.result c.part_code.ensures

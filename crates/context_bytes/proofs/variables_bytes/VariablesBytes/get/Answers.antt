@@ -1,0 +1,9 @@
+-- `VariablesBytes::get` meets its contract: what is found of a variable in a list that can be read.
+use Rattle.context_bytes.proofs.Found.{found_variable}
+use Rattle.context_bytes.proofs.variables_bytes.VariablesBytes.get.Goals as goal
+
+pub returns-in_err-at : goal.returns-in_err-at
+returns-in_err-at c = rw c.from_residual.ensures (found_variable c.args.self.now.readable c.in_err-at.ensures)
+
+pub returns : goal.returns
+returns c = (found_variable c.args.self.now.readable c.in_ok-at.ensures).1

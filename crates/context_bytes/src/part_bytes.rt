@@ -1,0 +1,52 @@
+// A part where it stands in bytes: `get_subpart` and the tests of what is needed, by passing over what is before.
+ghost use Rattle.context_bytes.specs.Found.{Readable};
+
+use crate::find::find_entry;
+use request::codes::{Code, part_code};
+
+// Its first byte is at `at`, and it is at most `depth` deep.
+#[derive(Clone, Copy, Drop)]
+pub struct PartBytes<'a> {
+    pub bytes: &'a [u8],
+    pub at: usize,
+    pub depth: usize,
+    pub ghost readable: { Readable bytes.now at depth },
+}
+
+impl<'a> PartBytes<'a> {
+    ghost use Rattle.std.specs.Prelude.{◌≡◌};
+    ghost use Rattle.part.specs.PartReq.{get_subpart, is_all, is_exist};
+    ghost use Rattle.context_bytes.specs.Subparts.{part_of, SubpartIs};
+
+    // `get_subpart`
+    pub fn get_subpart(&self, i: u32) -> Option<PartBytes<'a>>
+        ensures { SubpartIs (get_subpart (part_of self.now) i) result }
+    {
+        match part_code(self.bytes, self.at, self.depth)? {
+            Code::All => Some(*self),
+            Code::Exist => None,
+            Code::Entries(n) => {
+                let (at, depth) = find_entry(self.bytes, self.at + 2 + 2, self.depth - 1, n, i)?;
+                Some(PartBytes {
+                    bytes: self.bytes,
+                    at,
+                    depth,
+                })
+            }
+        }
+    }
+
+    // Whether all is needed.
+    pub fn is_all(&self) -> bool
+        ensures { result ≡ is_all (part_of self.now) }
+    {
+        part_code(self.bytes, self.at, self.depth) == Some(Code::All)
+    }
+
+    // Whether no value is needed.
+    pub fn is_exist(&self) -> bool
+        ensures { result ≡ is_exist (part_of self.now) }
+    {
+        part_code(self.bytes, self.at, self.depth) == Some(Code::Exist)
+    }
+}

@@ -1,7 +1,0 @@
--- `lines::text::write_word` meets its contract. The loop has written the bytes before this one.
-use Rattle.lines.proofs.Writing.{word_more}
-use native.Mathlib.Omega.{arith}
-use Rattle.lines.proofs.text.write_word.Goals as goal
-
-pub loop-b-preserved : goal.loop-b-preserved
-loop-b-preserved c = word_more c.args.word.now (omega arith) c.loop-b.invariant c.write_byte-next.ensures
