@@ -31,7 +31,7 @@ use Rattle.block.specs.Standing.{rest_in, state_in}
 use Rattle.block.specs.Blocks.{StatementEnded, StatementEnds}
 use Rattle.block.specs.Visiting.{block_in, marked, Arms}
 use Rattle.block.proofs.Steps.{apart_state, apart_standing, beside_apart}
-use Rattle.arms.specs.Visit.{MarkAsked, MarkEnds}
+use Rattle.arms.specs.Visit.{MarkEnds}
 
 -- the kinds of those that hold blocks
 module _ {bytes t types : List ℕ} {places : MarkPlaces} {s rs open_marks : List ℕ} {totals : MarkTotals} {fr : Frame} {b : BlockHandle} {row : Kinded} {sum visits : ℕ} (A : Arms bytes t types places s rs open_marks totals fr b row sum visits) where
@@ -88,21 +88,6 @@ module _ {bytes t types : List ℕ} {places : MarkPlaces} {s rs open_marks : Lis
       leaf_ending r (L.by (add_function m) (block_in bytes t f) (rest_in m t f (read s rs) open_marks totals) A.begins.standing.totals-sum).by
 
   -- the marks of a leaf or a holder
-  pub mark_asks : {total : Out StatementReq} (r : Result Answer Halt) {u us open_after : List ℕ} {totals-after : MarkTotals} → Ends total (leaf_req (statement_of row.kind o)) r u us open_after totals-after → MarkAsked t places open_after fr row r
-  mark_asks (Ok a) E =
-      record {
-        by = record {
-          bytes = bytes;
-          was_read = A.begins.standing.ready.was_read;
-          placed = A.begins.standing.placed;
-          function = A.begins.standing.ready.function;
-          statement = A.begins.begun.statement;
-          is = A.is;
-          long = E.by.standing.open_long;
-        };
-      }
-  mark_asks (Err stop) E = record { by = tt }
-
   pub mark_ends : {r q : Result Answer Halt} {u us open_after open-last : List ℕ} {totals-after : MarkTotals} → MarkEnds t places open_after fr row r q open-last
       → Ends (arm_of row.kind) (leaf_req (statement_of row.kind o)) r u us open_after totals-after → Ends (marked m (frame_of s rs fr) (arm_of row.kind)) (λ b. b) q u us open-last totals-after
   mark_ends {u = u} {us = us} {totals-after = totals-after} M E = M.by bytes types s rs open_marks totals u us totals-after (arm_of row.kind) A.begins.begun.statement A.is E

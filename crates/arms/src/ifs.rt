@@ -7,6 +7,7 @@ ghost use Rattle.arms.specs.Ifs.{IfAsked, IfEnds};
 use access::file::File;
 use block::branches::{drop_both, join_up};
 use expression::add::add_expression;
+use expression::visit::Visit;
 use field::refusal::Refusal;
 use memory::layout::ALL;
 use memory::parts::Parts;
@@ -29,7 +30,6 @@ pub fn end_if(
     requires condition_in_bounds { condition.0 < length (function_at (module_of file.now.bytes file.now.t) fr.function.0).expressions }
     ensures { IfEnds file.now.bytes file.now.t parts.old.cells parts.old.slots fr condition.0 required tally.sum tally.visits result parts.new.cells parts.new.slots }
 {
-    let f = fr.function;
     let at = fr.at;
     if !required {
         drop_both(&mut parts.slots, at);
@@ -41,7 +41,13 @@ pub fn end_if(
     if join_up(parts, at) {
         return Err(fr.halt(Refusal::PartLimit));
     }
+    let v = Visit {
+        function: fr.function,
+        expression: condition,
+        at,
+        held: fr.held,
+    };
     let w = want_of(ALL);
-    let r = add_expression(file, parts, f, at, fr.held, condition, w, tally);
+    let r = add_expression(file, parts, &v, w, tally);
     answer(r, true)
 }

@@ -5,6 +5,7 @@ ghost use Rattle.arms.specs.Loops.{Passing, BreakEnds, PassEnds, TurnWalked, Tur
 use access::file::File;
 use block::stack::{drop, join, lower, settled};
 use expression::add::add_expression;
+use expression::visit::Visit;
 use field::refusal::Refusal;
 use memory::layout::ALL;
 use memory::memory::{tidy, weigh};
@@ -22,7 +23,9 @@ pub enum Turn {
     Again,
 }
 
-// `break_if`, where there is one, is asked in the statement's context while those of both blocks are held.
+// `break_if`, where there is one, is asked in the statement's context while those of both blocks are held. It is not inlined: the walk would
+// hold its visit on every level of loops.
+#[inline(never)]
 fn ask_break_if(
     file: &File,
     parts: &mut Parts,
@@ -36,14 +39,17 @@ fn ask_break_if(
     let Some(e) = break_if else {
         return Ok(tally);
     };
-    let f = fr.function;
-    let at = fr.at;
-    let k = at + 4;
+    let k = fr.at + 4;
     let first = weigh(parts, k, 4);
     let second = weigh(parts, k + 4, 4);
-    let held = fr.held + (first + second);
+    let v = Visit {
+        function: fr.function,
+        expression: e,
+        at: fr.at,
+        held: fr.held + (first + second),
+    };
     let w = want_of(ALL);
-    add_expression(file, parts, f, at, held, e, w, tally)
+    add_expression(file, parts, &v, w, tally)
 }
 
 // A first pass that is required ends: `break_if`, and the join of both blocks' contexts, which is the working context then.
@@ -66,7 +72,8 @@ pub fn end_pass(
     Ok(tally)
 }
 
-// A turn ends: its two contexts, above the working one and the statement's, are joined. Where the working context contains the join, it takes the place of the statement's.
+// A turn ends: its two contexts, above the working one and the statement's, are joined. Where the working context contains the join, it takes the
+// place of the statement's.
 pub fn end_turn(parts: &mut Parts, at: usize) -> Turn
     requires { TurnWalked parts.old.cells parts.old.slots at }
     ensures { TurnEnds parts.old.cells parts.old.slots at result parts.new.cells parts.new.slots }

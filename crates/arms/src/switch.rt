@@ -8,6 +8,7 @@ use access::kinded::Kinded;
 use block::aside::{put_aside, take_back};
 use block::stack::{drop, join};
 use expression::add::add_expression;
+use expression::visit::Visit;
 use memory::layout::ALL;
 use memory::memory::tidy;
 use memory::parts::Parts;
@@ -57,9 +58,14 @@ pub fn end_switch(
     }
     put_aside(parts, at + 4);
     drop(&mut parts.slots, at);
-    let f = fr.function;
+    let v = Visit {
+        function: fr.function,
+        expression: selector,
+        at,
+        held: fr.held,
+    };
     let w = want_of(ALL);
-    let tally = add_expression(file, parts, f, at, fr.held, selector, w, tally)?;
+    let tally = add_expression(file, parts, &v, w, tally)?;
     take_back(&parts.cells, &mut parts.slots, at);
     Ok(Answer {
         tally,

@@ -8,18 +8,18 @@ ghost use Rattle.state.specs.Ready.{Ready};
 ghost use Rattle.expression.specs.Walks.{Walks, EntryWalks, ending_global};
 ghost use Rattle.expression.specs.Visits.{Visiting, Mapping, Meets};
 
-use crate::visit::close;
+use crate::visit::{Visit, close};
 use access::file::File;
 use field::refusal::Refusal;
 use memory::layout::GLOBALS;
 use memory::memory::{ask_global, join_asked};
 use memory::parts::Parts;
 use memory::want::Want;
-use module::handles::{ExpressionHandle, FunctionHandle, GlobalHandle};
+use module::handles::GlobalHandle;
 use part::limits::SPINE;
 use part::req::get;
 use part::store::over;
-use state::answer::{Halt, Place, Tally, Walked};
+use state::answer::{Tally, Walked};
 
 // Joins what w asks to the entry of the variable i in a map of the context in the slots from `at` on, where that passes no limit. Whether it does.
 fn join(parts: &mut Parts, at: usize, map: usize, i: u32, w: Want) -> bool
@@ -35,50 +35,41 @@ fn join(parts: &mut Parts, at: usize, map: usize, i: u32, w: Want) -> bool
     false
 }
 
-// The entry i of a map of the current context is asked w, and the visit ends: that of an argument, or of a local, by the map's place in the context.
+// The entry i of a map of the current context is asked w, and the visit ends: an argument's or a local's, by the map's place in the context.
 pub fn entry(
     file: &File,
     parts: &mut Parts,
-    f: FunctionHandle,
-    at: usize,
-    held: usize,
-    e: ExpressionHandle,
+    v: &Visit,
     map: usize,
     i: u32,
     w: Want,
     tally: Tally,
 ) -> Walked
-    requires visiting { Visiting file.now.t f.0 e.0 at held parts.old.cells parts.old.slots w tally.sum }
+    requires visiting { Visiting file.now.t v.now.function.0 v.now.expression.0 v.now.at v.now.held parts.old.cells parts.old.slots w tally.sum }
     requires in_bounds { (map < 4) × (i < spine) }
-    ensures { (bytes : List ℕ) → Ready bytes file.now.t parts.old.cells parts.old.slots f.0 at held tally.sum → EntryWalks bytes file.now.t f.0 at held parts.old.cells parts.old.slots map e.0 i (asked parts.old.cells parts.old.slots w) tally.visits result parts.new.cells parts.new.slots }
+    ensures { (bytes : List ℕ) → Ready bytes file.now.t parts.old.cells parts.old.slots v.now.function.0 v.now.at v.now.held tally.sum → EntryWalks bytes file.now.t v.now.function.0 v.now.at v.now.held parts.old.cells parts.old.slots map v.now.expression.0 i (asked parts.old.cells parts.old.slots w) tally.visits result parts.new.cells parts.new.slots }
 {
-    if join(parts, at, map, i, w) {
-        return Err(Halt {
-            refusal: Refusal::PartLimit,
-            place: Place::Expression(f, e),
-        });
+    if join(parts, v.at, map, i, w) {
+        return Err(v.halt(Refusal::PartLimit));
     }
-    close(file, parts, f, at, held, e, w, tally)
+    close(file, parts, v, w, tally)
 }
 
 // The global g is asked w, and the visit ends. 15 is asked of the total, where it was joined.
 pub fn global(
     file: &File,
     parts: &mut Parts,
-    f: FunctionHandle,
-    at: usize,
-    held: usize,
-    e: ExpressionHandle,
+    v: &Visit,
     g: GlobalHandle,
     w: Want,
     tally: Tally,
 ) -> Walked
-    requires visiting { Visiting file.now.t f.0 e.0 at held parts.old.cells parts.old.slots w tally.sum }
+    requires visiting { Visiting file.now.t v.now.function.0 v.now.expression.0 v.now.at v.now.held parts.old.cells parts.old.slots w tally.sum }
     requires g_lt_spine { g.0 < spine }
-    ensures { (bytes : List ℕ) → Ready bytes file.now.t parts.old.cells parts.old.slots f.0 at held tally.sum → Walks bytes file.now.t f.0 at held parts.old.cells parts.old.slots (ending_global f.0 held e.0 g.0 (asked parts.old.cells parts.old.slots w)) tally.visits result parts.new.cells parts.new.slots }
+    ensures { (bytes : List ℕ) → Ready bytes file.now.t parts.old.cells parts.old.slots v.now.function.0 v.now.at v.now.held tally.sum → Walks bytes file.now.t v.now.function.0 v.now.at v.now.held parts.old.cells parts.old.slots (ending_global v.now.function.0 v.now.held v.now.expression.0 g.0 (asked parts.old.cells parts.old.slots w)) tally.visits result parts.new.cells parts.new.slots }
 {
     let seen = get(&parts.cells, parts.slots[GLOBALS], SPINE + g.0);
-    let n = parts.slots[at];
+    let n = parts.slots[v.at];
     let r = ask_global(parts, n, g, w, tally.sum);
     let counted = Tally {
         sum: r.sum,
@@ -86,17 +77,14 @@ pub fn global(
     };
     match seen {
         None => {
-            parts.slots[at] = r.globals;
-            close(file, parts, f, at, held, e, w, counted)
+            parts.slots[v.at] = r.globals;
+            close(file, parts, v, w, counted)
         }
         Some(_) => {
             if over(&parts.cells, parts.slots[GLOBALS]) {
-                return Err(Halt {
-                    refusal: Refusal::PartLimit,
-                    place: Place::Expression(f, e),
-                });
+                return Err(v.halt(Refusal::PartLimit));
             }
-            close(file, parts, f, at, held, e, w, counted)
+            close(file, parts, v, w, counted)
         }
     }
 }

@@ -1,7 +1,8 @@
 // How a visit begins and how it ends.
-ghost use Rattle.std.specs.Prelude.{List, ℕ};
+ghost use Rattle.std.specs.Prelude.{◌≡◌, List, ℕ};
 ghost use Rattle.memory.specs.Want.{asked};
 ghost use Rattle.state.specs.Ready.{Ready};
+ghost use Rattle.state.specs.declared.answer.Place.TheVariants.{Expression};
 ghost use Rattle.expression.specs.Walks.{Walks, closing};
 ghost use Rattle.expression.specs.Visits.{Counting, Allowed, Closing};
 
@@ -14,6 +15,28 @@ use memory::parts::Parts;
 use memory::want::Want;
 use module::handles::{ExpressionHandle, FunctionHandle};
 use state::answer::{Halt, Place, Tally, Walked};
+
+// The expression of the open function that is visited; the slots of the current context, and what frames hold beside that.
+// Stays: what is asked of it goes beside it. As a field it is copied for ask, ask_global and note: a level of add_expression took 624 bytes for 416.
+#[derive(Clone, Copy)]
+pub struct Visit {
+    pub function: FunctionHandle,
+    pub expression: ExpressionHandle,
+    pub at: usize,
+    pub held: usize,
+}
+
+impl Visit {
+    // A refusal of the expression.
+    pub fn halt(&self, refusal: Refusal) -> Halt
+        ensures { result ≡ record { refusal = refusal; place = Expression self.now.function self.now.expression } }
+    {
+        Halt {
+            refusal,
+            place: Place::Expression(self.function, self.expression),
+        }
+    }
+}
 
 // Whether 16 allows what is held, with the context in the slots from `at` on. Where it does, there is room for a visit then.
 pub fn allowed(parts: &mut Parts, at: usize, held: usize, sum: usize) -> bool
@@ -28,27 +51,15 @@ pub fn allowed(parts: &mut Parts, at: usize, held: usize, sum: usize) -> bool
     true
 }
 
-// A visit of e ends: the record, 16, and room for the next visit.
-pub fn close(
-    file: &File,
-    parts: &mut Parts,
-    f: FunctionHandle,
-    at: usize,
-    held: usize,
-    e: ExpressionHandle,
-    w: Want,
-    tally: Tally,
-) -> Walked
-    requires { Closing file.now.t f.0 e.0 at held parts.old.cells parts.old.slots w tally.sum }
-    ensures { (bytes : List ℕ) → Ready bytes file.now.t parts.old.cells parts.old.slots f.0 at held tally.sum → Walks bytes file.now.t f.0 at held parts.old.cells parts.old.slots (closing f.0 held e.0 (asked parts.old.cells parts.old.slots w)) tally.visits result parts.new.cells parts.new.slots }
+// The visit ends: the record, 16, and room for the next visit.
+pub fn close(file: &File, parts: &mut Parts, v: &Visit, w: Want, tally: Tally) -> Walked
+    requires { Closing file.now.t v.now.function.0 v.now.expression.0 v.now.at v.now.held parts.old.cells parts.old.slots w tally.sum }
+    ensures { (bytes : List ℕ) → Ready bytes file.now.t parts.old.cells parts.old.slots v.now.function.0 v.now.at v.now.held tally.sum → Walks bytes file.now.t v.now.function.0 v.now.at v.now.held parts.old.cells parts.old.slots (closing v.now.function.0 v.now.held v.now.expression.0 (asked parts.old.cells parts.old.slots w)) tally.visits result parts.new.cells parts.new.slots }
 {
-    let number = file.expression_number(f, e);
+    let number = file.expression_number(v.function, v.expression);
     let sum = note(parts, EXPRS + number, w, tally.sum);
-    if allowed(parts, at, held, sum) {
+    if allowed(parts, v.at, v.held, sum) {
         return Ok(Tally { sum, ..tally });
     }
-    Err(Halt {
-        refusal: Refusal::PiecesLimit,
-        place: Place::Expression(f, e),
-    })
+    Err(v.halt(Refusal::PiecesLimit))
 }

@@ -67,6 +67,7 @@ pub fn add_function(
 }
 
 // `add_block`: the block b of f, whose base stands in the slots from `base` on. Its context is left in those from `at` on.
+// Stays: the block's place in parts, here and in add_pair: as one value a level of loops took 992 bytes for 896 (add_pair 192 for 144, add_loop 416 for 368).
 #[cycle(walk)]
 pub fn add_block(
     world: &World,

@@ -66,7 +66,7 @@ fn variable_kind(kind: u16) -> u32
 }
 
 // The indexes from the pointer e down to its variable, each one word lower.
-// Stays: a loop by hand, since the next row is that of the operand which this one names; nothing is counted.
+// Stays: a loop by hand, since the next row is that of the operand which this one names: how many there are is known at the end alone.
 fn pass_indexes(file: &File, f: FunctionHandle, path: &mut [u32], e: ExpressionHandle) -> Reached
     requires pointer { Pointer file.now.bytes file.now.t f.0 e.0 }
     requires f_in_bounds { length (function_of file.now.bytes file.now.t f.0).expressions + 2 ≤ length path.old }

@@ -10,7 +10,7 @@ use marks::totals::MarkTotals;
 use memory::parts::Parts;
 
 // Stays: file, places, parts and totals go one by one, here, in buffer, total and totals: a `World` says of the types' rows too, and a `Workspace` has the
-// open marks and totals of just one length, and no caller of these functions owes that.
+// open marks beside, and no caller of these functions owes either.
 // Whether the buffer means totals.
 pub fn read_pruner(
     file: &File,

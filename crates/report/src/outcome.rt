@@ -35,7 +35,7 @@ pub struct Reported {
 pub type Outcome = Result<Reported, Refusal>;
 
 // The walk of f, and 16 at its end.
-// Stays: `walk_request` of crate requests begins with the same call, which is all that both have; it ends by writing three buffers that are not here.
+// Stays: `walk_request` of requests begins with the same call, and `finish_request` with the same test; one function would need a contract between them.
 fn walk_function(world: &World, space: &mut Workspace, f: FunctionHandle, sum: usize) -> Outcome
     requires { AskedOf world.now space.old f.0 sum }
     ensures { WalkedOf world.now space.old f.0 space.new.parts.cells space.new.parts.slots space.new.open result }

@@ -32,15 +32,12 @@ pub fn target_of(
 {
     let f = fr.function;
     let c = load_context(slots, fr.at);
-    let found = resolve_var(file, cells, f, e);
-    match found {
-        Some(target) => {
-            if over(cells, target.part) {
-                return Err(fr.halt(Refusal::PartLimit));
-            }
-            let needed = store_required(cells, c, target);
-            Ok(Aim { target, needed })
-        }
-        None => Err(fr.halt(Refusal::Panic)),
+    let Some(target) = resolve_var(file, cells, f, e) else {
+        return Err(fr.halt(Refusal::Panic));
+    };
+    if over(cells, target.part) {
+        return Err(fr.halt(Refusal::PartLimit));
     }
+    let needed = store_required(cells, c, target);
+    Ok(Aim { target, needed })
 }

@@ -10,6 +10,7 @@ ghost use Rattle.statement.specs.Asks.{Open, Asked, maybe_ask, answer_of};
 
 use access::file::File;
 use expression::add::add_expression;
+use expression::visit::Visit;
 use memory::parts::Parts;
 use memory::want::want_of;
 use module::handles::ExpressionHandle;
@@ -30,9 +31,14 @@ pub fn then_ask(
     ensures { Asked file.now.bytes file.now.t parts.old.cells parts.old.slots fr before (add_expression (module_of file.now.bytes file.now.t) fr.function.0 fr.held e.0) k result parts.new.cells parts.new.slots }
 {
     let tally = before?;
-    let f = fr.function;
+    let v = Visit {
+        function: fr.function,
+        expression: e,
+        at: fr.at,
+        held: fr.held,
+    };
     let w = want_of(k);
-    add_expression(file, parts, f, fr.at, fr.held, e, w, tally)
+    add_expression(file, parts, &v, w, tally)
 }
 
 // The same of an expression that may be absent.

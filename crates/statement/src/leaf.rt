@@ -22,6 +22,7 @@ use state::answer::{Answered, Tally};
 use state::frame::Frame;
 
 // `add_statement`, of a leaf. A break and a continue leave the block, as does a kind past the last: it is a break's.
+// Stays: file and types one by one. A `World` would ask for the places of marks too; a pair of the two would be made in the frame of each statement.
 // It is not inlined: the walk calls itself, and would hold its frame on every level of blocks.
 #[inline(never)]
 pub fn add_leaf(

@@ -31,18 +31,15 @@ fn take(
 {
     let f = fr.function;
     let c = load_context(&parts.slots, fr.at);
-    let taken = take_out(file, &mut parts.cells, types, f, c, target);
-    match taken {
-        Some(d) => {
-            if d.over(&parts.cells) {
-                return Err(fr.halt(Refusal::PartLimit));
-            }
-            save_context(&mut parts.slots, fr.at, d);
-            parts.slots[ASK] = p;
-            Ok(())
-        }
-        None => Err(fr.halt(Refusal::Panic)),
+    let Some(d) = take_out(file, &mut parts.cells, types, f, c, target) else {
+        return Err(fr.halt(Refusal::Panic));
+    };
+    if d.over(&parts.cells) {
+        return Err(fr.halt(Refusal::PartLimit));
     }
+    save_context(&mut parts.slots, fr.at, d);
+    parts.slots[ASK] = p;
+    Ok(())
 }
 
 // The store into what the expression e names. Whether anything is needed of that: the slot ASK has what, then.

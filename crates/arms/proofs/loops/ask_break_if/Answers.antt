@@ -18,12 +18,12 @@ weigh-second-requires c =
     let q9 = weighs c.requires.branched.standing in
     record { memory = q9.0; n_in_bounds = q9.1 }
 
-pub overflow_add-held : goal.overflow_add-held
-overflow_add-held c =
+pub overflow_add-v : goal.overflow_add-v
+overflow_add-v c =
     let h = break_fits c.requires c.weigh-first.ensures c.weigh-second.ensures in omega (arith, h.0)
 
-pub overflow_add-held-2 : goal.overflow_add-held-2
-overflow_add-held-2 c =
+pub overflow_add-v-2 : goal.overflow_add-v-2
+overflow_add-v-2 c =
     let h = break_fits c.requires c.weigh-first.ensures c.weigh-second.ensures in omega (arith, h.1)
 
 pub add_expression-requires : goal.add_expression-requires

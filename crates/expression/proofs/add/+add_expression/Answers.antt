@@ -8,11 +8,11 @@ use Rattle.expression.proofs.add.+add_expression.Goals as goal
 
 pub returns-then-began-ge-MAX_VISITS : goal.returns-then-began-ge-MAX_VISITS
 returns-then-began-ge-MAX_VISITS t c =
-    walk_17 c.requires.ready c.args.e.0 c.args.began.visits c.args.w refl refl c.if-began-ge-MAX_VISITS.true
+    rw c.halt.ensures (walk_17 c.requires.ready c.args.v.now.expression.0 c.args.began.visits c.args.w refl refl c.if-began-ge-MAX_VISITS.true)
 
 pub returns-then-not-allowed : goal.returns-then-not-allowed
 returns-then-not-allowed t c =
-    walk_16 c.requires.ready c.args.e.0 c.args.began.visits c.args.w refl refl c.if-began-ge-MAX_VISITS.false c.allowed.ensures c.if-not-allowed.true
+    rw c.halt-then-not-allowed.ensures (walk_16 c.requires.ready c.args.v.now.expression.0 c.args.began.visits c.args.w refl refl c.if-began-ge-MAX_VISITS.false c.allowed.ensures c.if-not-allowed.true)
 
 pub ask-requires : goal.ask-requires
 ask-requires t c =
@@ -50,7 +50,7 @@ returns-in-Local t c =
 
 pub returns-in-Refuse : goal.returns-in-Refuse
 returns-in-Refuse t c =
-    left_refuse c.loop-a.invariant.began c.loop-a.invariant.left c.ask.ensures (rw c.in-Refuse.is at c.in-Some.is) refl refl
+    rw c.halt-in-Refuse.ensures (left_refuse c.loop-a.invariant.began c.loop-a.invariant.left c.ask.ensures (rw c.in-Refuse.is at c.in-Some.is) refl refl)
 
 pub close-requires : goal.close-requires
 close-requires t c =

@@ -8,8 +8,8 @@ join-requires c = visit_mapping c.requires.visiting _ _ c.requires.in_bounds.0 c
 
 pub returns-then-join : goal.returns-then-join
 returns-then-join c = λ bytes r. record {
-  argument = λ z. argument_15 c.requires.visiting _ _ (rw z at (is_over c.join.ensures c.if-join.true)) refl refl;
-  local = λ z. local_15 c.requires.visiting _ _ (rw z at (is_over c.join.ensures c.if-join.true)) refl refl;
+  argument = λ z. rw c.halt.ensures (argument_15 c.requires.visiting _ _ (rw z at (is_over c.join.ensures c.if-join.true)) refl refl);
+  local = λ z. rw c.halt.ensures (local_15 c.requires.visiting _ _ (rw z at (is_over c.join.ensures c.if-join.true)) refl refl);
 }
 
 pub close-requires : goal.close-requires

@@ -13,7 +13,7 @@ close-requires c =
 
 pub returns-then-over : goal.returns-then-over
 returns-then-over c =
-    λ bytes r. later_15 c.requires.visiting _ c.requires.g_lt_spine c.ask_global-r.ensures (got_there c.args.parts.now.cells _ c.in-Some.is c.get-seen.ensures).1 _ c.over.ensures c.if-over.true refl refl
+    λ bytes r. rw c.halt.ensures (later_15 c.requires.visiting _ c.requires.g_lt_spine c.ask_global-r.ensures (got_there c.args.parts.now.cells _ c.in-Some.is c.get-seen.ensures).1 _ c.over.ensures c.if-over.true refl refl)
 
 pub close-requires-in-Some : goal.close-requires-in-Some
 close-requires-in-Some c =

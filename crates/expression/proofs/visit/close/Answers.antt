@@ -19,4 +19,4 @@ returns-then-allowed c =
 
 pub returns : goal.returns
 returns c =
-    λ bytes r. closed_16 c.requires c.expression_number-number.ensures c.note-sum.ensures r _ c.allowed.ensures c.if-allowed.false refl refl
+    λ bytes r. rw c.halt.ensures (closed_16 c.requires c.expression_number-number.ensures c.note-sum.ensures r _ c.allowed.ensures c.if-allowed.false refl refl)

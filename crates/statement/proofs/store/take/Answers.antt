@@ -4,12 +4,12 @@ use Rattle.statement.proofs.store.take.Goals as goal
 
 pub returns-then-over : goal.returns-then-over
 returns-then-over c =
-    rw c.halt.ensures (take_long c.requires c.load_context-c.ensures c.take_out-taken.ensures c.in-Some.is c.over.ensures c.if-over.true)
+    rw c.halt-then-over.ensures (take_long c.requires c.load_context-c.ensures c.take_out.ensures c.in-Some.is c.over.ensures c.if-over.true)
 
-pub returns-else-over : goal.returns-else-over
-returns-else-over c =
-    take_done c.requires c.load_context-c.ensures c.take_out-taken.ensures c.in-Some.is c.save_context.ensures c.over.ensures c.if-over.false
+pub returns : goal.returns
+returns c =
+    take_done c.requires c.load_context-c.ensures c.take_out.ensures c.in-Some.is c.save_context.ensures c.over.ensures c.if-over.false
 
-pub returns-in-None : goal.returns-in-None
-returns-in-None c =
-    rw c.halt-in-None.ensures (take_panics c.requires c.load_context-c.ensures c.take_out-taken.ensures c.in-None.is)
+pub returns-in_default : goal.returns-in_default
+returns-in_default c =
+    rw c.halt.ensures (take_panics c.requires c.load_context-c.ensures c.take_out.ensures c.in_default.is)
