@@ -130,7 +130,7 @@ pub record ContextWasStored (s rs b : List ℕ) (at slot sum : ℕ) (wanted : Re
 abbrev pub kept_pieces : FunctionReq → ℕ
 kept_pieces total = record_pieces total.exprs + pieces total.context
 
--- The total of f was read: its context and its records stand in its slots, its marks behind the flags, and its flag is set. Of other functions nothing has changed.
+-- The total of f was read: its context and its records stand in its slots, its marks in their place, and its flag is set. Of other functions nothing has changed.
 pub record KeptIs (bytes t s rs : List ℕ) (totals : MarkTotals) (b : List ℕ) (at : ℕ) (f : FunctionHandle) (sum : ℕ) (u us : List ℕ) (after : MarkTotals) (next m : ℕ) : Type 0 where
   pub is : (read_kept (module_of bytes t) f (from b at) >>= λ total gs. got (some total) gs) ≡ got (total_in (module_of bytes t) t (read u us) after f) (from b next)
   pub sums : m ≡ sum + total_count t f (read u us)
