@@ -8,7 +8,7 @@ use crate::whole::{Bound, unless_absent};
 use module::access::{BlockRange, block_range};
 use module::handles::{BlockHandle, ExpressionHandle, FunctionHandle, LocalHandle, TypeHandle};
 use module::record::body;
-use module::tables::{ITEMS, row_at, word};
+use module::tables::{item, row_at};
 
 impl<'a> File<'a> {
     // Stays: five counts that `row` has too, but its contract speaks of the tables, and theirs of the module, as the callers' do.
@@ -66,7 +66,7 @@ impl<'a> File<'a> {
         ensures { arg_from result ≡ argument_at self.now.bytes self.now.t f.0 i }
     {
         let row = row_at(self.t, f);
-        let offset = word(self.t, ITEMS + ((row.items as usize) + (i as usize)));
+        let offset = item(self.t, (row.items as usize) + (i as usize));
         let ty = TypeHandle(body(self.bytes, offset, 0) as u32);
         let binding = unless_absent(body(self.bytes, offset, 1) as u32);
         Bound { ty, binding }
@@ -76,7 +76,7 @@ impl<'a> File<'a> {
         ensures { result.0 ≡ local_at self.now.bytes self.now.t f.0 l.0 }
     {
         let row = row_at(self.t, f);
-        let offset = word(self.t, ITEMS + (row.locals_from() + (l.0 as usize)));
+        let offset = item(self.t, row.locals_from() + (l.0 as usize));
         TypeHandle(body(self.bytes, offset, 0) as u32)
     }
 
@@ -84,7 +84,7 @@ impl<'a> File<'a> {
         ensures { result.0 ≡ (typed_at self.now.bytes self.now.t f.0 e.0).type }
     {
         let row = row_at(self.t, f);
-        let offset = word(self.t, ITEMS + (row.expressions_from() + (e.0 as usize)));
+        let offset = item(self.t, row.expressions_from() + (e.0 as usize));
         TypeHandle(body(self.bytes, offset, 0) as u32)
     }
 

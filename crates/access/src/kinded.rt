@@ -4,10 +4,10 @@ ghost use Rattle.module.specs.Decode.{option_of};
 ghost use Rattle.access.specs.Access.{operand_at, handle_in, expression_number, expression_row, statement_row};
 
 use crate::file::File;
-use field::limits::ABSENT;
+use crate::whole::unless_absent;
 use module::handles::{BlockHandle, ExpressionHandle, FunctionHandle, GlobalHandle, LocalHandle};
 use module::record::body;
-use module::tables::{ITEMS, row_at, word};
+use module::tables::{item, row_at};
 
 // The kind of a record, its place, and how many fields stand before its operands.
 // Stays: the kind is its number, as in the file and in the definitions. The bytes may be any, so a decoded one would be a Result that each clause about
@@ -39,11 +39,8 @@ impl<'a> File<'a> {
     pub fn optional_expression(&self, row: Kinded, j: u16) -> Option<ExpressionHandle>
         ensures { handle_in result ≡ option_of (operand_at self.now.bytes row j) }
     {
-        let number = self.operand(row, j);
-        if number == ABSENT {
-            return None;
-        }
-        Some(ExpressionHandle(number as u32))
+        let number = unless_absent(self.operand(row, j) as u32)?;
+        Some(ExpressionHandle(number))
     }
 
     pub fn global_operand(&self, row: Kinded, j: u16) -> GlobalHandle
@@ -84,7 +81,7 @@ impl<'a> File<'a> {
         ensures { result ≡ expression_row self.now.bytes self.now.t f.0 e.0 }
     {
         let row = row_at(self.t, f);
-        let offset = word(self.t, ITEMS + (row.expressions_from() + (e.0 as usize)));
+        let offset = item(self.t, row.expressions_from() + (e.0 as usize));
         Kinded {
             kind: body(self.bytes, offset, 1),
             offset,
@@ -96,7 +93,7 @@ impl<'a> File<'a> {
         ensures { result ≡ statement_row self.now.bytes self.now.t f.0 s }
     {
         let row = row_at(self.t, f);
-        let offset = word(self.t, ITEMS + (row.statements_from() + (s as usize)));
+        let offset = item(self.t, row.statements_from() + (s as usize));
         Kinded {
             kind: body(self.bytes, offset, 0),
             offset,

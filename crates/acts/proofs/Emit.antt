@@ -6,6 +6,7 @@ use mathlib.Core.Bool.{Bool, true, false, cond}
 use mathlib.Core.List.{List, ◌++◌}
 use lib.ListN.{length, get_or, set, take, drop, length-append, length-drop, length-take}
 use lib.Seq.{length-take-le}
+use Rattle.std.specs.Prelude.{Option, Some}
 use Rattle.part.specs.PartReq.{PartReq, none}
 use Rattle.part.proofs.Distinct.{untrue}
 use Rattle.module.specs.Tables.{function_of}
@@ -25,7 +26,7 @@ use Rattle.quiet.specs.Acts.{Overlap}
 use Rattle.operands.specs.AsksAll.{wanted_in, AsksAll}
 use Rattle.operands.specs.Arms.{OperandsGiven, AsksOperands, PathRoom}
 use Rattle.acts.specs.Acts.{ActGiven, act_of, TakeGiven, TakenOut}
-use Rattle.acts.proofs.Places.{world_framing, world_few, slot-rooted}
+use Rattle.acts.proofs.Places.{world_few, slot-rooted}
 use Rattle.acts.proofs.Steps.{hand_kept, taken_opened, opened_full, asked_full, left, acted}
 
 -- as much of the path as the function's pointers take
@@ -64,15 +65,15 @@ module _ {bytes tab : List ℕ} {f : ℕ} {types alike : List ℕ} {paths : List
     needs_below : overlap S (emit e) hand ≡ below hand place
     needs_below = takes ∙ rw does_give
 
-    pub emit-take : {before after : List ℕ} {a : ℕ} → Overlap S (emit e) s hand before after a → {q : Place} → q ≡ slot (evaluated e) → TakeGiven bytes tab f types s rs n q a
+    pub emit-take : {before after : List ℕ} {found : Option ℕ} → Overlap S (emit e) s hand before after found → {a : ℕ} → found ≡ Some a → {q : Place} → q ≡ slot (evaluated e) → TakeGiven bytes tab f s rs n q a
     unfolding slot
-    emit-take o y =
+    emit-take o f y =
+        let x = rw f at o.piece in
         rw y
         record {
-          framing = world_framing g.world;
           ready = g.ready;
           spare = g.spare;
-          piece = record { piece = o.piece.piece; is = o.piece.is ∙ needs_below };
+          piece = record { piece = x.piece; is = x.is ∙ needs_below };
           rooted = slot-rooted e;
           placed = slot_placed S (evaluated e) there;
           short = omega arith;

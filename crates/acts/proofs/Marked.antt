@@ -26,7 +26,7 @@ use Rattle.acts.specs.Marks.{PassGiven, ByMark}
 use Rattle.acts.proofs.Steps.{hand_kept, above_ready}
 
 -- What an act is given
-module _ {bytes tab : List ℕ} {f : ℕ} {types alike : List ℕ} {paths : List Bool} {s rs path : List ℕ} {n : ℕ} {p : Passing} {l : ℕ} (g : PassGiven bytes tab f types alike paths s rs path n p l) where
+module _ {bytes tab : List ℕ} {f : ℕ} {types alike : List ℕ} {paths : List Bool} {s rs path : List ℕ} {n : ℕ} {p : Passing} (g : PassGiven bytes tab f types alike paths s rs path n p) where
   pub here_given : ActGiven bytes tab f types alike paths s rs path n
   here_given = record { world = g.world; ready = g.ready; spare = omega (arith, g.spare); room = g.room }
 

@@ -1,17 +1,14 @@
 -- The places that acts give: an emit's is a slot, a store's starts at a global or a local and has no more steps than its pointer's number, since each goes to a lower one.
 use Prim.Native.Nat.{ℕ, ◌+◌, ◌/◌, ◌%◌, ◌<◌, ◌≤◌}
 use native.Mathlib.Omega.{arith}
-use mathlib.Core.Path.{◌≡◌, refl, ap, subst, ◌∙◌}
+use mathlib.Core.Path.{◌≡◌, refl, ap, ◌∙◌}
 use mathlib.Core.Bool.{Bool, true}
 use mathlib.Core.List.{List, [], ◌∷◌, ◌++◌}
 use lib.ListN.{length, length-append}
 use Rattle.module.specs.Module.{TypeHandle, ExpressionHandle, Expression}
 use Rattle.module.specs.Knot.{below}
-use Rattle.module.specs.Tables.{function_of, module_of}
+use Rattle.module.specs.Tables.{function_of}
 use Rattle.module.proofs.Knot.{knot-is, below-lt}
-use Rattle.valid.proofs.Accepted.{valid}
-use Rattle.context.specs.Types.{AllSized}
-use Rattle.type_table.proofs.AllSized.{all_sized}
 use Rattle.clearance.specs.Scope.{Scope, Step, at, by, Path, nowhere, further, step_from, variable, slot, evaluated, typed, path_of, front, target, is_path}
 use Rattle.clearance.specs.IsJudged.{Declares, global as a_global, local as a_local, IndexOf, constant, dynamic, IsPath, ends, goes_on}
 use Rattle.clearance.proofs.Relations.{path_exactly}
@@ -19,7 +16,7 @@ use Rattle.judge.specs.Given.{scope_at}
 use Rattle.judge.proofs.PathSteps.{few}
 use Rattle.framed.specs.Places.{Placed}
 use Rattle.framed.proofs.Paths.{landed}
-use Rattle.forms.specs.Frames.{Framing, Rooted}
+use Rattle.forms.specs.Frames.{Rooted}
 use Rattle.standing.specs.World.{World}
 
 -- where a path starts, and how long it is
@@ -91,17 +88,6 @@ unfolding slot
 slot-rooted e = rooted_at (4 + e / 32) (e % 32) [] (λ z. omega arith) (λ z. omega arith)
 
 module _ {bytes t : List ℕ} {f : ℕ} {types alike : List ℕ} {paths : List Bool} (w : World bytes t f types alike paths) where
-  pub world_framing : Framing bytes t f types
-  world_framing =
-      let g = w.given in
-      record {
-        read = g.of.read;
-        there = g.of.there;
-        same = g.values.same;
-        lower = g.shapes.lower;
-        sized = subst AllSized g.values.same (all_sized (module_of bytes t) (valid bytes (module_of bytes t) g.of.read));
-      }
-
   pub world_few : length (function_of bytes t f).expressions ≤ 1024
   world_few = few bytes t f w.given.of.read w.given.of.there
 

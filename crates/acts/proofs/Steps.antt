@@ -7,6 +7,7 @@ use mathlib.Core.Bool.{Bool, true, false, not}
 use mathlib.Core.List.{List, ◌∷◌, ◌++◌}
 use lib.Dec.{ltb}
 use lib.ListN.{length, get_or, set, length-set}
+use Rattle.std.specs.Prelude.{Option, None, Some, is_some}
 use Rattle.part.specs.PartReq.{PartReq}
 use Rattle.part.specs.Store.{top, part, Made}
 use Rattle.part.proofs.Distinct.{untrue}
@@ -41,7 +42,7 @@ pub above_ready : {S : Scope} {s rs : List ℕ} {n : ℕ} → Ready S s rs n →
 above_ready {rs = rs} {n = n} d h = ready_open d (get_or rs (n - 1) 0) (d.live.loose.pieces (n - 1) (omega (arith, d.high))) (hand_kept d) h
 
 -- A place is taken out
-module _ {bytes tab : List ℕ} {f : ℕ} {types s rs : List ℕ} {n : ℕ} {q : Place} {a : ℕ} (g : TakeGiven bytes tab f types s rs n q a) where
+module _ {bytes tab : List ℕ} {f : ℕ} {s rs : List ℕ} {n : ℕ} {q : Place} {a : ℕ} (g : TakeGiven bytes tab f s rs n q a) where
   abbrev S : Scope
   S = scope_at bytes tab f
 
@@ -214,13 +215,13 @@ acted x w e f d = record {
 }
 
 -- what the code finds of an act that gives nothing that is needed, and of one that does
-module _ {S : Scope} {x : Act} {s : List ℕ} {m : PartReq} {before behind : List ℕ} {a : ℕ} (o : Overlap S x s m before behind a) {r : Bool} (h : (c : List ℕ) → r ≡ some (part c a)) where
-  found : some (overlap S x m) ≡ r
-  found = ap some (sym o.piece.is) ∙ sym (h s)
+module _ {S : Scope} {x : Act} {s : List ℕ} {m : PartReq} {before behind : List ℕ} {o : Option ℕ} (w : Overlap S x s m before behind o) where
+  pub needs_some : {a : ℕ} → o ≡ Some a → some (overlap S x m) ≡ true
+  needs_some e = sym w.is ∙ ap is_some e
 
-  pub needs_some : r ≡ true → some (overlap S x m) ≡ true
-  needs_some e = found ∙ e
+  needs_none : o ≡ None → some (overlap S x m) ≡ false
+  needs_none e = sym w.is ∙ ap is_some e
 
-pub acted_none : {S : Scope} {x : Act} {s rs : List ℕ} {n : ℕ} {before behind : List ℕ} {a : ℕ} → Ready S s rs n → Overlap S x s (in_slot s rs (n - 1)) before behind a →
-    {r : Bool} → ((c : List ℕ) → r ≡ some (part c a)) → r ≡ false → Acted S x s rs n s rs before behind true
-acted_none {x = x} d o h e = record { step = acted_idle d x (found o h ∙ e); long = o.long }
+pub acted_none : {S : Scope} {x : Act} {s rs : List ℕ} {n : ℕ} {before behind : List ℕ} {o : Option ℕ} → Ready S s rs n → Overlap S x s (in_slot s rs (n - 1)) before behind o →
+    o ≡ None → Acted S x s rs n s rs before behind true
+acted_none {x = x} d w e = record { step = acted_idle d x (needs_none w e); long = w.long }

@@ -5,6 +5,7 @@ use mathlib.Core.Path.{◌≡◌, refl, ◌∙◌}
 use mathlib.Core.Bool.{Bool, true, false}
 use mathlib.Core.List.{List, [], ◌∷◌, map}
 use lib.ListN.{length, get_or, set, length-set}
+use Rattle.std.specs.Prelude.{Option, Some}
 use Rattle.part.specs.PartReq.{PartReq}
 use Rattle.part.specs.Store.{part}
 use Rattle.part.proofs.Pieces.{part-0}
@@ -27,17 +28,18 @@ use Rattle.hold.specs.Hold.{in_slot}
 use Rattle.standing.specs.Slots.{Ready}
 use Rattle.standing.specs.Standing.{Stepped}
 use Rattle.place.specs.Target.{any, Pointer}
-use Rattle.place.specs.Steps.{indexes_of}
+use Rattle.place.specs.declared.pointer.PointerExpression.{PointerExpression}
+use Rattle.place.specs.Steps.{scope_in, indexes_in, indexes_of}
 use Rattle.asking.specs.Asks.{Asks, step_of, ValueGiven}
 use Rattle.quiet.specs.Acts.{Needing, Overlap}
 use Rattle.acts.specs.Acts.{ActGiven, StoreOf, act_of, leaving, TakenOut, PlaceGiven, SomewhereGiven}
 use Rattle.operands.specs.AsksAll.{ListGiven, AsksAll}
 use Rattle.operands.proofs.Lists.{given_right, all_full, list_next, list_then, value_given, value_all, all_piece}
-use Rattle.acts.proofs.Places.{world_framing, world_few, target-rooted, target-short, target-placed}
+use Rattle.acts.proofs.Places.{world_few, target-rooted, target-short, target-placed}
 use Rattle.acts.proofs.Steps.{hand_kept, above_ready, taken_opened, copied_opened, opened_full, asked_full, left, acted}
 
 -- What is needed of the place is asked of the value
-module _ {bytes tab : List ℕ} {f : ℕ} {types s rs : List ℕ} {n : ℕ} {q : Place} {a v : ℕ} (g : PlaceGiven bytes tab f types s rs n q a v) where
+module _ {bytes tab : List ℕ} {f : ℕ} {s rs : List ℕ} {n : ℕ} {q : Place} {a v : ℕ} (g : PlaceGiven bytes tab f s rs n q a v) where
   abbrev S : Scope
   S = scope_at bytes tab f
 
@@ -83,18 +85,18 @@ whole_fine : (xs : List ExpressionHandle) → AsksFine (map ask_whole xs)
 whole_fine [] = tt
 whole_fine (x ∷ xs) = (tt, whole_fine xs)
 
-module _ {bytes tab : List ℕ} {f : ℕ} {s rs : List ℕ} {n p v : ℕ} (g : SomewhereGiven bytes tab f s rs n p v) where
+module _ (p : PointerExpression) {s rs : List ℕ} {n v : ℕ} (g : SomewhereGiven (scope_in p) s rs n v) where
   pub same_asks : (n - 1 < length rs) × (n < length rs)
   same_asks = (omega (arith, g.spare), omega (arith, g.spare))
 
-  same_ready : Ready (scope_at bytes tab f) s (set rs n (get_or rs (n - 1) 0)) (n + 1)
+  same_ready : Ready (scope_in p) s (set rs n (get_or rs (n - 1) 0)) (n + 1)
   same_ready = above_ready g.ready same_asks.1
 
   -- what is asked lies within its types
-  whole_list : ListGiven (scope_at bytes tab f) (ask_whole v ∷ map ask_whole (indexes_of bytes tab f p)) s (set rs n (get_or rs (n - 1) 0)) (n + 1)
+  whole_list : ListGiven (scope_in p) (ask_whole v ∷ map ask_whole (indexes_in p)) s (set rs n (get_or rs (n - 1) 0)) (n + 1)
   whole_list =
       let R = g.read in
-      let there = g.pointer.there in
+      let there = p.pointer.there in
       record {
         read = R;
         judged = g.judged;
@@ -102,34 +104,34 @@ module _ {bytes tab : List ℕ} {f : ℕ} {s rs : List ℕ} {n p v : ℕ} (g : S
         two = omega (arith, g.ready.high);
         spare = omega (arith, g.spare, length-set rs n (get_or rs (n - 1) 0));
         need = hand_kept same_ready;
-        within = each_more (whole_within (scope_at bytes tab f) R v g.value)
-            (wholes_within (scope_at bytes tab f) R p (indexes_of bytes tab f p) (omega arith) (path_indexes (scope_at bytes tab f) R g.judged p there g.pointer.path));
-        fine = (tt, whole_fine (indexes_of bytes tab f p));
+        within = each_more (whole_within (scope_in p) R v g.value)
+            (wholes_within (scope_in p) R p.e.0 (indexes_in p) (omega arith) (path_indexes (scope_in p) R g.judged p.e.0 there p.pointer.path));
+        fine = (tt, whole_fine (indexes_in p));
       }
 
-  pub indexes_given : {ys : List ℕ} → ys ≡ set rs n (get_or rs (n - 1) 0) → ListGiven (scope_at bytes tab f) (map ask_whole (indexes_of bytes tab f p)) s ys (n + 1)
+  pub indexes_given : {ys : List ℕ} → ys ≡ set rs n (get_or rs (n - 1) 0) → ListGiven (scope_in p) (map ask_whole (indexes_in p)) s ys (n + 1)
   indexes_given y = rw y (given_right (ask_whole v ∷ []) whole_list)
 
-  module _ {ys : List ℕ} (y : ys ≡ set rs n (get_or rs (n - 1) 0)) {t us : List ℕ} {r : Bool} (d : AsksAll (scope_at bytes tab f) (map ask_whole (indexes_of bytes tab f p)) s ys (n + 1) t us r) where
-    pub indexes_full : r ≡ false → Stepped (scope_at bytes tab f) (leaving (scope_at bytes tab f) (in_slot s rs (n - 1)) (ask_whole v ∷ map ask_whole (indexes_of bytes tab f p))) s rs n t us false
+  module _ {ys : List ℕ} (y : ys ≡ set rs n (get_or rs (n - 1) 0)) {t us : List ℕ} {r : Bool} (d : AsksAll (scope_in p) (map ask_whole (indexes_in p)) s ys (n + 1) t us r) where
+    pub indexes_full : r ≡ false → Stepped (scope_in p) (leaving (scope_in p) (in_slot s rs (n - 1)) (ask_whole v ∷ map ask_whole (indexes_in p))) s rs n t us false
     indexes_full e = asked_full g.ready (copied_opened g.ready same_asks.1) _ refl (omega arith) (all_full (rw y at d) (ask_whole v ∷ []) e) refl
 
     module _ (e : r ≡ true) where
-      value_list : ListGiven (scope_at bytes tab f) (ask_whole v ∷ []) t us (n + 1)
+      value_list : ListGiven (scope_in p) (ask_whole v ∷ []) t us (n + 1)
       value_list = list_next (rw y at d) e [] whole_list
 
-      pub stored_given : ValueGiven (scope_at bytes tab f) t us (n + 1) v 0
+      pub stored_given : ValueGiven (scope_in p) t us (n + 1) v 0
       stored_given = value_given value_list refl 0 (part-0 t) (all_piece value_list)
 
-      module _ {u ws : List ℕ} {b : Bool} (a : Asks (scope_at bytes tab f) (step_of (scope_at bytes tab f) (of_value v (part t 0))) t us (n + 1) u ws b) where
-        asked_both : AsksAll (scope_at bytes tab f) (ask_whole v ∷ map ask_whole (indexes_of bytes tab f p)) s (set rs n (get_or rs (n - 1) 0)) (n + 1) u ws b
+      module _ {u ws : List ℕ} {b : Bool} (a : Asks (scope_in p) (step_of (scope_in p) (of_value v (part t 0))) t us (n + 1) u ws b) where
+        asked_both : AsksAll (scope_in p) (ask_whole v ∷ map ask_whole (indexes_in p)) s (set rs n (get_or rs (n - 1) 0)) (n + 1) u ws b
         asked_both = list_then (rw y at d) e whole_list (value_all value_list refl 0 (part-0 t) a)
 
-        pub stored_full : b ≡ false → Stepped (scope_at bytes tab f) (leaving (scope_at bytes tab f) (in_slot s rs (n - 1)) (ask_whole v ∷ map ask_whole (indexes_of bytes tab f p))) s rs n u ws false
+        pub stored_full : b ≡ false → Stepped (scope_in p) (leaving (scope_in p) (in_slot s rs (n - 1)) (ask_whole v ∷ map ask_whole (indexes_in p))) s rs n u ws false
         stored_full z = asked_full g.ready (copied_opened g.ready same_asks.1) _ refl (omega arith) asked_both z
 
         pub somewhere_left : b ≡ true → {zs : List ℕ} → zs ≡ set ws (n - 1) (get_or ws n 0) →
-            Stepped (scope_at bytes tab f) (leaving (scope_at bytes tab f) (in_slot s rs (n - 1)) (ask_whole v ∷ map ask_whole (indexes_of bytes tab f p))) s rs n u zs true
+            Stepped (scope_in p) (leaving (scope_in p) (in_slot s rs (n - 1)) (ask_whole v ∷ map ask_whole (indexes_in p))) s rs n u zs true
         somewhere_left z h = left g.ready (copied_opened g.ready same_asks.1) _ refl (omega arith) asked_both z n refl h
 
 -- What a store is by definition
@@ -179,18 +181,18 @@ module _ {bytes tab : List ℕ} {f : ℕ} {types alike : List ℕ} {paths : List
         (store_tidy (scope_at bytes tab f) g.world.read g.world.judged p v h.pointer h.value h.fits (in_slot s rs (n - 1)) (hand_kept g.ready).need.tidy) in
         (rw (none_of (indexes_of bytes tab f p) e) at z).each 0 (ask_whole v) (omega arith)
 
-    module _ {before after : List ℕ} {a : ℕ} (o : Overlap (scope_at bytes tab f) (store p v) s (in_slot s rs (n - 1)) before after a) where
-      pub known_asks : {q : Place} → q ≡ target (path_of (scope_at bytes tab f) p) → any (indexes_of bytes tab f p) ≡ false → PlaceGiven bytes tab f types s rs n q a v
+    module _ {before after : List ℕ} {o : Option ℕ} (w : Overlap (scope_at bytes tab f) (store p v) s (in_slot s rs (n - 1)) before after o) {a : ℕ} (found : o ≡ Some a) where
+      pub known_asks : {q : Place} → q ≡ target (path_of (scope_at bytes tab f) p) → any (indexes_of bytes tab f p) ≡ false → PlaceGiven bytes tab f s rs n q a v
       known_asks y e =
           let i = store_pointer.path in
           let l = h.pointer in
+          let x = rw found at w.piece in
           rw y
           record {
             take = record {
-              framing = world_framing g.world;
               ready = g.ready;
               spare = g.spare;
-              piece = record { piece = o.piece.piece; is = o.piece.is ∙ needs_below };
+              piece = record { piece = x.piece; is = x.is ∙ needs_below };
               rooted = target-rooted (scope_at bytes tab f) p i;
               placed = target-placed g.world p l i;
               short = omega (arith, target-short (scope_at bytes tab f) p i, world_few g.world);
@@ -201,13 +203,12 @@ module _ {bytes tab : List ℕ} {f : ℕ} {types alike : List ℕ} {paths : List
             within = needs_within e;
           }
 
-    pub somewhere_asks : SomewhereGiven bytes tab f s rs n p v
+    pub somewhere_asks : SomewhereGiven (scope_at bytes tab f) s rs n v
     somewhere_asks = record {
       read = g.world.read;
       judged = g.world.judged;
       ready = g.ready;
       spare = g.spare;
-      pointer = store_pointer;
       value = h.value;
     }
 

@@ -2,6 +2,7 @@
 use Rattle.std.specs.Prelude.{ℕ, ◌+◌, ◌-◌, ◌<◌, ◌≤◌, ◌≡◌, Bool, true, not, List, ◌∷◌, ltb, length}
 use Rattle.part.specs.PartReq.{PartReq}
 use Rattle.part.specs.Ascending.{Ascending}
+use Rattle.part.specs.Subparts.{Piece}
 use Rattle.part.specs.Collect.{cells_of}
 use Rattle.module.specs.Module.{ExpressionHandle, Store}
 use Rattle.module.specs.Tables.{function_of}
@@ -12,13 +13,11 @@ use Rattle.clearance.specs.Needs.{Ask, of_value, without}
 use Rattle.clearance.specs.Judged.{fits_statement}
 use Rattle.pass.specs.Pass.{work_bound, Carried, Passed, ◌>>=◌, within, asking_all, acting}
 use Rattle.judge.specs.Given.{scope_at}
-use Rattle.needs.specs.Path.{Piece}
 use Rattle.asked.specs.Within.{Within}
 use Rattle.framed.specs.Given.{Read, Judged}
 use Rattle.framed.specs.Places.{Placed}
 use Rattle.hold.specs.Hold.{held_by, in_slot, Live}
-use Rattle.forms.specs.Frames.{Framing, Rooted}
-use Rattle.place.specs.Target.{Pointer}
+use Rattle.forms.specs.Frames.{Rooted}
 use Rattle.standing.specs.Slots.{Ready}
 use Rattle.standing.specs.Standing.{Stepped}
 use Rattle.standing.specs.World.{World}
@@ -54,14 +53,16 @@ pub record Acted (S : Scope) (x : Act) (s rs : List ℕ) (n : ℕ) (t us before 
   pub long : length after ≡ length before
 
 -- what is given where the place q, of which the piece a is needed, is taken out
-pub record TakeGiven (bytes t : List ℕ) (f : ℕ) (types s rs : List ℕ) (n : ℕ) (q : Place) (a : ℕ) : Type 0 where
-  pub framing : Framing bytes t f types
+pub record TakeGiven (bytes t : List ℕ) (f : ℕ) (s rs : List ℕ) (n : ℕ) (q : Place) (a : ℕ) : Type 0 where
   pub ready : Ready (scope_at bytes t f) s rs n
   pub spare : n + 6 ≤ length rs
   pub piece : Piece s (below (in_slot s rs (n - 1)) q) a
   pub rooted : Rooted q
   pub placed : Placed (scope_at bytes t f) q
   pub short : length q ≤ 1026
+
+abbrev pub TakeGivenOf : Subject → List ℕ → List ℕ → ℕ → Place → ℕ → Type 0
+TakeGivenOf j s rs n q a = TakeGiven j.file.now.bytes j.file.now.t j.f.0 s rs n q a
 
 -- The slot n has what the needs at hand ask of the place q, and the next one what they leave without it; or r is false, and the bound was passed.
 pub record TakenOut (S : Scope) (q : Place) (s rs : List ℕ) (n : ℕ) (t us : List ℕ) (r : Bool) : Type 0 where
@@ -74,18 +75,20 @@ pub record TakenOut (S : Scope) (q : Place) (s rs : List ℕ) (n : ℕ) (t us : 
   pub is : r ≡ not (ltb work_bound (cells_of (without S q (in_slot s rs (n - 1)) ∷ held_by s rs n)))
 
 -- what is given where what is needed of the place q is asked of the value v
-pub record PlaceGiven (bytes t : List ℕ) (f : ℕ) (types s rs : List ℕ) (n : ℕ) (q : Place) (a v : ℕ) : Type 0 where
-  pub take : TakeGiven bytes t f types s rs n q a
+pub record PlaceGiven (bytes t : List ℕ) (f : ℕ) (s rs : List ℕ) (n : ℕ) (q : Place) (a v : ℕ) : Type 0 where
+  pub take : TakeGiven bytes t f s rs n q a
   pub read : Read (scope_at bytes t f)
   pub judged : Judged (scope_at bytes t f)
   pub ascends : Ascending (below (in_slot s rs (n - 1)) q)
   pub within : Within (scope_at bytes t f) (of_value v (below (in_slot s rs (n - 1)) q))
 
--- what is given where the pointer p has a dynamic index
-pub record SomewhereGiven (bytes t : List ℕ) (f : ℕ) (s rs : List ℕ) (n p v : ℕ) : Type 0 where
-  pub read : Read (scope_at bytes t f)
-  pub judged : Judged (scope_at bytes t f)
-  pub ready : Ready (scope_at bytes t f) s rs n
+abbrev pub PlaceGivenOf : Subject → List ℕ → List ℕ → ℕ → Place → ℕ → ℕ → Type 0
+PlaceGivenOf j s rs n q a v = PlaceGiven j.file.now.bytes j.file.now.t j.f.0 s rs n q a v
+
+-- what is given where a pointer has a dynamic index
+pub record SomewhereGiven (S : Scope) (s rs : List ℕ) (n v : ℕ) : Type 0 where
+  pub read : Read S
+  pub judged : Judged S
+  pub ready : Ready S s rs n
   pub spare : n + 6 ≤ length rs
-  pub pointer : Pointer bytes t f p
-  pub value : v < length (function_of bytes t f).expressions
+  pub value : v < length (expressions_of S)

@@ -17,7 +17,7 @@ use memory::parts::Parts;
 use module::handles::ExpressionHandle;
 use operands::expression::ask_operands;
 use place::slots::evaluated_path;
-use quiet::acts::{emit_idle, emit_overlap, is_some};
+use quiet::acts::{emit_idle, emit_overlap};
 use quiet::need::Need;
 use standing::passing::Passing;
 
@@ -41,20 +41,11 @@ pub fn act_emit(
         cells: &parts.cells,
         piece: parts.slots[last],
     };
-    let a = emit_overlap(&need, path, e);
-    if !is_some(a) {
+    let Some(a) = emit_overlap(&need, path, e) else {
         return Some(());
-    }
+    };
     evaluated_path(path, e);
-    take_out(
-        subject.file,
-        subject.f,
-        subject.types,
-        parts,
-        n,
-        &path[0..2],
-        a,
-    )?;
+    take_out(subject, parts, n, &path[0..2], a)?;
     let size = (subject.file.expressions(subject.f) as usize) + 2;
     let part = &mut path[..size];
     ask_operands(subject, parts, part, asked, e)?;
@@ -70,11 +61,11 @@ fn pass_emit(
     path: &mut [u32],
     n: usize,
     p: Passing,
-    l: u16,
+    l: u32,
     marked: bool,
     e: ExpressionHandle,
 ) -> Option<Passing>
-    requires pass_given { PassGivenOf subject.now parts.old.cells parts.old.slots path.old n (going p) l }
+    requires pass_given { PassGivenOf subject.now parts.old.cells parts.old.slots path.old n (going p) }
     requires e_in_bounds { e.0 < length (function_in subject.now).expressions }
     ensures { ByMark (scope_of subject.now) l marked (emit e.0) parts.old.cells parts.old.slots n (going p) parts.new.cells parts.new.slots path.old path.new (outcome result) }
 {
@@ -99,6 +90,7 @@ fn pass_emit(
 }
 
 // The statement l, an emit of the expressions from the first to the last, whose marks begin at `begin`, in a pass.
+// Stays: l, begin, first and last side by side. The one caller reads them of a row, and a struct would be made there to be taken apart here.
 pub fn pass_emits(
     subject: &Subject,
     marks: &[u8],
@@ -106,12 +98,12 @@ pub fn pass_emits(
     path: &mut [u32],
     n: usize,
     p: Passing,
-    l: u16,
+    l: u32,
     begin: u32,
     first: ExpressionHandle,
     last: ExpressionHandle,
 ) -> Option<Passing>
-    requires pass_given { PassGivenOf subject.now parts.old.cells parts.old.slots path.old n (going p) l }
+    requires pass_given { PassGivenOf subject.now parts.old.cells parts.old.slots path.old n (going p) }
     requires begin_value { begin ≡ marks_before (function_in subject.now).statements l }
     requires last_in_bounds { last.0 < length (function_in subject.now).expressions }
     ensures { EmitsPassed (scope_of subject.now) marks.now l first.0 last.0 parts.old.cells parts.old.slots n (going p) parts.new.cells parts.new.slots path.old path.new (outcome result) }

@@ -6,8 +6,5 @@ ghost use Rattle.clearance.specs.Tree.{mark_at};
 pub fn mark_at(marks: &[u8], i: usize) -> bool
     ensures { result ≡ mark_at marks.now i }
 {
-    if i < marks.len() {
-        return marks[i] == 1;
-    }
-    false
+    marks.get(i).copied().unwrap_or(0) == 1
 }

@@ -3,70 +3,64 @@ ghost use Rattle.std.specs.Prelude.{[], ◌∷◌, map, ◌-◌};
 ghost use Rattle.clearance.specs.Shape.{below};
 ghost use Rattle.clearance.specs.Tree.{store};
 ghost use Rattle.clearance.specs.Needs.{of_value, ask_whole, without};
-ghost use Rattle.judge.specs.Given.{scope_at};
 ghost use Rattle.hold.specs.Hold.{in_slot};
-ghost use Rattle.place.specs.Steps.{indexes_of};
+ghost use Rattle.place.specs.Steps.{scope_in, indexes_in};
 ghost use Rattle.standing.specs.Standing.{Stepped};
-ghost use Rattle.acts.specs.Acts.{ActGivenOf, StoreOf, leaving, Acted, PlaceGiven, SomewhereGiven};
+ghost use Rattle.acts.specs.Acts.{ActGivenOf, StoreOf, leaving, Acted, PlaceGivenOf, SomewhereGiven};
 ghost use Rattle.acts.specs.Marks.{PassGivenOf, ByMark};
 ghost use Rattle.judge.specs.Subject.{scope_of};
 ghost use Rattle.standing.specs.Passing.{going, outcome};
 ghost use Rattle.hold.specs.Fits.{fits};
 
 use crate::take::take_out;
-use access::file::File;
 use asking::ask::ask_value;
 use ends::notes::blame;
 use hold::hold::copy;
 use judge::subject::Subject;
 use memory::parts::Parts;
-use module::handles::{ExpressionHandle, FunctionHandle};
+use module::handles::ExpressionHandle;
 use operands::load::ask_indexes;
 use part::store::ALL_PIECE;
-use place::target::find_target;
-use quiet::acts::{is_some, store_idle, store_overlap};
+use place::pointer::PointerExpression;
+use quiet::acts::{store_idle, store_overlap};
 use quiet::need::Need;
 use standing::passing::Passing;
 
 // A store to a place of which the piece a is needed.
 fn store_at(
-    file: &File,
-    f: FunctionHandle,
-    types: &[u32],
+    subject: &Subject,
     parts: &mut Parts,
     n: usize,
     place: &[u32],
     a: u32,
     v: ExpressionHandle,
 ) -> Option<()>
-    requires { PlaceGiven file.now.bytes file.now.t f.0 types.now parts.old.cells parts.old.slots n place.now a v.0 }
-    ensures { Stepped (scope_at file.now.bytes file.now.t f.0) (leaving (scope_at file.now.bytes file.now.t f.0) (without (scope_at file.now.bytes file.now.t f.0) place.now (in_slot parts.old.cells parts.old.slots (n - 1))) (of_value v.0 (below (in_slot parts.old.cells parts.old.slots (n - 1)) place.now) ∷ [])) parts.old.cells parts.old.slots n parts.new.cells parts.new.slots (fits result) }
+    requires { PlaceGivenOf subject.now parts.old.cells parts.old.slots n place.now a v.0 }
+    ensures { Stepped (scope_of subject.now) (leaving (scope_of subject.now) (without (scope_of subject.now) place.now (in_slot parts.old.cells parts.old.slots (n - 1))) (of_value v.0 (below (in_slot parts.old.cells parts.old.slots (n - 1)) place.now) ∷ [])) parts.old.cells parts.old.slots n parts.new.cells parts.new.slots (fits result) }
 {
     let last = n - 1;
     let left = n + 1;
-    take_out(file, f, types, parts, n, place, a)?;
+    take_out(subject, parts, n, place, a)?;
     let part = parts.slots[n];
-    ask_value(file, f, parts, n + 2, v, part)?;
+    ask_value(subject.file, subject.f, parts, n + 2, v, part)?;
     copy(&mut parts.slots, left, last);
     Some(())
 }
 
-// A store to the pointer p, which has a dynamic index.
+// A store to a pointer which has a dynamic index.
 fn store_somewhere(
-    file: &File,
-    f: FunctionHandle,
+    pointer: &PointerExpression,
     parts: &mut Parts,
     n: usize,
-    p: ExpressionHandle,
     v: ExpressionHandle,
 ) -> Option<()>
-    requires { SomewhereGiven file.now.bytes file.now.t f.0 parts.old.cells parts.old.slots n p.0 v.0 }
-    ensures { Stepped (scope_at file.now.bytes file.now.t f.0) (leaving (scope_at file.now.bytes file.now.t f.0) (in_slot parts.old.cells parts.old.slots (n - 1)) (ask_whole v.0 ∷ map ask_whole (indexes_of file.now.bytes file.now.t f.0 p.0))) parts.old.cells parts.old.slots n parts.new.cells parts.new.slots (fits result) }
+    requires { SomewhereGiven (scope_in pointer.now) parts.old.cells parts.old.slots n v.0 }
+    ensures { Stepped (scope_in pointer.now) (leaving (scope_in pointer.now) (in_slot parts.old.cells parts.old.slots (n - 1)) (ask_whole v.0 ∷ map ask_whole (indexes_in pointer.now))) parts.old.cells parts.old.slots n parts.new.cells parts.new.slots (fits result) }
 {
     let last = n - 1;
     copy(&mut parts.slots, last, n);
-    ask_indexes(file, f, parts, n + 1, p)?;
-    ask_value(file, f, parts, n + 1, v, ALL_PIECE)?;
+    ask_indexes(pointer, parts, n + 1)?;
+    ask_value(pointer.file, pointer.f, parts, n + 1, v, ALL_PIECE)?;
     copy(&mut parts.slots, n, last);
     Some(())
 }
@@ -89,40 +83,36 @@ pub fn act_store(
         cells: &parts.cells,
         piece: parts.slots[n - 1],
     };
-    let a = store_overlap(&need, path, p);
-    if !is_some(a) {
+    let pointer = PointerExpression {
+        file: subject.file,
+        f: subject.f,
+        e: p,
+    };
+    let Some(a) = store_overlap(&need, path, &pointer) else {
         return Some(());
-    }
-    let target = find_target(subject.file, subject.f, path, p);
+    };
+    let target = pointer.find_target(path);
     if target.dynamic {
-        return store_somewhere(subject.file, subject.f, parts, n, p, v);
+        return store_somewhere(&pointer, parts, n, v);
     }
     let place = &path[target.from..target.to];
-    store_at(
-        subject.file,
-        subject.f,
-        subject.types,
-        parts,
-        n,
-        place,
-        a,
-        v,
-    )
+    store_at(subject, parts, n, place, a, v)
 }
 
 // The statement l, a store of the value v to the pointer a, in a pass.
+// Stays: l, marked, a and v side by side, for the one caller, as in `pass_emits`.
 pub fn pass_store(
     subject: &Subject,
     parts: &mut Parts,
     path: &mut [u32],
     n: usize,
     p: Passing,
-    l: u16,
+    l: u32,
     marked: bool,
     a: ExpressionHandle,
     v: ExpressionHandle,
 ) -> Option<Passing>
-    requires pass_given { PassGivenOf subject.now parts.old.cells parts.old.slots path.old n (going p) l }
+    requires pass_given { PassGivenOf subject.now parts.old.cells parts.old.slots path.old n (going p) }
     requires store_of { StoreOf (scope_of subject.now) a.0 v.0 }
     ensures { ByMark (scope_of subject.now) l marked (store a.0 v.0) parts.old.cells parts.old.slots n (going p) parts.new.cells parts.new.slots path.old path.new (outcome result) }
 {
@@ -137,7 +127,12 @@ pub fn pass_store(
         cells: &parts.cells,
         piece: parts.slots[last],
     };
-    if store_idle(&need, path, a) {
+    let pointer = PointerExpression {
+        file: subject.file,
+        f: subject.f,
+        e: a,
+    };
+    if store_idle(&need, path, &pointer) {
         return Some(p);
     }
     copy(&mut parts.slots, last, n);

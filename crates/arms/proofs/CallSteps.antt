@@ -1,17 +1,16 @@
 -- The statement Call step by step: the called function is entered, its walk is that of the definition, it is left, and the call ends.
-use Prim.Native.Nat.{ℕ, suc, ◌+◌, ◌-◌, ◌*◌, ◌<◌, ◌≤◌}
+use Prim.Native.Nat.{ℕ, ◌+◌, ◌-◌, ◌*◌, ◌<◌, ◌≤◌}
 use native.Mathlib.Omega.{arith}
-use mathlib.Core.Path.{◌≡◌, refl, sym, ap, ◌∙◌, subst}
-use mathlib.Core.Bool.{Bool, false}
+use mathlib.Core.Path.{◌≡◌, sym, ap, ◌∙◌, subst}
+use mathlib.Core.Bool.{Bool}
 use mathlib.Core.List.{List}
 use mathlib.Core.Option.{Option}
 use lib.ListN.{length, get_or, replicate}
 use Rattle.std.specs.Prelude.{Result, Ok, Err}
 use Rattle.field.specs.Refusal.{number}
 use Rattle.field.specs.Limits.{max_pieces}
-use Rattle.part.specs.PartReq.{PartReq, Subpart, all, exist, none, more, entries, over, spine}
+use Rattle.part.specs.PartReq.{PartReq, Subpart, none, entries, spine}
 use Rattle.part.specs.Store.{part}
-use Rattle.part.proofs.Sizes.{over-variable}
 use Rattle.module.specs.Module.{FunctionHandle, ExpressionHandle, BlockHandle, Module}
 use Rattle.module.specs.Decode.{statement_of}
 use Rattle.module.specs.Tables.{module_of, row_at, expressions_from}
@@ -26,12 +25,13 @@ use Rattle.walk.specs.StatementReq.{StatementReq, required, own_marks}
 use Rattle.walk.specs.Statement.{here, retval_of, record_of, end_call, add_call, add_statement, back}
 use Rattle.walk.specs.Statement as walk
 use Rattle.walk.specs.Function.{entered, step_function, add_function}
-use Rattle.walk.specs.Proper.{Sound, VariablesFrom, FineContext}
+use Rattle.walk.specs.Proper.{Sound, FineContext}
 use Rattle.walk.proofs.Bind.{then_halt}
 use Rattle.walk.proofs.Statements.{record_needs}
 use Rattle.walk.proofs.Proper.{proper, good, context_fine}
 use Rattle.module.specs.Marks.{marks_before}
 use Rattle.sound.specs.Sizes.{record_number}
+use Rattle.sound.proofs.Parts.{variables_within}
 use Rattle.sound.proofs.Walks.{module_sound, function_is}
 use Rattle.memory.specs.Layout.{exprs_slot, returned}
 use Rattle.memory.specs.Memory.{read, context_at}
@@ -63,16 +63,6 @@ use Rattle.block.proofs.Unroll.{call-halt, call_ends}
 use Rattle.arms.specs.Calls.{result_of, result_need, called_context, CallBegins, CallBegan, LeavesCall, LeftCall, Returns, Returned}
 use Rattle.arms.proofs.CallRows.{callee_lower, body_lower, arm_row}
 use Rattle.arms.proofs.CallBegins.{called_few}
-
--- entries of variables pass no limit, where their parts do not
-variables_within : (n k : ℕ) (q : PartReq) → spine ≤ k → VariablesFrom n k q → over q ≡ false
-variables_within n k all l h = absurd h
-variables_within n k exist l h = absurd h
-variables_within n k none l h = unfold over in refl
-variables_within n k (more i p r) l h =
-    let e : i ≡ spine + (i - spine) = omega (arith, h.0) in
-    let rest = variables_within n (suc i) r (omega (arith, h.0)) h.3 in
-    ap (λ (x : ℕ). over (more x p r)) e ∙ over-variable (i - spine) p r ∙ rw (h.2.within, rest)
 
 -- a function's walk looks at the totals and visits alone
 function_from : (m : Module) (g : FunctionHandle) (at : Place) (held : ℕ) (globals retval : PartReq) (base : RequiredContext) (st : State)

@@ -1,5 +1,5 @@
 -- The end of a case, and of a Switch: the joined cases are put aside while the selector is asked in the statement's context, and then take that one's place.
-use Prim.Native.Nat.{ℕ, suc, ◌+◌, ◌-◌, ◌≤◌}
+use Prim.Native.Nat.{ℕ, ◌+◌, ◌-◌, ◌≤◌}
 use native.Mathlib.Nat.{le_refl}
 use native.Mathlib.Omega.{arith}
 use mathlib.Core.Path.{◌≡◌, refl, sym, ap, subst, ◌∙◌}
@@ -8,10 +8,9 @@ use mathlib.Core.List.{List}
 use lib.ListN.{length, get_or}
 use Rattle.walk.specs.Resolve.{function_at}
 use lib.Seq.{get_or-set_same, get_or-set_other}
-use borrow.Author.Tests.{le-ltb}
 use Rattle.std.specs.Prelude.{Result, Ok, Err}
 use Rattle.field.specs.Refusal.{number}
-use Rattle.part.specs.PartReq.{PartReq, all, exist, none, more, over, spine}
+use Rattle.part.specs.PartReq.{PartReq, all, none, spine}
 use Rattle.part.specs.Store.{part}
 use Rattle.module.specs.Module.{ExpressionHandle, Module}
 use Rattle.module.specs.Tables.{module_of}
@@ -20,9 +19,10 @@ use Rattle.walk.specs.State.{State, Place, Out, went, halt, with_context}
 use Rattle.walk.specs.StatementReq.{StatementReq}
 use Rattle.walk.specs.Statement.{Frame as WalkFrame, ask, end_switch}
 use Rattle.walk.specs.Expression.{add_expression}
-use Rattle.walk.specs.Proper.{VariablesFrom, FineContext}
+use Rattle.walk.specs.Proper.{FineContext}
 use Rattle.walk.proofs.Parts.{fine_all}
 use Rattle.walk.proofs.Room.{pieces-merge}
+use Rattle.sound.proofs.Parts.{variables_within}
 use Rattle.memory.specs.Layout.{globals_slot, stack_slot, result, most}
 use Rattle.memory.specs.Memory.{read, counted, context_at, Memory, Tidied}
 use Rattle.memory.specs.Want.{asked, Wants, want_of}
@@ -70,16 +70,6 @@ module _ {s rs : List ℕ} {k : ℕ} (C : Casing s rs k) {r : Bool} {u us : List
       roomy = T.roomy;
     };
   }
-
--- lists of variables pass no limit of their own
-variables_within : (n k : ℕ) (q : PartReq) → spine ≤ k → VariablesFrom n k q → over q ≡ false
-unfolding over
-variables_within n k all l h = absurd h
-variables_within n k exist l h = absurd h
-variables_within n k none l h = refl
-variables_within n k (more i p r) l h =
-    let high : spine ≤ i = omega (arith, h.0) in
-    rw (h.2.within, variables_within n (suc i) r (omega arith) h.3, le-ltb i spine high)
 
 context_within : {m : Module} {f : ℕ} (c : RequiredContext) → FineContext m f c → over_context c ≡ false
 unfolding over_context

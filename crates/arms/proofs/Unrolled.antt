@@ -15,7 +15,7 @@ use Rattle.walk.specs.StatementReq.{StatementReq}
 use Rattle.walk.specs.Expression.{add_expression}
 use Rattle.walk.specs.Statement.{BlockWalk, Frame, here, holding, ask_optional, merged, end_turn, turns, start_turns, end_loop, add_loop}
 use Rattle.walk.proofs.Bind.{then_then}
-use Rattle.state.specs.Ready.{WasRead}
+use Rattle.access.specs.Laid.{WasRead}
 use Rattle.block.specs.Visiting.{block_in}
 use Rattle.block.specs.Pairing.{add_pair}
 use Rattle.block.proofs.Unroll.{merged-within, merged-over}

@@ -69,7 +69,7 @@ pub record CallBegins (bytes t : List ℕ) (places : MarkPlaces) (s rs open_mark
   pub kind : row.kind ≡ 14
 
 abbrev pub CallBeginsOf : World → Workspace → Frame → Kinded → ℕ → Type 0
-CallBeginsOf w m fr row sum = CallBegins w.file.now.bytes w.file.now.t w.places.now m.parts.cells m.parts.slots m.open fr row sum
+CallBeginsOf w m fr row sum = CallBegins w.typed.now.file.now.bytes w.typed.now.file.now.t w.places.now m.parts.cells m.parts.slots m.open fr row sum
 
 -- The context of the called function stands above the caller's, and no mark of that function is set. `own` is what the caller's records count for; they are held, with its context.
 pub record CallBegan (bytes t : List ℕ) (places : MarkPlaces) (s rs open_marks : List ℕ) (fr : Frame) (row : Kinded) (held own : ℕ) (u us open_after : List ℕ) : Type 0 where
@@ -80,7 +80,7 @@ pub record CallBegan (bytes t : List ℕ) (places : MarkPlaces) (s rs open_marks
   pub roomy : Room u room
 
 abbrev pub CallBeganOf : World → Workspace → Frame → Kinded → ℕ → ℕ → Workspace → Type 0
-CallBeganOf w m fr row held own n = CallBegan w.file.now.bytes w.file.now.t w.places.now m.parts.cells m.parts.slots m.open fr row held own n.parts.cells n.parts.slots n.open
+CallBeganOf w m fr row held own n = CallBegan w.typed.now.file.now.bytes w.typed.now.file.now.t w.places.now m.parts.cells m.parts.slots m.open fr row held own n.parts.cells n.parts.slots n.open
 
 -- What the end of the called function g asks, whose base stands above the caller's context at `at`, and its own above that. `sum` has the records of g.
 pub record LeavesCall (t s rs : List ℕ) (g : FunctionHandle) (at sum : ℕ) : Type 0 where
@@ -108,7 +108,7 @@ pub record Returns (bytes t : List ℕ) (places : MarkPlaces) (s rs open_marks :
   pub few : record_pieces (records_in t exprs_slot fr.function.0 (read s rs)) ≤ max_pieces
 
 abbrev pub ReturnsOf : World → Workspace → Frame → Kinded → ℕ → ℕ → Type 0
-ReturnsOf w m fr row visits sum = Returns w.file.now.bytes w.file.now.t w.places.now m.parts.cells m.parts.slots m.open fr row visits sum
+ReturnsOf w m fr row visits sum = Returns w.typed.now.file.now.bytes w.typed.now.file.now.t w.places.now m.parts.cells m.parts.slots m.open fr row visits sum
 
 -- the call has ended as the definition says, and its marks are written
 pub record Returned (bytes t : List ℕ) (places : MarkPlaces) (s rs open_marks : List ℕ) (fr : Frame) (row : Kinded) (required : Bool) (visits sum : ℕ) (r : Result Answer Halt) (u us open_after : List ℕ) : Type 0 where
@@ -120,7 +120,7 @@ pub record Returned (bytes t : List ℕ) (places : MarkPlaces) (s rs open_marks 
       (λ b. b) r u us open_after totals
 
 abbrev pub ReturnedOf : World → Workspace → Frame → Kinded → Bool → ℕ → ℕ → Result Answer Halt → Workspace → Type 0
-ReturnedOf w m fr row required visits sum r n = Returned w.file.now.bytes w.file.now.t w.places.now m.parts.cells m.parts.slots m.open fr row required visits sum r n.parts.cells n.parts.slots n.open
+ReturnedOf w m fr row required visits sum r n = Returned w.typed.now.file.now.bytes w.typed.now.file.now.t w.places.now m.parts.cells m.parts.slots m.open fr row required visits sum r n.parts.cells n.parts.slots n.open
 
 -- the marks of a call that went, whose result is required or not
 abbrev pub call_marks : List ℕ → (at : ℕ) → Bool → Result Answer Halt → List ℕ

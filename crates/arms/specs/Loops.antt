@@ -103,7 +103,7 @@ pub record Turning (bytes t types : List ℕ) (places : MarkPlaces) (s rs open_m
   pub roomy : Room s room
 
 abbrev pub TurningOf : World → Workspace → Frame → BlockHandle → BlockHandle → BlockHandle → ℕ → ℕ → Type 0
-TurningOf w m fr b body continuing sum visits = Turning w.file.now.bytes w.file.now.t w.types.now w.places.now m.parts.cells m.parts.slots m.open m.totals fr b body continuing sum visits
+TurningOf w m fr b body continuing sum visits = Turning w.typed.now.file.now.bytes w.typed.now.file.now.t w.typed.now.types.now w.places.now m.parts.cells m.parts.slots m.open m.totals fr b body continuing sum visits
 
 -- the turns from the memory s rs on, at most n, where the state is st
 abbrev pub turns_in : (bytes t s rs : List ℕ) → Frame → (body continuing : BlockHandle) → (n : ℕ) → Walk StatementReq

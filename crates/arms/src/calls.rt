@@ -11,7 +11,6 @@ use block::workspace::Workspace;
 use block::world::World;
 use call::ends::end_call;
 use leave::leave::{leave, own_pieces};
-use marks::places::place;
 use marks::set::set_call;
 use memory::layout::RESULT;
 use memory::memory::{tidy, weigh};
@@ -35,7 +34,7 @@ pub fn begin_call(world: &World, space: &mut Workspace, fr: Frame, row: Kinded, 
     ensures totals_same { space.new.totals ≡ space.old.totals }
     ensures began { CallBeganOf world.now space.old fr row result.held result.own space.new }
 {
-    let file = world.file;
+    let file = world.typed.file;
     let f = fr.function;
     let at = fr.at;
     let g = file.function_operand(row, 0);
@@ -105,9 +104,8 @@ pub fn return_call(
     ensures totals_same { space.new.totals ≡ space.old.totals }
     ensures returned { ReturnedOf world.now space.old fr row required tally.visits tally.sum result space.new }
 {
-    let file = world.file;
-    let places = world.places;
-    let at = place(file, places, fr.function, fr.statement);
+    let file = world.typed.file;
+    let at = world.places.place(file, fr.function, fr.statement);
     if !required {
         set_call(&mut space.open, at, false, false);
         return Ok(Answer {

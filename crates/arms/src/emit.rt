@@ -3,7 +3,7 @@ ghost use Rattle.arms.specs.Emit.{EmitAsked, EmitEnds};
 
 use access::file::File;
 use access::kinded::Kinded;
-use marks::places::{MarkPlaces, place};
+use marks::places::MarkPlaces;
 use marks::set::set_emit;
 use memory::layout::EXPRS;
 use memory::parts::Parts;
@@ -31,7 +31,7 @@ pub fn add_emit(
     let last = file.expression_operand(row, 1);
     let n = (last.0 as usize) + 1 - (first.0 as usize);
     let from = EXPRS + file.expression_number(f, first);
-    let at = place(file, places, f, fr.statement);
+    let at = places.place(file, f, fr.statement);
     let any = set_emit(open, at, &parts.slots, from, n);
     Ok(Answer {
         tally,

@@ -38,9 +38,7 @@ pub fn end_if(
             required: false,
         });
     }
-    if join_up(parts, at) {
-        return Err(fr.halt(Refusal::PartLimit));
-    }
+    join_up(parts, at).ok_or(fr.halt(Refusal::PartLimit))?;
     let v = Visit {
         function: fr.function,
         expression: condition,

@@ -65,9 +65,7 @@ pub fn end_pass(
 {
     let at = fr.at;
     let tally = ask_break_if(file, parts, fr, break_if, tally)?;
-    if join(parts, at + 4) {
-        return Err(fr.halt(Refusal::PartLimit));
-    }
+    join(parts, at + 4).ok_or(fr.halt(Refusal::PartLimit))?;
     tidy(parts);
     Ok(tally)
 }
@@ -79,7 +77,7 @@ pub fn end_turn(parts: &mut Parts, at: usize) -> Turn
     ensures { TurnEnds parts.old.cells parts.old.slots at result parts.new.cells parts.new.slots }
 {
     let k = at + 4;
-    if join(parts, k + 4) {
+    if join(parts, k + 4).is_none() {
         return Turn::Over;
     }
     let done = settled(parts, k);

@@ -1,5 +1,6 @@
 // The statement Switch: the block of a case, its join to the cases before it, and the end once all are walked.
 ghost use Rattle.std.specs.Prelude.{◌≡◌, ◌+◌, ◌*◌};
+ghost use Rattle.std.specs.Option.{is_none};
 ghost use Rattle.access.specs.Access.{operand_at};
 ghost use Rattle.arms.specs.Switches.{Casing, CaseEnds, EndingSwitch, SwitchEnds};
 
@@ -24,16 +25,14 @@ pub fn case_body(file: &File, row: Kinded, k: u16) -> BlockHandle
     file.block_operand(row, 3 + 2 * (k as u32))
 }
 
-// A case was walked: its context, behind the one at k, is joined to that. Whether that passes a limit.
-pub fn end_case(parts: &mut Parts, k: usize) -> bool
+// A case was walked: its context, behind the one at k, is joined to that. None where that passes a limit.
+pub fn end_case(parts: &mut Parts, k: usize) -> Option<()>
     requires { Casing parts.old.cells parts.old.slots k }
-    ensures { CaseEnds parts.old.cells parts.old.slots k result parts.new.cells parts.new.slots }
+    ensures { CaseEnds parts.old.cells parts.old.slots k (is_none result) parts.new.cells parts.new.slots }
 {
-    if join(parts, k) {
-        return true;
-    }
+    join(parts, k)?;
     tidy(parts);
-    false
+    Some(())
 }
 
 // All cases were walked, and are joined behind the statement's context. What the selector needs is not kept.

@@ -9,7 +9,7 @@ use access::file::File;
 use access::kinded::Kinded;
 use expression::visit::allowed;
 use field::refusal::Refusal;
-use marks::places::{MarkPlaces, place};
+use marks::places::MarkPlaces;
 use marks::set::set_mark;
 use memory::parts::Parts;
 use module::kinds::StatementKind;
@@ -69,7 +69,7 @@ pub fn mark_statement(
     let a = r?;
     let kind = row.kind;
     if has_mark(kind) {
-        let at = place(file, places, fr.function, fr.statement);
+        let at = places.place(file, fr.function, fr.statement);
         set_mark(open, at, a.required);
     }
     Ok(Answer {
@@ -84,8 +84,6 @@ pub fn end_statement(parts: &mut Parts, fr: Frame, r: Answered) -> Answered
     ensures { LastEnds parts.old.cells parts.old.slots fr r result parts.new.cells parts.new.slots }
 {
     let a = r?;
-    if allowed(parts, fr.at, fr.held, a.tally.sum) {
-        return Ok(a);
-    }
-    Err(fr.halt(Refusal::PiecesLimit))
+    allowed(parts, fr.at, fr.held, a.tally.sum).ok_or(fr.halt(Refusal::PiecesLimit))?;
+    Ok(a)
 }

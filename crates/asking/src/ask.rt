@@ -51,6 +51,8 @@ pub fn ask_place(parts: &mut Parts, n: usize, path: &[u32], a: u32) -> Option<()
 }
 
 // The part a of the value v is asked where the value stands; of a fixed value nothing is.
+// Stays: file, f and v side by side. A `Subject` asks for tables that nothing here reads, and which a pointer's caller has not; a struct of the three
+// would be a literal at each of the 13 calls, as each asks of another value.
 pub fn ask_value(
     file: &File,
     f: FunctionHandle,

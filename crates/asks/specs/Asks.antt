@@ -10,7 +10,7 @@ use Rattle.walk.specs.Resolve.{function_at, expression_at}
 use Rattle.walk.specs.Expression.{Ask, of_operand, of_argument, of_global, of_local, refuse, arm_asks}
 use Rattle.memory.specs.declared.want.Want.{Want}
 use Rattle.memory.specs.Want.{asked, Wants}
-use Rattle.state.specs.Ready.{WasRead}
+use Rattle.access.specs.Laid.{WasRead}
 use Rattle.asks.specs.declared.what.Ask as declared
 use Rattle.asks.specs.declared.what.Ask.TheVariants.{Operand, Argument, Global, Local, Refuse}
 

@@ -18,7 +18,7 @@ use Rattle.clearance.specs.Tree.{store, act, mark_at, by_mark, emits, statement}
 use Rattle.clearance.specs.Judged.{fits_statement}
 use Rattle.judge.specs.Given.{scope_at}
 use Rattle.judge.proofs.PathSteps.{function_valid}
-use Rattle.strays.proofs.Found.{in_function, statement_small, decoded}
+use Rattle.strays.proofs.Found.{in_function, decoded}
 use Rattle.standing.specs.Standing.{inside}
 use Rattle.standing.specs.Passing.{Passing}
 use Rattle.standing.specs.Exits.{Exits}
@@ -46,8 +46,8 @@ module _ {bytes t : List ℕ} {f : ℕ} {types alike : List ℕ} {paths : List B
   pub begin_is : get_or firsts l 0 ≡ marks_before F.statements l
   begin_is = g.begins.each l (in_function r.statement)
 
-  pub act_given : n + 12 ≤ length rs → PassGiven bytes t f types alike paths s rs path n p l
-  act_given h = record { world = g.world; ready = g.ready; going = g.going; spare = omega arith; room = g.long; low = omega (arith, statement_small r.statement) }
+  pub act_given : n + 12 ≤ length rs → PassGiven bytes t f types alike paths s rs path n p
+  act_given h = record { world = g.world; ready = g.ready; going = g.going; spare = omega arith; room = g.long }
 
   pub leave_given : n + 12 ≤ length rs → LeaveGiven bytes t f types alike paths s rs n x p l row
   leave_given h = record { world = g.world; ready = g.ready; targets = g.targets; going = g.going; spare = omega arith; there = in_function r.statement; is = r.is }

@@ -6,7 +6,6 @@ use mathlib.Core.Bool.{Bool, true, false, cond}
 use mathlib.Core.List.{List, ◌∷◌}
 use lib.Dec.{eqb}
 use lib.ListN.{length, get_or, set}
-use Rattle.field.specs.Limits.{absent}
 use Rattle.part.specs.PartReq.{PartReq, add}
 use Rattle.module.specs.Module.{BlockHandle, Function}
 use Rattle.module.specs.Marks.{marks_before}
@@ -21,7 +20,7 @@ use Rattle.pass.specs.Pass.{within}
 use Rattle.hold.specs.Hold.{in_slot}
 use Rattle.quiet.specs.Acts.{Needing}
 use Rattle.quiet.specs.Places.{statement_tree, Obeys}
-use Rattle.strays.proofs.Found.{in_function, statement_small}
+use Rattle.strays.proofs.Found.{in_function}
 use Rattle.standing.specs.Standing.{Walked, Closed, Blames, inside}
 use Rattle.standing.specs.Passing.{Passing}
 use Rattle.standing.specs.Exits.{Exits}
@@ -132,7 +131,3 @@ module _ {bytes t : List ℕ} {f : ℕ} {types alike : List ℕ} {paths : List B
                     walked = rw tree_is (walked_broken g.ready g.targets holder_copy.1 l _ bare (obeys-is ∙ v) walked_one g₁ (rw same at y) kept-both a);
                     long = one.long ∙ q.long;
                   }
-
-    -- a statement's number is none that is absent
-    pub low_number : {k' : ℕ} → k' ≡ l → k' < absent
-    low_number same = omega (arith, statement_small r.statement)

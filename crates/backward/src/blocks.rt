@@ -190,7 +190,7 @@ fn pass_holder(
     }
     copy(&mut parts.slots, last, n);
     let q = pass_bare(statement, parts, path, n + 1, x, p)?;
-    let blamed = blame(s as u16, q);
+    let blamed = blame(s, q);
     merge(parts, n, last, n)?;
     Some(blamed)
 }

@@ -24,8 +24,16 @@ use Rattle.context.specs.Types.{types_of}
 use Rattle.bindings.specs.Bindings.{Bindings, contains}
 use Rattle.bindings.specs.TypeBindings.{unless_empty, from_binding, with_entry, members_from, step_from, from_type_bindings}
 use Rattle.bindings.specs.Rows.{row_member, member_count, members_of, MemberIs}
-use Rattle.bindings.specs.Parts.{part_of, lower_part, Held, Chosen, From}
+use Rattle.bindings.specs.Parts.{part_of, lower_part, optional, Held, Chosen, From}
 use Rattle.bindings.proofs.Rows.{members_long, members_at, from_step}
+
+-- a piece that is not the empty part means something
+pub some-piece : (s : List ℕ) (n : ℕ) → (n ≡ 2 → ⊥) → unless_empty (part s n) ≡ some (part s n)
+unfolding part means unless_empty
+some-piece s zero h = refl
+some-piece s (suc zero) h = refl
+some-piece s (suc (suc zero)) h = absurd (h refl)
+some-piece s (suc (suc (suc n))) h = rw (lt-ltb 2 (suc (suc (suc n))) (omega arith))
 
 -- one member
 pub past_part : (parts : List ℕ) (t u : ℕ) → t ≤ u → (s : List ℕ) → lower_part s parts t u ≡ nothing
@@ -38,41 +46,30 @@ module _ (parts : List ℕ) (required : Bindings) (t u : ℕ) {o : Optional ℕ}
     unfolding from_binding
     bound_is c e s = rw (w, e)
 
-    pub chosen_all : contains required b ≡ true → Chosen parts required t (number_in o) u 0
-    unfolding unless_empty
+    pub chosen_all : contains required b ≡ true → Chosen parts required t (number_in o) u (Some 0)
     chosen_all e = record { is = λ s. rw (part-0 s) (bound_is true e s); piece = λ s h H. omega arith }
 
-    pub chosen_none : contains required b ≡ false → Chosen parts required t (number_in o) u 2
-    unfolding unless_empty
-    chosen_none e = record { is = λ s. rw (part-2 s) (bound_is false e s); piece = λ s h H. omega arith }
+    pub chosen_none : contains required b ≡ false → Chosen parts required t (number_in o) u None
+    chosen_none e = record { is = λ s. bound_is false e s; piece = λ s h H. tt }
 
   module _ (w : o ≡ None) where
     free_is : (s : List ℕ) → lower_part s parts t u ≡ from_binding (lower_part s parts t) required (number_in o) u
     unfolding from_binding
     free_is s = rw w
 
-    pub chosen_past : t ≤ u → Chosen parts required t (number_in o) u 2
-    unfolding unless_empty
-    chosen_past h =
-        record {
-          is = λ s. rw (part-2 s) (sym (past_part parts t u h s) ∙ free_is s);
-          piece = λ s l H. omega arith;
-        }
+    pub chosen_past : t ≤ u → Chosen parts required t (number_in o) u None
+    chosen_past h = record { is = λ s. sym (past_part parts t u h s) ∙ free_is s; piece = λ s l H. tt }
 
-    pub chosen_type : {r : ℕ} → u < t → r ≡ get_or parts u 0 → Chosen parts required t (number_in o) u r
-    chosen_type h f =
-        record {
-          is = λ s. rw f (sym (below-lt (part_of s parts) nothing t u h) ∙ free_is s);
-          piece = λ s l H. rw f (H.each u h);
-        }
+    module _ {r : ℕ} (h : u < t) (f : r ≡ get_or parts u 0) where
+      type_is : (s : List ℕ) → unless_empty (part s r) ≡ from_binding (lower_part s parts t) required (number_in o) u
+      type_is s = rw f (sym (below-lt (part_of s parts) nothing t u h) ∙ free_is s)
 
--- a piece that is not the empty part means something
-pub some-piece : (s : List ℕ) (n : ℕ) → (n ≡ 2 → ⊥) → unless_empty (part s n) ≡ some (part s n)
-unfolding part means unless_empty
-some-piece s zero h = refl
-some-piece s (suc zero) h = refl
-some-piece s (suc (suc zero)) h = absurd (h refl)
-some-piece s (suc (suc (suc n))) h = rw (lt-ltb 2 (suc (suc (suc n))) (omega arith))
+      pub chosen_empty : r ≡ 2 → Chosen parts required t (number_in o) u None
+      unfolding unless_empty
+      chosen_empty e = record { is = λ s. sym (ap unless_empty (ap (part s) e ∙ part-2 s)) ∙ type_is s; piece = λ s l H. tt }
+
+      pub chosen_type : (r ≡ 2 → ⊥) → Chosen parts required t (number_in o) u (Some r)
+      chosen_type n = record { is = λ s. sym (some-piece s r n) ∙ type_is s; piece = λ s l H. rw f (H.each u h) }
 
 -- the entries of the members from i on
 pub record Making (s cells tbl parts : List ℕ) (required : Bindings) (t i r : ℕ) : Type 0 where
@@ -98,18 +95,20 @@ module _ (s tbl parts : List ℕ) (required : Bindings) (t : ℕ) where
       (unfold members_from in refl)
 
   -- what the member i comes to
-  chosen_member : {i ty q : ℕ} {b : Option ℕ} → MemberIs tbl t i ty b → Chosen parts required t b ty q → unless_empty (part s q) ≡ from_binding (lower_part s parts t) required (row_member tbl t i).binding (row_member tbl t i).type
+  chosen_member : {i ty : ℕ} {q : Optional ℕ} {b : Option ℕ} → MemberIs tbl t i ty b → Chosen parts required t b ty q → optional s q ≡ from_binding (lower_part s parts t) required (row_member tbl t i).binding (row_member tbl t i).type
   chosen_member M C = C.is s ∙ rw (M.binding_is, M.type_is)
 
-  module _ {cells : List ℕ} {i r ty q : ℕ} {b : Option ℕ} (o : 0 < i) (L : Making s cells tbl parts required t i r) (M : MemberIs tbl t (i - 1) ty b) (C : Chosen parts required t b ty q) where
-    entries_here : members_from (lower_part s parts t) required (i - 1) (drop (i - 1) (members_of tbl t)) ≡ with_entry (i - 1) (unless_empty (part s q)) (part cells r)
-    entries_here =
+  module _ {cells : List ℕ} {i r ty : ℕ} {b : Option ℕ} (o : 0 < i) (L : Making s cells tbl parts required t i r) (M : MemberIs tbl t (i - 1) ty b) where
+    entries_here : {q : Optional ℕ} → Chosen parts required t b ty q
+        → members_from (lower_part s parts t) required (i - 1) (drop (i - 1) (members_of tbl t)) ≡ with_entry (i - 1) (optional s q) (part cells r)
+    entries_here C =
         let low : i ≤ member_count tbl t = L.low in
         let same : suc (i - 1) ≡ i = omega arith in
         entries_cons (i - 1) (omega arith) ∙ rw (chosen_member M C, L.made.is, same)
 
-    pub making_asks : member_count tbl t ≤ max_members → Room s max_members → 3 ≤ top s → Held s parts t → Good cells × (Room cells 1 × ((q < top cells) × (r < top cells)))
-    making_asks c room g H =
+    pub making_asks : {q : ℕ} → Chosen parts required t b ty (Some q) → member_count tbl t ≤ max_members → Room s max_members → 3 ≤ top s → Held s parts t
+        → Good cells × (Room cells 1 × ((q < top cells) × (r < top cells)))
+    making_asks {q} C c room g H =
         let few : top cells ≤ top s + (member_count tbl t - i) = L.made.cost in
         let low : i ≤ member_count tbl t = L.low in
         let long : length cells ≡ length s = L.made.kept.long in
@@ -117,26 +116,27 @@ module _ (s tbl parts : List ℕ) (required : Bindings) (t : ℕ) where
         let there : q < top s = C.piece s g H in
         (L.made.kept.good, (omega arith, (omega arith, L.made.piece)))
 
-    pub making_skip : q ≡ 2 → Making s cells tbl parts required t (i - 1) r
-    making_skip e =
+    pub making_skip : Chosen parts required t b ty None → Making s cells tbl parts required t (i - 1) r
+    making_skip C =
         record {
           low = omega (arith, L.low);
           made = record {
             kept = L.made.kept;
             piece = L.made.piece;
-            is = sym (entries_here ∙ rw (e, part-2 s) (unfold unless_empty with_entry in refl));
+            is = sym (entries_here C ∙ (unfold with_entry in refl));
             cost = omega (arith, L.made.cost, L.low);
           };
         }
 
-    pub making_more : {u : List ℕ} {m : ℕ} → 3 ≤ top s → Held s parts t → (q ≡ 2 → ⊥) → Made cells u (more (i - 1) (part cells q) (part cells r)) 1 m → Making s u tbl parts required t (i - 1) m
-    making_more {u} {m} g H n a =
+    pub making_more : {q : ℕ} → Chosen parts required t b ty (Some q) → {u : List ℕ} {m : ℕ} → 3 ≤ top s → Held s parts t
+        → Made cells u (more (i - 1) (part cells q) (part cells r)) 1 m → Making s u tbl parts required t (i - 1) m
+    making_more {q} C {u} {m} g H a =
         record {
           low = omega (arith, L.low);
           made = record {
             kept = kept_trans L.made.kept a.kept;
             piece = a.piece;
-            is = a.is ∙ rw (L.made.kept.same q (C.piece s g H)) (sym (entries_here ∙ rw (some-piece s q n) (unfold with_entry in refl)));
+            is = a.is ∙ rw (L.made.kept.same q (C.piece s g H)) (sym (entries_here C ∙ (unfold with_entry in refl)));
             cost = omega (arith, L.made.cost, L.low, a.cost);
           };
         }

@@ -30,12 +30,12 @@ use Rattle.context.specs.Types.{types_of, type_count}
 use Rattle.context.specs.RequiredContext.{RequiredContext, variable, pieces, return_entry}
 use Rattle.context.proofs.Types.{length-tab}
 use Rattle.bindings.specs.Bindings.{Bindings, single, own_binding}
-use Rattle.bindings.specs.TypeBindings.{unless_empty, from_binding, inner_from, step_from, from_type_bindings}
+use Rattle.bindings.specs.TypeBindings.{from_binding, inner_from, step_from, from_type_bindings}
 use Rattle.bindings.specs.ContextBindings.{result_from, output_from_bindings, add_binding, Answer, refused, accepted, as_request}
 use Rattle.bindings.specs.Rows.{BindingFits}
-use Rattle.bindings.specs.Parts.{part_of, lower_part, Chosen, Parts}
+use Rattle.bindings.specs.Parts.{part_of, lower_part, optional, Chosen, Parts}
 use Rattle.bindings.specs.Outputs.{BoundResult, request_context, within_limits, Asked}
-use Rattle.bindings.proofs.Members.{past_part, some-piece}
+use Rattle.bindings.proofs.Members.{past_part}
 
 pub types_long : (tbl : List ℕ) → length (types_of tbl) ≡ type_count tbl
 unfolding types_of
@@ -58,17 +58,13 @@ module _ {s t : List ℕ} {types : List TypeInner} {required : Bindings} {parts 
       ]
 
   -- what the result comes to
-  pub result-is : {n q : ℕ} (x : Bound) → length parts ≡ length types → n ≡ length parts → Chosen parts required n (number_in x.binding) x.ty.0 q → unless_empty (part t q) ≡ result_from types required (result_in (Some x))
+  pub result-is : {n : ℕ} {q : Optional ℕ} (x : Bound) → length parts ≡ length types → n ≡ length parts → Chosen parts required n (number_in x.binding) x.ty.0 q → optional t q ≡ result_from types required (result_in (Some x))
   unfolding result_from
   result-is x e f C =
       C.is t ∙ rw f (ap (λ (w : ℕ → Option PartReq). from_binding w required (number_in x.binding) x.ty.0) (fun_ext (table_is e)))
 
 pub bound_result : {o : Optional Bound} (x : Bound) → o ≡ Some x → BoundResult (result_in o) → BindingFits (number_in x.binding)
 bound_result x e g = rw e at g
-
-none_returned : (t : List ℕ) (q : ℕ) → q ≡ 2 → none ≡ return_entry (unless_empty (part t q))
-unfolding return_entry unless_empty
-none_returned t q e = rw (e, part-2 t)
 
 -- the returned value's entry, by the table of types and the result that a function declares
 abbrev entry : (tbl : List ℕ) (required : Bindings) → Optional Bound → PartReq
@@ -78,26 +74,26 @@ pub no_result : (tbl : List ℕ) (required : Bindings) {s : List ℕ} {o : Optio
 no_result tbl required {s} k g e =
     stay s _ k 2 g (omega (arith, g.base)) (part-2 s ∙ (unfold return_entry result_from in (rw e)))
 
-module _ (tbl : List ℕ) (required : Bindings) {s t parts : List ℕ} {n q k : ℕ} {o : Optional Bound} (x : Bound) (F : Parts s t (types_of tbl) required parts k) (C : Chosen parts required n (number_in x.binding) x.ty.0 q) (same : n ≡ length parts) where
+module _ (tbl : List ℕ) (required : Bindings) {s t parts : List ℕ} {n k : ℕ} {q : Optional ℕ} {o : Optional Bound} (x : Bound) (F : Parts s t (types_of tbl) required parts k) (C : Chosen parts required n (number_in x.binding) x.ty.0 q) (same : n ≡ length parts) where
   module _ (h : o ≡ Some x) (l : length parts ≡ type_count tbl) where
-    is_entry : return_entry (unless_empty (part t q)) ≡ entry tbl required o
+    is_entry : return_entry (optional t q) ≡ entry tbl required o
     is_entry = rw h (ap return_entry (result-is F x (l ∙ sym (types_long tbl)) same C))
 
-    pub entry_none : q ≡ 2 → Made s t (entry tbl required o) (k + 1) 2
+    pub entry_none : q ≡ None → Made s t (entry tbl required o) (k + 1) 2
     entry_none e =
         record {
           kept = F.kept;
           piece = omega (arith, F.kept.good.base);
-          is = part-2 t ∙ (none_returned t q e ∙ is_entry);
+          is = part-2 t ∙ (unfold return_entry in (rw e at is_entry));
           cost = omega (arith, F.cost);
         }
 
-    pub entry_made : {u : List ℕ} {m : ℕ} → (q ≡ 2 → ⊥) → Made t u (more (variable 0) (part t q) (part t 2)) 1 m → Made s u (entry tbl required o) (k + 1) m
+    pub entry_made : {u : List ℕ} {p m : ℕ} → q ≡ Some p → Made t u (more (variable 0) (part t p) (part t 2)) 1 m → Made s u (entry tbl required o) (k + 1) m
     entry_made e a =
         record {
           kept = kept_trans F.kept a.kept;
           piece = a.piece;
-          is = a.is ∙ (rw (part-2 t) (unfold return_entry in (rw (some-piece t q e) at is_entry)));
+          is = a.is ∙ (rw (part-2 t) (unfold return_entry in (rw e at is_entry)));
           cost = omega (arith, F.cost, a.cost);
         }
 

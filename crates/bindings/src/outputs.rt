@@ -1,4 +1,4 @@
-// `from_type_bindings`, once per type: a table has the piece of each type, lowest first. The empty part stands for none. Then
+// `from_type_bindings`, once per type: a table has the piece of each type, lowest first. Then
 // `output_from_bindings` and `add_binding`, with what each turns away.
 ghost use Rattle.std.specs.Prelude.{◌≡◌, ◌+◌, ◌*◌, ◌≤◌, ◌<◌, length};
 ghost use Rattle.field.specs.Limits.{max_members, max_pieces};
@@ -26,8 +26,8 @@ use part::limits::SPINE;
 use part::req::join;
 use part::store::{ALL_PIECE, EMPTY_PIECE, entries, make, measure, over};
 
-// The piece of what has this binding, or else this type, which is one of the first t types.
-pub fn from_binding(parts: &[u32], required: u64, x: Bound, t: u32) -> u32
+// The piece of what has this binding, or else this type, which is one of the first t types; or none.
+pub fn from_binding(parts: &[u32], required: u64, x: Bound, t: u32) -> Option<u32>
     requires bound { BindingFits (number_in x.binding) }
     requires t_in_bounds { t ≤ length parts.now }
     ensures { Chosen parts.now required t (number_in x.binding) x.ty.0 result }
@@ -35,19 +35,24 @@ pub fn from_binding(parts: &[u32], required: u64, x: Bound, t: u32) -> u32
     match x.binding {
         Some(b) => {
             if contains(required, b) {
-                return ALL_PIECE;
+                return Some(ALL_PIECE);
             }
-            EMPTY_PIECE
+            None
         }
         None => {
             if t <= x.ty.0 {
-                return EMPTY_PIECE;
+                return None;
             }
-            parts[x.ty.0 as usize]
+            let p = parts[x.ty.0 as usize];
+            if p == EMPTY_PIECE {
+                return None;
+            }
+            Some(p)
         }
     }
 }
 
+// Stays: of a type that comes to none, the table has the empty part: it is lent, a word a type, with no word more for an Option.
 // The piece of the type t, by those of lower types.
 fn from_type(
     cells: &mut [u32],
@@ -65,8 +70,7 @@ fn from_type(
     // Stays: by number, since it is the index of the member's entry.
     for i in (0..member_count(types.rows, t)).rev() {
         let m = bound.member_at(t, i);
-        let q = from_binding(parts, required, m, t.0);
-        if q != EMPTY_PIECE {
+        if let Some(q) = from_binding(parts, required, m, t.0) {
             r = make(cells, i, q, r);
         }
     }
@@ -104,10 +108,9 @@ fn returned_from(
         return EMPTY_PIECE;
     };
     from_table(cells, types, required, parts);
-    let q = from_binding(parts, required, x, parts.len() as u32);
-    if q == EMPTY_PIECE {
+    let Some(q) = from_binding(parts, required, x, parts.len() as u32) else {
         return EMPTY_PIECE;
-    }
+    };
     make(cells, SPINE, q, EMPTY_PIECE)
 }
 

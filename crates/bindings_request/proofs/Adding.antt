@@ -109,7 +109,7 @@ judge_accepted functions globals room (some p) e =
 
 -- the request's bytes
 pub read_asks : {bytes t types cells parts request s : List ℕ} {globals : ℕ} → Tables bytes t types → Lent cells parts request → globals ≡ length (module_of bytes t).globals
-    → Good s → top s ≡ 3 → length s ≡ length cells → Good s × ((globals ≤ absent) × (cell_words * top s + table_words + 2 * length request ≤ length s + 2 * 0))
+    → Good s → top s ≡ 3 → length s ≡ length cells → Good s × ((globals ≤ absent) × (cell_words * top s + table_words + 2 * length request ≤ length s))
 read_asks T L e g h l = let big = L.room in (g, (omega (arith, globals-few T), omega arith))
 
 pub add-above : (m : Module) (room b : ℕ) (request : List ℕ) {o : List ℕ} → bindings ≤ b → Gave o o (add_bytes m room b request) (Err (refused_by why.Malformed))

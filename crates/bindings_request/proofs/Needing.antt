@@ -23,7 +23,7 @@ use Rattle.request.specs.Fields as reading
 use Rattle.request.specs.Context.{context_of, known_context, judge_context, read_context}
 use Rattle.context_bytes.specs.Checked.{status_of, without_function}
 use Rattle.context_bytes.specs.Counted.{PiecesCounted}
-use Rattle.context_bytes.specs.Found.{list_at, ListReadable, ArgsAt}
+use Rattle.context_bytes.specs.Found.{list_in, ListReadable, ArgsIn}
 use Rattle.context_bytes.proofs.Found.{list_there}
 use Rattle.context_bytes.proofs.Status.{Known, status_known, status_refused}
 use Rattle.bindings.specs.Bindings.{contains, list_below, list_of}
@@ -130,14 +130,14 @@ module _ {bytes t types : List ℕ} (T : Tables bytes t types) (room : ℕ) {f :
       pub needing_short : {o : List ℕ} → room < bindings → Gave o o (input_bytes (module_of bytes t) room f b) (Err (refused_by AnswerTooShort))
       needing_short h = gave_refused AnswerTooShort (inputs-of ∙ (unfold inputs_of in (rw (lt-ltb _ bindings h))))
 
-      module _ {at : ℕ} (a : ArgsAt b at) where
-        pub needing_args : ListReadable b at
+      module _ {own : List ℕ} (a : ArgsIn b own) where
+        pub needing_args : ListReadable own
         needing_args = (list_there (a.is the_context.context the_context.is)).0
 
-        args_are : list_at b at ≡ the_context.context.args
+        args_are : list_in own ≡ the_context.context.args
         args_are = (list_there (a.is the_context.context the_context.is)).1
 
-        module _ (read : List Bound) (P : args_of read ≡ fn.arguments) (n : Result ℕ Asserts) (N : needed_of n ≡ args_bindings (types_of types) (list_at b at) 0 (args_of read)) (long : bindings ≤ room) where
+        module _ (read : List Bound) (P : args_of read ≡ fn.arguments) (n : Result ℕ Asserts) (N : needed_of n ≡ args_bindings (types_of types) (list_in own) 0 (args_of read)) (long : bindings ≤ room) where
           inputs_are : input_bytes (module_of bytes t) room f b ≡ within_pieces the_context.context (listed (needed_of n))
           unfolding inputs_of input_list input_to_bindings
           inputs_are =

@@ -1,14 +1,15 @@
--- A list of bindings read from the last to the first: the set of those from i on, which ascend to at most 63.
-use Prim.Native.Nat.{ℕ, zero, suc, ◌-◌, ◌<◌, ◌≤◌}
+-- A list of bindings read from the last to the first: the set of those behind what is left, which ascend to at most 63.
+use Prim.Native.Nat.{ℕ, ◌≤◌, ◌<◌}
 use native.Mathlib.Omega.{arith}
-use mathlib.Core.Path.{◌≡◌, refl, ◌∙◌}
+use mathlib.Core.Path.{◌≡◌, refl, sym, ◌∙◌}
 use mathlib.Core.Bool.{Bool, true, false, ◌&&◌}
-use mathlib.Core.List.{List, [], ◌∷◌}
+use mathlib.Core.List.{List, [], ◌∷◌, ◌++◌}
 use lib.Bits.{bit_or}
 use lib.Dec.{ltb}
-use lib.ListN.{length, get_or, drop, drop_of_length-le}
-use lib.Seq.{drop-cons}
+use lib.ListN.{length}
 use borrow.Author.Tests.{lt-ltb, le-ltb}
+use Rattle.std.proofs.lemmas.List.{append_assoc, append-nil}
+use Rattle.std.specs.List.{push}
 use Rattle.module.specs.Operands.{bindings}
 use Rattle.std.proofs.Math.Option.{some}
 use Rattle.bindings.specs.Bindings.{own_binding, set_of}
@@ -18,44 +19,43 @@ and-false : (x : Bool) → x && false ≡ false
 and-false true = refl
 and-false false = refl
 
-pub not_below : (bs : List ℕ) (i : ℕ) {b : ℕ} → i < length bs → b ≡ get_or bs i 0 → binding_after (drop (suc i) bs) ≤ b → are_bindings bs ≡ false
+not_behind : (front behind : List ℕ) → are_bindings behind ≡ false → are_bindings (front ++ behind) ≡ false
 unfolding are_bindings
-not_below [] i h e l = absurd (omega arith)
-not_below (c ∷ bs) zero h e l = rw (le-ltb c (binding_after bs) (rw (← e) l))
-not_below (c ∷ bs) (suc i) h e l = rw (not_below bs i (omega arith) e l) (and-false (ltb c (binding_after bs)))
+not_behind [] behind h = h
+not_behind (c ∷ front) behind h = rw (not_behind front behind h) (and-false (ltb c (binding_after (front ++ behind))))
 
-pub record Reading (bs : List ℕ) (i after s : ℕ) : Type 0 where
-  pub low : i ≤ length bs
-  pub are : are_bindings (drop i bs) ≡ true
-  pub is : s ≡ set_of (drop i bs)
-  pub next : after ≡ binding_after (drop i bs)
+pub record Reading (bs front : List ℕ) (after s : ℕ) : Type 0 where
+  pub behind : List ℕ
+  pub whole : bs ≡ front ++ behind
+  pub are : are_bindings behind ≡ true
+  pub is : s ≡ set_of behind
+  pub next : after ≡ binding_after behind
   pub few : after ≤ bindings
 
-pub reading_none : (bs : List ℕ) {i : ℕ} → i ≡ length bs → Reading bs i bindings 0
+pub reading_none : {bs front : List ℕ} → front ≡ bs → Reading bs front bindings 0
 unfolding are_bindings set_of binding_after
-reading_none bs {i} e =
-    let end : drop i bs ≡ [] = drop_of_length-le bs {i = i} (omega arith) in
-    record { low = omega arith; are = rw end; is = rw end; next = rw end; few = omega arith }
+reading_none {bs} e = record { behind = []; whole = sym (rw e (append-nil bs)); are = refl; is = refl; next = refl; few = omega arith }
 
-module _ (bs : List ℕ) {i after s : ℕ} (R : Reading bs i after s) (h : 0 < i) where
-  pub reading_inside : i - 1 < length bs
-  reading_inside = omega (arith, R.low)
+module _ {bs front : List ℕ} {after s : ℕ} (R : Reading bs front after s) (left : List ℕ) (x : ℕ) (step : front ≡ push left x) where
+  grown : bs ≡ left ++ (x ∷ R.behind)
+  grown = R.whole ∙ rw step (append_assoc left (x ∷ []) R.behind)
 
-  same : suc (i - 1) ≡ i
-  same = omega arith
+  pub reading_malformed : {b : ℕ} → b ≡ x → after ≤ b → are_bindings bs ≡ false
+  unfolding are_bindings
+  reading_malformed e l = rw grown (not_behind left (x ∷ R.behind) (rw (← R.next, le-ltb x after (rw e at l))))
 
-  pub reading_malformed : {b : ℕ} → b ≡ get_or bs (i - 1) 0 → after ≤ b → are_bindings bs ≡ false
-  reading_malformed e l = not_below bs (i - 1) reading_inside e (rw (same, ← R.next) l)
-
-  pub reading_more : {b own : ℕ} → b ≡ get_or bs (i - 1) 0 → b < after → own ≡ own_binding (some b) → Reading bs (i - 1) b (bit_or own s)
+  pub reading_more : {b own : ℕ} → b ≡ x → b < after → own ≡ own_binding (some b) → Reading bs left b (bit_or own s)
   unfolding are_bindings set_of binding_after own_binding
-  reading_more {b} {own} e l o =
-      let here : drop (i - 1) bs ≡ b ∷ drop i bs = drop-cons bs (i - 1) 0 reading_inside ∙ rw (← e, same) in
-      let low : b < bindings = omega (arith, R.few) in
+  reading_more {b} e l o =
       record {
-        low = omega (arith, R.low);
-        are = rw (here, ← R.next, lt-ltb b after l) R.are;
-        is = rw (here, o, R.is);
-        next = rw here;
-        few = omega arith;
+        behind = x ∷ R.behind;
+        whole = grown;
+        are = rw (← e, ← R.next, lt-ltb b after l) R.are;
+        is = rw (← e, o, R.is);
+        next = e;
+        few = omega (arith, R.few);
       }
+
+pub reading_all : {bs front : List ℕ} {after s : ℕ} → Reading bs front after s → length front ≡ 0 → (are_bindings bs ≡ true) × (s ≡ set_of bs)
+reading_all {front = []} R h = rw R.whole (R.are, R.is)
+reading_all {front = c ∷ front} R h = absurd (omega arith)

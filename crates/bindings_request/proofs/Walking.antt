@@ -31,7 +31,7 @@ use Rattle.bindings_request.specs.Walks.{lower}
 use Rattle.context.proofs.Types.{length-tab}
 use Rattle.request.specs.Fields.{fields}
 use Rattle.request.specs.Part.{by_code, read_part}
-use Rattle.context_bytes.specs.Found.{value_of, part_at, Readable}
+use Rattle.context_bytes.specs.Found.{value_of, part_in, Readable}
 use Rattle.bindings.proofs.Linear.{table-length, table-past, inner_all}
 use Rattle.bindings.proofs.Rows.{base_step, members_step, members_long, members_at}
 
@@ -192,10 +192,10 @@ module _ (types : List TypeInner) (old : List Bindings) where
         G.is ∙ rw (drop_of_length-le old h) (append-nil (done t) ∙ rw same)
 
 -- the part of two bytes that are zero
-pub zeros_read : Readable (0 ∷ 0 ∷ []) 0 0
+pub zeros_read : Readable (0 ∷ 0 ∷ []) 0
 unfolding read_part by_code fields
-zeros_read = record { inside = omega arith; is = λ e. let z : ◌≡◌ {A = ℕ} 0 1 = cc in absurd (omega arith) }
+zeros_read = record { is = λ e. let z : ◌≡◌ {A = ℕ} 0 1 = cc in absurd (omega arith) }
 
-pub zeros_all : part_at (0 ∷ 0 ∷ []) 0 0 ≡ all
+pub zeros_all : part_in (0 ∷ 0 ∷ []) 0 ≡ all
 unfolding value_of read_part by_code fields
 zeros_all = refl

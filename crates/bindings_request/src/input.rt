@@ -16,7 +16,7 @@ use bindings::set::list;
 use bindings::types::BoundTypes;
 use context_bytes::check::{check_context, without_function};
 use context_bytes::count::count_context;
-use context_bytes::find::args_at;
+use context_bytes::find::args_bytes;
 use context_bytes::variables_bytes::VariablesBytes;
 use field::limits::MAX_PIECES;
 use field::refusal::Refusal;
@@ -77,8 +77,7 @@ pub fn input_to_bindings_bytes(
         sets: &*sets,
     };
     let variables = VariablesBytes {
-        bytes: context,
-        at: args_at(context),
+        bytes: args_bytes(context),
     };
     let s = input_to_bindings(&variables, &known, own)?;
     write_list(s, context, out)

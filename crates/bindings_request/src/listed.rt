@@ -10,8 +10,8 @@ pub fn set_of(list: &[u8]) -> Option<u64>
 {
     let mut s: u64 = 0;
     let mut after = BINDINGS;
-    for i in (0..list.len()).rev() {
-        let b = u32::from(list[i]);
+    for x in list.iter().rev() {
+        let b = u32::from(*x);
         if after <= b {
             return None;
         }

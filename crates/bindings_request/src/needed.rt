@@ -112,7 +112,6 @@ fn type_all(known: &TypeSets, t: TypeHandle) -> u64
     let zeros: [u8; 2] = [0, 0];
     let part = PartBytes {
         bytes: &zeros,
-        at: 0,
         depth: 0,
     };
     type_step(known, &part, t)

@@ -4,8 +4,6 @@ use mathlib.Core.Path.{◌≡◌, subst}
 use mathlib.Core.Bool.{true, false}
 use mathlib.Core.List.{List}
 use mathlib.Core.Option.{some, none as nothing}
-use lib.ListN.{get_or}
-use borrow.Author.Tests.{eq-eqb, ne_eqb}
 use Rattle.std.specs.Prelude.{Option, Some, None, Ok, Err}
 use Rattle.field.specs.declared.refusal.Refusal.TheVariants.{Panic, PartLimit}
 use Rattle.module.specs.declared.handles.FunctionHandle.{FunctionHandle as Handle}

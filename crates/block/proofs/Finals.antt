@@ -6,7 +6,7 @@ use mathlib.Core.Path.{◌≡◌, refl, sym, ap, ◌∙◌}
 use mathlib.Core.Bool.{true, false}
 use mathlib.Core.List.{List, [], ◌∷◌}
 use mathlib.Core.Option.{some, none as nothing}
-use lib.ListN.{length, get_or, set, length-set}
+use lib.ListN.{length, get_or}
 use Rattle.module.specs.Module.{Module}
 use Rattle.module.specs.Tables.{row_at, expressions_from, module_of}
 use Rattle.module.proofs.Tab.{get_d_tab}
@@ -25,7 +25,6 @@ use Rattle.walk.specs.Proper.{Sound}
 use Rattle.walk.proofs.Proper.{proper, good, state}
 use Rattle.part.specs.StoreLimits.{entries_cap}
 use Rattle.context.specs.RequiredContext.{pieces}
-use Rattle.marks.proofs.Write.{write_long}
 use Rattle.marks.proofs.Sums.{total_there, total_missing, kept-own, kept-other, added-own, added-other}
 use Rattle.state.specs.State.{records_in}
 use Rattle.block.specs.Standing.{total_of, total_in, functions_in, state_in, Standing}

@@ -18,7 +18,7 @@ use Rattle.memory.specs.Layout.{stack_slot, room}
 use Rattle.memory.specs.Memory.{read, context_at}
 use Rattle.marks.specs.declared.places.MarkPlaces.{MarkPlaces}
 use Rattle.marks.specs.declared.totals.MarkTotals.{MarkTotals}
-use Rattle.state.specs.Ready.{WasRead}
+use Rattle.access.specs.Laid.{WasRead}
 use Rattle.block.specs.Standing.{state_in, Standing}
 use Rattle.block.specs.Saved.{Joined}
 use Rattle.block.specs.Blocks.{context_in, Beside}

@@ -17,7 +17,7 @@ use Rattle.memory.specs.Layout.{globals_slot, exprs_slot, totals_slot, functions
 use Rattle.memory.specs.Memory.{context_at}
 use Rattle.memory.proofs.Runs.{records_same, context_same}
 use Rattle.state.specs.State.{records_in, totals_sum, state_of, sum_in}
-use Rattle.state.specs.Ready.{WasRead}
+use Rattle.access.specs.Laid.{WasRead}
 use Rattle.state.proofs.Own.{fits}
 use Rattle.state.proofs.Others.{sum_same}
 use Rattle.marks.specs.declared.totals.MarkTotals.{MarkTotals}

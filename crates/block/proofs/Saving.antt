@@ -3,10 +3,13 @@ use Prim.Native.Nat.{ℕ, ◌+◌, ◌<◌, ◌≤◌}
 use native.Mathlib.Omega.{arith}
 use native.Mathlib.Decide.{ℕ_discrete}
 use mathlib.Core.Path.{◌≡◌, refl, sym, ap, ◌∙◌}
-use mathlib.Core.Bool.{Bool}
+use mathlib.Core.Bool.{Bool, true, false, not}
 use mathlib.Core.List.{List}
 use lib.ListN.{length, get_or, set, length-set}
 use lib.Seq.{get_or-set_same, get_or-set_other, ext_get_or}
+use Rattle.std.specs.Prelude.{⊤, Option}
+use Rattle.std.specs.Bool.{then_some}
+use Rattle.std.specs.Option.{is_none}
 use Rattle.part.specs.PartReq.{PartReq, none}
 use Rattle.part.specs.Store.{top, part, Good, Room}
 use Rattle.part.proofs.Pieces.{part-2}
@@ -19,6 +22,11 @@ use Rattle.memory.specs.Stretches.{four_set, pieces_at}
 use Rattle.memory.proofs.Slots.{read_at, kept_memory, kept_read}
 use Rattle.memory.proofs.Runs.{four_read, copy_read, clear_read, four_memory, four_long}
 use Rattle.block.specs.Saved.{Saved, Popped, Loaded, Lowered, Dropped, Joined}
+
+-- whether a limit is passed, as the code answers it
+pub none_over : (b : Bool) {r : Option ⊤} → r ≡ then_some (not b) tt → is_none r ≡ b
+none_over true e = rw e refl
+none_over false e = rw e refl
 
 set-again : (ps : List PartReq) (k : ℕ) → set ps k (get_or ps k none) ≡ ps
 set-again ps k =

@@ -5,11 +5,10 @@ use mathlib.Core.Path.{◌≡◌, refl, ap, ◌∙◌}
 use mathlib.Core.Bool.{Bool, true, false, ◌||◌}
 use mathlib.Core.List.{List}
 use lib.ListN.{length, get_or, set, length-set}
-use Rattle.std.specs.Prelude.{Option, Some, None, unwrap_or}
 use Rattle.field.specs.Limits.{max_pieces}
-use Rattle.part.specs.PartReq.{PartReq, none, more, Subpart, get_subpart, entries, over}
+use Rattle.part.specs.PartReq.{PartReq, none, more, get_subpart, entries, over}
 use Rattle.part.specs.Store.{top, part, Good, Room, Made}
-use Rattle.part.specs.Found.{Got}
+use Rattle.part.specs.Subparts.{or_none, Piece}
 use Rattle.part.proofs.Pieces.{part-2}
 use Rattle.part.proofs.Making.{kept_trans}
 use Rattle.part.proofs.Write.{stay}
@@ -23,11 +22,11 @@ use Rattle.memory.specs.Stretches.{four_set}
 use Rattle.memory.proofs.Slots.{slot_low, kept_memory, set-read, hold_memory}
 use Rattle.memory.proofs.Runs.{four_read, four_memory, four_long}
 use Rattle.block.specs.Saved.{Saved, Loaded}
-use Rattle.block.specs.Aside.{aside, or_none, from_aside, Asiding, Aside, Entry}
+use Rattle.block.specs.Aside.{aside, from_aside, Asiding, Aside}
 use Rattle.block.proofs.Saving.{loaded_is, loaded_has}
 
 pub aside-back : (c : RequiredContext) → from_aside (aside c) ≡ c
-unfolding aside from_aside or_none get_subpart
+unfolding aside from_aside get_subpart
 aside-back c = refl
 
 aside-entries : (c : RequiredContext) → entries (aside c) ≡ 4 + pieces c
@@ -113,20 +112,14 @@ module _ {s rs : List ℕ} {k : ℕ} {c : Pieces} (A : Asiding s rs k) (h : Load
               spent = omega (arith, four.cost);
             }
 
--- an entry
-pub entry_found : {s : List ℕ} (p : Subpart) (f : Option ℕ) → Good s → Got s p f → Entry s (or_none p) (unwrap_or f 2)
-unfolding or_none
-entry_found {s} p None g h = record { piece = omega (arith, g.base); is = rw h (part-2 s) }
-entry_found {s} p (Some n) g h = record { piece = h.0; is = rw h.1 }
-
 -- what was put aside is there
-pub map_asks : {s rs : List ℕ} {i : ℕ} → Memory s rs → i < 4 → Good s × ((get_or rs result 0 < top s) × (i < 4))
-map_asks m l = (m.good, ((slot_low m result (omega arith)).1, l))
+pub result_asks : {s rs : List ℕ} → Memory s rs → Good s × (get_or rs result 0 < top s)
+result_asks m = (m.good, (slot_low m result (omega arith)).1)
 
 -- the context back in its slots
 pub taken_back : {s rs us : List ℕ} {k g l a r : ℕ} → Memory s rs → (stack_slot ≤ k) × (k + 4 ≤ length rs) → (p : PartReq)
-    → Entry s (or_none (get_subpart p (variable 0))) g → Entry s (or_none (get_subpart p (variable 1))) l → Entry s (or_none (get_subpart p (variable 2))) a
-    → Entry s (or_none (get_subpart p (variable 3))) r → us ≡ four_set rs k g l a r → Saved s rs k (from_aside p) s us
+    → Piece s (or_none (get_subpart p (variable 0))) g → Piece s (or_none (get_subpart p (variable 1))) l → Piece s (or_none (get_subpart p (variable 2))) a
+    → Piece s (or_none (get_subpart p (variable 3))) r → us ≡ four_set rs k g l a r → Saved s rs k (from_aside p) s us
 unfolding from_aside
 taken_back {s} {rs} {us} {k} {g} {l} {a} {r} m b p hg hl ha hr e = record {
   memory = rw e (four_memory k g l a r m (omega arith) b.1 (hg.piece, (hl.piece, (ha.piece, hr.piece))));

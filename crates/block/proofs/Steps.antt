@@ -22,7 +22,8 @@ use Rattle.memory.proofs.Runs.{context_same}
 use Rattle.marks.specs.declared.places.MarkPlaces.{MarkPlaces}
 use Rattle.marks.specs.declared.totals.MarkTotals.{MarkTotals}
 use Rattle.state.specs.State.{state_of}
-use Rattle.state.specs.Ready.{WasRead, Ready}
+use Rattle.state.specs.Ready.{Ready}
+use Rattle.access.specs.Laid.{WasRead}
 use Rattle.state.specs.Frame.{Apart}
 use Rattle.state.specs.declared.frame.Frame.{Frame}
 use Rattle.state.specs.declared.answer.Halt.{Halt}

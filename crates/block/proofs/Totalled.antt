@@ -25,7 +25,7 @@ use Rattle.memory.proofs.Runs.{context_pieces, records_same, context_same}
 use Rattle.marks.specs.declared.totals.MarkTotals.{MarkTotals}
 use Rattle.marks.specs.Report as report
 use Rattle.state.specs.State.{records_in, totals_sum}
-use Rattle.state.specs.Ready.{WasRead}
+use Rattle.access.specs.Laid.{WasRead}
 use Rattle.state.proofs.Own.{fits}
 use Rattle.leave.proofs.Sums.{sum_stretch}
 use Rattle.block.specs.Standing.{total_of, total_in, functions_in}

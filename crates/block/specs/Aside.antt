@@ -1,8 +1,9 @@
 -- A context put aside as one piece, with an entry for each of its maps, and taken back.
-use Rattle.std.specs.Prelude.{ℕ, ◌+◌, ◌<◌, ◌≤◌, ◌≡◌, false, List, length}
+use Rattle.std.specs.Prelude.{ℕ, ◌+◌, ◌≤◌, ◌≡◌, false, List, length}
 use Rattle.field.specs.Limits.{max_pieces}
-use Rattle.part.specs.PartReq.{PartReq, none, more, Subpart, gone, there, get_subpart}
-use Rattle.part.specs.Store.{top, part, Room}
+use Rattle.part.specs.PartReq.{PartReq, none, more, get_subpart}
+use Rattle.part.specs.Store.{top, Room}
+use Rattle.part.specs.Subparts.{or_none}
 use Rattle.context.specs.RequiredContext.{RequiredContext, variable, over_context, pieces}
 use Rattle.memory.specs.Layout.{result}
 use Rattle.memory.specs.Memory.{read, context_at, Memory}
@@ -10,10 +11,6 @@ use Rattle.state.specs.Stored.{Stored}
 
 unfoldable pub aside : RequiredContext → PartReq
 aside c = more (variable 0) c.globals (more (variable 1) c.locals (more (variable 2) c.args (more (variable 3) c.retval none)))
-
-unfoldable pub or_none : Subpart → PartReq
-or_none gone = none
-or_none (there p) = p
 
 unfoldable pub from_aside : PartReq → RequiredContext
 from_aside p =
@@ -35,8 +32,3 @@ pub record Asiding (s rs : List ℕ) (k : ℕ) : Type 0 where
 pub record Aside (s rs : List ℕ) (k : ℕ) (u us : List ℕ) : Type 0 where
   pub stored : Stored s rs result (aside (context_at (read s rs) k)) u us
   pub spent : top u ≤ top s + 4
-
--- the piece r is p
-pub record Entry (s : List ℕ) (p : PartReq) (r : ℕ) : Type 0 where
-  pub piece : r < top s
-  pub is : part s r ≡ p

@@ -47,7 +47,7 @@ pub record Entered (bytes t types : List ℕ) (places : MarkPlaces) (s rs open_m
   pub roomy : Room s room
 
 abbrev pub EnteredOf : World → Workspace → FunctionHandle → BlockHandle → ℕ → ℕ → ℕ → ℕ → ℕ → ℕ → Type 0
-EnteredOf w m f b base at held own sum visits = Entered w.file.now.bytes w.file.now.t w.types.now w.places.now m.parts.cells m.parts.slots m.open m.totals f b base at held own sum visits
+EnteredOf w m f b base at held own sum visits = Entered w.typed.now.file.now.bytes w.typed.now.file.now.t w.typed.now.types.now w.places.now m.parts.cells m.parts.slots m.open m.totals f b base at held own sum visits
 
 -- What the arm of a statement asks that may hold blocks; b is the block that it stands in.
 pub record Begins (bytes t types : List ℕ) (places : MarkPlaces) (s rs open_marks : List ℕ) (totals : MarkTotals) (fr : Frame) (b : BlockHandle) (sum visits : ℕ) : Type 0 where
@@ -90,7 +90,7 @@ pub record BlockEnds (bytes t types : List ℕ) (places : MarkPlaces) (s rs open
   pub by : BlockEnding bytes t types places s rs open_marks totals f base at held own sum total r u us open_after totals-after
 
 abbrev pub BlockEndsOf : World → Workspace → FunctionHandle → ℕ → ℕ → ℕ → ℕ → ℕ → Out Bool → Result Answer Halt → Workspace → Type 0
-BlockEndsOf w m f base at held own sum total r n = BlockEnds w.file.now.bytes w.file.now.t w.types.now w.places.now m.parts.cells m.parts.slots m.open m.totals f base at held own sum total r n.parts.cells n.parts.slots n.open n.totals
+BlockEndsOf w m f base at held own sum total r n = BlockEnds w.typed.now.file.now.bytes w.typed.now.file.now.t w.typed.now.types.now w.places.now m.parts.cells m.parts.slots m.open m.totals f base at held own sum total r n.parts.cells n.parts.slots n.open n.totals
 
 -- a statement, or its arm, went as `total` says, with `answer` for its answer b
 pub record StatementEnded {A : Type 0} (bytes t types : List ℕ) (places : MarkPlaces) (s rs open_marks : List ℕ) (totals : MarkTotals) (fr : Frame) (total : Out A) (answer : Bool → A) (visits sum : ℕ) (b : Bool) (u us open_after : List ℕ) (totals-after : MarkTotals) : Type 0 where
@@ -107,4 +107,4 @@ pub record StatementEnds {A : Type 0} (bytes t types : List ℕ) (places : MarkP
   pub by : StatementEnding bytes t types places s rs open_marks totals fr total answer r u us open_after totals-after
 
 abbrev pub StatementEndsOf : {A : Type 0} → World → Workspace → Frame → Out A → (Bool → A) → Result Answer Halt → Workspace → Type 0
-StatementEndsOf w m fr total answer r n = StatementEnds w.file.now.bytes w.file.now.t w.types.now w.places.now m.parts.cells m.parts.slots m.open m.totals fr total answer r n.parts.cells n.parts.slots n.open n.totals
+StatementEndsOf w m fr total answer r n = StatementEnds w.typed.now.file.now.bytes w.typed.now.file.now.t w.typed.now.types.now w.places.now m.parts.cells m.parts.slots m.open m.totals fr total answer r n.parts.cells n.parts.slots n.open n.totals

@@ -37,7 +37,7 @@ pub record FunctionEntered (bytes t types : List ℕ) (places : MarkPlaces) (s r
   pub roomy : Room s room
 
 abbrev pub FunctionEnteredOf : World → Workspace → FunctionHandle → ℕ → ℕ → ℕ → ℕ → Type 0
-FunctionEnteredOf w m f base held sum visits = FunctionEntered w.file.now.bytes w.file.now.t w.types.now w.places.now m.parts.cells m.parts.slots m.open m.totals f base held sum visits
+FunctionEnteredOf w m f base held sum visits = FunctionEntered w.typed.now.file.now.bytes w.typed.now.file.now.t w.typed.now.types.now w.places.now m.parts.cells m.parts.slots m.open m.totals f base held sum visits
 
 -- Its context stands behind the base. What it needs of its arguments was counted by 16, or is nothing.
 pub record FunctionEnded (bytes t types : List ℕ) (places : MarkPlaces) (s rs open_marks : List ℕ) (totals : MarkTotals) (f : FunctionHandle) (base held : ℕ) (total : Out Bool) (visits sum : ℕ) (b : Bool) (u us open_after : List ℕ) (totals-after : MarkTotals) : Type 0 where
@@ -57,4 +57,4 @@ pub record FunctionEnds (bytes t types : List ℕ) (places : MarkPlaces) (s rs o
   pub by : FunctionEnding bytes t types places s rs open_marks totals f base held total r u us open_after totals-after
 
 abbrev pub FunctionEndsOf : World → Workspace → FunctionHandle → ℕ → ℕ → Out Bool → Result Answer Halt → Workspace → Type 0
-FunctionEndsOf w m f base held total r n = FunctionEnds w.file.now.bytes w.file.now.t w.types.now w.places.now m.parts.cells m.parts.slots m.open m.totals f base held total r n.parts.cells n.parts.slots n.open n.totals
+FunctionEndsOf w m f base held total r n = FunctionEnds w.typed.now.file.now.bytes w.typed.now.file.now.t w.typed.now.types.now w.places.now m.parts.cells m.parts.slots m.open m.totals f base held total r n.parts.cells n.parts.slots n.open n.totals

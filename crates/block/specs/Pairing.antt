@@ -45,7 +45,7 @@ pub record Paired (bytes t types : List ℕ) (places : MarkPlaces) (s rs open_ma
   pub roomy : Room s room
 
 abbrev pub PairedOf : World → Workspace → FunctionHandle → BlockHandle → BlockHandle → BlockHandle → ℕ → ℕ → ℕ → ℕ → ℕ → Type 0
-PairedOf w m f b first second base at held sum visits = Paired w.file.now.bytes w.file.now.t w.types.now w.places.now m.parts.cells m.parts.slots m.open m.totals f b first second base at held sum visits
+PairedOf w m f b first second base at held sum visits = Paired w.typed.now.file.now.bytes w.typed.now.file.now.t w.typed.now.types.now w.places.now m.parts.cells m.parts.slots m.open m.totals f b first second base at held sum visits
 
 pub record PairEnded (bytes t types : List ℕ) (places : MarkPlaces) (s rs open_marks : List ℕ) (totals : MarkTotals) (f : FunctionHandle) (base at held : ℕ) (total : Out (RequiredContext × Bool)) (visits sum : ℕ) (b : Bool) (u us open_after : List ℕ) (totals-after : MarkTotals) : Type 0 where
   pub is : went (state_in bytes t u us open_after totals-after f (at + 4) visits) (context_at (read u us) at, b) ≡ total
@@ -65,7 +65,7 @@ pub record PairEnds (bytes t types : List ℕ) (places : MarkPlaces) (s rs open_
   pub by : PairEnding bytes t types places s rs open_marks totals f base at held total r u us open_after totals-after
 
 abbrev pub PairEndsOf : World → Workspace → FunctionHandle → ℕ → ℕ → ℕ → Out (RequiredContext × Bool) → Result Answer Halt → Workspace → Type 0
-PairEndsOf w m f base at held total r n = PairEnds w.file.now.bytes w.file.now.t w.types.now w.places.now m.parts.cells m.parts.slots m.open m.totals f base at held total r n.parts.cells n.parts.slots n.open n.totals
+PairEndsOf w m f base at held total r n = PairEnds w.typed.now.file.now.bytes w.typed.now.file.now.t w.typed.now.types.now w.places.now m.parts.cells m.parts.slots m.open m.totals f base at held total r n.parts.cells n.parts.slots n.open n.totals
 
 -- What the end of an If and of a loop's first pass finds: the statement's context, and above it those that its two blocks have left.
 pub record Branched (bytes t types : List ℕ) (places : MarkPlaces) (s rs open_marks : List ℕ) (totals : MarkTotals) (fr : Frame) (sum visits : ℕ) : Type 0 where

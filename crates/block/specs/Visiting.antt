@@ -50,7 +50,7 @@ pub record Visits (bytes t types : List ℕ) (places : MarkPlaces) (s rs open_ma
   pub deep : Deep bytes t rs fr.function.0 b fr.at
 
 abbrev pub VisitsOf : World → Workspace → Frame → BlockHandle → ℕ → ℕ → Type 0
-VisitsOf w m fr b sum visits = Visits w.file.now.bytes w.file.now.t w.types.now w.places.now m.parts.cells m.parts.slots m.open m.totals fr b sum visits
+VisitsOf w m fr b sum visits = Visits w.typed.now.file.now.bytes w.typed.now.file.now.t w.typed.now.types.now w.places.now m.parts.cells m.parts.slots m.open m.totals fr b sum visits
 
 -- what its arm asks, once the visit has begun: the row is the statement's
 pub record Arms (bytes t types : List ℕ) (places : MarkPlaces) (s rs open_marks : List ℕ) (totals : MarkTotals) (fr : Frame) (b : BlockHandle) (row : Kinded) (sum visits : ℕ) : Type 0 where
@@ -59,7 +59,7 @@ pub record Arms (bytes t types : List ℕ) (places : MarkPlaces) (s rs open_mark
   pub is : row ≡ statement_row bytes t fr.function.0 fr.statement
 
 abbrev pub ArmsOf : World → Workspace → Frame → BlockHandle → Kinded → ℕ → ℕ → Type 0
-ArmsOf w m fr b row sum visits = Arms w.file.now.bytes w.file.now.t w.types.now w.places.now m.parts.cells m.parts.slots m.open m.totals fr b row sum visits
+ArmsOf w m fr b row sum visits = Arms w.typed.now.file.now.bytes w.typed.now.file.now.t w.typed.now.types.now w.places.now m.parts.cells m.parts.slots m.open m.totals fr b row sum visits
 
 -- the visit went as `total` says, and 16 was asked as it ended
 pub record VisitEnded (bytes t types : List ℕ) (places : MarkPlaces) (s rs open_marks : List ℕ) (totals : MarkTotals) (fr : Frame) (total : Out Bool) (visits sum : ℕ) (b : Bool) (u us open_after : List ℕ) (totals-after : MarkTotals) : Type 0 where
@@ -78,4 +78,4 @@ pub record VisitEnds (bytes t types : List ℕ) (places : MarkPlaces) (s rs open
   pub by : VisitEnding bytes t types places s rs open_marks totals fr total r u us open_after totals-after
 
 abbrev pub VisitEndsOf : World → Workspace → Frame → Out Bool → Result Answer Halt → Workspace → Type 0
-VisitEndsOf w m fr total r n = VisitEnds w.file.now.bytes w.file.now.t w.types.now w.places.now m.parts.cells m.parts.slots m.open m.totals fr total r n.parts.cells n.parts.slots n.open n.totals
+VisitEndsOf w m fr total r n = VisitEnds w.typed.now.file.now.bytes w.typed.now.file.now.t w.typed.now.types.now w.places.now m.parts.cells m.parts.slots m.open m.totals fr total r n.parts.cells n.parts.slots n.open n.totals

@@ -10,10 +10,10 @@ use Rattle.block.specs.declared.world.World.{World}
 use Rattle.block.specs.declared.workspace.Workspace.{Workspace}
 
 abbrev pub module_by : World → Module
-module_by w = module_of w.file.now.bytes w.file.now.t
+module_by w = module_of w.typed.now.file.now.bytes w.typed.now.file.now.t
 
 abbrev pub blocks_by : World → FunctionHandle → BlockWalk
-blocks_by w = block_in w.file.now.bytes w.file.now.t
+blocks_by w = block_in w.typed.now.file.now.bytes w.typed.now.file.now.t
 
 abbrev pub state_by : World → Workspace → FunctionHandle → (at visits : ℕ) → State
-state_by w m = state_in w.file.now.bytes w.file.now.t m.parts.cells m.parts.slots m.open m.totals
+state_by w m = state_in w.typed.now.file.now.bytes w.typed.now.file.now.t m.parts.cells m.parts.slots m.open m.totals

@@ -8,7 +8,6 @@ use access::file::File;
 use field::refusal::Refusal;
 use marks::places::MarkPlaces;
 use marks::ray::first_ray;
-use marks::set::{add_marks, keep_marks};
 use module::handles::FunctionHandle;
 use state::answer::{Halt, Place, Tally, Walked};
 
@@ -30,7 +29,7 @@ pub fn add_total(
     let less = weigh_total(file, &space.parts, f);
     if !space.totals.flags[f.0 as usize] {
         keep_total(file, &mut space.parts.slots, f, at);
-        keep_marks(&mut space.totals, &space.open, places, f);
+        space.totals.keep_marks(&space.open, places, f);
     } else {
         if let Some(s) = first_ray(file, f) {
             return Err(Halt {
@@ -38,13 +37,11 @@ pub fn add_total(
                 place: Place::Statement(f, s),
             });
         }
-        if join_total(file, &mut space.parts, f, at) {
-            return Err(Halt {
-                refusal: Refusal::PartLimit,
-                place: here,
-            });
-        }
-        add_marks(&mut space.totals, &space.open, places, f);
+        join_total(file, &mut space.parts, f, at).ok_or(Halt {
+            refusal: Refusal::PartLimit,
+            place: here,
+        })?;
+        space.totals.add_marks(&space.open, places, f);
     }
     let more = weigh_total(file, &space.parts, f);
     Ok(Tally {

@@ -1,20 +1,18 @@
 // A context put aside in the slot of the result, as one piece, while the current one is asked with.
-ghost use Rattle.std.specs.Prelude.{◌+◌, ◌≤◌, ◌<◌, length, get_or};
-ghost use Rattle.part.specs.PartReq.{get_subpart};
-ghost use Rattle.part.specs.Store.{top, part, Good};
-ghost use Rattle.context.specs.RequiredContext.{variable};
+ghost use Rattle.std.specs.Prelude.{◌+◌, ◌≤◌, length, get_or};
+ghost use Rattle.part.specs.Store.{part};
 ghost use Rattle.memory.specs.Layout.{result as result_slot, stack_slot};
 ghost use Rattle.memory.specs.Memory.{Memory};
 ghost use Rattle.block.specs.Saved.{Saved};
-ghost use Rattle.block.specs.Aside.{or_none, from_aside, Asiding, Aside, Entry};
+ghost use Rattle.block.specs.Aside.{from_aside, Asiding, Aside};
 
 use context::required_context::RequiredContext;
 use memory::layout::RESULT;
 use memory::parts::Parts;
 use memory::stretches::{load_context, save_context};
 use part::limits::SPINE;
-use part::req::get;
 use part::store::{EMPTY_PIECE, make};
+use part::subpart::subpart;
 
 // The context at k.
 pub fn put_aside(parts: &mut Parts, k: usize)
@@ -29,16 +27,6 @@ pub fn put_aside(parts: &mut Parts, k: usize)
     parts.slots[RESULT] = globals;
 }
 
-// The entry i of a, or the empty part.
-fn map_of(cells: &[u32], a: u32, i: u32) -> u32
-    requires good { Good cells.now }
-    requires a_bound { (a < top cells.now) × (i < 4) }
-    ensures { Entry cells.now (or_none (get_subpart (part cells.now a) (variable i))) result }
-{
-    let f = get(cells, a, SPINE + i);
-    f.unwrap_or(EMPTY_PIECE)
-}
-
 // Back to k.
 // Stays: the cells are only read, which a `&mut` of both would not say.
 pub fn take_back(cells: &[u32], slots: &mut [u32], k: usize)
@@ -47,10 +35,10 @@ pub fn take_back(cells: &[u32], slots: &mut [u32], k: usize)
     ensures { Saved cells.now slots.old k (from_aside (part cells.now (get_or slots.old result_slot 0))) cells.now slots.new }
 {
     let a = slots[RESULT];
-    let globals = map_of(cells, a, 0);
-    let locals = map_of(cells, a, 1);
-    let args = map_of(cells, a, 2);
-    let retval = map_of(cells, a, 3);
+    let globals = subpart(cells, a, SPINE);
+    let locals = subpart(cells, a, SPINE + 1);
+    let args = subpart(cells, a, SPINE + 2);
+    let retval = subpart(cells, a, SPINE + 3);
     let c = RequiredContext {
         globals,
         locals,

@@ -1,5 +1,6 @@
 // Two contexts above the current one, as two blocks leave them: joined in its place, or forgotten.
 ghost use Rattle.std.specs.Prelude.{◌+◌, ◌≤◌, length};
+ghost use Rattle.std.specs.Option.{is_none};
 ghost use Rattle.part.specs.Store.{Room};
 ghost use Rattle.context.specs.RequiredContext.{pieces};
 ghost use Rattle.memory.specs.Layout.{stack_slot};
@@ -9,16 +10,16 @@ ghost use Rattle.block.specs.Branches.{JoinedUp, BothDropped};
 use crate::stack::{drop, join, lower};
 use memory::parts::Parts;
 
-// The two contexts behind the one at k are joined in its place. Whether that passes a limit.
-pub fn join_up(parts: &mut Parts, k: usize) -> bool
+// The two contexts behind the one at k are joined in its place. None where that passes a limit.
+pub fn join_up(parts: &mut Parts, k: usize) -> Option<()>
     requires memory { Memory parts.old.cells parts.old.slots }
     requires stack_slot_le_k { (stack_slot ≤ k) × (k + 12 ≤ length parts.old.slots) }
     requires room { Room parts.old.cells (pieces (context_at (read parts.old.cells parts.old.slots) (k + 4)) + pieces (context_at (read parts.old.cells parts.old.slots) (k + 4 + 4))) }
-    ensures { JoinedUp parts.old.cells parts.old.slots k result parts.new.cells parts.new.slots }
+    ensures { JoinedUp parts.old.cells parts.old.slots k (is_none result) parts.new.cells parts.new.slots }
 {
-    let over = join(parts, k + 4);
+    let fits = join(parts, k + 4);
     lower(&mut parts.slots, k);
-    over
+    fits
 }
 
 // They are forgotten.

@@ -1,5 +1,6 @@
 // The stack of contexts, four slots each: the two at its top become one.
 ghost use Rattle.std.specs.Prelude.{◌≡◌, ◌+◌, ◌≤◌, length};
+ghost use Rattle.std.specs.Option.{is_none};
 ghost use Rattle.part.specs.Store.{Room};
 ghost use Rattle.context.specs.RequiredContext.{contains_context, pieces};
 ghost use Rattle.memory.specs.Layout.{stack_slot};
@@ -26,19 +27,19 @@ pub fn drop(slots: &mut [u32], k: usize)
     clear_context(slots, k + 4);
 }
 
-// The contexts at k and behind it are joined, at k. Whether that passes a limit.
-pub fn join(parts: &mut Parts, k: usize) -> bool
+// The contexts at k and behind it are joined, at k. None where that passes a limit.
+pub fn join(parts: &mut Parts, k: usize) -> Option<()>
     requires memory { Memory parts.old.cells parts.old.slots }
     requires stack_slot_le_k { (stack_slot ≤ k) × (k + 8 ≤ length parts.old.slots) }
     requires room { Room parts.old.cells (pieces (context_at (read parts.old.cells parts.old.slots) k) + pieces (context_at (read parts.old.cells parts.old.slots) (k + 4))) }
-    ensures { Joined parts.old.cells parts.old.slots k result parts.new.cells parts.new.slots }
+    ensures { Joined parts.old.cells parts.old.slots k (is_none result) parts.new.cells parts.new.slots }
 {
     let lower = load_context(&parts.slots, k);
     let upper = load_context(&parts.slots, k + 4);
     let joined = lower.merge(&mut parts.cells, upper);
     save_context(&mut parts.slots, k, joined);
     clear_context(&mut parts.slots, k + 4);
-    joined.over(&parts.cells)
+    (!joined.over(&parts.cells)).then_some(())
 }
 
 // Whether the context at k contains the one behind it.

@@ -1,5 +1,6 @@
 // The total of a function in its slots: the context, and the records.
 ghost use Rattle.std.specs.Prelude.{◌≡◌, ◌+◌, ◌*◌};
+ghost use Rattle.std.specs.Option.{is_none};
 ghost use Rattle.part.specs.Store.{Room};
 ghost use Rattle.context.specs.RequiredContext.{pieces};
 ghost use Rattle.memory.specs.Layout.{functions_slot};
@@ -25,12 +26,12 @@ pub fn keep_total(file: &File, slots: &mut [u32], f: FunctionHandle, at: usize)
     extend(slots, EXPRS + from, TOTALS + from, r.n);
 }
 
-// A later one: the contexts are joined. Whether that passes a limit.
-pub fn join_total(file: &File, parts: &mut Parts, f: FunctionHandle, at: usize) -> bool
+// A later one: the contexts are joined. None where that passes a limit.
+pub fn join_total(file: &File, parts: &mut Parts, f: FunctionHandle, at: usize) -> Option<()>
     requires totalling { Totalling file.now.t parts.old.slots f.0 at }
     requires memory { Memory parts.old.cells parts.old.slots }
     requires room { Room parts.old.cells (pieces (context_at (read parts.old.cells parts.old.slots) (functions_slot + 4 * f.0)) + pieces (context_at (read parts.old.cells parts.old.slots) at)) }
-    ensures { TotalJoined file.now.t f.0 at parts.old.cells parts.old.slots result parts.new.cells parts.new.slots }
+    ensures { TotalJoined file.now.t f.0 at parts.old.cells parts.old.slots (is_none result) parts.new.cells parts.new.slots }
 {
     let to = FUNCTIONS + 4 * (f.0 as usize);
     let total = load_context(&parts.slots, to);
@@ -40,7 +41,7 @@ pub fn join_total(file: &File, parts: &mut Parts, f: FunctionHandle, at: usize) 
     let r = records_of(file, f);
     let from = r.from;
     extend(&mut parts.slots, EXPRS + from, TOTALS + from, r.n);
-    joined.over(&parts.cells)
+    (!joined.over(&parts.cells)).then_some(())
 }
 
 // What the slots of the total of f count for.

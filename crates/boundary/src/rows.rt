@@ -9,6 +9,7 @@ use reading::read::read;
 use type_table::fill;
 
 // The module and the rows of its types, or what refuses the file.
+// Stays: no `TypedFile`, which has its file behind a reference: the file is made here. With `read` alone here, each of three callers would fill its rows.
 pub fn read_rows<'a>(bytes: &'a [u8], room: FileRoom<'a>) -> Result<(File<'a>, &'a [u32]), Refusal>
     requires { Roomy room }
     ensures { RowsRead bytes.now result }

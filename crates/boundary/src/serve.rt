@@ -1,9 +1,7 @@
 // A request on a module file. What it leaves goes into three lent slices: the pruner's totals, the marks of every function, and the answer.
-ghost use Rattle.std.specs.Prelude.{◌≡◌, ◌*◌, ◌≤◌, length};
-ghost use Rattle.module.specs.Tables.{module_of};
-ghost use Rattle.context.specs.Types.{type_words};
+ghost use Rattle.std.specs.Prelude.{◌≡◌, ◌*◌, ◌≤◌};
 ghost use Rattle.state.specs.State.{place_of};
-ghost use Rattle.state.specs.Ready.{WasRead};
+ghost use Rattle.access.specs.Laid.{WasRead};
 ghost use Rattle.requests.specs.Serve.{place_word, reply_word};
 ghost use Rattle.requests.specs.Finish.{reply_of};
 ghost use Rattle.boundary.specs.Requests.{RequestsRead, Requests};
@@ -13,13 +11,14 @@ use access::file::File;
 use block::world::World;
 use context::remove::TYPE_WORDS;
 use field::limits::MAX_TYPES;
-use marks::places::{MarkPlaces, STARTS, place_marks};
-use module::tables::{MAX_ITEMS, WORDS};
+use marks::places::MarkPlaces;
+use module::tables::WORDS;
 use reading::read::read_module;
 use requests::finish::Reply;
 use requests::serve::serve_read;
 use state::answer::Place;
 use type_table::fill;
+use type_table::typed::TypedFile;
 
 // From these on a place is an expression or a statement, its function's number above its own, which has 15 bits.
 const EXPRESSION: u64 = 1073741824;
@@ -33,10 +32,12 @@ fn place_word(place: Place) -> u64
 {
     match place {
         Place::Expression(f, e) => {
-            EXPRESSION + FUNCTION * ((f.0 % 32768) as u64) + ((e.0 % 32768) as u64)
+            EXPRESSION
+                + FUNCTION * ((f.0 % FUNCTION as u32) as u64)
+                + ((e.0 % FUNCTION as u32) as u64)
         }
         Place::Statement(f, s) => {
-            STATEMENT + FUNCTION * ((f.0 % 32768) as u64) + ((s % 32768) as u64)
+            STATEMENT + FUNCTION * ((f.0 % FUNCTION as u32) as u64) + ((s % FUNCTION as u32) as u64)
         }
         Place::Nowhere => 0,
     }
@@ -53,22 +54,18 @@ fn reply_word(r: Reply) -> u64
 
 // Of a module that was read, with a row for each type.
 fn request_of(
-    file: &File,
-    table: &mut [u32],
+    typed: &TypedFile,
     places: &mut MarkPlaces,
     request: &[u8],
     pruner: &mut [u8],
     report: &mut [u8],
     answer: &mut [u8],
 ) -> u64
-    requires { WasRead file.now.bytes file.now.t × (length table.old ≡ type_words * length (module_of file.now.bytes file.now.t).types) }
-    ensures { RequestsRead file.now.bytes file.now.t request.now pruner.old report.old answer.old result pruner.new report.new answer.new }
+    ensures { RequestsRead typed.now.file.now.bytes typed.now.file.now.t request.now pruner.old report.old answer.old result pruner.new report.new answer.new }
 {
-    fill(file, table);
-    place_marks(file, places);
+    places.place_marks(typed.file);
     let world = World {
-        file,
-        types: table,
+        typed: &*typed,
         places,
     };
     let r = serve_read(&world, request, pruner, report, answer);
@@ -87,20 +84,12 @@ fn request_in(
     ensures { RequestsRead file.now.bytes file.now.t request.now pruner.old report.old answer.old result pruner.new report.new answer.new }
 {
     let mut table: [u32; TYPE_WORDS * MAX_TYPES] = [0; TYPE_WORDS * MAX_TYPES];
-    let mut places = MarkPlaces {
-        starts: [0; STARTS],
-        firsts: [0; MAX_ITEMS],
-    };
+    let mut places = MarkPlaces::new();
     let e = TYPE_WORDS * (file.types() as usize);
-    request_of(
-        file,
-        &mut table[0..e],
-        &mut places,
-        request,
-        pruner,
-        report,
-        answer,
-    )
+    let rows = &mut table[0..e];
+    fill(file, rows);
+    let typed = TypedFile { file, types: rows };
+    request_of(&typed, &mut places, request, pruner, report, answer)
 }
 
 // Of any bytes.

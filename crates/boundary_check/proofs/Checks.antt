@@ -6,7 +6,7 @@ use Rattle.module.specs.Tables.{module_of}
 use Rattle.request.specs.Request.{request_of}
 use Rattle.request.specs.Context.{context_of}
 use Rattle.reading.specs.Reads.{Reads}
-use Rattle.state.specs.Ready.{WasRead}
+use Rattle.access.specs.Laid.{WasRead}
 use Rattle.clearance.specs.Verdict.{Answer, refused}
 use Rattle.checking.specs.Check.{on_module, meaning_by, meaning, answer_to, check}
 

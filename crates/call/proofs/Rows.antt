@@ -16,7 +16,7 @@ use Rattle.valid.specs.Valid.{MaybeBelow, StatementValid, entries_below}
 use Rattle.walk.specs.Resolve.{function_at}
 use Rattle.walk.specs.Marks.{statement_at}
 use Rattle.sound.proofs.Walks.{module_valid}
-use Rattle.state.specs.Ready.{WasRead}
+use Rattle.access.specs.Laid.{WasRead}
 use Rattle.state.specs.declared.frame.Frame.{Frame}
 use Rattle.statement.proofs.Uses.{in_function, row-statement}
 use Rattle.call.specs.Calls.{arguments_of, Calling}

@@ -8,7 +8,7 @@ use Rattle.request.specs.Request.{Request, read_request}
 use Rattle.request.specs.Context.{write_context}
 use Rattle.walk.specs.Proper.{FineContext}
 use Rattle.memory.specs.Memory.{read, context_at, Memory}
-use Rattle.state.specs.Ready.{WasRead}
+use Rattle.access.specs.Laid.{WasRead}
 use Rattle.lines.specs.Reported.{report_in}
 use Rattle.checking.specs.Word.{said, Roomy}
 use Rattle.checking.specs.declared.words.Verdict.{Verdict}

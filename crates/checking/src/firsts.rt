@@ -1,5 +1,7 @@
 // The place of each statement's first mark in its function's stretch, by a table.
-// Stays: a loop beside `mark_total`. One walk for both is `put` into a table that the sum hands empty, with places promised only where it is long enough.
+// Stays: by number, which `mark_count` takes, and a loop beside two others. `mark_total` (shape) has no table to write to. `place_statements` (marks) counts
+// from the file's first mark and writes by the number among its items: one for both takes the stretch of a table and where its marks begin, asks that
+// their sum fits a u32, and `place_marks` cuts that stretch for each function and shows that it is within, for a loop of two lines.
 ghost use Rattle.std.specs.Prelude.{◌≤◌, length};
 ghost use Rattle.module.specs.Tables.{function_of};
 ghost use Rattle.valid.specs.There.{There};

@@ -2,6 +2,7 @@
 -- that it has all at or above.
 use Rattle.std.specs.Prelude.{ℕ, zero, suc, ◌+◌, ◌*◌, Bool, true, false, cond, not, ◌&&◌, List, [], ◌∷◌, ltb, eqb}
 use Rattle.part.specs.PartReq.{PartReq, all, exist, none, more, Subpart, gone, there, get_subpart, is_all}
+pub use Rattle.part.specs.Subparts.{or_none}
 
 -- A number; nothing (what lies outside a type); members, components or columns with the indexes from `first` on; elements.
 pub data Shape : Type 0 where
@@ -61,10 +62,6 @@ inside t (j ∷ q) = inside (member t j) q
 abbrev pub with_part : Subpart → (PartReq → Bool) → Bool
 with_part gone f = false
 with_part (there p) f = f p
-
-abbrev pub or_none : Subpart → PartReq
-or_none gone = none
-or_none (there p) = p
 
 -- whether a requirement has all at or above a path
 unfoldable pub cov : PartReq → List ℕ → Bool

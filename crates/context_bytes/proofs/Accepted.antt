@@ -5,12 +5,12 @@ use mathlib.Core.Path.{◌≡◌, refl, ◌∙◌}
 use mathlib.Core.Bool.{Bool, true, false, cond}
 use mathlib.Core.List.{List, [], ◌∷◌}
 use mathlib.Core.Option.{Option, some, none as nothing}
+use lib.ListN.{drop}
 use Rattle.part.specs.PartReq.{PartReq}
 use Rattle.context.specs.RequiredContext.{RequiredContext, return_entry}
-use Rattle.request.specs.Fields.{Read, malformed, got, ◌>>=◌, whole}
+use Rattle.request.specs.Fields.{fields, Read, malformed, got, ◌>>=◌, whole}
 use Rattle.request.specs.Part.{read_return, read_variables}
 use Rattle.request.specs.Context.{read_lists, read_context_body, is_context, context_of}
-use Rattle.request.specs.Answers.{from}
 
 -- what came before a reading that went through
 pub record Bound {A B : Type 0} (x : Read A) (f : A → List ℕ → Read B) (v : B) (gs : List ℕ) : Type 0 where
@@ -39,7 +39,7 @@ pub record Accepted (b : List ℕ) (c : RequiredContext) : Type 0 where
   pub args : List ℕ
   pub locals : List ℕ
   pub framed : is_context b ≡ true
-  pub return_is : read_return (from b 6) ≡ got retval lists
+  pub return_is : read_return (fields (drop 6 b)) ≡ got retval lists
   pub returned : c.retval ≡ return_entry retval
   pub globals_is : read_variables lists ≡ got c.globals args
   pub args_is : read_variables args ≡ got c.args locals
@@ -48,8 +48,8 @@ pub record Accepted (b : List ℕ) (c : RequiredContext) : Type 0 where
 pub accepted : {b : List ℕ} {c : RequiredContext} → context_of b ≡ some c → Accepted b c
 unfolding context_of read_context_body read_lists
 accepted {b} {c} e =
-    let t = cond-some (is_context b) (whole (read_return (from b 6) >>= read_lists)) e in
-    let r = bound (read_return (from b 6)) read_lists (whole_some (read_return (from b 6) >>= read_lists) t.1) in
+    let t = cond-some (is_context b) (whole (read_return (fields (drop 6 b)) >>= read_lists)) e in
+    let r = bound (read_return (fields (drop 6 b))) read_lists (whole_some (read_return (fields (drop 6 b)) >>= read_lists) t.1) in
     let g = bound (read_variables r.left) _ r.then in
     let a = bound (read_variables g.left) _ g.then in
     let l = bound (read_variables a.left) _ a.then in

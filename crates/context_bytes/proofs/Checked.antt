@@ -10,12 +10,12 @@ use lib.Dec.{ltb}
 use lib.ListN.{length}
 use borrow.Author.Tests.{lt-ltb, le-ltb}
 use Rattle.part.specs.PartReq.{PartReq, more}
-use Rattle.request.specs.Fields.{Read, malformed, got, ◌>>=◌}
+use Rattle.request.specs.Fields.{fields, Read, malformed, got, ◌>>=◌}
 use Rattle.request.specs.Part.{read_part, read_entries}
 use Rattle.request.specs.Request.{all_below}
-use Rattle.request.specs.Answers.{from}
 use Rattle.request.proofs.Entries.{Index, index_no_part, entries_none}
 use Rattle.std.specs.Prelude.{Some, None}
+use Rattle.std.specs.Borrow.{Bor}
 use Rattle.request.specs.declared.codes.Code.TheVariants.{All, Exist, Entries}
 use Rattle.request.specs.Codes.{CodeWasRead}
 use Rattle.request.proofs.Steps.{index_then}
@@ -37,10 +37,10 @@ stopped malformed e = refl
 stopped (got x gs) e = let z : ◌≡◌ {A = ℕ} 0 1 = cc in absurd (omega arith)
 
 -- what a call answered
-pub skip_refused : {A : Type 0} {b : List ℕ} {at : ℕ} {r : Read A} → Skips b at r None → r ≡ malformed
+pub skip_refused : {A : Type 0} {b : List ℕ} {r : Read A} → Skips b r None → r ≡ malformed
 skip_refused {r = r} was = stopped r was.is
 
-pub skip_passed : {A : Type 0} {b : List ℕ} {at next : ℕ} {r : Read A} → Skips b at r (Some next) → Passed r (from b next)
+pub skip_passed : {A : Type 0} {b : List ℕ} {c : Bor (List ℕ)} {r : Read A} → Skips b r (Some c) → Passed r (fields c.now)
 skip_passed {r = r} was = passed r was.is
 
 past-checked : (limit : ℕ) (r : Read PartReq) → past (checked limit r) ≡ past r
@@ -49,33 +49,31 @@ past-checked limit malformed = refl
 past-checked limit (got q fs) = refl
 
 -- a part, by its code
-module _ {b : List ℕ} {at d : ℕ} where
-  pub part_refused : CodeWasRead b at d None → Skips b at (read_part d (from b at)) None
+module _ {b : List ℕ} {d : ℕ} where
+  pub part_refused : CodeWasRead b d None → Skips b (read_part d (fields b)) None
   unfolding past
   part_refused was = record { is = sym (ap past was.is); placed = tt }
 
-  pub all_skipped : CodeWasRead b at d (Some All) → Skips b at (read_part d (from b at)) (Some (at + 2))
-  unfolding past
-  all_skipped was = record { is = sym (ap past was.is); placed = (omega arith, was.placed) }
-
-  pub exist_skipped : CodeWasRead b at d (Some Exist) → Skips b at (read_part d (from b at)) (Some (at + 2))
-  unfolding past
-  exist_skipped was = record { is = sym (ap past was.is); placed = (omega arith, was.placed) }
-
-  module _ {n limit : ℕ} (was : CodeWasRead b at d (Some (Entries n))) where
-    pub entries_refused : EntriesChecked b (at + 2 + 2) (d - 1) limit n None → Skips b at (read_part d (from b at)) None
+  module _ {c : Bor (List ℕ)} where
+    pub all_skipped : CodeWasRead b d (Some (All, c)) → Skips b (read_part d (fields b)) (Some c)
     unfolding past
-    entries_refused entries =
-        record { is = ap past (entries.checks 0).is ∙ past-checked (0 + limit) _ ∙ sym (ap past was.is); placed = tt }
+    all_skipped was = record { is = sym (ap past was.is); placed = omega (arith, was.placed) }
 
-    pub entries_skipped : {p : Bool × ℕ} → EntriesChecked b (at + 2 + 2) (d - 1) limit n (Some p) → Skips b at (read_part d (from b at)) (Some p.1)
+    pub exist_skipped : CodeWasRead b d (Some (Exist, c)) → Skips b (read_part d (fields b)) (Some c)
     unfolding past
-    entries_skipped entries =
-        let k = entries.checks 0 in
-        record {
-          is = ap past k.is ∙ past-checked (0 + limit) _ ∙ sym (ap past was.is);
-          placed = (omega (arith, k.placed.0), k.placed.1);
-        }
+    exist_skipped was = record { is = sym (ap past was.is); placed = omega (arith, was.placed) }
+
+    module _ {n limit : ℕ} (was : CodeWasRead b d (Some (Entries n, c))) where
+      pub entries_refused : EntriesChecked c.now (d - 1) limit n None → Skips b (read_part d (fields b)) None
+      unfolding past
+      entries_refused entries =
+          record { is = ap past (entries.checks 0).is ∙ past-checked (0 + limit) _ ∙ sym (ap past was.is); placed = tt }
+
+      pub entries_skipped : {p : Bool × Bor (List ℕ)} → EntriesChecked c.now (d - 1) limit n (Some p) → Skips b (read_part d (fields b)) (Some p.1)
+      unfolding past
+      entries_skipped entries =
+          let k = entries.checks 0 in
+          record { is = ap past k.is ∙ past-checked (0 + limit) _ ∙ sym (ap past was.is); placed = omega (arith, k.placed, was.placed) }
 
 -- entries: the test of those before, and that of those after
 unfoldable pub conj : Bool → Read Bool → Read Bool
@@ -113,49 +111,47 @@ unfolding checked conj all_below
 checked-more base i limit p malformed = refl
 checked-more base i limit p (got q hs) = rw (ltb-shift base i limit)
 
-pub record Checking (b : List ℕ) (at d limit n next low left : ℕ) (known : Bool) : Type 0 where
-  pub further : at ≤ next
-  pub inside : next ≤ length b
-  pub rest : (base : ℕ) → conj known (checked (base + limit) (read_entries (read_part d) base low left (from b next)))
-      ≡ checked (base + limit) (read_entries (read_part d) base 0 n (from b at))
+pub record Checking (b : List ℕ) (d limit n : ℕ) (c : List ℕ) (low left : ℕ) (known : Bool) : Type 0 where
+  pub further : length c ≤ length b
+  pub rest : (base : ℕ) → conj known (checked (base + limit) (read_entries (read_part d) base low left (fields c)))
+      ≡ checked (base + limit) (read_entries (read_part d) base 0 n (fields b))
 
-pub check_first : {b : List ℕ} {at : ℕ} (d limit n : ℕ) → at ≤ length b → Checking b at d limit n at 0 n true
-check_first d limit n h = record { further = omega arith; inside = h; rest = λ base. conj-true _ }
+pub check_first : (b : List ℕ) (d limit n : ℕ) → Checking b d limit n b 0 n true
+check_first b d limit n = record { further = omega arith; rest = λ base. conj-true _ }
 
-module _ {b : List ℕ} {at d limit n next low left : ℕ} {known : Bool} (so : Checking b at d limit n next low left known) where
-  pub check_stop : ((base : ℕ) → read_entries (read_part d) base low left (from b next) ≡ malformed) → EntriesChecked b at d limit n None
+pub check_done : {b : List ℕ} {d limit n low left : ℕ} {known : Bool} {c : Bor (List ℕ)} → Checking b d limit n c.now low left known → left ≡ 0
+    → EntriesChecked b d limit n (Some (known, c))
+unfolding checked conj all_below
+check_done {d = d} {limit} {low = low} {left} {known} {c} so e =
+    record {
+      checks =
+          λ base.
+          record {
+            is =
+                rw (← and-true known)
+                (sym (ap (λ x. conj known (checked (base + limit) x)) (entries_none (read_part d) base low left (fields c.now) e)) ∙ so.rest base);
+            placed = so.further;
+          };
+    }
+
+module _ {b c : List ℕ} {d limit n low left : ℕ} {known : Bool} (so : Checking b d limit n c low left known) where
+  pub check_stop : ((base : ℕ) → read_entries (read_part d) base low left (fields c) ≡ malformed) → EntriesChecked b d limit n None
   unfolding checked conj
   check_stop h = record { checks = λ base. record { is = sym (ap (λ x. conj known (checked (base + limit) x)) (h base)) ∙ so.rest base; placed = tt } }
 
-  pub check_done : left ≡ 0 → EntriesChecked b at d limit n (Some (known, next))
-  unfolding checked conj all_below
-  check_done e =
-      record {
-        checks =
-            λ base.
-            record {
-              is =
-                  rw (← and-true known)
-                  (sym (ap (λ x. conj known (checked (base + limit) x)) (entries_none (read_part d) base low left (from b next) e)) ∙ so.rest base);
-              placed = (so.further, so.inside);
-            };
-      }
-
-  module _ {i k : ℕ} (x : Index b next low left i k) where
-    pub check_no_part : Skips b (next + 2) (read_part d (from b (next + 2))) None → EntriesChecked b at d limit n None
+  module _ {e : List ℕ} {i k : ℕ} (x : Index c low left i k e) where
+    pub check_no_part : Skips e (read_part d (fields e)) None → EntriesChecked b d limit n None
     check_no_part was = check_stop (λ base. index_no_part x base d (skip_refused was))
 
-    pub check_again : {end : ℕ} {known' : Bool} → Skips b (next + 2) (read_part d (from b (next + 2))) (Some end) → known' ≡ known && ltb i limit
-        → Checking b at d limit n end (i + 1) k known'
+    pub check_again : {end : Bor (List ℕ)} {known' : Bool} → Skips e (read_part d (fields e)) (Some end) → known' ≡ known && ltb i limit
+        → Checking b d limit n end.now (i + 1) k known'
     check_again {end} {known'} was h =
         let p = skip_passed was in
-        let w = was.placed in
         record {
-          further = omega (arith, w.0, so.further);
-          inside = w.1;
+          further = omega (arith, was.placed, x.field.left, so.further);
           rest =
               λ base.
-              let y = checked (base + limit) (read_entries (read_part d) base (i + 1) k (from b end)) in
+              let y = checked (base + limit) (read_entries (read_part d) base (i + 1) k (fields end.now)) in
               ap (λ z. conj z y) h ∙ sym (conj-conj known (ltb i limit) y)
               ∙ ap (conj known) (sym (checked-more base i limit p.value _))
               ∙ sym (ap (λ z. conj known (checked (base + limit) z)) (index_then x base d p.is))

@@ -6,21 +6,21 @@ use mathlib.Core.Path.{◌≡◌, refl, ap, sym, ◌∙◌}
 use mathlib.Core.Bool.{Bool, false}
 use mathlib.Core.List.{List, []}
 use mathlib.Core.Option.{Option, some}
-use lib.ListN.{length}
+use lib.ListN.{length, drop}
 use borrow.Author.Tests.{eq-eqb}
-use Rattle.field.specs.Field.{field_at}
 use Rattle.field.specs.Limits.{max_depth}
 use Rattle.part.specs.PartReq.{PartReq, more, entries, spine}
 use Rattle.context.specs.RequiredContext.{RequiredContext, pieces, return_entry}
-use Rattle.request.specs.Fields.{Read, malformed, got, ◌>>=◌}
+use Rattle.request.specs.Fields.{fields, Read, malformed, got, ◌>>=◌}
 use Rattle.request.specs.Part.{read_part, read_entries, read_return, read_variables}
 use Rattle.request.specs.Context.{is_context}
-use Rattle.request.specs.Answers.{from, Field}
-use Rattle.request.proofs.Bytes.{from_cons, from_end}
+use Rattle.request.specs.Answers.{Field}
+use Rattle.request.proofs.Bytes.{no_field}
 use Rattle.request.proofs.Entries.{Index, index_no_part, entries_none}
 use Rattle.request.proofs.Variables.{return_end}
 use Rattle.std.specs.Prelude.{Option as Maybe, Some, None}
-use Rattle.request.specs.declared.codes.Code.TheVariants.{All, Exist}
+use Rattle.std.specs.Borrow.{Bor}
+use Rattle.request.specs.declared.codes.Code.TheVariants.{All, Exist, Entries}
 use Rattle.request.specs.Codes.{CodeWasRead}
 use Rattle.context_bytes.specs.Counted.{counted, counted_return, CountPlaced, Counts, EntriesCounted, PiecesCounted}
 use Rattle.context_bytes.proofs.Accepted.{Accepted, accepted}
@@ -43,23 +43,31 @@ unfolding counted
 untold malformed e = refl
 untold (got p gs) e = let z : ◌≡◌ {A = ℕ} 0 1 = cc in absurd (omega arith)
 
-sooner : (b : List ℕ) (at : ℕ) (a : Maybe (ℕ × ℕ)) → CountPlaced b (at + 2) a → CountPlaced b at a
-sooner b at None h = tt
-sooner b at (Some p) h = (omega (arith, h.0), h.1)
+-- the same, where the bytes begin earlier
+earlier : (b c : List ℕ) (j k : ℕ) (a : Maybe (ℕ × Bor (List ℕ))) → k + length c ≤ j + length b → CountPlaced c j a → CountPlaced b k a
+earlier b c j k None l h = tt
+earlier b c j k (Some p) l h = omega (arith, l, h)
 
 -- a part, by its code
-module _ {b : List ℕ} {at d : ℕ} where
-  pub count_malformed : CodeWasRead b at d None → Counts b (at + 2) (counted (read_part d (from b at))) None
+module _ {b : List ℕ} {d : ℕ} where
+  pub count_malformed : CodeWasRead b d None → Counts b 4 (counted (read_part d (fields b))) None
   unfolding counted
   count_malformed was = record { is = sym (ap counted was.is); placed = tt }
 
-  pub count_all : CodeWasRead b at d (Some All) → Counts b (at + 2) (counted (read_part d (from b at))) (Some (0, at + 2))
-  unfolding counted entries
-  count_all was = record { is = sym (ap counted was.is); placed = (omega arith, was.placed) }
+  module _ {c : Bor (List ℕ)} where
+    pub count_all : CodeWasRead b d (Some (All, c)) → Counts b 4 (counted (read_part d (fields b))) (Some (0, c))
+    unfolding counted entries
+    count_all was = record { is = sym (ap counted was.is); placed = omega (arith, was.placed) }
 
-  pub count_exist : CodeWasRead b at d (Some Exist) → Counts b (at + 2) (counted (read_part d (from b at))) (Some (0, at + 2))
-  unfolding counted entries
-  count_exist was = record { is = sym (ap counted was.is); placed = (omega arith, was.placed) }
+    pub count_exist : CodeWasRead b d (Some (Exist, c)) → Counts b 4 (counted (read_part d (fields b))) (Some (0, c))
+    unfolding counted entries
+    count_exist was = record { is = sym (ap counted was.is); placed = omega (arith, was.placed) }
+
+    pub count_listed : {n : ℕ} {a : Maybe (ℕ × Bor (List ℕ))} → CodeWasRead b d (Some (Entries n, c)) → EntriesCounted c.now (d - 1) n a
+        → Counts b 4 (counted (read_part d (fields b))) a
+    count_listed {a = a} was entries' =
+        let k = entries'.counts 0 in
+        record { is = k.is ∙ sym (ap counted was.is); placed = earlier b c.now 2 4 a (omega (arith, was.placed)) k.placed }
 
 -- entries
 unfoldable pub plus : ℕ → Read ℕ → Read ℕ
@@ -81,62 +89,58 @@ unfolding counted plus entries
 counted_more j p malformed = refl
 counted_more j p (got q hs) = let z : 1 + (entries p + entries q) ≡ (1 + entries p) + entries q = omega arith in ap (λ x. got x hs) z
 
-pub record Counting (b : List ℕ) (at d n next low left sum : ℕ) : Type 0 where
-  pub further : 4 * sum + at ≤ next
-  pub inside : next ≤ length b
-  pub rest : (base : ℕ) → plus sum (counted (read_entries (read_part d) base low left (from b next))) ≡ counted (read_entries (read_part d) base 0 n (from b at))
+pub record Counting (b : List ℕ) (d n : ℕ) (c : List ℕ) (low left sum : ℕ) : Type 0 where
+  pub further : 4 * sum + length c ≤ length b
+  pub rest : (base : ℕ) → plus sum (counted (read_entries (read_part d) base low left (fields c))) ≡ counted (read_entries (read_part d) base 0 n (fields b))
 
-pub counting_first : {b : List ℕ} {at : ℕ} (d n : ℕ) → at ≤ length b → Counting b at d n at 0 n 0
-counting_first d n h = record { further = omega arith; inside = h; rest = λ base. plus_none _ }
+pub counting_first : (b : List ℕ) (d n : ℕ) → Counting b d n b 0 n 0
+counting_first b d n = record { further = omega arith; rest = λ base. plus_none _ }
 
-module _ {b : List ℕ} {at d n next low left sum : ℕ} (so : Counting b at d n next low left sum) where
-  pub counting_stop : ((base : ℕ) → read_entries (read_part d) base low left (from b next) ≡ malformed) → EntriesCounted b at d n None
+pub counting_done : {b : List ℕ} {d n low left sum : ℕ} {c : Bor (List ℕ)} → Counting b d n c.now low left sum → left ≡ 0 → EntriesCounted b d n (Some (sum, c))
+unfolding counted plus entries
+counting_done {d = d} {low = low} {left} {sum} {c} so e =
+    let z : sum ≡ sum + 0 = omega arith in
+    record {
+      counts =
+          λ base.
+          record {
+            is =
+                ap (λ x. got x (fields c.now)) z
+                ∙ (sym (ap (λ x. plus sum (counted x)) (entries_none (read_part d) base low left (fields c.now) e)) ∙ so.rest base);
+            placed = omega (arith, so.further);
+          };
+    }
+
+module _ {b c : List ℕ} {d n low left sum : ℕ} (so : Counting b d n c low left sum) where
+  pub counting_stop : ((base : ℕ) → read_entries (read_part d) base low left (fields c) ≡ malformed) → EntriesCounted b d n None
   unfolding counted plus
   counting_stop h = record { counts = λ base. record { is = sym (ap (λ x. plus sum (counted x)) (h base)) ∙ so.rest base; placed = tt } }
 
-  pub counting_done : left ≡ 0 → EntriesCounted b at d n (Some (sum, next))
-  unfolding counted plus entries
-  counting_done e =
-      let z : sum ≡ sum + 0 = omega arith in
-      record {
-        counts =
-            λ base.
-            record {
-              is =
-                  ap (λ x. got x (from b next)) z
-                  ∙ (sym (ap (λ x. plus sum (counted x)) (entries_none (read_part d) base low left (from b next) e)) ∙ so.rest base);
-              placed = (so.further, so.inside);
-            };
-      }
+  module _ {e : List ℕ} {i k : ℕ} (x : Index c low left i k e) where
+    pub counting_no_part : Counts e 4 (counted (read_part d (fields e))) None → EntriesCounted b d n None
+    counting_no_part was = counting_stop (λ base. index_no_part x base d (untold (read_part d (fields e)) (sym was.is)))
 
-  module _ {i k : ℕ} (x : Index b next low left i k) where
-    pub counting_no_part : Counts b (next + 2 + 2) (counted (read_part d (from b (next + 2)))) None → EntriesCounted b at d n None
-    counting_no_part was = counting_stop (λ base. index_no_part x base d (untold (read_part d (from b (next + 2))) (sym was.is)))
-
-    module _ {m end : ℕ} (was : Counts b (next + 2 + 2) (counted (read_part d (from b (next + 2)))) (Some (m, end))) where
-      pub counting_again : Counting b at d n end (i + 1) k (sum + 1 + m)
-      counting_again =
-          let w = was.placed in
-          let p = tallied (read_part d (from b (next + 2))) (sym was.is) in
-          let many : entries p.value ≡ m = p.many in
-          let z : sum + 1 + m ≡ sum + (1 + entries p.value) = rw many (omega arith) in
-          record {
-            further = omega (arith, w.0, so.further);
-            inside = w.1;
-            rest =
-                λ base.
-                let y = read_entries (read_part d) base (i + 1) k (from b end) in
-                ap (λ s. plus s (counted y)) z
-                ∙ sym (plus-plus sum (1 + entries p.value) (counted y))
-                ∙ ap (plus sum) (sym (counted_more (base + i) p.value y))
-                ∙ sym (ap (λ s. plus sum (counted s)) (index_then x base d p.is))
-                ∙ so.rest base;
-          }
+    pub counting_again : {m : ℕ} {end : Bor (List ℕ)} → Counts e 4 (counted (read_part d (fields e))) (Some (m, end)) → Counting b d n end.now (i + 1) k (sum + 1 + m)
+    counting_again {m} {end} was =
+        let p = tallied (read_part d (fields e)) (sym was.is) in
+        let many : entries p.value ≡ m = p.many in
+        let z : sum + 1 + m ≡ sum + (1 + entries p.value) = rw many (omega arith) in
+        record {
+          further = omega (arith, was.placed, x.field.left, so.further);
+          rest =
+              λ base.
+              let y = read_entries (read_part d) base (i + 1) k (fields end.now) in
+              ap (λ s. plus s (counted y)) z
+              ∙ sym (plus-plus sum (1 + entries p.value) (counted y))
+              ∙ ap (plus sum) (sym (counted_more (base + i) p.value y))
+              ∙ sym (ap (λ s. plus sum (counted s)) (index_then x base d p.is))
+              ∙ so.rest base;
+        }
 
 -- the returned value
-pub return_ends : (b : List ℕ) (at : ℕ) → length b < at + 2 → Counts b (at - 2) (counted_return (read_return (from b at))) None
+pub return_ends : (b : List ℕ) → length b < 2 → Counts b 0 (counted_return (read_return (fields b))) None
 unfolding counted_return
-return_ends b at h = record { is = sym (ap counted_return (return_end b at h)); placed = tt }
+return_ends b h = record { is = sym (ap counted_return (return_end b h)); placed = tt }
 
 some-part : (r : Read PartReq) {n : ℕ} {fs : List ℕ} → counted r ≡ got n fs → got (n + 1) fs ≡ counted_return (r >>= λ p gs. got (some p) gs)
 unfolding counted counted_return return_entry entries
@@ -152,41 +156,32 @@ unfolding counted counted_return
 no_part malformed e = refl
 no_part (got p gs) e = let z : ◌≡◌ {A = ℕ} 0 1 = cc in absurd (omega arith)
 
-module _ {b : List ℕ} {at i : ℕ} (f : Field b at i) where
-  pub return-nothing : i ≡ 3 → Counts b (at - 2) (counted_return (read_return (from b at))) (Some (0, at + 2))
-  unfolding read_return counted_return return_entry entries
-  return-nothing e =
+pub return-nothing : {b : List ℕ} {i : ℕ} {c : Bor (List ℕ)} → Field b i c.now → i ≡ 3 → Counts b 0 (counted_return (read_return (fields b))) (Some (0, c))
+unfolding read_return counted_return return_entry entries
+return-nothing {i = i} f e = record { is = rw (f.is, eq-eqb i 3 e); placed = omega (arith, f.left) }
+
+module _ {b c : List ℕ} {i : ℕ} (f : Field b i c) (h : i ≡ 3 → ⊥) where
+  pub return_malformed : Counts b 4 (counted (read_part max_depth (fields b))) None → Counts b 0 (counted_return (read_return (fields b))) None
+  return_malformed was =
+      record { is = no_part (read_part max_depth (fields b)) (sym was.is) ∙ sym (ap counted_return (return_is f h)); placed = tt }
+
+  pub return_counted : {n : ℕ} {x : Bor (List ℕ)} → Counts b 4 (counted (read_part max_depth (fields b))) (Some (n, x))
+      → Counts b 0 (counted_return (read_return (fields b))) (Some (n + 1, x))
+  return_counted was =
       record {
-        is = rw (from_cons b at f.inside, eq-eqb (field_at b at) 3 (sym f.is ∙ e));
-        placed = (omega arith, f.inside);
+        is = some-part (read_part max_depth (fields b)) (sym was.is) ∙ sym (ap counted_return (return_is f h));
+        placed = omega (arith, was.placed);
       }
 
-  module _ (h : i ≡ 3 → ⊥) where
-    pub return_malformed : Counts b (at + 2) (counted (read_part max_depth (from b at))) None → Counts b (at - 2) (counted_return (read_return (from b at))) None
-    return_malformed was =
-        record { is = no_part (read_part max_depth (from b at)) (sym was.is) ∙ sym (ap counted_return (return_is f h)); placed = tt }
-
-    module _ {n next : ℕ} (was : Counts b (at + 2) (counted (read_part max_depth (from b at))) (Some (n, next))) where
-      pub return_fits : 4 * n + at + 2 ≤ length b
-      return_fits = let w = was.placed in omega (arith, w.0, w.1)
-
-      pub return_counted : 2 ≤ at → Counts b (at - 2) (counted_return (read_return (from b at))) (Some (n + 1, next))
-      return_counted l =
-          let w = was.placed in
-          record {
-            is = some-part (read_part max_depth (from b at)) (sym was.is) ∙ sym (ap counted_return (return_is f h));
-            placed = (omega (arith, w.0), w.1);
-          }
-
 -- a list of variables
-pub list_ends : (b : List ℕ) (at : ℕ) → length b < at + 2 → Counts b at (counted (read_variables (from b at))) None
+pub list_ends : (b : List ℕ) → length b < 2 → Counts b 2 (counted (read_variables (fields b))) None
 unfolding read_variables counted
-list_ends b at h = record { is = rw (from_end b at h); placed = tt }
+list_ends b h = record { is = rw (no_field b h); placed = tt }
 
-pub list_counted : {b : List ℕ} {at n : ℕ} {a : Maybe (ℕ × ℕ)} → Field b at n → EntriesCounted b (at + 2) max_depth n a → Counts b at (counted (read_variables (from b at))) a
-list_counted {b} {at} {n} {a} f was =
+pub list_counted : {b c : List ℕ} {n : ℕ} {a : Maybe (ℕ × Bor (List ℕ))} → Field b n c → EntriesCounted c max_depth n a → Counts b 2 (counted (read_variables (fields b))) a
+list_counted {b} {c} {n} {a} f was =
     let k = was.counts spine in
-    record { is = k.is ∙ sym (ap counted (variables_are f)); placed = sooner b at a k.placed }
+    record { is = k.is ∙ sym (ap counted (variables_are f)); placed = earlier b c 2 2 a (omega (arith, f.left)) k.placed }
 
 -- the whole
 module _ (b : List ℕ) where
@@ -203,7 +198,7 @@ module _ (b : List ℕ) where
   list_tallied malformed e f = let z : ◌≡◌ {A = ℕ} 0 1 = cc in absurd (omega arith)
   list_tallied (got p hs) e f = (cc, cc)
 
-  pub no_return : Counts b 4 (counted_return (read_return (from b 6))) None → PiecesCounted b 0
+  pub no_return : Counts (drop 6 b) 0 (counted_return (read_return (fields (drop 6 b)))) None → PiecesCounted b 0
   unfolding counted_return
   no_return first =
       record {
@@ -215,14 +210,14 @@ module _ (b : List ℕ) where
             absurd (omega arith);
       }
 
-  module _ {r x : ℕ} (first : Counts b 4 (counted_return (read_return (from b 6))) (Some (r, x))) where
-    lists_at : {c : RequiredContext} (k : Accepted b c) → (r ≡ entries c.retval) × (k.lists ≡ from b x)
-    lists_at k = let t = return_tallied (read_return (from b 6)) k.return_is (sym first.is) in (rw k.returned t.0, t.1)
+  module _ {r : ℕ} {x : Bor (List ℕ)} (first : Counts (drop 6 b) 0 (counted_return (read_return (fields (drop 6 b)))) (Some (r, x))) where
+    lists_at : {c : RequiredContext} (k : Accepted b c) → (r ≡ entries c.retval) × (k.lists ≡ fields x.now)
+    lists_at k = let t = return_tallied (read_return (fields (drop 6 b))) k.return_is (sym first.is) in (rw k.returned t.0, t.1)
 
-    globals_are : {c : RequiredContext} (k : Accepted b c) → read_variables (from b x) ≡ got c.globals k.args
+    globals_are : {c : RequiredContext} (k : Accepted b c) → read_variables (fields x.now) ≡ got c.globals k.args
     globals_are k = sym (ap read_variables (lists_at k).1) ∙ k.globals_is
 
-    pub no_globals : Counts b x (counted (read_variables (from b x))) None → PiecesCounted b 0
+    pub no_globals : Counts x.now 2 (counted (read_variables (fields x.now))) None → PiecesCounted b 0
     unfolding counted
     no_globals second =
         record {
@@ -234,14 +229,14 @@ module _ (b : List ℕ) where
               absurd (omega arith);
         }
 
-    module _ {m y : ℕ} (second : Counts b x (counted (read_variables (from b x))) (Some (m, y))) where
-      args_at : {c : RequiredContext} (k : Accepted b c) → (m ≡ entries c.globals) × (k.args ≡ from b y)
-      args_at k = list_tallied (read_variables (from b x)) (globals_are k) (sym second.is)
+    module _ {m : ℕ} {y : Bor (List ℕ)} (second : Counts x.now 2 (counted (read_variables (fields x.now))) (Some (m, y))) where
+      args_at : {c : RequiredContext} (k : Accepted b c) → (m ≡ entries c.globals) × (k.args ≡ fields y.now)
+      args_at k = list_tallied (read_variables (fields x.now)) (globals_are k) (sym second.is)
 
-      args_are : {c : RequiredContext} (k : Accepted b c) → read_variables (from b y) ≡ got c.args k.locals
+      args_are : {c : RequiredContext} (k : Accepted b c) → read_variables (fields y.now) ≡ got c.args k.locals
       args_are k = sym (ap read_variables (args_at k).1) ∙ k.args_is
 
-      pub no_args : Counts b y (counted (read_variables (from b y))) None → PiecesCounted b 0
+      pub no_args : Counts y.now 2 (counted (read_variables (fields y.now))) None → PiecesCounted b 0
       unfolding counted
       no_args third =
           record {
@@ -253,14 +248,14 @@ module _ (b : List ℕ) where
                 absurd (omega arith);
           }
 
-      module _ {n z : ℕ} (third : Counts b y (counted (read_variables (from b y))) (Some (n, z))) where
-        locals-at : {c : RequiredContext} (k : Accepted b c) → (n ≡ entries c.args) × (k.locals ≡ from b z)
-        locals-at k = list_tallied (read_variables (from b y)) (args_are k) (sym third.is)
+      module _ {n : ℕ} {z : Bor (List ℕ)} (third : Counts y.now 2 (counted (read_variables (fields y.now))) (Some (n, z))) where
+        locals-at : {c : RequiredContext} (k : Accepted b c) → (n ≡ entries c.args) × (k.locals ≡ fields z.now)
+        locals-at k = list_tallied (read_variables (fields y.now)) (args_are k) (sym third.is)
 
-        locals_are : {c : RequiredContext} (k : Accepted b c) → read_variables (from b z) ≡ got c.locals []
+        locals_are : {c : RequiredContext} (k : Accepted b c) → read_variables (fields z.now) ≡ got c.locals []
         locals_are k = sym (ap read_variables (locals-at k).1) ∙ k.locals_is
 
-        pub no_locals : Counts b z (counted (read_variables (from b z))) None → PiecesCounted b 0
+        pub no_locals : Counts z.now 2 (counted (read_variables (fields z.now))) None → PiecesCounted b 0
         unfolding counted
         no_locals fourth =
             record {
@@ -272,7 +267,7 @@ module _ (b : List ℕ) where
                   absurd (omega arith);
             }
 
-        module _ {o w : ℕ} (fourth : Counts b z (counted (read_variables (from b z))) (Some (o, w))) where
+        module _ {o : ℕ} {w : Bor (List ℕ)} (fourth : Counts z.now 2 (counted (read_variables (fields z.now))) (Some (o, w))) where
           pub pieces_are : PiecesCounted b (m + o + n + r)
           unfolding pieces
           pieces_are =
@@ -280,6 +275,6 @@ module _ (b : List ℕ) where
                 is =
                     λ c k.
                     let s = accepted k in
-                    let t = list_tallied (read_variables (from b z)) (locals_are s) (sym fourth.is) in
+                    let t = list_tallied (read_variables (fields z.now)) (locals_are s) (sym fourth.is) in
                     rw ((lists_at s).0, (args_at s).0, (locals-at s).0, t.0);
               }

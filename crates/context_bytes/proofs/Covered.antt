@@ -1,6 +1,6 @@
 -- Comparing a need with a part or a list in its bytes: one law for each way through the code. The loop's invariant says that what is left of both
 -- gives the whole.
-use Prim.Native.Nat.{ℕ, ◌+◌, ◌≤◌, ◌<◌}
+use Prim.Native.Nat.{ℕ, ◌+◌, ◌-◌, ◌≤◌, ◌<◌}
 use native.Mathlib.Omega.{arith}
 use native.Mathlib.Decide.{dec_lt}
 use mathlib.Core.Path.{◌≡◌, ap, sym, ◌∙◌}
@@ -15,15 +15,17 @@ use Rattle.part.specs.PartReq.{PartReq, none, contains, is_exist, spine}
 use Rattle.part.specs.Store.{top, part, Good, Seen}
 use Rattle.part.proofs.Pieces.{part-0, part-1, part-2, part-cell, not_exist}
 use Rattle.part.proofs.Equations.{contains-exist, contains-all, contains-none, all_contains, exist-contains, none-contains}
-use Rattle.request.specs.Fields.{malformed, got}
+use Rattle.request.specs.Fields.{fields, malformed, got}
 use Rattle.request.specs.Part.{read_part, read_entries, read_variables}
-use Rattle.request.specs.Answers.{from, Field}
-use Rattle.request.proofs.Bytes.{from_end}
+use Rattle.request.specs.Answers.{Field}
+use Rattle.request.proofs.Bytes.{no_field}
 use Rattle.request.proofs.Entries.{Index, index_next, entries_none}
 use Rattle.std.specs.Prelude.{Option as Maybe, Some, None}
-use Rattle.request.specs.declared.codes.Code.TheVariants.{All, Exist}
+use Rattle.std.specs.Borrow.{Bor}
+use Rattle.request.specs.declared.codes.Code.TheVariants.{All, Exist, Entries}
 use Rattle.request.specs.Codes.{CodeWasRead}
-use Rattle.context_bytes.specs.Covered.{covers, each, asks, AsksPieces, CoverPlaced, Covers}
+use Rattle.context_bytes.specs.Checked.{SkipPlaced}
+use Rattle.context_bytes.specs.Covered.{covers, each, asks, AsksPieces, Covers}
 use Rattle.context_bytes.proofs.Lists.{variables_are}
 use Rattle.context_bytes.proofs.Asking.{asks-before, asks_after, asks_at, covers-other, covers-not, covers-rest}
 
@@ -73,83 +75,86 @@ is-exist s n =
           ]
     ]
 
-sooner : (b : List ℕ) (at at' : ℕ) (a : Maybe ℕ) → at ≤ at' → CoverPlaced b at' a → CoverPlaced b at a
-sooner b at at' None h p = tt
-sooner b at at' (Some next) h p = (omega (arith, p.0), p.1)
+-- the same, where the bytes begin earlier
+earlier : (b c : List ℕ) (a : Maybe (Bor (List ℕ))) → length c ≤ length b → SkipPlaced c a → SkipPlaced b a
+earlier b c None l h = tt
+earlier b c (Some p) l h = omega (arith, l, h)
 
 -- a part, by its code
-module _ (s : List ℕ) (n : ℕ) {b : List ℕ} {at d : ℕ} where
-  pub part_no : CodeWasRead b at d None → Covers b at (covers (part s n) (read_part d (from b at))) None
+module _ (s : List ℕ) (n : ℕ) {b : List ℕ} {d : ℕ} where
+  pub part_no : CodeWasRead b d None → Covers b (covers (part s n) (read_part d (fields b))) None
   unfolding covers
   part_no was = record { is = sym (ap (covers (part s n)) was.is); placed = tt }
 
-  pub part_all : CodeWasRead b at d (Some All) → Covers b at (covers (part s n) (read_part d (from b at))) (Some (at + 2))
-  unfolding covers
-  part_all was = record { is = sym (ap (covers (part s n)) was.is ∙ rw (all_contains (part s n))); placed = (omega arith, was.placed) }
-
-  module _ (was : CodeWasRead b at d (Some Exist)) where
-    exist_covers : covers (part s n) (read_part d (from b at)) ≡ cond (eqb n 1) (some (from b (at + 2))) nothing
+  module _ {c : Bor (List ℕ)} where
+    pub part_all : CodeWasRead b d (Some (All, c)) → Covers b (covers (part s n) (read_part d (fields b))) (Some c)
     unfolding covers
-    exist_covers = ap (covers (part s n)) was.is ∙ rw (exist-contains (part s n), is-exist s n)
+    part_all was = record { is = sym (ap (covers (part s n)) was.is ∙ rw (all_contains (part s n))); placed = omega (arith, was.placed) }
 
-    pub part_exist : n ≡ 1 → Covers b at (covers (part s n) (read_part d (from b at))) (Some (at + 2))
-    part_exist e = record { is = sym (exist_covers ∙ rw (eq-eqb n 1 e)); placed = (omega arith, was.placed) }
+    exist_covers : CodeWasRead b d (Some (Exist, c)) → covers (part s n) (read_part d (fields b)) ≡ cond (eqb n 1) (some (fields c.now)) nothing
+    unfolding covers
+    exist_covers was = ap (covers (part s n)) was.is ∙ rw (exist-contains (part s n), is-exist s n)
 
-    pub part_more : (n ≡ 1 → ⊥) → Covers b at (covers (part s n) (read_part d (from b at))) None
-    part_more h = record { is = sym (exist_covers ∙ rw (ne_eqb n 1 h)); placed = tt }
+    pub part_exist : CodeWasRead b d (Some (Exist, c)) → n ≡ 1 → Covers b (covers (part s n) (read_part d (fields b))) (Some c)
+    part_exist was e = record { is = sym (exist_covers was ∙ rw (eq-eqb n 1 e)); placed = omega (arith, was.placed) }
+
+    pub part_more : CodeWasRead b d (Some (Exist, c)) → (n ≡ 1 → ⊥) → Covers b (covers (part s n) (read_part d (fields b))) None
+    part_more was h = record { is = sym (exist_covers was ∙ rw (ne_eqb n 1 h)); placed = tt }
+
+    pub part_listed : {k : ℕ} {a : Maybe (Bor (List ℕ))} → CodeWasRead b d (Some (Entries k, c))
+        → Covers c.now (covers (part s n) (read_entries (read_part (d - 1)) 0 0 k (fields c.now))) a → Covers b (covers (part s n) (read_part d (fields b))) a
+    part_listed {a = a} was entries =
+        record { is = entries.is ∙ sym (ap (covers (part s n)) was.is); placed = earlier b c.now a (omega (arith, was.placed)) entries.placed }
 
 -- entries
-pub record Covering (s b : List ℕ) (n at d base k next low left m : ℕ) : Type 0 where
+pub record Covering (s b : List ℕ) (n d base k : ℕ) (c : List ℕ) (low left m : ℕ) : Type 0 where
   pub piece : m < top s
-  pub further : at ≤ next
-  pub inside : next ≤ length b
-  pub rest : covers (part s m) (read_entries (read_part d) base low left (from b next)) ≡ covers (part s n) (read_entries (read_part d) base 0 k (from b at))
+  pub further : length c ≤ length b
+  pub rest : covers (part s m) (read_entries (read_part d) base low left (fields c)) ≡ covers (part s n) (read_entries (read_part d) base 0 k (fields b))
 
-module _ {s b : List ℕ} {n at d base k next low left m : ℕ} (so : Covering s b n at d base k next low left m) where
+module _ {s b c : List ℕ} {n d base k low left m : ℕ} (so : Covering s b n d base k c low left m) where
   abbrev total : Option (List ℕ)
-  total = covers (part s n) (read_entries (read_part d) base 0 k (from b at))
+  total = covers (part s n) (read_entries (read_part d) base 0 k (fields b))
 
-  none_left : covers (part s m) (read_entries (read_part d) base low left (from b next)) ≡ nothing → Covers b at total None
+  none_left : covers (part s m) (read_entries (read_part d) base low left (fields c)) ≡ nothing → Covers b total None
   none_left e = record { is = sym e ∙ so.rest; placed = tt }
 
-  pub cover_stop : read_entries (read_part d) base low left (from b next) ≡ malformed → Covers b at total None
+  pub cover_stop : read_entries (read_part d) base low left (fields c) ≡ malformed → Covers b total None
   unfolding covers
   cover_stop e = none_left (rw e)
 
-  module _ {i j : ℕ} (x : Index b next low left i j) where
-    pub cover_other : AsksPieces s m (base + i) None → Covers b at total None
+  module _ {e : List ℕ} {i j : ℕ} (x : Index c low left i j e) where
+    pub cover_other : AsksPieces s m (base + i) None → Covers b total None
     cover_other was =
         none_left
         (ap (covers (part s m)) (index_next x base d)
-        ∙ covers-other (part s m) (base + i) (read_part d (from b (next + 2))) (read_part d) base (i + 1) j (sym was.is))
+        ∙ covers-other (part s m) (base + i) (read_part d (fields e)) (read_part d) base (i + 1) j (sym was.is))
 
-    module _ {c r : ℕ} (was : AsksPieces s m (base + i) (Some (c, r))) where
-      pub cover_not : Covers b (next + 2) (covers (part s c) (read_part d (from b (next + 2)))) None → Covers b at total None
+    module _ {q r : ℕ} (was : AsksPieces s m (base + i) (Some (q, r))) where
+      pub cover_not : Covers e (covers (part s q) (read_part d (fields e))) None → Covers b total None
       cover_not part-was =
           none_left
           (ap (covers (part s m)) (index_next x base d)
-          ∙ covers-not (part s m) (base + i) (read_part d (from b (next + 2))) (read_part d) base (i + 1) j (sym was.is) (sym part-was.is))
+          ∙ covers-not (part s m) (base + i) (read_part d (fields e)) (read_part d) base (i + 1) j (sym was.is) (sym part-was.is))
 
-      pub cover_again : {end : ℕ} → Covers b (next + 2) (covers (part s c) (read_part d (from b (next + 2)))) (Some end)
-          → Covering s b n at d base k end (i + 1) j r
+      pub cover_again : {end : Bor (List ℕ)} → Covers e (covers (part s q) (read_part d (fields e))) (Some end)
+          → Covering s b n d base k end.now (i + 1) j r
       cover_again part-was =
-          let w = part-was.placed in
           record {
             piece = was.placed.1;
-            further = omega (arith, w.0, so.further);
-            inside = w.1;
+            further = omega (arith, part-was.placed, x.field.left, so.further);
             rest =
                 sym
                 (ap (covers (part s m)) (index_next x base d)
-                ∙ covers-rest (part s m) (base + i) (read_part d (from b (next + 2))) (read_part d) base (i + 1) j (sym was.is) (sym part-was.is))
+                ∙ covers-rest (part s m) (base + i) (read_part d (fields e)) (read_part d) base (i + 1) j (sym was.is) (sym part-was.is))
                 ∙ so.rest;
           }
 
   module _ (done : left ≡ 0) where
-    at_end : covers (part s m) (got none (from b next)) ≡ total
-    at_end = sym (ap (covers (part s m)) (entries_none (read_part d) base low left (from b next) done)) ∙ so.rest
+    at_end : covers (part s m) (got none (fields c)) ≡ total
+    at_end = sym (ap (covers (part s m)) (entries_none (read_part d) base low left (fields c) done)) ∙ so.rest
 
-    pub cover_all : m ≡ 0 → Covers b at total None
+    pub cover_all : m ≡ 0 → Covers b total None
     unfolding covers
     cover_all e = record { is = sym (rw (e, part-0 s, contains-all none)) ∙ at_end; placed = tt }
 
@@ -167,20 +172,21 @@ module _ {s b : List ℕ} {n at d base k next low left m : ℕ} (so : Covering s
               rw (part-cell s m h sound.child_low sound.rest_low, le-ltb m 3 (omega arith)) (none-contains _ _ _)
         ]
 
-    pub cover_more : Good s → (m ≡ 0 → ⊥) → 3 ≤ m → Covers b at total None
+    pub cover_more : Good s → (m ≡ 0 → ⊥) → 3 ≤ m → Covers b total None
     unfolding covers
     cover_more g z h = record { is = sym (rw (none_has g z, le-ltb m 3 h)) ∙ at_end; placed = tt }
 
-    pub cover_done : Good s → (m ≡ 0 → ⊥) → m < 3 → Covers b at total (Some next)
-    unfolding covers
-    cover_done g z h = record { is = sym (rw (none_has g z, lt-ltb m 3 h)) ∙ at_end; placed = (so.further, so.inside) }
+pub cover_done : {s b : List ℕ} {n d base k low left m : ℕ} {c : Bor (List ℕ)} (so : Covering s b n d base k c.now low left m) → left ≡ 0 → Good s → (m ≡ 0 → ⊥) → m < 3
+    → Covers b (covers (part s n) (read_entries (read_part d) base 0 k (fields b))) (Some c)
+unfolding covers
+cover_done {m = m} so done g z h = record { is = sym (rw (none_has so done g z, lt-ltb m 3 h)) ∙ at_end so done; placed = so.further }
 
 -- a list of variables
-pub list_short : (q : PartReq) (b : List ℕ) (at : ℕ) → length b < at + 2 → Covers b at (covers q (read_variables (from b at))) None
+pub list_short : (q : PartReq) (b : List ℕ) → length b < 2 → Covers b (covers q (read_variables (fields b))) None
 unfolding read_variables covers
-list_short q b at h = record { is = rw (from_end b at h); placed = tt }
+list_short q b h = record { is = rw (no_field b h); placed = tt }
 
-pub list_covered : (q : PartReq) {b : List ℕ} {at n : ℕ} {a : Maybe ℕ} → Field b at n
-    → Covers b (at + 2) (covers q (read_entries (read_part max_depth) spine 0 n (from b (at + 2)))) a → Covers b at (covers q (read_variables (from b at))) a
-list_covered q {b} {at} {n} {a} f was =
-    record { is = was.is ∙ sym (ap (covers q) (variables_are f)); placed = sooner b at (at + 2) a (omega arith) was.placed }
+pub list_covered : (q : PartReq) {b c : List ℕ} {n : ℕ} {a : Maybe (Bor (List ℕ))} → Field b n c
+    → Covers c (covers q (read_entries (read_part max_depth) spine 0 n (fields c))) a → Covers b (covers q (read_variables (fields b))) a
+list_covered q {b} {c} {n} {a} f was =
+    record { is = was.is ∙ sym (ap (covers q) (variables_are f)); placed = earlier b c a (omega (arith, f.left)) was.placed }

@@ -4,24 +4,25 @@ use native.Mathlib.Omega.{arith}
 use mathlib.Core.Path.{◌≡◌, refl, ap, sym, ◌∙◌}
 use mathlib.Core.Bool.{Bool, true, false}
 use mathlib.Core.List.{List}
-use lib.ListN.{length}
+use lib.ListN.{length, drop}
 use borrow.Author.Tests.{lt-ltb, le-ltb}
 use Rattle.field.specs.Limits.{max_depth}
 use Rattle.part.specs.PartReq.{PartReq, all, exist, none, more, is_all, is_exist, gone, there, get_subpart, spine}
 use Rattle.context.specs.RequiredContext.{RequiredContext, variable}
-use Rattle.request.specs.Fields.{Read, malformed, got}
+use Rattle.request.specs.Fields.{fields, Read, malformed, got}
 use Rattle.request.specs.Part.{read_part, read_entries, read_return, read_variables}
 use Rattle.request.specs.Context.{is_context}
-use Rattle.request.specs.Answers.{from, Field}
-use Rattle.request.proofs.Bytes.{from_end}
+use Rattle.request.specs.Answers.{Field}
+use Rattle.request.proofs.Bytes.{no_field}
 use Rattle.request.proofs.Entries.{Index, index_next, entries_none}
 use Rattle.std.specs.Prelude.{Option as Maybe, Some, None}
-use Rattle.std.specs.Option.{option_eq}
+use Rattle.std.specs.Option.{unwrap_or}
+use Rattle.std.specs.Borrow.{Bor}
 use Rattle.request.specs.declared.codes.Code.{Code}
 use Rattle.request.specs.declared.codes.Code.TheVariants.{All, Exist, Entries}
 use Rattle.request.specs.Codes.{CodeWasRead, by_answer}
 use Rattle.context_bytes.specs.Checked.{checked, Skips, Checks}
-use Rattle.context_bytes.specs.Found.{value_of, part_at, Readable, SubpartAt, EntryFound, VariableFound, list_at, ListReadable, ListAt, ArgsAt}
+use Rattle.context_bytes.specs.Found.{value_of, part_in, Readable, SubpartIn, EntryFound, VariableFound, list_in, ListReadable, ListIn, ArgsIn, ArgsAfter}
 use Rattle.context_bytes.proofs.Accepted.{Accepted, accepted, bound}
 use Rattle.context_bytes.proofs.Asking.{read_list}
 use Rattle.context_bytes.proofs.Checked.{skip_refused, skip_passed}
@@ -38,14 +39,13 @@ unfolding value_of
 left_behind malformed h = absurd (h refl)
 left_behind (got p fs) h = (fs, refl)
 
-pub readable : {b : List ℕ} {at d : ℕ} {p : PartReq} {fs : List ℕ} → at ≤ length b → read_part d (from b at) ≡ got p fs → Readable b at d × (part_at b at d ≡ p)
-readable {b} {at} {d} {p} {fs} h e =
-    (record { inside = h; is = λ m. let z : ◌≡◌ {A = ℕ} 0 1 = cc in absurd (omega arith) }, value_is e)
+pub readable : {b : List ℕ} {d : ℕ} {p : PartReq} {fs : List ℕ} → read_part d (fields b) ≡ got p fs → Readable b d × (part_in b d ≡ p)
+readable {b} {d} {p} {fs} e = (record { is = λ m. let z : ◌≡◌ {A = ℕ} 0 1 = cc in absurd (omega arith) }, value_is e)
 
-pub list_there : {b : List ℕ} {at : ℕ} {p : PartReq} → ListAt b at p → ListReadable b at × (list_at b at ≡ p)
-list_there {b} {at} l =
+pub list_there : {b : List ℕ} {p : PartReq} → ListIn b p → ListReadable b × (list_in b ≡ p)
+list_there {b} l =
     let e = l.is in
-    (record { inside = l.inside; is = λ m. let z : ◌≡◌ {A = ℕ} 0 1 = cc in absurd (omega arith) }, value_is l.is)
+    (record { is = λ m. let z : ◌≡◌ {A = ℕ} 0 1 = cc in absurd (omega arith) }, value_is l.is)
 
 -- `get_subpart` at the first entry
 module _ (i j : ℕ) (p r : PartReq) where
@@ -65,31 +65,30 @@ module _ (i j : ℕ) (p r : PartReq) where
       simp (le-ltb j i h, le-ltb i j l)
 
 -- what is left to look at
-record Later (b : List ℕ) (d i base next low left : ℕ) (p : PartReq) (fs : List ℕ) : Type 0 where
+record Later (c : List ℕ) (d i base low left : ℕ) (p : PartReq) (fs : List ℕ) : Type 0 where
   list : PartReq
-  is : read_entries (read_part d) base low left (from b next) ≡ got list fs
+  is : read_entries (read_part d) base low left (fields c) ≡ got list fs
   same : get_subpart p (base + i) ≡ get_subpart list (base + i)
 
-pub record Finding (b : List ℕ) (at d n i next low left : ℕ) : Type 0 where
-  pub inside : next ≤ length b
-  later : (base : ℕ) (p : PartReq) (fs : List ℕ) → read_entries (read_part d) base 0 n (from b at) ≡ got p fs → Later b d i base next low left p fs
+pub record Finding (b : List ℕ) (d n i : ℕ) (c : List ℕ) (low left : ℕ) : Type 0 where
+  later : (base : ℕ) (p : PartReq) (fs : List ℕ) → read_entries (read_part d) base 0 n (fields b) ≡ got p fs → Later c d i base low left p fs
 
-pub finding_first : {b : List ℕ} {at : ℕ} (d n i : ℕ) → at ≤ length b → Finding b at d n i at 0 n
-finding_first d n i h = record { inside = h; later = λ base p fs e. record { list = p; is = e; same = refl } }
+pub finding_first : (b : List ℕ) (d n i : ℕ) → Finding b d n i b 0 n
+finding_first b d n i = record { later = λ base p fs e. record { list = p; is = e; same = refl } }
 
 -- the first of what is left: its part, and those after it
-record First (b : List ℕ) (d base next j k : ℕ) (list : PartReq) (fs : List ℕ) : Type 0 where
+record First (e : List ℕ) (d base j k : ℕ) (list : PartReq) (fs : List ℕ) : Type 0 where
   value : PartReq
   after : List ℕ
   others : PartReq
-  part_is : read_part d (from b (next + 2)) ≡ got value after
+  part_is : read_part d (fields e) ≡ got value after
   others_are : read_entries (read_part d) base (j + 1) k after ≡ got others fs
   list_is : list ≡ more (base + j) value others
 
-first : {b : List ℕ} {d base next low left j k : ℕ} {list : PartReq} {fs : List ℕ} → Index b next low left j k
-    → read_entries (read_part d) base low left (from b next) ≡ got list fs → First b d base next j k list fs
-first {b} {d} {base} {next} {j = j} {k} {list} {fs} x e =
-    let p = bound (read_part d (from b (next + 2))) _ (sym (index_next x base d) ∙ e) in
+first : {c e : List ℕ} {d base low left j k : ℕ} {list : PartReq} {fs : List ℕ} → Index c low left j k e
+    → read_entries (read_part d) base low left (fields c) ≡ got list fs → First e d base j k list fs
+first {c} {e} {d} {base} {low} {left} {j} {k} {list} {fs} x was =
+    let p = bound (read_part d (fields e)) _ (sym (index_next x base d) ∙ was) in
     let r = bound (read_entries (read_part d) base (j + 1) k p.left) _ p.then in
     let same : r.left ≡ fs = cc in
     let list_is : list ≡ more (base + j) p.value r.value = cc in
@@ -102,11 +101,11 @@ first {b} {d} {base} {next} {j = j} {k} {list} {fs} x e =
       list_is = list_is;
     }
 
-module _ {b : List ℕ} {at d n i next low left : ℕ} (so : Finding b at d n i next low left) where
-  nowhere : ((base : ℕ) (p : PartReq) (fs : List ℕ) → read_entries (read_part d) base 0 n (from b at) ≡ got p fs → get_subpart p (base + i) ≡ gone) → EntryFound b at d n i None
+module _ {b c : List ℕ} {d n i low left : ℕ} (so : Finding b d n i c low left) where
+  nowhere : ((base : ℕ) (p : PartReq) (fs : List ℕ) → read_entries (read_part d) base 0 n (fields b) ≡ got p fs → get_subpart p (base + i) ≡ gone) → EntryFound b d n i None
   nowhere h = record { is = h }
 
-  pub finding_stop : ((base : ℕ) → read_entries (read_part d) base low left (from b next) ≡ malformed) → EntryFound b at d n i None
+  pub finding_stop : ((base : ℕ) → read_entries (read_part d) base low left (fields c) ≡ malformed) → EntryFound b d n i None
   finding_stop h =
       nowhere
       (λ base p fs e.
@@ -115,37 +114,26 @@ module _ {b : List ℕ} {at d n i next low left : ℕ} (so : Finding b at d n i 
       let z : ◌≡◌ {A = ℕ} 0 1 = cc in
       absurd (omega arith))
 
-  pub finding_done : left ≡ 0 → EntryFound b at d n i None
+  pub finding_done : left ≡ 0 → EntryFound b d n i None
   unfolding get_subpart
   finding_done z =
       nowhere
       (λ base p fs e.
       let l = so.later base p fs e in
-      let m = entries_none (read_part d) base low left (from b next) z in
+      let m = entries_none (read_part d) base low left (fields c) z in
       let is : l.list ≡ none = cc in
       l.same ∙ rw is)
 
-  module _ {j k : ℕ} (x : Index b next low left j k) where
-    pub finding_before : i < j → EntryFound b at d n i None
+  module _ {e : List ℕ} {j k : ℕ} (x : Index c low left j k e) where
+    pub finding_before : i < j → EntryFound b d n i None
     finding_before h =
         nowhere
-        (λ base p fs e.
-        let l = so.later base p fs e in
+        (λ base p fs h'.
+        let l = so.later base p fs h' in
         let f = first x l.is in
         l.same ∙ rw f.list_is (sub_before (base + i) (base + j) f.value f.others (omega arith)))
 
-    pub finding_here : i ≡ j → EntryFound b at d n i (Some (next + 2, d))
-    finding_here h =
-        record {
-          is =
-              λ base p fs e.
-              let l = so.later base p fs e in
-              let f = first x l.is in
-              let r = readable x.field.inside f.part_is in
-              (r.0, l.same ∙ rw (f.list_is, r.1) (sub_at (base + i) (base + j) f.value f.others (omega arith)));
-        }
-
-    pub finding_no_part : Skips b (next + 2) (read_part d (from b (next + 2))) None → EntryFound b at d n i None
+    pub finding_no_part : Skips e (read_part d (fields e)) None → EntryFound b d n i None
     finding_no_part was =
         nowhere
         (λ base p fs g.
@@ -154,17 +142,16 @@ module _ {b : List ℕ} {at d n i next low left : ℕ} (so : Finding b at d n i 
         let z : ◌≡◌ {A = ℕ} 0 1 = cc in
         absurd (omega arith))
 
-    pub finding_again : {end : ℕ} → Skips b (next + 2) (read_part d (from b (next + 2))) (Some end) → j ≤ i → (i ≡ j → ⊥) → Finding b at d n i end (j + 1) k
+    pub finding_again : {end : Bor (List ℕ)} → Skips e (read_part d (fields e)) (Some end) → j ≤ i → (i ≡ j → ⊥) → Finding b d n i end.now (j + 1) k
     finding_again {end} was h ne =
         record {
-          inside = was.placed.1;
           later =
               λ base p fs g.
               let l = so.later base p fs g in
               let f = first x l.is in
               let q = (skip_passed was).is in
               let m = f.part_is in
-              let there' : f.after ≡ from b end = cc in
+              let there' : f.after ≡ fields end.now = cc in
               let above : base + j < base + i = omega (arith, ne) in
               record {
                 list = f.others;
@@ -173,114 +160,130 @@ module _ {b : List ℕ} {at d n i next low left : ℕ} (so : Finding b at d n i 
               };
         }
 
--- a part, by its code
-module _ {b : List ℕ} {at d : ℕ} (R : Readable b at d) where
-  behind : (fs : List ℕ) × (read_part d (from b at) ≡ got (part_at b at d) fs)
-  behind = left_behind (read_part d (from b at)) R.is
+pub finding_here : {b c : List ℕ} {d n i low left j k : ℕ} {e : Bor (List ℕ)} → Finding b d n i c low left → Index c low left j k e.now → i ≡ j → EntryFound b d n i (Some e)
+finding_here {d = d} {i = i} {j = j} so x h =
+    record {
+      is =
+          λ base p fs g.
+          let l = so.later base p fs g in
+          let f = first x l.is in
+          let r = readable f.part_is in
+          (r.0, l.same ∙ rw (f.list_is, r.1) (sub_at (base + i) (base + j) f.value f.others (omega arith)));
+    }
 
-  coded : {c : Maybe Code} → CodeWasRead b at d c → by_answer b at d c ≡ got (part_at b at d) behind.0
+-- a part, by its code
+module _ {b : List ℕ} {d : ℕ} (R : Readable b d) where
+  behind : (fs : List ℕ) × (read_part d (fields b) ≡ got (part_in b d) fs)
+  behind = left_behind (read_part d (fields b)) R.is
+
+  coded : {a : Maybe (Code × Bor (List ℕ))} → CodeWasRead b d a → by_answer d a ≡ got (part_in b d) behind.0
   coded was = sym was.is ∙ behind.1
 
-  pub never : {A : Type 0} → CodeWasRead b at d None → A
-  never was = let h = coded was in let z : ◌≡◌ {A = ℕ} 0 1 = cc in absurd (omega arith)
+  module _ {c : Bor (List ℕ)} where
+    it_is_all : CodeWasRead b d (Some (All, c)) → all ≡ part_in b d
+    it_is_all was = let h = coded was in cc
 
-  it_is_all : CodeWasRead b at d (Some All) → all ≡ part_at b at d
-  it_is_all was = let h = coded was in cc
+    it_is_exist : CodeWasRead b d (Some (Exist, c)) → exist ≡ part_in b d
+    it_is_exist was = let h = coded was in cc
 
-  it_is_exist : CodeWasRead b at d (Some Exist) → exist ≡ part_at b at d
-  it_is_exist was = let h = coded was in cc
+    pub found_all : CodeWasRead b d (Some (All, c)) → (i : ℕ) → get_subpart (part_in b d) i ≡ there (part_in b d)
+    unfolding get_subpart
+    found_all was i = rw (← it_is_all was)
 
-  pub found_all : CodeWasRead b at d (Some All) → (i : ℕ) → get_subpart (part_at b at d) i ≡ there (part_at b at d)
-  unfolding get_subpart
-  found_all was i = rw (← it_is_all was)
+    pub found_exist : CodeWasRead b d (Some (Exist, c)) → (i : ℕ) → get_subpart (part_in b d) i ≡ gone
+    unfolding get_subpart
+    found_exist was i = rw (← it_is_exist was)
 
-  pub found_exist : CodeWasRead b at d (Some Exist) → (i : ℕ) → get_subpart (part_at b at d) i ≡ gone
-  unfolding get_subpart
-  found_exist was i = rw (← it_is_exist was)
+    module _ {n : ℕ} (was : CodeWasRead b d (Some (Entries n, c))) where
+      pub found_entry : {i : ℕ} {a : Maybe (Bor (List ℕ))} → EntryFound c.now (d - 1) n i a → SubpartIn (get_subpart (part_in b d) i) (d - 1) a
+      found_entry {i} {a} found =
+          let z : 0 + i ≡ i = omega arith in
+          rw z at (found.is 0 (part_in b d) behind.0 (coded was))
 
-  module _ {n : ℕ} (was : CodeWasRead b at d (Some (Entries n))) where
-    pub found_entry : {i : ℕ} {a : Maybe (ℕ × ℕ)} → EntryFound b (at + 2 + 2) (d - 1) n i a → SubpartAt b (get_subpart (part_at b at d) i) a
-    found_entry {i} {a} found =
-        let z : 0 + i ≡ i = omega arith in
-        rw z at (found.is 0 (part_at b at d) behind.0 (coded was))
+      listed_not_all : is_all (part_in b d) ≡ false
+      listed_not_all = (read_list (read_part (d - 1)) 0 0 n (fields c.now) (coded was)).0
 
-    listed_not_all : is_all (part_at b at d) ≡ false
-    listed_not_all = (read_list (read_part (d - 1)) 0 0 n (from b (at + 2 + 2)) (coded was)).0
+      listed_not_exist : is_exist (part_in b d) ≡ false
+      listed_not_exist = (read_list (read_part (d - 1)) 0 0 n (fields c.now) (coded was)).1
 
-    listed_not_exist : is_exist (part_at b at d) ≡ false
-    listed_not_exist = (read_list (read_part (d - 1)) 0 0 n (from b (at + 2 + 2)) (coded was)).1
+  -- whether the code is that of all, or of existence
+  module _ {c : Bor (List ℕ)} where
+    pub yes_all : CodeWasRead b d (Some (All, c)) → true ≡ is_all (part_in b d)
+    yes_all was = ap is_all (it_is_all was)
 
-  -- the code compared, by what `E` says of two codes
-  module _ (E : Code → Code → Bool) where
-    pub is_all_by : E All All ≡ true → E Exist All ≡ false → ((n : ℕ) → E (Entries n) All ≡ false) → (c : Maybe Code) → CodeWasRead b at d c
-        → option_eq E c (Some All) ≡ is_all (part_at b at d)
-    is_all_by y n m None was = never was
-    is_all_by y n m (Some All) was = y ∙ ap is_all (it_is_all was)
-    is_all_by y n m (Some Exist) was = n ∙ ap is_all (it_is_exist was)
-    is_all_by y n m (Some (Entries k)) was = m k ∙ sym (listed_not_all was)
+    pub no_all : (x : Code) → (x ≡ All → ⊥) → CodeWasRead b d (Some (x, c)) → false ≡ is_all (part_in b d)
+    no_all All h was = absurd (h refl)
+    no_all Exist h was = ap is_all (it_is_exist was)
+    no_all (Entries k) h was = sym (listed_not_all was)
 
-    pub is_exist_by : E Exist Exist ≡ true → E All Exist ≡ false → ((n : ℕ) → E (Entries n) Exist ≡ false) → (c : Maybe Code) → CodeWasRead b at d c
-        → option_eq E c (Some Exist) ≡ is_exist (part_at b at d)
-    is_exist_by y n m None was = never was
-    is_exist_by y n m (Some All) was = n ∙ ap is_exist (it_is_all was)
-    is_exist_by y n m (Some Exist) was = y ∙ ap is_exist (it_is_exist was)
-    is_exist_by y n m (Some (Entries k)) was = m k ∙ sym (listed_not_exist was)
+    pub yes_exist : CodeWasRead b d (Some (Exist, c)) → true ≡ is_exist (part_in b d)
+    yes_exist was = ap is_exist (it_is_exist was)
+
+    pub no_exist : (x : Code) → (x ≡ Exist → ⊥) → CodeWasRead b d (Some (x, c)) → false ≡ is_exist (part_in b d)
+    no_exist All h was = ap is_exist (it_is_all was)
+    no_exist Exist h was = absurd (h refl)
+    no_exist (Entries k) h was = sym (listed_not_exist was)
 
 -- a list of variables
-pub variable_short : (b : List ℕ) (at i : ℕ) → length b < at + 2 → VariableFound b at i None
+pub variable_short : (b : List ℕ) (i : ℕ) → length b < 2 → VariableFound b i None
 unfolding read_variables
-variable_short b at i h =
+variable_short b i h =
     record {
       is =
           λ p fs e.
-          let f : malformed ≡ got p fs = rw (from_end b at h) at e in
+          let f : malformed ≡ got p fs = rw (no_field b h) at e in
           let z : ◌≡◌ {A = ℕ} 0 1 = cc in
           absurd (omega arith);
     }
 
-pub variable_found : {b : List ℕ} {at n i : ℕ} {a : Maybe (ℕ × ℕ)} → Field b at n → EntryFound b (at + 2) max_depth n i a → VariableFound b at i a
+pub variable_found : {b c : List ℕ} {n i : ℕ} {a : Maybe (Bor (List ℕ))} → Field b n c → EntryFound c max_depth n i a → VariableFound b i a
 variable_found f was = record { is = λ p fs e. was.is spine p fs (sym (variables_are f) ∙ e) }
 
-pub found_variable : {b : List ℕ} {at i : ℕ} {a : Maybe (ℕ × ℕ)} → ListReadable b at → VariableFound b at i a → SubpartAt b (get_subpart (list_at b at) (variable i)) a
-found_variable {b} {at} R found =
-    let l = left_behind (read_variables (from b at)) R.is in
-    found.is (list_at b at) l.0 l.1
+pub found_variable : {b : List ℕ} {i : ℕ} {a : Maybe (Bor (List ℕ))} → ListReadable b → VariableFound b i a → SubpartIn (get_subpart (list_in b) (variable i)) max_depth a
+found_variable {b} {i} {a} R found =
+    let l = left_behind (read_variables (fields b)) R.is in
+    found.is (list_in b) l.0 l.1
 
 -- where the arguments stand
 module _ {b : List ℕ} where
-  nothing_there : ((c : RequiredContext) → Accepted b c → ⊥) → ArgsAt b 0
-  nothing_there h = record { is = λ c k. absurd (h c (accepted k)) }
+  nothing_there : (a : List ℕ) → ((c : RequiredContext) → Accepted b c → ⊥) → ArgsIn b a
+  nothing_there a h = record { is = λ c k. absurd (h c (accepted k)) }
 
-  pub args_unframed : {r : Bool} → r ≡ is_context b → r ≡ false → ArgsAt b 0
-  args_unframed is h = nothing_there (λ c k. let f = k.framed in let z : ◌≡◌ {A = ℕ} 0 1 = cc in omega arith)
+  pub args_unframed : (a : List ℕ) {r : Bool} → r ≡ is_context b → r ≡ false → ArgsIn b a
+  args_unframed a is h = nothing_there a (λ c k. let f = k.framed in let z : ◌≡◌ {A = ℕ} 0 1 = cc in omega arith)
 
-  pub args_no_return : Skips b 6 (read_return (from b 6)) None → ArgsAt b 0
+  pub args_unread : (a : Bor (List ℕ)) (r : Maybe (Bor (List ℕ))) → ArgsAfter b r → ArgsIn b (unwrap_or r a).now
+  args_unread a None h = record { is = λ c k. absurd (h c k) }
+  args_unread a (Some x) h = h
+
+module _ (b : List ℕ) where
+  pub args_no_return : Skips (drop 6 b) (read_return (fields (drop 6 b))) None → ArgsAfter b None
   args_no_return was =
       let m = skip_refused was in
-      nothing_there (λ c k. let f = k.return_is in let z : ◌≡◌ {A = ℕ} 0 1 = cc in omega arith)
+      λ c h. let f = (accepted h).return_is in let z : ◌≡◌ {A = ℕ} 0 1 = cc in omega arith
 
-  module _ {at : ℕ} (was : Skips b 6 (read_return (from b 6)) (Some at)) where
-    globals-at : {c : RequiredContext} (k : Accepted b c) → read_variables (from b at) ≡ got c.globals k.args
-    globals-at k =
+  module _ {x : Bor (List ℕ)} (was : Skips (drop 6 b) (read_return (fields (drop 6 b))) (Some x)) where
+    globals_in : {c : RequiredContext} (k : Accepted b c) → read_variables (fields x.now) ≡ got c.globals k.args
+    globals_in k =
         let m = (skip_passed was).is in
         let f = k.return_is in
-        let same : k.lists ≡ from b at = cc in
+        let same : k.lists ≡ fields x.now = cc in
         sym (ap read_variables same) ∙ k.globals_is
 
-    pub args_no_globals : Checks b at (checked (variable 0) (read_variables (from b at))) None → ArgsAt b 0
+    pub args_no_globals : Checks x.now (checked (variable 0) (read_variables (fields x.now))) None → ArgsAfter b None
     args_no_globals list =
-        let m = unlisted 0 (read_variables (from b at)) (sym list.is) in
-        nothing_there (λ c k. let f = globals-at k in let z : ◌≡◌ {A = ℕ} 0 1 = cc in omega arith)
+        let m = unlisted 0 (read_variables (fields x.now)) (sym list.is) in
+        λ c h. let f = globals_in (accepted h) in let z : ◌≡◌ {A = ℕ} 0 1 = cc in omega arith
 
-    pub args_here : {known : Bool} {next : ℕ} → Checks b at (checked (variable 0) (read_variables (from b at))) (Some (known, next)) → ArgsAt b next
-    args_here {next = next} list =
-        let g = listed 0 (read_variables (from b at)) (sym list.is) in
+    pub args_here : {known : Bool} {a : Bor (List ℕ)} → Checks x.now (checked (variable 0) (read_variables (fields x.now))) (Some (known, a)) → ArgsAfter b (Some a)
+    args_here {a = a} list =
+        let g = listed 0 (read_variables (fields x.now)) (sym list.is) in
         record {
           is =
               λ c k.
               let so = accepted k in
-              let f = globals-at so in
+              let f = globals_in so in
               let m = g.is in
-              let same : so.args ≡ from b next = cc in
-              record { inside = list.placed.1; rest = so.locals; is = sym (ap read_variables same) ∙ so.args_is };
+              let same : so.args ≡ fields a.now = cc in
+              record { rest = so.locals; is = sym (ap read_variables same) ∙ so.args_is };
         }

@@ -3,23 +3,25 @@ use Prim.Native.Nat.{ℕ, zero, suc, ◌≤◌, ◌<◌}
 use native.Mathlib.Omega.{arith}
 use mathlib.Core.Path.{◌≡◌, refl, ap, sym, ◌∙◌}
 use mathlib.Core.Bool.{Bool, true, false, cond, ◌&&◌}
-use mathlib.Core.List.{List, [], ◌∷◌}
+use mathlib.Core.List.{List}
 use mathlib.Core.Option.{Option, some, none as nothing}
 use lib.Dec.{eqb}
+use lib.ListN.{drop}
 use borrow.Author.Tests.{lt-ltb, le-ltb}
-use Rattle.part.specs.PartReq.{PartReq, contains}
+use Rattle.part.specs.PartReq.{PartReq, get_subpart, contains}
 use Rattle.part.specs.declared.store.Cell.{Cell}
 use Rattle.part.specs.Store.{top, part, Seen}
+use Rattle.part.specs.Subparts.{or_none, Piece}
 use Rattle.part.proofs.Pieces.{part-0, part-1, part-2}
 use Rattle.context.specs.RequiredContext.{RequiredContext}
 use Rattle.clearance.specs.Shape.{below}
 use Rattle.clearance.specs.Scope.{variable}
 use Rattle.clearance.specs.Verdict.{needs_expression, starts}
-use Rattle.needs.specs.Path.{Piece}
 use Rattle.request.specs.Part.{read_return, read_variables}
 use Rattle.request.specs.Context.{is_context}
-use Rattle.request.specs.Answers.{from}
+use Rattle.request.specs.Fields.{fields}
 use Rattle.std.specs.Prelude.{Option as Maybe, Some, None, is_some as has_some}
+use Rattle.std.specs.Borrow.{Bor}
 use Rattle.context_bytes.specs.Checked.{Skips}
 use Rattle.context_bytes.specs.Covered.{covers, Covers, after, is_some, lists_cover, CoversContext}
 use Rattle.context_bytes.proofs.Accepted.{Accepted, accepted}
@@ -54,13 +56,13 @@ module _ {s : List ℕ} {n : ℕ} where
   expressed_end m h so = plain_expressed s m h ∙ so.rest
 
 -- the two lists
-module _ (g a : PartReq) {b : List ℕ} {at : ℕ} where
-  pub lists_first : Covers b at (covers g (read_variables (from b at))) None → false ≡ lists_cover g a (from b at)
+module _ (g a : PartReq) (b : List ℕ) where
+  pub lists_first : Covers b (covers g (read_variables (fields b))) None → false ≡ lists_cover g a (fields b)
   unfolding lists_cover
   lists_first first = rw (← first.is)
 
-  module _ {next : ℕ} (first : Covers b at (covers g (read_variables (from b at))) (Some next)) where
-    pub lists_both : (y : Maybe ℕ) → Covers b next (covers a (read_variables (from b next))) y → has_some y ≡ lists_cover g a (from b at)
+  module _ {c : Bor (List ℕ)} (first : Covers b (covers g (read_variables (fields b))) (Some c)) where
+    pub lists_both : (y : Maybe (Bor (List ℕ))) → Covers c.now (covers a (read_variables (fields c.now))) y → has_some y ≡ lists_cover g a (fields b)
     unfolding lists_cover
     lists_both None second = rw (← first.is, ← second.is)
     lists_both (Some end) second = rw (← first.is, ← second.is)
@@ -88,22 +90,22 @@ module _ (s : List ℕ) (n : ℕ) (b : List ℕ) where
   start_unframed is h =
       record { is = λ c marks k. let f = (accepted k).framed in let z : ◌≡◌ {A = ℕ} 0 1 = cc in absurd (omega arith) }
 
-  pub start_no_return : Skips b 6 (read_return (from b 6)) None → CoversContext s n b false
+  pub start_no_return : Skips (drop 6 b) (read_return (fields (drop 6 b))) None → CoversContext s n b false
   start_no_return was =
       let e = skip_refused was in
       record { is = λ c marks k. let f = (accepted k).return_is in let z : ◌≡◌ {A = ℕ} 0 1 = cc in absurd (omega arith) }
 
-  pub start_lists : {e r : Bool} {at g x : ℕ} → Skips b 6 (read_return (from b 6)) (Some at) → e ≡ needs_expression (part s n) → e ≡ false
-      → Piece s (below (part s n) (variable 0 ∷ [])) g → Piece s (below (part s n) (variable 2 ∷ [])) x
-      → r ≡ lists_cover (part s g) (part s x) (from b at) → CoversContext s n b r
-  unfolding starts
-  start_lists {e} {r} {at} {g} {x} was is h globals args covered =
+  pub start_lists : {e r : Bool} {lists : Bor (List ℕ)} {g x : ℕ} → Skips (drop 6 b) (read_return (fields (drop 6 b))) (Some lists) → e ≡ needs_expression (part s n) → e ≡ false
+      → Piece s (or_none (get_subpart (part s n) (variable 0))) g → Piece s (or_none (get_subpart (part s n) (variable 2))) x
+      → r ≡ lists_cover (part s g) (part s x) (fields lists.now) → CoversContext s n b r
+  unfolding starts below
+  start_lists {e} {r} {lists} {g} {x} was is h globals args covered =
       let p = (skip_passed was).is in
       record {
         is =
             λ c marks k.
             let so = accepted k in
             let f = so.return_is in
-            let same : from b at ≡ so.lists = cc in
+            let same : fields lists.now ≡ so.lists = cc in
             covered ∙ rw same (lists_are so (part s g) (part s x) ∙ rw (← is, h, globals.is, args.is));
       }

@@ -1,15 +1,15 @@
 -- What checking a record answers: only where it ends, and whether its variables are there.
 use Rattle.std.specs.Prelude.{ℕ, ◌+◌, ◌≤◌, ◌≡◌, Bool, List, length, Option as Maybe, Some, None, Result, Ok, Err}
+use Rattle.std.specs.Borrow.{Bor}
 use Rattle.std.proofs.Math.Option.{Option, some, none as nothing}
 use Rattle.field.specs.Refusal.{number}
 use Rattle.field.specs.declared.refusal.Refusal.{Refusal}
 use Rattle.part.specs.PartReq.{PartReq}
 use Rattle.context.specs.RequiredContext.{RequiredContext}
-use Rattle.request.specs.Fields.{Read, malformed, got, Answer, refused, accepted}
+use Rattle.request.specs.Fields.{fields, Read, malformed, got, Answer, refused, accepted}
 use Rattle.request.specs.Request.{all_below}
 use Rattle.request.specs.Part.{read_part, read_entries}
 use Rattle.request.specs.Context.{finish_context}
-use Rattle.request.specs.Answers.{from}
 
 -- 01's number of an answer, or 0 where it is accepted
 unfoldable pub status_of : {A : Type 0} → Answer A → ℕ
@@ -36,37 +36,34 @@ unfoldable pub checked : (limit : ℕ) → Read PartReq → Read Bool
 checked limit malformed = malformed
 checked limit (got q fs) = got (all_below limit q) fs
 
-abbrev pub Within : (b : List ℕ) (at next : ℕ) → Type 0
-Within b at next = (at ≤ next) × (next ≤ length b)
+abbrev pub skip_answer : Maybe (Bor (List ℕ)) → Option (List ℕ)
+skip_answer None = nothing
+skip_answer (Some c) = some (fields c.now)
 
-abbrev pub skip_answer : List ℕ → Maybe ℕ → Option (List ℕ)
-skip_answer b None = nothing
-skip_answer b (Some next) = some (from b next)
+abbrev pub SkipPlaced : List ℕ → Maybe (Bor (List ℕ)) → Type 0
+SkipPlaced b None = Unit {0}
+SkipPlaced b (Some c) = length c.now ≤ length b
 
-abbrev pub SkipPlaced : List ℕ → ℕ → Maybe ℕ → Type 0
-SkipPlaced b at None = Unit {0}
-SkipPlaced b at (Some next) = Within b at next
+-- what was read of the bytes b is r: the answer is the bytes that are left
+pub record Skips {A : Type 0} (b : List ℕ) (r : Read A) (a : Maybe (Bor (List ℕ))) : Type 0 where
+  pub is : skip_answer a ≡ past r
+  pub placed : SkipPlaced b a
 
--- what was read at the byte `at` is r: the answer is where it ends
-pub record Skips {A : Type 0} (b : List ℕ) (at : ℕ) (r : Read A) (a : Maybe ℕ) : Type 0 where
-  pub is : skip_answer b a ≡ past r
-  pub placed : SkipPlaced b at a
+abbrev pub check_answer : Maybe (Bool × Bor (List ℕ)) → Read Bool
+check_answer None = malformed
+check_answer (Some p) = got p.0 (fields p.1.now)
 
-abbrev pub check_answer : List ℕ → Maybe (Bool × ℕ) → Read Bool
-check_answer b None = malformed
-check_answer b (Some p) = got p.0 (from b p.1)
+abbrev pub CheckPlaced : List ℕ → Maybe (Bool × Bor (List ℕ)) → Type 0
+CheckPlaced b None = Unit {0}
+CheckPlaced b (Some p) = length p.1.now ≤ length b
 
-abbrev pub CheckPlaced : List ℕ → ℕ → Maybe (Bool × ℕ) → Type 0
-CheckPlaced b at None = Unit {0}
-CheckPlaced b at (Some p) = Within b at p.1
-
-pub record Checks (b : List ℕ) (at : ℕ) (r : Read Bool) (a : Maybe (Bool × ℕ)) : Type 0 where
-  pub is : check_answer b a ≡ r
-  pub placed : CheckPlaced b at a
+pub record Checks (b : List ℕ) (r : Read Bool) (a : Maybe (Bool × Bor (List ℕ))) : Type 0 where
+  pub is : check_answer a ≡ r
+  pub placed : CheckPlaced b a
 
 -- of n entries, for whatever stands before their indexes in the requirement
-pub record EntriesChecked (b : List ℕ) (at d limit n : ℕ) (a : Maybe (Bool × ℕ)) : Type 0 where
-  pub checks : (base : ℕ) → Checks b at (checked (base + limit) (read_entries (read_part d) base 0 n (from b at))) a
+pub record EntriesChecked (b : List ℕ) (d limit n : ℕ) (a : Maybe (Bool × Bor (List ℕ))) : Type 0 where
+  pub checks : (base : ℕ) → Checks b (checked (base + limit) (read_entries (read_part d) base 0 n (fields b))) a
 
 -- of a context's lists, for whatever return part stands before them
 pub record ListsChecked (globals args locals : ℕ) (fs : List ℕ) (r : Result (Unit {0}) Refusal) : Type 0 where

@@ -1,15 +1,15 @@
 -- What comparing a need with a record answers. A need goes along a list of entries: `asks` says what it asks of the first one and of the others.
 use Rattle.std.specs.Prelude.{ℕ, ◌<◌, ◌≡◌, Bool, true, false, cond, List, ltb, Option as Maybe, Some, None}
+use Rattle.std.specs.Borrow.{Bor}
 use Rattle.std.proofs.Math.Option.{Option, some, none as nothing}
 use Rattle.part.specs.PartReq.{PartReq, all, exist, none, more, contains}
 use Rattle.part.specs.Store.{top, part}
 use Rattle.context.specs.RequiredContext.{RequiredContext}
 use Rattle.clearance.specs.Verdict.{starts}
-use Rattle.request.specs.Fields.{Read, malformed, got}
+use Rattle.request.specs.Fields.{fields, Read, malformed, got}
 use Rattle.request.specs.Part.{read_variables}
 use Rattle.request.specs.Context.{context_of}
-use Rattle.request.specs.Answers.{from}
-use Rattle.context_bytes.specs.Checked.{Within}
+use Rattle.context_bytes.specs.Checked.{SkipPlaced}
 
 -- the fields after what was read, where it contains the need q
 unfoldable pub covers : PartReq → Read PartReq → Option (List ℕ)
@@ -40,17 +40,13 @@ pub record AsksPieces (s : List ℕ) (n i : ℕ) (a : Maybe (ℕ × ℕ)) : Type
   pub is : asks_answer s a ≡ asks (part s n) i
   pub placed : AsksPlaced s a
 
-abbrev pub cover_answer : List ℕ → Maybe ℕ → Option (List ℕ)
-cover_answer b None = nothing
-cover_answer b (Some next) = some (from b next)
+abbrev pub cover_answer : Maybe (Bor (List ℕ)) → Option (List ℕ)
+cover_answer None = nothing
+cover_answer (Some c) = some (fields c.now)
 
-abbrev pub CoverPlaced : List ℕ → ℕ → Maybe ℕ → Type 0
-CoverPlaced b at None = Unit {0}
-CoverPlaced b at (Some next) = Within b at next
-
-pub record Covers (b : List ℕ) (at : ℕ) (r : Option (List ℕ)) (a : Maybe ℕ) : Type 0 where
-  pub is : cover_answer b a ≡ r
-  pub placed : CoverPlaced b at a
+pub record Covers (b : List ℕ) (r : Option (List ℕ)) (a : Maybe (Bor (List ℕ))) : Type 0 where
+  pub is : cover_answer a ≡ r
+  pub placed : SkipPlaced b a
 
 -- what follows a list that had what was asked
 abbrev pub after : Option (List ℕ) → (List ℕ → Option (List ℕ)) → Option (List ℕ)

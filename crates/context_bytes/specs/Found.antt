@@ -1,54 +1,58 @@
 -- What finding an entry answers. A part stands for what is read at its first byte.
-use Rattle.std.specs.Prelude.{ℕ, ◌+◌, ◌≤◌, ◌≡◌, List, length, Option as Maybe, Some, None}
+use Rattle.std.specs.Prelude.{ℕ, ◌+◌, ◌≡◌, List, Option as Maybe, Some, None}
+use Rattle.std.specs.Borrow.{Bor}
 use Rattle.std.proofs.Math.Option.{some}
 use Rattle.part.specs.PartReq.{PartReq, none, Subpart, gone, there, get_subpart}
 use Rattle.context.specs.RequiredContext.{RequiredContext, variable}
-use Rattle.request.specs.Fields.{Read, malformed, got}
+use Rattle.field.specs.Limits.{max_depth}
+use Rattle.request.specs.Fields.{fields, Read, malformed, got}
 use Rattle.request.specs.Part.{read_part, read_entries, read_variables}
 use Rattle.request.specs.Context.{context_of}
-use Rattle.request.specs.Answers.{from}
 
 -- what was read; nothing where that was no part
 unfoldable pub value_of : Read PartReq → PartReq
 value_of malformed = none
 value_of (got p fs) = p
 
--- the part at the byte `at`, at most d deep
-abbrev pub part_at : (b : List ℕ) (at d : ℕ) → PartReq
-part_at b at d = value_of (read_part d (from b at))
+-- the part that the bytes begin with, at most d deep
+abbrev pub part_in : (b : List ℕ) (d : ℕ) → PartReq
+part_in b d = value_of (read_part d (fields b))
 
 -- there is one
-pub record Readable (b : List ℕ) (at d : ℕ) : Type 0 where
-  pub inside : at ≤ length b
-  pub is : read_part d (from b at) ≡ malformed → ⊥
+pub record Readable (b : List ℕ) (d : ℕ) : Type 0 where
+  pub is : read_part d (fields b) ≡ malformed → ⊥
 
-abbrev pub SubpartAt : List ℕ → Subpart → Maybe (ℕ × ℕ) → Type 0
-SubpartAt b sub None = sub ≡ gone
-SubpartAt b sub (Some p) = Readable b p.0 p.1 × (sub ≡ there (part_at b p.0 p.1))
+-- of parts at most d deep
+abbrev pub SubpartIn : Subpart → ℕ → Maybe (Bor (List ℕ)) → Type 0
+SubpartIn sub d None = sub ≡ gone
+SubpartIn sub d (Some c) = Readable c.now d × (sub ≡ there (part_in c.now d))
 
 -- of n entries that are read, for whatever stands before their indexes in the requirement, a is that of the index i
-pub record EntryFound (b : List ℕ) (at d n i : ℕ) (a : Maybe (ℕ × ℕ)) : Type 0 where
-  pub is : (base : ℕ) (p : PartReq) (fs : List ℕ) → read_entries (read_part d) base 0 n (from b at) ≡ got p fs → SubpartAt b (get_subpart p (base + i)) a
+pub record EntryFound (b : List ℕ) (d n i : ℕ) (a : Maybe (Bor (List ℕ))) : Type 0 where
+  pub is : (base : ℕ) (p : PartReq) (fs : List ℕ) → read_entries (read_part d) base 0 n (fields b) ≡ got p fs → SubpartIn (get_subpart p (base + i)) d a
 
 -- the same of a list of variables
-pub record VariableFound (b : List ℕ) (at i : ℕ) (a : Maybe (ℕ × ℕ)) : Type 0 where
-  pub is : (p : PartReq) (fs : List ℕ) → read_variables (from b at) ≡ got p fs → SubpartAt b (get_subpart p (variable i)) a
+pub record VariableFound (b : List ℕ) (i : ℕ) (a : Maybe (Bor (List ℕ))) : Type 0 where
+  pub is : (p : PartReq) (fs : List ℕ) → read_variables (fields b) ≡ got p fs → SubpartIn (get_subpart p (variable i)) max_depth a
 
--- the list of variables at the byte `at`
-abbrev pub list_at : (b : List ℕ) (at : ℕ) → PartReq
-list_at b at = value_of (read_variables (from b at))
+-- the list of variables that the bytes begin with
+abbrev pub list_in : (b : List ℕ) → PartReq
+list_in b = value_of (read_variables (fields b))
 
 -- there is one
-pub record ListReadable (b : List ℕ) (at : ℕ) : Type 0 where
-  pub inside : at ≤ length b
-  pub is : read_variables (from b at) ≡ malformed → ⊥
+pub record ListReadable (b : List ℕ) : Type 0 where
+  pub is : read_variables (fields b) ≡ malformed → ⊥
 
 -- there is one, and it is p
-pub record ListAt (b : List ℕ) (at : ℕ) (p : PartReq) : Type 0 where
-  pub inside : at ≤ length b
+pub record ListIn (b : List ℕ) (p : PartReq) : Type 0 where
   pub rest : List ℕ
-  pub is : read_variables (from b at) ≡ got p rest
+  pub is : read_variables (fields b) ≡ got p rest
 
--- the arguments of the context that bytes mean stand at the byte `at`
-pub record ArgsAt (b : List ℕ) (at : ℕ) : Type 0 where
-  pub is : (c : RequiredContext) → context_of b ≡ some c → ListAt b at c.args
+-- a begins with the arguments of the context that the bytes b mean
+pub record ArgsIn (b a : List ℕ) : Type 0 where
+  pub is : (c : RequiredContext) → context_of b ≡ some c → ListIn a c.args
+
+-- the same, where the context is read as far as that
+abbrev pub ArgsAfter : List ℕ → Maybe (Bor (List ℕ)) → Type 0
+ArgsAfter b None = (c : RequiredContext) → context_of b ≡ some c → ⊥
+ArgsAfter b (Some a) = ArgsIn b a.now

@@ -1,17 +1,17 @@
 -- A part and a list of variables where they stand in bytes, as values, and what an index of them leads to.
 use Rattle.std.specs.Prelude.{◌≡◌, Option, Some, None}
 use Rattle.part.specs.PartReq.{PartReq, Subpart, gone, there}
-use Rattle.context_bytes.specs.Found.{part_at, list_at}
+use Rattle.context_bytes.specs.Found.{part_in, list_in}
 use Rattle.context_bytes.specs.declared.part_bytes.PartBytes.{PartBytes}
 use Rattle.context_bytes.specs.declared.variables_bytes.VariablesBytes.{VariablesBytes}
 
 -- the part that it is
 abbrev pub part_of : PartBytes → PartReq
-part_of p = part_at p.bytes.now p.at p.depth
+part_of p = part_in p.bytes.now p.depth
 
 -- the requirement that the list is
 abbrev pub variables_of : VariablesBytes → PartReq
-variables_of v = list_at v.bytes.now v.at
+variables_of v = list_in v.bytes.now
 
 abbrev pub SubpartIs : Subpart → Option PartBytes → Type 0
 SubpartIs sub None = sub ≡ gone

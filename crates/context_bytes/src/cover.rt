@@ -1,9 +1,9 @@
 // Whether a context has all that a need asks: one walk along the need's cells and the context's bytes, side by side.
 // Stays: a piece is its number, with no type of its own: cells and slots hold it as a word, and laws over them would carry a projection.
-ghost use Rattle.std.specs.Prelude.{◌≤◌, ◌<◌, length};
+ghost use Rattle.std.specs.Prelude.{◌≤◌, ◌<◌};
 ghost use Rattle.part.specs.PartReq.{spine};
 ghost use Rattle.part.specs.Store.{top, part, Good};
-ghost use Rattle.request.specs.Answers.{from};
+ghost use Rattle.request.specs.Fields.{fields};
 ghost use Rattle.request.specs.Part.{read_part, read_entries, read_variables};
 ghost use Rattle.context_bytes.specs.Covered.{covers, Covers, AsksPieces};
 
@@ -35,63 +35,63 @@ fn ask(cells: &[u32], n: u32, i: u32) -> Option<(u32, u32)>
     Some((x.child, x.rest))
 }
 
-// A part at most `depth` deep, and what n asks of it: where the next field stands, if that was there.
+// A part at most `depth` deep, and what n asks of it: the bytes behind it, if that was there.
 #[cycle(covers_entries_covers_part)]
-fn covers_part(cells: &[u32], n: u32, bytes: &[u8], at: usize, depth: usize) -> Option<usize>
+fn covers_part<'a>(cells: &[u32], n: u32, bytes: &'a [u8], depth: usize) -> Option<&'a [u8]>
     requires good { Good cells.now }
-    requires n_bound { (n < top cells.now) × (at ≤ length bytes.now) }
-    ensures { Covers bytes.now at (covers (part cells.now n) (read_part depth (from bytes.now at))) result }
+    requires n_bound { n < top cells.now }
+    ensures { Covers bytes.now (covers (part cells.now n) (read_part depth (fields bytes.now))) result }
 {
-    match part_code(bytes, at, depth)? {
-        Code::All => Some(at + 2),
+    let (code, rest) = part_code(bytes, depth)?;
+    match code {
+        Code::All => Some(rest),
         Code::Exist => {
             if n == EXIST_PIECE {
-                return Some(at + 2);
+                return Some(rest);
             }
             None
         }
-        Code::Entries(k) => covers_entries(cells, n, bytes, at + 2 + 2, depth - 1, 0, k),
+        Code::Entries(k) => covers_entries(cells, n, rest, depth - 1, 0, k),
     }
 }
 
 // k entries, whose parts are at most `depth` deep, and what n asks of them. An entry that n does not ask for is asked for nothing.
 #[cycle(covers_entries_covers_part)]
-fn covers_entries(
+fn covers_entries<'a>(
     cells: &[u32],
     n: u32,
-    bytes: &[u8],
-    at: usize,
+    bytes: &'a [u8],
     depth: usize,
     base: u32,
     k: usize,
-) -> Option<usize>
+) -> Option<&'a [u8]>
     requires good { Good cells.now }
-    requires n_bound { (n < top cells.now) × (at ≤ length bytes.now) × (base ≤ spine) }
-    ensures { Covers bytes.now at (covers (part cells.now n) (read_entries (read_part depth) base 0 k (from bytes.now at))) result }
+    requires n_bound { (n < top cells.now) × (base ≤ spine) }
+    ensures { Covers bytes.now (covers (part cells.now n) (read_entries (read_part depth) base 0 k (fields bytes.now))) result }
 {
-    let mut next = at;
+    let mut left = bytes;
     let mut least: u32 = 0;
     let mut m = n;
     for _ in 0..k {
-        let i = entry_index(bytes, next, least)?;
+        let (i, rest) = entry_index(left, least)?;
         let (c, r) = ask(cells, m, base + i)?;
-        let end = covers_part(cells, c, bytes, next + 2, depth)?;
+        let end = covers_part(cells, c, rest, depth)?;
         m = r;
-        next = end;
+        left = end;
         least = i + 1;
     }
     if m == ALL_PIECE || EMPTY_PIECE < m {
         return None;
     }
-    Some(next)
+    Some(left)
 }
 
 // A list of variables, and what n asks of them.
-pub fn covers_variables(cells: &[u32], n: u32, bytes: &[u8], at: usize) -> Option<usize>
+pub fn covers_variables<'a>(cells: &[u32], n: u32, bytes: &'a [u8]) -> Option<&'a [u8]>
     requires good { Good cells.now }
-    requires n_bound { (n < top cells.now) × (at ≤ length bytes.now) }
-    ensures { Covers bytes.now at (covers (part cells.now n) (read_variables (from bytes.now at))) result }
+    requires n_bound { n < top cells.now }
+    ensures { Covers bytes.now (covers (part cells.now n) (read_variables (fields bytes.now))) result }
 {
-    let count = field(bytes, at)? as usize;
-    covers_entries(cells, n, bytes, at + 2, MAX_DEPTH, SPINE, count)
+    let (count, entries) = field(bytes)?;
+    covers_entries(cells, n, entries, MAX_DEPTH, SPINE, count as usize)
 }

@@ -4,13 +4,12 @@ ghost use Rattle.context_bytes.specs.Found.{Readable};
 use crate::find::find_entry;
 use request::codes::{Code, part_code};
 
-// Its first byte is at `at`, and it is at most `depth` deep.
+// The bytes begin with it, and it is at most `depth` deep.
 #[derive(Clone, Copy, Drop)]
 pub struct PartBytes<'a> {
     pub bytes: &'a [u8],
-    pub at: usize,
     pub depth: usize,
-    pub ghost readable: { Readable bytes.now at depth },
+    pub ghost readable: { Readable bytes.now depth },
 }
 
 impl<'a> PartBytes<'a> {
@@ -22,16 +21,14 @@ impl<'a> PartBytes<'a> {
     pub fn get_subpart(&self, i: u32) -> Option<PartBytes<'a>>
         ensures { SubpartIs (get_subpart (part_of self.now) i) result }
     {
-        match part_code(self.bytes, self.at, self.depth)? {
+        let (code, entries) = part_code(self.bytes, self.depth)?;
+        match code {
             Code::All => Some(*self),
             Code::Exist => None,
             Code::Entries(n) => {
-                let (at, depth) = find_entry(self.bytes, self.at + 2 + 2, self.depth - 1, n, i)?;
-                Some(PartBytes {
-                    bytes: self.bytes,
-                    at,
-                    depth,
-                })
+                let depth = self.depth - 1;
+                let bytes = find_entry(entries, depth, n, i)?;
+                Some(PartBytes { bytes, depth })
             }
         }
     }
@@ -40,13 +37,25 @@ impl<'a> PartBytes<'a> {
     pub fn is_all(&self) -> bool
         ensures { result ≡ is_all (part_of self.now) }
     {
-        part_code(self.bytes, self.at, self.depth) == Some(Code::All)
+        let Some((code, rest)) = part_code(self.bytes, self.depth) else {
+            return false;
+        };
+        match code {
+            Code::All => true,
+            _ => false,
+        }
     }
 
     // Whether no value is needed.
     pub fn is_exist(&self) -> bool
         ensures { result ≡ is_exist (part_of self.now) }
     {
-        part_code(self.bytes, self.at, self.depth) == Some(Code::Exist)
+        let Some((code, rest)) = part_code(self.bytes, self.depth) else {
+            return false;
+        };
+        match code {
+            Code::Exist => true,
+            _ => false,
+        }
     }
 }

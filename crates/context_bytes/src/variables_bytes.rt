@@ -3,13 +3,13 @@ ghost use Rattle.context_bytes.specs.Found.{ListReadable};
 
 use crate::find::find_variable;
 use crate::part_bytes::PartBytes;
+use field::limits::MAX_DEPTH;
 
-// Its count is at the byte `at`.
+// The bytes begin with it.
 #[derive(Clone, Copy, Drop)]
 pub struct VariablesBytes<'a> {
     pub bytes: &'a [u8],
-    pub at: usize,
-    pub ghost readable: { ListReadable bytes.now at },
+    pub ghost readable: { ListReadable bytes.now },
 }
 
 impl<'a> VariablesBytes<'a> {
@@ -21,11 +21,8 @@ impl<'a> VariablesBytes<'a> {
     pub fn get(&self, i: u32) -> Option<PartBytes<'a>>
         ensures { SubpartIs (get_subpart (variables_of self.now) (variable i)) result }
     {
-        let (at, depth) = find_variable(self.bytes, self.at, i)?;
-        Some(PartBytes {
-            bytes: self.bytes,
-            at,
-            depth,
-        })
+        let bytes = find_variable(self.bytes, i)?;
+        let depth = MAX_DEPTH;
+        Some(PartBytes { bytes, depth })
     }
 }

@@ -15,6 +15,7 @@ use memory::parts::Parts;
 use module::handles::{ExpressionHandle, FunctionHandle};
 
 // The needs of both blocks are joined, and the condition is needed.
+// Stays: file, f and e side by side, as in `ask_value` of asking: each of the three functions here is called once, with another expression.
 pub fn end_if(
     file: &File,
     f: FunctionHandle,

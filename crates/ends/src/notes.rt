@@ -1,6 +1,5 @@
 // What is carried along at a point, and of a statement that breaks its rule.
 ghost use Rattle.std.specs.Prelude.{◌<◌, ◌-◌};
-ghost use Rattle.field.specs.Limits.{absent};
 ghost use Rattle.hold.specs.Hold.{in_slot, Live};
 ghost use Rattle.standing.specs.Standing.{Noted, Blames};
 ghost use Rattle.standing.specs.Passing.{going};
@@ -9,6 +8,7 @@ use field::limits::MAX_PIECES;
 use memory::parts::Parts;
 use part::store::measure;
 use standing::passing::Passing;
+use strays::lower::lower_at;
 
 // At a point, with the needs at hand: whether they pass 15, and 16.
 pub fn note(parts: &Parts, n: usize, p: Passing) -> Passing
@@ -26,18 +26,11 @@ pub fn note(parts: &Parts, n: usize, p: Passing) -> Passing
 }
 
 // The statement l breaks its rule.
-pub fn blame(l: u16, p: Passing) -> Passing
-    requires { l < absent }
+pub fn blame(l: u32, p: Passing) -> Passing
     ensures { Blames l (going p) (going result) }
 {
-    match p.fault {
-        None => Passing {
-            fault: Some(l),
-            ..p
-        },
-        Some(m) => Passing {
-            fault: Some(m.min(l)),
-            ..p
-        },
+    Passing {
+        fault: lower_at(l, p.fault),
+        ..p
     }
 }

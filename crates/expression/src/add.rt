@@ -18,6 +18,8 @@ use memory::parts::Parts;
 use memory::want::Want;
 use state::answer::{Tally, Walked};
 
+// Stays: numbers of their own. These are slots behind a context's first one; judge's, spelled alike, are entries of a frame's part in the clearance, which
+// has maps for evaluated expressions behind them, and of which the walk knows nothing.
 // The places of a context's maps.
 const LOCALS: usize = 1;
 
@@ -33,15 +35,13 @@ pub fn add_expression(file: &File, parts: &mut Parts, v: &Visit, w: Want, began:
     if MAX_VISITS <= began.visits {
         return Err(v.halt(Refusal::VisitsLimit));
     }
-    if !allowed(parts, v.at, v.held, began.sum) {
-        return Err(v.halt(Refusal::PiecesLimit));
-    }
+    allowed(parts, v.at, v.held, began.sum).ok_or(v.halt(Refusal::PiecesLimit))?;
     let mut tally = Tally {
         visits: began.visits + 1,
         ..began
     };
     let mut j = 0;
-    // Stays: the arm's answers end the loop, and no count; a `for` would need an end of its own.
+    // Stays: `ask` ends it, and no count. `for j in 0..` saves the two lines that count, and takes a `let Some(a) = .. else { break; };` of three.
     while let Some(a) = ask(file, parts, v.function, v.expression, w, j) {
         match a {
             Ask::Operand(h, want) => {

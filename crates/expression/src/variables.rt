@@ -1,5 +1,6 @@
 // What an arm asks of a variable, and the end of its visit: an arm that asks one asks nothing else.
 ghost use Rattle.std.specs.Prelude.{List, ℕ, ◌+◌, ◌<◌, get_or};
+ghost use Rattle.std.specs.Option.{is_none};
 ghost use Rattle.part.specs.PartReq.{spine};
 ghost use Rattle.part.specs.Store.{part};
 ghost use Rattle.walk.specs.Expression.{joined};
@@ -21,18 +22,18 @@ use part::req::get;
 use part::store::over;
 use state::answer::{Tally, Walked};
 
-// Joins what w asks to the entry of the variable i in a map of the context in the slots from `at` on, where that passes no limit. Whether it does.
-fn join(parts: &mut Parts, at: usize, map: usize, i: u32, w: Want) -> bool
+// Joins what w asks to the entry of the variable i in a map of the context in the slots from `at` on, where that passes no limit; none where it does.
+fn join(parts: &mut Parts, at: usize, map: usize, i: u32, w: Want) -> Option<()>
     requires { Mapping parts.old.cells parts.old.slots (at + map) i w }
-    ensures { Meets parts.old.cells parts.old.slots (at + map) (joined (part parts.old.cells (get_or parts.old.slots (at + map) 0)) i (asked parts.old.cells parts.old.slots w)) result parts.new.cells parts.new.slots }
+    ensures { Meets parts.old.cells parts.old.slots (at + map) (joined (part parts.old.cells (get_or parts.old.slots (at + map) 0)) i (asked parts.old.cells parts.old.slots w)) (is_none result) parts.new.cells parts.new.slots }
 {
     let n = parts.slots[at + map];
     let r = join_asked(&mut parts.cells, &parts.slots, n, i, w);
     if over(&parts.cells, r) {
-        return true;
+        return None;
     }
     parts.slots[at + map] = r;
-    false
+    Some(())
 }
 
 // The entry i of a map of the current context is asked w, and the visit ends: an argument's or a local's, by the map's place in the context.
@@ -49,9 +50,7 @@ pub fn entry(
     requires in_bounds { (map < 4) × (i < spine) }
     ensures { (bytes : List ℕ) → Ready bytes file.now.t parts.old.cells parts.old.slots v.now.function.0 v.now.at v.now.held tally.sum → EntryWalks bytes file.now.t v.now.function.0 v.now.at v.now.held parts.old.cells parts.old.slots map v.now.expression.0 i (asked parts.old.cells parts.old.slots w) tally.visits result parts.new.cells parts.new.slots }
 {
-    if join(parts, v.at, map, i, w) {
-        return Err(v.halt(Refusal::PartLimit));
-    }
+    join(parts, v.at, map, i, w).ok_or(v.halt(Refusal::PartLimit))?;
     close(file, parts, v, w, tally)
 }
 

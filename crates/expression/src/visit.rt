@@ -1,5 +1,6 @@
 // How a visit begins and how it ends.
 ghost use Rattle.std.specs.Prelude.{◌≡◌, List, ℕ};
+ghost use Rattle.std.specs.Option.{is_some};
 ghost use Rattle.memory.specs.Want.{asked};
 ghost use Rattle.state.specs.Ready.{Ready};
 ghost use Rattle.state.specs.declared.answer.Place.TheVariants.{Expression};
@@ -38,17 +39,17 @@ impl Visit {
     }
 }
 
-// Whether 16 allows what is held, with the context in the slots from `at` on. Where it does, there is room for a visit then.
-pub fn allowed(parts: &mut Parts, at: usize, held: usize, sum: usize) -> bool
+// None where 16 does not allow what is held, with the context in the slots from `at` on. Where it does, there is room for a visit then.
+pub fn allowed(parts: &mut Parts, at: usize, held: usize, sum: usize) -> Option<()>
     requires { Counting parts.old.cells parts.old.slots at held sum }
-    ensures { Allowed parts.old.cells parts.old.slots at held sum result parts.new.cells parts.new.slots }
+    ensures { Allowed parts.old.cells parts.old.slots at held sum (is_some result) parts.new.cells parts.new.slots }
 {
     let pieces = weigh(parts, at, 4);
     if MAX_PIECES < held + (pieces + sum) {
-        return false;
+        return None;
     }
     tidy(parts);
-    true
+    Some(())
 }
 
 // The visit ends: the record, 16, and room for the next visit.
@@ -58,8 +59,6 @@ pub fn close(file: &File, parts: &mut Parts, v: &Visit, w: Want, tally: Tally) -
 {
     let number = file.expression_number(v.function, v.expression);
     let sum = note(parts, EXPRS + number, w, tally.sum);
-    if allowed(parts, v.at, v.held, sum) {
-        return Ok(Tally { sum, ..tally });
-    }
-    Err(v.halt(Refusal::PiecesLimit))
+    allowed(parts, v.at, v.held, sum).ok_or(v.halt(Refusal::PiecesLimit))?;
+    Ok(Tally { sum, ..tally })
 }

@@ -20,6 +20,7 @@ use Rattle.clearance.specs.Shape.{Shape, number, void, struct, array, member, is
 use Rattle.clearance.specs.Scope.{member_types, vector_shape, unfold_type}
 use Rattle.clearance.specs.IsNeed.{Tidy, IsNeed}
 use Rattle.needs.specs.Lean.{change, leaves}
+use Rattle.needs.proofs.Lean.{keep_some}
 use Rattle.forms.specs.ShapeBy.{shape_in, Members}
 use Rattle.forms.specs.Narrow.{level_cells, Narrow, or_all}
 use Rattle.forms.proofs.Shapes.{struct_out}
@@ -265,13 +266,6 @@ need_entry t (more j c r) i d N a e =
     ]
 
 -- an entry that stays as it is
-keep_some : (i : ℕ) (p r : PartReq) → some p ≡ true → keep i p r ≡ more i p r
-unfolding keep
-keep_some i all r e = refl
-keep_some i exist r e = never e
-keep_some i none r e = never e
-keep_some i (more j p s) r e = refl
-
 pub change-same : (i : ℕ) (p d : PartReq) → get_subpart p i ≡ there d → some d ≡ true → change i (λ c. d) p ≡ p
 unfolding change
 change-same i all d e s = refl

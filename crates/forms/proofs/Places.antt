@@ -2,8 +2,8 @@
 -- before it anew on both levels.
 use Prim.Native.Nat.{ℕ, zero, suc, ◌+◌, ◌-◌, ◌*◌, ◌/◌, ◌<◌, ◌≤◌}
 use native.Mathlib.Omega.{arith}
-use mathlib.Core.Path.{◌≡◌, refl, sym, ap, ◌∙◌}
-use mathlib.Core.Bool.{true, false}
+use mathlib.Core.Path.{◌≡◌, refl, sym, ap, subst, ◌∙◌}
+use mathlib.Core.Bool.{Bool, true, false}
 use mathlib.Core.List.{List, ◌∷◌}
 use lib.ListN.{length, get_or, drop, length-drop}
 use lib.Seq.{drop-cons}
@@ -14,24 +14,42 @@ use Rattle.part.specs.Found.{Got}
 use Rattle.part.proofs.Equations.{before, after, at, way, get_subpart-exist, get_subpart-none, get_subpart_before, get_subpart-at, get_subpart-after}
 use Rattle.part.proofs.Write.{stay}
 use Rattle.part.proofs.Making.{kept_trans}
+use Rattle.module.specs.File.{accepted, read_module}
 use Rattle.module.specs.Tables.{function_of, module_of}
 use Rattle.access.specs.Access.{global_at, local_at}
 use Rattle.access.proofs.Access.{global_is, local_is}
 use Rattle.valid.proofs.Accepted.{valid}
-use Rattle.context.specs.Types.{types_of}
+use Rattle.context.specs.Types.{types_of, AllSized}
+use Rattle.type_table.proofs.AllSized.{all_sized}
 use Rattle.clearance.specs.Shape.{Shape, member, extent, is_whole, some}
 use Rattle.clearance.specs.Scope.{Scope, variable, type_of, slots, kind_shape, frame, shape_of, expressions_of}
 use Rattle.clearance.specs.IsNeed.{Tidy, IsNeed}
-use Rattle.judge.specs.Given.{scope_at}
+use Rattle.judge.specs.Given.{scope_at, Given}
 use Rattle.judge.proofs.PathSteps.{function_valid}
 use Rattle.needs.specs.Lean.{change, leaves}
 use Rattle.needs.specs.Framed.{Framed}
 use Rattle.forms.specs.ShapeBy.{shape_in}
 use Rattle.forms.specs.Narrow.{level_cells, Narrow}
-use Rattle.forms.specs.Frames.{Framing, Rooted, place_cells}
+use Rattle.forms.specs.Frames.{Rooted, place_cells}
 use Rattle.forms.proofs.Shapes.{shape_is, struct-in}
 use Rattle.forms.proofs.Leaves.{leaves-gone, leaves-there, change-same, need_entry, gone_there, inside, struct-width, narrow_type}
 use Rattle.forms.proofs.Taking.{Left, EntryAsked, Changed, OutAsked, got_gone, got_there}
+
+-- a function of a module that was read, and the table of its types
+pub record Framing (bytes t : List ℕ) (f : ℕ) (types : List ℕ) : Type 0 where
+  pub read : read_module bytes ≡ accepted (module_of bytes t)
+  pub there : f < length (module_of bytes t).functions
+  pub same : (module_of bytes t).types ≡ types_of types
+  pub sized : AllSized (types_of types)
+
+-- what a subject says
+pub framed_by : {bytes t : List ℕ} {f : ℕ} {types alike : List ℕ} {paths : List Bool} → Given bytes t f types alike paths → Framing bytes t f types
+framed_by {bytes} {t} g = record {
+  read = g.of.read;
+  there = g.of.there;
+  same = g.values.same;
+  sized = subst AllSized g.values.same (all_sized (module_of bytes t) (valid bytes (module_of bytes t) g.of.read));
+}
 
 -- a kind of variables: so many, each with its shape
 pub record Slots (v : Shape) : Type 0 where
@@ -263,9 +281,9 @@ module _ {bytes t types s path : List ℕ} {f n : ℕ} (P : PlaceAsked bytes t f
           }
 
     module _ {c : ℕ} (C : Value (scope_at bytes t f) s x m y c) where
-      pub form_asks : Framing bytes t f types × (((x - spine ≡ 2 → ⊥) × (x - spine ≡ 3 → ⊥)) × ((x - spine ≤ 64) × (y - spine < extent (kind_shape (scope_at bytes t f) (x - spine)))))
+      pub form_asks : ((x - spine ≡ 2 → ⊥) × (x - spine ≡ 3 → ⊥)) × ((x - spine ≤ 64) × (y - spine < extent (kind_shape (scope_at bytes t f) (x - spine))))
       form_asks =
-          (P.1.0.0, (((λ q. P.1.0.1.argument (omega arith)), (λ q. P.1.0.1.result (omega arith))), (omega (arith, M.few), C.there)))
+          (((λ q. P.1.0.1.argument (omega arith)), (λ q. P.1.0.1.result (omega arith))), (omega (arith, M.few), C.there))
 
       module _ (w : Shape) (q : w ≡ member (kind_shape (scope_at bytes t f) (x - spine)) (variable (y - spine))) where
         value_is : w ≡ member (member whole x) y

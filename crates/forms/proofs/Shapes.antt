@@ -1,16 +1,16 @@
 -- What a type's row says of its shape: how many parts it has, the shape of each, and how all of it is split. Each by the kind, since the types that a type is made of are lower.
-use Prim.Native.Nat.{ℕ, zero, suc, ◌+◌, ◌<◌, ◌≤◌}
+use Prim.Native.Nat.{ℕ, ◌+◌, ◌<◌, ◌≤◌}
 use native.Mathlib.Omega.{arith}
 use mathlib.Core.Path.{◌≡◌, refl, sym, ap, ◌∙◌}
 use mathlib.Core.Logic.{◌⊎◌, inl, inr}
 use mathlib.Core.Bool.{true, false}
-use mathlib.Core.List.{List, [], ◌∷◌, map}
+use mathlib.Core.List.{List}
 use lib.Dec.{eqb}
 use lib.ListN.{length, get_or}
 use borrow.Author.Tests.{lt-ltb, le-ltb, eq-eqb, ne_eqb}
 use Rattle.part.specs.PartReq.{all, spine}
 use Rattle.module.specs.declared.handles.TypeHandle.{TypeHandle as Handle}
-use Rattle.module.specs.Module.{Member, TypeHandle, TypeInner, Scalar, Vector, Matrix, Atomic, Pointer, Array, Struct, BindingArray, Opaque}
+use Rattle.module.specs.Module.{TypeHandle, TypeInner, Scalar, Vector, Matrix, Atomic, Pointer, Array, Struct, BindingArray, Opaque}
 use Rattle.module.specs.Decode.{tab, member_of, type_inner_of}
 use Rattle.module.specs.Knot.{below}
 use Rattle.module.proofs.Knot.{below-lt, knot-is}
@@ -20,6 +20,7 @@ use Rattle.clearance.specs.Shape.{Shape, number, void, struct, array, member, ex
 use Rattle.clearance.specs.Scope.{Scope, inner, member_types, vector_shape, elements, unfold_type, shape_of, bases, kind}
 use Rattle.judge.specs.Alike.{Lower}
 use Rattle.judge.specs.Shapes.{part_count}
+use Rattle.judge.proofs.ShapeRows.{member_base, length_types}
 use Rattle.judge.proofs.TypeRows.{number as kind_of, row_is}
 use Rattle.forms.specs.ShapeBy.{shape_in, shape_by, Parted}
 use Rattle.forms.specs.declared.form.Form.{Form}
@@ -30,16 +31,6 @@ use Rattle.std.specs.Prelude.{Some, None}
 pub shape_is : (types : List ℕ) (S : Scope) → S.program.types ≡ types_of types → (t : TypeHandle) → shape_of S t ≡ shape_in (types_of types) t
 unfolding shape_of shape_in inner
 shape_is types S e t = rw e
-
-member_base : (ms : List Member) (i : ℕ) → member_types ms i ≡ get_or (map (λ m. m.type) ms) i 0
-unfolding member_types
-member_base [] i = refl
-member_base (m ∷ ms) zero = refl
-member_base (m ∷ ms) (suc i) = member_base ms i
-
-length_types : (ms : List Member) → length (map (λ m. m.type) ms) ≡ length ms
-length_types [] = refl
-length_types (m ∷ ms) = ap suc (length_types ms)
 
 -- parts of a shape
 pub struct-in : (b n i : ℕ) (f : ℕ → Shape) → b ≤ i → i < b + n → member (struct b n f) i ≡ f i

@@ -1,22 +1,12 @@
 -- What the functions on places of a frame are given, and what they cost.
-use Rattle.std.specs.Prelude.{ℕ, ◌+◌, ◌*◌, ◌<◌, ◌≤◌, ◌≡◌, List, length, get_or}
+use Rattle.std.specs.Prelude.{ℕ, ◌+◌, ◌*◌, ◌≤◌, ◌≡◌, List, length, get_or}
 use Rattle.part.specs.PartReq.{PartReq, none}
-use Rattle.module.specs.File.{accepted, read_module}
 use Rattle.module.specs.Tables.{module_of}
-use Rattle.context.specs.Types.{types_of, AllSized}
+use Rattle.context.specs.Types.{types_of}
 use Rattle.clearance.specs.Shape.{Shape, keep, trim}
 use Rattle.clearance.specs.Scope.{variable, slots}
-use Rattle.judge.specs.Alike.{Lower}
 use Rattle.forms.specs.ShapeBy.{shape_in}
 use Rattle.forms.specs.Narrow.{level_cells}
-
--- a function of a module that was read, and the table of its types
-pub record Framing (bytes t : List ℕ) (f : ℕ) (types : List ℕ) : Type 0 where
-  pub read : read_module bytes ≡ accepted (module_of bytes t)
-  pub there : f < length (module_of bytes t).functions
-  pub same : (module_of bytes t).types ≡ types_of types
-  pub lower : Lower (types_of types)
-  pub sized : AllSized (types_of types)
 
 -- a path that starts at a global, a local or an evaluated expression: neither at an argument nor at the result
 pub record Rooted (path : List ℕ) : Type 0 where

@@ -56,38 +56,11 @@ fn component(n: u32, i: u32) -> Form
     if i < n { Form::Number } else { Form::Void }
 }
 
-// The shape of the part i.
-pub fn member_form(types: &Types, form: Form, i: u32) -> Form
-    ensures { shape_by types.now.rows.now result ≡ member (shape_by types.now.rows.now form) i }
-{
-    match form {
-        Form::Void | Form::Number => Form::Void,
-        Form::Vector(n) => component(n, i),
-        Form::Of(t) => type_member(types, t, i),
-    }
-}
-
-pub fn is_void(types: &[u32], form: Form) -> bool
-    ensures { result ≡ is_void (shape_by types.now form) }
-{
-    matches!(form, Form::Void)
-}
-
 // Whether the type t is an array's.
 fn whole_type(types: &[u32], t: TypeHandle) -> bool
     ensures { result ≡ is_whole (shape_in (types_of types.now) t.0) }
 {
     matches!(kind_at(types, t), TypeKind::Array | TypeKind::BindingArray)
-}
-
-// Whether it is taken out whole or not at all.
-pub fn is_whole(types: &[u32], form: Form) -> bool
-    ensures { result ≡ is_whole (shape_by types.now form) }
-{
-    match form {
-        Form::Of(t) => whole_type(types, t),
-        _ => false,
-    }
 }
 
 // Into how many parts all of the type t is split, if it is.
@@ -100,13 +73,42 @@ fn type_split(types: &[u32], t: TypeHandle) -> Option<u32>
     }
 }
 
-// Into how many parts all of it is split, if it is.
-pub fn split_of(types: &[u32], form: Form) -> Option<u32>
-    ensures { Parted (shape_by types.now form) result }
-{
-    match form {
-        Form::Void | Form::Number => None,
-        Form::Vector(n) => Some(n),
-        Form::Of(t) => type_split(types, t),
+impl Form {
+    // The shape of the part i.
+    pub fn member(self, types: &Types, i: u32) -> Form
+        ensures { shape_by types.now.rows.now result ≡ member (shape_by types.now.rows.now self) i }
+    {
+        match self {
+            Form::Void | Form::Number => Form::Void,
+            Form::Vector(n) => component(n, i),
+            Form::Of(t) => type_member(types, t, i),
+        }
+    }
+
+    pub fn is_void(self) -> bool
+        ensures { (types : List ℕ) → result ≡ is_void (shape_by types self) }
+    {
+        matches!(self, Form::Void)
+    }
+
+    // Whether it is taken out whole or not at all.
+    pub fn is_whole(self, types: &[u32]) -> bool
+        ensures { result ≡ is_whole (shape_by types.now self) }
+    {
+        match self {
+            Form::Of(t) => whole_type(types, t),
+            _ => false,
+        }
+    }
+
+    // Into how many parts all of it is split, if it is.
+    pub fn split(self, types: &[u32]) -> Option<u32>
+        ensures { Parted (shape_by types.now self) result }
+    {
+        match self {
+            Form::Void | Form::Number => None,
+            Form::Vector(n) => Some(n),
+            Form::Of(t) => type_split(types, t),
+        }
     }
 }

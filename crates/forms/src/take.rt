@@ -8,7 +8,7 @@ ghost use Rattle.needs.specs.Lean.{change, leaves};
 ghost use Rattle.forms.specs.ShapeBy.{shape_by};
 ghost use Rattle.forms.specs.Narrow.{level_cells, Narrow, or_all};
 
-use crate::form::{Form, is_whole, member_form, split_of};
+use crate::form::Form;
 use crate::types::Types;
 use part::req::get;
 use part::store::{ALL_PIECE, EMPTY_PIECE, EXIST_PIECE, look, make};
@@ -83,10 +83,10 @@ fn take_all(cells: &mut [u32], types: &Types, form: Form, path: &[u32]) -> u32
     let Some((i, rest)) = path.split_first() else {
         return EMPTY_PIECE;
     };
-    let Some(n) = split_of(types.rows, form) else {
+    let Some(n) = form.split(types.rows) else {
         return ALL_PIECE;
     };
-    let m = member_form(types, form, *i);
+    let m = form.member(types, *i);
     let d = take_all(cells, types, m, rest);
     members_around(cells, n, *i, d)
 }
@@ -105,13 +105,13 @@ pub fn take_out(cells: &mut [u32], types: &Types, form: Form, p: u32, path: &[u3
     if p == ALL_PIECE {
         return take_all(cells, types, form, path);
     }
-    if is_whole(types.rows, form) {
+    if form.is_whole(types.rows) {
         return p;
     }
     let Some(c) = get(cells, p, *i) else {
         return p;
     };
-    let m = member_form(types, form, *i);
+    let m = form.member(types, *i);
     let d = take_out(cells, types, m, c, rest);
     change_entry(cells, p, *i, d)
 }

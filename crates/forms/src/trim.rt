@@ -1,21 +1,20 @@
 // What a request asks, within the types of what it asks it of.
-ghost use Rattle.std.specs.Prelude.{◌≡◌, ◌+◌, ◌<◌};
+ghost use Rattle.std.specs.Prelude.{◌≡◌, ◌+◌, ◌<◌, List, ℕ};
 ghost use Rattle.part.specs.PartReq.{entries};
 ghost use Rattle.part.specs.Store.{top, part, Good, Room, Made};
-ghost use Rattle.module.specs.Tables.{module_of, function_of};
-ghost use Rattle.context.specs.Types.{types_of};
 ghost use Rattle.clearance.specs.Shape.{member, trim};
 ghost use Rattle.clearance.specs.Scope.{result_shape};
-ghost use Rattle.judge.specs.Given.{scope_at};
+ghost use Rattle.judge.specs.Subject.{scope_of, function_in};
 ghost use Rattle.forms.specs.ShapeBy.{shape_by};
 ghost use Rattle.forms.specs.Frames.{globals_shape, trim_globals};
 
-use crate::form::{Form, is_void, member_form};
+use crate::form::Form;
 use crate::take::keep;
 use crate::types::Types;
 use access::file::File;
 use judge::frame::GLOBALS;
-use module::handles::{FunctionHandle, GlobalHandle};
+use judge::subject::Subject;
+use module::handles::GlobalHandle;
 use part::limits::SPINE;
 use part::store::{ALL_PIECE, EMPTY_PIECE, look};
 
@@ -26,7 +25,7 @@ pub fn trim_part(cells: &mut [u32], types: &Types, form: Form, p: u32) -> u32
     ensures { Made cells.old cells.new (trim (part cells.old p) (shape_by types.now.rows.now form)) (entries (part cells.old p)) result }
 {
     if p == ALL_PIECE {
-        if is_void(types.rows, form) {
+        if form.is_void() {
             return EMPTY_PIECE;
         }
         return ALL_PIECE;
@@ -35,15 +34,15 @@ pub fn trim_part(cells: &mut [u32], types: &Types, form: Form, p: u32) -> u32
         return EMPTY_PIECE;
     }
     let x = look(cells, p);
-    let m = member_form(types, form, x.index);
+    let m = form.member(types, x.index);
     let c = trim_part(cells, types, m, x.child);
     let r = trim_part(cells, types, form, x.rest);
     keep(cells, x.index, c, r)
 }
 
 // The shape of the entry i of the map of globals.
-fn global_form(file: &File, types: &[u32], i: u32) -> Form
-    ensures { shape_by types.now result ≡ member (globals_shape file.now.bytes file.now.t types.now) i }
+fn global_form(file: &File, i: u32) -> Form
+    ensures { (types : List ℕ) → shape_by types result ≡ member (globals_shape file.now.bytes file.now.t types) i }
 {
     if i < SPINE {
         return Form::Void;
@@ -68,7 +67,7 @@ fn trim_map(cells: &mut [u32], file: &File, types: &Types, p: u32) -> u32
         return EMPTY_PIECE;
     }
     let x = look(cells, p);
-    let m = global_form(file, types.rows, x.index);
+    let m = global_form(file, x.index);
     let c = trim_part(cells, types, m, x.child);
     let r = trim_map(cells, file, types, x.rest);
     keep(cells, x.index, c, r)
@@ -85,23 +84,24 @@ pub fn trim_globals(cells: &mut [u32], file: &File, types: &Types, p: u32) -> u3
 }
 
 // The shape of a function's result.
-fn result_form(file: &File, f: FunctionHandle, types: &[u32]) -> Form
-    requires { (module_of file.now.bytes file.now.t).types ≡ types_of types.now }
-    ensures { shape_by types.now result ≡ result_shape (scope_at file.now.bytes file.now.t f.0) (function_of file.now.bytes file.now.t f.0).result }
+fn result_form(subject: &Subject) -> Form
+    ensures { shape_by subject.now.types.now result ≡ result_shape (scope_of subject.now) (function_in subject.now).result }
 {
-    match file.result(f) {
+    match subject.file.result(subject.f) {
         Some(x) => Form::Of(x.ty),
         None => Form::Void,
     }
 }
 
 // What is left of p, asked of a function's result.
-pub fn trim_value(cells: &mut [u32], file: &File, f: FunctionHandle, types: &Types, p: u32) -> u32
+pub fn trim_value(cells: &mut [u32], subject: &Subject, p: u32) -> u32
     requires good { Good cells.old }
-    requires same { (module_of file.now.bytes file.now.t).types ≡ types_of types.now.rows.now }
     requires p_bound { (p < top cells.old) × Room cells.old (entries (part cells.old p)) }
-    ensures { Made cells.old cells.new (trim (part cells.old p) (result_shape (scope_at file.now.bytes file.now.t f.0) (function_of file.now.bytes file.now.t f.0).result)) (entries (part cells.old p)) result }
+    ensures { Made cells.old cells.new (trim (part cells.old p) (result_shape (scope_of subject.now) (function_in subject.now).result)) (entries (part cells.old p)) result }
 {
-    let form = result_form(file, f, types.rows);
-    trim_part(cells, types, form, p)
+    let types = Types {
+        rows: subject.types,
+    };
+    let form = result_form(subject);
+    trim_part(cells, &types, form, p)
 }

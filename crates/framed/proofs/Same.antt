@@ -5,12 +5,12 @@ use native.Mathlib.Omega.{arith}
 use native.Mathlib.Decide.{dec_lt}
 use mathlib.Core.Path.{◌≡◌, refl, sym, ap, ◌∙◌, fun_ext}
 use mathlib.Core.Bool.{Bool, true, false, cond}
-use mathlib.Core.List.{List, [], ◌∷◌, map}
+use mathlib.Core.List.{List, [], ◌∷◌}
 use lib.Dec.{ltb}
 use lib.ListN.{length, get_or}
 use borrow.Author.Tests.{ne_eqb, lt-ltb, le-ltb}
 use Rattle.part.specs.PartReq.{PartReq, all, exist, none, more, spine}
-use Rattle.module.specs.Module.{TypeHandle, TypeInner, Scalar, Vector, Matrix, Atomic, Pointer, Array, Struct, BindingArray, Opaque, Member}
+use Rattle.module.specs.Module.{TypeHandle, TypeInner, Scalar, Vector, Matrix, Atomic, Pointer, Array, Struct, BindingArray, Opaque}
 use Rattle.module.specs.Knot.{below}
 use Rattle.module.proofs.Knot.{knot-is, below-lt}
 use Rattle.clearance.specs.Shape.{Shape, number, void, struct, array, member, is_void, shape_at, trim}
@@ -20,7 +20,7 @@ use Rattle.clearance.specs.IsNeed.{Tidy}
 use Rattle.judge.specs.Alike.{Lower}
 use Rattle.judge.proofs.Pairwise.{pairwise-long, pairwise-at, equal_lists}
 use Rattle.judge.proofs.Equivalence.{inner_parts}
-use Rattle.judge.proofs.ShapeRows.{alike_same}
+use Rattle.judge.proofs.ShapeRows.{alike_same, member_base, length_types}
 use Rattle.framed.specs.Same.{Head, number_head, void_head, struct_head, array_head, head, SameShape}
 
 -- Shapes that are the same
@@ -93,16 +93,6 @@ unfold_head w v (Struct ms) = refl
 unfold_head w v (BindingArray base) = refl
 unfold_head w v Opaque = refl
 
-pub member_base : (ms : List Member) (j : ℕ) → member_types ms j ≡ get_or (map (λ m. m.type) ms) j 0
-unfolding member_types
-member_base [] j = refl
-member_base (m ∷ ms) zero = refl
-member_base (m ∷ ms) (suc j) = member_base ms j
-
-pub members_long : (ms : List Member) → length (map (λ m. m.type) ms) ≡ length ms
-members_long [] = refl
-members_long (m ∷ ms) = ap suc (members_long ms)
-
 -- the members of a struct: one that is there, and one that is not
 pub member-in : (b n : ℕ) (f : ℕ → Shape) (j : ℕ) → b ≤ j → j < b + n → member (struct b n f) j ≡ f j
 unfolding member
@@ -142,7 +132,7 @@ unfold_step w v (Pointer base) j h = refl
 unfold_step w v (Array base n) j h = array-step (elements n) (w base) (v base) j (h 0 (omega arith))
 unfold_step w v (Struct ms) j h =
     struct-step (length ms) (λ i. w (member_types ms i)) (λ i. v (member_types ms i)) j
-    (λ l. ap w (member_base ms j) ∙ h j (omega (arith, members_long ms)) ∙ ap v (sym (member_base ms j)))
+    (λ l. ap w (member_base ms j) ∙ h j (omega (arith, length_types ms)) ∙ ap v (sym (member_base ms j)))
 unfold_step w v (BindingArray base) j h = array-step spine (w base) (v base) j (h 0 (omega arith))
 unfold_step w v Opaque j h = refl
 
@@ -204,7 +194,7 @@ module _ (S : Scope) (L : Lower S.program.types) where
   by-kind Atomic = refl
   by-kind (Pointer base) = refl
   by-kind (Array base n) = refl
-  by-kind (Struct ms) = rw (members_long ms) (ap (struct 0 (length ms)) (fun_ext (λ j. ap (shape_of S) (member_base ms j))))
+  by-kind (Struct ms) = rw (length_types ms) (ap (struct 0 (length ms)) (fun_ext (λ j. ap (shape_of S) (member_base ms j))))
   by-kind (BindingArray base) = refl
   by-kind Opaque = refl
 

@@ -56,10 +56,10 @@ pub fn add_function(
     requires base_bound { base + 4 ≤ slot_count }
     ensures { FunctionEndsOf world.now space.old f.0 base held (add_function (module_by world.now) f.0 (place_of here) held (get_or (read space.old.parts.cells space.old.parts.slots) base none) (get_or (read space.old.parts.cells space.old.parts.slots) (base + 3) none) (state_by world.now space.old f.0 base tally.visits)) result space.new }
 {
-    let b = world.file.body_block(f);
+    let b = world.typed.file.body_block(f);
     let at = base + 4;
     let a = add_block(world, space, f, b, base, at, held, false, tally)?;
-    let tally = add_total(world.file, world.places, space, f, at, here, a.tally)?;
+    let tally = add_total(world.typed.file, world.places, space, f, at, here, a.tally)?;
     Ok(Answer {
         tally,
         required: a.required,
@@ -83,7 +83,7 @@ pub fn add_block(
     requires { EnteredOf world.now space.old f.0 b.0 base at held (held + context_in space.old.parts.cells space.old.parts.slots base) began.sum began.visits }
     ensures { BlockEndsOf world.now space.old f.0 base at held (held + context_in space.old.parts.cells space.old.parts.slots base) began.sum (blocks_by world.now f.0 b.0 held (context_at (read space.old.parts.cells space.old.parts.slots) base) break_required (state_by world.now space.old f.0 at began.visits)) result space.new }
 {
-    let range = world.file.block(f, b);
+    let range = world.typed.file.block(f, b);
     let first = range.first;
     let inner = held + weigh(&space.parts, base, 4);
     copy_context(&mut space.parts.slots, base, at);
@@ -123,10 +123,8 @@ pub fn add_statement(
     if MAX_VISITS <= tally.visits {
         return Err(fr.halt(Refusal::VisitsLimit));
     }
-    if !allowed(&mut space.parts, fr.at, fr.held, tally.sum) {
-        return Err(fr.halt(Refusal::PiecesLimit));
-    }
-    let row = world.file.statement(f, fr.statement);
+    allowed(&mut space.parts, fr.at, fr.held, tally.sum).ok_or(fr.halt(Refusal::PiecesLimit))?;
+    let row = world.typed.file.statement(f, fr.statement);
     let counted = Tally {
         visits: tally.visits + 1,
         ..tally
@@ -136,6 +134,8 @@ pub fn add_statement(
 }
 
 // The arm with its marks.
+// Stays: fr, b and row side by side, in the seven functions with `ArmsOf`. Its `begins` is a fact of the workspace, which they write: no field of a value
+// of the three could state it, and the clause would stay in each.
 #[cycle(walk)]
 fn add_arm(
     world: &World,
@@ -146,12 +146,12 @@ fn add_arm(
     tally: Tally,
 ) -> Answered
     requires { ArmsOf world.now space.old fr b.0 row tally.sum tally.visits }
-    ensures { StatementEndsOf world.now space.old fr (marked (module_by world.now) (frame_of space.old.parts.cells space.old.parts.slots fr) (add_statement (module_by world.now) (add_function (module_by world.now)) (blocks_by world.now fr.function.0) (frame_of space.old.parts.cells space.old.parts.slots fr) (statement_of row.kind (operand_at world.now.file.now.bytes row)) (state_by world.now space.old fr.function.0 fr.at tally.visits))) (λ b. b) result space.new }
+    ensures { StatementEndsOf world.now space.old fr (marked (module_by world.now) (frame_of space.old.parts.cells space.old.parts.slots fr) (add_statement (module_by world.now) (add_function (module_by world.now)) (blocks_by world.now fr.function.0) (frame_of space.old.parts.cells space.old.parts.slots fr) (statement_of row.kind (operand_at world.now.typed.now.file.now.bytes row)) (state_by world.now space.old fr.function.0 fr.at tally.visits))) (λ b. b) result space.new }
 {
     match StatementKind::try_from(row.kind) {
         Ok(StatementKind::Emit) => {
             return add_emit(
-                world.file,
+                world.typed.file,
                 world.places,
                 &space.parts,
                 &mut space.open,
@@ -170,8 +170,8 @@ fn add_arm(
         }
         _ => {}
     }
-    let r = add_leaf(world.file, world.types, &mut space.parts, fr, row, tally);
-    mark_statement(world.file, world.places, &mut space.open, fr, row, r)
+    let r = add_leaf(world.typed, &mut space.parts, fr, row, tally);
+    mark_statement(world.typed.file, world.places, &mut space.open, fr, row, r)
 }
 
 // The arm of a statement that holds blocks, with its marks. What was walked is one variable, so that the answers of the four do not lie beside each other.
@@ -186,7 +186,7 @@ fn add_holder(
 ) -> Answered
     requires arms { ArmsOf world.now space.old fr b.0 row tally.sum tally.visits }
     requires le_kind { (1 ≤ row.kind) × (row.kind ≤ 4) }
-    ensures { StatementEndsOf world.now space.old fr (marked (module_by world.now) (frame_of space.old.parts.cells space.old.parts.slots fr) (add_statement (module_by world.now) (add_function (module_by world.now)) (blocks_by world.now fr.function.0) (frame_of space.old.parts.cells space.old.parts.slots fr) (statement_of row.kind (operand_at world.now.file.now.bytes row)) (state_by world.now space.old fr.function.0 fr.at tally.visits))) (λ b. b) result space.new }
+    ensures { StatementEndsOf world.now space.old fr (marked (module_by world.now) (frame_of space.old.parts.cells space.old.parts.slots fr) (add_statement (module_by world.now) (add_function (module_by world.now)) (blocks_by world.now fr.function.0) (frame_of space.old.parts.cells space.old.parts.slots fr) (statement_of row.kind (operand_at world.now.typed.now.file.now.bytes row)) (state_by world.now space.old fr.function.0 fr.at tally.visits))) (λ b. b) result space.new }
 {
     let r = match StatementKind::try_from(row.kind) {
         Ok(StatementKind::Block) => add_nested(world, space, fr, b, row, tally),
@@ -194,7 +194,7 @@ fn add_holder(
         Ok(StatementKind::Switch) => add_switch(world, space, fr, b, row, tally),
         _ => add_loop(world, space, fr, b, row, tally),
     };
-    mark_statement(world.file, world.places, &mut space.open, fr, row, r)
+    mark_statement(world.typed.file, world.places, &mut space.open, fr, row, r)
 }
 
 // Two blocks one after the other, both from the base in the slots from `base` on. Their contexts are left in the slots from `at` on, and behind them.
@@ -257,11 +257,11 @@ pub fn add_nested(
 ) -> Answered
     requires arms { ArmsOf world.now space.old fr b.0 row tally.sum tally.visits }
     requires kind_value { row.kind ≡ 1 }
-    ensures { StatementEndsOf world.now space.old fr (add_nested (blocks_by world.now fr.function.0) (frame_of space.old.parts.cells space.old.parts.slots fr) (operand_at world.now.file.now.bytes row 0) (state_by world.now space.old fr.function.0 fr.at tally.visits)) StatementReq.BlockStmt result space.new }
+    ensures { StatementEndsOf world.now space.old fr (add_nested (blocks_by world.now fr.function.0) (frame_of space.old.parts.cells space.old.parts.slots fr) (operand_at world.now.typed.now.file.now.bytes row 0) (state_by world.now space.old fr.function.0 fr.at tally.visits)) StatementReq.BlockStmt result space.new }
 {
     let f = fr.function;
     let at = fr.at;
-    let inner = world.file.block_operand(row, 0);
+    let inner = world.typed.file.block_operand(row, 0);
     let held = fr.held + weigh(&space.parts, at, 4);
     let a = add_block(
         world,
@@ -290,12 +290,12 @@ pub fn add_if(
 ) -> Answered
     requires arms { ArmsOf world.now space.old fr b.0 row tally.sum tally.visits }
     requires kind_value { row.kind ≡ 2 }
-    ensures { StatementEndsOf world.now space.old fr (add_if (module_by world.now) (blocks_by world.now fr.function.0) (frame_of space.old.parts.cells space.old.parts.slots fr) (operand_at world.now.file.now.bytes row 0) (operand_at world.now.file.now.bytes row 1) (operand_at world.now.file.now.bytes row 2) (state_by world.now space.old fr.function.0 fr.at tally.visits)) StatementReq.If result space.new }
+    ensures { StatementEndsOf world.now space.old fr (add_if (module_by world.now) (blocks_by world.now fr.function.0) (frame_of space.old.parts.cells space.old.parts.slots fr) (operand_at world.now.typed.now.file.now.bytes row 0) (operand_at world.now.typed.now.file.now.bytes row 1) (operand_at world.now.typed.now.file.now.bytes row 2) (state_by world.now space.old fr.function.0 fr.at tally.visits)) StatementReq.If result space.new }
 {
     let f = fr.function;
     let at = fr.at;
-    let accept = world.file.block_operand(row, 1);
-    let reject = world.file.block_operand(row, 2);
+    let accept = world.typed.file.block_operand(row, 1);
+    let reject = world.typed.file.block_operand(row, 2);
     let held = fr.held + weigh(&space.parts, at, 4);
     let a = add_pair(
         world,
@@ -310,9 +310,9 @@ pub fn add_if(
         fr.break_required,
         tally,
     )?;
-    let condition = world.file.expression_operand(row, 0);
+    let condition = world.typed.file.expression_operand(row, 0);
     end_if(
-        world.file,
+        world.typed.file,
         &mut space.parts,
         fr,
         condition,
@@ -333,7 +333,7 @@ pub fn add_switch(
 ) -> Answered
     requires arms { ArmsOf world.now space.old fr b.0 row began.sum began.visits }
     requires kind_value { row.kind ≡ 3 }
-    ensures { StatementEndsOf world.now space.old fr (add_switch (module_by world.now) (blocks_by world.now fr.function.0) (frame_of space.old.parts.cells space.old.parts.slots fr) (operand_at world.now.file.now.bytes row 0) (tab (operand_at world.now.file.now.bytes row 1) (case_of (operand_at world.now.file.now.bytes row))) (state_by world.now space.old fr.function.0 fr.at began.visits)) StatementReq.Switch result space.new }
+    ensures { StatementEndsOf world.now space.old fr (add_switch (module_by world.now) (blocks_by world.now fr.function.0) (frame_of space.old.parts.cells space.old.parts.slots fr) (operand_at world.now.typed.now.file.now.bytes row 0) (tab (operand_at world.now.typed.now.file.now.bytes row 1) (case_of (operand_at world.now.typed.now.file.now.bytes row))) (state_by world.now space.old fr.function.0 fr.at began.visits)) StatementReq.Switch result space.new }
 {
     let f = fr.function;
     let at = fr.at;
@@ -341,18 +341,16 @@ pub fn add_switch(
     copy_context(&mut space.parts.slots, at, at + 4);
     let mut tally = began;
     let mut any = false;
-    for k in (0..world.file.operand(row, 1)).rev() {
-        let body = case_body(world.file, row, k);
+    for k in (0..world.typed.file.operand(row, 1)).rev() {
+        let body = case_body(world.typed.file, row, k);
         let held = outside + weigh(&space.parts, at + 4, 4);
         let a = add_block(world, space, f, body, at, at + 8, held, false, tally)?;
-        if end_case(&mut space.parts, at + 4) {
-            return Err(fr.halt(Refusal::PartLimit));
-        }
+        end_case(&mut space.parts, at + 4).ok_or(fr.halt(Refusal::PartLimit))?;
         tally = a.tally;
         any |= a.required;
     }
-    let selector = world.file.expression_operand(row, 0);
-    end_switch(world.file, &mut space.parts, fr, selector, any, tally)
+    let selector = world.typed.file.expression_operand(row, 0);
+    end_switch(world.typed.file, &mut space.parts, fr, selector, any, tally)
 }
 
 // `Loop`: the first pass, and the turns where it is required. It is not inlined: the walk calls itself, and would hold its frame on every level of blocks.
@@ -368,12 +366,12 @@ pub fn add_loop(
 ) -> Answered
     requires arms { ArmsOf world.now space.old fr b.0 row tally.sum tally.visits }
     requires kind_value { row.kind ≡ 4 }
-    ensures { StatementEndsOf world.now space.old fr (add_loop (module_by world.now) (blocks_by world.now fr.function.0) (frame_of space.old.parts.cells space.old.parts.slots fr) (operand_at world.now.file.now.bytes row 0) (operand_at world.now.file.now.bytes row 1) (option_of (operand_at world.now.file.now.bytes row 2)) (state_by world.now space.old fr.function.0 fr.at tally.visits)) StatementReq.Loop result space.new }
+    ensures { StatementEndsOf world.now space.old fr (add_loop (module_by world.now) (blocks_by world.now fr.function.0) (frame_of space.old.parts.cells space.old.parts.slots fr) (operand_at world.now.typed.now.file.now.bytes row 0) (operand_at world.now.typed.now.file.now.bytes row 1) (option_of (operand_at world.now.typed.now.file.now.bytes row 2)) (state_by world.now space.old fr.function.0 fr.at tally.visits)) StatementReq.Loop result space.new }
 {
     let f = fr.function;
     let at = fr.at;
-    let body = world.file.block_operand(row, 0);
-    let continuing = world.file.block_operand(row, 1);
+    let body = world.typed.file.block_operand(row, 0);
+    let continuing = world.typed.file.block_operand(row, 1);
     let held = fr.held + weigh(&space.parts, at, 4);
     let a = add_pair(
         world,
@@ -392,8 +390,8 @@ pub fn add_loop(
         drop_both(&mut space.parts.slots, at);
         return Ok(a);
     }
-    let break_if = world.file.optional_expression(row, 2);
-    let left = end_pass(world.file, &mut space.parts, fr, break_if, a.tally)?;
+    let break_if = world.typed.file.optional_expression(row, 2);
+    let left = end_pass(world.typed.file, &mut space.parts, fr, break_if, a.tally)?;
     add_turns(world, space, fr, b, body, continuing, left)
 }
 
@@ -457,11 +455,11 @@ pub fn add_call(
 ) -> Answered
     requires arms { ArmsOf world.now space.old fr b.0 row tally.sum tally.visits }
     requires kind_value { row.kind ≡ 14 }
-    ensures { StatementEndsOf world.now space.old fr (marked (module_by world.now) (frame_of space.old.parts.cells space.old.parts.slots fr) (add_statement (module_by world.now) (add_function (module_by world.now)) (blocks_by world.now fr.function.0) (frame_of space.old.parts.cells space.old.parts.slots fr) (statement_of row.kind (operand_at world.now.file.now.bytes row)) (state_by world.now space.old fr.function.0 fr.at tally.visits))) (λ b. b) result space.new }
+    ensures { StatementEndsOf world.now space.old fr (marked (module_by world.now) (frame_of space.old.parts.cells space.old.parts.slots fr) (add_statement (module_by world.now) (add_function (module_by world.now)) (blocks_by world.now fr.function.0) (frame_of space.old.parts.cells space.old.parts.slots fr) (statement_of row.kind (operand_at world.now.typed.now.file.now.bytes row)) (state_by world.now space.old fr.function.0 fr.at tally.visits))) (λ b. b) result space.new }
 {
     let f = fr.function;
     let at = fr.at;
-    let g = world.file.function_operand(row, 0);
+    let g = world.typed.file.function_operand(row, 0);
     let begun = begin_call(world, space, fr, row, tally.sum);
     let own = begun.own;
     let others = Tally {
@@ -477,7 +475,7 @@ pub fn add_call(
         begun.held,
         others,
     )?;
-    let sum = leave_call(world.file, &mut space.parts, g, at, a.tally.sum + own);
+    let sum = leave_call(world.typed.file, &mut space.parts, g, at, a.tally.sum + own);
     let left = Tally { sum, ..a.tally };
     return_call(world, space, fr, row, a.required, left)
 }

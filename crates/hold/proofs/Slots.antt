@@ -11,14 +11,14 @@ use lib.ListN.{length, get_or, take, set, length-set, length-map}
 use lib.Seq.{length-take-le, take-suc, get_or-set_same, get_or-set_other, take-set-le, ext_get_or}
 use borrow.Author.Tests.{le-ltb}
 use Rattle.part.specs.PartReq.{PartReq, none}
-use Rattle.part.specs.Store.{top, part, Kept, Room}
+use Rattle.part.specs.Store.{top, part, Kept}
 use Rattle.part.specs.Count.{same, among}
 use Rattle.part.specs.Collect.{cells_of}
 use Rattle.part.proofs.Counting.{same_refl, Stands}
 use Rattle.part.proofs.Distinct.{or_left, or_right_true}
 use Rattle.clearance.specs.Shape.{below}
 use Rattle.pass.specs.Pass.{work_bound}
-use Rattle.hold.specs.Hold.{slack, held_by, in_slot, Loose, Live, Pushed, Reach}
+use Rattle.hold.specs.Hold.{held_by, in_slot, Loose, Live, Pushed, Reach}
 use Rattle.hold.proofs.Reach.{reach_is, reach_trans, reach_swap, reach_below}
 use Rattle.hold.proofs.Count.{cells_below}
 

@@ -86,13 +86,13 @@ part_element S (Struct ms) i h n = absurd (n refl)
 part_element S (BindingArray base) i h n = refl
 part_element S Opaque i h n = refl
 
-member_base : (ms : List Member) (i : ℕ) → member_types ms i ≡ get_or (map (λ m. m.type) ms) i 0
+pub member_base : (ms : List Member) (i : ℕ) → member_types ms i ≡ get_or (map (λ m. m.type) ms) i 0
 unfolding member_types
 member_base [] i = refl
 member_base (m ∷ ms) zero = refl
 member_base (m ∷ ms) (suc i) = member_base ms i
 
-length_types : (ms : List Member) → length (map (λ m. m.type) ms) ≡ length ms
+pub length_types : (ms : List Member) → length (map (λ m. m.type) ms) ≡ length ms
 length_types [] = refl
 length_types (m ∷ ms) = ap suc (length_types ms)
 

@@ -10,8 +10,7 @@ ghost use Rattle.judge.specs.Subject.{scope_of, FitsOf};
 
 use crate::expression::SubjectExpression;
 use crate::rows::kind_at;
-use crate::shapes::{is_vector_of, part_count, same_part};
-use crate::values::{all_values, is_value, type_of};
+use crate::shapes::{is_vector_of, part_count};
 use access::file::File;
 use access::kinded::Kinded;
 use bindings::types::first_word;
@@ -40,18 +39,14 @@ fn fits_swizzle(expression: &SubjectExpression) -> bool
 {
     let subject = expression.subject;
     let vector = subject.file.expression_operand(expression.row, 0);
-    let a = type_of(subject.file, subject.f, vector);
+    let a = subject.type_of(vector);
     if kind_at(subject.types, a) != TypeKind::Vector {
         return false;
     }
     let letters = subject.file.operand(expression.row, 1) as u32;
-    is_value(subject, vector)
+    subject.is_value(vector)
         && letters_below(subject.file, expression.row, first_word(subject.types, a))
-        && is_vector_of(
-            subject.types,
-            letters,
-            type_of(subject.file, subject.f, expression.e),
-        )
+        && is_vector_of(subject.types, letters, subject.type_of(expression.e))
 }
 
 // How many components the type a gives: a scalar or a vector.
@@ -73,11 +68,7 @@ fn joins(expression: &SubjectExpression, n: u32) -> bool
     let count = subject.file.operand(expression.row, 0);
     let mut total: usize = 0;
     for i in 0..count {
-        let a = type_of(
-            subject.file,
-            subject.f,
-            subject.file.expression_operand(expression.row, 1 + i),
-        );
+        let a = subject.type_of(subject.file.expression_operand(expression.row, 1 + i));
         match kind_at(subject.types, a) {
             TypeKind::Scalar | TypeKind::Vector => {}
             _ => return false,
@@ -96,12 +87,8 @@ fn parts_fit(expression: &SubjectExpression, a: TypeHandle) -> bool
     let subject = expression.subject;
     let count = subject.file.operand(expression.row, 0);
     for i in 0..count {
-        let b = type_of(
-            subject.file,
-            subject.f,
-            subject.file.expression_operand(expression.row, 1 + i),
-        );
-        if !same_part(subject.types, subject.alike, a, i as u32, b) {
+        let b = subject.type_of(subject.file.expression_operand(expression.row, 1 + i));
+        if !subject.same_part(a, i as u32, b) {
             return false;
         }
     }
@@ -114,8 +101,8 @@ fn fits_compose(expression: &SubjectExpression) -> bool
     ensures { FitsOf expression.now.subject.now expression.now.e.0 result }
 {
     let subject = expression.subject;
-    let values = all_values(subject, expression.row);
-    let a = type_of(subject.file, subject.f, expression.e);
+    let values = subject.all_values(expression.row);
+    let a = subject.type_of(expression.e);
     match kind_at(subject.types, a) {
         TypeKind::Vector => values && joins(expression, first_word(subject.types, a)),
         TypeKind::Matrix | TypeKind::Array | TypeKind::Struct => {
@@ -138,9 +125,9 @@ pub fn fits_made(expression: &SubjectExpression) -> bool
         Ok(ExpressionKind::Swizzle) => fits_swizzle(expression),
         Ok(ExpressionKind::Splat) => {
             let value = subject.file.expression_operand(expression.row, 0);
-            let a = type_of(subject.file, subject.f, value);
-            let b = type_of(subject.file, subject.f, expression.e);
-            is_value(subject, value)
+            let a = subject.type_of(value);
+            let b = subject.type_of(expression.e);
+            subject.is_value(value)
                 && kind_at(subject.types, a) == TypeKind::Scalar
                 && kind_at(subject.types, b) == TypeKind::Vector
         }

@@ -4,7 +4,6 @@ ghost use Rattle.judge.specs.Subject.{FitsOf};
 
 use crate::expression::SubjectExpression;
 use crate::shapes::is_alike;
-use crate::values::{is_value, maybe_value, type_of};
 use module::kinds::ExpressionKind;
 
 // A value of two, by a condition: both have the result's shape.
@@ -16,13 +15,13 @@ fn fits_select(expression: &SubjectExpression) -> bool
     let condition = subject.file.expression_operand(expression.row, 0);
     let accept = subject.file.expression_operand(expression.row, 1);
     let reject = subject.file.expression_operand(expression.row, 2);
-    let own = type_of(subject.file, subject.f, expression.e);
-    is_value(subject, expression.e)
-        && is_value(subject, condition)
-        && is_value(subject, accept)
-        && is_value(subject, reject)
-        && is_alike(subject.alike, type_of(subject.file, subject.f, accept), own)
-        && is_alike(subject.alike, type_of(subject.file, subject.f, reject), own)
+    let own = subject.type_of(expression.e);
+    subject.is_value(expression.e)
+        && subject.is_value(condition)
+        && subject.is_value(accept)
+        && subject.is_value(reject)
+        && is_alike(subject.alike, subject.type_of(accept), own)
+        && is_alike(subject.alike, subject.type_of(reject), own)
 }
 
 // One value to four.
@@ -35,11 +34,11 @@ fn fits_math(expression: &SubjectExpression) -> bool
     let y = subject.file.optional_expression(expression.row, 1);
     let z = subject.file.optional_expression(expression.row, 2);
     let w = subject.file.optional_expression(expression.row, 3);
-    is_value(subject, expression.e)
-        && is_value(subject, x)
-        && maybe_value(subject, y)
-        && maybe_value(subject, z)
-        && maybe_value(subject, w)
+    subject.is_value(expression.e)
+        && subject.is_value(x)
+        && subject.maybe_value(y)
+        && subject.maybe_value(z)
+        && subject.maybe_value(w)
 }
 
 // An operator; a derivative is never judged.
@@ -53,20 +52,18 @@ pub fn fits_operator(expression: &SubjectExpression) -> bool
     match ExpressionKind::try_from(expression.row.kind) {
         Ok(ExpressionKind::Select) => fits_select(expression),
         Ok(ExpressionKind::Math) => fits_math(expression),
-        Ok(ExpressionKind::Relational) => {
-            is_value(subject, expression.e) && is_value(subject, x)
-        }
+        Ok(ExpressionKind::Relational) => { subject.is_value(expression.e) && subject.is_value(x) }
         Ok(ExpressionKind::Binary) => {
             let y = subject.file.expression_operand(expression.row, 1);
-            is_value(subject, expression.e) && is_value(subject, x) && is_value(subject, y)
+            subject.is_value(expression.e) && subject.is_value(x) && subject.is_value(y)
         }
         Ok(ExpressionKind::Unary | ExpressionKind::As) => {
-            is_value(subject, expression.e)
-                && is_value(subject, x)
+            subject.is_value(expression.e)
+                && subject.is_value(x)
                 && is_alike(
                     subject.alike,
-                    type_of(subject.file, subject.f, x),
-                    type_of(subject.file, subject.f, expression.e),
+                    subject.type_of(x),
+                    subject.type_of(expression.e),
                 )
         }
         _ => false,

@@ -7,7 +7,7 @@ use Rattle.module.specs.Tables.{row_at, expressions_from, module_of}
 use Rattle.memory.specs.Layout.{exprs_slot, totals_slot, stack_slot, returned}
 use Rattle.memory.specs.Memory.{read, sum_from, Memory}
 use Rattle.memory.specs.Stretches.{four_set, forgotten}
-use Rattle.state.specs.Ready.{WasRead}
+use Rattle.access.specs.Laid.{WasRead}
 use Rattle.leave.specs.declared.leave.Stretch.{Stretch}
 
 -- the records of f, from its first on among those of all functions

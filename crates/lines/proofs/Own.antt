@@ -1,10 +1,10 @@
 -- A statement's own marks, one by one.
-use Prim.Native.Nat.{ℕ, suc, ◌+◌, ◌-◌, ◌<◌, ◌≤◌}
+use Prim.Native.Nat.{ℕ, ◌+◌, ◌<◌, ◌≤◌}
 use mathlib.Core.Path.{◌≡◌}
 use mathlib.Core.List.{List, []}
-use native.Mathlib.Omega.{arith}
+use native.Mathlib.Numerals.{add-one}
 use borrow.Author.Tests.{eq-eqb, ne_eqb}
-use lib.ListN.{length, get_or, take, drop}
+use lib.ListN.{length, get_or, drop, drop_of_length-le}
 use lib.Seq.{drop-cons}
 use Rattle.lines.specs.Text.{no_word, yes_word, mark_text, marks_text}
 use Rattle.lines.proofs.Along.{Splits}
@@ -17,17 +17,11 @@ pub mark_yes : {b : ℕ} → (b ≡ 0 → ⊥) → mark_text b ≡ yes_word
 unfolding mark_text
 mark_yes {b} e = rw (ne_eqb b 0 e)
 
--- the marks from the k-th of n on
-abbrev pub marks_left : (ms : List ℕ) (from n k : ℕ) → List ℕ
-marks_left ms from n k = marks_text (take (n - k) (drop (from + k) ms))
-
-pub marks_next : (ms : List ℕ) (from n k : ℕ) → from + n ≤ length ms → k < n → Splits (marks_left ms from n k) (mark_text (get_or ms (from + k) 0)) (marks_left ms from n (k + 1))
+-- the marks from the k-th on
+pub marks_next : (ms : List ℕ) (k : ℕ) → k < length ms → Splits (marks_text (drop k ms)) (mark_text (get_or ms k 0)) (marks_text (drop (k + 1) ms))
 unfolding marks_text
-marks_next ms from n k long h =
-    let e : n - k ≡ suc (n - (k + 1)) = omega arith in
-    let b : suc (from + k) ≡ from + (k + 1) = omega arith in
-    record { is = rw (e, drop-cons ms (from + k) 0 (omega arith), b) }
+marks_next ms k h = record { is = rw (drop-cons ms k 0 h, add-one k) }
 
-pub marks_none : (ms : List ℕ) (from n k : ℕ) → n ≤ k → marks_left ms from n k ≡ []
+pub marks_none : (ms : List ℕ) (k : ℕ) → length ms ≤ k → marks_text (drop k ms) ≡ []
 unfolding marks_text
-marks_none ms from n k h = let e : n - k ≡ 0 = omega arith in rw e
+marks_none ms k h = rw (drop_of_length-le ms h)

@@ -3,11 +3,12 @@ use Prim.Native.Nat.{ℕ, zero, suc, ◌+◌, ◌-◌, ◌<◌, ◌≤◌}
 use mathlib.Core.Path.{◌≡◌, refl, sym}
 use mathlib.Core.List.{List, [], ◌∷◌, ◌++◌}
 use native.Mathlib.Omega.{arith}
-use lib.ListN.{length, get_or}
+use lib.ListN.{length, get_or, take, drop}
 use Rattle.part.specs.PartReq.{spine}
 use Rattle.part.specs.Store.{part, means, Seen}
 use Rattle.memory.specs.Memory.{read, record_of, records_of}
 use Rattle.memory.proofs.Slots.{read_at}
+use Rattle.marks.proofs.Write.{slice_at}
 use Rattle.lines.specs.Text.{number, part_text, line_text, variables_text, retval_word, retval_text, expr_word, record_text, records_text}
 use Rattle.lines.specs.declared.text.Text.{Text}
 use Rattle.lines.specs.Wrote.{Fits, Writes}
@@ -60,13 +61,14 @@ record_line k seen = rw seen.is
 abbrev pub records_left : (s rs : List ℕ) (base n k : ℕ) → List ℕ
 records_left s rs base n k = records_text k (records_of (read s rs) (base + k) (n - k))
 
-pub records_next : (s rs : List ℕ) (base n k : ℕ) → base + n ≤ length rs → k < n → Splits (records_left s rs base n k) (record_text k (record_of (part s (get_or rs (base + k) 0)))) (records_left s rs base n (k + 1))
+pub records_next : (s rs : List ℕ) (base n k : ℕ) → base + n ≤ length rs → k < n
+    → Splits (records_left s rs base n k) (record_text k (record_of (part s (get_or (take (base + n - base) (drop base rs)) k 0)))) (records_left s rs base n (k + 1))
 unfolding records_text records_of
 records_next s rs base n k long h =
     let e : n - k ≡ suc (n - (k + 1)) = omega arith in
     let b : suc (base + k) ≡ base + (k + 1) = omega arith in
     let j : suc k ≡ k + 1 = omega arith in
-    record { is = rw (e, read_at s rs (base + k) (omega arith), b, j) }
+    record { is = rw (slice_at rs base n k h, e, read_at s rs (base + k) (omega arith), b, j) }
 
 pub records_none : (s rs : List ℕ) (base n k : ℕ) → n ≤ k → records_left s rs base n k ≡ []
 unfolding records_text records_of

@@ -12,7 +12,7 @@ use Rattle.walk.specs.Proper.{FineContext, FineRecords}
 use Rattle.memory.specs.Layout.{exprs_slot}
 use Rattle.memory.specs.Memory.{read, context_at, Memory}
 use Rattle.state.specs.State.{records_in}
-use Rattle.state.specs.Ready.{WasRead}
+use Rattle.access.specs.Laid.{WasRead}
 use Rattle.marks.specs.declared.places.MarkPlaces.{MarkPlaces}
 use Rattle.marks.specs.Places.{slice, start_of, Places}
 use Rattle.lines.specs.Text.{statements_text, report_text}

@@ -1,5 +1,4 @@
 // A statement's own marks, as its line has them.
-ghost use Rattle.std.specs.Prelude.{◌+◌, ◌≤◌, length, take, drop};
 ghost use Rattle.lines.specs.Text.{mark_text, marks_text};
 ghost use Rattle.lines.specs.Wrote.{Fits, Writes};
 
@@ -15,12 +14,11 @@ pub fn write_mark(text: &mut Text, b: u8)
     text.word(b" yes");
 }
 
-// The n marks that begin at `from`.
-pub fn write_own_marks(text: &mut Text, marks: &[u8], from: usize, n: usize)
-    requires { (from + n ≤ length marks.now) × Fits text.old.at (marks_text (take n (drop from marks.now))) }
-    ensures { Writes text.old text.new (marks_text (take n (drop from marks.now))) }
+pub fn write_own_marks(text: &mut Text, marks: &[u8])
+    requires { Fits text.old.at (marks_text marks.now) }
+    ensures { Writes text.old text.new (marks_text marks.now) }
 {
-    for k in 0..n {
-        write_mark(text, marks[from + k]);
+    for b in marks {
+        write_mark(text, *b);
     }
 }

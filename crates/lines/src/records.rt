@@ -30,12 +30,7 @@ pub fn write_records(text: &mut Text, parts: &Parts, base: usize, n: usize)
     requires n_in_bounds { (base + n ≤ length parts.now.slots) × (n < longest) × Fits text.old.at (records_text 0 (records_of (read parts.now.cells parts.now.slots) base n)) }
     ensures { Writes text.old text.new (records_text 0 (records_of (read parts.now.cells parts.now.slots) base n)) }
 {
-    for k in 0..n {
-        write_record(
-            text,
-            &parts.cells,
-            ExpressionHandle(k as u32),
-            parts.slots[base + k],
-        );
+    for (k, &p) in parts.slots[base..base + n].iter().enumerate() {
+        write_record(text, &parts.cells, ExpressionHandle(k as u32), p);
     }
 }

@@ -1,5 +1,5 @@
 // The lines of a function's statements.
-ghost use Rattle.std.specs.Prelude.{◌+◌, ◌≤◌, length, drop};
+ghost use Rattle.std.specs.Prelude.{◌≤◌, length};
 ghost use Rattle.module.specs.Marks.{mark_count};
 ghost use Rattle.access.specs.Access.{statement_at};
 ghost use Rattle.lines.specs.Text.{statement_text};
@@ -10,28 +10,21 @@ use crate::names::write_name;
 use crate::own_marks::write_own_marks;
 use crate::text::Text;
 use access::file::File;
-use marks::places::{MarkPlaces, mark_count, place};
+use marks::places::{MarkPlaces, mark_count};
 use module::handles::FunctionHandle;
 
-// The line of the statement s of f, whose marks begin at `from`.
-fn write_statement(
-    text: &mut Text,
-    file: &File,
-    marks: &[u8],
-    f: FunctionHandle,
-    s: u32,
-    from: usize,
-)
-    requires { (from + mark_count (statement_at file.now.bytes file.now.t f.0 s) ≤ length marks.now) × Fits text.old.at (statement_text s (statement_at file.now.bytes file.now.t f.0 s) (drop from marks.now)) }
-    ensures { Writes text.old text.new (statement_text s (statement_at file.now.bytes file.now.t f.0 s) (drop from marks.now)) }
+// The line of the statement s of f, whose marks are the first of `marks`.
+fn write_statement(text: &mut Text, file: &File, marks: &[u8], f: FunctionHandle, s: u32)
+    requires { (mark_count (statement_at file.now.bytes file.now.t f.0 s) ≤ length marks.now) × Fits text.old.at (statement_text s (statement_at file.now.bytes file.now.t f.0 s) marks.now) }
+    ensures { Writes text.old text.new (statement_text s (statement_at file.now.bytes file.now.t f.0 s) marks.now) }
 {
     let row = file.statement(f, s);
-    let n = mark_count(file, f, s);
+    let n = mark_count(file, f, s) as usize;
     text.word(b"stmt ");
     text.number(s);
     text.byte(b' ');
     write_name(text, row.kind);
-    write_own_marks(text, marks, from, n as usize);
+    write_own_marks(text, &marks[..n]);
     text.byte(b'\n');
 }
 
@@ -48,7 +41,7 @@ pub fn write_statements(
 {
     let n = file.statements(f);
     for s in 0..n {
-        let from = place(file, places, f, s);
-        write_statement(text, file, marks, f, s, from);
+        let from = places.place(file, f, s);
+        write_statement(text, file, &marks[from..], f, s);
     }
 }

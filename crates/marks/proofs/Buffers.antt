@@ -29,7 +29,7 @@ use Rattle.memory.proofs.Slots.{read_at}
 use Rattle.memory.proofs.Records.{records_at}
 use Rattle.memory.proofs.Runs.{not_plain}
 use Rattle.state.specs.State.{records_in}
-use Rattle.state.specs.Ready.{WasRead}
+use Rattle.access.specs.Laid.{WasRead}
 use Rattle.marks.specs.declared.places.MarkPlaces.{MarkPlaces}
 use Rattle.marks.specs.Places.{slice, start_of, mark_place, start_in, size_in, Places, Inside, AllInside, recorded_in}
 use Rattle.marks.proofs.Write.{slice_inside, slice-behind, slice-before, slice_written}

@@ -18,7 +18,7 @@ use Rattle.access.proofs.Laid.{earlier}
 use Rattle.valid.proofs.Accepted.{valid}
 use Rattle.walk.specs.Resolve.{function_at}
 use Rattle.walk.specs.Marks.{stretch}
-use Rattle.state.specs.Ready.{WasRead}
+use Rattle.access.specs.Laid.{WasRead}
 use Rattle.marks.specs.declared.places.MarkPlaces.{MarkPlaces}
 use Rattle.marks.specs.Places.{start_of, mark_place, Places, placed_in}
 use Rattle.marks.proofs.Fit.{marks_fit, start_suc}

@@ -27,7 +27,7 @@ use Rattle.valid.proofs.Accepted.{valid}
 use Rattle.valid.proofs.Uses.{held_below, has_body}
 use Rattle.walk.specs.Resolve.{function_at}
 use Rattle.walk.specs.Marks.{statement_at, block_at, body_of, or_else, ray_of_cases, ray_of, ray_from, first_ray}
-use Rattle.state.specs.Ready.{WasRead}
+use Rattle.access.specs.Laid.{WasRead}
 use Rattle.marks.specs.Ray.{held_count, held_number, ray_in, BlockOf, StatementIn}
 use Rattle.std.specs.Prelude as std
 use Rattle.std.specs.Prelude.{Some, None}

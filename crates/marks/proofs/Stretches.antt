@@ -6,7 +6,7 @@ use Prim.Native.Nat.{ℕ, zero, suc, ◌+◌, ◌-◌, ◌<◌, ◌≤◌}
 use native.Mathlib.Numerals.{add-one}
 use native.Mathlib.Omega.{arith}
 use lib.Dec.{eqb}
-use lib.ListN.{length, get_or, take, drop, replicate, set, length-set, length-replicate, length-append}
+use lib.ListN.{length, take, drop, replicate, length-replicate, length-append}
 use borrow.Author.Tests.{eq-eqb, ne_eqb}
 use Rattle.field.specs.Limits.{min_report}
 use Rattle.walk.specs.Marks.{write_marks, add_marks}

@@ -1,13 +1,13 @@
 -- The totals of marks are those of the state, as one is kept or joined, and the report is that of the definition.
 use mathlib.Core.Path.{◌≡◌, refl, sym, ap, ◌∙◌, subst}
-use mathlib.Core.Bool.{Bool, true, false, not, cond}
+use mathlib.Core.Bool.{Bool, true, false, cond}
 use mathlib.Core.List.{List, [], ◌∷◌, ◌++◌, append_assoc, append-nil}
 use mathlib.Core.Option.{Option, some, none as nothing, none-ne-some}
 use Prim.Native.Nat.{ℕ, suc, ◌+◌, ◌<◌, ◌≤◌}
 use native.Mathlib.Omega.{arith}
 use lib.Dec.{eqb}
-use lib.ListN.{length, get_or, set, replicate, length-set}
-use lib.Seq.{get_or-set_same, get_or-set_other, drop-set-lt}
+use lib.ListN.{length, get_or, replicate}
+use lib.Seq.{get_or-set_same, get_or-set_other}
 use borrow.Author.Tests.{eqb-true}
 use Rattle.field.specs.Limits.{min_report}
 use Rattle.module.specs.Module.{Function, Module}
@@ -15,12 +15,12 @@ use Rattle.module.specs.Tables.{module_of}
 use Rattle.walk.specs.State.{FunctionReq, State}
 use Rattle.walk.specs.Marks.{stretch, write_marks, add_marks}
 use Rattle.walk.specs.Requests.{total_marks, bytes_from}
-use Rattle.state.specs.Ready.{WasRead}
+use Rattle.access.specs.Laid.{WasRead}
 use Rattle.marks.specs.declared.places.MarkPlaces.{MarkPlaces}
 use Rattle.marks.specs.Places.{slice, start_of, start_in, size_in, Places}
 use Rattle.marks.specs.declared.totals.MarkTotals.{MarkTotals}
 use Rattle.marks.specs.Report.{has_total, total_in, marks_kept, Totals, MarksKept, MarksJoined, part_in, report_in}
-use Rattle.marks.proofs.Write.{write_before, slice-long, slice_written, add-long}
+use Rattle.marks.proofs.Write.{slice-long, slice_written, add-long}
 use Rattle.marks.proofs.Placed.{few}
 use Rattle.marks.proofs.Buffers.{slice-other, size_is, ends}
 
@@ -42,14 +42,14 @@ module _ (bytes t : List ℕ) (places : MarkPlaces) (was : WasRead bytes t) (p :
 
   -- The marks ys written as f's total, whose flag is set: f's total has them, and every other stays.
   module _ (totals after : MarkTotals) (ys : List ℕ) (f : ℕ) (hf : f < count) (long : length ys ≡ stretch m f) (is : after.marks ≡ write_marks totals.marks (start_in places f) ys) where
-    written_own : has_total after f ≡ true → total_in m after f ≡ some ys
+    pub written_own : has_total after f ≡ true → total_in m after f ≡ some ys
     unfolding total_in
     written_own flag =
         let b = ends bytes t places was p f hf in
         let l = totals.marks_long in
         rw (flag, is, p.starts f (omega arith), ← long, slice_written totals.marks (start_of m f) ys (omega arith))
 
-    written_other : (g : ℕ) → (g ≡ f → ⊥) → has_total after g ≡ has_total totals g → total_in m after g ≡ total_in m totals g
+    pub written_other : (g : ℕ) → (g ≡ f → ⊥) → has_total after g ≡ has_total totals g → total_in m after g ≡ total_in m totals g
     unfolding total_in
     written_other g ne flag =
         let z : 0 + start_of m g ≡ start_of m g = omega arith in

@@ -1,11 +1,12 @@
 -- Marks written into a buffer, and what a stretch of it has then: written inside the stretch or outside of it, each by recursion over what is written.
 use mathlib.Core.Path.{◌≡◌, refl, sym, ap, ◌∙◌}
 use mathlib.Core.List.{List, [], ◌∷◌, ◌++◌, append_assoc, append-nil}
-use Prim.Native.Nat.{ℕ, suc, ◌+◌, ◌<◌, ◌≤◌}
+use Prim.Native.Nat.{ℕ, suc, ◌+◌, ◌-◌, ◌<◌, ◌≤◌}
 use native.Mathlib.Numerals.{add-one}
 use native.Mathlib.Omega.{arith}
 use lib.ListN.{length, get_or, take, drop, set, length-drop, drop_of_length-le}
 use lib.Seq.{sets, length-sets, sets-eq, take-set-le, take-set-lt, drop-set-lt, drop-set-add, take-suc, get_or-drop, drop-drop, length-take-le, get_or-set_other}
+use Rattle.std.proofs.lemmas.List.{get_or-take}
 use Rattle.walk.specs.Marks.{write_marks, add_mark, add_marks}
 use Rattle.marks.specs.Places.{slice}
 
@@ -98,6 +99,10 @@ slice-before xs from n i (y ∷ ys) h =
 
 pub slice-long : (xs : List ℕ) (from n : ℕ) → from + n ≤ length xs → length (slice xs from n) ≡ n
 slice-long xs from n h = length-take-le n (drop from xs) (omega (arith, length-drop from xs))
+
+-- what a loop over a stretch gives
+pub slice_at : (xs : List ℕ) (from n k : ℕ) → k < n → get_or (take (from + n - from) (drop from xs)) k 0 ≡ get_or xs (from + k) 0
+slice_at xs from n k h = get_or-take (from + n - from) (drop from xs) k 0 (omega arith) ∙ get_or-drop from xs k 0
 
 -- what was written there
 pub slice_written : (xs : List ℕ) (from : ℕ) (ys : List ℕ) → from + length ys ≤ length xs → slice (write_marks xs from ys) from (length ys) ≡ ys

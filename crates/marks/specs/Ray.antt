@@ -6,7 +6,7 @@ use Rattle.std.proofs.Math.Option.{Option, some, none as nothing}
 use Rattle.module.specs.Module.{FunctionHandle, BlockHandle}
 use Rattle.module.specs.Tables.{function_of, module_of}
 use Rattle.walk.specs.Marks.{block_at}
-use Rattle.state.specs.Ready.{WasRead}
+use Rattle.access.specs.Laid.{WasRead}
 
 -- how many there are
 unfoldable pub held_count : (kind : ℕ) → (ℕ → ℕ) → ℕ

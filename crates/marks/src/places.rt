@@ -1,9 +1,9 @@
 // The tables of the marks' places: filled once, in one pass over the statements.
-ghost use Rattle.std.specs.Prelude.{◌≡◌, suc, ◌+◌, ◌-◌, ◌<◌, ◌≤◌, length, get_or};
+ghost use Rattle.std.specs.Prelude.{◌≡◌, suc, ◌+◌, ◌-◌, ◌<◌, ◌≤◌, length, get_or, replicate};
 ghost use Rattle.module.specs.Marks.{mark_count};
-ghost use Rattle.module.specs.Tables.{row_at, module_of};
+ghost use Rattle.module.specs.Tables.{row_at, module_of, max_items};
 ghost use Rattle.access.specs.Access.{statement_number, statement_at};
-ghost use Rattle.state.specs.Ready.{WasRead};
+ghost use Rattle.access.specs.Laid.{WasRead};
 ghost use Rattle.field.specs.Limits.{max_functions};
 ghost use Rattle.marks.specs.Places.{start_of, start_in, placed_in, Places};
 
@@ -24,36 +24,11 @@ pub struct MarkPlaces {
     pub firsts: [u32; MAX_ITEMS],
 }
 
-// Where the marks of the first f functions end: those of the function f, if there is one, begin there.
-pub fn start(places: &MarkPlaces, f: usize) -> usize
-    requires { f ≤ max_functions }
-    ensures { result ≡ start_in places.now f }
-{
-    places.starts[f] as usize
-}
-
-// The marks of f, by their places.
-pub fn range(places: &MarkPlaces, f: FunctionHandle) -> Range<usize>
-    requires { f.0 < max_functions }
-    ensures start { result.start ≡ start_in places.now f.0 }
-    ensures end { result.end ≡ start_in places.now (f.0 + 1) }
-{
-    let i = f.0 as usize;
-    start(places, i)..start(places, i + 1)
-}
-
 // The number of a statement among the items of the file.
 fn statement_number(file: &File, f: FunctionHandle, s: u32) -> usize
     ensures { result ≡ statement_number file.now.t f.0 s }
 {
     file.row(f).statements_from() + (s as usize)
-}
-
-// Where the marks of the statement s of f begin.
-pub fn place(file: &File, places: &MarkPlaces, f: FunctionHandle, s: u32) -> usize
-    ensures { result ≡ get_or places.now.firsts (statement_number file.now.t f.0 s) 0 }
-{
-    word(&places.firsts, statement_number(file, f, s)) as usize
 }
 
 // How many numbers there are from first to last.
@@ -96,15 +71,56 @@ fn place_statements(file: &File, firsts: &mut [u32], f: FunctionHandle, first: u
     at
 }
 
-pub fn place_marks(file: &File, places: &mut MarkPlaces)
-    requires { WasRead file.now.bytes file.now.t }
-    ensures { Places file.now.bytes file.now.t places.new }
-{
-    let n = file.functions();
-    let mut at: u32 = 0;
-    for f in 0..n {
-        put(&mut places.starts, f as usize, at);
-        at = place_statements(file, &mut places.firsts, FunctionHandle(f), at);
+impl MarkPlaces {
+    // None is placed yet.
+    pub fn new() -> MarkPlaces
+        ensures starts { result.starts ≡ replicate (max_functions + 1) 0 }
+        ensures firsts { result.firsts ≡ replicate max_items 0 }
+    {
+        MarkPlaces {
+            starts: [0; STARTS],
+            firsts: [0; MAX_ITEMS],
+        }
     }
-    put(&mut places.starts, n as usize, at);
+
+    // Where the marks of the first f functions end: those of the function f, if there is one, begin there.
+    pub fn start(&self, f: usize) -> usize
+        requires { f ≤ max_functions }
+        ensures { result ≡ start_in self.now f }
+    {
+        self.starts[f] as usize
+    }
+
+    // The marks of f, by their places.
+    pub fn range(&self, f: FunctionHandle) -> Range<usize>
+        requires { f.0 < max_functions }
+        ensures start { result.start ≡ start_in self.now f.0 }
+        ensures end { result.end ≡ start_in self.now (f.0 + 1) }
+    {
+        let i = f.0 as usize;
+        self.start(i)..self.start(i + 1)
+    }
+
+    // Where the marks of the statement s of f begin.
+    pub fn place(&self, file: &File, f: FunctionHandle, s: u32) -> usize
+        ensures { result ≡ get_or self.now.firsts (statement_number file.now.t f.0 s) 0 }
+    {
+        word(&self.firsts, statement_number(file, f, s)) as usize
+    }
+
+    // Each function's marks behind those before it, and each statement's among them.
+    // Stays: `WasRead` in `requires`, here, in place_statements and first_ray, and in the three functions that begin a check (crate verdict). A struct of a
+    // file with that fact would be held by `TypedFile`, and each of some 100 places in clauses that say `typed.now.file.now` would say one `.now` more.
+    pub fn place_marks(&mut self, file: &File)
+        requires { WasRead file.now.bytes file.now.t }
+        ensures { Places file.now.bytes file.now.t self.new }
+    {
+        let n = file.functions();
+        let mut at: u32 = 0;
+        for f in 0..n {
+            put(&mut self.starts, f as usize, at);
+            at = place_statements(file, &mut self.firsts, FunctionHandle(f), at);
+        }
+        put(&mut self.starts, n as usize, at);
+    }
 }

@@ -5,7 +5,7 @@ ghost use Rattle.module.specs.Knot.{below};
 ghost use Rattle.module.specs.Tables.{module_of};
 ghost use Rattle.access.specs.Access.{operand_at};
 ghost use Rattle.walk.specs.Marks.{statement_at, body_of, ray_of, first_ray};
-ghost use Rattle.state.specs.Ready.{WasRead};
+ghost use Rattle.access.specs.Laid.{WasRead};
 ghost use Rattle.marks.specs.Ray.{held_count, held_number, ray_in, BlockOf, StatementIn};
 
 use access::file::File;

@@ -6,7 +6,7 @@ ghost use Rattle.marks.specs.Places.{size_in, Inside, AllInside};
 ghost use Rattle.marks.specs.Report.{part_in, report_in};
 
 use crate::lent::{clear, copy};
-use crate::places::{MarkPlaces, range, start};
+use crate::places::MarkPlaces;
 use crate::totals::MarkTotals;
 use module::handles::FunctionHandle;
 
@@ -22,7 +22,7 @@ fn write_part(
     ensures { part.new ≡ part_in places.now marks.now totals.now asked.0 f.0 }
 {
     let i = f.0 as usize;
-    let from = start(places, i);
+    let from = places.start(i);
     if f == asked {
         copy(part, marks, from);
         return;
@@ -48,13 +48,7 @@ pub fn write_report(
 {
     for f in 0..n {
         let i = FunctionHandle(f as u32);
-        write_part(
-            &mut report[range(places, i)],
-            places,
-            marks,
-            totals,
-            asked,
-            i,
-        );
+        let part = &mut report[places.range(i)];
+        write_part(part, places, marks, totals, asked, i);
     }
 }

@@ -43,6 +43,7 @@ fn flats(parts: &mut Parts)
     requires { Good parts.old.cells × Room parts.old.cells (4 * flat_count) }
     ensures { Flats parts.old.cells parts.old.slots parts.new.cells parts.new.slots flat_count }
 {
+    // Stays: by number. Over the slots themselves it takes two `let`s, of all slots and of these, and `iter_mut().enumerate()` for the code that c is.
     for c in 0..FLATS {
         let r = flat(&mut parts.cells, 0, 4, c);
         parts.slots[FLAT + c] = r;

@@ -1,5 +1,5 @@
 // The parts that a walk, or a check, holds.
-ghost use Rattle.std.specs.Prelude.{◌≡◌, length};
+ghost use Rattle.std.specs.Prelude.{◌≡◌, length, replicate};
 ghost use Rattle.memory.specs.Layout.{slot_count, store_size};
 
 use crate::layout::{CELLS, SLOTS};
@@ -12,4 +12,17 @@ pub struct Parts {
     pub slots: [u32; SLOTS],
     pub ghost cells_long: { length cells ≡ store_size },
     pub ghost slots_long: { length slots ≡ slot_count },
+}
+
+impl Parts {
+    // Zeros: no memory yet.
+    pub fn new() -> Parts
+        ensures cells { result.cells ≡ replicate store_size 0 }
+        ensures slots { result.slots ≡ replicate slot_count 0 }
+    {
+        Parts {
+            cells: [0; CELLS],
+            slots: [0; SLOTS],
+        }
+    }
 }

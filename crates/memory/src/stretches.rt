@@ -57,6 +57,7 @@ pub fn extend(slots: &mut [u32], from: usize, to: usize, n: usize)
     requires { (from + n ≤ to) × (to + n ≤ length slots.old) }
     ensures { slots.new ≡ copied slots.old from to n }
 {
+    // Stays: by number. Both stretches lie in one array: for a `zip` of them it is first cut by `split_at_mut`, and then each part by its own bounds.
     for k in 0..n {
         let r = slots[from + k];
         if r != EMPTY_PIECE {

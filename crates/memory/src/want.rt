@@ -137,6 +137,8 @@ pub fn piece(cells: &mut [u32], w: Want, n: u32) -> u32
     m
 }
 
+// Stays: parts and w side by side, here and in crate asks. `Memory` says what each cell means, which is data: no ghost field holds it, so a value of the two
+// would leave the clause at each function, and the walk writes parts between two of them.
 // Whether {i: what w asks} passes a limit.
 pub fn wrap_over(parts: &Parts, w: Want, i: u32) -> bool
     requires memory { Memory parts.now.cells parts.now.slots × Wants parts.now.cells parts.now.slots w }
@@ -263,7 +265,7 @@ pub fn swizzle(parts: &Parts, w: Want, pattern: [u32; 4]) -> Option<usize>
     }
     let mut digits: [usize; 4] = [UNASKED; 4];
     let mut k = 0;
-    // Stays: no count of entries is known; `for k in 0.. { let Some(i) = entry(parts, w, k) else { break }; .. }` says the same in more words.
+    // Stays: `entry` ends it, and no count. `for k in 0..` saves the two lines that count, and takes a `let Some(i) = .. else { break; };` of three.
     while let Some(i) = entry(parts, w, k) {
         if 4 <= i {
             return None;

@@ -7,7 +7,7 @@ ghost use Rattle.module.specs.Tables.{word, starts_of, type_body, global_body, i
 
 use crate::handles::{BlockHandle, GlobalHandle, TypeHandle};
 use crate::record::body;
-use crate::tables::{BLOCKS, GLOBALS, ITEMS, Row, TYPES, word};
+use crate::tables::{BLOCKS, GLOBALS, Row, TYPES, item, word};
 
 // The field j of the record whose offset the word `at` is.
 fn field_of(bytes: &[u8], t: &[u32], at: usize, j: u32) -> u16
@@ -33,7 +33,7 @@ pub fn global_type(bytes: &[u8], t: &[u32], g: GlobalHandle) -> u16
 pub fn statement_field(bytes: &[u8], t: &[u32], row: Row, s: u32, j: u32) -> u16
     ensures { result ≡ get_or (item_body bytes.now t.now (statements_from row + s)) j 0 }
 {
-    field_of(bytes, t, ITEMS + (row.statements_from() + (s as usize)), j)
+    body(bytes, item(t, row.statements_from() + (s as usize)), j)
 }
 
 // The first statement of the block b, and `past` where there is no such block.
@@ -46,6 +46,8 @@ fn first_statement(t: &[u32], row: Row, b: usize, past: u32) -> u32
     past
 }
 
+// Stays: first and count, as the definition's record has them, and no `Range`. Tried: a loop over a `Range` counts from its start, and its invariant says
+// `s - start` and what both ends are, four facts for one (reading's hold_block); so in each of six loops, to spare each the line that adds first.
 // The statements of a block: `count` of them, from `first` on.
 #[derive(Clone, Copy, Debug, PartialEq, Eq)]
 pub struct BlockRange {

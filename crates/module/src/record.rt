@@ -61,6 +61,23 @@ pub fn body(bytes: &[u8], at: u32, j: u32) -> u16
     0
 }
 
+// A record of a file: the file's bytes, where its mark stands, and the mark.
+#[derive(Clone, Copy, Drop)]
+pub struct Record<'a> {
+    pub bytes: &'a [u8],
+    pub at: u32,
+    pub mark: Mark,
+}
+
+impl<'a> Record<'a> {
+    // The field j, and 0 where it has none.
+    pub fn field(&self, j: u32) -> u16
+        ensures { result ≡ get_or (body_at self.now.bytes.now self.now.at) j 0 }
+    {
+        body(self.bytes, self.at, j)
+    }
+}
+
 // The fields of a record that are still to be read: `left` of them, and the last of them ends at `end`.
 #[derive(Clone, Copy, Debug, PartialEq, Eq)]
 pub struct Fields {

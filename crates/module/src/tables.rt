@@ -2,8 +2,8 @@
 // globals and items (arguments, locals, expressions and statements, in the file's order), the first statement of each block, a
 // mark for each expression of the function that is read, and the counts of the whole.
 // Stays: one slice. An array for each region is no plainer: each law over the words would stand once for each, and callers lend a struct.
-ghost use Rattle.std.specs.Prelude.{◌≡◌, get_or, set};
-ghost use Rattle.module.specs.Tables.{row_at, set_row, locals_from, expressions_from, statements_from, items_to};
+ghost use Rattle.std.specs.Prelude.{◌≡◌, ◌+◌, ◌<◌, ◌^◌, get_or, set};
+ghost use Rattle.module.specs.Tables.{word, items_at, row_at, set_row, locals_from, expressions_from, statements_from, items_to};
 
 use crate::handles::FunctionHandle;
 use field::limits::{MAX_BYTES, MAX_EXPRESSIONS, MAX_FUNCTIONS, MAX_GLOBALS, MAX_TYPES};
@@ -93,6 +93,14 @@ pub fn word(t: &[u32], i: usize) -> u32
     ensures { result ≡ get_or t.now i 0 }
 {
     t.get(i).copied().unwrap_or(0)
+}
+
+// Where the item i of the file stands.
+pub fn item(t: &[u32], i: usize) -> u32
+    requires { i < 2 ^ 35 }
+    ensures { result ≡ word t.now (items_at + i) }
+{
+    word(t, ITEMS + i)
 }
 
 // Past the end nothing is written.

@@ -15,7 +15,7 @@ use Rattle.clearance.proofs.Ascending.{below-ok}
 use Rattle.needs.specs.Lean.{change, leaves, Solid}
 
 -- what is kept of an entry that needs something
-keep_some : (i : ℕ) (p r : PartReq) → some p ≡ true → keep i p r ≡ more i p r
+pub keep_some : (i : ℕ) (p r : PartReq) → some p ≡ true → keep i p r ≡ more i p r
 unfolding keep
 keep_some i all r e = refl
 keep_some i exist r e = never e

@@ -2,19 +2,17 @@
 use Prim.Native.Nat.{ℕ, suc, ◌+◌, ◌-◌, ◌<◌, ◌≤◌}
 use native.Mathlib.Omega.{arith}
 use native.Mathlib.Numerals.{add-one}
-use mathlib.Core.Path.{◌≡◌, refl, sym, ◌∙◌}
+use mathlib.Core.Path.{◌≡◌, sym, ◌∙◌}
 use mathlib.Core.List.{List}
 use lib.ListN.{length, get_or, drop}
 use lib.Seq.{drop-cons, drop-length}
-use Rattle.std.specs.Prelude.{Option, Some, None, unwrap_or}
-use Rattle.part.specs.PartReq.{PartReq, none, more, Subpart, get_subpart}
+use Rattle.part.specs.PartReq.{PartReq, none, more, get_subpart}
 use Rattle.part.specs.Store.{top, part, Good, Made}
-use Rattle.part.specs.Found.{Got}
+use Rattle.part.specs.Subparts.{or_none, Piece}
 use Rattle.part.proofs.Pieces.{part-2}
 use Rattle.part.proofs.Write.{stay}
 use Rattle.part.proofs.Making.{kept_trans}
-use Rattle.clearance.specs.Shape.{or_none, below, under}
-use Rattle.needs.specs.Path.{Piece}
+use Rattle.clearance.specs.Shape.{below, under}
 
 -- where `below` stands: so much of the path is left
 pub record Going (s : List ℕ) (n : ℕ) (path : List ℕ) (m k : ℕ) : Type 0 where
@@ -26,18 +24,13 @@ next_index : (p : PartReq) (path : List ℕ) (k : ℕ) → k < length path → b
 unfolding below
 next_index p path k h = rw (drop-cons path k 0 h, add-one)
 
-found_is : (s : List ℕ) (q : Subpart) (f : Option ℕ) → Good s → Got s q f → (unwrap_or f 2 < top s) × (part s (unwrap_or f 2) ≡ or_none q)
-found_is s q None g a = (omega (arith, g.base), rw a (part-2 s))
-found_is s q (Some c) g a = rw a.1 (a.0, refl)
-
 module _ {s : List ℕ} {n : ℕ} {path : List ℕ} {m k : ℕ} (g : Going s n path m k) where
-  pub going_more : (x : ℕ) (f : Option ℕ) → Good s → k < length path → x ≡ get_or path k 0 → Got s (get_subpart (part s m) x) f → Going s n path (unwrap_or f 2) (k + 1)
-  going_more x f w h e a =
-      let z = found_is s (get_subpart (part s m) x) f w a in
+  pub going_more : {x r : ℕ} → k < length path → x ≡ get_or path k 0 → Piece s (or_none (get_subpart (part s m) x)) r → Going s n path r (k + 1)
+  going_more h e a =
       record {
-        inside = z.0;
+        inside = a.piece;
         along = omega arith;
-        is = rw (z.1, e) (sym (next_index (part s m) path k h)) ∙ g.is;
+        is = rw (a.is, e) (sym (next_index (part s m) path k h)) ∙ g.is;
       }
 
   pub going_end : length path ≤ k → Piece s (below (part s n) path) m

@@ -1,3 +1,2 @@
 pub mod Lean
-pub mod Path
 pub mod Framed

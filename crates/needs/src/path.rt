@@ -1,11 +1,11 @@
 // The part of a need at a path, and a part put at one. A path has the outermost index first.
 ghost use Rattle.std.specs.Prelude.{◌<◌, length};
 ghost use Rattle.part.specs.Store.{top, part, Good, Room, Made};
+ghost use Rattle.part.specs.Subparts.{Piece};
 ghost use Rattle.clearance.specs.Shape.{below, under};
-ghost use Rattle.needs.specs.Path.{Piece};
 
-use part::req::get;
 use part::store::{EMPTY_PIECE, make};
+use part::subpart::subpart;
 
 // What the need n asks of the part at the path.
 pub fn below(cells: &[u32], n: u32, path: &[u32]) -> u32
@@ -15,8 +15,7 @@ pub fn below(cells: &[u32], n: u32, path: &[u32]) -> u32
 {
     let mut m = n;
     for i in path {
-        let f = get(cells, m, *i);
-        m = f.unwrap_or(EMPTY_PIECE);
+        m = subpart(cells, m, *i);
     }
     m
 }
@@ -28,6 +27,7 @@ pub fn under(cells: &mut [u32], path: &[u32], a: u32) -> u32
     ensures { Made cells.old cells.new (under path.now (part cells.old a)) (length path.now) result }
 {
     let mut m = a;
+    // Stays: by number: what is around so far is the path from k on, and the entries of a path that is reversed carry no number.
     for k in (0..path.len()).rev() {
         m = make(cells, path[k], m, EMPTY_PIECE);
     }

@@ -11,12 +11,12 @@ use Rattle.part.proofs.Pieces.{part-0}
 use Rattle.module.specs.declared.handles.ExpressionHandle.{ExpressionHandle}
 use Rattle.clearance.specs.Scope.{Scope, Path, path_of, indexes, target}
 use Rattle.clearance.specs.Needs.{Ask, of_place, ask_whole, ask_steps}
-use Rattle.judge.specs.Given.{scope_at}
+use Rattle.place.specs.declared.pointer.PointerExpression.{PointerExpression}
 use Rattle.place.specs.declared.target.Target.{Target}
 use Rattle.place.specs.declared.steps.Step.{Step}
 use Rattle.place.specs.declared.steps.Step.TheVariants.{Constant, Dynamic}
-use Rattle.place.specs.Target.{Pointer, any, part, TargetFound}
-use Rattle.place.specs.Steps.{indexes_of, StepDown}
+use Rattle.place.specs.Target.{any, part, TargetFound}
+use Rattle.place.specs.Steps.{scope_in, indexes_in, StepDown}
 use Rattle.asking.specs.Asks.{AsksAt}
 use Rattle.asking.proofs.Values.{place_adds}
 use Rattle.operands.specs.AsksAll.{wanted_in, ListGiven, AsksAll}
@@ -24,48 +24,47 @@ use Rattle.operands.specs.Lists.{load_of}
 use Rattle.operands.proofs.Lists.{given_right, given_next, list_next, list_then, all_none, all_one, all_full, all_then}
 
 -- Of the pointer p the indexes after those of h are asked.
-pub record Left (bytes t : List ℕ) (f p h : ℕ) (s rs : List ℕ) (n : ℕ) (u us : List ℕ) : Type 0 where
-  pub pointer : Pointer bytes t f h
+pub record Left (p h : PointerExpression) (s rs : List ℕ) (n : ℕ) (u us : List ℕ) : Type 0 where
   pub done : List ℕ
-  pub is : indexes_of bytes t f p ≡ indexes_of bytes t f h ++ done
-  pub asked : AsksAll (scope_at bytes t f) (map ask_whole done) s rs n u us true
+  pub is : indexes_in p ≡ indexes_in h ++ done
+  pub asked : AsksAll (scope_in p) (map ask_whole done) s rs n u us true
 
-module _ {bytes t : List ℕ} {f p : ℕ} (from : Pointer bytes t f p) {s rs : List ℕ} {n : ℕ} (g : ListGiven (scope_at bytes t f) (map ask_whole (indexes_of bytes t f p)) s rs n) where
+module _ (p : PointerExpression) {s rs : List ℕ} {n : ℕ} (g : ListGiven (scope_in p) (map ask_whole (indexes_in p)) s rs n) where
   abbrev S : Scope
-  S = scope_at bytes t f
+  S = scope_in p
 
-  abbrev ix : ℕ → List ℕ
-  ix = indexes_of bytes t f
+  abbrev ix : PointerExpression → List ℕ
+  ix = indexes_in
 
-  pub left_start : Left bytes t f p p s rs n s rs
-  left_start = record { pointer = from; done = []; is = sym (append-nil (ix p)); asked = all_none g }
+  pub left_start : Left p p s rs n s rs
+  left_start = record { done = []; is = sym (append-nil (ix p)); asked = all_none g }
 
-  module _ {h : ℕ} {u us : List ℕ} (l : Left bytes t f p h s rs n u us) {x : Step} (d : StepDown bytes t f h x) where
-    pub left_constant : {base : ExpressionHandle} → x ≡ Constant base → Left bytes t f p base.0 s rs n u us
+  module _ {h : PointerExpression} {u us : List ℕ} (l : Left p h s rs n u us) {x : Step} (d : StepDown h x) where
+    pub left_constant : {base : PointerExpression} {i : ℕ} → x ≡ Constant base i → Left p base s rs n u us
     left_constant e =
         let z = rw e at d in
-        record { pointer = z.pointer; done = l.done; is = l.is ∙ ap (λ (xs : List ℕ). xs ++ l.done) z.indexes; asked = l.asked }
+        record { done = l.done; is = l.is ∙ ap (λ (xs : List ℕ). xs ++ l.done) z.indexes; asked = l.asked }
 
-    module _ {base index : ExpressionHandle} (e : x ≡ Dynamic base index) where
-      one_more : ix p ≡ ix base.0 ++ (index.0 ∷ l.done)
-      one_more = l.is ∙ ap (λ (xs : List ℕ). xs ++ l.done) (rw e at d).indexes ∙ append_assoc (ix base.0) (index.0 ∷ []) l.done
+    module _ {base : PointerExpression} {index : ExpressionHandle} (e : x ≡ Dynamic base index) where
+      one_more : ix p ≡ ix base ++ (index.0 ∷ l.done)
+      one_more = l.is ∙ ap (λ (xs : List ℕ). xs ++ l.done) (rw e at d).indexes ∙ append_assoc (ix base) (index.0 ∷ []) l.done
 
-      asks_more : map ask_whole (ix p) ≡ map ask_whole (ix base.0) ++ (ask_whole index.0 ∷ map ask_whole l.done)
-      asks_more = ap (map ask_whole) one_more ∙ map-append ask_whole (ix base.0) (index.0 ∷ l.done)
+      asks_more : map ask_whole (ix p) ≡ map ask_whole (ix base) ++ (ask_whole index.0 ∷ map ask_whole l.done)
+      asks_more = ap (map ask_whole) one_more ∙ map-append ask_whole (ix base) (index.0 ∷ l.done)
 
       pub left_given : ListGiven S (ask_whole index.0 ∷ []) u us n
-      left_given = list_next l.asked refl (map ask_whole (ix base.0)) (subst (λ (xs : List Ask). ListGiven S xs s rs n) asks_more g)
+      left_given = list_next l.asked refl (map ask_whole (ix base)) (subst (λ (xs : List Ask). ListGiven S xs s rs n) asks_more g)
 
       module _ {v vs : List ℕ} {r : Bool} (b : AsksAll S (ask_whole index.0 ∷ []) u us n v vs r) where
         both : AsksAll S (ask_whole index.0 ∷ map ask_whole l.done) s rs n v vs r
         both = list_then l.asked refl g b
 
         pub left_full : r ≡ false → AsksAll S (map ask_whole (ix p)) s rs n v vs false
-        left_full i = subst (λ (xs : List Ask). AsksAll S xs s rs n v vs false) (sym asks_more) (all_full both (map ask_whole (ix base.0)) i)
+        left_full i = subst (λ (xs : List Ask). AsksAll S xs s rs n v vs false) (sym asks_more) (all_full both (map ask_whole (ix base)) i)
 
-        pub left_dynamic : r ≡ true → Left bytes t f p base.0 s rs n v vs
+        pub left_dynamic : r ≡ true → Left p base s rs n v vs
         left_dynamic i =
-            record { pointer = (rw e at d).pointer; done = index.0 ∷ l.done; is = one_more; asked = subst (λ (b : Bool). AsksAll S (ask_whole index.0 ∷ map ask_whole l.done) s rs n v vs b) i both }
+            record { done = index.0 ∷ l.done; is = one_more; asked = subst (λ (b : Bool). AsksAll S (ask_whole index.0 ∷ map ask_whole l.done) s rs n v vs b) i both }
 
 -- all, if there is a dynamic index
 steps_are : (p : Path) (is : List ℕ) (a : PartReq) → ask_steps p is a ≡ of_place (target p) (cond (any is) all a) ∷ map ask_whole is

@@ -1,24 +1,15 @@
--- What a result that is made of parts asks, by number (`letters-each`, `components-each`, `joined_each`), and a part of a need as a piece.
+-- What a result that is made of parts asks, by number (`letters-each`, `components-each`, `joined_each`).
 use Prim.Native.Nat.{ℕ, zero, suc, ◌+◌, ◌<◌}
 use native.Mathlib.Omega.{arith}
-use mathlib.Core.Path.{◌≡◌, refl, sym, ap, ◌∙◌}
+use mathlib.Core.Path.{◌≡◌, refl, ap, ◌∙◌}
 use mathlib.Core.List.{List, [], ◌∷◌, map}
 use lib.ListN.{length, get_or, length-map}
-use Rattle.std.specs.Prelude.{Option, Some, None, unwrap_or}
 use Rattle.part.specs.PartReq.{PartReq, none, more, get_subpart}
-use Rattle.part.specs.Store.{part, Good}
-use Rattle.part.specs.Found.{Got}
-use Rattle.part.proofs.Pieces.{part-2}
 use Rattle.module.proofs.Tab.{length-tab, get_d_tab}
 use Rattle.clearance.specs.Shape.{or_none}
 use Rattle.clearance.specs.Needs.{Ask, of_value, ask_whole, ask_picked, ask_components}
-use Rattle.operands.specs.Lists.{letters, components, SubpartOf}
+use Rattle.operands.specs.Lists.{letters, components}
 use Rattle.operands.proofs.Loops.{Each}
-
--- a part of a need
-pub subpart_found : {s : List ℕ} {a k : ℕ} (x : Option ℕ) → Good s → Got s (get_subpart (part s a) k) x → SubpartOf s a k (unwrap_or x 2)
-subpart_found {s} None h g = record { piece = omega (arith, h.base); is = part-2 s ∙ sym (ap or_none g) }
-subpart_found (Some c) h g = record { piece = g.0; is = sym (ap or_none g.1) }
 
 -- Lists by number
 

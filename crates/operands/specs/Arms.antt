@@ -3,6 +3,7 @@ use Rattle.std.specs.Prelude.{ℕ, ◌+◌, ◌-◌, ◌<◌, ◌≤◌, ◌≡�
 use Rattle.part.specs.PartReq.{PartReq}
 use Rattle.module.specs.Tables.{function_of}
 use Rattle.access.specs.declared.kinded.Kinded.{Kinded}
+use Rattle.access.specs.Access.{operand_at}
 use Rattle.clearance.specs.Scope.{Scope, shape_of, type_of, arm}
 use Rattle.clearance.specs.Needs.{Ask, asks, gives}
 use Rattle.clearance.specs.IsNeed.{IsNeed}
@@ -13,6 +14,10 @@ use Rattle.standing.specs.World.{World}
 use Rattle.operands.specs.AsksAll.{wanted_in, ListGiven, AsksAll}
 use Rattle.judge.specs.declared.subject.Subject.{Subject}
 use Rattle.judge.specs.declared.expression.SubjectExpression.{SubjectExpression}
+
+-- the operands of an expression
+abbrev pub operands_of : SubjectExpression → ℕ → ℕ
+operands_of x = operand_at x.subject.now.file.now.bytes x.row
 
 -- what the need a of the expression e asks
 abbrev pub asks_of : Scope → ℕ → PartReq → List Ask

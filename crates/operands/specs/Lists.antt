@@ -1,8 +1,8 @@
 -- What the need a of an expression asks, by its kind: o gives its operands.
-use Rattle.std.specs.Prelude.{ℕ, ◌+◌, ◌<◌, ◌≡◌, cond, List, [], ◌∷◌, ◌++◌, eqb}
+use Rattle.std.specs.Prelude.{ℕ, ◌+◌, cond, List, [], ◌∷◌, ◌++◌, eqb}
 use Rattle.field.specs.Limits.{absent}
 use Rattle.part.specs.PartReq.{PartReq, none, more, get_subpart}
-use Rattle.part.specs.Store.{top, part}
+use Rattle.part.specs.Store.{part}
 use Rattle.module.specs.Decode.{tab}
 use Rattle.clearance.specs.Shape.{or_none}
 use Rattle.clearance.specs.Scope.{Scope, path_of, indexes}
@@ -47,11 +47,6 @@ letters o = tab (o 1) (λ i. o (2 + i))
 
 abbrev pub components : (ℕ → ℕ) → List ℕ
 components o = tab (o 0) (λ i. o (1 + i))
-
--- r means the part k of what a means
-pub record SubpartOf (s : List ℕ) (a k r : ℕ) : Type 0 where
-  pub piece : r < top s
-  pub is : part s r ≡ or_none (get_subpart (part s a) k)
 
 -- a load by the pointer p
 abbrev pub load_of : Scope → ℕ → PartReq → List Ask

@@ -13,6 +13,7 @@ use judge::subject::Subject;
 use memory::parts::Parts;
 use module::handles::ExpressionHandle;
 use module::kinds::ExpressionKind;
+use place::pointer::PointerExpression;
 
 // Both operands, by part or whole.
 fn ask_binary(expression: &SubjectExpression, parts: &mut Parts, n: usize) -> Option<()>
@@ -20,11 +21,10 @@ fn ask_binary(expression: &SubjectExpression, parts: &mut Parts, n: usize) -> Op
     requires kind_value { expression.now.row.kind ≡ 17 }
     ensures { AsksOperands expression.now.subject.now.file.now.bytes expression.now.subject.now.file.now.t expression.now.subject.now.f.0 expression.now.e.0 parts.old.cells parts.old.slots n parts.new.cells parts.new.slots (fits result) }
 {
-    let subject = expression.subject;
     if by_part(expression) {
-        return ask_both_same(subject.file, subject.f, parts, n, expression.row);
+        return ask_both_same(expression, parts, n);
     }
-    ask_both_whole(subject.file, subject.f, parts, n, expression.row)
+    ask_both_whole(expression, parts, n)
 }
 
 // The components, by part or whole.
@@ -33,17 +33,10 @@ fn ask_compose(expression: &SubjectExpression, parts: &mut Parts, n: usize) -> O
     requires kind_value { expression.now.row.kind ≡ 8 }
     ensures { AsksOperands expression.now.subject.now.file.now.bytes expression.now.subject.now.file.now.t expression.now.subject.now.f.0 expression.now.e.0 parts.old.cells parts.old.slots n parts.new.cells parts.new.slots (fits result) }
 {
-    let subject = expression.subject;
-    if is_joined(
-        subject.file,
-        subject.f,
-        subject.types,
-        expression.row,
-        expression.e,
-    ) {
-        return ask_joined(subject.file, subject.f, parts, n, expression.row);
+    if is_joined(expression) {
+        return ask_joined(expression, parts, n);
     }
-    ask_components(subject.file, subject.f, parts, n, expression.row)
+    ask_components(expression, parts, n)
 }
 
 // What the need of the expression e asks of its operands. None where the needs pass the bound.
@@ -65,21 +58,25 @@ pub fn ask_operands(
         e,
     };
     match ExpressionKind::try_from(row.kind) {
-        Ok(ExpressionKind::AccessIndex) => ask_index(subject.file, subject.f, parts, n, row),
-        Ok(ExpressionKind::Access) => ask_both_whole(subject.file, subject.f, parts, n, row),
+        Ok(ExpressionKind::AccessIndex) => ask_index(&expression, parts, n),
+        Ok(ExpressionKind::Access) => ask_both_whole(&expression, parts, n),
         Ok(ExpressionKind::Splat | ExpressionKind::Relational) => {
-            ask_whole(subject.file, subject.f, parts, n, row, 0)
+            ask_whole(&expression, parts, n, 0)
         }
-        Ok(ExpressionKind::Swizzle) => ask_letters(subject.file, subject.f, parts, n, row),
-        Ok(ExpressionKind::Compose) => { ask_compose(&expression, parts, n) }
+        Ok(ExpressionKind::Swizzle) => ask_letters(&expression, parts, n),
+        Ok(ExpressionKind::Compose) => ask_compose(&expression, parts, n),
         Ok(ExpressionKind::Load) => {
-            let p = subject.file.expression_operand(row, 0);
-            ask_load(subject.file, subject.f, parts, path, n, p)
+            let pointer = PointerExpression {
+                file: subject.file,
+                f: subject.f,
+                e: subject.file.expression_operand(row, 0),
+            };
+            ask_load(&pointer, parts, path, n)
         }
-        Ok(ExpressionKind::Binary) => { ask_binary(&expression, parts, n) }
-        Ok(ExpressionKind::Select) => ask_select(subject.file, subject.f, parts, n, row),
-        Ok(ExpressionKind::Math) => ask_math(subject.file, subject.f, parts, n, row),
+        Ok(ExpressionKind::Binary) => ask_binary(&expression, parts, n),
+        Ok(ExpressionKind::Select) => ask_select(&expression, parts, n),
+        Ok(ExpressionKind::Math) => ask_math(&expression, parts, n),
         // The two kinds that are left, Unary and As.
-        _ => ask_same(subject.file, subject.f, parts, n, row, 0),
+        _ => ask_same(&expression, parts, n, 0),
     }
 }

@@ -1,40 +1,32 @@
 // A load asks for the same part at its place; where an index is dynamic, for all that the path names for sure, and for each such index whole, the last first.
 ghost use Rattle.std.specs.Prelude.{◌≡◌, cond, map};
 ghost use Rattle.clearance.specs.Needs.{ask_whole};
-ghost use Rattle.judge.specs.Given.{scope_at};
-ghost use Rattle.place.specs.Target.{Pointer};
-ghost use Rattle.place.specs.Steps.{indexes_of};
+ghost use Rattle.place.specs.Steps.{scope_in, indexes_in};
 ghost use Rattle.operands.specs.Arms.{PathRoom};
 ghost use Rattle.operands.specs.AsksAll.{ListGiven, AsksAll, wanted_in};
 ghost use Rattle.operands.specs.Lists.{load_of};
 ghost use Rattle.hold.specs.Fits.{fits};
 
-use access::file::File;
 use asking::ask::{ask_place, ask_value};
 use memory::parts::Parts;
-use module::handles::{ExpressionHandle, FunctionHandle};
 use part::store::ALL_PIECE;
-use place::steps::{Step, step_down};
-use place::target::find_target;
+use place::pointer::PointerExpression;
+use place::steps::Step;
 
-// The dynamic indexes of the pointer p, each whole.
-// Stays: a loop by hand, since the next step is that of the base which this one names; nothing is counted.
-pub fn ask_indexes(
-    file: &File,
-    f: FunctionHandle,
-    parts: &mut Parts,
-    n: usize,
-    p: ExpressionHandle,
-) -> Option<()>
-    requires list_given { ListGiven (scope_at file.now.bytes file.now.t f.0) (map ask_whole (indexes_of file.now.bytes file.now.t f.0 p.0)) parts.old.cells parts.old.slots n }
-    requires pointer { Pointer file.now.bytes file.now.t f.0 p.0 }
-    ensures { AsksAll (scope_at file.now.bytes file.now.t f.0) (map ask_whole (indexes_of file.now.bytes file.now.t f.0 p.0)) parts.old.cells parts.old.slots n parts.new.cells parts.new.slots (fits result) }
+// The dynamic indexes of a pointer, each whole.
+// Stays: a loop by hand. An iterator over these indexes would be this same loop down to the next one as its `next`, a definition of what is left and three
+// laws (a step, the end, the length), for this one use.
+pub fn ask_indexes(pointer: &PointerExpression, parts: &mut Parts, n: usize) -> Option<()>
+    requires { ListGiven (scope_in pointer.now) (map ask_whole (indexes_in pointer.now)) parts.old.cells parts.old.slots n }
+    ensures { AsksAll (scope_in pointer.now) (map ask_whole (indexes_in pointer.now)) parts.old.cells parts.old.slots n parts.new.cells parts.new.slots (fits result) }
 {
-    let mut h = p;
+    let file = pointer.file;
+    let f = pointer.f;
+    let mut h = *pointer;
     loop {
-        match step_down(file, f, h) {
-            Step::Variable => return Some(()),
-            Step::Constant(base) => h = base,
+        match h.step_down() {
+            Step::Global(_) | Step::Local(_) => return Some(()),
+            Step::Constant(base, _) => h = base,
             Step::Dynamic(base, index) => {
                 ask_value(file, f, parts, n, index, ALL_PIECE)?;
                 h = base;
@@ -50,22 +42,19 @@ fn loaded(a: u32, dynamic: bool) -> u32
     if dynamic { ALL_PIECE } else { a }
 }
 
-// What stands where the pointer p leads.
-pub fn ask_load(
-    file: &File,
-    f: FunctionHandle,
+// What stands where a pointer leads.
+pub(crate) fn ask_load(
+    pointer: &PointerExpression,
     parts: &mut Parts,
     path: &mut [u32],
     n: usize,
-    p: ExpressionHandle,
 ) -> Option<()>
-    requires list_given { ListGiven (scope_at file.now.bytes file.now.t f.0) (load_of (scope_at file.now.bytes file.now.t f.0) p.0 (wanted_in parts.old.cells parts.old.slots n)) parts.old.cells parts.old.slots n }
-    requires pointer { Pointer file.now.bytes file.now.t f.0 p.0 }
-    requires path_room { PathRoom file.now.bytes file.now.t f.0 path.old }
-    ensures { AsksAll (scope_at file.now.bytes file.now.t f.0) (load_of (scope_at file.now.bytes file.now.t f.0) p.0 (wanted_in parts.old.cells parts.old.slots n)) parts.old.cells parts.old.slots n parts.new.cells parts.new.slots (fits result) }
+    requires list_given { ListGiven (scope_in pointer.now) (load_of (scope_in pointer.now) pointer.now.e.0 (wanted_in parts.old.cells parts.old.slots n)) parts.old.cells parts.old.slots n }
+    requires path_room { PathRoom pointer.now.file.now.bytes pointer.now.file.now.t pointer.now.f.0 path.old }
+    ensures { AsksAll (scope_in pointer.now) (load_of (scope_in pointer.now) pointer.now.e.0 (wanted_in parts.old.cells parts.old.slots n)) parts.old.cells parts.old.slots n parts.new.cells parts.new.slots (fits result) }
 {
-    ask_indexes(file, f, parts, n, p)?;
-    let target = find_target(file, f, path, p);
+    ask_indexes(pointer, parts, n)?;
+    let target = pointer.find_target(path);
     let a = loaded(parts.slots[n - 2], target.dynamic);
     ask_place(parts, n, &path[target.from..target.to], a)
 }

@@ -8,7 +8,7 @@ ghost use Rattle.part.specs.PartReq.{more, entries, depth, width, over};
 ghost use Rattle.part.specs.StoreLimits.{cell_words, store_words, entries_cap, buckets, table_words};
 ghost use Rattle.part.specs.Store.{word, top, part, Measures, Passes, SizesOf, Formed, Good, Room, Made, Seen, Holds, Put, hash, Linked, Distinct, Finds, Chained, Emptied, Rebuilt, Blank, Fresh};
 
-use crate::limits::{CELL_WORDS, ENTRIES_CAP, SPINE, TABLE_WORDS};
+use crate::limits::{BUCKETS, CELL_WORDS, ENTRIES_CAP, SPINE, TABLE_WORDS};
 use field::limits::{MAX_DEPTH, MAX_ENTRIES};
 
 // The pieces that are no cells: all, exist, and the empty part. Each number above is a cell's.
@@ -60,7 +60,7 @@ pub(crate) fn hash(index: u32, child: u32, rest: u32) -> usize
     ensures { (result ≡ hash index child rest) × (result < buckets) }
 {
     let x = (index as u64) * 334214459 + (child as u64) * 479001599;
-    ((x / 65536 + rest as u64) % 16384) as usize
+    ((x / 65536 + rest as u64) % BUCKETS as u64) as usize
 }
 
 // Takes every cell out of its chain, and forgets every sum.

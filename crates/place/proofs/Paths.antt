@@ -1,14 +1,10 @@
 -- A pointer's path by its row: a variable has no steps, and an index is one step further than its base. From the recursion's equation, since a base is lower.
 use Prim.Native.Nat.{ℕ, ◌<◌}
 use native.Mathlib.Omega.{arith}
-use native.Mathlib.Decide.{ℕ_discrete}
 use mathlib.Core.Path.{◌≡◌, refl, sym, ap, subst, ◌∙◌}
-use mathlib.Core.Logic.{◌⊎◌, inl, inr}
-use mathlib.Core.Bool.{Bool, true, false, ◌||◌}
+use mathlib.Core.Bool.{Bool, true, false}
 use mathlib.Core.List.{List, [], ◌∷◌, ◌++◌}
-use lib.Dec.{ltb, eqb}
-use borrow.Author.Rules.{rules}
-use borrow.Author.Tests.{eqb-true, ne_eqb}
+use lib.Dec.{ltb}
 use lib.ListN.{get_or}
 use Rattle.module.specs.Module.{Typed}
 use Rattle.module.specs.Knot.{below}
@@ -45,14 +41,6 @@ rooted p = ltb 0 (get_or p.root 0 0)
 -- the path of a variable
 abbrev pub alone : Place → Path
 alone place = record { root = place; steps = [] }
-
--- what the test of a kind says
-module _ (k : ℕ) {r : Bool} (e : r ≡ eqb k 3 || eqb k 4) where
-  pub an_index : r ≡ true → (k ≡ 3) ⊎ (k ≡ 4)
-  an_index h = elim (ℕ_discrete k 3) [ yes a ↦ inl a | no a ↦ inr (eqb-true k 4 (let z : r ≡ eqb k 4 = e ∙ rw (ne_eqb k 3 a) in sym z ∙ h)) ]
-
-  pub no_index : r ≡ false → (k ≡ 3 → ⊥) × (k ≡ 4 → ⊥)
-  no_index h = search (rules, e, h)
 
 -- a kind that no path has
 record Other (kind : ℕ) : Type 0 where
@@ -144,19 +132,3 @@ module _ {bytes t : List ℕ} {f e : ℕ} {row : Kinded} (R : At bytes t f e row
   unfolding further
   indexes-of_dynamic h =
       ap (λ (p : Path). indexes p.steps) (path_dynamic h) ∙ indexes-dynamic (path_of S (o 0)).steps (o 1)
-
-  -- the variable, after all indexes
-  pub no_steps : is_path S e ≡ true → (row.kind ≡ 3 → ⊥) → (row.kind ≡ 4 → ⊥) → (path_of S e).steps ≡ []
-  no_steps p a b =
-      elim (ℕ_discrete row.kind 10) [
-        | yes k ↦ ap (λ (q : Path). q.steps) (path_global k)
-        | no k ↦
-            elim (ℕ_discrete row.kind 11) [
-              | yes m ↦ ap (λ (q : Path). q.steps) (path_local m)
-              | no m ↦ absurd (no_other p a b k m)
-            ]
-      ]
-
-  pub indexes-of_variable : is_path S e ≡ true → (row.kind ≡ 3 → ⊥) → (row.kind ≡ 4 → ⊥) → indexes (path_of S e).steps ≡ []
-  unfolding indexes
-  indexes-of_variable p a b = rw (no_steps p a b)

@@ -7,7 +7,6 @@ use Rattle.access.specs.Access.{expression_row}
 use Rattle.clearance.specs.Scope.{Scope, Step, at, by, path_of, indexes, target, is_path}
 use Rattle.judge.specs.Given.{scope_at}
 use Rattle.place.specs.declared.target.Target.{Target}
-use Rattle.place.specs.declared.target.Reached.{Reached}
 
 -- the row of an expression of a function of a module that was read
 pub record At (bytes t : List ℕ) (f e : ℕ) (row : Kinded) : Type 0 where
@@ -55,9 +54,3 @@ pub record Passed (S : Scope) (e : ℕ) (path : List ℕ) (h from to : ℕ) (dyn
   pub high : to ≤ length path
   pub rest : (path_of S h).root ++ front_then (path_of S h).steps (part path from to) ≡ target (path_of S e)
   pub found : (dynamic || any (indexes (path_of S h).steps)) ≡ any (indexes (path_of S e).steps)
-
--- all steps of e are passed, down to a variable
-pub record IndexesPassed (S : Scope) (e : ℕ) (before after : List ℕ) (r : Reached) : Type 0 where
-  pub passed : Passed S e after r.variable.0 r.passed.from r.passed.to r.passed.dynamic
-  pub variable : (path_of S r.variable.0).steps ≡ []
-  pub long : length after ≡ length before

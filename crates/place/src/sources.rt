@@ -8,7 +8,6 @@ ghost use Rattle.judge.specs.Subject.{scope_of};
 
 use access::file::File;
 use judge::subject::Subject;
-use judge::values::is_path;
 use module::handles::{ExpressionHandle, FunctionHandle};
 use module::kinds::ExpressionKind;
 
@@ -68,7 +67,7 @@ pub fn gives_value(subject: &Subject, e: ExpressionHandle) -> bool
     }
     let row = subject.file.expression(subject.f, e);
     match ExpressionKind::try_from(row.kind) {
-        Ok(ExpressionKind::AccessIndex | ExpressionKind::Access) => { !is_path(subject, e) }
+        Ok(ExpressionKind::AccessIndex | ExpressionKind::Access) => { !subject.is_path(e) }
         _ => gives_kind(row.kind),
     }
 }

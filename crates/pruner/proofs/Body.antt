@@ -7,7 +7,7 @@ use mathlib.Core.List.{List, [], ◌∷◌}
 use mathlib.Core.Option.{Option}
 use lib.Dec.{leb, ltb}
 use borrow.Author.Tests.{le-leb, lt-leb}
-use lib.ListN.{length, get_or, set, length-set}
+use lib.ListN.{length, get_or, drop, set, length-set}
 use lib.Seq.{get_or-set_same, get_or-set_other}
 use Rattle.field.specs.Limits.{absent, max_pieces, max_functions}
 use Rattle.part.specs.PartReq.{PartReq, none, entries}
@@ -16,12 +16,13 @@ use Rattle.part.specs.StoreLimits.{entries_cap}
 use Rattle.module.specs.Module.{Module}
 use Rattle.module.specs.Tables.{max_items, module_of}
 use Rattle.context.specs.RequiredContext.{variable}
-use Rattle.request.specs.Fields.{Read, malformed, got, ◌>>=◌, whole, refused, accepted}
+use Rattle.request.specs.Fields.{fields, Read, malformed, got, ◌>>=◌, whole, refused, accepted}
 use Rattle.request.specs.Part.{read_variables}
 use Rattle.request.specs.Request.{all_below}
-use Rattle.request.specs.Answers.{from}
 use Rattle.std.specs.Prelude.{Option as Maybe, Some, None}
-use Rattle.request.proofs.Bytes.{from_cons, from_end}
+use Rattle.std.specs.Borrow.{Bor}
+use Rattle.std.specs.Bool.{then_some}
+use Rattle.request.proofs.Bytes.{no_field}
 use Rattle.request.proofs.Entries.{kept_on, ended, goes_on}
 use Rattle.walk.specs.State.{FunctionReq, total_pieces}
 use Rattle.walk.specs.Requests.{Pruner}
@@ -31,11 +32,10 @@ use Rattle.memory.specs.Memory.{read, Memory}
 use Rattle.memory.proofs.Slots.{read-long, slot_low, set-memory, set-read}
 use Rattle.marks.specs.declared.places.MarkPlaces.{MarkPlaces}
 use Rattle.marks.specs.declared.totals.MarkTotals.{MarkTotals}
-use Rattle.state.specs.Ready.{WasRead}
+use Rattle.access.specs.Laid.{WasRead}
 use Rattle.pruner.specs.Form.{pruner_pieces, only, read_totals, read_body, answered}
 use Rattle.pruner.specs.Stored.{pruner_in, HasTotals}
 use Rattle.pruner.specs.Reading.{Next, RoomBeside, PieceWasRead, TooMany, NoTotals, FunctionsAre, FunctionsBy, FunctionsWereRead, BodyWasRead}
-use Rattle.std.specs.Prelude.{Some, None}
 use Rattle.pruner.proofs.Pieces.{no_piece, piece_read, piece_placed}
 
 -- what is malformed or too much is refused
@@ -44,6 +44,12 @@ unfolding whole
 many_refused malformed h = refl
 many_refused (got p []) h = let more-than : max_pieces < pruner_pieces p = omega arith in rw (lt-leb (pruner_pieces p) max_pieces more-than) refl
 many_refused (got p (f ∷ fs)) h = refl
+
+left_refused : (p : Pruner) (c : List ℕ) → 2 ≤ length c → answered (whole (got p (fields c))) ≡ refused 19
+unfolding fields whole
+left_refused p [] h = absurd (omega arith)
+left_refused p (x ∷ []) h = absurd (omega arith)
+left_refused p (x ∷ (y ∷ c)) h = refl
 
 module _ (g : PartReq) where
   abbrev made : List (Option FunctionReq) → Pruner
@@ -71,29 +77,29 @@ module _ (bytes t : List ℕ) (w : WasRead bytes t) {n : ℕ} (is-n : n ≡ leng
   unfolding read_body
   body_is fs = rw is-n refl
 
-  module _ (rs : List ℕ) (totals : MarkTotals) {s b v : List ℕ} {a : Maybe (ℕ × ℕ)} (first : PieceWasRead s v b 6 0 (list (from b 6)) a) where
-    pub body_no_globals : a ≡ None → BodyWasRead bytes t s rs totals b v rs totals false
+  module _ (rs b : List ℕ) {s v : List ℕ} {a : Maybe (ℕ × Bor (List ℕ))} (first : PieceWasRead s v (drop 6 b) 0 (list (fields (drop 6 b))) a) where
+    pub body_no_globals : {after : MarkTotals} → a ≡ None → BodyWasRead bytes t s rs b v rs after None
     body_no_globals e = record {
       kept = first.kept;
       long = refl;
-      by = many_refused (read_body m (from b 6)) (rw (body_is (from b 6), no_piece first e) tt);
+      by = many_refused (read_body m (fields (drop 6 b))) (rw (body_is (fields (drop 6 b)), no_piece first e) tt);
     }
 
-    module _ {p next : ℕ} (e : a ≡ Some (p, next)) where
+    module _ {p : ℕ} {next : Bor (List ℕ)} (e : a ≡ Some (p, next)) where
       abbrev g : PartReq
       g = part v p
 
-      after_globals : read_body m (from b 6) ≡ (read_totals m 0 (length (module_of bytes t).functions) (from b next) >>= λ ts hs. got (record { globals = g; functions = ts }) hs)
-      after_globals = body_is (from b 6) ∙ rw (piece_read first e) refl
+      after_globals : read_body m (fields (drop 6 b)) ≡ (read_totals m 0 (length (module_of bytes t).functions) (fields next.now) >>= λ ts hs. got (record { globals = g; functions = ts }) hs)
+      after_globals = body_is (fields (drop 6 b)) ∙ rw (piece_read first e) refl
 
       module _ {count : ℕ} (weighed : count ≡ min entries_cap (entries g)) where
-        pub body_many_globals : max_pieces < count → BodyWasRead bytes t s rs totals b v rs totals false
+        pub body_many_globals : {after : MarkTotals} → max_pieces < count → BodyWasRead bytes t s rs b v rs after None
         body_many_globals h =
             let more-than : max_pieces < entries g = omega arith in
             record {
               kept = first.kept;
               long = refl;
-              by = many_refused (read_body m (from b 6)) (rw after_globals (many_globals g (read_totals m 0 (length (module_of bytes t).functions) (from b next)) more-than));
+              by = many_refused (read_body m (fields (drop 6 b))) (rw after_globals (many_globals g (read_totals m 0 (length (module_of bytes t).functions) (fields next.now)) more-than));
             }
 
         module _ (few : count ≤ max_pieces) (mem : Memory s rs) where
@@ -114,73 +120,69 @@ module _ (bytes t : List ℕ) (w : WasRead bytes t) {n : ℕ} (is-n : n ≡ leng
               let inside : globals_slot < length (read s rs) = omega (arith, read-long s rs, there) in
               ap (λ (ps : List PartReq). get_or ps globals_slot none) reads ∙ get_or-set_same (read s rs) globals_slot g none inside
 
-          pub body_has : {places : MarkPlaces} → HasTotals bytes t places s rs totals → HasTotals bytes t places v (set rs globals_slot p) totals
+          pub body_has : {places : MarkPlaces} → HasTotals bytes t places s rs → HasTotals bytes t places v (set rs globals_slot p)
           body_has h = record {
             was_read = w;
             placed = h.placed;
             memory = set-memory mem first.kept (piece_placed first e).0 (omega arith) there (λ x y. absurd (omega arith));
           }
 
-          pub body_none : NoTotals bytes t s rs totals → NoTotals bytes t v (set rs globals_slot p) totals
+          pub body_none : {totals : MarkTotals} → NoTotals bytes t s rs totals → NoTotals bytes t v (set rs globals_slot p) totals
           body_none h = record { flags = h.flags; slots = λ k x y. other k (omega arith) ∙ h.slots k x y }
 
-          pub body_room : RoomBeside s b 6 (max_items + max_functions) → (next ≤ length b) × RoomBeside v b next (max_items + max_functions)
-          body_room room = let q = (piece_placed first e).1 in (q.inside, omega (arith, q, first.kept.long))
+          pub body_room : RoomBeside s (drop 6 b) (max_items + max_functions) → RoomBeside v next.now (max_items + max_functions)
+          body_room room = let q = (piece_placed first e).1 in omega (arith, q, first.kept.long)
 
-          module _ {u us : List ℕ} {after : MarkTotals} {c : Next} (second : FunctionsWereRead bytes t v (set rs globals_slot p) totals b next count u us after c) where
+          module _ {u us : List ℕ} {after : MarkTotals} {c : Next} (second : FunctionsWereRead bytes t v (set rs globals_slot p) next.now count u us after c) where
             kept_now : Kept s u
             kept_now = kept_on first.kept second.kept
 
             long_now : length us ≡ length rs
             long_now = second.long ∙ length-set rs globals_slot p
 
-            pub body_no_functions : c ≡ None → BodyWasRead bytes t s rs totals b u us after false
+            pub body_no_functions : c ≡ None → BodyWasRead bytes t s rs b u us after None
             body_no_functions z =
-                let many : TooMany total_pieces count (read_totals m 0 (length (module_of bytes t).functions) (from b next))
-                = subst (FunctionsBy bytes t v (set rs globals_slot p) b next count u us after) z second.by in
+                let many : TooMany total_pieces count (read_totals m 0 (length (module_of bytes t).functions) (fields next.now))
+                = subst (FunctionsBy bytes t v (set rs globals_slot p) next.now count u us after) z second.by in
                 record {
                   kept = kept_now;
                   long = long_now;
-                  by = many_refused (read_body m (from b 6)) (rw after_globals (many_functions g count (read_totals m 0 (length (module_of bytes t).functions) (from b next)) exact many));
+                  by = many_refused (read_body m (fields (drop 6 b))) (rw after_globals (many_functions g count (read_totals m 0 (length (module_of bytes t).functions) (fields next.now)) exact many));
                 }
 
-            module _ {end total : ℕ} (z : c ≡ Some (end, total)) where
-              F : FunctionsAre bytes t v (set rs globals_slot p) b next count u us after end total
-              F = subst (FunctionsBy bytes t v (set rs globals_slot p) b next count u us after) z second.by
-
-              pub body_inside : end ≤ length b
-              body_inside = F.inside
+            module _ {end : Bor (List ℕ)} {total : ℕ} (z : c ≡ Some (end, total)) where
+              F : FunctionsAre bytes t v (set rs globals_slot p) next.now count u us after end.now total
+              F = subst (FunctionsBy bytes t v (set rs globals_slot p) next.now count u us after) z second.by
 
               globals_now : get_or (read u us) globals_slot none ≡ g
               globals_now = F.same globals_slot (λ x y. omega arith) ∙ here
 
-              found : read_body m (from b 6) ≡ got (pruner_in bytes t u us after) (from b end)
+              found : read_body m (fields (drop 6 b)) ≡ got (pruner_in bytes t u us after) (fields end.now)
               found = after_globals ∙ rw (F.is, globals_now) refl
 
               allowed : leb (pruner_pieces (pruner_in bytes t u us after)) max_pieces ≡ true
               allowed = le-leb (pruner_pieces (pruner_in bytes t u us after)) max_pieces (omega (arith, F.sums, F.few, exact, ap entries globals_now))
 
-              left_over : end + 2 ≤ length b → answered (whole (read_body m (from b 6))) ≡ refused 19
-              unfolding whole
-              left_over h = rw (found, from_cons b end h) refl
+              left_over : 2 ≤ length end.now → answered (whole (read_body m (fields (drop 6 b)))) ≡ refused 19
+              left_over h = ap (λ (x : Read Pruner). answered (whole x)) found ∙ left_refused (pruner_in bytes t u us after) end.now h
 
-              nothing_left : length b < end + 2 → answered (whole (read_body m (from b 6))) ≡ accepted (pruner_in bytes t u us after)
+              nothing_left : length end.now < 2 → answered (whole (read_body m (fields (drop 6 b)))) ≡ accepted (pruner_in bytes t u us after)
               unfolding whole
-              nothing_left h = rw (found, from_end b end h, allowed) refl
+              nothing_left h = rw (found, no_field end.now h, allowed) refl
 
-              ends_by : (r : Bool) → r ≡ ltb (length b) (end + 2) → BodyWasRead bytes t s rs totals b u us after r
+              ends_by : (r : Bool) → r ≡ ltb (length end.now) 2 → BodyWasRead bytes t s rs b u us after (then_some r tt)
               ends_by true x = record {
                 kept = kept_now;
                 long = long_now;
                 by = record {
-                  is = nothing_left (ended b end x refl);
+                  is = nothing_left (ended end.now x refl);
                   memory = F.memory;
                   same = λ k ne out. F.same k out ∙ other k ne;
                   totals-sum = F.totals-sum;
                   unwalked = F.unwalked;
                 };
               }
-              ends_by false x = record { kept = kept_now; long = long_now; by = left_over (goes_on b end x refl) }
+              ends_by false x = record { kept = kept_now; long = long_now; by = left_over (goes_on end.now x refl) }
 
-              pub body_ends : {r : Bool} → r ≡ ltb (length b) (end + 2) → BodyWasRead bytes t s rs totals b u us after r
+              pub body_ends : {r : Bool} → r ≡ ltb (length end.now) 2 → BodyWasRead bytes t s rs b u us after (then_some r tt)
               body_ends {r} x = ends_by r x

@@ -7,9 +7,9 @@ use mathlib.Core.Bool.{true, false}
 use mathlib.Core.List.{[]}
 use mathlib.Core.Option.{Option, some, none as nothing}
 use lib.ListN.{length, get_or-eq_default}
-use borrow.Author.Tests.{lt-ltb, le-ltb}
+use borrow.Author.Tests.{lt-ltb}
 use Rattle.field.specs.Limits.{absent}
-use Rattle.part.specs.PartReq.{PartReq, all, exist, none, more, over, spine}
+use Rattle.part.specs.PartReq.{PartReq, all, exist, none, more, spine}
 use Rattle.part.specs.Ascending.{From}
 use Rattle.part.specs.Limited.{Indexed}
 use Rattle.module.specs.Module.{FunctionHandle, Function, Module}
@@ -21,6 +21,7 @@ use Rattle.valid.specs.Valid.{Valid}
 use Rattle.walk.specs.State.{FunctionReq}
 use Rattle.walk.specs.Resolve.{function_at}
 use Rattle.walk.specs.Proper.{Fine, VariablesFrom, Variables, FineContext, FineFunction}
+use Rattle.sound.proofs.Parts.{variables_within}
 use Rattle.sound.proofs.There.{function_valid}
 use Rattle.pruner.specs.Form.{known_in}
 
@@ -40,16 +41,6 @@ variables_from n k all h = h
 variables_from n k exist h = h
 variables_from n k none h = tt
 variables_from n k (more i p r) h = (h.0, (h.2.ascends, variables_from n (suc i) r h.3))
-
--- a list of variables passes no limit of its own
-variables_within : (n k : ℕ) (q : PartReq) → spine ≤ k → VariablesFrom n k q → over q ≡ false
-unfolding over
-variables_within n k all l h = absurd h
-variables_within n k exist l h = absurd h
-variables_within n k none l h = refl
-variables_within n k (more i p r) l h =
-    let high : spine ≤ i = omega (arith, h.0) in
-    rw (h.2.within, variables_within n (suc i) r (omega arith) h.3, le-ltb i spine high)
 
 -- where there are so few variables that none is absent
 variables_indexed : (n k : ℕ) (q : PartReq) → n ≤ absent → VariablesFrom n k q → Indexed (variable absent) q

@@ -1,19 +1,20 @@
 -- A function's total read as the definition reads it: its marks, its context and its records, one after the other. Slots and marks of functions lie apart.
-use Prim.Native.Nat.{ℕ, zero, suc, ◌+◌, ◌-◌, ◌*◌, ◌≤◌, ◌<◌}
+use Prim.Native.Nat.{ℕ, ◌+◌, ◌-◌, ◌*◌, ◌≤◌, ◌<◌}
 use native.Mathlib.Omega.{arith}
 use mathlib.Core.Path.{◌≡◌, refl, ap, sym, subst, ◌∙◌}
-use mathlib.Core.Bool.{Bool, true, false}
-use mathlib.Core.List.{List, [], ◌∷◌}
-use mathlib.Core.Option.{Option, some, none as nothing}
-use lib.ListN.{length, set}
+use mathlib.Core.Bool.{true, false}
+use mathlib.Core.List.{List, ◌++◌}
+use mathlib.Core.Option.{Option, some}
+use lib.ListN.{length, take, drop, set}
+use lib.Seq.{get_or-set_same, get_or-set_other}
 use Rattle.field.specs.Limits.{max_pieces, min_report}
 use Rattle.module.specs.Module.{FunctionHandle, Function, Module}
 use Rattle.module.specs.Tables.{row_at, expressions_from, function_of, module_of}
 use Rattle.access.proofs.Access.{expressions-are}
 use Rattle.context.specs.RequiredContext.{RequiredContext, pieces}
-use Rattle.request.specs.Fields.{Read, malformed, got, ◌>>=◌}
+use Rattle.request.specs.Fields.{fields, Read, malformed, got, ◌>>=◌}
 use Rattle.request.specs.Context.{read_context_body, known_context}
-use Rattle.request.specs.Answers.{from, Limits}
+use Rattle.request.specs.Answers.{Limits}
 use Rattle.request.proofs.Entries.{kept_same, kept_on}
 use Rattle.walk.specs.State.{Records, FunctionReq, record_pieces}
 use Rattle.walk.specs.Resolve.{function_at}
@@ -25,12 +26,13 @@ use Rattle.memory.specs.Memory.{read, context_at, Memory}
 use Rattle.memory.proofs.Runs.{context_same}
 use Rattle.marks.specs.declared.places.MarkPlaces.{MarkPlaces}
 use Rattle.marks.specs.declared.totals.MarkTotals.{MarkTotals}
-use Rattle.marks.specs.Places.{slice, start_in, size_in, Inside}
-use Rattle.marks.specs.Report.{has_total, MarksKept}
+use Rattle.marks.specs.Places.{start_in, Inside}
+use Rattle.marks.specs.Report.{has_total}
 use Rattle.marks.specs.Report as report
 use Rattle.marks.proofs.Placed.{few, at_function}
 use Rattle.marks.proofs.Buffers.{inside, size_is}
-use Rattle.marks.proofs.Sums.{total_missing, kept-own, kept-other}
+use Rattle.marks.proofs.Stretches.{lent_long, lent_written}
+use Rattle.marks.proofs.Sums.{written_own, written_other}
 use Rattle.state.specs.State.{records_in}
 use Rattle.state.proofs.Own.{fits}
 use Rattle.leave.specs.Leave.{RecordsAt}
@@ -39,7 +41,8 @@ use Rattle.block.specs.Standing.{total_of, total_in}
 use Rattle.pruner.specs.Form.{only, read_marks, read_records, known_in, read_kept}
 use Rattle.pruner.specs.Stored.{HasTotals}
 use Rattle.pruner.specs.Reading.{Next, RoomBeside, MarksAre, MarksWereRead, TooMany, RecordsBy, RecordsWereRead, ContextIs, ContextBy, ContextWasStored, kept_pieces, KeptBy, KeptWasRead}
-use Rattle.std.specs.Prelude.{Some, None}
+use Rattle.std.specs.Prelude.{Option as Maybe, Some, None}
+use Rattle.std.specs.Borrow.{Bor}
 
 -- what counts for too much with more after it
 module _ (marks : List ℕ) (sum : ℕ) where
@@ -58,7 +61,7 @@ module _ (marks : List ℕ) (sum : ℕ) where
   many_last c count malformed e h = tt
   many_last c count (got es ks) e h = omega arith
 
-module _ {bytes t : List ℕ} {places : MarkPlaces} {s rs : List ℕ} {totals : MarkTotals} (h : HasTotals bytes t places s rs totals) (f : FunctionHandle) (there : f < length (module_of bytes t).functions) where
+module _ {bytes t : List ℕ} {places : MarkPlaces} {s rs : List ℕ} (h : HasTotals bytes t places s rs) (f : FunctionHandle) (there : f < length (module_of bytes t).functions) where
   abbrev m : Module
   m = module_of bytes t
 
@@ -95,152 +98,129 @@ module _ {bytes t : List ℕ} {places : MarkPlaces} {s rs : List ℕ} {totals : 
   context_inside = (omega arith, omega (arith, few bytes t h.was_read, h.memory.slots))
 
   module _ {from' to : ℕ} (a : from' ≡ start_in places f) (a' : to ≡ start_in places (f + 1)) where
-    pub ascending : from' ≤ to
-    ascending = omega (arith, lies.ascends)
+    pub own_inside : (from' ≤ to) × (to ≤ min_report)
+    own_inside = (omega (arith, lies.ascends), omega (arith, lies.within))
 
-    pub marks_there : from' + (to - from') ≤ length totals.marks
-    marks_there = let l = totals.marks_long in omega (arith, lies.ascends, lies.within)
+    module _ (totals : MarkTotals) where
+      lent-size : length (take (to - from') (drop from' totals.marks)) ≡ stretch m f
+      lent-size = lent_long totals.marks places f min_report from' to lies (omega (arith, totals.marks_long)) a a' ∙ size_is bytes t places h.was_read h.placed f there
 
-    pub few_marks : from' + (to - from') ≤ min_report
-    few_marks = omega (arith, lies.ascends, lies.within)
+      module _ (sum : ℕ) {b ys : List ℕ} {r : Maybe (Bor (List ℕ))} (marks : MarksWereRead b ys r) (same_long : length ys ≡ length (take (to - from') (drop from' totals.marks))) where
+        size : length ys ≡ stretch m f
+        size = same_long ∙ lent-size
 
-    size : to - from' ≡ stretch m f
-    size = let e = size_is bytes t places h.was_read h.placed f there in omega arith
+        pub kept_no_marks : {after : MarkTotals} → Memory s rs → r ≡ None → KeptWasRead bytes t s rs totals b f sum s rs after None
+        kept_no_marks mem e =
+            let none-such : read_marks (stretch m f) (fields b) ≡ malformed = rw (← size) (subst (MarksAre b ys) e marks.are) in
+            record { kept = kept_same mem.good; long = refl; by = rw (no_such none-such) tt }
+          where
+            no_such : read_marks (stretch m f) (fields b) ≡ malformed → read_kept m f (fields b) ≡ malformed
+            no_such z = unfold read_kept in rw z refl
 
-    module _ (sum : ℕ) {b : List ℕ} {at : ℕ} {ys : List ℕ} {r : Bool} (marks : MarksWereRead b totals.marks at from' (to - from') ys r) where
-      pub kept_no_marks : {after : MarkTotals} → Memory s rs → r ≡ false → KeptWasRead bytes t s rs totals b at f sum s rs after None
-      kept_no_marks mem e =
-          let none-such : read_marks (stretch m f) (from b at) ≡ malformed = rw (← size) (subst (MarksAre b totals.marks ys at from' (to - from')) e marks.are) in
-          record { kept = kept_same mem.good; long = refl; by = rw (no_such none-such) tt }
-        where
-          no_such : read_marks (stretch m f) (from b at) ≡ malformed → read_kept m f (from b at) ≡ malformed
-          no_such z = unfold read_kept in rw z refl
+        module _ {rest : Bor (List ℕ)} (e : r ≡ Some rest) where
+          abbrev lists : List ℕ
+          lists = rest.now
 
-      module _ (e : r ≡ true) where
-        abbrev own-marks : List ℕ
-        own-marks = slice ys from' (to - from')
+          are : (read_marks (length ys) (fields b) ≡ got ys (fields lists)) × (2 * length ys + length lists ≡ length b)
+          are = subst (MarksAre b ys) e marks.are
 
-        abbrev lists : ℕ
-        lists = at + 2 * (to - from')
+          abbrev after_marks : Read FunctionReq
+          after_marks =
+              only (known_in m f) (read_context_body (fields lists)) >>= λ c hs.
+              read_records (length (function_at m f).expressions) hs >>= λ es ks. got (record { marks = ys; context = c; exprs = es }) ks
 
-        are : (read_marks (to - from') (from b at) ≡ got own-marks (from b lists)) × (lists ≤ length b) × (ys ≡ write_marks totals.marks from' own-marks)
-        are = subst (MarksAre b totals.marks ys at from' (to - from')) e marks.are
+          after-marks : read_kept m f (fields b) ≡ after_marks
+          unfolding read_kept
+          after-marks = let read_them : read_marks (stretch m f) (fields b) ≡ got ys (fields lists) = rw (← size) are.0 in rw read_them refl
 
-        abbrev after_marks : Read FunctionReq
-        after_marks =
-            only (known_in m f) (read_context_body (from b lists)) >>= λ c hs.
-            read_records (length (function_at m f).expressions) hs >>= λ es ks. got (record { marks = own-marks; context = c; exprs = es }) ks
+          pub lists-room : RoomBeside s b (1 + (row_at t f).expressions) → RoomBeside s lists 1
+          lists-room room = omega (arith, are.1)
 
-        after-marks : read_kept m f (from b at) ≡ after_marks
-        unfolding read_kept
-        after-marks = let read_them : read_marks (stretch m f) (from b at) ≡ got own-marks (from b lists) = rw (← size) are.0 in rw read_them refl
+          module _ {g x l : ℕ} (gs : g ≡ length (module_of bytes t).globals) (xs : x ≡ length (function_of bytes t f).arguments) (ls : l ≡ length (function_of bytes t f).locals)
+              {v vs : List ℕ} {q : Next} (context : ContextWasStored s rs lists (functions_slot + 4 * f) sum (only (known_context g x l) (read_context_body (fields lists))) v vs q) where
+            abbrev wanted : Read RequiredContext
+            wanted = only (known_context g x l) (read_context_body (fields lists))
 
-        -- the marks in the buffer of totals
-        marks_is : own-marks ≡ slice ys (start_in places f) (size_in places f)
-        marks_is =
-            let one : to - from' ≡ size_in places f = omega arith in
-            rw (one, a)
+            pub kept_no_context : {after : MarkTotals} → q ≡ None → KeptWasRead bytes t s rs totals b f sum v vs after None
+            kept_no_context z =
+                let many : TooMany pieces sum wanted = subst (ContextBy s rs lists (functions_slot + 4 * f) sum wanted v vs) z context.by in
+                record {
+                  kept = context.kept;
+                  long = context.long;
+                  by = rw (after-marks, ← known_same gs xs ls (fields lists)) (many_context ys sum (length (function_at m f).expressions) wanted many);
+                }
 
-        pub lists-inside : lists ≤ length b
-        lists-inside = are.1
+            module _ {next : Bor (List ℕ)} {count : ℕ} (z : q ≡ Some (next, count)) where
+              C : ContextIs s rs lists (functions_slot + 4 * f) sum wanted v vs next.now count
+              C = subst (ContextBy s rs lists (functions_slot + 4 * f) sum wanted v vs) z context.by
 
-        pub lists-room : RoomBeside s b at (1 + (row_at t f).expressions) → RoomBeside s b lists 1
-        lists-room room = omega arith
+              pub context_memory : Memory v vs
+              context_memory = C.memory
 
-        module _ {g x l : ℕ} (gs : g ≡ length (module_of bytes t).globals) (xs : x ≡ length (function_of bytes t f).arguments) (ls : l ≡ length (function_of bytes t f).locals)
-            {v vs : List ℕ} {q : Next} (context : ContextWasStored s rs b lists (functions_slot + 4 * f) sum (only (known_context g x l) (read_context_body (from b lists))) v vs q) where
-          abbrev wanted : Read RequiredContext
-          wanted = only (known_context g x l) (read_context_body (from b lists))
+              pub context_few : count ≤ max_pieces
+              context_few = C.few
 
-          pub kept_no_context : {after : MarkTotals} → q ≡ None → KeptWasRead bytes t s rs totals b at f sum v vs after None
-          kept_no_context z =
-              let many : TooMany pieces sum wanted = subst (ContextBy s rs b lists (functions_slot + 4 * f) sum wanted v vs) z context.by in
-              record {
-                kept = context.kept;
-                long = context.long;
-                by = rw (after-marks, ← known_same gs xs ls (from b lists)) (many_context own-marks sum (length (function_at m f).expressions) wanted many);
-              }
+              pub records_room : RoomBeside s b (1 + (row_at t f).expressions) → RoomBeside v next.now (row_at t f).expressions
+              records_room room = omega (arith, are.1, C.spent, context.kept.long)
 
-          module _ {next count : ℕ} (z : q ≡ Some (next, count)) where
-            C : ContextIs s rs b lists (functions_slot + 4 * f) sum wanted v vs next count
-            C = subst (ContextBy s rs b lists (functions_slot + 4 * f) sum wanted v vs) z context.by
+              abbrev c : RequiredContext
+              c = context_at (read v vs) (functions_slot + 4 * f)
 
-            pub context_memory : Memory v vs
-            context_memory = C.memory
+              after_context : read_kept m f (fields b) ≡ (read_records (row_at t f).expressions (fields next.now) >>= λ es ks. got (record { marks = ys; context = c; exprs = es }) ks)
+              after_context = after-marks ∙ rw (← known_same gs xs ls (fields lists), C.is, expressions-same) refl
 
-            pub context_few : count ≤ max_pieces
-            context_few = C.few
+              module _ {p : Stretch} (own : RecordsAt t f p) where
+                pub base_inside : totals_slot + p.from + p.n ≤ functions_slot
+                base_inside = omega (arith, fits f h.was_read there, own.from, own.n)
 
-            pub records_from : (next ≤ length b) × (RoomBeside s b at (1 + (row_at t f).expressions) → RoomBeside v b next (row_at t f).expressions)
-            records_from = (C.spent.inside, λ room. omega (arith, C.spent, context.kept.long))
+                module _ (u us : List ℕ) (after : MarkTotals) (flags : after.flags ≡ set totals.flags f true)
+                    (lent : after.marks ≡ take from' totals.marks ++ (ys ++ drop (to - from') (drop from' totals.marks))) where
+                  written : after.marks ≡ write_marks totals.marks (start_in places f) ys
+                  written = lent ∙ lent_written totals.marks places f min_report from' to lies (omega (arith, totals.marks_long)) a a' ys ys refl (same_long ∙ lent_long totals.marks places f min_report from' to lies (omega (arith, totals.marks_long)) a a')
 
-            abbrev c : RequiredContext
-            c = context_at (read v vs) (functions_slot + 4 * f)
+                  flag : has_total after f ≡ true
+                  flag =
+                      let l = totals.flags_long in
+                      let c = few bytes t h.was_read in
+                      rw flags (get_or-set_same totals.flags f true false (omega arith))
 
-            after_context : read_kept m f (from b at) ≡ (read_records (row_at t f).expressions (from b next) >>= λ es ks. got (record { marks = own-marks; context = c; exprs = es }) ks)
-            after_context = after-marks ∙ rw (← known_same gs xs ls (from b lists), C.is, expressions-same) refl
+                  own_total : report.total_in m after f ≡ some ys
+                  own_total = written_own bytes t places h.was_read h.placed totals after ys f there size written flag
 
-            module _ {p : Stretch} (own : RecordsAt t f p) where
-              pub base_inside : totals_slot + p.from + p.n ≤ functions_slot
-              base_inside = omega (arith, fits f h.was_read there, own.from, own.n)
+                  other_total : (g : ℕ) → g < length (module_of bytes t).functions → (g ≡ f → ⊥) → report.total_in m after g ≡ report.total_in m totals g
+                  other_total g l ne = written_other bytes t places h.was_read h.placed totals after ys f there size written g ne (rw flags (get_or-set_other totals.flags f g true false ne))
 
-              module _ (u us : List ℕ) (after : MarkTotals) (flags : after.flags ≡ set totals.flags f true) (are_ys : after.marks ≡ ys) where
-                is_kept : MarksKept places ys totals f after
-                is_kept = record { flags_are = flags; marks_are = are_ys ∙ are.2 ∙ rw (marks_is, a) refl }
+                  kept_records : (w : Next) → RecordsBy v vs next.now (totals_slot + expressions_from (row_at t f)) (row_at t f).expressions count u us w → KeptBy bytes t s rs totals b f sum u us after w
+                  kept_records None many =
+                      rw after_context (many_last ys sum c count (read_records (row_at t f).expressions (fields next.now)) C.sums many)
+                  kept_records (Some (end, total)) R =
+                      let same_context : context_at (read u us) (functions_slot + 4 * f) ≡ c
+                      = context_same (read v vs) (read u us) (functions_slot + 4 * f) (λ i k. R.same (functions_slot + 4 * f + i) (λ low high. omega (arith, fits f h.was_read there))) in
+                      record {
+                        is = ap (λ (y : Read FunctionReq). y >>= λ req gs. got (some req) gs) after_context ∙ rw R.is (found same_context);
+                        sums = omega (arith, R.sums, C.sums, ap pieces same_context);
+                        few = R.few;
+                        memory = R.memory;
+                        spent = record {
+                          further = omega (arith, are.1, C.spent.further, R.spent.further);
+                          cost = omega (arith, are.1, C.spent.cost, R.spent.cost);
+                        };
+                        same = λ k no_record no_context.
+                            R.same k (λ low high. no_record (k - (totals_slot + expressions_from (row_at t f))) (omega arith) (omega arith))
+                            ∙ C.same k (λ low high. no_context (k - (functions_slot + 4 * f)) (omega arith) (omega arith));
+                        flagged = flag;
+                        others = other_total;
+                      }
+                    where
+                      found : context_at (read u us) (functions_slot + 4 * f) ≡ c
+                          → ◌≡◌ {A = Read (Option FunctionReq)} (got (some (record { marks = ys; context = c; exprs = records_in t totals_slot f (read u us) })) (fields end.now)) (got (total_in m t (read u us) after f) (fields end.now))
+                      found e = unfold total_in total_of in rw (own_total, e) refl
 
-                there_long : min_report ≤ length ys
-                there_long = let l = totals.marks_long in omega (arith, marks.long)
-
-                own_total : report.total_in m after f ≡ some own-marks
-                own_total =
-                    kept-own bytes t places h.was_read h.placed totals after ys f there there_long is_kept
-                    ∙ ap some
-                    (let start = h.placed.starts f (omega arith) in
-                    let width = size_is bytes t places h.was_read h.placed f there in
-                    rw (← start, ← width) (sym marks_is))
-
-                other_total : (g : ℕ) → g < length (module_of bytes t).functions → (g ≡ f → ⊥) → report.total_in m after g ≡ report.total_in m totals g
-                other_total g l ne = kept-other bytes t places h.was_read h.placed totals after ys f there there_long is_kept g ne
-
-                kept_records : (w : Next) → RecordsBy v vs b next (totals_slot + expressions_from (row_at t f)) (row_at t f).expressions count u us w → KeptBy bytes t s rs totals b at f sum u us after w
-                kept_records None many =
-                    rw after_context (many_last own-marks sum c count (read_records (row_at t f).expressions (from b next)) C.sums many)
-                kept_records (Some (end, total)) R =
-                    let same_context : context_at (read u us) (functions_slot + 4 * f) ≡ c
-                    = context_same (read v vs) (read u us) (functions_slot + 4 * f) (λ i k. R.same (functions_slot + 4 * f + i) (λ low high. omega (arith, fits f h.was_read there))) in
-                    record {
-                      is = ap (λ (y : Read FunctionReq). y >>= λ req gs. got (some req) gs) after_context ∙ rw R.is (found same_context);
-                      sums = omega (arith, R.sums, C.sums, ap pieces same_context);
-                      few = R.few;
-                      memory = R.memory;
-                      spent = record {
-                        further = omega (arith, C.spent.further, R.spent.further);
-                        inside = R.spent.inside;
-                        cost = omega (arith, C.spent.cost, R.spent.cost);
-                      };
-                      same = λ k no_record no_context.
-                          R.same k (λ low high. no_record (k - (totals_slot + expressions_from (row_at t f))) (omega arith) (omega arith))
-                          ∙ C.same k (λ low high. no_context (k - (functions_slot + 4 * f)) (omega arith) (omega arith));
-                      flagged = flag;
-                      others = other_total;
-                    }
-                  where
-                    found : context_at (read u us) (functions_slot + 4 * f) ≡ c
-                        → ◌≡◌ {A = Read (Option FunctionReq)} (got (some (record { marks = own-marks; context = c; exprs = records_in t totals_slot f (read u us) })) (from b end)) (got (total_in m t (read u us) after f) (from b end))
-                    found e = unfold total_in total_of in rw (own_total, e) refl
-
-                    flag : has_total after f ≡ true
-                    flag = by_total (has_total after f) refl
-                      where
-                        by_total : (y : Bool) → has_total after f ≡ y → has_total after f ≡ true
-                        by_total true e = e
-                        by_total false e = let nope : nothing ≡ some own-marks = sym (total_missing m after f e) ∙ own_total in let k : ◌≡◌ {A = ℕ} 0 1 = cc in absurd (omega arith)
-
-                pub kept_read : {w : Next} → RecordsWereRead v vs b next (totals_slot + p.from) p.n count u us w → KeptWasRead bytes t s rs totals b at f sum u us after w
-                kept_read {w} records =
-                    let by_row : RecordsBy v vs b next (totals_slot + expressions_from (row_at t f)) (row_at t f).expressions count u us w = rw (← own.from, ← own.n) records.by in
-                    record {
-                      kept = kept_on context.kept records.kept;
-                      long = records.long ∙ context.long;
-                      by = kept_records w by_row;
-                    }
+                  pub kept_read : {w : Next} → RecordsWereRead v vs next.now (totals_slot + p.from) p.n count u us w → KeptWasRead bytes t s rs totals b f sum u us after w
+                  kept_read {w} records =
+                      let by_row : RecordsBy v vs next.now (totals_slot + expressions_from (row_at t f)) (row_at t f).expressions count u us w = rw (← own.from, ← own.n) records.by in
+                      record {
+                        kept = kept_on context.kept records.kept;
+                        long = records.long ∙ context.long;
+                        by = kept_records w by_row;
+                      }

@@ -1,19 +1,17 @@
--- Marks that are read: those before the k-th stand in the buffer, and what is left gives the whole.
+-- Marks that are read: those before the k-th stand in their place, and what is left gives the whole.
 use Prim.Native.Nat.{ℕ, suc, ◌+◌, ◌-◌, ◌*◌, ◌≤◌, ◌<◌}
 use native.Mathlib.Omega.{arith}
-use mathlib.Core.Path.{◌≡◌, refl, ap, sym, ◌∙◌}
-use mathlib.Core.Bool.{true, false}
+use mathlib.Core.Path.{◌≡◌, refl, sym, ap, ◌∙◌}
 use mathlib.Core.List.{List, [], ◌∷◌, ◌++◌, append_assoc, append-nil}
 use borrow.Author.Tests.{le-leb, lt-leb}
-use lib.ListN.{length, set, length-set}
-use lib.Seq.{get_or-set_same}
-use Rattle.field.specs.Field.{field_at}
-use Rattle.request.specs.Fields.{Read, malformed, got, ◌>>=◌}
-use Rattle.request.specs.Answers.{from}
-use Rattle.request.proofs.Bytes.{from_cons, from_end}
-use Rattle.walk.specs.Marks.{write_marks}
-use Rattle.marks.specs.Places.{slice}
-use Rattle.marks.proofs.Write.{write_none, write_one, write_more, slice-before, slice-long, slice-more}
+use lib.ListN.{length, take, set, length-set}
+use lib.Seq.{take-length}
+use Rattle.std.specs.Prelude.{Some, None}
+use Rattle.std.specs.Borrow.{Bor}
+use Rattle.std.proofs.lemmas.List.{take_more_set}
+use Rattle.request.specs.Fields.{fields, Read, malformed, got, ◌>>=◌}
+use Rattle.request.specs.Answers.{Field}
+use Rattle.request.proofs.Bytes.{no_field}
 use Rattle.pruner.specs.Form.{read_marks}
 use Rattle.pruner.specs.Reading.{MarksWereRead}
 
@@ -22,13 +20,12 @@ abbrev pub after : {A : Type 0} → List A → Read (List A) → Read (List A)
 after xs malformed = malformed
 after xs (got bs gs) = got (xs ++ bs) gs
 
-pub record Marking (b before : List ℕ) (at first n : ℕ) (marks : List ℕ) (k next : ℕ) : Type 0 where
+-- the first k of n marks were read, and the bytes `next` are left
+pub record Marking (b : List ℕ) (n : ℕ) (marks : List ℕ) (k : ℕ) (next : List ℕ) : Type 0 where
   pub few : k ≤ n
-  pub next_is : next ≡ at + 2 * k
-  pub inside : next ≤ length b
-  pub long : length marks ≡ length before
-  pub written : marks ≡ write_marks before first (slice marks first k)
-  pub rest : read_marks n (from b at) ≡ after (slice marks first k) (read_marks (n - k) (from b next))
+  pub long : length marks ≡ n
+  pub left_is : 2 * k + length next ≡ length b
+  pub rest : read_marks n (fields b) ≡ after (take k marks) (read_marks (n - k) (fields next))
 
 pub after_none : {A : Type 0} (x : Read (List A)) → x ≡ after [] x
 after_none malformed = refl
@@ -38,73 +35,44 @@ pub after_more : {A : Type 0} (xs : List A) (b : A) (x : Read (List A)) → afte
 after_more xs b malformed = refl
 after_more xs b (got bs gs) = rw (append_assoc xs (b ∷ []) bs) refl
 
-pub marking_first : (b before : List ℕ) (at first n : ℕ) → at ≤ length b → Marking b before at first n before 0 at
-marking_first b before at first n h =
-    let same : n - 0 ≡ n = omega arith in
-    record {
-      few = omega arith;
-      next_is = omega arith;
-      inside = h;
-      long = refl;
-      written = write_none before first;
-      rest = rw same (after_none (read_marks n (from b at)));
-    }
+pub marking_first : (b marks : List ℕ) → Marking b (length marks) marks 0 b
+marking_first b marks =
+    let same : length marks - 0 ≡ length marks = omega arith in
+    record { few = omega arith; long = refl; left_is = omega arith; rest = rw same (after_none (read_marks (length marks) (fields b))) }
 
-module _ {b before : List ℕ} {at first n : ℕ} {marks : List ℕ} {k next : ℕ} (so : Marking b before at first n marks k next) where
+module _ {b : List ℕ} {n : ℕ} {marks : List ℕ} {k : ℕ} {next : List ℕ} (so : Marking b n marks k next) where
   module _ (l : k < n) where
     left : n - k ≡ suc (n - (k + 1))
     left = omega arith
 
-    pub marking_ends : length b < next + 2 → MarksWereRead b before at first n marks false
+    -- what is refused has the element of this turn back in its place
+    pub marking_ends : {ms : List ℕ} → length ms ≡ length marks → length next < 2 → MarksWereRead b ms None
     unfolding read_marks
-    marking_ends h = record {
-      long = so.long;
-      are = so.rest ∙ rw (left, from_end b next h) refl;
-    }
+    marking_ends same h = record { are = rw (same, so.long) (so.rest ∙ rw (left, no_field next h) refl) }
 
-    module _ (h : next + 2 ≤ length b) {x : ℕ} (is : x ≡ field_at b next) where
-      pub marking_other : 1 < x → MarksWereRead b before at first n marks false
+    module _ {x : ℕ} {c : List ℕ} (x-is : Field next x c) where
+      pub marking_other : {ms : List ℕ} → length ms ≡ length marks → 1 < x → MarksWereRead b ms None
       unfolding read_marks
-      marking_other o = record {
-        long = so.long;
-        are = so.rest ∙ rw (left, from_cons b next h, ← is, lt-leb x 1 o) refl;
-      }
+      marking_other same o = record { are = rw (same, so.long) (so.rest ∙ rw (left, x-is.is, lt-leb x 1 o) refl) }
 
-      module _ (room : first + n ≤ length before) where
-        slot : first + k < length marks
-        slot = omega (arith, so.long)
+      one_mark : x ≤ 1 → after (take k marks) (read_marks (n - k) (fields next)) ≡ after (take k marks) (read_marks (n - (k + 1)) (fields c) >>= λ bs gs. got (x ∷ bs) gs)
+      unfolding read_marks
+      one_mark o = rw (left, x-is.is, le-leb x 1 o) refl
 
-        more_marks : slice (set marks (first + k) x) first (k + 1) ≡ slice marks first k ++ (x ∷ [])
-        more_marks =
-            let there : first + k < length (set marks (first + k) x) = omega (arith, length-set marks (first + k) x, so.long) in
-            let old : slice (set marks (first + k) x) first k ≡ slice marks first k
-            = ap (λ (ys : List ℕ). slice ys first k) (write_one marks (first + k) x) ∙ slice-before marks first k k (x ∷ []) (omega arith) in
-            slice-more (set marks (first + k) x) first k there ∙ rw (old, get_or-set_same marks (first + k) x 0 slot) refl
+      pub marking_more : x ≤ 1 → Marking b n (set marks k x) (k + 1) c
+      marking_more o =
+          let room : k < length marks = omega (arith, so.long) in
+          record {
+            few = omega arith;
+            long = length-set marks k x ∙ so.long;
+            left_is = omega (arith, so.left_is, x-is.left);
+            rest = so.rest ∙ one_mark o ∙ rw (take_more_set marks k x room) (after_more (take k marks) x (read_marks (n - (k + 1)) (fields c)));
+          }
 
-        one_mark : x ≤ 1 → after (slice marks first k) (read_marks (n - k) (from b next)) ≡ after (slice marks first k) (read_marks (n - (k + 1)) (from b (next + 2)) >>= λ bs gs. got (x ∷ bs) gs)
-        unfolding read_marks
-        one_mark o = rw (left, from_cons b next h, ← is, le-leb x 1 o) refl
-
-        pub marking_more : x ≤ 1 → Marking b before at first n (set marks (first + k) x) (k + 1) (next + 2)
-        marking_more o = record {
-          few = omega arith;
-          next_is = omega (arith, so.next_is);
-          inside = h;
-          long = length-set marks (first + k) x ∙ so.long;
-          written =
-              ap (λ (ys : List ℕ). set ys (first + k) x) so.written
-              ∙ write_more before first k (slice marks first k) x (slice-long marks first k (omega (arith, so.long)))
-              ∙ ap (write_marks before first) (sym more_marks);
-          rest = so.rest ∙ one_mark o ∙ rw more_marks (after_more (slice marks first k) x (read_marks (n - (k + 1)) (from b (next + 2))));
-        }
-
-  pub marking_done : n ≤ k → MarksWereRead b before at first n marks true
+  pub marking_done : {c : Bor (List ℕ)} → c.now ≡ next → n ≤ k → MarksWereRead b marks (Some c)
   unfolding read_marks
-  marking_done h =
+  marking_done e h =
       let same : k ≡ n = omega (arith, so.few) in
-      let place : next ≡ at + 2 * n = omega (arith, so.next_is) in
-      let zero_left : n - k ≡ 0 = omega arith in
-      record {
-        long = so.long;
-        are = (so.rest ∙ rw (zero_left, same, place, append-nil (slice marks first n)) refl, omega (arith, so.inside), rw same at so.written);
-      }
+      let none_left : n - k ≡ 0 = omega arith in
+      let all : take k marks ≡ marks = ap (λ (j : ℕ). take j marks) (same ∙ sym so.long) ∙ take-length marks in
+      record { are = rw (so.long, e) (so.rest ∙ rw (none_left, all, append-nil marks) refl, omega (arith, so.left_is)) }

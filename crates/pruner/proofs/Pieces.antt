@@ -1,21 +1,21 @@
 -- What the code reads of parts and of lists is what the definition reads: one law for each way through it. A list with a variable that is not there is no list.
-use Prim.Native.Nat.{ℕ, ◌≤◌, ◌<◌}
+use Prim.Native.Nat.{ℕ, ◌<◌}
 use native.Mathlib.Omega.{arith}
 use mathlib.Core.Path.{◌≡◌, refl, ap, sym, subst, ◌∙◌}
 use mathlib.Core.Bool.{Bool, true, false}
 use mathlib.Core.List.{List}
 use mathlib.Core.Option.{Option, some, none as nothing}
-use lib.ListN.{length}
 use Rattle.part.specs.PartReq.{PartReq, more, spine}
 use Rattle.part.specs.Store.{top, part, Kept, Room, Made}
 use Rattle.part.proofs.Pieces.{part-2}
 use Rattle.context.specs.RequiredContext.{RequiredContext, variable, return_entry}
-use Rattle.request.specs.Fields.{Read, malformed, got, ◌>>=◌}
+use Rattle.request.specs.Fields.{fields, Read, malformed, got, ◌>>=◌}
 use Rattle.request.specs.Part.{read_return, read_variables}
 use Rattle.request.specs.Request.{all_below}
 use Rattle.request.specs.Context.{read_lists, read_context_body, known_context}
-use Rattle.request.specs.Answers.{from, RoomFor, Spent, part_read, optional, sorted, OptionWasRead}
+use Rattle.request.specs.Answers.{RoomFor, Spent, part_read, optional, sorted, OptionWasRead}
 use Rattle.std.specs.Prelude.{Option as Maybe, Some, None}
+use Rattle.std.specs.Borrow.{Bor}
 use Rattle.request.proofs.Entries.{kept_on}
 use Rattle.request.proofs.Judged.{listed, unlisted, not_some, is_some}
 use Rattle.request.proofs.Variables.{held_piece}
@@ -23,41 +23,41 @@ use Rattle.pruner.specs.Form.{only}
 use Rattle.pruner.specs.Reading.{single, mapped, RoomBeside, SpentBeside, PiecePlaced, PieceWasRead, ListsWereRead}
 
 -- what a call answered
-module _ {s t b : List ℕ} {at n : ℕ} {r : Read PartReq} {a : Maybe (ℕ × ℕ)} (was : PieceWasRead s t b at n r a) where
+module _ {s t b : List ℕ} {n : ℕ} {r : Read PartReq} {a : Maybe (ℕ × Bor (List ℕ))} (was : PieceWasRead s t b n r a) where
   pub no_piece : a ≡ None → r ≡ malformed
-  no_piece e = sym was.is ∙ ap (part_read t b) e
+  no_piece e = sym was.is ∙ ap (part_read t) e
 
-  module _ {p next : ℕ} (e : a ≡ Some (p, next)) where
-    pub piece_read : r ≡ got (part t p) (from b next)
-    piece_read = sym was.is ∙ ap (part_read t b) e
+  module _ {p : ℕ} {next : Bor (List ℕ)} (e : a ≡ Some (p, next)) where
+    pub piece_read : r ≡ got (part t p) (fields next.now)
+    piece_read = sym was.is ∙ ap (part_read t) e
 
-    pub piece_placed : (p < top t) × SpentBeside s t b at next n
-    piece_placed = subst (PiecePlaced s t b at n) e was.placed
+    pub piece_placed : (p < top t) × SpentBeside s t b n next.now
+    piece_placed = subst (PiecePlaced s t b n) e was.placed
 
-refuse_piece : {s t b : List ℕ} {at n : ℕ} {r : Read PartReq} → Kept s t → r ≡ malformed → PieceWasRead s t b at n r None
+refuse_piece : {s t b : List ℕ} {n : ℕ} {r : Read PartReq} → Kept s t → r ≡ malformed → PieceWasRead s t b n r None
 refuse_piece k e = record { kept = k; is = sym e; placed = tt }
 
-beside : {s t b : List ℕ} {at next : ℕ} (n : ℕ) → Spent s t b at next → SpentBeside s t b at next n
-beside n p = record { further = p.further; inside = p.inside; cost = omega (arith, p.cost) }
+beside : {s t b c : List ℕ} (n : ℕ) → Spent s t b 0 c → SpentBeside s t b n c
+beside n p = record { further = omega (arith, p.further); cost = omega (arith, p.cost) }
 
 -- {i: part}
-module _ (i : ℕ) (b : List ℕ) (at : ℕ) where
+module _ (i : ℕ) (b : List ℕ) where
   abbrev entry : Read PartReq
-  entry = mapped (single i) (read_return (from b at))
+  entry = mapped (single i) (read_return (fields b))
 
-  pub single_refused : {s t : List ℕ} → OptionWasRead s t b at (read_return (from b at)) None → PieceWasRead s t b at 1 entry None
+  pub single_refused : {s t : List ℕ} → OptionWasRead s t b (read_return (fields b)) None → PieceWasRead s t b 1 entry None
   unfolding mapped
   single_refused was = refuse_piece was.kept (rw (← was.is))
 
-  module _ {s t : List ℕ} {o : Maybe ℕ} {next : ℕ} (was : OptionWasRead s t b at (read_return (from b at)) (Some (o, next))) where
-    spent : SpentBeside s t b at next 1
+  module _ {s t : List ℕ} {o : Maybe ℕ} {next : Bor (List ℕ)} (was : OptionWasRead s t b (read_return (fields b)) (Some (o, next))) where
+    spent : SpentBeside s t b 1 next.now
     spent = beside 1 was.placed.1
 
-    pub single_none : o ≡ None → PieceWasRead s t b at 1 entry (Some (2, next))
+    pub single_none : o ≡ None → PieceWasRead s t b 1 entry (Some (2, next))
     unfolding mapped single
     single_none z = record {
       kept = was.kept;
-      is = rw (part-2 t) (sym (ap (mapped (single i)) (sym was.is ∙ ap (λ (x : Maybe ℕ). got (optional t x) (from b next)) z)));
+      is = rw (part-2 t) (sym (ap (mapped (single i)) (sym was.is ∙ ap (λ (x : Maybe ℕ). got (optional t x) (fields next.now)) z)));
       placed = (omega (arith, was.kept.good.base), spent);
     }
 
@@ -65,15 +65,15 @@ module _ (i : ℕ) (b : List ℕ) (at : ℕ) where
       pub single_held : p < top t
       single_held = held_piece t z was.placed.0
 
-      pub single_room : RoomBeside s b at 1 → Room t 1
+      pub single_room : RoomBeside s b 1 → Room t 1
       single_room r = omega (arith, was.placed.1, was.kept.long)
 
-      pub single_made : {u : List ℕ} {n : ℕ} → Made t u (more i (part t p) (part t 2)) 1 n → PieceWasRead s u b at 1 entry (Some (n, next))
+      pub single_made : {u : List ℕ} {n : ℕ} → Made t u (more i (part t p) (part t 2)) 1 n → PieceWasRead s u b 1 entry (Some (n, next))
       unfolding mapped single
       single_made {u} {n} made = record {
         kept = kept_on was.kept made.kept;
-        is = rw (made.is, part-2 t) (sym (ap (mapped (single i)) (sym was.is ∙ ap (λ (x : Maybe ℕ). got (optional t x) (from b next)) z)));
-        placed = (made.piece, record { further = spent.further; inside = spent.inside; cost = omega (arith, was.placed.1.cost, made.cost) });
+        is = rw (made.is, part-2 t) (sym (ap (mapped (single i)) (sym was.is ∙ ap (λ (x : Maybe ℕ). got (optional t x) (fields next.now)) z)));
+        placed = (made.piece, record { further = spent.further; cost = omega (arith, was.placed.1.cost, made.cost) });
       }
 
 -- a list of variables
@@ -89,29 +89,29 @@ only-true : {A : Type 0} (holds : A → Bool) (a : A) (fs : List ℕ) (x : Read 
 unfolding only
 only-true holds a fs x e h = rw (e, h)
 
-module _ (limit : ℕ) (b : List ℕ) (at : ℕ) where
+module _ (limit : ℕ) (b : List ℕ) where
   abbrev known : PartReq → Bool
   known = all_below (variable limit)
 
   abbrev list : Read PartReq
-  list = only known (read_variables (from b at))
+  list = only known (read_variables (fields b))
 
-  pub map_refused : {s t : List ℕ} → OptionWasRead s t b at (sorted limit (read_variables (from b at))) None → PieceWasRead s t b at 0 list None
-  map_refused was = refuse_piece was.kept (only-malformed known (read_variables (from b at)) (unlisted limit (read_variables (from b at)) (sym was.is)))
+  pub map_refused : {s t : List ℕ} → OptionWasRead s t b (sorted limit (read_variables (fields b))) None → PieceWasRead s t b 0 list None
+  map_refused was = refuse_piece was.kept (only-malformed known (read_variables (fields b)) (unlisted limit (read_variables (fields b)) (sym was.is)))
 
-  module _ {s t : List ℕ} {o : Maybe ℕ} {next : ℕ} (was : OptionWasRead s t b at (sorted limit (read_variables (from b at))) (Some (o, next))) where
-    pub map_unknown : o ≡ None → PieceWasRead s t b at 0 list None
+  module _ {s t : List ℕ} {o : Maybe ℕ} {next : Bor (List ℕ)} (was : OptionWasRead s t b (sorted limit (read_variables (fields b))) (Some (o, next))) where
+    pub map_unknown : o ≡ None → PieceWasRead s t b 0 list None
     map_unknown z =
-        let l = listed limit (read_variables (from b at)) (sym was.is) in
-        refuse_piece was.kept (only-false known l.list (from b next) (read_variables (from b at)) l.is (not_some _ _ (l.chosen ∙ ap (optional t) z)))
+        let l = listed limit (read_variables (fields b)) (sym was.is) in
+        refuse_piece was.kept (only-false known l.list (fields next.now) (read_variables (fields b)) l.is (not_some _ _ (l.chosen ∙ ap (optional t) z)))
 
-    pub map_read : {p : ℕ} → o ≡ Some p → PieceWasRead s t b at 0 list (Some (p, next))
+    pub map_read : {p : ℕ} → o ≡ Some p → PieceWasRead s t b 0 list (Some (p, next))
     map_read {p} z =
-        let l = listed limit (read_variables (from b at)) (sym was.is) in
+        let l = listed limit (read_variables (fields b)) (sym was.is) in
         let q = is_some (known l.list) l.list (part t p) (l.chosen ∙ ap (optional t) z) in
         record {
           kept = was.kept;
-          is = rw (← q.1) (sym (only-true known l.list (from b next) (read_variables (from b at)) l.is q.0));
+          is = rw (← q.1) (sym (only-true known l.list (fields next.now) (read_variables (fields b)) l.is q.0));
           placed = (held_piece t z was.placed.0, beside 0 was.placed.1);
         }
 
@@ -237,57 +237,57 @@ module _ (globals args locals : ℕ) (fs : List ℕ) where
             (only-true holds _ ls (got _ ls) refl (rw (the_globals.holding, the_args.holding, last.holding) refl) ∙ rw (← asked_single the_retval.of, the_retval.made) refl)
 
 -- the same by the answers of the code, list after list
-module _ (globals args locals : ℕ) {s t b : List ℕ} {at : ℕ} {a : Maybe (ℕ × ℕ)} (first : PieceWasRead s t b at 1 (mapped (single spine) (read_return (from b at))) a) where
+module _ (globals args locals : ℕ) {s t b : List ℕ} {a : Maybe (ℕ × Bor (List ℕ))} (first : PieceWasRead s t b 1 (mapped (single spine) (read_return (fields b))) a) where
   abbrev wanted : Read RequiredContext
-  wanted = only (known_context globals args locals) (read_context_body (from b at))
+  wanted = only (known_context globals args locals) (read_context_body (fields b))
 
-  pub lists-no_retval : a ≡ None → ListsWereRead s t b at wanted None
-  lists-no_retval e = record { kept = first.kept; is = sym (no_retval globals args locals (from b at) (no_piece first e)); placed = tt }
+  pub lists-no_retval : a ≡ None → ListsWereRead s t b wanted None
+  lists-no_retval e = record { kept = first.kept; is = sym (no_retval globals args locals (fields b) (no_piece first e)); placed = tt }
 
-  module _ {p x : ℕ} (e : a ≡ Some (p, x)) where
-    pub globals_room : RoomBeside s b at 1 → (x ≤ length b) × RoomFor t b x
-    globals_room r = let h = (piece_placed first e).1 in (h.inside, omega (arith, h, first.kept.long))
+  module _ {p : ℕ} {x : Bor (List ℕ)} (e : a ≡ Some (p, x)) where
+    pub globals_room : RoomBeside s b 1 → RoomFor t x.now
+    globals_room r = let h = (piece_placed first e).1 in omega (arith, h, first.kept.long)
 
-    module _ {u : List ℕ} {c : Maybe (ℕ × ℕ)} (second : PieceWasRead t u b x 0 (only (all_below (variable globals)) (read_variables (from b x))) c) where
-      pub lists-no_globals : c ≡ None → ListsWereRead s u b at wanted None
+    module _ {u : List ℕ} {c : Maybe (ℕ × Bor (List ℕ))} (second : PieceWasRead t u x.now 0 (only (all_below (variable globals)) (read_variables (fields x.now))) c) where
+      pub lists-no_globals : c ≡ None → ListsWereRead s u b wanted None
       lists-no_globals f = record {
         kept = kept_on first.kept second.kept;
-        is = sym (no_globals globals args locals (from b at) (piece_read first e) (no_piece second f));
+        is = sym (no_globals globals args locals (fields b) (piece_read first e) (no_piece second f));
         placed = tt;
       }
 
-      module _ {g y : ℕ} (f : c ≡ Some (g, y)) where
-        pub args_room : RoomBeside s b at 1 → (y ≤ length b) × RoomFor u b y
+      module _ {g : ℕ} {y : Bor (List ℕ)} (f : c ≡ Some (g, y)) where
+        pub args_room : RoomBeside s b 1 → RoomFor u y.now
         args_room r =
             let h = (piece_placed first e).1 in
             let i = (piece_placed second f).1 in
-            (i.inside, omega (arith, h, i, first.kept.long, second.kept.long))
+            omega (arith, h, i, first.kept.long, second.kept.long)
 
-        module _ {v : List ℕ} {d : Maybe (ℕ × ℕ)} (third : PieceWasRead u v b y 0 (only (all_below (variable args)) (read_variables (from b y))) d) where
-          pub lists-no_args : d ≡ None → ListsWereRead s v b at wanted None
+        module _ {v : List ℕ} {d : Maybe (ℕ × Bor (List ℕ))} (third : PieceWasRead u v y.now 0 (only (all_below (variable args)) (read_variables (fields y.now))) d) where
+          pub lists-no_args : d ≡ None → ListsWereRead s v b wanted None
           lists-no_args j = record {
             kept = kept_on first.kept (kept_on second.kept third.kept);
-            is = sym (no_args globals args locals (from b at) (piece_read first e) (piece_read second f) (no_piece third j));
+            is = sym (no_args globals args locals (fields b) (piece_read first e) (piece_read second f) (no_piece third j));
             placed = tt;
           }
 
-          module _ {k z : ℕ} (j : d ≡ Some (k, z)) where
-            pub locals_room : RoomBeside s b at 1 → (z ≤ length b) × RoomFor v b z
+          module _ {k : ℕ} {z : Bor (List ℕ)} (j : d ≡ Some (k, z)) where
+            pub locals_room : RoomBeside s b 1 → RoomFor v z.now
             locals_room r =
                 let h = (piece_placed first e).1 in
                 let i = (piece_placed second f).1 in
                 let o = (piece_placed third j).1 in
-                (o.inside, omega (arith, h, i, o, first.kept.long, second.kept.long, third.kept.long))
+                omega (arith, h, i, o, first.kept.long, second.kept.long, third.kept.long)
 
-            module _ {w : List ℕ} {q : Maybe (ℕ × ℕ)} (fourth : PieceWasRead v w b z 0 (only (all_below (variable locals)) (read_variables (from b z))) q) where
-              pub lists-no_locals : q ≡ None → ListsWereRead s w b at wanted None
+            module _ {w : List ℕ} {q : Maybe (ℕ × Bor (List ℕ))} (fourth : PieceWasRead v w z.now 0 (only (all_below (variable locals)) (read_variables (fields z.now))) q) where
+              pub lists-no_locals : q ≡ None → ListsWereRead s w b wanted None
               lists-no_locals i = record {
                 kept = kept_on first.kept (kept_on second.kept (kept_on third.kept fourth.kept));
-                is = sym (no_locals globals args locals (from b at) (piece_read first e) (piece_read second f) (piece_read third j) (no_piece fourth i));
+                is = sym (no_locals globals args locals (fields b) (piece_read first e) (piece_read second f) (piece_read third j) (no_piece fourth i));
                 placed = tt;
               }
 
-              pub lists-got : {l next : ℕ} → q ≡ Some (l, next) → ListsWereRead s w b at wanted (Some (record { globals = g; locals = l; args = k; retval = p }, next))
+              pub lists-got : {l : ℕ} {next : Bor (List ℕ)} → q ≡ Some (l, next) → ListsWereRead s w b wanted (Some (record { globals = g; locals = l; args = k; retval = p }, next))
               lists-got {l} {next} i =
                   let one = piece_placed first e in
                   let two = piece_placed second f in
@@ -300,7 +300,7 @@ module _ (globals args locals : ℕ) {s t b : List ℕ} {at : ℕ} {a : Maybe (�
                   let arg : part w k ≡ part v k = fourth.kept.same k three.0 in
                   record {
                     kept = kept_on first.kept after;
-                    is = rw (ret, glo, arg) (sym (all_lists globals args locals (from b at) (piece_read first e) (piece_read second f) (piece_read third j) (piece_read fourth i)));
+                    is = rw (ret, glo, arg) (sym (all_lists globals args locals (fields b) (piece_read first e) (piece_read second f) (piece_read third j) (piece_read fourth i)));
                     placed = (
                       record {
                         globals = omega (arith, two.0, later.tops);
@@ -310,7 +310,6 @@ module _ (globals args locals : ℕ) {s t b : List ℕ} {at : ℕ} {a : Maybe (�
                       },
                       record {
                         further = omega (arith, one.1.further, two.1.further, three.1.further, four.1.further);
-                        inside = four.1.inside;
                         cost = omega (arith, one.1.cost, two.1.cost, three.1.cost, four.1.cost);
                       },
                     );

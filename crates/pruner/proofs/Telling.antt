@@ -6,16 +6,15 @@ use mathlib.Core.Path.{◌≡◌, refl, ap, sym, subst, ◌∙◌}
 use mathlib.Core.Bool.{Bool, true, false}
 use mathlib.Core.List.{List, []}
 use mathlib.Core.Option.{Option, none as nothing}
-use lib.ListN.{length, take, replicate, replicate-append-replicate}
+use lib.ListN.{length, take, drop, length-drop, replicate, replicate-append-replicate}
 use lib.Seq.{length-take-le}
-use Rattle.std.specs.Prelude.{Option as Maybe, Some, None}
+use Rattle.std.specs.Prelude.{⊤, Option as Maybe, Some, None}
 use Rattle.field.specs.Limits.{max_functions}
 use Rattle.module.specs.Module.{Module}
 use Rattle.module.specs.Decode.{tab}
 use Rattle.module.specs.Tables.{max_items, module_of}
 use Rattle.module.proofs.Tab.{tab-same}
-use Rattle.request.specs.Fields.{whole, refused, accepted}
-use Rattle.request.specs.Answers.{from}
+use Rattle.request.specs.Fields.{fields, whole, refused, accepted}
 use Rattle.request.proofs.Entries.{kept_same}
 use Rattle.walk.specs.State.{FunctionReq, total_pieces}
 use Rattle.walk.specs.Requests.{fresh}
@@ -48,50 +47,58 @@ module _ (m : Module) (b : List ℕ) where
     unfolding read_pruner
     means_none e = rw (asked, e) refl
 
-    means_body : is_pruner b ≡ true → read_pruner m b ≡ answered (whole (read_body m (from (stated b) 6)))
+    means_body : is_pruner b ≡ true → read_pruner m b ≡ answered (whole (read_body m (fields (drop 6 (stated b)))))
     unfolding read_pruner
     means_body e = rw (asked, e) refl
 
-module _ {bytes t : List ℕ} {places : MarkPlaces} {s rs : List ℕ} {totals : MarkTotals} (h : HasTotals bytes t places s rs totals) (untold : Untold s rs) {n : ℕ} (is-n : n ≡ length (module_of bytes t).functions) where
+module _ {bytes t : List ℕ} {places : MarkPlaces} {s rs : List ℕ} (h : HasTotals bytes t places s rs) (untold : Untold s rs) {n : ℕ} (is-n : n ≡ length (module_of bytes t).functions) where
   abbrev m : Module
   m = module_of bytes t
 
-  pub flags_there : n ≤ length totals.flags
-  flags_there = let l = totals.flags_long in omega (arith, few bytes t h.was_read)
+  pub flags_there : n ≤ max_functions
+  flags_there = omega (arith, few bytes t h.was_read)
 
   -- the body of the record that stands there
-  module _ (b : List ℕ) {asked : Bool} (is_asked : asked ≡ is_fresh b) (e : asked ≡ false) {found : Maybe ℕ} (there : RecordLength b found) {end : ℕ} (z : found ≡ Some end) where
-    pub stands : Stands b end
-    stands = subst (RecordLength b) z there
-
-    pub body_there : 6 ≤ length (take end b)
-    body_there = omega (arith, length-take-le end b stands.inside, stands.is)
-
-    pub body_fits : RoomBeside s (take end b) 6 (max_items + max_functions)
-    body_fits = omega (arith, length-take-le end b stands.inside, stands.small, untold.room)
-
-    means_this : read_pruner m b ≡ answered (whole (read_body m (from (take end b) 6)))
-    means_this = means_body m b (sym is_asked ∙ e) stands.there ∙ rw stands.is refl
-
-    by_body : (u us : List ℕ) (after : MarkTotals) (r : Bool) → BodyBy bytes t s rs (take end b) u us after r → PrunerBy bytes t s rs b u us after r
-    by_body u us after true k = record {
-      is = means_this ∙ k.is;
-      memory = k.memory;
-      same = k.same;
-      totals-sum = k.totals-sum;
-      unwalked = k.unwalked;
+  module _ (b : List ℕ) {asked : Bool} (is_asked : asked ≡ is_fresh b) (e : asked ≡ false) {found : Maybe ℕ} (there : RecordLength b found) where
+    pub tells_none : {after : MarkTotals} → found ≡ None → PrunerWasRead bytes t s rs b s rs after None
+    tells_none z = record {
+      kept = kept_same h.memory.good;
+      long = refl;
+      by = means_none m b (sym is_asked ∙ e) (subst (RecordLength b) z there);
     }
-    by_body u us after false k = means_this ∙ k
 
-  module _ (cleared : MarkTotals) (c : FlagsCleared totals.flags n cleared.flags) where
+    module _ {end : ℕ} (z : found ≡ Some end) where
+      pub stands : Stands b end
+      stands = subst (RecordLength b) z there
+
+      pub body_there : 6 ≤ length (take end b)
+      body_there = omega (arith, length-take-le end b stands.inside, stands.is)
+
+      pub body_fits : RoomBeside s (drop 6 (take end b)) (max_items + max_functions)
+      body_fits = omega (arith, length-drop 6 (take end b), length-take-le end b stands.inside, stands.small, stands.is, untold.room)
+
+      means_this : read_pruner m b ≡ answered (whole (read_body m (fields (drop 6 (take end b)))))
+      means_this = means_body m b (sym is_asked ∙ e) stands.there ∙ rw stands.is refl
+
+      by_body : (u us : List ℕ) (after : MarkTotals) (r : Maybe ⊤) → BodyBy bytes t s rs (take end b) u us after r → PrunerBy bytes t s rs b u us after r
+      by_body u us after (Some ok) k = record {
+        is = means_this ∙ k.is;
+        memory = k.memory;
+        same = k.same;
+        totals-sum = k.totals-sum;
+        unwalked = k.unwalked;
+      }
+      by_body u us after None k = means_this ∙ k
+
+      pub tells_body : {u us : List ℕ} {after : MarkTotals} {r : Maybe ⊤} → BodyWasRead bytes t s rs (take end b) u us after r → PrunerWasRead bytes t s rs b u us after r
+      tells_body {u} {us} {after} {r} k = record { kept = k.kept; long = k.long; by = by_body u us after r k.by }
+
+  module _ (cleared : MarkTotals) {before : List Bool} (c : FlagsCleared before n cleared.flags) where
     pub none_yet : NoTotals bytes t s rs cleared
     none_yet = record { flags = λ g l. c.flags g (omega arith); slots = untold.slots }
 
-    pub cleared-has : HasTotals bytes t places s rs cleared
-    cleared-has = record { was_read = h.was_read; placed = h.placed; memory = h.memory }
-
-    first : Through bytes t s rs cleared [] 0 0 s rs cleared 0 0 0
-    first = through_first h.was_read h.memory none_yet (omega arith) (omega arith)
+    first : Through bytes t s rs [] 0 s rs cleared 0 [] 0
+    first = through_first h.was_read h.memory none_yet (omega arith)
 
     functions_none : functions_in m t (read s rs) cleared ≡ replicate (length (module_of bytes t).functions) nothing
     unfolding functions_in
@@ -107,28 +114,15 @@ module _ {bytes t : List ℕ} {places : MarkPlaces} {s rs : List ℕ} {totals : 
     unfolding tab total_pieces
     nothing_summed = omega (arith, ap total_pieces functions_none, nothing-counts m (length (module_of bytes t).functions), first.weighed)
 
-    module _ (b : List ℕ) {asked : Bool} (is_asked : asked ≡ is_fresh b) where
-      pub tells_fresh : asked ≡ true → PrunerWasRead bytes t s rs totals b s rs cleared true
-      tells_fresh e = record {
-        kept = kept_same h.memory.good;
-        long = refl;
-        by = record {
-          is = means_fresh m b (sym is_asked ∙ e) ∙ ap accepted fresh_in;
-          memory = h.memory;
-          same = λ k ne out. refl;
-          totals-sum = nothing_summed;
-          unwalked = λ g l z. (first.later g (omega arith) l).1;
-        };
-      }
-
-      module _ (e : asked ≡ false) {found : Maybe ℕ} (there : RecordLength b found) where
-        pub tells_none : found ≡ None → PrunerWasRead bytes t s rs totals b s rs cleared false
-        tells_none z = record {
-          kept = kept_same h.memory.good;
-          long = refl;
-          by = means_none m b (sym is_asked ∙ e) (subst (RecordLength b) z there);
-        }
-
-        module _ {end : ℕ} (z : found ≡ Some end) where
-          pub tells_body : {u us : List ℕ} {after : MarkTotals} {r : Bool} → BodyWasRead bytes t s rs cleared (take end b) u us after r → PrunerWasRead bytes t s rs totals b u us after r
-          tells_body {u} {us} {after} {r} k = record { kept = k.kept; long = k.long; by = by_body b is_asked e there z u us after r k.by }
+    pub tells_fresh : (b : List ℕ) {asked : Bool} → asked ≡ is_fresh b → asked ≡ true → PrunerWasRead bytes t s rs b s rs cleared (Some tt)
+    tells_fresh b is_asked e = record {
+      kept = kept_same h.memory.good;
+      long = refl;
+      by = record {
+        is = means_fresh m b (sym is_asked ∙ e) ∙ ap accepted fresh_in;
+        memory = h.memory;
+        same = λ k ne out. refl;
+        totals-sum = nothing_summed;
+        unwalked = λ g l z. (first.later g (omega arith) l).1;
+      };
+    }

@@ -17,8 +17,7 @@ use Rattle.module.specs.Tables.{row_at, expressions_from, max_items, module_of}
 use Rattle.module.proofs.Tab.{tab-same}
 use Rattle.access.proofs.Access.{functions_are}
 use Rattle.access.proofs.Laid.{number_once}
-use Rattle.request.specs.Fields.{Read, malformed, got, ◌>>=◌}
-use Rattle.request.specs.Answers.{from}
+use Rattle.request.specs.Fields.{fields, Read, malformed, got, ◌>>=◌}
 use Rattle.request.proofs.Entries.{kept_same, kept_on}
 use Rattle.walk.specs.State.{FunctionReq, record_pieces, function_pieces, total_pieces}
 use Rattle.walk.proofs.Counts.{record_pieces-replicate}
@@ -34,7 +33,7 @@ use Rattle.marks.specs.Report as report
 use Rattle.marks.proofs.Placed.{few}
 use Rattle.marks.proofs.Sums.{total_there, total_missing}
 use Rattle.state.specs.State.{records_in, totals_sum}
-use Rattle.state.specs.Ready.{WasRead}
+use Rattle.access.specs.Laid.{WasRead}
 use Rattle.state.proofs.Own.{fits}
 use Rattle.block.specs.Standing.{total_in, functions_in}
 use Rattle.block.specs.Total.{NewTotal, total_count}
@@ -44,6 +43,7 @@ use Rattle.pruner.specs.Form.{read_total, read_totals}
 use Rattle.pruner.specs.Stored.{HasTotals}
 use Rattle.pruner.specs.Reading.{Next, RoomBeside, SpentBeside, TooMany, TotalIs, TotalBy, TotalWasRead, NoTotals, FunctionsWereRead}
 use Rattle.std.specs.Prelude.{Some, None}
+use Rattle.std.specs.Borrow.{Bor}
 use Rattle.pruner.proofs.Marking.{after, after_none, after_more}
 use Rattle.pruner.proofs.Flagged.{flagged_count, missing_count}
 
@@ -83,19 +83,19 @@ unfoldable pub exprs_to : List ℕ → ℕ → ℕ
 exprs_to t zero = 0
 exprs_to t (suc f) = exprs_to t f + (row_at t f).expressions
 
-pub record Through (bytes t s rs : List ℕ) (totals : MarkTotals) (b : List ℕ) (at sum : ℕ) (u us : List ℕ) (now : MarkTotals) (f next count : ℕ) : Type 0 where
+pub record Through (bytes t s rs b : List ℕ) (sum : ℕ) (u us : List ℕ) (now : MarkTotals) (f : ℕ) (next : List ℕ) (count : ℕ) : Type 0 where
   pub few : f ≤ length (module_of bytes t).functions
   pub kept : Kept s u
   pub long : length us ≡ length rs
   pub memory : Memory u us
-  pub spent : SpentBeside s u b at next (f + exprs_to t f)
+  pub spent : SpentBeside s u b (f + exprs_to t f) next
   pub same : (k : ℕ) → (totals_slot ≤ k → k < stack_slot → ⊥) → get_or (read u us) k none ≡ get_or (read s rs) k none
   pub low : count ≤ max_pieces
   pub sums : count ≡ sum + total_pieces (tab f (total_in (module_of bytes t) t (read u us) now))
   pub weighed : total_pieces (tab f (total_in (module_of bytes t) t (read u us) now)) ≡ totals_sum (read u us)
   pub later : (g : ℕ) → f ≤ g → g < length (module_of bytes t).functions → (has_total now g ≡ false) × (total_count t g (read u us) ≡ 0)
   pub walked : (g : ℕ) → g < f → has_total now g ≡ false → total_count t g (read u us) ≡ 0
-  pub rest : read_totals (module_of bytes t) 0 (length (module_of bytes t).functions) (from b at) ≡ after (tab f (total_in (module_of bytes t) t (read u us) now)) (read_totals (module_of bytes t) f (length (module_of bytes t).functions - f) (from b next))
+  pub rest : read_totals (module_of bytes t) 0 (length (module_of bytes t).functions) (fields b) ≡ after (tab f (total_in (module_of bytes t) t (read u us) now)) (read_totals (module_of bytes t) f (length (module_of bytes t).functions - f) (fields next))
 
 module _ {bytes t : List ℕ} (w : WasRead bytes t) where
   abbrev m : Module
@@ -137,17 +137,17 @@ module _ {bytes t : List ℕ} (w : WasRead bytes t) where
         sum_zero ps (functions_slot + 4 * g) 4 (λ j i. h (functions_slot + 4 * g + j) (omega arith) (omega arith)),
       )
 
-  pub through_first : {s rs : List ℕ} {totals : MarkTotals} {b : List ℕ} {at sum : ℕ} → Memory s rs → NoTotals bytes t s rs totals → at ≤ length b → sum ≤ max_pieces
-      → Through bytes t s rs totals b at sum s rs totals 0 at sum
+  pub through_first : {s rs : List ℕ} {totals : MarkTotals} {b : List ℕ} {sum : ℕ} → Memory s rs → NoTotals bytes t s rs totals → sum ≤ max_pieces
+      → Through bytes t s rs b sum s rs totals 0 b sum
   unfolding tab total_pieces exprs_to
-  through_first {s} {rs} {totals} {b} {at} {sum} mem e h l =
+  through_first {s} {rs} {b = b} mem e l =
       let all : n - 0 ≡ n = omega arith in
       record {
         few = omega arith;
         kept = kept_same mem.good;
         long = refl;
         memory = mem;
-        spent = record { further = omega arith; inside = h; cost = omega arith };
+        spent = record { further = omega arith; cost = omega arith };
         same = λ k out. refl;
         low = l;
         sums = omega arith;
@@ -159,43 +159,43 @@ module _ {bytes t : List ℕ} (w : WasRead bytes t) where
             );
         later = λ g x y. (e.flags g y, no_count (read s rs) e.slots g y);
         walked = λ g x. absurd (omega arith);
-        rest = rw all (after_none (read_totals m 0 n (from b at)));
+        rest = rw all (after_none (read_totals m 0 n (fields b)));
       }
 
-  module _ {s rs : List ℕ} {totals : MarkTotals} {b : List ℕ} {at sum : ℕ} {u us : List ℕ} {now : MarkTotals} {f next count : ℕ} (so : Through bytes t s rs totals b at sum u us now f next count) where
+  module _ {s rs b : List ℕ} {sum : ℕ} {u us : List ℕ} {now : MarkTotals} {f : ℕ} {next : List ℕ} {count : ℕ} (so : Through bytes t s rs b sum u us now f next count) where
     module _ (l : f < n) where
       left : n - f ≡ suc (n - (f + 1))
       left = omega arith
 
-      pub through_has : {places : MarkPlaces} → HasTotals bytes t places s rs totals → HasTotals bytes t places u us now
+      pub through_has : {places : MarkPlaces} → HasTotals bytes t places s rs → HasTotals bytes t places u us
       through_has h = record { was_read = w; placed = h.placed; memory = so.memory }
 
       pub through_flag : has_total now f ≡ false
       through_flag = (so.later f (omega arith) l).0
 
-      pub through_room : RoomBeside s b at (max_items + max_functions) → RoomBeside u b next (1 + (row_at t f).expressions)
+      pub through_room : RoomBeside s b (max_items + max_functions) → RoomBeside u next (1 + (row_at t f).expressions)
       through_room room = omega (arith, so.spent, so.kept.long, exprs_fit f l, few bytes t w)
 
-      module _ {v vs : List ℕ} {then : MarkTotals} {a : Next} (was : TotalWasRead bytes t u us now b next f count v vs then a) where
+      module _ {v vs : List ℕ} {then : MarkTotals} {a : Next} (was : TotalWasRead bytes t u us now next f count v vs then a) where
         abbrev others : Option FunctionReq → List ℕ → Read (List (Option FunctionReq))
         others o gs = read_totals m (suc f) (n - (f + 1)) gs >>= λ ts hs. got (o ∷ ts) hs
 
-        next-total : read_totals m 0 n (from b at) ≡ after (tab f (total_in m t (read u us) now)) (read_total m f (from b next) >>= others)
+        next-total : read_totals m 0 n (fields b) ≡ after (tab f (total_in m t (read u us) now)) (read_total m f (fields next) >>= others)
         unfolding read_totals
         next-total = so.rest ∙ rw left refl
 
-        pub through_refused : a ≡ None → FunctionsWereRead bytes t s rs totals b at sum v vs then None
+        pub through_refused : a ≡ None → FunctionsWereRead bytes t s rs b sum v vs then None
         through_refused e =
-            let many : TooMany function_pieces count (read_total m f (from b next)) = subst (TotalBy bytes t u us now b next f count v vs then) e was.by in
+            let many : TooMany function_pieces count (read_total m f (fields next)) = subst (TotalBy bytes t u us now next f count v vs then) e was.by in
             record {
               kept = kept_on so.kept was.kept;
               long = was.long ∙ so.long;
-              by = rw next-total (many_total (tab f (total_in m t (read u us) now)) sum m f (n - (f + 1)) count (read_total m f (from b next)) so.sums many);
+              by = rw next-total (many_total (tab f (total_in m t (read u us) now)) sum m f (n - (f + 1)) count (read_total m f (fields next)) so.sums many);
             }
 
-        module _ {end total : ℕ} (e : a ≡ Some (end, total)) where
-          R : TotalIs bytes t u us now b next f count v vs then end total
-          R = subst (TotalBy bytes t u us now b next f count v vs then) e was.by
+        module _ {end : Bor (List ℕ)} {total : ℕ} (e : a ≡ Some (end, total)) where
+          R : TotalIs bytes t u us now next f count v vs then end.now total
+          R = subst (TotalBy bytes t u us now next f count v vs then) e was.by
 
           N : NewTotal t f (read u us) (read v vs) (context_at (read v vs) (functions_slot + 4 * f)) (records_in t totals_slot f (read v vs))
           N = record { long = read-long v vs ∙ was.long ∙ sym (read-long u us); context = refl; exprs = refl; same = R.same }
@@ -252,7 +252,7 @@ module _ {bytes t : List ℕ} (w : WasRead bytes t) where
                     (λ k i. totals_recorded R.memory (totals_slot + expressions_from (row_at t f) + k) (omega arith) (omega arith)),
               )
 
-          pub through_more : Through bytes t s rs totals b at sum v vs then (f + 1) end total
+          pub through_more : Through bytes t s rs b sum v vs then (f + 1) end.now total
           unfolding exprs_to
           through_more =
               let step : f + 1 ≡ suc f = add-one f in
@@ -266,7 +266,6 @@ module _ {bytes t : List ℕ} (w : WasRead bytes t) where
                 memory = R.memory;
                 spent = record {
                   further = omega (arith, so.spent.further, R.spent.further);
-                  inside = R.spent.inside;
                   cost = omega (arith, so.spent.cost, R.spent.cost);
                 };
                 same = λ k out. R.same k (λ i x z. out (omega arith) (omega arith)) (λ i x z. out (omega arith) (omega arith)) ∙ so.same k out;
@@ -286,28 +285,28 @@ module _ {bytes t : List ℕ} (w : WasRead bytes t) where
                 rest =
                     next-total
                     ∙ rw (R.is, totals_now, step)
-                    (after_more (tab f (total_in m t (read u us) now)) (total_in m t (read v vs) then f) (read_totals m (suc f) (n - suc f) (from b end)));
+                    (after_more (tab f (total_in m t (read u us) now)) (total_in m t (read v vs) then f) (read_totals m (suc f) (n - suc f) (fields end.now)));
               }
 
-    pub through_done : n ≤ f → FunctionsWereRead bytes t s rs totals b at sum u us now (Some (next, count))
-    through_done h =
+    pub through_done : {c : Bor (List ℕ)} → c.now ≡ next → n ≤ f → FunctionsWereRead bytes t s rs b sum u us now (Some (c, count))
+    through_done e h =
         let all : f ≡ n = omega (arith, so.few) in
         let none_left : n - f ≡ 0 = omega arith in
         let these : tab f (total_in m t (read u us) now) ≡ functions_in m t (read u us) now = all_totals (read u us) now all in
         record {
           kept = so.kept;
           long = so.long;
-          by = record {
+          by = rw e (record {
             is = so.rest ∙ rw (none_left, these) (last (functions_in m t (read u us) now));
             sums = rw (← these) so.sums;
             few = so.low;
             memory = so.memory;
-            inside = so.spent.inside;
+            further = so.spent.further;
             same = so.same;
             totals-sum = rw (← these) so.weighed;
             unwalked = λ g x z. so.walked g (omega arith) z;
-          };
+          });
         }
       where
-        last : (ts : List (Option FunctionReq)) → after ts (read_totals m f 0 (from b next)) ≡ got ts (from b next)
+        last : (ts : List (Option FunctionReq)) → after ts (read_totals m f 0 (fields next)) ≡ got ts (fields next)
         last ts = unfold read_totals in rw (append-nil ts) refl

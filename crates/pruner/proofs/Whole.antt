@@ -8,8 +8,7 @@ use mathlib.Core.Path.{◌≡◌, refl, ap, sym, ◌∙◌}
 use mathlib.Core.Bool.{true, false}
 use mathlib.Core.List.{List, [], ◌∷◌, ◌++◌, append_assoc, append-nil}
 use mathlib.Core.Option.{Option, some, none as nothing}
-use borrow.Author.Tests.{eq-eqb, ne_eqb}
-use lib.ListN.{length, get_or, set, drop, length-append}
+use lib.ListN.{length, get_or, set, take, drop, length-append}
 use lib.Seq.{sets, sets-eq}
 use Rattle.field.specs.Limits.{max_functions, min_report}
 use Rattle.field.specs.Field.{set_field, set_word}
@@ -46,7 +45,7 @@ use Rattle.pruner.proofs.Back as back
 use Rattle.pruner.proofs.Writing.{Going, none_written, one_more, next-room}
 
 -- one function
-module _ {bytes t : List ℕ} {places : MarkPlaces} {s rs : List ℕ} {totals : MarkTotals} (h : HasTotals bytes t places s rs totals) (f : FunctionHandle) (there : f < length (module_of bytes t).functions) where
+module _ {bytes t : List ℕ} {places : MarkPlaces} {s rs : List ℕ} (h : HasTotals bytes t places s rs) (f : FunctionHandle) (there : f < length (module_of bytes t).functions) where
   pub flag_there : f < max_functions
   flag_there = omega (arith, few bytes t h.was_read)
 
@@ -56,58 +55,56 @@ module _ {bytes t : List ℕ} {places : MarkPlaces} {s rs : List ℕ} {totals : 
   pub starts_there : f < max_functions
   starts_there = lies.entry
 
-  abbrev total : Option FunctionReq
-  total = total_in (module_of bytes t) t (read s rs) totals f
+  module _ (totals : MarkTotals) where
+    abbrev total : Option FunctionReq
+    total = total_in (module_of bytes t) t (read s rs) totals f
 
-  none_there : has_total totals f ≡ false → total ≡ nothing
-  unfolding total_in total_of
-  none_there e = rw (total_missing (module_of bytes t) totals f e)
+    module _ (a : Writer) (e : has_total totals f ≡ false) where
+      none_there : total ≡ nothing
+      unfolding total_in total_of
+      none_there = rw (total_missing (module_of bytes t) totals f e)
 
-  module _ (a : Writer) (e : has_total totals f ≡ false) where
-    pub none_room : HasRoom a (write_total total) → HasRoom a (0 ∷ [])
-    unfolding write_total
-    none_room room = rw (none_there e) at room
+      pub none_room : HasRoom a (write_total total) → HasRoom a (0 ∷ [])
+      unfolding write_total
+      none_room room = rw none_there at room
 
-    pub none_done : {b : Writer} → Writes a b (0 ∷ []) → Writes a b (write_total total)
-    unfolding write_total
-    none_done w = rw (none_there e) w
+      pub none_done : {b : Writer} → Writes a b (0 ∷ []) → Writes a b (write_total total)
+      unfolding write_total
+      none_done w = rw none_there w
 
-  module _ {r : Stretch} (own : RecordsAt t f r) {from to : ℕ} (a : from ≡ start_in places f) (b : to ≡ start_in places (f + 1)) where
-    pub ascends : from ≤ to
-    ascends = omega (arith, lies.ascends)
-
-    pub start_small : from ≤ min_report
-    start_small = omega (arith, lies.ascends, lies.within)
-
+  module _ {r : Stretch} (own : RecordsAt t f r) where
     pub records_small : totals_slot + r.from ≤ functions_slot
     records_small = omega (arith, fits f h.was_read there, own.from)
 
-    abbrev in_memory : FunctionReq
-    in_memory = stored.total_in s rs totals.marks from (to - from) (functions_slot + 4 * f) (totals_slot + r.from) r.n
-
-    pub total_stored : Stored s rs totals.marks from (to - from) (functions_slot + 4 * f) (totals_slot + r.from) r.n
+    pub total_stored : Stored s rs (functions_slot + 4 * f) (totals_slot + r.from) r.n
     total_stored = record {
       good = h.memory.good;
       below = h.memory.below;
-      marks_there = let l = totals.marks_long in omega (arith, lies.within, lies.ascends);
       context_there = omega (arith, few bytes t h.was_read, h.memory.slots);
       records_there = omega (arith, fits f h.was_read there, own.from, own.n, h.memory.slots);
     }
 
-    total_is : has_total totals f ≡ true → total ≡ some in_memory
-    unfolding total_in total_of
-    total_is there-is =
-        let m = module_of bytes t in
-        let start = h.placed.starts f (omega arith) in
-        let size = size_is bytes t places h.was_read h.placed f there in
-        rw (total_there m totals f there-is, ← start, ← size, a, b, own.from, own.n)
+    module _ {from to : ℕ} (a : from ≡ start_in places f) (b : to ≡ start_in places (f + 1)) where
+      pub own_inside : (from ≤ to) × (to ≤ min_report)
+      own_inside = (omega (arith, lies.ascends), omega (arith, lies.within))
 
-    module _ (u : Writer) (there-is : has_total totals f ≡ true) where
-      pub total-room : HasRoom u (write_total total) → HasRoom u (write_total (some in_memory))
-      total-room room = rw (total_is there-is) at room
+      module _ (totals : MarkTotals) (u : Writer) (there-is : has_total totals f ≡ true) where
+        abbrev in_memory : FunctionReq
+        in_memory = stored.total_in s rs (take (to - from) (drop from totals.marks)) (functions_slot + 4 * f) (totals_slot + r.from) r.n
 
-      pub total-done : {v : Writer} → Writes u v (write_total (some in_memory)) → Writes u v (write_total total)
-      total-done w = rw (total_is there-is) w
+        total_is : total totals ≡ some in_memory
+        unfolding total_in total_of
+        total_is =
+            let m = module_of bytes t in
+            let start = h.placed.starts f (omega arith) in
+            let size = size_is bytes t places h.was_read h.placed f there in
+            rw (total_there m totals f there-is, ← start, ← size, a, b, own.from, own.n)
+
+        pub total-room : HasRoom u (write_total (total totals)) → HasRoom u (write_total (some in_memory))
+        total-room room = rw total_is at room
+
+        pub total-done : {v : Writer} → Writes u v (write_total (some in_memory)) → Writes u v (write_total (total totals))
+        total-done w = rw total_is w
 
 -- one function after the other
 totals_append : (ts us : List (Option FunctionReq)) → write_totals (ts ++ us) ≡ write_totals ts ++ write_totals us
@@ -164,7 +161,7 @@ module _ (bytes t s rs : List ℕ) (totals : MarkTotals) {n : ℕ} (count : n �
       rw all_fields (rw same at g.writes)
 
 -- the whole
-module _ {bytes t : List ℕ} {places : MarkPlaces} {s rs : List ℕ} {totals : MarkTotals} (h : HasTotals bytes t places s rs totals) where
+module _ {bytes t : List ℕ} {places : MarkPlaces} {s rs : List ℕ} (h : HasTotals bytes t places s rs) (totals : MarkTotals) where
   abbrev pruner : Pruner
   pruner = pruner_in bytes t s rs totals
 

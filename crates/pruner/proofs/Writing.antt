@@ -1,13 +1,14 @@
 -- What the code writes of a total, list by list: of n marks or records the first k are written, and then one more.
-use Prim.Native.Nat.{ℕ, zero, suc, ◌+◌, ◌<◌, ◌≤◌}
+use Prim.Native.Nat.{ℕ, zero, suc, ◌+◌, ◌-◌, ◌<◌, ◌≤◌}
 use native.Mathlib.Omega.{arith}
 use native.Mathlib.Nat.{add-zero}
 use native.Mathlib.Numerals.{add-one}
 use mathlib.Core.Path.{◌≡◌, refl, ap, sym, ◌∙◌}
 use mathlib.Core.List.{List, [], ◌∷◌, ◌++◌, append_assoc, append-nil}
 use mathlib.Core.Option.{some}
-use lib.ListN.{length, get_or, take, drop, length-append, length-take, length-drop}
-use lib.Seq.{take-suc, get_or-drop}
+use lib.ListN.{length, get_or, take, drop, length-append, length-take}
+use lib.Seq.{take-length}
+use Rattle.std.proofs.lemmas.List.{take_more}
 use Rattle.part.specs.PartReq.{PartReq, all, exist, none, more}
 use Rattle.part.specs.Store.{part, top, Below}
 use Rattle.context.specs.Contexts.{context_of, HasContext}
@@ -21,6 +22,7 @@ use Rattle.walk.specs.State.{FunctionReq}
 use Rattle.memory.specs.Memory.{read, record_of, records_of, context_at}
 use Rattle.memory.specs.Stretches.{pieces_at}
 use Rattle.memory.proofs.Slots.{read_at}
+use Rattle.marks.proofs.Write.{slice_at}
 use Rattle.pruner.specs.Form.{write_record, write_records, write_total}
 
 -- k of n are written, which are the fields fs
@@ -47,25 +49,19 @@ next-room fs gs {k = k} g e l h =
     omega (arith, written_long g.writes.written, g.writes.written.next_is, ap length e, length-append (fs k) gs)
 
 -- marks
-module _ (marks : List ℕ) (from n : ℕ) (inside : from + n ≤ length marks) where
+module _ (marks : List ℕ) where
   abbrev marks_of : ℕ → List ℕ
-  marks_of k = take k (drop from marks)
+  marks_of k = take k marks
 
-  mark_more : {k : ℕ} → k < n → marks_of (k + 1) ≡ marks_of k ++ (get_or marks (from + k) 0 ∷ [])
-  mark_more {k} l =
-      let there : k < length (drop from marks) = simp length-drop (omega arith) in
-      ap (λ (j : ℕ). take j (drop from marks)) (add-one k) ∙ take-suc (drop from marks) k 0 there
-      ∙ ap (λ (b : ℕ). marks_of k ++ (b ∷ [])) (get_or-drop from marks k 0)
+  module _ {a b : Writer} {k : ℕ} (g : Going (length marks) k a b (marks_of k)) (l : k < length marks) where
+    mark_more : marks_of (k + 1) ≡ marks_of k ++ (get_or marks k 0 ∷ [])
+    mark_more = take_more marks k 0 l
 
-  marks_grow : (k : ℕ) → k < n → length (marks_of (k + 1)) ≤ length (marks_of n)
-  marks_grow k l = simp (length-take, length-drop) (omega arith)
+    pub mark_room : HasRoom a marks → HasRoom b (get_or marks k 0 ∷ [])
+    mark_room h = next-room marks_of (get_or marks k 0 ∷ []) g mark_more (simp length-take (omega arith)) (rw (take-length marks) h)
 
-  module _ {a b : Writer} {k : ℕ} (g : Going n k a b (marks_of k)) (l : k < n) where
-    pub mark_room : HasRoom a (marks_of n) → HasRoom b (get_or marks (from + k) 0 ∷ [])
-    mark_room h = next-room marks_of (get_or marks (from + k) 0 ∷ []) g (mark_more l) (marks_grow k l) h
-
-    pub mark_again : {c : Writer} → Writes b c (get_or marks (from + k) 0 ∷ []) → Going n (k + 1) a c (marks_of (k + 1))
-    mark_again w = one_more marks_of (get_or marks (from + k) 0 ∷ []) g l (mark_more l) w
+    pub mark_again : {c : Writer} → Writes b c (get_or marks k 0 ∷ []) → Going (length marks) (k + 1) a c (marks_of (k + 1))
+    mark_again w = one_more marks_of (get_or marks k 0 ∷ []) g l mark_more w
 
 -- records
 return_record : (p : PartReq) → write_return p ≡ write_record (record_of p)
@@ -105,8 +101,18 @@ module _ (s rs : List ℕ) (base n : ℕ) (inside : base + n ≤ length rs) wher
   unfolding write_records records_of
   records_none = none_written
 
+  -- the piece that the loop gives
+  abbrev slot : ℕ → ℕ
+  slot k = get_or (take (base + n - base) (drop base rs)) k 0
+
+  slot_is : {k : ℕ} → k < n → slot k ≡ get_or rs (base + k) 0
+  slot_is {k} l = slice_at rs base n k l
+
+  pub slot_below : {k : ℕ} → Below rs (top s) → k < n → slot k < top s
+  slot_below {k} below l = omega (arith, slot_is l, below (base + k) (omega arith))
+
   abbrev written : ℕ → List ℕ
-  written k = write_return (part s (get_or rs (base + k) 0))
+  written k = write_return (part s (slot k))
 
   record_more : {k : ℕ} → k < n → record_fields (k + 1) ≡ record_fields k ++ written k
   record_more {k} l =
@@ -114,6 +120,7 @@ module _ (s rs : List ℕ) (base n : ℕ) (inside : base + n ≤ length rs) wher
       ap record_fields (add-one k) ∙ records_suc (read s rs) base k
       ∙ ap (λ (p : PartReq). record_fields k ++ write_record (record_of p)) here
       ∙ ap (λ (fs : List ℕ). record_fields k ++ fs) (sym (return_record (part s (get_or rs (base + k) 0))))
+      ∙ ap (λ (p : ℕ). record_fields k ++ write_return (part s p)) (sym (slot_is l))
 
   module _ {a b : Writer} {k : ℕ} (g : Going n k a b (record_fields k)) (l : k < n) where
     pub record_room : HasRoom a (record_fields n) → HasRoom b (written k)

@@ -1,6 +1,6 @@
 -- A function's total as memory has it: marks in a buffer of bytes, the context in four slots, and the records in one slot for each expression; and the pruner
 -- of all totals.
-use Rattle.std.specs.Prelude.{ℕ, ◌+◌, ◌≤◌, List, length, get_or, take, drop}
+use Rattle.std.specs.Prelude.{ℕ, ◌+◌, ◌≤◌, List, length, get_or}
 use Rattle.part.specs.PartReq.{none}
 use Rattle.part.specs.Store.{top, Good, Below}
 use Rattle.module.specs.Tables.{module_of}
@@ -11,19 +11,18 @@ use Rattle.memory.specs.Memory.{read, records_of, context_at, Memory}
 use Rattle.marks.specs.declared.places.MarkPlaces.{MarkPlaces}
 use Rattle.marks.specs.declared.totals.MarkTotals.{MarkTotals}
 use Rattle.marks.specs.Places.{Places}
-use Rattle.state.specs.Ready.{WasRead}
+use Rattle.access.specs.Laid.{WasRead}
 use Rattle.block.specs.Standing.{functions_in}
 
--- n marks from the byte `from` on, the context in the slots from `context` on, and `count` records in those from `base` on
-abbrev pub total_in : (s rs marks : List ℕ) → (from n context base count : ℕ) → FunctionReq
-total_in s rs marks from n context base count =
-    record { marks = take n (drop from marks); context = context_at (read s rs) context; exprs = records_of (read s rs) base count }
+-- its marks, the context in the slots from `context` on, and `count` records in those from `base` on
+abbrev pub total_in : (s rs marks : List ℕ) → (context base count : ℕ) → FunctionReq
+total_in s rs marks context base count =
+    record { marks = marks; context = context_at (read s rs) context; exprs = records_of (read s rs) base count }
 
 -- they are there
-pub record Stored (s rs marks : List ℕ) (from n context base count : ℕ) : Type 0 where
+pub record Stored (s rs : List ℕ) (context base count : ℕ) : Type 0 where
   pub good : Good s
   pub below : Below rs (top s)
-  pub marks_there : from + n ≤ length marks
   pub context_there : context + 4 ≤ length rs
   pub records_there : base + count ≤ length rs
 
@@ -31,8 +30,8 @@ pub record Stored (s rs marks : List ℕ) (from n context base count : ℕ) : Ty
 abbrev pub pruner_in : (bytes t s rs : List ℕ) (totals : MarkTotals) → Pruner
 pruner_in bytes t s rs totals = record { globals = get_or (read s rs) globals_slot none; functions = functions_in (module_of bytes t) t (read s rs) totals }
 
--- a memory and marks of totals, with the tables of a module that was read
-pub record HasTotals (bytes t : List ℕ) (places : MarkPlaces) (s rs : List ℕ) (totals : MarkTotals) : Type 0 where
+-- a memory of totals, with the tables of a module that was read
+pub record HasTotals (bytes t : List ℕ) (places : MarkPlaces) (s rs : List ℕ) : Type 0 where
   pub was_read : WasRead bytes t
   pub placed : Places bytes t places
   pub memory : Memory s rs

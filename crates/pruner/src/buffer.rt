@@ -1,5 +1,5 @@
 // The body of a buffer of totals: the total of globals, and those of all functions, one after the other.
-ghost use Rattle.std.specs.Prelude.{◌+◌, ◌≤◌, length};
+ghost use Rattle.std.specs.Prelude.{◌+◌, ◌≤◌, length, drop};
 ghost use Rattle.field.specs.Limits.{max_pieces, max_functions};
 ghost use Rattle.module.specs.Tables.{max_items};
 ghost use Rattle.pruner.specs.Stored.{HasTotals};
@@ -25,61 +25,48 @@ pub fn clear_flags(flags: &mut [bool], n: usize)
     flags[..n].fill(false);
 }
 
-pub fn read_functions(
+pub fn read_functions<'a>(
     file: &File,
     places: &MarkPlaces,
     parts: &mut Parts,
     totals: &mut MarkTotals,
-    pruner: &[u8],
-    at: usize,
+    pruner: &'a [u8],
     sum: usize,
-) -> Option<(usize, usize)>
-    requires has_totals { HasTotals file.now.bytes file.now.t places.now parts.old.cells parts.old.slots totals.old × NoTotals file.now.bytes file.now.t parts.old.cells parts.old.slots totals.old }
-    requires at_in_bounds { (at ≤ length pruner.now) × RoomBeside parts.old.cells pruner.now at (max_items + max_functions) × (sum ≤ max_pieces) }
-    ensures { FunctionsWereRead file.now.bytes file.now.t parts.old.cells parts.old.slots totals.old pruner.now at sum parts.new.cells parts.new.slots totals.new result }
+) -> Option<(&'a [u8], usize)>
+    requires has_totals { HasTotals file.now.bytes file.now.t places.now parts.old.cells parts.old.slots × NoTotals file.now.bytes file.now.t parts.old.cells parts.old.slots totals.old }
+    requires room { RoomBeside parts.old.cells pruner.now (max_items + max_functions) × (sum ≤ max_pieces) }
+    ensures { FunctionsWereRead file.now.bytes file.now.t parts.old.cells parts.old.slots pruner.now sum parts.new.cells parts.new.slots totals.new result }
 {
-    let mut next = at;
+    let mut left = pruner;
     let mut count = sum;
     for f in 0..file.functions() {
-        let (end, m) = read_total(
-            file,
-            places,
-            parts,
-            totals,
-            pruner,
-            next,
-            FunctionHandle(f),
-            count,
-        )?;
-        next = end;
+        let f = FunctionHandle(f);
+        let (rest, m) = read_total(file, places, parts, totals, left, f, count)?;
+        left = rest;
         count = m;
     }
-    Some((next, count))
+    Some((left, count))
 }
 
-// The fields of a buffer's record, behind its header. Whether they are totals that 16 allows.
+// The fields of a buffer's record, behind its header. None where they are no totals that 16 allows.
 pub fn read_body(
     file: &File,
     places: &MarkPlaces,
     parts: &mut Parts,
     totals: &mut MarkTotals,
     pruner: &[u8],
-) -> bool
-    requires has_totals { HasTotals file.now.bytes file.now.t places.now parts.old.cells parts.old.slots totals.old × NoTotals file.now.bytes file.now.t parts.old.cells parts.old.slots totals.old }
-    requires in_bounds { (6 ≤ length pruner.now) × RoomBeside parts.old.cells pruner.now 6 (max_items + max_functions) }
-    ensures { BodyWasRead file.now.bytes file.now.t parts.old.cells parts.old.slots totals.old pruner.now parts.new.cells parts.new.slots totals.new result }
+) -> Option<()>
+    requires has_totals { HasTotals file.now.bytes file.now.t places.now parts.old.cells parts.old.slots × NoTotals file.now.bytes file.now.t parts.old.cells parts.old.slots totals.old }
+    requires in_bounds { (6 ≤ length pruner.now) × RoomBeside parts.old.cells (drop 6 pruner.now) (max_items + max_functions) }
+    ensures { BodyWasRead file.now.bytes file.now.t parts.old.cells parts.old.slots pruner.now parts.new.cells parts.new.slots totals.new result }
 {
     let n = file.globals();
-    let Some((g, next)) = read_map(&mut parts.cells, pruner, 6, n) else {
-        return false;
-    };
+    let (g, functions) = read_map(&mut parts.cells, &pruner[6..], n)?;
     let count = entries(&parts.cells, g) as usize;
     if MAX_PIECES < count {
-        return false;
+        return None;
     }
     parts.slots[GLOBALS] = g;
-    let Some((end, _)) = read_functions(file, places, parts, totals, pruner, next, count) else {
-        return false;
-    };
-    ends(pruner, end)
+    let (left, _) = read_functions(file, places, parts, totals, functions, count)?;
+    ends(left).then_some(())
 }

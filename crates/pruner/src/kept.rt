@@ -2,7 +2,8 @@
 ghost use Rattle.std.specs.Prelude.{◌+◌, ◌≤◌, length};
 ghost use Rattle.field.specs.Limits.{max_pieces};
 ghost use Rattle.request.specs.Context.{read_context_body, known_context};
-ghost use Rattle.request.specs.Answers.{from, Limits};
+ghost use Rattle.request.specs.Fields.{fields};
+ghost use Rattle.request.specs.Answers.{Limits};
 ghost use Rattle.memory.specs.Layout.{exprs_slot, functions_slot};
 ghost use Rattle.memory.specs.Memory.{Memory};
 ghost use Rattle.pruner.specs.Form.{only};
@@ -14,50 +15,50 @@ use memory::parts::Parts;
 use memory::stretches::save_context;
 use part::store::entries;
 
-// n records, into the slots from `base` on. Where the next field stands and how many pieces there are, or nothing, if they are refused.
-pub fn read_records(
+// n records, into the slots from `base` on. The bytes that are left and how many pieces there are, or nothing, if they are refused.
+pub fn read_records<'a>(
     parts: &mut Parts,
-    pruner: &[u8],
-    at: usize,
+    pruner: &'a [u8],
     base: usize,
     n: usize,
     sum: usize,
-) -> Option<(usize, usize)>
+) -> Option<(&'a [u8], usize)>
     requires memory { Memory parts.old.cells parts.old.slots × (exprs_slot ≤ base) × (base + n ≤ functions_slot) }
-    requires at_in_bounds { (at ≤ length pruner.now) × RoomBeside parts.old.cells pruner.now at n × (sum ≤ max_pieces) }
-    ensures { RecordsWereRead parts.old.cells parts.old.slots pruner.now at base n sum parts.new.cells parts.new.slots result }
+    requires room { RoomBeside parts.old.cells pruner.now n × (sum ≤ max_pieces) }
+    ensures { RecordsWereRead parts.old.cells parts.old.slots pruner.now base n sum parts.new.cells parts.new.slots result }
 {
-    let mut next = at;
+    let mut left = pruner;
     let mut count = sum;
+    // Stays: by number. The invariant says what memory has after each record; while a stretch of the slots is lent, they are what stands before it, the
+    // stretch and what stands behind it, put together in five of its nine facts.
     for k in 0..n {
-        let (p, end) = read_single(&mut parts.cells, pruner, next, 0)?;
+        let (p, rest) = read_single(&mut parts.cells, left, 0)?;
         count += entries(&parts.cells, p) as usize;
         if MAX_PIECES < count {
             return None;
         }
         parts.slots[base + k] = p;
-        next = end;
+        left = rest;
     }
-    Some((next, count))
+    Some((left, count))
 }
 
 // The lists of a context, into the four slots from `slot` on.
-pub fn read_context(
+pub fn read_context<'a>(
     parts: &mut Parts,
-    pruner: &[u8],
-    at: usize,
+    pruner: &'a [u8],
     slot: usize,
     globals: u32,
     args: u32,
     locals: u32,
     sum: usize,
-) -> Option<(usize, usize)>
+) -> Option<(&'a [u8], usize)>
     requires memory { Memory parts.old.cells parts.old.slots × (functions_slot ≤ slot) × (slot + 4 ≤ length parts.old.slots) }
-    requires at_in_bounds { (at ≤ length pruner.now) × RoomBeside parts.old.cells pruner.now at 1 × (sum ≤ max_pieces) }
+    requires room { RoomBeside parts.old.cells pruner.now 1 × (sum ≤ max_pieces) }
     requires limits { Limits globals args locals }
-    ensures { ContextWasStored parts.old.cells parts.old.slots pruner.now at slot sum (only (known_context globals args locals) (read_context_body (from pruner.now at))) parts.new.cells parts.new.slots result }
+    ensures { ContextWasStored parts.old.cells parts.old.slots pruner.now slot sum (only (known_context globals args locals) (read_context_body (fields pruner.now))) parts.new.cells parts.new.slots result }
 {
-    let (c, next) = read_lists(&mut parts.cells, pruner, at, globals, args, locals)?;
+    let (c, rest) = read_lists(&mut parts.cells, pruner, globals, args, locals)?;
     let g = entries(&parts.cells, c.globals) as usize;
     let l = entries(&parts.cells, c.locals) as usize;
     let a = entries(&parts.cells, c.args) as usize;
@@ -67,5 +68,5 @@ pub fn read_context(
         return None;
     }
     save_context(&mut parts.slots, slot, c);
-    Some((next, count))
+    Some((rest, count))
 }

@@ -11,24 +11,22 @@ use memory::parts::Parts;
 
 // Stays: file, places, parts and totals go one by one, here, in buffer, total and totals: a `World` says of the types' rows too, and a `Workspace` has the
 // open marks beside, and no caller of these functions owes either.
-// Whether the buffer means totals.
+// None where the buffer means no totals.
 pub fn read_pruner(
     file: &File,
     places: &MarkPlaces,
     parts: &mut Parts,
     totals: &mut MarkTotals,
     pruner: &[u8],
-) -> bool
-    requires { HasTotals file.now.bytes file.now.t places.now parts.old.cells parts.old.slots totals.old × Untold parts.old.cells parts.old.slots }
-    ensures { PrunerWasRead file.now.bytes file.now.t parts.old.cells parts.old.slots totals.old pruner.now parts.new.cells parts.new.slots totals.new result }
+) -> Option<()>
+    requires { HasTotals file.now.bytes file.now.t places.now parts.old.cells parts.old.slots × Untold parts.old.cells parts.old.slots }
+    ensures { PrunerWasRead file.now.bytes file.now.t parts.old.cells parts.old.slots pruner.now parts.new.cells parts.new.slots totals.new result }
 {
     let n = file.functions() as usize;
     clear_flags(&mut totals.flags, n);
     if is_fresh(pruner) {
-        return true;
+        return Some(());
     }
-    let Some(end) = record_length(pruner) else {
-        return false;
-    };
+    let end = record_length(pruner)?;
     read_body(file, places, parts, totals, &pruner[..end])
 }

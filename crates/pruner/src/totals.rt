@@ -10,7 +10,7 @@ ghost use Rattle.pruner.specs.Stored.{pruner_in, HasTotals};
 use crate::write::write_total;
 use access::file::File;
 use leave::leave::records_of;
-use marks::places::{MarkPlaces, range};
+use marks::places::MarkPlaces;
 use marks::totals::MarkTotals;
 use memory::layout::{FUNCTIONS, GLOBALS, TOTALS};
 use memory::parts::Parts;
@@ -27,7 +27,7 @@ fn write_function(
     f: FunctionHandle,
     writer: &mut Writer,
 )
-    requires has_totals { HasTotals file.now.bytes file.now.t places.now parts.now.cells parts.now.slots totals.now × (f.0 < length (module_of file.now.bytes file.now.t).functions) }
+    requires has_totals { HasTotals file.now.bytes file.now.t places.now parts.now.cells parts.now.slots × (f.0 < length (module_of file.now.bytes file.now.t).functions) }
     requires fits { HasRoom writer.old (write_total (total_in (module_of file.now.bytes file.now.t) file.now.t (read parts.now.cells parts.now.slots) totals.now f.0)) }
     ensures { Writes writer.old writer.new (write_total (total_in (module_of file.now.bytes file.now.t) file.now.t (read parts.now.cells parts.now.slots) totals.now f.0)) }
 {
@@ -36,18 +36,10 @@ fn write_function(
         return writer.field(0);
     }
     let records = records_of(file, f);
-    let own = range(places, f);
+    let marks = &totals.marks[places.range(f)];
     let context = FUNCTIONS + 4 * i;
-    write_total(
-        parts,
-        &totals.marks,
-        own.start,
-        own.end - own.start,
-        context,
-        TOTALS + records.from,
-        records.n,
-        writer,
-    );
+    let base = TOTALS + records.from;
+    write_total(parts, marks, context, base, records.n, writer);
 }
 
 fn write_functions(
@@ -57,7 +49,7 @@ fn write_functions(
     totals: &MarkTotals,
     writer: &mut Writer,
 )
-    requires has_totals { HasTotals file.now.bytes file.now.t places.now parts.now.cells parts.now.slots totals.now }
+    requires has_totals { HasTotals file.now.bytes file.now.t places.now parts.now.cells parts.now.slots }
     requires fits { HasRoom writer.old (write_totals (functions_in (module_of file.now.bytes file.now.t) file.now.t (read parts.now.cells parts.now.slots) totals.now)) }
     ensures { Writes writer.old writer.new (write_totals (functions_in (module_of file.now.bytes file.now.t) file.now.t (read parts.now.cells parts.now.slots) totals.now)) }
 {
@@ -74,7 +66,7 @@ pub fn write_pruner(
     totals: &MarkTotals,
     out: &mut [u8],
 )
-    requires has_totals { HasTotals file.now.bytes file.now.t places.now parts.now.cells parts.now.slots totals.now }
+    requires has_totals { HasTotals file.now.bytes file.now.t places.now parts.now.cells parts.now.slots }
     requires min_pruner_in_bounds { (min_pruner ≤ length out.old) × (length (write_pruner (pruner_in file.now.bytes file.now.t parts.now.cells parts.now.slots totals.now)) ≤ min_pruner) }
     ensures { out.new ≡ write_pruner (pruner_in file.now.bytes file.now.t parts.now.cells parts.now.slots totals.now) ++ drop (length (write_pruner (pruner_in file.now.bytes file.now.t parts.now.cells parts.now.slots totals.now))) out.old }
 {

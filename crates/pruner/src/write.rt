@@ -1,5 +1,5 @@
 // A function's total written from a walk's memory, list by list.
-ghost use Rattle.std.specs.Prelude.{◌+◌, ◌≤◌, length, take, drop};
+ghost use Rattle.std.specs.Prelude.{◌+◌, ◌≤◌, length};
 ghost use Rattle.part.specs.Store.{top, Good, Below};
 ghost use Rattle.request.specs.Written.{HasRoom, Writes};
 ghost use Rattle.std.proofs.Math.Option.{some};
@@ -15,14 +15,13 @@ use request::writer::Writer;
 
 // Stays: the two loops here write marks and records. One loop for both is no plainer: a closure would write by the writer, and its contract would say
 // for each call what theirs say once.
-// The n marks from the byte `from` on, one field each.
-pub fn write_marks(marks: &[u8], from: usize, n: usize, writer: &mut Writer)
-    requires n_in_bounds { from + n ≤ length marks.now }
-    requires fits { HasRoom writer.old (take n (drop from marks.now)) }
-    ensures { Writes writer.old writer.new (take n (drop from marks.now)) }
+// One field for each mark.
+pub fn write_marks(marks: &[u8], writer: &mut Writer)
+    requires { HasRoom writer.old marks.now }
+    ensures { Writes writer.old writer.new marks.now }
 {
-    for k in 0..n {
-        writer.field(marks[from + k] as u16);
+    for mark in marks {
+        writer.field(*mark as u16);
     }
 }
 
@@ -34,8 +33,8 @@ pub fn write_records(parts: &Parts, base: usize, n: usize, writer: &mut Writer)
     requires fits { HasRoom writer.old (write_records (records_of (read parts.now.cells parts.now.slots) base n)) }
     ensures { Writes writer.old writer.new (write_records (records_of (read parts.now.cells parts.now.slots) base n)) }
 {
-    for k in 0..n {
-        write_return(&parts.cells, parts.slots[base + k], writer);
+    for p in &parts.slots[base..base + n] {
+        write_return(&parts.cells, *p, writer);
     }
 }
 
@@ -51,23 +50,21 @@ pub fn write_lists(parts: &Parts, context: usize, writer: &mut Writer)
     write_context_body(&parts.cells, c, writer);
 }
 
-// A function's total, after 1: n marks from the byte `from` on, the context in the slots from `context` on, and `count` records in those from `base` on.
+// A function's total, after 1: its marks, the context in the slots from `context` on, and `count` records in those from `base` on.
 pub fn write_total(
     parts: &Parts,
     marks: &[u8],
-    from: usize,
-    n: usize,
     context: usize,
     base: usize,
     count: usize,
     writer: &mut Writer,
 )
-    requires stored { Stored parts.now.cells parts.now.slots marks.now from n context base count }
-    requires fits { HasRoom writer.old (write_total (some (total_in parts.now.cells parts.now.slots marks.now from n context base count))) }
-    ensures { Writes writer.old writer.new (write_total (some (total_in parts.now.cells parts.now.slots marks.now from n context base count))) }
+    requires stored { Stored parts.now.cells parts.now.slots context base count }
+    requires fits { HasRoom writer.old (write_total (some (total_in parts.now.cells parts.now.slots marks.now context base count))) }
+    ensures { Writes writer.old writer.new (write_total (some (total_in parts.now.cells parts.now.slots marks.now context base count))) }
 {
     writer.field(1);
-    write_marks(marks, from, n, writer);
+    write_marks(marks, writer);
     write_lists(parts, context, writer);
     write_records(parts, base, count, writer);
 }

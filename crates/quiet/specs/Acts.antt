@@ -1,13 +1,14 @@
 -- What the code of the rule of unmarked statements is given, and what an act gives that is needed.
-use Rattle.std.specs.Prelude.{ℕ, zero, suc, ◌<◌, ◌≡◌, Bool, true, ◌&&◌, List, length}
+use Rattle.std.specs.Prelude.{ℕ, zero, suc, ◌<◌, ◌≡◌, Bool, true, ◌&&◌, List, Option, length, is_some, IfSome}
 use Rattle.part.specs.PartReq.{PartReq}
 use Rattle.part.specs.Store.{top, part, Good}
+use Rattle.part.specs.Subparts.{Piece}
 use Rattle.module.specs.Module.{ExpressionHandle}
+use Rattle.clearance.specs.Shape.{some}
 use Rattle.clearance.specs.Scope.{Scope}
 use Rattle.clearance.specs.Tree.{Act, emit}
 use Rattle.clearance.specs.Needs.{overlap, idle}
 use Rattle.judge.specs.Given.{scope_at}
-use Rattle.needs.specs.Path.{Piece}
 use Rattle.framed.specs.Kept.{Kept}
 use Rattle.standing.specs.World.{World}
 use Rattle.quiet.specs.declared.need.Need.{Need}
@@ -26,9 +27,15 @@ NeedingOf n = Needing n.subject.now.file.now.bytes n.subject.now.file.now.t n.su
 abbrev pub needed_by : Need → PartReq
 needed_by n = part n.cells.now n.piece
 
--- the piece r of the store s is what is needed of what an act gives; a lent path is as long as it was
-pub record Overlap (S : Scope) (x : Act) (s : List ℕ) (n : PartReq) (before after : List ℕ) (r : ℕ) : Type 0 where
-  pub piece : Piece s (overlap S x n) r
+-- r is the piece p, if that is something, whatever the store
+pub record Something (p : ℕ) (r : Option ℕ) : Type 0 where
+  pub is : (s : List ℕ) → is_some r ≡ some (part s p)
+  pub piece : IfSome r (λ q. q ≡ p)
+
+-- whether what is needed of what an act gives is something, and its piece r in the store s; a lent path is as long as it was
+pub record Overlap (S : Scope) (x : Act) (s : List ℕ) (n : PartReq) (before after : List ℕ) (r : Option ℕ) : Type 0 where
+  pub is : is_some r ≡ some (overlap S x n)
+  pub piece : IfSome r (λ p. Piece s (overlap S x n) p)
   pub long : length after ≡ length before
 
 -- r says whether an act gives nothing that is needed

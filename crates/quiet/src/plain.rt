@@ -11,6 +11,7 @@ use crate::need::Need;
 use access::kinded::Kinded;
 use module::handles::ExpressionHandle;
 use module::kinds::{NoKind, StatementKind};
+use place::pointer::PointerExpression;
 use strays::exits::Exits;
 
 // Whether none of the emitted expressions, from the first to the last, gives anything that is needed.
@@ -49,8 +50,12 @@ pub fn quiet_plain(need: &Need, path: &mut [u32], s: u32, row: Kinded, e: Exits<
             quiet_emits(need, path, first, last)
         }
         Ok(StatementKind::Store) => {
-            let p = need.subject.file.expression_operand(row, 0);
-            store_idle(need, path, p)
+            let pointer = PointerExpression {
+                file: need.subject.file,
+                f: need.subject.f,
+                e: need.subject.file.expression_operand(row, 0),
+            };
+            store_idle(need, path, &pointer)
         }
         Ok(StatementKind::Continue) => e.continued,
         Ok(StatementKind::Return) => e.returned,

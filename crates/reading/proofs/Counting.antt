@@ -1,13 +1,17 @@
 -- Counting, block by block: what has been counted so far, and whether all of it is below its holder.
-use mathlib.Core.Path.{◌≡◌, refl, sym, ◌∙◌}
-use mathlib.Core.Logic.{◌≢◌}
+use mathlib.Core.Path.{◌≡◌, refl, sym, ap, ◌∙◌}
 use mathlib.Core.Bool.{Bool, true, false, ◌&&◌, and_assoc, and-true}
 use mathlib.Core.List.{List, [], ◌∷◌, ◌++◌, append-nil, append_assoc}
-use Prim.Native.Nat.{ℕ, zero, suc, ◌+◌, ◌-◌, ◌<◌, ◌≤◌}
+use Prim.Native.Nat.{ℕ, zero, suc, ◌+◌, ◌-◌, ◌≤◌}
 use native.Mathlib.Omega.{arith}
-use lib.Dec.{ltb}
-use lib.ListN.{length, get_or, set, length-set}
-use borrow.Author.Tests.{ne_eqb}
+use native.Mathlib.Decide.{dec_lt}
+use lib.Dec.{ltb, eqb}
+use lib.ListN.{length, get_or, set, take, drop, replicate, length-set, length-take, length-replicate}
+use borrow.Author.Tests.{lt-ltb, le-ltb}
+use Rattle.std.specs.Prelude.{min}
+use Rattle.std.specs.List.{list_all}
+use Rattle.std.proofs.lemmas.List.{drop-set, drop-set-add, set-append_right, take_more}
+use Rattle.std.proofs.lemmas.List.Folds.{list_all-append}
 use Rattle.module.specs.Module.{BlockHandle, BlockRange, Statement, Break}
 use Rattle.module.specs.Decode.{tab, st_of}
 use Rattle.module.specs.Blocks.{held, held_from, held_in, all_below}
@@ -62,12 +66,6 @@ all_counted f i n c a d e =
     let o : n ≡ i = omega arith in
     rw (e, o) c
 
-pub clear_next : (first seen : List ℕ) (i : ℕ) → seen ≡ cleared first i → set seen i 0 ≡ cleared first (i + 1)
-unfolding cleared
-clear_next first seen i e =
-    let o : i + 1 ≡ suc i = omega arith in
-    rw (o, e)
-
 pub length-cleared : (seen : List ℕ) (n : ℕ) → length (cleared seen n) ≡ length seen
 unfolding cleared
 length-cleared seen zero = refl
@@ -78,26 +76,58 @@ unfolding counted
 length-counted seen [] = refl
 length-counted seen (k ∷ ks) = length-counted (set seen k (more (get_or seen k 0))) ks ∙ length-set seen k (more (get_or seen k 0))
 
-one_more : (seen : List ℕ) (n i w : ℕ) → i ≡ suc n → w ≡ get_or seen n 0 → w ≡ 1 → ones n seen ≡ ones i seen
+zeros_shift : (n : ℕ) (xs : List ℕ) → replicate n 0 ++ 0 ∷ xs ≡ 0 ∷ (replicate n 0 ++ xs)
+zeros_shift zero xs = refl
+zeros_shift (suc n) xs = ap (λ (l : List ℕ). 0 ∷ l) (zeros_shift n xs)
+
+cleared_front : (seen : List ℕ) (n : ℕ) → n ≤ length seen → replicate n 0 ++ drop n seen ≡ cleared seen n
+unfolding cleared
+cleared_front seen zero h = refl
+cleared_front seen (suc n) h =
+    let first : n - n ≡ 0 = omega arith in
+    let here : n + 0 ≡ n = omega arith in
+    let next : n + 1 ≡ suc n = omega arith in
+    let one : drop n (set seen n 0) ≡ 0 ∷ drop (suc n) seen = rw next at (drop-set seen n 0 (omega (arith, h))) in
+    let other : drop n (set seen n 0) ≡ set (drop n seen) 0 0 = rw here at (drop-set-add n seen 0 0) in
+    sym (zeros_shift n (drop (suc n) seen))
+    ∙ ap (λ (l : List ℕ). replicate n 0 ++ l) (sym one ∙ other)
+    ∙ sym (rw first at (set-append_right (replicate n 0) (drop n seen) n n 0 (length-replicate {A = ℕ} n 0) (omega arith)))
+    ∙ ap (λ (l : List ℕ). set l n 0) (cleared_front seen n (omega (arith, h)))
+
+-- a front that is filled is cleared
+pub filled_front : (seen zeros : List ℕ) (n : ℕ) → n ≤ length seen → zeros ≡ replicate (length (take n seen)) 0 → zeros ++ drop n seen ≡ cleared seen n
+filled_front seen zeros n h e =
+    let long : length (take n seen) ≡ n = simp length-take (omega (arith, h)) in
+    rw (e, long) (cleared_front seen n h)
+
+pub held_long : (first : List ℕ) (hs : List BlockHandle) (n : ℕ) {seen held : List ℕ} → seen ≡ cleared first n → held ≡ counted seen hs → length held ≡ length first
+held_long first hs n e f = rw (f, e) (length-counted (cleared first n) hs ∙ length-cleared first n)
+
+swap : (a b : Bool) → (a && (b && true)) ≡ (b && a)
+swap true true = refl
+swap true false = refl
+swap false true = refl
+swap false false = refl
+
+-- the n lowest words are looked at from the first or from the last
+pub ones_front : (seen : List ℕ) (n : ℕ) → n ≤ length seen → list_all (λ w. eqb w 1) (take n seen) ≡ ones n seen
 unfolding ones
-one_more seen n i w o e is = rw (o, sym e, is)
+ones_front seen zero h = refl
+ones_front seen (suc n) h =
+    let next : n + 1 ≡ suc n = omega arith in
+    let front : take (suc n) seen ≡ take n seen ++ (get_or seen n 0 ∷ []) = rw next at (take_more seen n 0 (omega (arith, h))) in
+    ap (list_all (λ w. eqb w 1)) front
+    ∙ list_all-append (λ w. eqb w 1) (take n seen) (get_or seen n 0 ∷ [])
+    ∙ ap (λ (b : Bool). b && (eqb (get_or seen n 0) 1 && true)) (ones_front seen n (omega (arith, h)))
+    ∙ swap (ones n seen) (eqb (get_or seen n 0) 1)
 
-pub one_again : (seen : List ℕ) (i w : ℕ) (whole : Bool) → 0 < i → w ≡ get_or seen (i - 1) 0 → w ≡ 1 → ones i seen ≡ whole → ones (i - 1) seen ≡ whole
-one_again seen i w whole h e is inv = one_more seen (i - 1) i w (omega arith) e is ∙ inv
-
-pub not_one : (seen : List ℕ) (n i w : ℕ) → i ≡ suc n → w ≡ get_or seen n 0 → w ≢ 1 → false ≡ ones i seen
-unfolding ones
-not_one seen n i w o e ne = rw (o, sym e, ne_eqb w 1 ne)
-
-pub no_ones : (seen : List ℕ) (i : ℕ) → i ≤ 0 → ones i seen ≡ true
-unfolding ones
-no_ones seen zero h = refl
-no_ones seen (suc i) h = absurd (omega arith)
-
-pub clear-all : (first seen : List ℕ) (i n : ℕ) → seen ≡ cleared first i → i ≤ n → n ≤ i → seen ≡ cleared first n
-clear-all first seen i n e a b =
-    let o : n ≡ i = omega arith in
-    rw o e
+pub more_is : (n : ℕ) → min n 1 + 1 ≡ more n
+unfolding more
+more_is n =
+    elim (dec_lt n 2) [
+      | yes l ↦ rw (lt-ltb n 2 l) (omega arith)
+      | no k ↦ rw (le-ltb n 2 (omega arith)) (omega arith)
+    ]
 
 pub by_words : {b : ℕ} {first seen : List ℕ} {below : Bool} {hs : List BlockHandle} → Counted b first seen below hs → (below ≡ all_below b hs) × (seen ≡ counted first hs)
 by_words c = (c.answer, c.words)

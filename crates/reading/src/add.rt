@@ -5,16 +5,16 @@ ghost use Rattle.module.specs.Tables.{items_to};
 ghost use Rattle.reading.specs.Progress.{Fits, mark_by, with_item, stage_by, row_with, counts_with, table_with};
 
 use module::kinds::StatementKind;
-use module::record::{Mark, body};
+use module::record::{Mark, Record};
 use module::tables::{BLOCKS, Counts, GLOBALS, ITEMS, MARKS, Row, Stage, TYPES, put};
 
 // Marks the expressions of an emit.
-fn emit(bytes: &[u8], t: &mut [u32], at: u32)
-    ensures { t.new ≡ mark_by (body_at bytes.now at) t.old }
+fn emit(rec: &Record, t: &mut [u32])
+    ensures { t.new ≡ mark_by (body_at rec.now.bytes.now rec.now.at) t.old }
 {
-    if body(bytes, at, 0) == StatementKind::Emit as u16 {
-        let first = body(bytes, at, 1) as usize;
-        let last = body(bytes, at, 2) as usize;
+    if rec.field(0) == StatementKind::Emit as u16 {
+        let first = rec.field(1) as usize;
+        let last = rec.field(2) as usize;
         for e in first..last + 1 {
             put(t, MARKS + e, 1);
         }
@@ -29,11 +29,12 @@ fn put_item(t: &mut [u32], at: u32, row: Row)
 
 // What is written into the tables.
 #[tactic(auto, unfolding(crate::specs::Progress::table_with))]
-fn write(bytes: &[u8], t: &mut [u32], at: u32, mark: Mark, c: Counts)
-    ensures { t.new ≡ table_with bytes.now t.old at mark c }
+fn write(rec: &Record, t: &mut [u32], c: Counts)
+    ensures { t.new ≡ table_with rec.now.bytes.now t.old rec.now.at rec.now.mark c }
 {
     let row = c.row;
-    match mark {
+    let at = rec.at;
+    match rec.mark {
         Mark::TY => put(t, TYPES + (c.types as usize), at),
         Mark::GV => put(t, GLOBALS + (c.globals as usize), at),
         Mark::FN => {}
@@ -50,7 +51,7 @@ fn write(bytes: &[u8], t: &mut [u32], at: u32, mark: Mark, c: Counts)
         ),
         Mark::ST => {
             put_item(t, at, row);
-            emit(bytes, t, at);
+            emit(rec, t);
         }
     }
 }
@@ -109,17 +110,18 @@ fn row_with(at: u32, mark: Mark, row: Row) -> Row
 }
 
 // Adds a record to the tables and to the counts.
-pub fn add(bytes: &[u8], t: &mut [u32], at: u32, mark: Mark, c: Counts) -> Counts
-    requires { Fits c at }
-    ensures t_after { t.new ≡ table_with bytes.now t.old at mark c }
-    ensures value { result ≡ counts_with at mark c }
+pub fn add(rec: &Record, t: &mut [u32], c: Counts) -> Counts
+    requires { Fits c rec.now.at }
+    ensures t_after { t.new ≡ table_with rec.now.bytes.now t.old rec.now.at rec.now.mark c }
+    ensures value { result ≡ counts_with rec.now.at rec.now.mark c }
 {
-    write(bytes, t, at, mark, c);
+    let mark = rec.mark;
+    write(rec, t, c);
     Counts {
         stage: stage_of(mark),
         types: c.types + (mark == Mark::TY) as u32,
         globals: c.globals + (mark == Mark::GV) as u32,
-        row: row_with(at, mark, c.row),
+        row: row_with(rec.at, mark, c.row),
         ..c
     }
 }

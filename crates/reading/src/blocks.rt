@@ -1,9 +1,10 @@
 // The block rule, at a function's end.
-ghost use Rattle.std.specs.Prelude.{◌≡◌, ◌<◌, ◌≤◌, length, get_or, set};
+ghost use Rattle.std.specs.Prelude.{◌≡◌, ◌<◌, ◌≤◌, eqb, length, get_or, set};
+ghost use Rattle.std.specs.List.{list_all};
 ghost use Rattle.module.specs.Blocks.{all_below, holders_above, held_in_all, block_rule};
 ghost use Rattle.module.specs.Reading.{closed};
 ghost use Rattle.module.specs.Tables.{open_of};
-ghost use Rattle.reading.specs.Holding.{holding_of, more, counted, cleared, ones, held_at, held_by, statements_of, blocks_of};
+ghost use Rattle.reading.specs.Holding.{holding_of, more, counted, held_at, held_by, statements_of, blocks_of};
 
 use module::access::{block_range, statement_field};
 use module::handles::BlockHandle;
@@ -53,20 +54,10 @@ pub fn held_by(kind: u16, cases: u16) -> Holding
 }
 
 // How often a block is held is counted up to 2: more than once is refused.
-#[tactic(auto, unfolding(crate::specs::Holding::more))]
-fn more(times: u32) -> u32
-    ensures { result ≡ more times }
-{
-    if times < 2 {
-        return times + 1;
-    }
-    2
-}
-
 fn count(seen: &mut [u32], k: u16)
     ensures { seen.new ≡ set seen.old k (more (get_or seen.old k 0)) }
 {
-    let times = more(word(seen, k as usize));
+    let times = word(seen, k as usize).min(1) + 1;
     put(seen, k as usize, times);
 }
 
@@ -114,25 +105,11 @@ fn hold_all(bytes: &[u8], t: &[u32], row: Row, seen: &mut [u32]) -> bool
     below
 }
 
-// Clears the n lowest words.
-fn clear(seen: &mut [u32], n: u32)
-    ensures { seen.new ≡ cleared seen.old n }
+// Whether each word is 1.
+fn each_once(seen: &[u32]) -> bool
+    ensures { result ≡ list_all (λ times. eqb times 1) seen.now }
 {
-    for i in 0..n {
-        put(seen, i as usize, 0);
-    }
-}
-
-// Whether each of the n lowest words is 1.
-fn each_once(seen: &[u32], n: u32) -> bool
-    ensures { result ≡ ones n seen.now }
-{
-    for i in (0..n).rev() {
-        if word(seen, i as usize) != 1 {
-            return false;
-        }
-    }
-    true
+    seen.iter().all(|times| *times == 1)
 }
 
 // The block rule: whether each block but the last, which is the body, is held once, and by a block above it.
@@ -143,8 +120,9 @@ pub fn block_rule(bytes: &[u8], t: &[u32], row: Row, seen: &mut [u32]) -> bool
     if row.blocks == 0 {
         return false;
     }
-    clear(seen, row.blocks);
+    let n = row.blocks as usize;
+    seen[..n].fill(0);
     let below = hold_all(bytes, t, row, seen);
-    let once = each_once(seen, row.blocks - 1);
+    let once = each_once(&seen[..n - 1]);
     below & once
 }

@@ -5,7 +5,7 @@ ghost use Rattle.reading.specs.Ends.{step_ended, table_ended, step_at, table_at}
 use crate::blocks::block_rule;
 use field::refusal::Refusal;
 use module::handles::FunctionHandle;
-use module::record::Mark;
+use module::record::{Mark, Record};
 use module::tables::{Counts, Stage, set_row};
 
 // The one place for what is checked there.
@@ -30,20 +30,14 @@ pub fn ended(bytes: &[u8], t: &mut [u32], held: &mut [u32], c: Counts) -> Result
 
 // A function ends where the next one begins.
 #[tactic(auto, unfolding(crate::specs::Ends::step_at, crate::specs::Ends::table_at))]
-pub fn ended_at(
-    bytes: &[u8],
-    t: &mut [u32],
-    held: &mut [u32],
-    mark: Mark,
-    c: Counts,
-) -> Result<Counts, Refusal>
+pub fn ended_at(rec: &Record, t: &mut [u32], held: &mut [u32], c: Counts) -> Result<Counts, Refusal>
     requires blocks_in_bounds { c.row.blocks ≤ length held.old }
     requires functions_bound { c.functions ≤ 4294967294 }
-    ensures value { result ≡ step_at bytes.now t.old mark c }
-    ensures t_after { t.new ≡ table_at bytes.now t.old mark c }
+    ensures value { result ≡ step_at rec.now.bytes.now t.old rec.now.mark c }
+    ensures t_after { t.new ≡ table_at rec.now.bytes.now t.old rec.now.mark c }
 {
-    match mark {
-        Mark::FN => ended(bytes, t, held, c),
+    match rec.mark {
+        Mark::FN => ended(rec.bytes, t, held, c),
         _ => Ok(c),
     }
 }

@@ -45,7 +45,8 @@ fn records(bytes: &[u8], t: &mut [u32], room: &mut Room) -> Result<Counts, Refus
     room.seen.fill(0);
     let mut c = no_counts(bytes.len() as u32);
     let mut at: u32 = 0;
-    // Stays: a record says where the next one begins, and the first that is refused ends the loop.
+    // Stays: a record says where the next one begins. An iterator over them is a struct of the bytes and the place, and its `next` refuses a record that is
+    // cut or has no mark; what the counts refuse would end the loop by `?` as it does now.
     while (at as usize) < bytes.len() {
         c = record_next(bytes, t, room, at, c)?;
         at += 4 + (field::field::get(bytes, (at as usize) + 2) as u32);

@@ -9,47 +9,33 @@ use crate::add::add;
 use crate::ends::ended_at;
 use crate::room::Room;
 use field::refusal::Refusal;
-use module::checks::{fine, over, placed};
-use module::record::{Mark, mark_of};
+use module::checks::placed;
+use module::record::{Record, mark_of};
 use module::tables::Counts;
 
 // The body of a record: 4, then 5.
-fn body_next(
-    bytes: &[u8],
-    t: &mut [u32],
-    seen: &mut [u32],
-    at: u32,
-    mark: Mark,
-    c: Counts,
-) -> Result<Counts, Refusal>
-    requires { Begun bytes.now t.old seen.old c at mark }
-    ensures { Stepped bytes.now t.new seen.new at (body_next bytes.now at mark (reading_of bytes.now t.old c)) result }
+fn body_next(rec: &Record, t: &mut [u32], seen: &mut [u32], c: Counts) -> Result<Counts, Refusal>
+    requires { Begun rec.now.bytes.now t.old seen.old c rec.now.at rec.now.mark }
+    ensures { Stepped rec.now.bytes.now t.new seen.new rec.now.at (body_next rec.now.bytes.now rec.now.at rec.now.mark (reading_of rec.now.bytes.now t.old c)) result }
 {
-    if over(bytes, at, mark, c) {
+    if rec.over(c) {
         return Err(Refusal::ModuleLimit);
     }
-    if fine(bytes, t, seen, at, mark, c) {
-        return Ok(add(bytes, t, at, mark, c));
-    }
-    Err(Refusal::ValueNotAllowed)
+    let Some(()) = rec.fine(t, seen, c) else {
+        return Err(Refusal::ValueNotAllowed);
+    };
+    Ok(add(rec, t, c))
 }
 
 // 3, then (where a function ends) 5, then the body.
-fn mark_next(
-    bytes: &[u8],
-    t: &mut [u32],
-    room: &mut Room,
-    at: u32,
-    mark: Mark,
-    c: Counts,
-) -> Result<Counts, Refusal>
-    requires between { Between bytes.now t.old room.old.seen.now c at }
-    requires at_in_bounds { after bytes.now at ≤ length bytes.now }
-    ensures { Stepped bytes.now t.new room.new.seen.now at (mark_next bytes.now at (some mark) (reading_of bytes.now t.old c)) result }
+fn mark_next(rec: &Record, t: &mut [u32], room: &mut Room, c: Counts) -> Result<Counts, Refusal>
+    requires between { Between rec.now.bytes.now t.old room.old.seen.now c rec.now.at }
+    requires at_in_bounds { after rec.now.bytes.now rec.now.at ≤ length rec.now.bytes.now }
+    ensures { Stepped rec.now.bytes.now t.new room.new.seen.now rec.now.at (mark_next rec.now.bytes.now rec.now.at (some rec.now.mark) (reading_of rec.now.bytes.now t.old c)) result }
 {
-    if placed(mark, c.stage) {
-        let d = ended_at(bytes, t, room.held, mark, c)?;
-        return body_next(bytes, t, room.seen, at, mark, d);
+    if placed(rec.mark, c.stage) {
+        let d = ended_at(rec, t, room.held, c)?;
+        return body_next(rec, t, room.seen, d);
     }
     Err(Refusal::MarkMisplaced)
 }
@@ -76,5 +62,5 @@ pub fn record_next(
     let Some(mark) = mark_of(field::field::get(bytes, at as usize)) else {
         return Err(Refusal::MarkMisplaced);
     };
-    mark_next(bytes, t, room, at, mark, c)
+    mark_next(&Record { bytes, at, mark }, t, room, c)
 }

@@ -1,24 +1,20 @@
--- A request of a module that was read: what its calls ask, and that the text is the definition's. Two bytes that are zero stand for a fresh pruner.
-use Prim.Native.Nat.{ℕ, ◌*◌, ◌-◌, ◌≤◌}
+-- A request of a module that was read: what its walk asks, and that the text is the definition's. Two bytes that are zero stand for a fresh pruner.
+use Prim.Native.Nat.{ℕ}
 use native.Mathlib.Omega.{arith}
 use mathlib.Core.Path.{◌≡◌, ap}
 use mathlib.Core.List.{List, [], ◌∷◌}
-use lib.ListN.{length, take, length-take}
 use Rattle.std.specs.Prelude.{Result, Ok, Err}
-use Rattle.field.specs.Limits.{max_types, min_report}
+use Rattle.field.specs.Limits.{min_report}
 use Rattle.field.specs.declared.refusal.Refusal.{Refusal}
 use Rattle.module.specs.Module.{Module}
 use Rattle.module.specs.Tables.{module_of}
 use Rattle.module.specs.declared.handles.FunctionHandle.{FunctionHandle as Handle}
-use Rattle.valid.proofs.Accepted.{valid}
-use Rattle.context.specs.Types.{type_words, types_of, AllSized}
-use Rattle.type_table.proofs.AllSized.{all_sized}
+use Rattle.context.specs.Types.{types_of}
 use Rattle.request.specs.Fields as reading
 use Rattle.request.specs.Request.{Request, read_request}
 use Rattle.walk.specs.Requests.{Pruner, fresh}
 use Rattle.marks.specs.declared.places.MarkPlaces.{MarkPlaces}
 use Rattle.marks.specs.declared.totals.MarkTotals.{MarkTotals}
-use Rattle.state.specs.Ready.{WasRead}
 use Rattle.pruner.specs.Form.{read_pruner}
 use Rattle.pruner.proofs.Back.{read_pruner-zero}
 use Rattle.requests.specs.Loaded.{Loaded}
@@ -33,23 +29,6 @@ use Rattle.report.specs.declared.outcome.Reported.{Reported}
 -- a pruner of which nothing was asked yet
 abbrev none_yet : List ℕ
 none_yet = 0 ∷ (0 ∷ [])
-
--- what the tables ask
-module _ {bytes t : List ℕ} (R : WasRead bytes t) where
-  abbrev m : Module
-  m = module_of bytes t
-
-  types-few : length (module_of bytes t).types ≤ max_types
-  types-few = (valid bytes m R.module_is).few_types
-
-  pub fill_asks : {l : ℕ} → l ≡ type_words * length (module_of bytes t).types → (l ≡ type_words * length (module_of bytes t).types) × ((l ≤ type_words * max_types) × AllSized (module_of bytes t).types)
-  fill_asks e = (e, (omega (arith, types-few, e), all_sized m (valid bytes m R.module_is)))
-
-  pub rows_end : {n l : ℕ} → n ≡ length (module_of bytes t).types → type_words * max_types ≤ l → type_words * n ≤ l
-  rows_end e h = omega (arith, types-few)
-
-  pub rows_part : {n : ℕ} → n ≡ length (module_of bytes t).types → (table : List ℕ) → type_words * max_types ≤ length table → length (take (type_words * n - 0) table) ≡ type_words * length (module_of bytes t).types
-  rows_part e table h = simp length-take (omega (arith, types-few, e))
 
 -- the request alone can be refused
 with_refused : {n : ℕ} (q : Request) (x : reading.Answer Pruner) (y : Pruner) → x ≡ reading.accepted y → with_totals q x ≡ reading.refused n → ⊥

@@ -17,7 +17,7 @@ use Rattle.request.specs.Request.{read_request}
 use Rattle.reading.specs.Reads.{Reads}
 use Rattle.memory.specs.Layout.{stack_slot}
 use Rattle.marks.specs.declared.places.MarkPlaces.{MarkPlaces}
-use Rattle.state.specs.Ready.{WasRead}
+use Rattle.access.specs.Laid.{WasRead}
 use Rattle.lines.specs.Reported.{report_in, text_in, max_text}
 use Rattle.lines.specs.declared.text.Text.{Text}
 use Rattle.lines.specs.Wrote.{longest, Writes, Begins}

@@ -44,7 +44,7 @@ pub record Asked (bytes t types : List ℕ) (places : MarkPlaces) (s rs open_mar
   pub loaded : Loaded bytes t types places s rs open_marks totals q (fresh (module_of bytes t))
 
 abbrev pub AskedOf : World → Workspace → ℕ → ℕ → Type 0
-AskedOf w m f sum = Asked w.file.now.bytes w.file.now.t w.types.now w.places.now m.parts.cells m.parts.slots m.open m.totals f sum
+AskedOf w m f sum = Asked w.typed.now.file.now.bytes w.typed.now.file.now.t w.typed.now.types.now w.places.now m.parts.cells m.parts.slots m.open m.totals f sum
 
 -- the text is that of whatever request was read and loaded
 pub record Walked (bytes t types : List ℕ) (places : MarkPlaces) (s rs open_marks : List ℕ) (totals : MarkTotals) (f : ℕ) (u us open_after : List ℕ) (r : Result Reported Refusal) : Type 0 where
@@ -53,4 +53,4 @@ pub record Walked (bytes t types : List ℕ) (places : MarkPlaces) (s rs open_ma
       → TextIs (answer_text (module_of bytes t) q (request (module_of bytes t) (fresh (module_of bytes t)) q).0) bytes t asked-bytes places u us open_after r
 
 abbrev pub WalkedOf : World → Workspace → ℕ → List ℕ → List ℕ → List ℕ → Result Reported Refusal → Type 0
-WalkedOf w m f u us open_after r = Walked w.file.now.bytes w.file.now.t w.types.now w.places.now m.parts.cells m.parts.slots m.open m.totals f u us open_after r
+WalkedOf w m f u us open_after r = Walked w.typed.now.file.now.bytes w.typed.now.file.now.t w.typed.now.types.now w.places.now m.parts.cells m.parts.slots m.open m.totals f u us open_after r

@@ -15,13 +15,9 @@ use access::file::File;
 use block::workspace::Workspace;
 use boundary_check::check::read_file;
 use check_text::line::MAX_LINE;
-use field::limits::{MAX_FUNCTIONS, MIN_REPORT};
 use lines::report::MAX_TEXT;
-use marks::places::{MarkPlaces, STARTS};
-use marks::totals::MarkTotals;
-use memory::layout::{CELLS, SLOTS};
-use memory::parts::Parts;
-use module::tables::{MAX_ITEMS, WORDS};
+use marks::places::MarkPlaces;
+use module::tables::WORDS;
 use report_text::split::MAX_INPUT;
 use std::io;
 use std::io::Read;
@@ -45,7 +41,7 @@ fn read_input(reader: &mut impl Read, input: &mut [u8]) -> usize
     ensures prefix_len { result ≡ length (take result input.new) }
 {
     let mut done = 0;
-    // Stays: each read says how far the next begins.
+    // Stays: each read says where the next one begins. An iterator over reads would hold the reader and the slice, and serve this loop alone.
     while done < input.len() {
         let Some(n) = read_some(reader, &mut input[done..]) else {
             break;
@@ -91,21 +87,8 @@ fn answer(
 
 fn report(rt: &impl Print, input: &[u8]) -> io::Result<()> {
     let mut t: [u32; WORDS] = [0; WORDS];
-    let mut places = MarkPlaces {
-        starts: [0; STARTS],
-        firsts: [0; MAX_ITEMS],
-    };
-    let mut space = Workspace {
-        parts: Parts {
-            cells: [0; CELLS],
-            slots: [0; SLOTS],
-        },
-        open: [0; MIN_REPORT],
-        totals: MarkTotals {
-            flags: [false; MAX_FUNCTIONS],
-            marks: [0; MIN_REPORT],
-        },
-    };
+    let mut places = MarkPlaces::new();
+    let mut space = Workspace::new();
     answer(rt, input, &mut t, &mut places, &mut space)
 }
 

@@ -1,10 +1,9 @@
 // From the bytes of an input to the end of the walk of its request.
-ghost use Rattle.std.specs.Prelude.{◌≡◌, ◌*◌, length};
+ghost use Rattle.std.specs.Prelude.{◌≡◌};
 ghost use Rattle.field.specs.Limits.{min_report};
 ghost use Rattle.module.specs.Tables.{module_of};
-ghost use Rattle.context.specs.Types.{type_words};
 ghost use Rattle.request.specs.Request.{read_request};
-ghost use Rattle.state.specs.Ready.{WasRead};
+ghost use Rattle.access.specs.Laid.{WasRead};
 ghost use Rattle.report_text.specs.Split.{module_in, request_in};
 ghost use Rattle.report_text.specs.Input.{request_text};
 ghost use Rattle.report.specs.Outcome.{TextIs, AskedOf, WalkedOf};
@@ -16,14 +15,15 @@ use context::remove::TYPE_WORDS;
 use field::limits::{MAX_TYPES, MIN_REPORT};
 use field::refusal::Refusal;
 use function::add::add_function;
-use marks::places::{MarkPlaces, place_marks};
+use marks::places::MarkPlaces;
 use memory::layout::STACK;
 use module::handles::FunctionHandle;
 use report_text::split::split;
 use requests::begin::begin_request;
-use requests::finish::totals_over;
+use requests::finish::check_totals;
 use state::answer::{Place, Tally};
 use type_table::fill;
+use type_table::typed::TypedFile;
 
 // The asked function, of which memory has a report, and whether it is required.
 #[derive(Clone, Copy)]
@@ -35,7 +35,8 @@ pub struct Reported {
 pub type Outcome = Result<Reported, Refusal>;
 
 // The walk of f, and 16 at its end.
-// Stays: `walk_request` of requests begins with the same call, and `finish_request` with the same test; one function would need a contract between them.
+// Stays: `walk_request` of requests begins with the same call, and `finish_request` with the same test. One `walk_asked` of both would need a contract
+// that hands on what each proves of the ended walk: that memory has a report (`Reporting`, here), and what `FinishingOf` asks (there).
 fn walk_function(world: &World, space: &mut Workspace, f: FunctionHandle, sum: usize) -> Outcome
     requires { AskedOf world.now space.old f.0 sum }
     ensures { WalkedOf world.now space.old f.0 space.new.parts.cells space.new.parts.slots space.new.open result }
@@ -51,9 +52,7 @@ fn walk_function(world: &World, space: &mut Workspace, f: FunctionHandle, sum: u
     ) {
         Err(h) => Err(h.refusal),
         Ok(a) => {
-            if totals_over(world.file, &space.parts, f, a.tally.sum) {
-                return Err(Refusal::PiecesLimit);
-            }
+            check_totals(world.typed.file, &space.parts, f, a.tally.sum)?;
             Ok(Reported {
                 function: f,
                 required: a.required,
@@ -65,20 +64,16 @@ fn walk_function(world: &World, space: &mut Workspace, f: FunctionHandle, sum: u
 // The request of a module that was read, with a row for each type.
 // Stays: boundary's `request_of` makes its world so too. One maker would lend `places` on, which are read after the walk: it takes a clause over that borrow.
 fn walk_request(
-    file: &File,
-    table: &mut [u32],
+    typed: &TypedFile,
     places: &mut MarkPlaces,
     space: &mut Workspace,
     request: &[u8],
 ) -> Outcome
-    requires { WasRead file.now.bytes file.now.t × (length table.old ≡ type_words * length (module_of file.now.bytes file.now.t).types) }
-    ensures { TextIs (request_text (module_of file.now.bytes file.now.t) (read_request (module_of file.now.bytes file.now.t) min_report request.now)) file.now.bytes file.now.t request.now places.new space.new.parts.cells space.new.parts.slots space.new.open result }
+    ensures { TextIs (request_text (module_of typed.now.file.now.bytes typed.now.file.now.t) (read_request (module_of typed.now.file.now.bytes typed.now.file.now.t) min_report request.now)) typed.now.file.now.bytes typed.now.file.now.t request.now places.new space.new.parts.cells space.new.parts.slots space.new.open result }
 {
-    place_marks(file, places);
-    fill(file, table);
+    places.place_marks(typed.file);
     let world = World {
-        file,
-        types: table,
+        typed: &*typed,
         places,
     };
     // a fresh pruner
@@ -98,9 +93,11 @@ pub fn walk_read(
     ensures { TextIs (request_text (module_of file.now.bytes file.now.t) (read_request (module_of file.now.bytes file.now.t) min_report request.now)) file.now.bytes file.now.t request.now places.new space.new.parts.cells space.new.parts.slots space.new.open result }
 {
     let mut table: [u32; TYPE_WORDS * MAX_TYPES] = [0; TYPE_WORDS * MAX_TYPES];
-    let n = file.types() as usize;
-    let e = TYPE_WORDS * n;
-    walk_request(file, &mut table[0..e], places, space, request)
+    let e = TYPE_WORDS * (file.types() as usize);
+    let rows = &mut table[0..e];
+    fill(file, rows);
+    let typed = TypedFile { file, types: rows };
+    walk_request(&typed, places, space, request)
 }
 
 // The module of an input, in front of the request.

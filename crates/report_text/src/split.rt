@@ -14,7 +14,8 @@ pub fn split(input: &[u8]) -> usize
 {
     let n = input.len();
     let mut at = 0;
-    // Stays: a record says where the next one begins.
+    // Stays: a record says where the next begins, so no range counts them. An iterator of records would be a struct with the bytes that are left and a
+    // `next`, whose contract says these three tests and their ends once more; this loop, its one user, would still count the bytes.
     while 4 <= n - at {
         if input[at..].starts_with(b"RQ") {
             return at;

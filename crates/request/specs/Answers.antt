@@ -1,7 +1,7 @@
 -- What the answers of the reading code mean: 01's number, or what was read, by what its pieces mean in the store.
-use Rattle.std.specs.Prelude.{ℕ, ◌+◌, ◌*◌, ◌≤◌, ◌<◌, ◌≡◌, cond, List, length, drop, Option as Maybe, Some, None, Result, Ok, Err}
+use Rattle.std.specs.Prelude.{ℕ, ◌+◌, ◌*◌, ◌≤◌, ◌<◌, ◌≡◌, cond, List, ◌∷◌, length, Option as Maybe, Some, None, Result, Ok, Err}
+use Rattle.std.specs.Borrow.{Bor}
 use Rattle.std.proofs.Math.Option.{Option, some, none as nothing}
-use Rattle.field.specs.Field.{field_at}
 use Rattle.field.specs.Limits.{absent}
 use Rattle.field.specs.Refusal.{number}
 use Rattle.field.specs.declared.refusal.Refusal.{Refusal}
@@ -13,44 +13,39 @@ use Rattle.request.specs.Fields.{fields, Read, malformed, got, Answer, refused, 
 use Rattle.request.specs.Request.{Request as Asking, asking, all_below}
 use Rattle.request.specs.declared.requests.Request.{Request as Asked}
 
--- the fields of b from the byte `at` on
-abbrev pub from : List ℕ → ℕ → List ℕ
-from b at = fields (drop at b)
-
--- the field i stands at the byte `at`
-pub record Field (b : List ℕ) (at i : ℕ) : Type 0 where
-  pub inside : at + 2 ≤ length b
-  pub is : i ≡ field_at b at
+-- the bytes b begin with the field i, and c are the bytes that are left
+pub record Field (b : List ℕ) (i : ℕ) (c : List ℕ) : Type 0 where
+  pub is : fields b ≡ i ∷ fields c
+  pub left : 2 + length c ≡ length b
 
 -- the answer of `field`
-abbrev pub FieldRead : (b : List ℕ) → ℕ → Maybe ℕ → Type 0
-FieldRead b at None = length b < at + 2
-FieldRead b at (Some i) = Field b at i
+abbrev pub FieldRead : (b : List ℕ) → Maybe (ℕ × Bor (List ℕ)) → Type 0
+FieldRead b None = length b < 2
+FieldRead b (Some p) = Field b p.0 p.1.now
 
--- Room in the store s for what the bytes of b from `at` on can say: an entry has at least four bytes, and takes a cell, of fewer than eight words.
-abbrev pub RoomFor : (s b : List ℕ) → ℕ → Type 0
-RoomFor s b at = cell_words * top s + table_words + 2 * length b ≤ length s + 2 * at
+-- Room in the store s for what the bytes of b can say: an entry has at least four bytes, and takes a cell, of fewer than eight words.
+abbrev pub RoomFor : (s b : List ℕ) → Type 0
+RoomFor s b = cell_words * top s + table_words + 2 * length b ≤ length s
 
--- between the bytes `at` and `next` of b, t has a cell more than s for every four bytes at most
-pub record Spent (s t b : List ℕ) (at next : ℕ) : Type 0 where
-  pub further : at ≤ next
-  pub inside : next ≤ length b
-  pub cost : 4 * top t + at ≤ 4 * top s + next
+-- Of b the bytes c are left: of those between, but for k, t has a cell more than s for every four at most.
+pub record Spent (s t b : List ℕ) (k : ℕ) (c : List ℕ) : Type 0 where
+  pub further : k + length c ≤ length b
+  pub cost : 4 * top t + (k + length c) ≤ 4 * top s + length b
 
 -- the answer of `read_part`
-abbrev pub part_read : (t b : List ℕ) → Maybe (ℕ × ℕ) → Read PartReq
-part_read t b None = malformed
-part_read t b (Some p) = got (part t p.0) (from b p.1)
+abbrev pub part_read : (t : List ℕ) → Maybe (ℕ × Bor (List ℕ)) → Read PartReq
+part_read t None = malformed
+part_read t (Some p) = got (part t p.0) (fields p.1.now)
 
-abbrev pub PartPlaced : (s t b : List ℕ) → ℕ → Maybe (ℕ × ℕ) → Type 0
-PartPlaced s t b at None = Unit {0}
-PartPlaced s t b at (Some p) = (p.0 < top t) × Spent s t b at p.1
+abbrev pub PartPlaced : (s t b : List ℕ) → ℕ → Maybe (ℕ × Bor (List ℕ)) → Type 0
+PartPlaced s t b k None = Unit {0}
+PartPlaced s t b k (Some p) = (p.0 < top t) × Spent s t b k p.1.now
 
--- from the store s, t was left, and the answer says r
-pub record PartWasRead (s t b : List ℕ) (at : ℕ) (r : Read PartReq) (a : Maybe (ℕ × ℕ)) : Type 0 where
+-- from the store s, t was left, and the answer says r; but for k bytes
+pub record PartWasRead (s t b : List ℕ) (k : ℕ) (r : Read PartReq) (a : Maybe (ℕ × Bor (List ℕ))) : Type 0 where
   pub kept : Kept s t
-  pub is : part_read t b a ≡ r
-  pub placed : PartPlaced s t b at a
+  pub is : part_read t a ≡ r
+  pub placed : PartPlaced s t b k a
 
 -- a piece that may be nothing
 abbrev pub optional : List ℕ → Maybe ℕ → Option PartReq
@@ -62,18 +57,18 @@ Held t None = Unit {0}
 Held t (Some n) = n < top t
 
 -- the answer of `read_return` and of `read_variables`
-abbrev pub option_read : (t b : List ℕ) → Maybe (Maybe ℕ × ℕ) → Read (Option PartReq)
-option_read t b None = malformed
-option_read t b (Some p) = got (optional t p.0) (from b p.1)
+abbrev pub option_read : (t : List ℕ) → Maybe (Maybe ℕ × Bor (List ℕ)) → Read (Option PartReq)
+option_read t None = malformed
+option_read t (Some p) = got (optional t p.0) (fields p.1.now)
 
-abbrev pub OptionPlaced : (s t b : List ℕ) → ℕ → Maybe (Maybe ℕ × ℕ) → Type 0
-OptionPlaced s t b at None = Unit {0}
-OptionPlaced s t b at (Some p) = Held t p.0 × Spent s t b at p.1
+abbrev pub OptionPlaced : (s t b : List ℕ) → Maybe (Maybe ℕ × Bor (List ℕ)) → Type 0
+OptionPlaced s t b None = Unit {0}
+OptionPlaced s t b (Some p) = Held t p.0 × Spent s t b 0 p.1.now
 
-pub record OptionWasRead (s t b : List ℕ) (at : ℕ) (r : Read (Option PartReq)) (a : Maybe (Maybe ℕ × ℕ)) : Type 0 where
+pub record OptionWasRead (s t b : List ℕ) (r : Read (Option PartReq)) (a : Maybe (Maybe ℕ × Bor (List ℕ))) : Type 0 where
   pub kept : Kept s t
-  pub is : option_read t b a ≡ r
-  pub placed : OptionPlaced s t b at a
+  pub is : option_read t a ≡ r
+  pub placed : OptionPlaced s t b a
 
 -- a list of variables, or nothing where one of them is not below `limit`
 unfoldable pub sorted : (limit : ℕ) → Read PartReq → Read (Option PartReq)

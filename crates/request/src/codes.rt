@@ -1,5 +1,4 @@
 // The code of a part, and the index of an entry.
-ghost use Rattle.std.specs.Prelude.{◌≤◌, length};
 ghost use Rattle.request.specs.Codes.{CodeWasRead, IndexWasRead};
 
 use crate::record::field;
@@ -23,36 +22,35 @@ pub enum Code {
     Entries(usize),
 }
 
-// The code of a part at most `depth` deep, with the count of its entries.
-pub fn part_code(bytes: &[u8], at: usize, depth: usize) -> Option<Code>
-    requires { at ≤ length bytes.now }
-    ensures { CodeWasRead bytes.now at depth result }
+// The code of a part at most `depth` deep, with the count of its entries, and the bytes behind it.
+pub fn part_code(bytes: &[u8], depth: usize) -> Option<(Code, &[u8])>
+    ensures { CodeWasRead bytes.now depth result }
 {
-    let code = field(bytes, at)?;
+    let (code, rest) = field(bytes)?;
     if code == ALL_CODE {
-        return Some(Code::All);
+        return Some((Code::All, rest));
     }
     if code == EXIST_CODE {
-        return Some(Code::Exist);
+        return Some((Code::Exist, rest));
     }
     if code != ENTRIES_CODE || depth == 0 {
         return None;
     }
-    let count = field(bytes, at + 2)? as usize;
-    if MAX_ENTRIES < count {
+    let (count, entries) = field(rest)?;
+    if MAX_ENTRIES < count as usize {
         return None;
     }
-    Some(Code::Entries(count))
+    Some((Code::Entries(count as usize), entries))
 }
 
-// The index of an entry: none is below `low`, and none is absent.
-pub fn entry_index(bytes: &[u8], at: usize, low: u32) -> Option<u32>
-    requires { at ≤ length bytes.now }
-    ensures { IndexWasRead bytes.now at low result }
+// The index of an entry, and the bytes behind it: none is below `low`, and none is absent.
+pub fn entry_index(bytes: &[u8], low: u32) -> Option<(u32, &[u8])>
+    ensures { IndexWasRead bytes.now low result }
 {
-    let i = field(bytes, at)? as u32;
+    let (i, rest) = field(bytes)?;
+    let i = i as u32;
     if i < low || i >= ABSENT as u32 {
         return None;
     }
-    Some(i)
+    Some((i, rest))
 }

@@ -1,27 +1,23 @@
-// The frame of a record, and where its fields end.
-ghost use Rattle.std.specs.Prelude.{◌≡◌, ◌+◌, ◌≤◌, ltb, length};
+// The frame of a record, and its fields, which are read from the bytes that are left of it.
+ghost use Rattle.std.specs.Prelude.{◌≡◌, ◌≤◌, ltb, length};
 ghost use Rattle.request.specs.Fields.{framed};
 ghost use Rattle.request.specs.Answers.{FieldRead};
 
-use field::field::read;
-
-// Whether no field is left at the byte `at`.
-pub fn ends(bytes: &[u8], at: usize) -> bool
-    requires { at ≤ length bytes.now }
-    ensures { result ≡ ltb (length bytes.now) (at + 2) }
+// Whether no field is left.
+pub fn ends(bytes: &[u8]) -> bool
+    ensures { result ≡ ltb (length bytes.now) 2 }
 {
-    bytes.len() - at < 2
+    bytes.len() < 2
 }
 
-// The field at the byte `at`, where one is left.
-pub fn field(bytes: &[u8], at: usize) -> Option<u16>
-    requires { at ≤ length bytes.now }
-    ensures { FieldRead bytes.now at result }
+// The first field, where one is left, and the bytes behind it.
+pub fn field(bytes: &[u8]) -> Option<(u16, &[u8])>
+    ensures { FieldRead bytes.now result }
 {
-    if ends(bytes, at) {
+    let [low, high, rest @ ..] = bytes else {
         return None;
-    }
-    Some(read(bytes, at))
+    };
+    Some((u16::from_le_bytes([*low, *high]), rest))
 }
 
 // Whether the bytes are one record with the mark a, b, whose header has `head` bytes and says that the body has `long`.

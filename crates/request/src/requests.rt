@@ -1,9 +1,10 @@
 // Requests: 12 of the whole, then 11, then 18.
-ghost use Rattle.std.specs.Prelude.{◌≡◌, ◌-◌, ◌≤◌, length};
+ghost use Rattle.std.specs.Prelude.{◌≡◌, ◌≤◌, length};
 ghost use Rattle.field.specs.Limits.{absent};
 ghost use Rattle.part.specs.Store.{Good};
+ghost use Rattle.request.specs.Fields.{fields};
 ghost use Rattle.request.specs.Request.{is_request, judge, request_of, finish};
-ghost use Rattle.request.specs.Answers.{from, optional, Held, RoomFor, RequestWasRead};
+ghost use Rattle.request.specs.Answers.{optional, Held, RoomFor, RequestWasRead};
 
 use crate::lists::{read_return, read_variables};
 use crate::record::{ends, field, is_record};
@@ -26,11 +27,10 @@ fn is_request(bytes: &[u8]) -> bool
     bytes.len() >= 4 && is_record(bytes, b'R', b'Q', 4, read(bytes, 2) as usize)
 }
 
-// The globals of a request for `function` and `retval`, from the byte `at` on, and what they answer.
+// The globals of a request for `function` and `retval`, with which it ends, and what they answer.
 fn read_globals(
     cells: &mut [u32],
     bytes: &[u8],
-    at: usize,
     function: FunctionHandle,
     retval: Option<u32>,
     functions: u32,
@@ -38,12 +38,12 @@ fn read_globals(
     report: usize,
 ) -> Result<Request, Refusal>
     requires good { Good cells.old }
-    requires at_in_bounds { (at ≤ length bytes.now) × RoomFor cells.old bytes.now at }
+    requires room { RoomFor cells.old bytes.now }
     requires globals_le_absent { (globals ≤ absent) × Held cells.old retval }
-    ensures { RequestWasRead cells.old cells.new (length bytes.now - at) (finish functions globals report function.0 (optional cells.old retval) (from bytes.now at)) result }
+    ensures { RequestWasRead cells.old cells.new (length bytes.now) (finish functions globals report function.0 (optional cells.old retval) (fields bytes.now)) result }
 {
-    let (o, end) = read_variables(cells, bytes, at, globals).ok_or(Refusal::Malformed)?;
-    if !ends(bytes, end) {
+    let (o, end) = read_variables(cells, bytes, globals).ok_or(Refusal::Malformed)?;
+    if !ends(end) {
         return Err(Refusal::Malformed);
     }
     let g = o.ok_or(Refusal::NoSuch)?;
@@ -69,17 +69,17 @@ pub fn read_request(
     report: usize,
 ) -> Result<Request, Refusal>
     requires good { Good cells.old }
-    requires globals_le_absent { (globals ≤ absent) × RoomFor cells.old bytes.now 0 }
+    requires globals_le_absent { (globals ≤ absent) × RoomFor cells.old bytes.now }
     ensures { RequestWasRead cells.old cells.new (length bytes.now) (judge functions globals report (request_of bytes.now)) result }
 {
     if !is_request(bytes) {
         return Err(Refusal::Malformed);
     }
-    let f = field(bytes, 4).ok_or(Refusal::Malformed)?;
+    let (f, rest) = field(&bytes[4..]).ok_or(Refusal::Malformed)?;
     if f >= ABSENT {
         return Err(Refusal::Malformed);
     }
-    let (p, next) = read_return(cells, bytes, 6).ok_or(Refusal::Malformed)?;
+    let (p, list) = read_return(cells, rest).ok_or(Refusal::Malformed)?;
     let function = FunctionHandle(f as u32);
-    read_globals(cells, bytes, next, function, p, functions, globals, report)
+    read_globals(cells, list, function, p, functions, globals, report)
 }

@@ -80,7 +80,7 @@ fresh_slot {s} {rs} E k l =
     ]
 
 module _ {s rs : List ℕ} (E : Empty s rs) (request : List ℕ) (functions globals report : ℕ) (short : length request ≤ 4 + absent) where
-  pub reading_room : cell_words * top s + table_words + 2 * length request ≤ length s + 2 * 0
+  pub reading_room : cell_words * top s + table_words + 2 * length request ≤ length s
   reading_room = omega (arith, E.few, E.memory.fits)
 
   module _ {t : List ℕ} {a : Result declared.Request Refusal} (W : RequestWasRead s t (length request) (judge functions globals report (request_of request)) a) where

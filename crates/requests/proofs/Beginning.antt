@@ -2,11 +2,10 @@
 use Prim.Native.Nat.{ℕ, ◌+◌, ◌-◌, ◌*◌, ◌<◌, ◌≤◌}
 use native.Mathlib.Omega.{arith}
 use mathlib.Core.Path.{◌≡◌, ap, ◌∙◌}
-use mathlib.Core.Bool.{Bool, true, false}
 use mathlib.Core.List.{List}
 use mathlib.Core.Option.{Option}
 use lib.ListN.{length, get_or, replicate}
-use Rattle.std.specs.Prelude.{Result, Ok, Err}
+use Rattle.std.specs.Prelude.{⊤, Option as Maybe, Some, None, Result, Ok, Err}
 use Rattle.field.specs.Refusal.{number}
 use Rattle.field.specs.declared.refusal.Refusal.{Refusal}
 use Rattle.field.specs.declared.refusal.Refusal.TheVariants.{PrunerUnfit}
@@ -31,7 +30,7 @@ use Rattle.marks.specs.declared.totals.MarkTotals.{MarkTotals}
 use Rattle.marks.specs.Places.{Places, Inside, start_in, size_in}
 use Rattle.marks.proofs.Buffers.{all_inside, cleared_own}
 use Rattle.marks.proofs.Write.{write_long}
-use Rattle.state.specs.Ready.{WasRead}
+use Rattle.access.specs.Laid.{WasRead}
 use Rattle.state.specs.State.{totals_sum}
 use Rattle.block.specs.declared.world.World.{World}
 use Rattle.block.specs.declared.workspace.Workspace.{Workspace}
@@ -63,17 +62,17 @@ same_judge : {n g functions globals : ℕ} → n ≡ functions → g ≡ globals
 same_judge a b report o e = rw (← a, ← b) e
 
 -- tables of a module that was read, and buffers that are long enough
-pub record Beginning (bytes t : List ℕ) (places : MarkPlaces) (s rs open_marks : List ℕ) (totals : MarkTotals) : Type 0 where
+pub record Beginning (bytes t : List ℕ) (places : MarkPlaces) (open_marks : List ℕ) : Type 0 where
   pub was_read : WasRead bytes t
   pub placed : Places bytes t places
   pub open_long : min_report ≤ length open_marks
 
 -- a world and a workspace have them
 pub beginning_of : (w : World) (m : Workspace) → min_report ≤ length m.open →
-    Beginning w.file.now.bytes w.file.now.t w.places.now m.parts.cells m.parts.slots m.open m.totals
-beginning_of w m a = record { was_read = w.was_read; placed = w.placed; open_long = a }
+    Beginning w.typed.now.file.now.bytes w.typed.now.file.now.t w.places.now m.open
+beginning_of w m a = record { was_read = w.typed.now.was_read; placed = w.placed; open_long = a }
 
-module _ {bytes t : List ℕ} {places : MarkPlaces} {s rs open_marks : List ℕ} {totals : MarkTotals} (B : Beginning bytes t places s rs open_marks totals) where
+module _ {bytes t : List ℕ} {places : MarkPlaces} {open_marks : List ℕ} (B : Beginning bytes t places open_marks) where
   abbrev m : Module
   m = module_of bytes t
 
@@ -83,9 +82,9 @@ module _ {bytes t : List ℕ} {places : MarkPlaces} {s rs open_marks : List ℕ}
   module _ (report : ℕ) (request pruner : List ℕ) {n g : ℕ} (functions : n ≡ length (module_of bytes t).functions) (globals : g ≡ length (module_of bytes t).globals) {u us : List ℕ} {a : Result Handle Refusal}
       (L : RequestLoaded n g report request u us a) where
     -- the request is refused
-    pub begins_refused : {e : Refusal} → a ≡ Err e → Begins bytes t places report request pruner u us open_marks totals (Err e)
+    pub begins_refused : {totals : MarkTotals} {e : Refusal} → a ≡ Err e → Begins bytes t places report request pruner u us open_marks totals (Err e)
     unfolding after_request
-    begins_refused {e} z =
+    begins_refused {e = e} z =
         let there : read_request m report request ≡ reading.refused (number e) = same_judge functions globals report (request_of request) (rw z at L.by) in
         record { by = rw there }
 
@@ -102,7 +101,7 @@ module _ {bytes t : List ℕ} {places : MarkPlaces} {s rs open_marks : List ℕ}
       is_read : read_request m report request ≡ reading.accepted q
       is_read = same_judge functions globals report (request_of request) stands.is
 
-      pub has_totals : HasTotals bytes t places u us totals
+      pub has_totals : HasTotals bytes t places u us
       has_totals = record { was_read = B.was_read; placed = B.placed; memory = S.memory }
 
       pub untold : Untold u us
@@ -112,15 +111,15 @@ module _ {bytes t : List ℕ} {places : MarkPlaces} {s rs open_marks : List ℕ}
         room = omega (arith, S.cost, S.memory.fits);
       }
 
-      module _ {v vs : List ℕ} {after : MarkTotals} {r : Bool} (P : PrunerWasRead bytes t u us totals pruner v vs after r) where
+      module _ {v vs : List ℕ} {after : MarkTotals} {r : Maybe ⊤} (P : PrunerWasRead bytes t u us pruner v vs after r) where
         -- the totals are refused
-        pub begins_19 : r ≡ false → Begins bytes t places report request pruner v vs open_marks after (Err PrunerUnfit)
+        pub begins_19 : r ≡ None → Begins bytes t places report request pruner v vs open_marks after (Err PrunerUnfit)
         unfolding after_request with_totals
         begins_19 z =
             let is : read_pruner m pruner ≡ reading.refused 19 = rw z at P.by in
             record { by = rw (is_read, is) }
 
-        module _ (z : r ≡ true) where
+        module _ {ok : ⊤} (z : r ≡ Some ok) where
           told : PrunerIs bytes t u us pruner v vs after
           told = rw z at P.by
 

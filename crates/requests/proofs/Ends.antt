@@ -1,7 +1,7 @@
 -- The walk of the asked function has ended: 16 is asked of the totals, and the request answers as the definition says, by the state that the memory has.
 use Prim.Native.Nat.{ℕ, ◌+◌, ◌<◌, ◌≤◌}
 use native.Mathlib.Omega.{arith}
-use mathlib.Core.Path.{◌≡◌, refl, sym, ap, ◌∙◌}
+use mathlib.Core.Path.{◌≡◌, refl, ap}
 use mathlib.Core.Bool.{Bool, true, false, cond}
 use mathlib.Core.List.{List}
 use lib.Dec.{ltb}
@@ -24,13 +24,6 @@ use Rattle.block.specs.Functions.{FunctionEnded}
 -- the walk that a request is, up to 16 at its end
 abbrev pub walks : (bytes t : List ℕ) → Pruner → Request → Out Bool
 walks bytes t pruner q = add_function (module_of bytes t) q.function nowhere 0 q.globals (return_entry q.retval) (begun pruner)
-
--- what the code asks of 16
-pub are_over : {b : Bool} {n : ℕ} → b ≡ ltb max_pieces n → b ≡ true → max_pieces < n
-are_over {b} {n} e z = ltb-true max_pieces n (sym e ∙ z)
-
-pub not_over : {b : Bool} {n : ℕ} → b ≡ ltb max_pieces n → b ≡ false → n ≤ max_pieces
-not_over {b} {n} e z = ltb-false max_pieces n (sym e ∙ z)
 
 module _ (bytes t : List ℕ) (pruner : Pruner) (q : Request) where
   -- it was refused on the way

@@ -98,7 +98,7 @@ module _ {bytes t types : List ℕ} {places : MarkPlaces} {s rs open_marks : Lis
   fine_pruner : FinePruner m (pruner_in bytes t s rs totals)
   fine_pruner = record { globals = S.proper.globals; functions = S.proper.functions }
 
-  has_totals : HasTotals bytes t places s rs totals
+  has_totals : HasTotals bytes t places s rs
   has_totals = record { was_read = S.ready.was_read; placed = S.placed; memory = S.ready.memory }
 
   answering : Answering t s rs f at
@@ -137,7 +137,7 @@ module _ {bytes t : List ℕ} {places : MarkPlaces} {s rs open_marks : List ℕ}
       rw e (all_inside bytes t places S.ready.was_read S.placed min_report (le_refl min_report), S.open_long, few_functions S, F.report_long)
 
   pub finish_pruner : {own : ℕ} → own ≡ own_in t s rs f → sum - own ≤ max_pieces
-      → HasTotals bytes t places s rs totals × ((min_pruner ≤ length pruner) × (length (write_pruner (pruner_in bytes t s rs totals)) ≤ min_pruner))
+      → HasTotals bytes t places s rs × ((min_pruner ≤ length pruner) × (length (write_pruner (pruner_in bytes t s rs totals)) ≤ min_pruner))
   finish_pruner e l =
       let S = F.ended.standing in
       let few : pruner_pieces (pruner_in bytes t s rs totals) ≤ max_pieces = omega (arith, own-pieces S, S.ready.sums, S.totals-sum) in

@@ -2,6 +2,7 @@ pub mod Sequence
 pub mod Answers
 pub mod Basing
 pub mod Beginning
+pub mod Rows
 pub mod Ends
 pub mod Begins
 pub mod Few

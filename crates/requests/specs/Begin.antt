@@ -112,4 +112,4 @@ pub record Begins (bytes t : List ℕ) (places : MarkPlaces) (report : ℕ) (req
   pub by : BeginsBy bytes t places report request pruner s rs open_marks totals r
 
 abbrev pub BeginsOf : World → (report : ℕ) → (request pruner : List ℕ) → Workspace → Result Begun Refusal → Type 0
-BeginsOf w report request pruner m r = Begins w.file.now.bytes w.file.now.t w.places.now report request pruner m.parts.cells m.parts.slots m.open m.totals r
+BeginsOf w report request pruner m r = Begins w.typed.now.file.now.bytes w.typed.now.file.now.t w.places.now report request pruner m.parts.cells m.parts.slots m.open m.totals r

@@ -1,7 +1,9 @@
 -- How a request ends, in memory: what is asked of the walk that has ended and of the lent buffers, and what is heard and left.
-use Rattle.std.specs.Prelude.{◌≡◌, Bool, List, ℕ, ◌≤◌, length, Result, Ok, Err}
-use Rattle.field.specs.Limits.{min_report}
+use Rattle.std.specs.Prelude.{◌≡◌, ⊤, Bool, List, ℕ, ◌<◌, ◌≤◌, length, Result, Ok, Err}
+use Rattle.field.specs.Limits.{min_report, max_pieces}
 use Rattle.field.specs.Refusal.{number}
+use Rattle.field.specs.declared.refusal.Refusal.{Refusal}
+use Rattle.field.specs.declared.refusal.Refusal.TheVariants.{PiecesLimit}
 use Rattle.module.specs.Module.{FunctionHandle}
 use Rattle.module.specs.Tables.{module_of}
 use Rattle.request.specs.Request.{Request}
@@ -20,6 +22,11 @@ use Rattle.block.specs.declared.workspace.Workspace.{Workspace}
 use Rattle.pruner.specs.Form.{min_pruner}
 use Rattle.requests.specs.Answer.{min_answer}
 use Rattle.requests.specs.Serve.{Reply, visited, refused_at, finish}
+
+-- 16 refuses n pieces, or allows them
+abbrev pub TotalsChecked : ℕ → Result ⊤ Refusal → Type 0
+TotalsChecked n (Err e) = (e ≡ PiecesLimit) × (max_pieces < n)
+TotalsChecked n (Ok u) = n ≤ max_pieces
 
 -- the reply that the code gives
 abbrev pub reply_of : Result ℕ Halt → Reply
@@ -40,7 +47,7 @@ pub record Finishing (bytes t : List ℕ) (places : MarkPlaces) (s rs open_marks
   pub answer_long : min_answer ≤ length answer
 
 abbrev pub FinishingOf : World → Workspace → FunctionHandle → (base : ℕ) → Answer → (pruner report answer : List ℕ) → Type 0
-FinishingOf w m f base a pruner report answer = Finishing w.file.now.bytes w.file.now.t w.places.now m.parts.cells m.parts.slots m.open m.totals f base a.required a.tally.visits a.tally.sum pruner report answer
+FinishingOf w m f base a pruner report answer = Finishing w.typed.now.file.now.bytes w.typed.now.file.now.t w.places.now m.parts.cells m.parts.slots m.open m.totals f base a.required a.tally.visits a.tally.sum pruner report answer
 
 -- Where that walk was the one of a request, the reply and the buffers are the definition's.
 pub record Finished (bytes t : List ℕ) (places : MarkPlaces) (s rs open_marks : List ℕ) (totals : MarkTotals) (f : FunctionHandle) (base : ℕ) (required : Bool) (visits sum : ℕ) (pruner report answer : List ℕ) (r : Result ℕ Halt)
@@ -50,4 +57,4 @@ pub record Finished (bytes t : List ℕ) (places : MarkPlaces) (s rs open_marks 
       → (reply_of r, record { pruner = pruner-after; report = report-after; answer = answer-after }) ≡ finish (record { pruner = pruner; report = report; answer = answer }) (request (module_of bytes t) old q)
 
 abbrev pub FinishedOf : World → Workspace → FunctionHandle → (base : ℕ) → Answer → (pruner report answer : List ℕ) → Result ℕ Halt → (pruner-after report-after answer-after : List ℕ) → Type 0
-FinishedOf w m f base a pruner report answer r pruner-after report-after answer-after = Finished w.file.now.bytes w.file.now.t w.places.now m.parts.cells m.parts.slots m.open m.totals f base a.required a.tally.visits a.tally.sum pruner report answer r pruner-after report-after answer-after
+FinishedOf w m f base a pruner report answer r pruner-after report-after answer-after = Finished w.typed.now.file.now.bytes w.typed.now.file.now.t w.places.now m.parts.cells m.parts.slots m.open m.totals f base a.required a.tally.visits a.tally.sum pruner report answer r pruner-after report-after answer-after

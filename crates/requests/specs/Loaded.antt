@@ -18,7 +18,7 @@ use Rattle.marks.specs.declared.totals.MarkTotals.{MarkTotals}
 use Rattle.marks.specs.Places.{slice, start_of, Places}
 use Rattle.marks.specs.Report.{has_total}
 use Rattle.state.specs.State.{records_in, totals_sum}
-use Rattle.state.specs.Ready.{WasRead}
+use Rattle.access.specs.Laid.{WasRead}
 use Rattle.block.specs.Standing.{functions_in}
 use Rattle.block.specs.Blocks.{context_in}
 use Rattle.pruner.specs.Form.{pruner_pieces}

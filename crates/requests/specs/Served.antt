@@ -27,7 +27,7 @@ pub record Walking (bytes t types : List ℕ) (places : MarkPlaces) (s rs open_m
   pub answer_long : min_answer ≤ length answer
 
 abbrev pub WalkingOf : World → Workspace → ℕ → ℕ → List ℕ → List ℕ → List ℕ → Type 0
-WalkingOf w m f sum pruner report answer = Walking w.file.now.bytes w.file.now.t w.types.now w.places.now m.parts.cells m.parts.slots m.open m.totals f sum pruner report answer
+WalkingOf w m f sum pruner report answer = Walking w.typed.now.file.now.bytes w.typed.now.file.now.t w.typed.now.types.now w.places.now m.parts.cells m.parts.slots m.open m.totals f sum pruner report answer
 
 -- the reply and the buffers are those of whatever request was loaded
 pub record Walked (bytes t types : List ℕ) (places : MarkPlaces) (s rs open_marks : List ℕ) (totals : MarkTotals) (f sum : ℕ) (pruner report answer : List ℕ) (r : Result ℕ Halt) (pruner-after report-after answer-after : List ℕ) : Type 0 where
@@ -35,10 +35,10 @@ pub record Walked (bytes t types : List ℕ) (places : MarkPlaces) (s rs open_ma
       → (reply_of r, record { pruner = pruner-after; report = report-after; answer = answer-after }) ≡ finish (record { pruner = pruner; report = report; answer = answer }) (request (module_of bytes t) old q)
 
 abbrev pub WalkedOf : World → Workspace → ℕ → ℕ → List ℕ → List ℕ → List ℕ → Result ℕ Halt → List ℕ → List ℕ → List ℕ → Type 0
-WalkedOf w m f sum pruner report answer r pruner-after report-after answer-after = Walked w.file.now.bytes w.file.now.t w.types.now w.places.now m.parts.cells m.parts.slots m.open m.totals f sum pruner report answer r pruner-after report-after answer-after
+WalkedOf w m f sum pruner report answer r pruner-after report-after answer-after = Walked w.typed.now.file.now.bytes w.typed.now.file.now.t w.typed.now.types.now w.places.now m.parts.cells m.parts.slots m.open m.totals f sum pruner report answer r pruner-after report-after answer-after
 
 pub record Served (bytes t bytes-asked pruner report answer : List ℕ) (r : Result ℕ Halt) (pruner-after report-after answer-after : List ℕ) : Type 0 where
   pub is : (reply_of r, record { pruner = pruner-after; report = report-after; answer = answer-after }) ≡ serve_read (module_of bytes t) bytes-asked (record { pruner = pruner; report = report; answer = answer })
 
 abbrev pub ServedOf : World → List ℕ → List ℕ → List ℕ → List ℕ → Result ℕ Halt → List ℕ → List ℕ → List ℕ → Type 0
-ServedOf w asked pruner report answer r pruner-after report-after answer-after = Served w.file.now.bytes w.file.now.t asked pruner report answer r pruner-after report-after answer-after
+ServedOf w asked pruner report answer r pruner-after report-after answer-after = Served w.typed.now.file.now.bytes w.typed.now.file.now.t asked pruner report answer r pruner-after report-after answer-after

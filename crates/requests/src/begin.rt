@@ -92,15 +92,13 @@ pub fn begin_request(
 ) -> Result<Begun, Refusal>
     ensures { BeginsOf world.now report request.now pruner.now space.new result }
 {
-    let file = world.file;
+    let file = world.typed.file;
     let places = world.places;
     let parts = &mut space.parts;
     let open = &mut space.open;
     let totals = &mut space.totals;
     let function = load_request(parts, request, file.functions(), file.globals(), report)?;
-    if !read_pruner(file, places, parts, totals, pruner) {
-        return Err(Refusal::PrunerUnfit);
-    }
+    read_pruner(file, places, parts, totals, pruner).ok_or(Refusal::PrunerUnfit)?;
     clear_marks(open, places, function);
     tidy(parts);
     let sum = weigh_totals(parts);

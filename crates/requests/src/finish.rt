@@ -1,10 +1,9 @@
 // How a request ends: 16 is asked of the totals alone, and then the three lent buffers are written.
-ghost use Rattle.std.specs.Prelude.{◌≡◌, ◌-◌, ◌≤◌, ltb};
-ghost use Rattle.field.specs.Limits.{max_pieces};
+ghost use Rattle.std.specs.Prelude.{◌-◌, ◌≤◌};
 ghost use Rattle.part.specs.StoreLimits.{entries_cap};
 ghost use Rattle.memory.specs.Memory.{Memory};
 ghost use Rattle.leave.specs.Leave.{Placed, own_in};
-ghost use Rattle.requests.specs.Finish.{FinishingOf, FinishedOf};
+ghost use Rattle.requests.specs.Finish.{TotalsChecked, FinishingOf, FinishedOf};
 
 use crate::answer::write_answer;
 use access::file::File;
@@ -22,14 +21,22 @@ use state::answer::{Answer, Halt, Tally};
 // What a caller hears: the visits, or why the request is refused, and where.
 pub type Reply = Result<usize, Halt>;
 
-// Whether 16 refuses a walk of f that has ended, by its totals alone: the records of f are not counted.
-pub fn totals_over(file: &File, parts: &Parts, f: FunctionHandle, sum: usize) -> bool
+// 16, where a walk of f that has ended passes it by its totals alone: the records of f are not counted.
+pub fn check_totals(
+    file: &File,
+    parts: &Parts,
+    f: FunctionHandle,
+    sum: usize,
+) -> Result<(), Refusal>
     requires memory { Memory parts.now.cells parts.now.slots × Placed file.now.t parts.now.slots f.0 }
     requires own_bound { (own_in file.now.t parts.now.cells parts.now.slots f.0 ≤ entries_cap) × (own_in file.now.t parts.now.cells parts.now.slots f.0 ≤ sum) }
-    ensures { result ≡ ltb max_pieces (sum - own_in file.now.t parts.now.cells parts.now.slots f.0) }
+    ensures { TotalsChecked (sum - own_in file.now.t parts.now.cells parts.now.slots f.0) result }
 {
     let own = own_pieces(file, parts, f);
-    MAX_PIECES < sum - own
+    if MAX_PIECES < sum - own {
+        return Err(Refusal::PiecesLimit);
+    }
+    Ok(())
 }
 
 // The walk of f has ended, with its context behind the base.
@@ -48,13 +55,11 @@ pub fn finish_request(
 {
     let Answer { tally, required } = walked;
     let Tally { visits, sum } = tally;
-    let file = world.file;
+    let file = world.typed.file;
     let places = world.places;
     let parts = &space.parts;
     let totals = &space.totals;
-    if totals_over(file, parts, f, sum) {
-        return Err(Refusal::PiecesLimit.into());
-    }
+    check_totals(file, parts, f, sum)?;
     let n = file.functions() as usize;
     write_report(report, places, &space.open, totals, f, n);
     write_pruner(file, places, parts, totals, pruner);

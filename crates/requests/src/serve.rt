@@ -6,12 +6,9 @@ use crate::begin::begin_request;
 use crate::finish::{Reply, finish_request};
 use block::workspace::Workspace;
 use block::world::World;
-use field::limits::{MAX_FUNCTIONS, MIN_REPORT};
 use field::refusal::Refusal;
 use function::add::add_function;
-use marks::totals::MarkTotals;
-use memory::layout::{CELLS, SLOTS, STACK};
-use memory::parts::Parts;
+use memory::layout::STACK;
 use module::handles::FunctionHandle;
 use pruner::frame::MIN_PRUNER;
 use state::answer::{Place, Tally};
@@ -80,16 +77,6 @@ pub fn serve_read(
 ) -> Reply
     ensures { ServedOf world.now request.now pruner.old report.old answer.old result pruner.new report.new answer.new }
 {
-    let mut space = Workspace {
-        parts: Parts {
-            cells: [0; CELLS],
-            slots: [0; SLOTS],
-        },
-        open: [0; MIN_REPORT],
-        totals: MarkTotals {
-            flags: [false; MAX_FUNCTIONS],
-            marks: [0; MIN_REPORT],
-        },
-    };
+    let mut space = Workspace::new();
     serve_in(world, &mut space, request, pruner, report, answer)
 }

@@ -9,7 +9,8 @@ use lib.Seq.{get_or-set_same, get_or-set_other}
 use Rattle.part.specs.PartReq.{none, entries}
 use Rattle.part.specs.Store.{top, part, Made}
 use Rattle.part.proofs.Pieces.{part-2}
-use Rattle.module.specs.Tables.{function_of}
+use Rattle.module.specs.Tables.{function_of, module_of}
+use Rattle.context.specs.Types.{types_of}
 use Rattle.clearance.specs.Shape.{trim}
 use Rattle.clearance.specs.Scope.{Scope, result_shape}
 use Rattle.clearance.specs.Needs.{next, reentry}
@@ -104,7 +105,7 @@ module _ {S : Scope} (R : Request) {s rs ws : List ℕ} {v e : ℕ} (live : Live
     short = omega arith;
   }
 
-module _ {bytes t types s rs : List ℕ} {g v : ℕ} (f : ℕ) (a : Asked bytes t types s rs g v) where
+module _ (bytes t types : List ℕ) (f : ℕ) {s rs : List ℕ} {g v : ℕ} (same : (module_of bytes t).types ≡ types_of types) (a : Asked s rs g v) where
   abbrev S : Scope
   S = scope_at bytes t f
 
@@ -141,7 +142,7 @@ module _ {bytes t types s rs : List ℕ} {g v : ℕ} (f : ℕ) (a : Asked bytes 
 
       begun_end : part w y ≡ ending S R next
       unfolding ending
-      begun_end = n.is ∙ ap (trim_globals bytes t types) globals_same ∙ sym (ending_is bytes t types f a.same (part s g))
+      begun_end = n.is ∙ ap (trim_globals bytes t types) globals_same ∙ sym (ending_is bytes t types f same (part s g))
 
       asked_need : IsNeed (result_shape S S.function.result) (asked_of (setting S R))
       unfolding asked_of

@@ -4,9 +4,8 @@ use Rattle.std.proofs.Math.Option.{some}
 use Rattle.part.specs.PartReq.{is_all, entries}
 use Rattle.part.specs.StoreLimits.{cell_words, table_words}
 use Rattle.part.specs.Store.{top, part, Good}
-use Rattle.module.specs.Tables.{function_of, module_of}
+use Rattle.module.specs.Tables.{function_of}
 use Rattle.context.specs.RequiredContext.{RequiredContext}
-use Rattle.context.specs.Types.{types_of}
 use Rattle.request.specs.Context.{context_of}
 use Rattle.clearance.specs.Scope.{Scope}
 use Rattle.clearance.specs.Tree.{Tree}
@@ -15,7 +14,6 @@ use Rattle.clearance.specs.Verdict.{Request, Answer, setting, ending}
 use Rattle.clearance.specs.IsNeed.{AscendingRequest}
 use Rattle.pass.specs.Pass.{work_bound, Carried, on}
 use Rattle.pass.specs.Checked.{asked_of, pass_once, answer_of}
-use Rattle.judge.specs.Alike.{Lower}
 use Rattle.judge.specs.Given.{scope_at}
 use Rattle.hold.specs.Hold.{slack, in_slot}
 use Rattle.standing.specs.Slots.{table_size, asked_slot, end_slot, stack_slot, Ready}
@@ -43,9 +41,7 @@ pub record Cleared (rs us : List ℕ) : Type 0 where
   pub others : (j : ℕ) → asked_slot ≤ j → get_or us j 0 ≡ get_or rs j 0
 
 -- what is asked stands in a store with room for it once more, trimmed
-pub record Asked (bytes t types s rs : List ℕ) (g v : ℕ) : Type 0 where
-  pub same : (module_of bytes t).types ≡ types_of types
-  pub lower : Lower (types_of types)
+pub record Asked (s rs : List ℕ) (g v : ℕ) : Type 0 where
   pub good : Good s
   pub there : (g < top s) × (v < top s)
   pub long : cell_words * (3 + (work_bound + slack)) + table_words ≤ length s

@@ -54,7 +54,7 @@ fn answer(cells: &[u32], n: u32, q: Passing, context: &[u8]) -> Verdict
         return Verdict::Refused(Refusal::PiecesLimit);
     }
     if let Some(s) = q.fault {
-        return Verdict::Statement(s as u32);
+        return Verdict::Statement(s);
     }
     if context_covers(cells, n, context) {
         return Verdict::Clear;
@@ -95,12 +95,6 @@ pub fn settle(
     requires { SettlingOf marked.now parts.old.cells parts.old.slots path.old asked }
     ensures { Settled (scope_of marked.now.subject.now) (asked_by parts.old.cells asked.globals asked.value) marked.now.marks.now context.now (said result) }
 {
-    begin(
-        marked.subject.file,
-        marked.subject.f,
-        marked.subject.types,
-        parts,
-        asked,
-    );
+    begin(marked.subject, parts, asked);
     settle_rounds(marked, parts, path, context)
 }

@@ -5,9 +5,9 @@ use mathlib.Core.List.{List, [], ◌∷◌}
 use Prim.Native.Nat.{ℕ, zero, suc, ◌+◌, ◌<◌, ◌≤◌}
 use native.Mathlib.Omega.{arith}
 use lib.Dec.{leb, ltb, eqb}
-use borrow.Author.Tests.{ltb-true, leb-true}
+use borrow.Author.Tests.{ltb-true, leb-true, le-ltb}
 use Rattle.field.specs.Limits.{absent, max_depth, max_entries}
-use Rattle.part.specs.PartReq.{PartReq, all, exist, none, more, depth, width, spine}
+use Rattle.part.specs.PartReq.{PartReq, all, exist, none, more, over, depth, width, spine}
 use Rattle.part.specs.Ascending.{Ascending, From}
 use Rattle.part.specs.Limited.{Plain, widest}
 use Rattle.part.proofs.Sizes.{not_over}
@@ -156,3 +156,13 @@ variables_there n k b exist t h = h
 variables_there n k b none t h = tt
 variables_there n k b (more i p r) t h =
     (h.0, ltb-true i (variable n) (and_left (ltb i (variable n)) (all_below (variable n) r) t), h.2, variables_there n (suc i) b r (and_right (ltb i (variable n)) (all_below (variable n) r) t) h.3)
+
+-- lists of variables pass no limit of their own
+pub variables_within : (n k : ℕ) (q : PartReq) → spine ≤ k → VariablesFrom n k q → over q ≡ false
+unfolding over
+variables_within n k all l h = absurd h
+variables_within n k exist l h = absurd h
+variables_within n k none l h = refl
+variables_within n k (more i p r) l h =
+    let high : spine ≤ i = omega (arith, h.0) in
+    rw (h.2.within, variables_within n (suc i) r (omega arith) h.3, le-ltb i spine high)

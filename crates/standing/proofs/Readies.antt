@@ -12,7 +12,7 @@ use Rattle.part.specs.Store.{top, part}
 use Rattle.clearance.specs.Scope.{Scope}
 use Rattle.framed.specs.Kept.{Kept}
 use Rattle.hold.specs.Hold.{in_slot, Live, Pushed}
-use Rattle.standing.specs.Slots.{asked_slot, stack_slot, Ready}
+use Rattle.standing.specs.Slots.{asked_slot, Ready}
 
 -- a slot after a store to another, and to itself
 pub slot_other : (s rs : List ℕ) (i j a : ℕ) → (j ≡ i → ⊥) → in_slot s (set rs i a) j ≡ in_slot s rs j

@@ -4,7 +4,7 @@
 // A stretch of a pass gives none where the bound was passed.
 #[derive(Clone, Copy)]
 pub struct Passing {
-    pub fault: Option<u16>,
+    pub fault: Option<u32>,
     pub held: bool,
     pub deep: bool,
     pub wide: bool,

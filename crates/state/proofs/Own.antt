@@ -20,7 +20,7 @@ use Rattle.memory.proofs.Slots.{read_at, sum_outside, sum_set, slot_low}
 use Rattle.memory.proofs.Records.{records_outside, records_set, records_pieces, record_present}
 use Rattle.memory.proofs.Runs.{context_pieces}
 use Rattle.state.specs.State.{Rest, records_in, totals_sum, state_of, sum_in}
-use Rattle.state.specs.Ready.{WasRead}
+use Rattle.access.specs.Laid.{WasRead}
 
 -- the slot of the record of e
 abbrev pub record_slot : List ℕ → FunctionHandle → ExpressionHandle → ℕ

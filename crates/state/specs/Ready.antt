@@ -6,9 +6,8 @@ use Rattle.part.specs.PartReq.{none}
 use Rattle.part.specs.Store.{Room}
 use Rattle.part.specs.StoreLimits.{entries_cap}
 use Rattle.module.specs.Module.{FunctionHandle}
-use Rattle.module.specs.File.{read_module, accepted}
 use Rattle.module.specs.Tables.{row_at, expressions_from, module_of}
-use Rattle.access.specs.Laid.{Laid}
+use Rattle.access.specs.Laid.{WasRead}
 use Rattle.context.specs.RequiredContext.{pieces}
 use Rattle.walk.specs.State.{Out, went, halt}
 use Rattle.memory.specs.Layout.{globals_slot, exprs_slot, stack_slot, room}
@@ -16,11 +15,6 @@ use Rattle.memory.specs.Memory.{read, counted, context_at, Memory}
 use Rattle.state.specs.declared.answer.Tally.{Tally}
 use Rattle.state.specs.declared.answer.Halt.{Halt}
 use Rattle.state.specs.State.{Rest, state_of, sum_in, place_of}
-
--- the module was read
-pub record WasRead (bytes t : List ℕ) : Type 0 where
-  pub module_is : read_module bytes ≡ accepted (module_of bytes t)
-  pub laid : Laid t
 
 -- The function f is open, with its current context in the slots from `at` on. `sum` is what records and totals count for; what else the slots have,
 -- `held` counts.

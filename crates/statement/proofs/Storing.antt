@@ -10,7 +10,6 @@ use Rattle.part.specs.Store.{top, part}
 use Rattle.part.specs.Found.{Got}
 use Rattle.module.specs.Module.{Module, ExpressionHandle}
 use Rattle.module.specs.Tables.{module_of}
-use Rattle.context.specs.Types.{types_of}
 use Rattle.context.specs.RequiredContext.{VarRef, remove_var}
 use Rattle.context.specs.Contexts.{variable_of}
 use Rattle.sound.proofs.Walks.{module_sound}
@@ -70,14 +69,13 @@ module _ {bytes t s rs : List ℕ} {fr : declared.Frame} {e : ℕ} (q : Aiming b
       needed : (n < top u) × (store_required (context_at (read s rs) fr.at) (variable_of y.var) (part u y.part) ≡ there (part u n))
       needed = subst (Got u (store_required (context_at (read s rs) fr.at) (variable_of y.var) (part u y.part))) z aimed.needs
 
-      pub store_takes : {types : List ℕ} → types_of types ≡ (module_of bytes t).types → Taking bytes t types u rs fr y n
-      store_takes typed =
+      pub store_takes : Taking bytes t u rs fr y n
+      store_takes =
           let fine =
           need_fine (module_of bytes t) (module_sound bytes (module_of bytes t) q.begun.ready.was_read.module_is) fr.function.0 (context_at (read s rs) fr.at) (variable_of y.var) (part u y.part) u n q.begun.fine needed in
           record {
             sum = q.sum;
             ready = kept_ready q.begun.ready x.kept;
-            typed = typed;
             has = aimed.has;
             short = aimed.few;
             piece = needed.0;

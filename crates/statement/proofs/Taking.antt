@@ -53,7 +53,7 @@ module _ (fr : Frame) (st : State) where
   unfolding taken_out limited_context
   taken_left c o = rw o
 
-module _ {bytes t types s rs : List ℕ} {fr : declared.Frame} {x : Target} {n : ℕ} (q : Taking bytes t types s rs fr x n) where
+module _ {bytes t s rs : List ℕ} {fr : declared.Frame} {x : Target} {n : ℕ} (q : Taking bytes t s rs fr x n) where
   abbrev before : RequiredContext
   before = context_at (read s rs) fr.at
 

@@ -19,7 +19,7 @@ use Rattle.walk.specs.Resolve.{function_at}
 use Rattle.walk.specs.Marks.{statement_at}
 use Rattle.walk.proofs.Keeps.{Needs}
 use Rattle.state.specs.declared.frame.Frame.{Frame}
-use Rattle.state.specs.Ready.{WasRead}
+use Rattle.access.specs.Laid.{WasRead}
 use Rattle.statement.specs.Leaf.{Arm}
 
 -- the statement n of f, by its row

@@ -6,7 +6,7 @@ use Rattle.part.specs.PartReq.{PartReq, exist, entries, over}
 use Rattle.part.specs.Store.{top, part, Room}
 use Rattle.module.specs.Module.{ExpressionHandle}
 use Rattle.module.specs.Tables.{module_of}
-use Rattle.context.specs.Types.{types_of, split_most}
+use Rattle.context.specs.Types.{split_most}
 use Rattle.context.specs.RequiredContext.{pieces, remove_var}
 use Rattle.context.specs.Contexts.{variable_of}
 use Rattle.walk.specs.State.{State, went, halt, Walk, ◌>>◌}
@@ -23,10 +23,9 @@ use Rattle.target.specs.Target.{HasTarget}
 use Rattle.target.specs.declared.resolve.Target.{Target}
 
 -- the target x, of which the piece n is needed, can be taken out of the context
-pub record Taking (bytes t types s rs : List ℕ) (fr : Frame) (x : Target) (n : ℕ) : Type 0 where
+pub record Taking (bytes t s rs : List ℕ) (fr : Frame) (x : Target) (n : ℕ) : Type 0 where
   pub sum : ℕ
   pub ready : Ready bytes t s rs fr.function.0 fr.at fr.held sum
-  pub typed : types_of types ≡ (module_of bytes t).types
   pub has : HasTarget (module_of bytes t) fr.function.0 s x
   pub short : entries (part s x.part) ≤ max_depth
   pub piece : n < top s

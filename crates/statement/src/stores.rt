@@ -1,9 +1,7 @@
 // `Store` and `ImageStore`.
 ghost use Rattle.std.specs.Prelude.{◌≡◌};
 ghost use Rattle.module.specs.Decode.{statement_of};
-ghost use Rattle.module.specs.Tables.{module_of};
 ghost use Rattle.access.specs.Access.{operand_at};
-ghost use Rattle.context.specs.Types.{types_of};
 ghost use Rattle.statement.specs.Leaf.{Arm, Leaves};
 ghost use Rattle.statement.specs.Fields.{StoreKind, fields_of, store_fields, Fielding, Fielded};
 
@@ -17,6 +15,7 @@ use module::handles::ExpressionHandle;
 use module::kinds::StatementKind;
 use state::answer::{Answer, Answered, Tally, Walked};
 use state::frame::Frame;
+use type_table::typed::TypedFile;
 
 // The fields of a store: coordinate and array index are an image's, absent where it is none.
 #[derive(Clone, Copy)]
@@ -61,20 +60,19 @@ fn ask_fields(file: &File, parts: &mut Parts, fr: Frame, x: Fields, tally: Tally
 
 // A store of which nothing is needed is not required.
 pub fn add_store(
-    file: &File,
-    types: &[u32],
+    typed: &TypedFile,
     parts: &mut Parts,
     fr: Frame,
     row: Kinded,
     tally: Tally,
 ) -> Answered
-    requires arm { Arm file.now.bytes file.now.t parts.old.cells parts.old.slots fr row tally.sum }
-    requires types_value { types_of types.now ≡ (module_of file.now.bytes file.now.t).types }
+    requires arm { Arm typed.now.file.now.bytes typed.now.file.now.t parts.old.cells parts.old.slots fr row tally.sum }
     requires store_kind { StoreKind row.kind }
-    ensures { Leaves file.now.bytes file.now.t parts.old.cells parts.old.slots fr (statement_of row.kind (operand_at file.now.bytes row)) tally.visits result parts.new.cells parts.new.slots }
+    ensures { Leaves typed.now.file.now.bytes typed.now.file.now.t parts.old.cells parts.old.slots fr (statement_of row.kind (operand_at typed.now.file.now.bytes row)) tally.visits result parts.new.cells parts.new.slots }
 {
+    let file = typed.file;
     let x = store_fields(file, row);
-    let needed = store(file, types, parts, fr, x.pointer)?;
+    let needed = store(typed, parts, fr, x.pointer)?;
     if !needed {
         return Ok(Answer {
             tally,

@@ -7,13 +7,12 @@ ghost use Rattle.judge.specs.Subject.{scope_of, function_in};
 
 use crate::blocks::strays;
 use crate::lower::lower_of;
-use judge::statements::unfit_statement;
 use judge::subject::Subject;
 
 // A statement that does not fit, or leaves where it is not allowed, whatever the marks.
 pub fn blamed_statement(subject: &Subject) -> Option<u32>
     ensures { (marks : List ℕ) → blamed result ≡ blamed_statement (scope_of subject.now) (body_tree (function_in subject.now) marks) }
 {
-    let unfit = unfit_statement(subject);
+    let unfit = subject.unfit_statement();
     lower_of(unfit, strays(subject.file, subject.f))
 }

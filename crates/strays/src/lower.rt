@@ -4,7 +4,8 @@ ghost use Rattle.clearance.specs.Judged.{unless, lower, lowest};
 ghost use Rattle.judge.specs.Blamed.{blamed};
 ghost use Rattle.strays.specs.Lower.{lower_of};
 
-fn lower_at(n: u32, low: Option<u32>) -> Option<u32>
+// What `low` comes to by n.
+pub fn lower_at(n: u32, low: Option<u32>) -> Option<u32>
     ensures { blamed result ≡ lower n (blamed low) }
 {
     match low {

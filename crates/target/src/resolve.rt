@@ -35,7 +35,8 @@ pub fn resolve_var(
 {
     let mut x = e;
     let mut p = ALL_PIECE;
-    // Stays: a pointer names the next, below it, and its kind ends the loop; a `for` would count expressions, and still need an answer behind it.
+    // Stays: a pointer names the next, below it, and its kind ends the loop. An iterator would match on the kind to know whether there is a next, and the
+    // loop once more for the part and the variable; a `for` would count expressions, and still need an answer behind it.
     loop {
         let row = file.expression(f, x);
         match ExpressionKind::try_from(row.kind) {

@@ -4,7 +4,6 @@ ghost use Rattle.checking.specs.Check.{check};
 ghost use Rattle.checking.specs.Word.{check_word};
 
 use boundary_check::check::check_any;
-use memory::layout::{CELLS, SLOTS};
 use memory::parts::Parts;
 use module::tables::WORDS;
 
@@ -19,9 +18,6 @@ pub extern "C" fn tickingtor_check(
     ensures { result ≡ check_word (check bytes.now request.now report.now context.now) }
 {
     let mut t: [u32; WORDS] = [0; WORDS];
-    let mut parts = Parts {
-        cells: [0; CELLS],
-        slots: [0; SLOTS],
-    };
+    let mut parts = Parts::new();
     u64::from(check_any(bytes, &mut t, &mut parts, request, report, context))
 }

@@ -10,15 +10,17 @@ use access::file::File;
 use context::remove::TYPE_WORDS;
 use module::handles::TypeHandle;
 
+pub mod typed;
+
 pub fn fill(file: &File, table: &mut [u32])
     requires table_len { length table.old ≡ type_words * length (module_of file.now.bytes file.now.t).types }
     requires table_len_bound { length table.old ≤ type_words * max_types }
     requires all_sized { AllSized (module_of file.now.bytes file.now.t).types }
     ensures { types_of table.new ≡ (module_of file.now.bytes file.now.t).types }
 {
-    for i in 0..table.len() {
+    for (i, word) in table.iter_mut().enumerate() {
         let row = (i / TYPE_WORDS) as u32;
-        let word = (i % TYPE_WORDS) as u32;
-        table[i] = file.type_field(TypeHandle(row), word) as u32;
+        let field = (i % TYPE_WORDS) as u32;
+        *word = file.type_field(TypeHandle(row), field) as u32;
     }
 }

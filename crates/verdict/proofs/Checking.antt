@@ -36,7 +36,7 @@ use Rattle.judge.specs.Given.{scope_at}
 use Rattle.judge.proofs.PathSteps.{function_valid, few}
 use Rattle.framed.proofs.Given.{read_function, judged_function, statements-fit}
 use Rattle.memory.specs.Layout.{store_size, slot_count}
-use Rattle.state.specs.Ready.{WasRead}
+use Rattle.access.specs.Laid.{WasRead}
 use Rattle.standing.specs.Slots.{stack_slot}
 use Rattle.standing.specs.World.{World}
 use Rattle.checking.specs.Check.{scope_of, value_of, cut_short, on_buffer, meaning_by, answer_to}

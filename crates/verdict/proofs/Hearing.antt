@@ -11,7 +11,7 @@ use Rattle.field.specs.Limits.{absent, min_report}
 use Rattle.field.specs.Field.{field_at}
 use Rattle.part.specs.PartReq.{PartReq, entries}
 use Rattle.part.specs.StoreLimits.{cell_words, table_words}
-use Rattle.part.specs.Store.{top, part, Good}
+use Rattle.part.specs.Store.{part, Good}
 use Rattle.part.proofs.Pieces.{part-2}
 use Rattle.part.proofs.Equations.{never}
 use Rattle.module.specs.Module.{Module}
@@ -22,7 +22,7 @@ use Rattle.context.specs.RequiredContext.{RequiredContext, pieces, return_entry}
 use Rattle.request.specs.Fields.{refused, accepted}
 use Rattle.request.specs.Request.{Request, asking, request_of, known, judge}
 use Rattle.request.specs.Context.{context_of, known_context, judge_context, read_context}
-use Rattle.request.specs.Answers.{optional, RequestHeld}
+use Rattle.request.specs.Answers.{optional}
 use Rattle.std.specs.Prelude.{Option as Maybe, Some, None, Result, Ok, Err, unwrap_or}
 use Rattle.field.specs.Refusal.{number}
 use Rattle.field.specs.declared.refusal.Refusal.{Refusal}
@@ -41,7 +41,7 @@ use Rattle.checking.specs.Check as check
 use Rattle.valid.specs.There.{There}
 use Rattle.checking.proofs.Meaning as meaning
 use Rattle.rounds.specs.Settling.{asked_by}
-use Rattle.verdict.specs.Heard.{Store, Pieces, Loaded, ValuePiece, refused_first, Accepted, Hears}
+use Rattle.verdict.specs.Heard.{Store, Loaded, ValuePiece, refused_first, Accepted, Hears}
 
 -- the piece of the value
 pub value_piece : (o : Maybe ℕ) → ValuePiece o (unwrap_or o 2)
@@ -81,7 +81,7 @@ status_is {bytes} {t} {f} context T hg ha hl e = rw (function_is bytes t f _ T.t
 pub loaded_long : {s : List ℕ} {e : Refusal} (functions globals : ℕ) (request : List ℕ) → Good s → (number e ≡ 12) × (4 + field_at request 2 < length request) → Loaded functions globals request s (Err e)
 loaded_long functions globals request G h = record { good = G; is = rw h.0 (sym (long_refused functions globals min_report request h.1)); pieces = tt }
 
-pub reading_room : {s : List ℕ} (request : List ℕ) {k : ℕ} → k ≡ length s → Store s → length request ≤ 4 + absent → {n : ℕ} → n ≡ 3 → cell_words * n + table_words + 2 * length request ≤ k + 2 * 0
+pub reading_room : {s : List ℕ} (request : List ℕ) {k : ℕ} → k ≡ length s → Store s → length request ≤ 4 + absent → {n : ℕ} → n ≡ 3 → cell_words * n + table_words + 2 * length request ≤ k
 reading_room request e S h z = omega (arith, S.long)
 
 -- What the request's answer says of it

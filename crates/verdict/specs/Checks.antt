@@ -5,7 +5,7 @@ use Rattle.module.specs.Module.{Module}
 use Rattle.module.specs.Tables.{module_of}
 use Rattle.context.specs.RequiredContext.{RequiredContext}
 use Rattle.request.specs.Context.{context_of}
-use Rattle.state.specs.Ready.{WasRead}
+use Rattle.access.specs.Laid.{WasRead}
 use Rattle.clearance.specs.Judged.{blamed_expression, blamed_statement}
 use Rattle.clearance.specs.Verdict.{Answer, body}
 use Rattle.pass.specs.Checked.{judge_by}

@@ -6,7 +6,7 @@ ghost use Rattle.request.specs.Request.{request_of};
 ghost use Rattle.request.specs.Context.{context_of};
 ghost use Rattle.checking.specs.Check.{meaning_by, answer_to};
 ghost use Rattle.checking.specs.Word.{said};
-ghost use Rattle.state.specs.Ready.{WasRead};
+ghost use Rattle.access.specs.Laid.{WasRead};
 
 use crate::scratch::{PATH, Scratch};
 use crate::verdict::check_read;
@@ -16,6 +16,8 @@ use context::remove::TYPE_WORDS;
 use field::limits::{MAX_EXPRESSIONS, MAX_STATEMENTS, MAX_TYPES};
 use memory::parts::Parts;
 
+// Stays: `WasRead` in `requires`, here and in check_read and hear: see marks' place_marks. Written as a struct of the file with it, the three clauses went for a
+// struct, two literals and a lemma for each, twelve lines more.
 // A walk's memory, of whatever contents, is room for the check.
 pub fn check_in(
     file: &File,

@@ -7,7 +7,7 @@ ghost use Rattle.request.specs.Context.{read_context, context_of};
 ghost use Rattle.walk.specs.Resolve.{function_at};
 ghost use Rattle.context_bytes.specs.Checked.{status, status_of};
 ghost use Rattle.valid.specs.There.{There};
-ghost use Rattle.state.specs.Ready.{WasRead};
+ghost use Rattle.access.specs.Laid.{WasRead};
 ghost use Rattle.verdict.specs.Heard.{Store, Loaded, ValuePiece, refused_first, Hears};
 
 use access::file::File;

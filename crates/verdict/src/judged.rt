@@ -4,7 +4,6 @@ ghost use Rattle.judge.specs.Unsized.{UnsizedTable};
 ghost use Rattle.verdict.specs.Tables.{JudgesOf};
 
 use checking::words::Verdict;
-use judge::expressions::blamed_expression;
 use judge::subject::Subject;
 use strays::blame::blamed_statement;
 
@@ -13,7 +12,7 @@ pub fn unjudged(subject: &Subject, held: &[bool]) -> Option<Verdict>
     requires { UnsizedTable (types_of subject.now.types.now) held.now }
     ensures { JudgesOf subject.now result }
 {
-    if let Some(e) = blamed_expression(subject, held) {
+    if let Some(e) = subject.blamed_expression(held) {
         return Some(Verdict::UnjudgedExpression(e));
     }
     let s = blamed_statement(subject)?;

@@ -5,7 +5,7 @@ ghost use Rattle.request.specs.Request.{request_of};
 ghost use Rattle.request.specs.Context.{context_of};
 ghost use Rattle.checking.specs.Check.{meaning_by, answer_to};
 ghost use Rattle.checking.specs.Word.{said};
-ghost use Rattle.state.specs.Ready.{WasRead};
+ghost use Rattle.access.specs.Laid.{WasRead};
 ghost use Rattle.verdict.specs.Checks.{Asked, MarksChecked, ReportChecked};
 
 use crate::heard::{Heard, hear};

@@ -5,29 +5,29 @@ use Rattle.acts.proofs.Emit.{path_room, lent-long, emit-take, emit-full, operand
 use native.Mathlib.Omega.{arith}
 use Rattle.acts.proofs.emits.act_emit.Goals as goal
 
-pub returns-then-not-is_some : goal.returns-then-not-is_some
-returns-then-not-is_some c =
-    acted_none c.requires.act_given.ready c.emit_overlap-a.ensures c.is_some.ensures c.if-not-is_some.true
+pub returns-in_default : goal.returns-in_default
+returns-in_default c =
+    acted_none c.requires.act_given.ready c.emit_overlap.ensures c.in_default.is
 
 pub take_out-requires : goal.take_out-requires
 take_out-requires c =
-    emit-take c.requires.act_given c.requires.e_in_bounds (needs_some c.emit_overlap-a.ensures c.is_some.ensures c.if-not-is_some.false) c.emit_overlap-a.ensures c.evaluated_path.ensures.is
+    emit-take c.requires.act_given c.requires.e_in_bounds (needs_some c.emit_overlap.ensures c.in-Some.is) c.emit_overlap.ensures c.in-Some.is c.evaluated_path.ensures.is
 
 pub returns-in_err-take_out : goal.returns-in_err-take_out
 returns-in_err-take_out c =
     rw c.from_residual.ensures
-    (record { step = emit-full c.requires.act_given c.requires.e_in_bounds (needs_some c.emit_overlap-a.ensures c.is_some.ensures c.if-not-is_some.false) c.evaluated_path.ensures.is c.in_err-take_out.ensures refl; long = c.evaluated_path.ensures.long ∙ c.emit_overlap-a.ensures.long })
+    (record { step = emit-full c.requires.act_given c.requires.e_in_bounds (needs_some c.emit_overlap.ensures c.in-Some.is) c.evaluated_path.ensures.is c.in_err-take_out.ensures refl; long = c.evaluated_path.ensures.long ∙ c.emit_overlap.ensures.long })
 
 pub ask_operands-requires : goal.ask_operands-requires
 ask_operands-requires c =
-    let given = operands_given c.requires.act_given c.requires.e_in_bounds (needs_some c.emit_overlap-a.ensures c.is_some.ensures c.if-not-is_some.false) c.evaluated_path.ensures.is c.in_ok-take_out.ensures refl in
-    record { operands_given = given; path_room = path_room given _ (omega (arith, c.requires.act_given.room, c.evaluated_path.ensures.long, c.emit_overlap-a.ensures.long)) _ c.expressions.ensures }
+    let given = operands_given c.requires.act_given c.requires.e_in_bounds (needs_some c.emit_overlap.ensures c.in-Some.is) c.evaluated_path.ensures.is c.in_ok-take_out.ensures refl in
+    record { operands_given = given; path_room = path_room given _ (omega (arith, c.requires.act_given.room, c.evaluated_path.ensures.long, c.emit_overlap.ensures.long)) _ c.expressions.ensures }
 
 pub returns-in_err-ask_operands : goal.returns-in_err-ask_operands
 returns-in_err-ask_operands c =
     rw c.from_residual-in_err-ask_operands.ensures
-    (record { step = operands_full c.requires.act_given c.requires.e_in_bounds (needs_some c.emit_overlap-a.ensures c.is_some.ensures c.if-not-is_some.false) c.evaluated_path.ensures.is c.in_ok-take_out.ensures refl c.in_err-ask_operands.ensures refl; long = lent-long _ _ _ _ c.ask_operands.auto.path (c.evaluated_path.ensures.long ∙ c.emit_overlap-a.ensures.long) })
+    (record { step = operands_full c.requires.act_given c.requires.e_in_bounds (needs_some c.emit_overlap.ensures c.in-Some.is) c.evaluated_path.ensures.is c.in_ok-take_out.ensures refl c.in_err-ask_operands.ensures refl; long = lent-long _ _ _ _ c.ask_operands.auto.path (c.evaluated_path.ensures.long ∙ c.emit_overlap.ensures.long) })
 
 pub returns : goal.returns
 returns c =
-    record { step = emit-left c.requires.act_given c.requires.e_in_bounds (needs_some c.emit_overlap-a.ensures c.is_some.ensures c.if-not-is_some.false) c.evaluated_path.ensures.is c.in_ok-take_out.ensures refl c.in_ok-ask_operands.ensures refl c.copy.ensures; long = lent-long _ _ _ _ c.ask_operands.auto.path (c.evaluated_path.ensures.long ∙ c.emit_overlap-a.ensures.long) }
+    record { step = emit-left c.requires.act_given c.requires.e_in_bounds (needs_some c.emit_overlap.ensures c.in-Some.is) c.evaluated_path.ensures.is c.in_ok-take_out.ensures refl c.in_ok-ask_operands.ensures refl c.copy.ensures; long = lent-long _ _ _ _ c.ask_operands.auto.path (c.evaluated_path.ensures.long ∙ c.emit_overlap.ensures.long) }

@@ -13,9 +13,13 @@ returns-in_err-act_store c =
     rw c.from_residual.ensures
     (marked_full c.requires.pass_given.ready _ c.in_err-act_store.ensures c.if-marked.true refl refl)
 
+pub invariant_of-pointer : goal.invariant_of-pointer
+invariant_of-pointer c =
+    record { pointer = store_pointer (here_given c.requires.pass_given) c.requires.store_of }
+
 pub store_idle-requires : goal.store_idle-requires
 store_idle-requires c =
-    record { needing = hand_needing c.requires.pass_given; pointer = store_pointer (here_given c.requires.pass_given) c.requires.store_of; f_in_bounds = c.requires.pass_given.room }
+    record { needing = hand_needing c.requires.pass_given; same_function = refl; f_in_bounds = c.requires.pass_given.room }
 
 pub returns-then-store_idle : goal.returns-then-store_idle
 returns-then-store_idle c =

@@ -1,4 +1,7 @@
 -- `arms::loops::end_pass` meets its contract.
+use mathlib.Core.Path.{refl, ap}
+use Rattle.std.specs.Option.{is_none}
+use Rattle.request.proofs.Ways.{refuses}
 use Rattle.state.proofs.Ends.{passed}
 use Rattle.arms.proofs.Passes.{pass_halts, pass_join, pass_limit, pass_tidy, pass_went}
 use Rattle.arms.proofs.loops.end_pass.Goals as goal
@@ -8,13 +11,13 @@ join-requires c =
     let q9 = pass_join c.requires c.ask_break_if.ensures c.in_ok-tally.was in
     record { memory = q9.0; stack_slot_le_k = q9.1.0; room = q9.1.1 }
 
-pub returns-then-join : goal.returns-then-join
-returns-then-join c =
-    rw c.halt.ensures (pass_limit c.requires c.ask_break_if.ensures c.in_ok-tally.was c.join.ensures c.if-join.true)
+pub returns-in_err-ok_or : goal.returns-in_err-ok_or
+returns-in_err-ok_or c =
+    rw (refuses _ c.from_residual-in_err-ok_or.ensures.1 c.in_err-ok_or.ensures.value refl, c.halt.ensures) (pass_limit c.requires c.ask_break_if.ensures c.in_ok-tally.was c.join.ensures (ap is_none c.in_err-ok_or.ensures.ok_part))
 
 pub tidy-requires : goal.tidy-requires
 tidy-requires c =
-    let q9 = pass_tidy c.requires c.ask_break_if.ensures c.in_ok-tally.was c.join.ensures c.if-join.false in
+    let q9 = pass_tidy c.requires c.ask_break_if.ensures c.in_ok-tally.was c.join.ensures (ap is_none c.in_ok-ok_or.ensures.ok_part) in
     record { memory = q9.0; slots_bound = q9.1 }
 
 pub returns-in_err-tally : goal.returns-in_err-tally
@@ -23,4 +26,4 @@ returns-in_err-tally c =
 
 pub returns : goal.returns
 returns c =
-    pass_went c.requires c.ask_break_if.ensures c.in_ok-tally.was c.join.ensures c.if-join.false c.tidy.ensures
+    pass_went c.requires c.ask_break_if.ensures c.in_ok-tally.was c.join.ensures (ap is_none c.in_ok-ok_or.ensures.ok_part) c.tidy.ensures

@@ -1,13 +1,14 @@
 -- `arms::loops::end_turn` meets its contract.
+use Rattle.std.proofs.Common.{rules}
 use Rattle.arms.proofs.Turned.{turn_limit, turn_tidy, turn_contained, turn_grown}
 use Rattle.arms.proofs.loops.end_turn.Goals as goal
 
-pub returns-then-join : goal.returns-then-join
-returns-then-join c = turn_limit c.requires c.join.ensures c.if-join.true
+pub returns-then-is_none : goal.returns-then-is_none
+returns-then-is_none c = turn_limit c.requires c.join.ensures (search rules)
 
 pub returns-then-done : goal.returns-then-done
 returns-then-done c =
-    turn_contained c.requires c.join.ensures c.drop.ensures c.if-join.false c.settled-done.ensures c.if-done.true c.lower.ensures
+    turn_contained c.requires c.join.ensures c.drop.ensures (search rules) c.settled-done.ensures c.if-done.true c.lower.ensures
 
 pub tidy-requires : goal.tidy-requires
 tidy-requires c =
@@ -16,4 +17,4 @@ tidy-requires c =
 
 pub returns : goal.returns
 returns c =
-    turn_grown c.requires c.join.ensures c.drop.ensures c.if-join.false c.settled-done.ensures c.if-done.false c.tidy.ensures
+    turn_grown c.requires c.join.ensures c.drop.ensures (search rules) c.settled-done.ensures c.if-done.false c.tidy.ensures

@@ -4,7 +4,7 @@ use borrow.Author.Rules.{rules}
 use mathlib.Core.Path.{refl}
 use Rattle.strays.proofs.Found.{statement_in, statement_small, there, block_low}
 use Rattle.backward.proofs.Statements.{around-full, around-on, no_statement, later_full, later_more, all_walked, row_in, inner_passes}
-use Rattle.backward.proofs.Holders.{bare-if, bare-switch, bare-loop, first_there, holder_marked, holder_obeys, holder_full, holder_ends, holder_ends_full, low_number}
+use Rattle.backward.proofs.Holders.{bare-if, bare-switch, bare-loop, first_there, holder_marked, holder_obeys, holder_full, holder_ends, holder_ends_full}
 use Rattle.backward.proofs.Ifs.{reject_asks, if_rejected, accept_asks, if_accepted, if_end_asks, if_ends, if_ends_full}
 use Rattle.backward.proofs.Switches.{no_case, case_asks, case_passes, case_more, case_ends_full, all_cases, cases_ask, switch_passes, switch_end_asks, switch-ends, switch_ends_full}
 use Rattle.backward.proofs.Loops.{begin_asks, loop_begun_full, continuing_asks, loop_continuing, body_asks, loop_body, end_asks, loop_ends}
@@ -94,13 +94,6 @@ pub pass_holder-returns-in_err-q : goal.pass_holder-returns-in_err-q
 pass_holder-returns-in_err-q t c =
     rw c.from_residual.ensures
     (holder_full c.requires.course c.args.statement.now.row_in c.args.statement.now.marked.now.marks.now c.requires.b_in_bounds c.requires.lt_kind refl c.mark_at.ensures c.if-mark_at.false c.obeys.ensures c.if-obeys.false c.copy.ensures c.in_err-q.ensures refl)
-
-pub pass_holder-overflow_cast-s : goal.pass_holder-overflow_cast-s
-pass_holder-overflow_cast-s t c = omega (arith, statement_small c.args.statement.now.row_in.statement)
-
-pub pass_holder-blame-blamed-requires : goal.pass_holder-blame-blamed-requires
-pass_holder-blame-blamed-requires t c =
-    low_number c.requires.course c.args.statement.now.row_in c.args.statement.now.marked.now.marks.now c.requires.b_in_bounds c.requires.lt_kind refl
 
 pub pass_holder-returns : goal.pass_holder-returns
 pass_holder-returns t c =

@@ -1,16 +1,12 @@
 -- `backward::plain::pass_plain` meets its contract: an emit, a store, or what leaves (ByKind).
-use Rattle.strays.proofs.Found.{in_function, statement_small}
+use Rattle.strays.proofs.Found.{in_function}
 use Rattle.quiet.proofs.Leaves.{last-there}
 use Rattle.backward.proofs.ByKind.{begin_there, begin_is, act_given, leave_given, store_given, passes_emit, passes_store, passes_leaving}
-use native.Mathlib.Omega.{arith}
 use borrow.Author.Rules.{rules}
 use Rattle.backward.proofs.plain.pass_plain.Goals as goal
 
 pub bounds-marked-s : goal.bounds-marked-s
 bounds-marked-s c = begin_there c.requires.course c.args.statement.now.row_in
-
-pub overflow_cast-s : goal.overflow_cast-s
-overflow_cast-s c = omega (arith, statement_small c.args.statement.now.row_in.statement)
 
 pub pass_emits-requires : goal.pass_emits-requires
 pass_emits-requires c =
@@ -19,9 +15,6 @@ pass_emits-requires c =
 pub returns-in-Ok-Emit : goal.returns-in-Ok-Emit
 returns-in-Ok-Emit c =
     passes_emit c.requires.course c.args.statement.now.row_in _ (search rules) c.expression_operand-first.ensures c.expression_operand-last.ensures c.pass_emits.ensures
-
-pub overflow_cast-s-in-Ok-Store : goal.overflow_cast-s-in-Ok-Store
-overflow_cast-s-in-Ok-Store c = omega (arith, statement_small c.args.statement.now.row_in.statement)
 
 pub pass_store-requires : goal.pass_store-requires
 pass_store-requires c =

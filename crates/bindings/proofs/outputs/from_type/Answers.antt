@@ -1,5 +1,4 @@
 -- `bindings::outputs::from_type` meets its contract: the entries of the members from the last to the first.
-use native.Mathlib.Omega.{arith}
 use Rattle.bindings.proofs.Rows.{count_small}
 use Rattle.bindings.proofs.Members.{making_none, making_asks, making_skip, making_more, making_all}
 use Rattle.bindings.proofs.outputs.from_type.Goals as goal
@@ -9,16 +8,16 @@ loop-i-init c = making_none _ _ _ _ _ c.requires.good c.member_count-i.ensures
 
 pub make-r-requires : goal.make-r-requires
 make-r-requires c =
-    let q9 = making_asks _ _ _ _ _ c.loop-i-test.true c.loop-i.invariant c.member_at-m.ensures c.from_binding-q.ensures (count_small _ _ c.args.types.now.all_sized) c.requires.held.1 c.requires.good.base c.requires.held.0 in
+    let q9 = making_asks _ _ _ _ _ c.loop-i-test.true c.loop-i.invariant c.member_at-m.ensures c.in-Some.ensures (count_small _ _ c.args.types.now.all_sized) c.requires.held.1 c.requires.good.base c.requires.held.0 in
     record { good = q9.0; room = q9.1.0; child_bound = q9.1.1 }
 
-pub loop-i-preserved-then-q-ne-EMPTY_PIECE : goal.loop-i-preserved-then-q-ne-EMPTY_PIECE
-loop-i-preserved-then-q-ne-EMPTY_PIECE c =
-    making_more _ _ _ _ _ c.loop-i-test.true c.loop-i.invariant c.member_at-m.ensures c.from_binding-q.ensures c.requires.good.base c.requires.held.0 c.if-q-ne-EMPTY_PIECE.true c.make-r.ensures
+pub loop-i-preserved-in-Some : goal.loop-i-preserved-in-Some
+loop-i-preserved-in-Some c =
+    making_more _ _ _ _ _ c.loop-i-test.true c.loop-i.invariant c.member_at-m.ensures c.in-Some.ensures c.requires.good.base c.requires.held.0 c.make-r.ensures
 
 pub loop-i-preserved : goal.loop-i-preserved
 loop-i-preserved c =
-    making_skip _ _ _ _ _ c.loop-i-test.true c.loop-i.invariant c.member_at-m.ensures c.from_binding-q.ensures (omega (arith, c.if-q-ne-EMPTY_PIECE.false))
+    making_skip _ _ _ _ _ c.loop-i-test.true c.loop-i.invariant c.member_at-m.ensures c.in_default.ensures
 
 pub returns : goal.returns
 returns c =

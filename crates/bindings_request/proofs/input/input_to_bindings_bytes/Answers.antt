@@ -46,7 +46,7 @@ pub invariant_of-variables : goal.invariant_of-variables
 invariant_of-variables c =
     let h : c.args.f.0 < length (module_of c.args.file.now.bytes c.args.file.now.t).functions = omega (arith, c.if-functions-f.false, c.functions.ensures) in
     let A = needing_accepts c.requires.tables (length c.args.out.now) h c.args.context.now c.globals.ensures c.arguments-n.ensures c.locals-l.ensures (ap status (sym c.in_ok-check_context.was) ∙ c.check_context.ensures) refl in
-    record { readable = needing_args c.requires.tables (length c.args.out.now) h c.args.context.now A c.args_at.ensures }
+    record { readable = needing_args c.requires.tables (length c.args.out.now) h c.args.context.now A c.args_bytes.ensures }
 
 pub input_to_bindings-requires-clause-bound_args : goal.input_to_bindings-requires-clause-bound_args
 input_to_bindings-requires-clause-bound_args c =
@@ -58,10 +58,10 @@ returns-in_err-s c =
     let A = needing_accepts c.requires.tables (length c.args.out.now) h c.args.context.now c.globals.ensures c.arguments-n.ensures c.locals-l.ensures (ap status (sym c.in_ok-check_context.was) ∙ c.check_context.ensures) refl in
     let p = err_from_is_err_and c.from_residual-in_err-s.result c.from_residual-in_err-s.ensures.1 in
     rw (p.1, p.2)
-    (needing_asserts c.requires.tables (length c.args.out.now) h c.args.context.now A c.args_at.ensures _ c.fill.ensures c.input_to_bindings.result c.input_to_bindings.ensures c.if-out.false c.in_err-s.was)
+    (needing_asserts c.requires.tables (length c.args.out.now) h c.args.context.now A c.args_bytes.ensures _ c.fill.ensures c.input_to_bindings.result c.input_to_bindings.ensures c.if-out.false c.in_err-s.was)
 
 pub returns : goal.returns
 returns c =
     let h : c.args.f.0 < length (module_of c.args.file.now.bytes c.args.file.now.t).functions = omega (arith, c.if-functions-f.false, c.functions.ensures) in
     let A = needing_accepts c.requires.tables (length c.args.out.now) h c.args.context.now c.globals.ensures c.arguments-n.ensures c.locals-l.ensures (ap status (sym c.in_ok-check_context.was) ∙ c.check_context.ensures) refl in
-    needing_given c.requires.tables (length c.args.out.now) h c.args.context.now A c.args_at.ensures _ c.fill.ensures c.input_to_bindings.result c.input_to_bindings.ensures c.if-out.false c.in_ok-s.was c.write_list.ensures
+    needing_given c.requires.tables (length c.args.out.now) h c.args.context.now A c.args_bytes.ensures _ c.fill.ensures c.input_to_bindings.result c.input_to_bindings.ensures c.if-out.false c.in_ok-s.was c.write_list.ensures

@@ -2,4 +2,4 @@
 use Rattle.block.proofs.branches.join_up.Goals as goal
 
 pub returns : goal.returns
-returns c = record { between = _; joined = c.join-over.ensures; lowered = c.lower.ensures }
+returns c = record { between = _; joined = c.join-fits.ensures; lowered = c.lower.ensures }

@@ -1,5 +1,6 @@
 -- `block::stack::join` meets its contract: the sum of both contexts is put in the place of the lower one.
-use Rattle.block.proofs.Saving.{loaded, join-asked, join_clears, joined_is}
+use mathlib.Core.Path.{◌∙◌}
+use Rattle.block.proofs.Saving.{loaded, join-asked, join_clears, none_over, joined_is}
 use native.Mathlib.Omega.{arith}
 use Rattle.block.proofs.stack.join.Goals as goal
 
@@ -17,4 +18,4 @@ clear_context-requires c =
 
 pub returns : goal.returns
 returns c =
-    joined_is c.requires.memory c.requires.stack_slot_le_k.1 (loaded c.load_context-lower.ensures) (loaded c.load_context-upper.ensures) c.merge-joined.result c.save_context.ensures c.requires.stack_slot_le_k.0 c.merge-joined.ensures c.clear_context.ensures c.over.ensures
+    joined_is c.requires.memory c.requires.stack_slot_le_k.1 (loaded c.load_context-lower.ensures) (loaded c.load_context-upper.ensures) c.merge-joined.result c.save_context.ensures c.requires.stack_slot_le_k.0 c.merge-joined.ensures c.clear_context.ensures (none_over _ c.then_some.ensures ∙ c.over.ensures)

@@ -1,5 +1,6 @@
 -- `block::total::join_total` meets its contract: the sum of both contexts, and then a copy of the records.
-use Rattle.block.proofs.Saving.{loaded}
+use mathlib.Core.Path.{◌∙◌}
+use Rattle.block.proofs.Saving.{loaded, none_over}
 use Rattle.block.proofs.Making.{joined_asks, total_joins, total_joined}
 use native.Mathlib.Omega.{arith}
 use Rattle.block.proofs.total.join_total.Goals as goal
@@ -21,4 +22,4 @@ extend-requires c =
 
 pub returns : goal.returns
 returns c =
-    total_joined c.requires.totalling c.requires.memory (loaded c.load_context-total.ensures) (loaded c.load_context-walked.ensures) c.merge-joined.result c.records_of-r.ensures c.merge-joined.ensures c.save_context.ensures c.extend.ensures c.over.ensures
+    total_joined c.requires.totalling c.requires.memory (loaded c.load_context-total.ensures) (loaded c.load_context-walked.ensures) c.merge-joined.result c.records_of-r.ensures c.merge-joined.ensures c.save_context.ensures c.extend.ensures (none_over _ c.then_some.ensures ∙ c.over.ensures)

@@ -2,7 +2,8 @@
 use native.Mathlib.Omega.{arith}
 use Rattle.std.proofs.lemmas.Result.{err_from_is_err_and}
 use Rattle.boundary.proofs.Answers.{file_refused, file_read}
-use Rattle.boundary.proofs.Types.{types-few, as_many, ones_part, lent_part}
+use Rattle.requests.proofs.Rows.{types-few}
+use Rattle.boundary.proofs.Types.{as_many, ones_part, lent_part}
 use Rattle.boundary.proofs.output.output_in.Goals as goal
 
 pub returns-in_err-file : goal.returns-in_err-file

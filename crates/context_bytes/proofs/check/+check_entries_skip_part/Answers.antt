@@ -11,15 +11,11 @@ use Rattle.context_bytes.proofs.check.+check_entries_skip_part.Goals as goal
 use Rattle.context_bytes.proofs.check.+check_entries_skip_part.Goals.{check_entries-then-known, check_entries-else-known}
 
 pub check_entries-loop-init : goal.check_entries-loop-init
-check_entries-loop-init t c = let e : c.args.n - 0 ≡ c.args.n = omega arith in rw e (check_first _ _ _ c.requires)
+check_entries-loop-init t c = let e : c.args.n - 0 ≡ c.args.n = omega arith in rw e (check_first _ _ _ _)
 
 pub check_entries-returns-in_err-i : goal.check_entries-returns-in_err-i
 check_entries-returns-in_err-i t c =
     rw c.from_residual.ensures (check_stop c.loop.invariant (index_refused (omega arith) c.in_err-i.ensures _))
-
-pub check_entries-skip_part-requires : goal.check_entries-skip_part-requires
-check_entries-skip_part-requires t c =
-    let x = index_read {n = c.args.n - c.loop.counter} (pred_of _ (omega arith)) c.in_ok-i.ensures in (omega (arith, c.decreases), x.field.inside)
 
 pub check_entries-returns-in_err-end : goal.check_entries-returns-in_err-end
 check_entries-returns-in_err-end t c =
@@ -40,19 +36,19 @@ check_entries-loop-preserved t c =
 pub check_entries-returns : goal.check_entries-returns
 check_entries-returns t c = check_done c.loop.invariant (omega arith)
 
-pub skip_part-returns-in_err-part_code : goal.skip_part-returns-in_err-part_code
-skip_part-returns-in_err-part_code t c = rw c.from_residual.ensures (part_refused c.in_err-part_code.ensures)
+pub skip_part-returns-in_err-code : goal.skip_part-returns-in_err-code
+skip_part-returns-in_err-code t c = rw c.from_residual.ensures (part_refused c.in_err-code.ensures)
 
 pub skip_part-returns-in-All : goal.skip_part-returns-in-All
-skip_part-returns-in-All t c = all_skipped (rw c.in-All.is at c.in_ok-part_code.ensures)
+skip_part-returns-in-All t c = all_skipped (rw c.in-All.is at c.in_ok-code.ensures)
 
 pub skip_part-returns-in-Exist : goal.skip_part-returns-in-Exist
-skip_part-returns-in-Exist t c = exist_skipped (rw c.in-Exist.is at c.in_ok-part_code.ensures)
+skip_part-returns-in-Exist t c = exist_skipped (rw c.in-Exist.is at c.in_ok-code.ensures)
 
 pub skip_part-returns-in_err-known-in-Entries : goal.skip_part-returns-in_err-known-in-Entries
 skip_part-returns-in_err-known-in-Entries t c =
     rw c.from_residual-in_err-known-in-Entries.ensures
-    (entries_refused (rw c.in-Entries.is at c.in_ok-part_code.ensures) c.in_err-known-in-Entries.ensures)
+    (entries_refused (rw c.in-Entries.is at c.in_ok-code.ensures) c.in_err-known-in-Entries.ensures)
 
 pub skip_part-returns-in_ok-known-in-Entries : goal.skip_part-returns-in_ok-known-in-Entries
-skip_part-returns-in_ok-known-in-Entries t c = entries_skipped (rw c.in-Entries.is at c.in_ok-part_code.ensures) c.in_ok-known-in-Entries.ensures
+skip_part-returns-in_ok-known-in-Entries t c = entries_skipped (rw c.in-Entries.is at c.in_ok-code.ensures) c.in_ok-known-in-Entries.ensures

@@ -4,7 +4,7 @@ use Rattle.context_bytes.proofs.Checked.{Checking}
 use Rattle.context_bytes.proofs.check.+check_entries_skip_part.Given as goal
 
 abbrev pub invariant-check_entries-loop : goal.invariant-check_entries-loop
-invariant-check_entries-loop l = Checking l.bytes l.at l.depth l.limit l.n l.next l.least (l.n - l.counter) l.known
+invariant-check_entries-loop l = Checking l.bytes l.depth l.limit l.n l.left l.least (l.n - l.counter) l.known
 
 abbrev pub decreases-check_entries : goal.decreases-check_entries
 decreases-check_entries l = 2 * l.depth + 1

@@ -4,7 +4,7 @@ use Rattle.context_bytes.proofs.Counted.{Counting}
 use Rattle.context_bytes.proofs.count.+count_entries_count_part.Given as goal
 
 abbrev pub invariant-count_entries-loop : goal.invariant-count_entries-loop
-invariant-count_entries-loop l = Counting l.bytes l.at l.depth l.n l.next l.least (l.n - l.counter) l.sum
+invariant-count_entries-loop l = Counting l.bytes l.depth l.n l.left l.least (l.n - l.counter) l.sum
 
 abbrev pub decreases-count_entries : goal.decreases-count_entries
 decreases-count_entries l = 2 * l.depth + 1

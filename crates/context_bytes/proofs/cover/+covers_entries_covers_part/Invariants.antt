@@ -4,7 +4,7 @@ use Rattle.context_bytes.proofs.Covered.{Covering}
 use Rattle.context_bytes.proofs.cover.+covers_entries_covers_part.Given as goal
 
 abbrev pub invariant-covers_entries-loop : goal.invariant-covers_entries-loop
-invariant-covers_entries-loop l = Covering l.cells l.bytes l.n l.at l.depth l.base l.k l.next l.least (l.k - l.counter) l.m
+invariant-covers_entries-loop l = Covering l.cells l.bytes l.n l.depth l.base l.k l.left l.least (l.k - l.counter) l.m
 
 abbrev pub decreases-covers_entries : goal.decreases-covers_entries
 decreases-covers_entries l = 2 * l.depth + 1

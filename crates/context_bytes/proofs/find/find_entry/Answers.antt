@@ -8,7 +8,7 @@ use Rattle.context_bytes.proofs.Found.{finding_first, finding_stop, finding_befo
 use Rattle.context_bytes.proofs.find.find_entry.Goals as goal
 
 pub loop-init : goal.loop-init
-loop-init c = let e : c.args.n - 0 ≡ c.args.n = omega arith in rw e (finding_first _ _ _ c.requires)
+loop-init c = let e : c.args.n - 0 ≡ c.args.n = omega arith in rw e (finding_first _ _ _ _)
 
 pub returns-in_err-j : goal.returns-in_err-j
 returns-in_err-j c = rw c.from_residual.ensures (finding_stop c.loop.invariant (index_refused (omega arith) c.in_err-j.ensures _))
@@ -20,9 +20,6 @@ returns-then-i-j c =
 pub returns-then-i-j-2 : goal.returns-then-i-j-2
 returns-then-i-j-2 c =
     finding_here c.loop.invariant (index_read (pred_of _ (omega arith)) c.in_ok-j.ensures) c.if-i-j-2.true
-
-pub skip_part-requires : goal.skip_part-requires
-skip_part-requires c = (index_read {n = c.args.n - c.loop.counter} (pred_of _ (omega arith)) c.in_ok-j.ensures).field.inside
 
 pub returns-in_err-end : goal.returns-in_err-end
 returns-in_err-end c =

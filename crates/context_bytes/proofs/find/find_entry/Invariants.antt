@@ -4,4 +4,4 @@ use Rattle.context_bytes.proofs.Found.{Finding}
 use Rattle.context_bytes.proofs.find.find_entry.Given as goal
 
 abbrev pub invariant-loop : goal.invariant-loop
-invariant-loop l = Finding l.bytes l.at l.depth l.n l.i l.next l.least (l.n - l.counter)
+invariant-loop l = Finding l.bytes l.depth l.n l.i l.left l.least (l.n - l.counter)

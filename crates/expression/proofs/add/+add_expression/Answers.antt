@@ -1,6 +1,8 @@
 -- `expression::add::add_expression` meets its contract, by the number of the expression, which falls. Its loop keeps what is left of the asks (`Left`). Assumes
 -- nothing.
-use mathlib.Core.Path.{refl}
+use mathlib.Core.Path.{refl, ap}
+use Rattle.std.specs.Option.{is_some}
+use Rattle.request.proofs.Ways.{refuses}
 use Rattle.state.proofs.Ends.{passed}
 use Rattle.expression.proofs.Walking.{walk_17, walk_16, left_ask, left_closing, left_visiting, left_end, left_refuse, argument_low, local_low, global_low, left_argument, left_local, left_global, operand_inside, operand_few, left_halt, left_next}
 use native.Mathlib.Omega.{arith}
@@ -10,9 +12,9 @@ pub returns-then-began-ge-MAX_VISITS : goal.returns-then-began-ge-MAX_VISITS
 returns-then-began-ge-MAX_VISITS t c =
     rw c.halt.ensures (walk_17 c.requires.ready c.args.v.now.expression.0 c.args.began.visits c.args.w refl refl c.if-began-ge-MAX_VISITS.true)
 
-pub returns-then-not-allowed : goal.returns-then-not-allowed
-returns-then-not-allowed t c =
-    rw c.halt-then-not-allowed.ensures (walk_16 c.requires.ready c.args.v.now.expression.0 c.args.began.visits c.args.w refl refl c.if-began-ge-MAX_VISITS.false c.allowed.ensures c.if-not-allowed.true)
+pub returns-in_err-ok_or : goal.returns-in_err-ok_or
+returns-in_err-ok_or t c =
+    rw (refuses _ c.from_residual.ensures.1 c.in_err-ok_or.ensures.value refl, c.halt-2.ensures) (walk_16 c.requires.ready c.args.v.now.expression.0 c.args.began.visits c.args.w refl refl c.if-began-ge-MAX_VISITS.false c.allowed.ensures (ap is_some c.in_err-ok_or.ensures.ok_part))
 
 pub ask-requires : goal.ask-requires
 ask-requires t c =
@@ -21,7 +23,7 @@ ask-requires t c =
 
 pub returns-in_err-tally-in-Operand : goal.returns-in_err-tally-in-Operand
 returns-in_err-tally-in-Operand t c =
-    rw (passed c.from_residual.ensures.1)
+    rw (passed c.from_residual-in_err-tally-in-Operand.ensures.1)
     (left_halt c.loop-a.invariant.began c.loop-a.invariant.left c.ask.ensures (rw c.in-Operand.is at c.in-Some.is) c.add_expression.ensures c.in_err-tally-in-Operand.was)
 
 pub entry-requires : goal.entry-requires

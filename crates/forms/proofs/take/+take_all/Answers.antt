@@ -6,17 +6,17 @@ use Rattle.forms.proofs.take.+take_all.Goals as goal
 pub returns-in_default : goal.returns-in_default
 returns-in_default t c = all_end _ _ (c.requires.good, (c.requires.narrow, c.requires.room)) (nil_from_length _ c.in_default.ensures.cases)
 
-pub returns-in_default-split_of : goal.returns-in_default-split_of
-returns-in_default-split_of t c = all_one _ _ (c.requires.good, (c.requires.narrow, c.requires.room)) c.in-Some.ensures.cases.0 (parted_one _ c.split_of.result c.in_default-split_of.is c.split_of.ensures)
+pub returns-in_default-split : goal.returns-in_default-split
+returns-in_default-split t c = all_one _ _ (c.requires.good, (c.requires.narrow, c.requires.room)) c.in-Some.ensures.cases.0 (parted_one _ c.split.result c.in_default-split.is c.split.ensures)
 
 pub take_all-d-requires : goal.take_all-d-requires
-take_all-d-requires t c = all_call _ _ (c.requires.good, (c.requires.narrow, c.requires.room)) c.in-Some.ensures.cases.0 _ c.member_form-m.ensures c.decreases
+take_all-d-requires t c = all_call _ _ (c.requires.good, (c.requires.narrow, c.requires.room)) c.in-Some.ensures.cases.0 _ c.member-m.ensures c.decreases
 
 pub members_around-requires : goal.members_around-requires
 members_around-requires t c =
-    let q9 = around_asks _ _ (c.requires.good, (c.requires.narrow, c.requires.room)) c.in-Some.ensures.cases.0 _ c.member_form-m.ensures (parted_into _ c.split_of.result c.in-Some-split_of.is c.split_of.ensures) c.take_all-d.ensures in
+    let q9 = around_asks _ _ (c.requires.good, (c.requires.narrow, c.requires.room)) c.in-Some.ensures.cases.0 _ c.member-m.ensures (parted_into _ c.split.result c.in-Some-split.is c.split.ensures) c.take_all-d.ensures in
     record { good = q9.0; room = q9.1 }
 
 pub returns : goal.returns
 returns t c =
-    all_left _ _ (c.requires.good, (c.requires.narrow, c.requires.room)) c.in-Some.ensures.cases.0 _ c.member_form-m.ensures (parted_into _ c.split_of.result c.in-Some-split_of.is c.split_of.ensures) c.take_all-d.ensures c.members_around.ensures
+    all_left _ _ (c.requires.good, (c.requires.narrow, c.requires.room)) c.in-Some.ensures.cases.0 _ c.member-m.ensures (parted_into _ c.split.result c.in-Some-split.is c.split.ensures) c.take_all-d.ensures c.members_around.ensures

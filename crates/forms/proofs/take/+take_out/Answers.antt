@@ -24,12 +24,12 @@ pub returns-in_default-get : goal.returns-in_default-get
 returns-in_default-get t c = out_gone _ _ (c.requires.good, (c.requires.narrow, (c.requires.p_bound, c.requires.room))) c.in-Some.ensures.cases.0 c.is_whole.ensures c.if-is_whole.false c.if-p-eq-ALL_PIECE.false c.get.result c.in_default-get.is c.get.ensures
 
 pub take_out-d-requires : goal.take_out-d-requires
-take_out-d-requires t c = out_call _ _ (c.requires.good, (c.requires.narrow, (c.requires.p_bound, c.requires.room))) c.in-Some.ensures.cases.0 c.is_whole.ensures c.if-is_whole.false c.if-p-eq-ALL_PIECE.false _ c.member_form-m.ensures c.get.result c.in-Some-get.is c.get.ensures c.decreases
+take_out-d-requires t c = out_call _ _ (c.requires.good, (c.requires.narrow, (c.requires.p_bound, c.requires.room))) c.in-Some.ensures.cases.0 c.is_whole.ensures c.if-is_whole.false c.if-p-eq-ALL_PIECE.false _ c.member-m.ensures c.get.result c.in-Some-get.is c.get.ensures c.decreases
 
 pub change_entry-requires : goal.change_entry-requires
 change_entry-requires t c =
-    let q9 = entry-asks _ _ (c.requires.good, (c.requires.narrow, (c.requires.p_bound, c.requires.room))) c.in-Some.ensures.cases.0 c.is_whole.ensures c.if-is_whole.false c.if-p-eq-ALL_PIECE.false _ c.member_form-m.ensures c.get.result c.in-Some-get.is c.get.ensures c.take_out-d.ensures in
+    let q9 = entry-asks _ _ (c.requires.good, (c.requires.narrow, (c.requires.p_bound, c.requires.room))) c.in-Some.ensures.cases.0 c.is_whole.ensures c.if-is_whole.false c.if-p-eq-ALL_PIECE.false _ c.member-m.ensures c.get.result c.in-Some-get.is c.get.ensures c.take_out-d.ensures in
     record { good = q9.0; p_bound = q9.1.0; room = q9.1.1 }
 
 pub returns : goal.returns
-returns t c = out_left _ _ (c.requires.good, (c.requires.narrow, (c.requires.p_bound, c.requires.room))) c.in-Some.ensures.cases.0 c.is_whole.ensures c.if-is_whole.false c.if-p-eq-ALL_PIECE.false _ c.member_form-m.ensures c.get.result c.in-Some-get.is c.get.ensures c.take_out-d.ensures c.change_entry.ensures
+returns t c = out_left _ _ (c.requires.good, (c.requires.narrow, (c.requires.p_bound, c.requires.room))) c.in-Some.ensures.cases.0 c.is_whole.ensures c.if-is_whole.false c.if-p-eq-ALL_PIECE.false _ c.member-m.ensures c.get.result c.in-Some-get.is c.get.ensures c.take_out-d.ensures c.change_entry.ensures

@@ -22,13 +22,13 @@ trim_part-c-requires t c =
 
 pub trim_map-r-requires : goal.trim_map-r-requires
 trim_map-r-requires t c =
-    rest_call (c.requires.good, c.requires.p_bound) _ c.look-x.ensures _ c.global_form-m.ensures c.trim_part-c.ensures c.decreases
+    rest_call (c.requires.good, c.requires.p_bound) _ c.look-x.ensures _ (c.global_form-m.ensures c.args.types.now.rows.now) c.trim_part-c.ensures c.decreases
 
 pub keep-requires : goal.keep-requires
 keep-requires t c =
-    let q9 = keep_asks (c.requires.good, c.requires.p_bound) _ c.look-x.ensures _ c.global_form-m.ensures c.trim_part-c.ensures c.trim_map-r.ensures in
+    let q9 = keep_asks (c.requires.good, c.requires.p_bound) _ c.look-x.ensures _ (c.global_form-m.ensures c.args.types.now.rows.now) c.trim_part-c.ensures c.trim_map-r.ensures in
     record { good = q9.0; room = q9.1.0; child_bound = q9.1.1 }
 
 pub returns : goal.returns
 returns t c =
-    trimmed_entry (c.requires.good, c.requires.p_bound) _ c.look-x.ensures _ c.global_form-m.ensures c.trim_part-c.ensures c.trim_map-r.ensures c.keep.ensures
+    trimmed_entry (c.requires.good, c.requires.p_bound) _ c.look-x.ensures _ (c.global_form-m.ensures c.args.types.now.rows.now) c.trim_part-c.ensures c.trim_map-r.ensures c.keep.ensures

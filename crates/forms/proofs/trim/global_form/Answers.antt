@@ -3,11 +3,11 @@ use Rattle.forms.proofs.Trimming.{global_low, global_past, global_there}
 use Rattle.forms.proofs.trim.global_form.Goals as goal
 
 pub returns-then-i-lt-SPINE : goal.returns-then-i-lt-SPINE
-returns-then-i-lt-SPINE c = global_low _ _ _ c.if-i-lt-SPINE.true
+returns-then-i-lt-SPINE c = λ types. global_low _ _ types c.if-i-lt-SPINE.true
 
 pub returns-then-globals-g : goal.returns-then-globals-g
-returns-then-globals-g c = global_past _ _ _ c.if-i-lt-SPINE.false c.globals.ensures c.if-globals-g.true
+returns-then-globals-g c = λ types. global_past _ _ types c.if-i-lt-SPINE.false c.globals.ensures c.if-globals-g.true
 
 pub returns : goal.returns
-returns c =
-    global_there _ _ _ c.if-i-lt-SPINE.false c.globals.ensures c.if-globals-g.false c.global.ensures
+returns c = λ types.
+    global_there _ _ types c.if-i-lt-SPINE.false c.globals.ensures c.if-globals-g.false c.global.ensures

@@ -6,4 +6,4 @@ pub returns-in-None : goal.returns-in-None
 returns-in-None c = result_void _ c.result.ensures c.in-None.is
 
 pub returns-in-Some : goal.returns-in-Some
-returns-in-Some c = result_type _ c.result.ensures _ _ c.requires c.in-Some.is
+returns-in-Some c = result_type _ c.result.ensures _ _ c.args.subject.now.given.values.same c.in-Some.is

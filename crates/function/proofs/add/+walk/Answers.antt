@@ -11,8 +11,10 @@ use Rattle.block.proofs.Bodies.{body_asked, body_below, body_enters, function_en
 use Rattle.block.proofs.Nested.{arm_high, arm_small, arm_weighs, nested_ends, nested_enters, nested_lower, nested_lowers, nested_stops}
 use Rattle.block.proofs.Paired.{pair_ends, pair_first, pair_halt, pair_halt_2, pair_second, pair_small, pair_weighs, weighs}
 use Rattle.block.proofs.Statements.{all_left, base-copies, base-small, base-weighs, none_left, statement_low, statement_visits, statements_next, statements_stop}
+use Rattle.request.proofs.Ways.{refuses}
 use Rattle.state.proofs.Ends.{passed}
-use mathlib.Core.Path.{refl}
+use mathlib.Core.Path.{refl, ap}
+use Rattle.std.specs.Option.{is_none, is_some}
 use Rattle.std.proofs.Common.{rules}
 use native.Mathlib.Omega.{arith}
 use borrow.Author.Tests.{not-true, not-false}
@@ -274,23 +276,23 @@ add_statement-returns-then-tally-ge-MAX_VISITS t c =
 pub add_statement-allowed-requires : goal.add_statement-allowed-requires
 add_statement-allowed-requires t c = visit_counting c.requires
 
-pub add_statement-returns-then-not-allowed : goal.add_statement-returns-then-not-allowed
-add_statement-returns-then-not-allowed t c =
-    rw c.halt-then-not-allowed.ensures (visit_16 c.requires c.if-tally-ge-MAX_VISITS.false c.allowed.ensures c.if-not-allowed.true)
+pub add_statement-returns-in_err-ok_or : goal.add_statement-returns-in_err-ok_or
+add_statement-returns-in_err-ok_or t c =
+    rw (refuses _ c.from_residual.ensures.1 c.in_err-ok_or.ensures.value refl, c.halt-2.ensures) (visit_16 c.requires c.if-tally-ge-MAX_VISITS.false c.allowed.ensures (ap is_some c.in_err-ok_or.ensures.ok_part))
 
 pub add_statement-overflow_add-counted : goal.add_statement-overflow_add-counted
 add_statement-overflow_add-counted t c = omega (arith, c.if-tally-ge-MAX_VISITS.false)
 
 pub add_statement-add_arm-r-requires : goal.add_statement-add_arm-r-requires
 add_statement-add_arm-r-requires t c =
-    (omega (arith, c.decreases), visit_arms c.requires c.if-tally-ge-MAX_VISITS.false c.allowed.ensures c.if-not-allowed.false _ c.statement-row.ensures)
+    (omega (arith, c.decreases), visit_arms c.requires c.if-tally-ge-MAX_VISITS.false c.allowed.ensures (ap is_some c.in_ok-ok_or.ensures.ok_part) _ c.statement-row.ensures)
 
 pub add_statement-end_statement-requires : goal.add_statement-end_statement-requires
 add_statement-end_statement-requires t c = last_asks _ c.add_arm-r.ensures
 
 pub add_statement-returns : goal.add_statement-returns
 add_statement-returns t c =
-    visit_ends c.requires c.if-tally-ge-MAX_VISITS.false c.allowed.ensures c.if-not-allowed.false _ _ c.statement-row.ensures c.add_arm-r.ensures c.end_statement.ensures
+    visit_ends c.requires c.if-tally-ge-MAX_VISITS.false c.allowed.ensures (ap is_some c.in_ok-ok_or.ensures.ok_part) _ _ c.statement-row.ensures c.add_arm-r.ensures c.end_statement.ensures
 
 pub add_switch-weigh-requires : goal.add_switch-weigh-requires
 add_switch-weigh-requires t c =
@@ -339,13 +341,13 @@ pub add_switch-end_case-requires : goal.add_switch-end_case-requires
 add_switch-end_case-requires t c =
     let G = began c.requires.arms c.requires.kind_value c.copy_context.ensures c.weigh.ensures in case-ends c.requires.arms (c.loop-k.invariant.by _ _ G) c.requires.kind_value G.outside_is c.weigh-in-loop-k.ensures c.case_body-body.ensures (omega arith) c.add_block.ensures c.in_ok-a.was
 
-pub add_switch-returns-then-end_case : goal.add_switch-returns-then-end_case
-add_switch-returns-then-end_case t c =
-    let G = began c.requires.arms c.requires.kind_value c.copy_context.ensures c.weigh.ensures in rw c.halt.ensures (case_limit c.requires.arms (c.loop-k.invariant.by _ _ G) c.requires.kind_value G.outside_is c.weigh-in-loop-k.ensures c.case_body-body.ensures (omega arith) c.add_block.ensures c.in_ok-a.was c.end_case.ensures c.if-end_case.true)
+pub add_switch-returns-in_err-ok_or : goal.add_switch-returns-in_err-ok_or
+add_switch-returns-in_err-ok_or t c =
+    let G = began c.requires.arms c.requires.kind_value c.copy_context.ensures c.weigh.ensures in rw (refuses _ c.from_residual-in_err-ok_or.ensures.1 c.in_err-ok_or.ensures.value refl, c.halt.ensures) (case_limit c.requires.arms (c.loop-k.invariant.by _ _ G) c.requires.kind_value G.outside_is c.weigh-in-loop-k.ensures c.case_body-body.ensures (omega arith) c.add_block.ensures c.in_ok-a.was c.end_case.ensures (ap is_none c.in_err-ok_or.ensures.ok_part))
 
 pub add_switch-loop-k-preserved : goal.add_switch-loop-k-preserved
 add_switch-loop-k-preserved t c =
-    cases_next c.loop-k.invariant c.weigh-in-loop-k.ensures c.case_body-body.ensures (omega arith) c.add_block.ensures c.in_ok-a.was c.end_case.ensures c.if-end_case.false refl
+    cases_next c.loop-k.invariant c.weigh-in-loop-k.ensures c.case_body-body.ensures (omega arith) c.add_block.ensures c.in_ok-a.was c.end_case.ensures (ap is_none c.in_ok-ok_or.ensures.ok_part) refl
 
 pub add_switch-end_switch-requires : goal.add_switch-end_switch-requires
 add_switch-end_switch-requires t c =

@@ -11,13 +11,13 @@ use Rattle.memory.specs.Memory.{context_at, read}
 use Rattle.function.proofs.add.+walk.Given as goal
 
 abbrev pub invariant-add_block-loop-k : goal.invariant-add_block-loop-k
-invariant-add_block-loop-k l = StatementsLeft l.world.file.now.bytes l.world.file.now.t l.world.types.now l.world.places.now l.initial.space.parts.cells l.initial.space.parts.slots l.initial.space.open l.initial.space.totals l.f.0 l.b.0 l.base l.at l.held l.fn.began.sum (block_in l.world.file.now.bytes l.world.file.now.t l.f.0 l.b.0 l.held (context_at (read l.initial.space.parts.cells l.initial.space.parts.slots) l.base) l.break_required (state_in l.world.file.now.bytes l.world.file.now.t l.initial.space.parts.cells l.initial.space.parts.slots l.initial.space.open l.initial.space.totals l.f.0 l.at l.fn.began.visits)) l.first l.inner l.tally.visits l.tally.sum l.behind l.required l.k l.space.parts.cells l.space.parts.slots l.space.open l.space.totals
+invariant-add_block-loop-k l = StatementsLeft l.world.typed.now.file.now.bytes l.world.typed.now.file.now.t l.world.typed.now.types.now l.world.places.now l.initial.space.parts.cells l.initial.space.parts.slots l.initial.space.open l.initial.space.totals l.f.0 l.b.0 l.base l.at l.held l.fn.began.sum (block_in l.world.typed.now.file.now.bytes l.world.typed.now.file.now.t l.f.0 l.b.0 l.held (context_at (read l.initial.space.parts.cells l.initial.space.parts.slots) l.base) l.break_required (state_in l.world.typed.now.file.now.bytes l.world.typed.now.file.now.t l.initial.space.parts.cells l.initial.space.parts.slots l.initial.space.open l.initial.space.totals l.f.0 l.at l.fn.began.visits)) l.first l.inner l.tally.visits l.tally.sum l.behind l.required l.k l.space.parts.cells l.space.parts.slots l.space.open l.space.totals
 
 abbrev pub invariant-add_switch-loop-k : goal.invariant-add_switch-loop-k
-invariant-add_switch-loop-k l = CasesGo l.world.file.now.bytes l.world.file.now.t l.world.types.now l.world.places.now l.initial.space.parts.cells l.initial.space.parts.slots l.initial.space.open l.initial.space.totals l.fr l.row l.fn.began.sum l.fn.began.visits l.outside l.k l.any l.tally.sum l.tally.visits l.space.parts.cells l.space.parts.slots l.space.open l.space.totals
+invariant-add_switch-loop-k l = CasesGo l.world.typed.now.file.now.bytes l.world.typed.now.file.now.t l.world.typed.now.types.now l.world.places.now l.initial.space.parts.cells l.initial.space.parts.slots l.initial.space.open l.initial.space.totals l.fr l.row l.fn.began.sum l.fn.began.visits l.outside l.k l.any l.tally.sum l.tally.visits l.space.parts.cells l.space.parts.slots l.space.open l.space.totals
 
 abbrev pub invariant-add_turns-loop-left : goal.invariant-add_turns-loop-left
-invariant-add_turns-loop-left l = TurnsLeft l.world.file.now.bytes l.world.file.now.t l.world.types.now l.world.places.now l.initial.space.parts.cells l.initial.space.parts.slots l.initial.space.open l.initial.space.totals l.fr l.b.0 l.body.0 l.continuing.0 l.fn.began.visits l.left l.tally.visits l.tally.sum l.space.parts.cells l.space.parts.slots l.space.open l.space.totals
+invariant-add_turns-loop-left l = TurnsLeft l.world.typed.now.file.now.bytes l.world.typed.now.file.now.t l.world.typed.now.types.now l.world.places.now l.initial.space.parts.cells l.initial.space.parts.slots l.initial.space.open l.initial.space.totals l.fr l.b.0 l.body.0 l.continuing.0 l.fn.began.visits l.left l.tally.visits l.tally.sum l.space.parts.cells l.space.parts.slots l.space.open l.space.totals
 
 abbrev pub decreases-add_arm : goal.decreases-add_arm
 decreases-add_arm l = 8 * (max_items * l.fr.function.0 + l.b.0) + 5

@@ -7,7 +7,7 @@ use Rattle.judge.proofs.indexes.fits_base.Goals as goal
 pub same_index-requires : goal.same_index-requires
 same_index-requires c =
     let low = led_low c.args.expression.now.row_of c.requires.le_kind c.requires.kind_bound c.expression_operand-base.ensures c.operand-i.ensures c.type_of-a.ensures c.type_of-b.ensures c.is_path.ensures c.pointee.ensures c.pointee-then-is_path.ensures in
-    record { shapes = c.args.expression.now.row_of.given.shapes; a_in_bounds = low.0; b_in_bounds = low.1 }
+    record { a_in_bounds = low.0; b_in_bounds = low.1 }
 
 pub returns-then-is_path : goal.returns-then-is_path
 returns-then-is_path c =
@@ -16,7 +16,7 @@ returns-then-is_path c =
 pub same_index-requires-then-is_value-2 : goal.same_index-requires-then-is_value-2
 same_index-requires-then-is_value-2 c =
     let low = types-low c.args.expression.now.row_of c.requires.le_kind c.requires.kind_bound c.expression_operand-base.ensures c.operand-i.ensures c.type_of-a.ensures c.type_of-b.ensures in
-    record { shapes = c.args.expression.now.row_of.given.shapes; a_in_bounds = low.0; b_in_bounds = low.1 }
+    record { a_in_bounds = low.0; b_in_bounds = low.1 }
 
 pub returns-then-is_value-2 : goal.returns-then-is_value-2
 returns-then-is_value-2 c =

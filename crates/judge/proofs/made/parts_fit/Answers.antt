@@ -8,7 +8,7 @@ loop-i-init c = each_none _
 
 pub same_part-requires : goal.same_part-requires
 same_part-requires c =
-    record { shapes = c.args.expression.now.row_of.given.shapes; a_in_bounds = c.requires.a_in_bounds; b_in_bounds = part_low c.args.expression.now.row_of c.requires.kind_value c.operand-count.ensures c.loop-i-test.true c.expression_operand.ensures c.type_of-b.ensures }
+    record { a_in_bounds = c.requires.a_in_bounds; b_in_bounds = part_low c.args.expression.now.row_of c.requires.kind_value c.operand-count.ensures c.loop-i-test.true c.expression_operand.ensures c.type_of-b.ensures }
 
 pub returns-then-not-same_part : goal.returns-then-not-same_part
 returns-then-not-same_part c =

@@ -6,7 +6,7 @@ use Rattle.judge.proofs.named.fits_named.Goals as goal
 pub fits_variable-requires : goal.fits_variable-requires
 fits_variable-requires c =
     let low = global_low c.args.expression.now.row_of c.type_of-own.ensures c.global_operand.ensures (search rules) c.global-a.ensures in
-    record { shapes = c.args.expression.now.row_of.given.shapes; a_in_bounds = low.0; b_in_bounds = low.1 }
+    record { a_in_bounds = low.0; b_in_bounds = low.1 }
 
 pub returns-in-Ok-GlobalVariable : goal.returns-in-Ok-GlobalVariable
 returns-in-Ok-GlobalVariable c =
@@ -15,7 +15,7 @@ returns-in-Ok-GlobalVariable c =
 pub fits_variable-requires-in-Ok-LocalVariable : goal.fits_variable-requires-in-Ok-LocalVariable
 fits_variable-requires-in-Ok-LocalVariable c =
     let low = local_low c.args.expression.now.row_of c.type_of-own.ensures c.local_operand.ensures (search rules) c.local-a.ensures in
-    record { shapes = c.args.expression.now.row_of.given.shapes; a_in_bounds = low.0; b_in_bounds = low.1 }
+    record { a_in_bounds = low.0; b_in_bounds = low.1 }
 
 pub returns-in-Ok-LocalVariable : goal.returns-in-Ok-LocalVariable
 returns-in-Ok-LocalVariable c =

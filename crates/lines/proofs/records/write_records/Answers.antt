@@ -2,12 +2,13 @@
 use Prim.Native.Nat.{◌+◌}
 use Rattle.lines.proofs.Along.{along_fits, along_more, along_done}
 use Rattle.lines.proofs.Rows.{records_next, records_none}
+use Rattle.marks.proofs.Write.{slice_at}
 use native.Mathlib.Omega.{arith}
 use Rattle.lines.proofs.records.write_records.Goals as goal
 
 pub write_record-requires : goal.write_record-requires
 write_record-requires c =
-    record { good = c.requires.good.0; p_bound = (c.requires.good.1 (c.args.base + c.loop-k.k) (omega (arith, c.requires.n_in_bounds.0)), along_fits c.requires.n_in_bounds.2 c.loop-k.invariant (records_next c.args.parts.now.cells c.args.parts.now.slots c.args.base c.args.n c.loop-k.k c.requires.n_in_bounds.0 (omega arith))) }
+    record { good = c.requires.good.0; p_bound = (omega (arith, slice_at c.args.parts.now.slots c.args.base c.args.n c.loop-k.k (omega arith), c.requires.good.1 (c.args.base + c.loop-k.k) (omega (arith, c.requires.n_in_bounds.0))), along_fits c.requires.n_in_bounds.2 c.loop-k.invariant (records_next c.args.parts.now.cells c.args.parts.now.slots c.args.base c.args.n c.loop-k.k c.requires.n_in_bounds.0 (omega arith))) }
 
 pub loop-k-preserved : goal.loop-k-preserved
 loop-k-preserved c =

@@ -10,8 +10,8 @@ pub loop-f-init : goal.loop-f-init
 unfolding report_in
 loop-f-init c = (write_none _ 0)
 
-pub slice_bounds-write_part-end : goal.slice_bounds-write_part-end
-slice_bounds-write_part-end c =
+pub slice_bounds-part-end : goal.slice_bounds-part-end
+slice_bounds-part-end c =
     let i = c.requires.0.each c.loop-f.f c.loop-f-test.true in let u = i.within in let l = still_long _ _ _ 0 c.loop-f.invariant in omega (arith, c.requires.3)
 
 pub write_part-requires : goal.write_part-requires

@@ -7,4 +7,4 @@ use Rattle.module.proofs.Cases.{Cases}
 use Rattle.module.proofs.operands.cases.Given as goal
 
 abbrev pub invariant-loop-k : goal.invariant-loop-k
-invariant-loop-k l = Cases l.stamp l.initial.seen (cases_after [] l.count (fields_in l.bytes l.initial.left)) l.seen (fields_in l.bytes l.left) (l.count - l._k)
+invariant-loop-k l = Cases l.stamp l.initial.seen (cases_after [] l.count (fields_in l.scope.bytes.now l.initial.left)) l.seen (fields_in l.scope.bytes.now l.left) (l.count - l._k)

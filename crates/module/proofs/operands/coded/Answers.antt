@@ -1,18 +1,21 @@
 -- `module::operands::coded` meets its contract.
-use mathlib.Core.Path.{sym, ◌∙◌}
+use mathlib.Core.Path.{◌≡◌, sym, ◌∙◌}
+use borrow.Author.Rules.{rules}
+use lib.ListN.{get_or}
 use Rattle.module.specs.Operands.{code_after}
 use Rattle.module.specs.Scan.{pass_of}
+use Rattle.std.proofs.lemmas.Bool.{ltb-true, ltb-false}
 use Rattle.module.proofs.Counted.{counted_none, counted-by, code_high, code_is}
 use Rattle.module.proofs.operands.coded.Goals as goal
 
-pub returns-in_err-number : goal.returns-in_err-number
-returns-in_err-number c = rw c.from_residual.ensures (counted_none _ c.in_err-number.ensures)
+pub returns-in_err-code : goal.returns-in_err-code
+returns-in_err-code c = rw c.from_residual.ensures (counted_none _ c.in_err-code.ensures)
 
-pub returns-then-handles-code : goal.returns-then-handles-code
-returns-then-handles-code c =
-    counted-by (code_after c.args.expressions c.args.handles.now) c.in_ok-number.ensures (sym (code_high _ _ _ _ c.if-handles-code.true))
+pub returns-in_err-count : goal.returns-in_err-count
+returns-in_err-count c = rw c.from_residual-in_err-count.ensures (counted-by (code_after c.args.scope.now.counts.row.expressions c.args.handles.now) c.in_ok-code.ensures (sym (code_high _ _ _ _ (ltb-false _ _ (sym c.in_err-count.ensures.lookup.0)))))
 
 pub returns : goal.returns
 unfolding pass_of
 returns c =
-    counted-by (code_after c.args.expressions c.args.handles.now) c.in_ok-number.ensures (c.many.ensures ∙ sym (code_is _ _ _ _ c.if-handles-code.false))
+    let count : c.in_ok-count.field-0.now ≡ get_or c.args.handles.now c.in_ok-code.code 0 = search rules in
+    counted-by (code_after c.args.scope.now.counts.row.expressions c.args.handles.now) c.in_ok-code.ensures ((rw count at c.many.ensures) ∙ sym (code_is _ _ _ _ (ltb-true _ _ (sym c.in_ok-count.ensures.lookup.0))))

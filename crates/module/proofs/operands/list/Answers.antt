@@ -9,4 +9,4 @@ returns-in_err-count c = rw c.from_residual.ensures (counted_none _ c.in_err-cou
 
 pub returns : goal.returns
 unfolding pass_of
-returns c = counted-by (many (below c.args.expressions)) c.in_ok-count.ensures c.many.ensures
+returns c = counted-by (many (below c.args.scope.now.counts.row.expressions)) c.in_ok-count.ensures c.many.ensures

@@ -10,4 +10,4 @@ returns-in_err-count c = rw c.from_residual.ensures (counted_none _ c.in_err-cou
 pub returns : goal.returns
 unfolding pass_of
 returns c =
-    counted-by (pairs (below c.args.types) (below_or_absent bindings)) c.in_ok-count.ensures c.pairs.ensures
+    counted-by (pairs (below c.args.scope.now.counts.types) (below_or_absent bindings)) c.in_ok-count.ensures c.pairs.ensures

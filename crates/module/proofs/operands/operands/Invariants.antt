@@ -7,4 +7,4 @@ use Rattle.module.proofs.Shaped.{Shaped}
 use Rattle.module.proofs.operands.operands.Given as goal
 
 abbrev pub invariant-loop-k : goal.invariant-loop-k
-invariant-loop-k l = Shaped (scope_in l.bytes l.t l.c) l.initial.seen l.stamp (operands (unpack classes l.shape) (scope_in l.bytes l.t l.c) (fields_in l.bytes l.initial.left)) l.seen l.packed l.k (fields_in l.bytes l.left)
+invariant-loop-k l = Shaped (scope_in l.scope.bytes.now l.scope.t.now l.scope.counts) l.initial.seen l.stamp (operands (unpack classes l.shape) (scope_in l.scope.bytes.now l.scope.t.now l.scope.counts) (fields_in l.scope.bytes.now l.initial.left)) l.seen l.packed l.k (fields_in l.scope.bytes.now l.left)

@@ -6,4 +6,4 @@ use Rattle.module.specs.Scan.{pass_of, fields_in}
 use Rattle.module.proofs.operands.pairs.Given as goal
 
 abbrev pub invariant-loop-k : goal.invariant-loop-k
-invariant-loop-k l = pairs (pass_of l.bytes l.t l.p) (pass_of l.bytes l.t l.q) (l.count - l._k) (fields_in l.bytes l.left) ≡ pairs (pass_of l.bytes l.t l.p) (pass_of l.bytes l.t l.q) l.count (fields_in l.bytes l.initial.left)
+invariant-loop-k l = pairs (pass_of l.scope.bytes.now l.scope.t.now l.p) (pass_of l.scope.bytes.now l.scope.t.now l.q) (l.count - l._k) (fields_in l.scope.bytes.now l.left) ≡ pairs (pass_of l.scope.bytes.now l.scope.t.now l.p) (pass_of l.scope.bytes.now l.scope.t.now l.q) l.count (fields_in l.scope.bytes.now l.initial.left)

@@ -4,9 +4,7 @@ use Rattle.needs.proofs.Steps.{going_more, going_end}
 use Rattle.needs.proofs.path.below.Goals as goal
 
 pub loop-i-preserved : goal.loop-i-preserved
-loop-i-preserved c =
-    rw c.unwrap_or-m.ensures
-    (going_more c.loop-i.invariant _ c.get-f.result c.requires.good c.loop-i-test.true refl c.get-f.ensures)
+loop-i-preserved c = going_more c.loop-i.invariant c.loop-i-test.true refl c.subpart-m.ensures
 
 pub returns : goal.returns
 returns c = going_end c.loop-i.invariant c.loop-i-test.false

@@ -43,13 +43,14 @@ pub ask_binary-requires-clause-arm_given : goal.ask_binary-requires-clause-arm_g
 ask_binary-requires-clause-arm_given c = (arm_given c.requires.operands_given c.expression-row.ensures)
 
 pub ask_load-requires-clause-list_given : goal.ask_load-requires-clause-list_given
-ask_load-requires-clause-list_given c = given_as (arm_given c.requires.operands_given c.expression-row.ensures) (load_list (arm_given c.requires.operands_given c.expression-row.ensures) (search rules) c.expression_operand-p.ensures)
+ask_load-requires-clause-list_given c = given_as (arm_given c.requires.operands_given c.expression-row.ensures) (load_list (arm_given c.requires.operands_given c.expression-row.ensures) (search rules) c.expression_operand.ensures)
 
-pub ask_load-requires-clause-pointer : goal.ask_load-requires-clause-pointer
-ask_load-requires-clause-pointer c = load_pointer (arm_given c.requires.operands_given c.expression-row.ensures) (search rules) c.expression_operand-p.ensures
+pub invariant_of-pointer : goal.invariant_of-pointer
+invariant_of-pointer c =
+    record { pointer = load_pointer (arm_given c.requires.operands_given c.expression-row.ensures) (search rules) c.expression_operand.ensures }
 
 pub returns-in-Ok-Load : goal.returns-in-Ok-Load
-returns-in-Ok-Load c = all_as (arm_given c.requires.operands_given c.expression-row.ensures) (load_list (arm_given c.requires.operands_given c.expression-row.ensures) (search rules) c.expression_operand-p.ensures) c.ask_load.ensures
+returns-in-Ok-Load c = all_as (arm_given c.requires.operands_given c.expression-row.ensures) (load_list (arm_given c.requires.operands_given c.expression-row.ensures) (search rules) c.expression_operand.ensures) c.ask_load.ensures
 
 pub ask_whole-requires : goal.ask_whole-requires
 ask_whole-requires c = given_as (arm_given c.requires.operands_given c.expression-row.ensures) (wholes_list (arm_given c.requires.operands_given c.expression-row.ensures) (search rules))

@@ -6,21 +6,21 @@ use Rattle.operands.proofs.Loads.{left_start, left_constant, left_given, left_fu
 use Rattle.operands.proofs.load.ask_indexes.Goals as goal
 
 pub loop-base-init : goal.loop-base-init
-loop-base-init c = left_start c.requires.pointer c.requires.list_given
+loop-base-init c = left_start c.args.pointer.now c.requires
 
 pub loop-base-preserved-in-Constant : goal.loop-base-preserved-in-Constant
 loop-base-preserved-in-Constant c =
-    left_constant c.requires.pointer c.requires.list_given c.loop-base.invariant c.step_down.ensures c.in-Constant.is
+    left_constant c.args.pointer.now c.requires c.loop-base.invariant c.step_down.ensures c.in-Constant.is
 
 pub ask_value-requires : goal.ask_value-requires
 ask_value-requires c =
-    value_given (left_given c.requires.pointer c.requires.list_given c.loop-base.invariant c.step_down.ensures c.in-Dynamic.is) refl 0 (part-0 _) (all_piece (left_given c.requires.pointer c.requires.list_given c.loop-base.invariant c.step_down.ensures c.in-Dynamic.is))
+    value_given (left_given c.args.pointer.now c.requires c.loop-base.invariant c.step_down.ensures c.in-Dynamic.is) refl 0 (part-0 _) (all_piece (left_given c.args.pointer.now c.requires c.loop-base.invariant c.step_down.ensures c.in-Dynamic.is))
 
 pub returns-in_err-ask_value-in-Dynamic : goal.returns-in_err-ask_value-in-Dynamic
 returns-in_err-ask_value-in-Dynamic c =
     rw c.from_residual.ensures
-    (left_full c.requires.pointer c.requires.list_given c.loop-base.invariant c.step_down.ensures c.in-Dynamic.is (value_all (left_given c.requires.pointer c.requires.list_given c.loop-base.invariant c.step_down.ensures c.in-Dynamic.is) refl 0 (part-0 _) c.in_err-ask_value-in-Dynamic.ensures) refl)
+    (left_full c.args.pointer.now c.requires c.loop-base.invariant c.step_down.ensures c.in-Dynamic.is (value_all (left_given c.args.pointer.now c.requires c.loop-base.invariant c.step_down.ensures c.in-Dynamic.is) refl 0 (part-0 _) c.in_err-ask_value-in-Dynamic.ensures) refl)
 
 pub loop-base-preserved : goal.loop-base-preserved
 loop-base-preserved c =
-    left_dynamic c.requires.pointer c.requires.list_given c.loop-base.invariant c.step_down.ensures c.in-Dynamic.is (value_all (left_given c.requires.pointer c.requires.list_given c.loop-base.invariant c.step_down.ensures c.in-Dynamic.is) refl 0 (part-0 _) c.in_ok-ask_value-in-Dynamic.ensures) refl
+    left_dynamic c.args.pointer.now c.requires c.loop-base.invariant c.step_down.ensures c.in-Dynamic.is (value_all (left_given c.args.pointer.now c.requires c.loop-base.invariant c.step_down.ensures c.in-Dynamic.is) refl 0 (part-0 _) c.in_ok-ask_value-in-Dynamic.ensures) refl

@@ -1,12 +1,12 @@
 -- `operands::made::ask_components` meets its contract. The invariant: the asks from the number k on are done.
 use mathlib.Core.Bool.{true}
 use lib.ListN.{drop}
-use Rattle.access.specs.Access.{operand_at}
-use Rattle.judge.specs.Given.{scope_at}
+use Rattle.operands.specs.Arms.{operands_of}
+use Rattle.judge.specs.Subject.{scope_of}
 use Rattle.clearance.specs.Needs.{ask_components}
 use Rattle.operands.specs.Lists.{components}
 use Rattle.operands.specs.AsksAll.{wanted_in, AsksAll}
 use Rattle.operands.proofs.made.ask_components.Given as goal
 
 abbrev pub invariant-loop-k : goal.invariant-loop-k
-invariant-loop-k l = AsksAll (scope_at l.file.bytes l.file.t l.f.0) (drop l.k (ask_components (components (operand_at l.file.bytes l.row)) 0 (wanted_in l.initial.parts.cells l.initial.parts.slots l.n))) l.initial.parts.cells l.initial.parts.slots l.n l.parts.cells l.parts.slots true
+invariant-loop-k l = AsksAll (scope_of l.expression.subject.now) (drop l.k (ask_components (components (operands_of l.expression)) 0 (wanted_in l.initial.parts.cells l.initial.parts.slots l.n))) l.initial.parts.cells l.initial.parts.slots l.n l.parts.cells l.parts.slots true

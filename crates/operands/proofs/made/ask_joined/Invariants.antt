@@ -1,8 +1,8 @@
 -- `operands::made::ask_joined` meets its contract. The invariant: the asks from the number k on are done.
 use mathlib.Core.Bool.{true}
 use lib.ListN.{drop}
-use Rattle.access.specs.Access.{operand_at}
-use Rattle.judge.specs.Given.{scope_at}
+use Rattle.operands.specs.Arms.{operands_of}
+use Rattle.judge.specs.Subject.{scope_of}
 use mathlib.Core.List.{map}
 use Rattle.clearance.specs.Needs.{ask_whole}
 use Rattle.operands.specs.Lists.{components}
@@ -10,4 +10,4 @@ use Rattle.operands.specs.AsksAll.{AsksAll}
 use Rattle.operands.proofs.made.ask_joined.Given as goal
 
 abbrev pub invariant-loop-k : goal.invariant-loop-k
-invariant-loop-k l = AsksAll (scope_at l.file.bytes l.file.t l.f.0) (drop l.k (map ask_whole (components (operand_at l.file.bytes l.row)))) l.initial.parts.cells l.initial.parts.slots l.n l.parts.cells l.parts.slots true
+invariant-loop-k l = AsksAll (scope_of l.expression.subject.now) (drop l.k (map ask_whole (components (operands_of l.expression)))) l.initial.parts.cells l.initial.parts.slots l.n l.parts.cells l.parts.slots true

@@ -1,12 +1,12 @@
 -- `operands::made::ask_letters` meets its contract. The invariant: the asks from the number k on are done.
 use mathlib.Core.Bool.{true}
 use lib.ListN.{drop}
-use Rattle.access.specs.Access.{operand_at}
-use Rattle.judge.specs.Given.{scope_at}
+use Rattle.operands.specs.Arms.{operands_of}
+use Rattle.judge.specs.Subject.{scope_of}
 use Rattle.clearance.specs.Needs.{ask_picked}
 use Rattle.operands.specs.Lists.{letters}
 use Rattle.operands.specs.AsksAll.{wanted_in, AsksAll}
 use Rattle.operands.proofs.made.ask_letters.Given as goal
 
 abbrev pub invariant-loop-k : goal.invariant-loop-k
-invariant-loop-k l = AsksAll (scope_at l.file.bytes l.file.t l.f.0) (drop l.k (ask_picked (operand_at l.file.bytes l.row 0) (letters (operand_at l.file.bytes l.row)) 0 (wanted_in l.initial.parts.cells l.initial.parts.slots l.n))) l.initial.parts.cells l.initial.parts.slots l.n l.parts.cells l.parts.slots true
+invariant-loop-k l = AsksAll (scope_of l.expression.subject.now) (drop l.k (ask_picked (operands_of l.expression 0) (letters (operands_of l.expression)) 0 (wanted_in l.initial.parts.cells l.initial.parts.slots l.n))) l.initial.parts.cells l.initial.parts.slots l.n l.parts.cells l.parts.slots true

@@ -5,7 +5,7 @@ use Rattle.pruner.proofs.kept.read_context.Goals as goal
 
 pub read_lists-requires : goal.read_lists-requires
 read_lists-requires c =
-    record { good = c.requires.memory.0.good; at_in_bounds = (c.requires.at_in_bounds.0, c.requires.at_in_bounds.1); limits = c.requires.limits }
+    record { good = c.requires.memory.0.good; room = c.requires.room.0; limits = c.requires.limits }
 
 pub returns-in_err-c : goal.returns-in_err-c
 returns-in_err-c c =

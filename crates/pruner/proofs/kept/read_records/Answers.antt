@@ -2,15 +2,16 @@
 use Rattle.pruner.proofs.Pieces.{piece_placed}
 use Rattle.pruner.proofs.Recording.{recording_first, recording_room, recording_refused, recording_many, recording_more, recording_done}
 use native.Mathlib.Omega.{arith}
+use mathlib.Core.Path.{refl}
 use Rattle.pruner.proofs.kept.read_records.Goals as goal
 
 pub loop-k-init : goal.loop-k-init
 loop-k-init c =
-    recording_first c.args.base c.args.n c.requires.memory.0 c.requires.at_in_bounds.0 c.requires.at_in_bounds.2
+    recording_first c.args.base c.args.n c.requires.memory.0 c.requires.room.1
 
 pub read_single-requires : goal.read_single-requires
 read_single-requires c =
-    record { good = c.loop-k.invariant.memory.good; at_in_bounds = (c.loop-k.invariant.spent.inside, recording_room c.loop-k.invariant c.loop-k-test.true c.requires.at_in_bounds.1) }
+    record { good = c.loop-k.invariant.memory.good; room = recording_room c.loop-k.invariant c.loop-k-test.true c.requires.room.0 }
 
 pub returns-in_err-p : goal.returns-in_err-p
 returns-in_err-p c =
@@ -29,4 +30,4 @@ loop-k-preserved c =
     recording_more c.loop-k.invariant c.loop-k-test.true c.read_single.ensures c.in_ok-p.was c.entries.ensures (omega (arith, c.if-count-gt-MAX_PIECES.false)) c.requires.memory.1 c.requires.memory.2
 
 pub returns : goal.returns
-returns c = recording_done c.loop-k.invariant (omega (arith, c.loop-k-test.false))
+returns c = recording_done c.loop-k.invariant refl (omega (arith, c.loop-k-test.false))

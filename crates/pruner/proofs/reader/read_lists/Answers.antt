@@ -3,7 +3,7 @@ use Rattle.pruner.proofs.Pieces.{lists-no_retval, globals_room, lists-no_globals
 use Rattle.pruner.proofs.reader.read_lists.Goals as goal
 
 pub read_single-requires : goal.read_single-requires
-read_single-requires c = record { good = c.requires.good; at_in_bounds = c.requires.at_in_bounds }
+read_single-requires c = record { good = c.requires.good; room = c.requires.room }
 
 pub returns-in_err-p : goal.returns-in_err-p
 returns-in_err-p c =
@@ -11,8 +11,8 @@ returns-in_err-p c =
 
 pub read_map-requires : goal.read_map-requires
 read_map-requires c =
-    let h = globals_room c.args.globals c.args.args c.args.locals c.read_single.ensures c.in_ok-p.was c.requires.at_in_bounds.1 in
-    record { good = c.read_single.ensures.kept.good; at_in_bounds = h; limit_le_absent = c.requires.limits.globals_fit }
+    let h = globals_room c.args.globals c.args.args c.args.locals c.read_single.ensures c.in_ok-p.was c.requires.room in
+    record { good = c.read_single.ensures.kept.good; room = h; limit_le_absent = c.requires.limits.globals_fit }
 
 pub returns-in_err-g : goal.returns-in_err-g
 returns-in_err-g c =
@@ -20,8 +20,8 @@ returns-in_err-g c =
 
 pub read_map-requires-2 : goal.read_map-requires-2
 read_map-requires-2 c =
-    let h = args_room c.args.globals c.args.args c.args.locals c.read_single.ensures c.in_ok-p.was c.read_map.ensures c.in_ok-g.was c.requires.at_in_bounds.1 in
-    record { good = c.read_map.ensures.kept.good; at_in_bounds = h; limit_le_absent = c.requires.limits.args_fit }
+    let h = args_room c.args.globals c.args.args c.args.locals c.read_single.ensures c.in_ok-p.was c.read_map.ensures c.in_ok-g.was c.requires.room in
+    record { good = c.read_map.ensures.kept.good; room = h; limit_le_absent = c.requires.limits.args_fit }
 
 pub returns-in_err-x : goal.returns-in_err-x
 returns-in_err-x c =
@@ -29,8 +29,8 @@ returns-in_err-x c =
 
 pub read_map-requires-3 : goal.read_map-requires-3
 read_map-requires-3 c =
-    let h = locals_room c.args.globals c.args.args c.args.locals c.read_single.ensures c.in_ok-p.was c.read_map.ensures c.in_ok-g.was c.read_map-2.ensures c.in_ok-x.was c.requires.at_in_bounds.1 in
-    record { good = c.read_map-2.ensures.kept.good; at_in_bounds = h; limit_le_absent = c.requires.limits.locals_fit }
+    let h = locals_room c.args.globals c.args.args c.args.locals c.read_single.ensures c.in_ok-p.was c.read_map.ensures c.in_ok-g.was c.read_map-2.ensures c.in_ok-x.was c.requires.room in
+    record { good = c.read_map-2.ensures.kept.good; room = h; limit_le_absent = c.requires.limits.locals_fit }
 
 pub returns-in_err-l : goal.returns-in_err-l
 returns-in_err-l c =

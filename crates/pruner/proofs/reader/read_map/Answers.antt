@@ -4,13 +4,13 @@ use Rattle.pruner.proofs.reader.read_map.Goals as goal
 
 pub read_variables-requires : goal.read_variables-requires
 read_variables-requires c =
-    record { good = c.requires.good; at_in_bounds = c.requires.at_in_bounds; limit_le_absent = c.requires.limit_le_absent }
+    record { good = c.requires.good; room = c.requires.room; limit_le_absent = c.requires.limit_le_absent }
 
 pub returns-in_err-o : goal.returns-in_err-o
-returns-in_err-o c = rw c.from_residual.ensures (map_refused c.args.limit _ _ c.in_err-o.ensures)
+returns-in_err-o c = rw c.from_residual.ensures (map_refused c.args.limit _ c.in_err-o.ensures)
 
 pub returns-in_err-p : goal.returns-in_err-p
-returns-in_err-p c = rw c.from_residual-in_err-p.ensures (map_unknown c.args.limit _ _ c.in_ok-o.ensures c.in_err-p.was)
+returns-in_err-p c = rw c.from_residual-in_err-p.ensures (map_unknown c.args.limit _ c.in_ok-o.ensures c.in_err-p.was)
 
 pub returns : goal.returns
-returns c = map_read c.args.limit _ _ c.in_ok-o.ensures c.in_ok-p.was
+returns c = map_read c.args.limit _ c.in_ok-o.ensures c.in_ok-p.was

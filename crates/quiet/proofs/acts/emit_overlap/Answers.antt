@@ -8,4 +8,4 @@ returns-then-not-gives_value c =
 
 pub returns : goal.returns
 returns c =
-    emit-some c.requires.needing c.requires.e_in_bounds c.gives_value.ensures c.if-not-gives_value.false c.evaluated_path.ensures.long c.evaluated_path.ensures.is c.below.ensures
+    emit-some c.requires.needing c.requires.e_in_bounds c.gives_value.ensures c.if-not-gives_value.false c.evaluated_path.ensures.long c.evaluated_path.ensures.is c.below-piece.ensures c.something.ensures

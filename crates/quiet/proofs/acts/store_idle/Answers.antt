@@ -3,4 +3,4 @@ use Rattle.quiet.proofs.Overlaps.{idle_by}
 use Rattle.quiet.proofs.acts.store_idle.Goals as goal
 
 pub returns : goal.returns
-returns c = λ v. idle_by (c.store_overlap.ensures v) c.is_some.ensures
+returns c = λ v. idle_by (c.store_overlap.ensures v) c.is_none.ensures

@@ -9,11 +9,12 @@ quiet_emits-requires-clause-last_in_bounds c = last-there c.requires.needing.wor
 pub returns-in-Ok-Emit : goal.returns-in-Ok-Emit
 returns-in-Ok-Emit c = quiet_emit c.requires.needing.world c.requires.s_in_bounds c.requires.row_value _ _ (search rules) c.expression_operand-first.ensures c.expression_operand-last.ensures c.quiet_emits.ensures
 
-pub store_idle-requires-clause-pointer : goal.store_idle-requires-clause-pointer
-store_idle-requires-clause-pointer c = stored_pointer c.requires.needing.world c.requires.s_in_bounds c.requires.row_value (search rules) c.expression_operand-p.ensures
+pub invariant_of-pointer : goal.invariant_of-pointer
+invariant_of-pointer c =
+    record { pointer = stored_pointer c.requires.needing.world c.requires.s_in_bounds c.requires.row_value (search rules) c.expression_operand.ensures }
 
 pub returns-in-Ok-Store : goal.returns-in-Ok-Store
-returns-in-Ok-Store c = quiet_store c.requires.needing.world c.requires.s_in_bounds c.requires.row_value _ _ (search rules) c.expression_operand-p.ensures c.store_idle.ensures
+returns-in-Ok-Store c = quiet_store c.requires.needing.world c.requires.s_in_bounds c.requires.row_value _ _ (search rules) c.expression_operand.ensures c.store_idle.ensures
 
 pub returns-in-Ok-Continue : goal.returns-in-Ok-Continue
 returns-in-Ok-Continue c = quiet_continue c.requires.needing.world c.requires.s_in_bounds c.requires.row_value _ _ _ (search rules)

@@ -15,7 +15,7 @@ shape_of-t c = rw (mark_done _ _ _ _ (omega (arith, c.loop-e-test.false)) c.loop
 
 pub returns-after-loop-e : goal.returns-after-loop-e
 returns-after-loop-e c =
-    mark_done _ _ _ _ (omega (arith, c.loop-e-test.false)) c.loop-e.invariant ∙ is_emit _ _ _ c.body.ensures _ _ c.if-body.true c.body-first.ensures c.body-last.ensures
+    mark_done _ _ _ _ (omega (arith, c.loop-e-test.false)) c.loop-e.invariant ∙ is_emit _ _ _ c.field.ensures _ _ c.if-field.true c.field-first.ensures c.field-last.ensures
 
-pub returns-else-body : goal.returns-else-body
-returns-else-body c = no_emit _ _ _ c.body.ensures c.if-body.false
+pub returns-else-field : goal.returns-else-field
+returns-else-field c = no_emit _ _ _ c.field.ensures c.if-field.false

@@ -1,4 +1,5 @@
 -- `reading::record::body_next` meets its contract: a limit that is passed, values that are not allowed, or the record is added.
+use mathlib.Core.Path.{refl}
 use Rattle.reading.proofs.Stepping.{begun_fits, stamps_fit, too_many, not_allowed, goes}
 use Rattle.reading.proofs.record.body_next.Goals as goal
 
@@ -11,10 +12,10 @@ fine-requires c = record { fresh = c.requires.unseen; at_bound = stamps_fit _ c.
 pub add-requires : goal.add-requires
 add-requires c = begun_fits _ c.requires
 
-pub returns-then-fine : goal.returns-then-fine
-returns-then-fine c =
-    goes _ _ _ _ _ _ c.over.ensures _ c.fine.ensures.value c.if-over.false _ c.requires c.if-fine.true _ _ _ c.fine.ensures.stamped c.add.ensures.t_after c.add.ensures.value
+pub returns-in_default : goal.returns-in_default
+returns-in_default c =
+    not_allowed _ _ _ _ _ _ c.over.ensures _ (rw c.in_default.is at c.fine.ensures.value) c.if-over.false _ refl
 
 pub returns : goal.returns
 returns c =
-    not_allowed _ _ _ _ _ _ c.over.ensures _ c.fine.ensures.value c.if-over.false _ c.if-fine.false
+    goes _ _ _ _ _ _ c.over.ensures _ (rw c.in-Some.is at c.fine.ensures.value) c.if-over.false _ c.requires refl _ _ _ c.fine.ensures.stamped c.add.ensures.t_after c.add.ensures.value

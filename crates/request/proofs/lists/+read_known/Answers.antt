@@ -6,7 +6,7 @@ use Rattle.request.proofs.Variables.{known_skimmed, known_empty, known_none, kno
 use Rattle.request.proofs.lists.+read_known.Goals as goal
 
 pub returns-then-n-eq0 : goal.returns-then-n-eq0
-returns-then-n-eq0 t c = known_empty c.requires.good _ _ c.requires.at_in_bounds.0 _ _ _ c.if-n-eq0.true
+returns-then-n-eq0 t c = known_empty c.requires.good c.args.bytes _ _ _ c.if-n-eq0.true
 
 pub returns-in_err-i : goal.returns-in_err-i
 returns-in_err-i t c =
@@ -15,10 +15,8 @@ returns-in_err-i t c =
 pub returns-then-limit-i : goal.returns-then-limit-i
 returns-then-limit-i t c = known_skimmed _ (index_read {n = c.args.n} (pred_of _ c.if-n-eq0.false) c.in_ok-i.ensures) c.if-limit-i.true c.skim.ensures
 
-pub read_part-requires-clause-at_in_bounds : goal.read_part-requires-clause-at_in_bounds
-read_part-requires-clause-at_in_bounds t c =
-    let x = index_read {n = c.args.n} (pred_of _ c.if-n-eq0.false) c.in_ok-i.ensures in
-    (x.field.inside, omega (arith, c.requires.at_in_bounds))
+pub read_part-requires-clause-room : goal.read_part-requires-clause-room
+read_part-requires-clause-room t c = omega (arith, c.requires.room, c.in_ok-i.ensures.placed)
 
 pub returns-in_err-p : goal.returns-in_err-p
 returns-in_err-p t c = rw c.from_residual-in_err-p.ensures (known_no_part _ (index_read {n = c.args.n} (pred_of _ c.if-n-eq0.false) c.in_ok-i.ensures) c.if-limit-i.false c.in_err-p.ensures)

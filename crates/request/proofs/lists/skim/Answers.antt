@@ -9,19 +9,18 @@ use Rattle.request.proofs.lists.skim.Goals as goal
 
 pub loop-init : goal.loop-init
 loop-init c =
-    let e : c.args.n - 0 ≡ c.args.n = omega arith in rw e (skim_first _ _ c.requires.good c.requires.at_in_bounds.0)
-
-pub entry_index-requires : goal.entry_index-requires
-entry_index-requires c = c.loop.invariant.spent.inside
+    let e : c.args.n - 0 ≡ c.args.n = omega arith in rw e (skim_first _ _ _ c.requires.good)
 
 pub returns-in_err-i : goal.returns-in_err-i
 returns-in_err-i c =
     rw c.from_residual.ensures (skim_none c.loop.invariant (index_refused (omega arith) c.in_err-i.ensures _ _))
 
-pub read_part-requires-clause-at_in_bounds : goal.read_part-requires-clause-at_in_bounds
-read_part-requires-clause-at_in_bounds c =
-    let x = index_read {n = c.args.n - c.loop.counter} (pred_of _ (omega arith)) c.in_ok-i.ensures in
-    (x.field.inside, skim_room c.loop.invariant c.requires.at_in_bounds.1 x.field.inside)
+pub read_part-requires-clause-good : goal.read_part-requires-clause-good
+read_part-requires-clause-good c = c.loop.invariant.kept.good
+
+pub read_part-requires-clause-room : goal.read_part-requires-clause-room
+read_part-requires-clause-room c =
+    skim_room c.loop.invariant (index_read {n = c.args.n - c.loop.counter} (pred_of _ (omega arith)) c.in_ok-i.ensures) c.requires.room
 
 pub returns-in_err-p : goal.returns-in_err-p
 returns-in_err-p c =

@@ -1,24 +1,25 @@
 -- `requests::begin::begin_request` meets its contract: the request's refusal, 19 of the totals, or a memory in which both stand.
 use native.Mathlib.Omega.{arith}
-use borrow.Author.Tests.{not-true, not-false}
+use Rattle.request.proofs.Ways.{there, missing, refuses}
 use Rattle.requests.proofs.Basing.{passed}
 use Rattle.requests.proofs.Beginning.{beginning_of, few_globals, begins_refused, begins_19, clear_asks, tidy_asks, weighs, begins}
 use Rattle.requests.proofs.begin.begin_request.Goals as goal
 
-pub returns-then-not-read_pruner : goal.returns-then-not-read_pruner
-returns-then-not-read_pruner c =
+pub returns-in_err-ok_or : goal.returns-in_err-ok_or
+returns-in_err-ok_or c =
     let asks = beginning_of c.args.world.now c.args.space.now (omega arith) in
-    begins_19 asks c.args.report c.args.request.now c.args.pruner.now c.functions.ensures c.globals.ensures c.load_request.ensures c.in_ok-function.was c.read_pruner.ensures (not-true c.read_pruner.result c.if-not-read_pruner.true-raw)
+    rw (refuses _ c.from_residual-in_err-ok_or.ensures.1 c.ok_or.ensures.value c.in_err-ok_or.was)
+    (begins_19 asks c.args.report c.args.request.now c.args.pruner.now c.functions.ensures c.globals.ensures c.load_request.ensures c.in_ok-function.was c.read_pruner.ensures (missing c.ok_or.ensures.ok_part c.in_err-ok_or.was))
 
 pub clear_marks-requires : goal.clear_marks-requires
 clear_marks-requires c =
     let asks = beginning_of c.args.world.now c.args.space.now (omega arith) in
-    clear_asks asks c.args.report c.args.request.now c.args.pruner.now c.functions.ensures c.globals.ensures c.load_request.ensures c.in_ok-function.was c.read_pruner.ensures (not-false c.read_pruner.result c.if-not-read_pruner.false-raw)
+    clear_asks asks c.args.report c.args.request.now c.args.pruner.now c.functions.ensures c.globals.ensures c.load_request.ensures c.in_ok-function.was c.read_pruner.ensures (there c.ok_or.ensures.ok_part c.in_ok-ok_or.was)
 
 pub weigh_totals-sum-requires : goal.weigh_totals-sum-requires
 weigh_totals-sum-requires c =
     let asks = beginning_of c.args.world.now c.args.space.now (omega arith) in
-    weighs asks c.args.report c.args.request.now c.args.pruner.now c.functions.ensures c.globals.ensures c.load_request.ensures c.in_ok-function.was c.read_pruner.ensures (not-false c.read_pruner.result c.if-not-read_pruner.false-raw) c.tidy.ensures
+    weighs asks c.args.report c.args.request.now c.args.pruner.now c.functions.ensures c.globals.ensures c.load_request.ensures c.in_ok-function.was c.read_pruner.ensures (there c.ok_or.ensures.ok_part c.in_ok-ok_or.was) c.tidy.ensures
 
 pub returns-in_err-function : goal.returns-in_err-function
 returns-in_err-function c =
@@ -28,7 +29,7 @@ returns-in_err-function c =
 pub returns : goal.returns
 returns c =
     let asks = beginning_of c.args.world.now c.args.space.now (omega arith) in
-    begins asks c.args.report c.args.request.now c.args.pruner.now c.functions.ensures c.globals.ensures c.load_request.ensures c.in_ok-function.was c.read_pruner.ensures (not-false c.read_pruner.result c.if-not-read_pruner.false-raw) c.tidy.ensures c.clear_marks.ensures c.weigh_totals-sum.ensures
+    begins asks c.args.report c.args.request.now c.args.pruner.now c.functions.ensures c.globals.ensures c.load_request.ensures c.in_ok-function.was c.read_pruner.ensures (there c.ok_or.ensures.ok_part c.in_ok-ok_or.was) c.tidy.ensures c.clear_marks.ensures c.weigh_totals-sum.ensures
 
 pub load_request-requires : goal.load_request-requires
 load_request-requires c =
@@ -38,4 +39,4 @@ load_request-requires c =
 pub tidy-requires-clause-slots_bound : goal.tidy-requires-clause-slots_bound
 tidy-requires-clause-slots_bound c =
     let asks = beginning_of c.args.world.now c.args.space.now (omega arith) in
-    (tidy_asks asks c.args.report c.args.request.now c.args.pruner.now c.functions.ensures c.globals.ensures c.load_request.ensures c.in_ok-function.was c.read_pruner.ensures (not-false c.read_pruner.result c.if-not-read_pruner.false-raw)).1
+    (tidy_asks asks c.args.report c.args.request.now c.args.pruner.now c.functions.ensures c.globals.ensures c.load_request.ensures c.in_ok-function.was c.read_pruner.ensures (there c.ok_or.ensures.ok_part c.in_ok-ok_or.was)).1

@@ -13,7 +13,7 @@ returns-then-answer-lt-MIN_ANSWER c =
 
 pub walk_request-requires : goal.walk_request-requires
 walk_request-requires c =
-    serve_walking c.args.report.now c.args.answer.now c.begin_request.ensures c.in_ok-begun.was c.args.world.now.rows c.if-pruner-lt-MIN_PRUNER.false c.if-answer-lt-MIN_ANSWER.false
+    serve_walking c.args.report.now c.args.answer.now c.begin_request.ensures c.in_ok-begun.was c.args.world.now.typed.now.rows c.if-pruner-lt-MIN_PRUNER.false c.if-answer-lt-MIN_ANSWER.false
 
 pub returns-in_err-begun : goal.returns-in_err-begun
 returns-in_err-begun c =
@@ -21,4 +21,4 @@ returns-in_err-begun c =
 
 pub returns : goal.returns
 returns c =
-    served c.args.report.now c.args.answer.now c.begin_request.ensures c.in_ok-begun.was c.args.world.now.rows c.if-pruner-lt-MIN_PRUNER.false c.if-answer-lt-MIN_ANSWER.false c.walk_request.ensures
+    served c.args.report.now c.args.answer.now c.begin_request.ensures c.in_ok-begun.was c.args.world.now.typed.now.rows c.if-pruner-lt-MIN_PRUNER.false c.if-answer-lt-MIN_ANSWER.false c.walk_request.ensures

@@ -5,16 +5,16 @@ use Rattle.statement.proofs.store.store.Goals as goal
 
 pub take-requires : goal.take-requires
 take-requires c =
-    store_takes c.requires.aiming c.target_of.ensures c.in_ok-aim.was c.in-Some.is c.requires.types_value
+    store_takes c.requires c.target_of.ensures c.in_ok-aim.was c.in-Some.is
 
 pub returns-in-None : goal.returns-in-None
-returns-in-None c = store_none c.requires.aiming c.target_of.ensures c.in_ok-aim.was c.in-None.is
+returns-in-None c = store_none c.requires c.target_of.ensures c.in_ok-aim.was c.in-None.is
 
 pub returns-in_err-take-in-Some : goal.returns-in_err-take-in-Some
 returns-in_err-take-in-Some c =
     rw (passed c.from_residual-in_err-take-in-Some.ensures.1)
-    (store_stops c.requires.aiming c.target_of.ensures c.in_ok-aim.was c.in-Some.is c.take.ensures c.in_err-take-in-Some.was)
+    (store_stops c.requires c.target_of.ensures c.in_ok-aim.was c.in-Some.is c.take.ensures c.in_err-take-in-Some.was)
 
 pub returns-in_ok-take-in-Some : goal.returns-in_ok-take-in-Some
 returns-in_ok-take-in-Some c =
-    store_goes c.requires.aiming c.target_of.ensures c.in_ok-aim.was c.in-Some.is c.take.ensures c.in_ok-take-in-Some.was
+    store_goes c.requires c.target_of.ensures c.in_ok-aim.was c.in-Some.is c.take.ensures c.in_ok-take-in-Some.was

@@ -3,8 +3,8 @@ use Rattle.state.proofs.Ends.{passed}
 use Rattle.statement.proofs.Fields.{store_aims, store_refuses, store_unneeded, store-fields, store_asks}
 use Rattle.statement.proofs.stores.add_store.Goals as goal
 
-pub store-requires-clause-aiming : goal.store-requires-clause-aiming
-store-requires-clause-aiming c = store_aims c.requires.arm c.requires.store_kind 0 c.store_fields-x.ensures
+pub store-requires : goal.store-requires
+store-requires c = store_aims c.requires.arm c.requires.store_kind 0 c.store_fields-x.ensures
 
 pub ask_fields-r-requires : goal.ask_fields-r-requires
 ask_fields-r-requires c =

@@ -4,4 +4,4 @@ use Rattle.access.proofs.file.File.expression.Goals as goal
 
 pub returns : goal.returns
 unfolding expression_row
-returns c = rw (← c.self.view_is, c.body.ensures, c.word-offset.ensures, c.expressions_from.ensures, c.row_at-row.ensures)
+returns c = rw (← c.self.view_is, c.body.ensures, c.item-offset.ensures, c.expressions_from.ensures, c.row_at-row.ensures)

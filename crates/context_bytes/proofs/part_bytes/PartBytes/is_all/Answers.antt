@@ -1,7 +1,9 @@
 -- `PartBytes::is_all` meets its contract, by the part's code.
-use mathlib.Core.Path.{refl, ◌∙◌}
-use Rattle.context_bytes.proofs.Found.{is_all_by}
+use Rattle.context_bytes.proofs.Found.{yes_all, no_all}
 use Rattle.context_bytes.proofs.part_bytes.PartBytes.is_all.Goals as goal
 
-pub returns : goal.returns
-returns c = c.eq.ensures ∙ is_all_by c.args.self.now.readable _ refl refl (λ n. refl) c.part_code.result c.part_code.ensures
+pub returns-in-All : goal.returns-in-All
+returns-in-All c = yes_all c.args.self.now.readable (rw c.in-All.is at c.in-Some.ensures)
+
+pub returns-in_default-code : goal.returns-in_default-code
+returns-in_default-code c = no_all c.args.self.now.readable _ c.in_default-code.not-All c.in-Some.ensures

@@ -1,7 +1,9 @@
 -- `PartBytes::is_exist` meets its contract, by the part's code.
-use mathlib.Core.Path.{refl, ◌∙◌}
-use Rattle.context_bytes.proofs.Found.{is_exist_by}
+use Rattle.context_bytes.proofs.Found.{yes_exist, no_exist}
 use Rattle.context_bytes.proofs.part_bytes.PartBytes.is_exist.Goals as goal
 
-pub returns : goal.returns
-returns c = c.eq.ensures ∙ is_exist_by c.args.self.now.readable _ refl refl (λ n. refl) c.part_code.result c.part_code.ensures
+pub returns-in-Exist : goal.returns-in-Exist
+returns-in-Exist c = yes_exist c.args.self.now.readable (rw c.in-Exist.is at c.in-Some.ensures)
+
+pub returns-in_default-code : goal.returns-in_default-code
+returns-in_default-code c = no_exist c.args.self.now.readable _ c.in_default-code.not-Exist c.in-Some.ensures

@@ -2,8 +2,8 @@
 use Rattle.context_bytes.proofs.Found.{found_variable}
 use Rattle.context_bytes.proofs.variables_bytes.VariablesBytes.get.Goals as goal
 
-pub returns-in_err-at : goal.returns-in_err-at
-returns-in_err-at c = rw c.from_residual.ensures (found_variable c.args.self.now.readable c.in_err-at.ensures)
+pub returns-in_err-bytes : goal.returns-in_err-bytes
+returns-in_err-bytes c = rw c.from_residual.ensures (found_variable c.args.self.now.readable c.in_err-bytes.ensures)
 
 pub returns : goal.returns
-returns c = (found_variable c.args.self.now.readable c.in_ok-at.ensures).1
+returns c = (found_variable c.args.self.now.readable c.in_ok-bytes.ensures).1

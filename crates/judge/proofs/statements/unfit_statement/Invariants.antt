@@ -1,9 +1,0 @@
--- `judge::statements::unfit_statement` meets its contract. The invariant: the statements below s fit.
-use Rattle.access.specs.Access.{statement_at}
-use Rattle.clearance.specs.Judged.{fits_statement}
-use Rattle.judge.specs.Given.{scope_at}
-use Rattle.judge.proofs.ValueRows.{Each}
-use Rattle.judge.proofs.statements.unfit_statement.Given as goal
-
-abbrev pub invariant-loop-s : goal.invariant-loop-s
-invariant-loop-s l = Each (λ k. fits_statement (scope_at l.subject.file.now.bytes l.subject.file.now.t l.subject.f.0) (statement_at l.subject.file.now.bytes l.subject.file.now.t l.subject.f.0 k)) l.s

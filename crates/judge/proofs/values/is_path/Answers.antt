@@ -1,6 +1,0 @@
--- `judge::values::is_path` meets its contract: by the table.
-use Rattle.judge.proofs.ValueRows.{path_is}
-use Rattle.judge.proofs.values.is_path.Goals as goal
-
-pub returns : goal.returns
-returns c = path_is _ _ _ c.args.subject.now.given.values _ c.is_marked.ensures

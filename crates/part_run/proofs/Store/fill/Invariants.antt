@@ -1,0 +1,6 @@
+-- `Store::fill` meets its contract.
+use Rattle.part_run.specs.Live.{Went}
+use Rattle.part_run.proofs.Store.fill.Given as goal
+
+abbrev pub invariant-loop-k : goal.invariant-loop-k
+invariant-loop-k l = Went l.initial.self.cells l.self.cells l.self.roots
