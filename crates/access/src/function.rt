@@ -1,5 +1,5 @@
 // One function of the module, by its handle.
-ghost use Rattle.std.specs.Prelude.{◌≡◌, pred, length};
+ghost use Rattle.std.specs.Prelude.{◌≡◌, List, ℕ, pred, length};
 ghost use Rattle.module.specs.Tables.{function_of};
 ghost use Rattle.access.specs.Access.{argument_at, local_at, typed_at, range_at, arg_from, result_from, range_from};
 
@@ -10,43 +10,81 @@ use module::handles::{BlockHandle, ExpressionHandle, FunctionHandle, LocalHandle
 use module::record::body;
 use module::tables::{item, row_at};
 
+// Of the tables alone, whatever the bytes.
+pub fn arguments(t: &[u32], f: FunctionHandle) -> u32
+    ensures { (bytes : List ℕ) → result ≡ length (function_of bytes t.now f.0).arguments }
+{
+    row_at(t, f).arguments
+}
+
+pub fn locals(t: &[u32], f: FunctionHandle) -> u32
+    ensures { (bytes : List ℕ) → result ≡ length (function_of bytes t.now f.0).locals }
+{
+    row_at(t, f).locals
+}
+
+pub fn expressions(t: &[u32], f: FunctionHandle) -> u32
+    ensures { (bytes : List ℕ) → result ≡ length (function_of bytes t.now f.0).expressions }
+{
+    row_at(t, f).expressions
+}
+
+pub fn statements(t: &[u32], f: FunctionHandle) -> u32
+    ensures { (bytes : List ℕ) → result ≡ length (function_of bytes t.now f.0).statements }
+{
+    row_at(t, f).statements
+}
+
+pub fn blocks(t: &[u32], f: FunctionHandle) -> u32
+    ensures { (bytes : List ℕ) → result ≡ length (function_of bytes t.now f.0).blocks }
+{
+    row_at(t, f).blocks
+}
+
+// The body is the last block.
+pub fn body_block(t: &[u32], f: FunctionHandle) -> BlockHandle
+    ensures { (bytes : List ℕ) → result.0 ≡ pred (length (function_of bytes t.now f.0).blocks) }
+{
+    BlockHandle(blocks(t, f).saturating_sub(1))
+}
+
 impl<'a> File<'a> {
     // Stays: five counts that `row` has too, but its contract speaks of the tables, and theirs of the module, as the callers' do.
     pub fn arguments(&self, f: FunctionHandle) -> u32
         ensures { result ≡ length (function_of self.now.bytes self.now.t f.0).arguments }
     {
-        self.row(f).arguments
+        arguments(self.t, f)
     }
 
     pub fn locals(&self, f: FunctionHandle) -> u32
         ensures { result ≡ length (function_of self.now.bytes self.now.t f.0).locals }
     {
-        self.row(f).locals
+        locals(self.t, f)
     }
 
     pub fn expressions(&self, f: FunctionHandle) -> u32
         ensures { result ≡ length (function_of self.now.bytes self.now.t f.0).expressions }
     {
-        self.row(f).expressions
+        expressions(self.t, f)
     }
 
     pub fn statements(&self, f: FunctionHandle) -> u32
         ensures { result ≡ length (function_of self.now.bytes self.now.t f.0).statements }
     {
-        self.row(f).statements
+        statements(self.t, f)
     }
 
     pub fn blocks(&self, f: FunctionHandle) -> u32
         ensures { result ≡ length (function_of self.now.bytes self.now.t f.0).blocks }
     {
-        self.row(f).blocks
+        blocks(self.t, f)
     }
 
     // The body is the last block.
     pub fn body_block(&self, f: FunctionHandle) -> BlockHandle
         ensures { result.0 ≡ pred (length (function_of self.now.bytes self.now.t f.0).blocks) }
     {
-        BlockHandle(self.blocks(f).saturating_sub(1))
+        body_block(self.t, f)
     }
 
     // The result, where the function has one.

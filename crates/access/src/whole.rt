@@ -1,5 +1,5 @@
 // The whole module: how many of each it has, and the types of globals.
-ghost use Rattle.std.specs.Prelude.{◌≡◌, get_or, length};
+ghost use Rattle.std.specs.Prelude.{◌≡◌, List, ℕ, get_or, length};
 ghost use Rattle.module.specs.Decode.{option_of};
 ghost use Rattle.module.specs.Tables.{type_body, module_of};
 ghost use Rattle.access.specs.Access.{global_at, number_in};
@@ -27,23 +27,42 @@ pub fn unless_absent(number: u32) -> Option<u32>
     Some(number)
 }
 
+// How many the tables alone say that there are, whatever the bytes.
+pub fn types(t: &[u32]) -> u32
+    ensures { (bytes : List ℕ) → result ≡ length (module_of bytes t.now).types }
+{
+    word(t, HEAD)
+}
+
+pub fn globals(t: &[u32]) -> u32
+    ensures { (bytes : List ℕ) → result ≡ length (module_of bytes t.now).globals }
+{
+    word(t, HEAD + 1)
+}
+
+pub fn functions(t: &[u32]) -> u32
+    ensures { (bytes : List ℕ) → result ≡ length (module_of bytes t.now).functions }
+{
+    word(t, HEAD + 2)
+}
+
 impl<'a> File<'a> {
     pub fn types(&self) -> u32
         ensures { result ≡ length (module_of self.now.bytes self.now.t).types }
     {
-        word(self.t, HEAD)
+        types(self.t)
     }
 
     pub fn globals(&self) -> u32
         ensures { result ≡ length (module_of self.now.bytes self.now.t).globals }
     {
-        word(self.t, HEAD + 1)
+        globals(self.t)
     }
 
     pub fn functions(&self) -> u32
         ensures { result ≡ length (module_of self.now.bytes self.now.t).functions }
     {
-        word(self.t, HEAD + 2)
+        functions(self.t)
     }
 
     pub fn global(&self, g: GlobalHandle) -> TypeHandle

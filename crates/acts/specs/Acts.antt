@@ -61,9 +61,6 @@ pub record TakeGiven (bytes t : List ℕ) (f : ℕ) (s rs : List ℕ) (n : ℕ) 
   pub placed : Placed (scope_at bytes t f) q
   pub short : length q ≤ 1026
 
-abbrev pub TakeGivenOf : Subject → List ℕ → List ℕ → ℕ → Place → ℕ → Type 0
-TakeGivenOf j s rs n q a = TakeGiven j.file.now.bytes j.file.now.t j.f.0 s rs n q a
-
 -- The slot n has what the needs at hand ask of the place q, and the next one what they leave without it; or r is false, and the bound was passed.
 pub record TakenOut (S : Scope) (q : Place) (s rs : List ℕ) (n : ℕ) (t us : List ℕ) (r : Bool) : Type 0 where
   pub cells : length t ≡ length s

@@ -11,6 +11,7 @@ ghost use Rattle.hold.specs.Fits.{fits};
 use crate::marks::mark_at;
 use crate::take::take_out;
 use ends::notes::{blame, note};
+use forms::types::Types;
 use hold::hold::copy;
 use judge::subject::Subject;
 use memory::parts::Parts;
@@ -45,7 +46,10 @@ pub fn act_emit(
         return Some(());
     };
     evaluated_path(path, e);
-    take_out(subject, parts, n, &path[0..2], a)?;
+    let types = Types {
+        rows: subject.types,
+    };
+    take_out(subject.file, subject.f, &types, parts, n, &path[0..2], a)?;
     let size = (subject.file.expressions(subject.f) as usize) + 2;
     let part = &mut path[..size];
     ask_operands(subject, parts, part, asked, e)?;

@@ -15,6 +15,7 @@ ghost use Rattle.hold.specs.Fits.{fits};
 use crate::take::take_out;
 use asking::ask::ask_value;
 use ends::notes::blame;
+use forms::types::Types;
 use hold::hold::copy;
 use judge::subject::Subject;
 use memory::parts::Parts;
@@ -40,7 +41,10 @@ fn store_at(
 {
     let last = n - 1;
     let left = n + 1;
-    take_out(subject, parts, n, place, a)?;
+    let types = Types {
+        rows: subject.types,
+    };
+    take_out(subject.file, subject.f, &types, parts, n, place, a)?;
     let part = parts.slots[n];
     ask_value(subject.file, subject.f, parts, n + 2, v, part)?;
     copy(&mut parts.slots, left, last);

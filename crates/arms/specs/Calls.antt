@@ -34,8 +34,6 @@ use Rattle.block.specs.Saved.{Saved}
 use Rattle.block.specs.Blocks.{StatementEnds}
 use Rattle.block.specs.Visiting.{marked, Arms}
 use Rattle.block.specs.Left.{held_by}
-use Rattle.block.specs.declared.world.World.{World}
-use Rattle.block.specs.declared.workspace.Workspace.{Workspace}
 
 -- the result of the call in a row, which may be absent
 abbrev pub result_of : List ℕ → Kinded → Option ExpressionHandle
@@ -68,9 +66,6 @@ pub record CallBegins (bytes t : List ℕ) (places : MarkPlaces) (s rs open_mark
   pub arms : Arms bytes t types places s rs open_marks totals fr block row sum visits
   pub kind : row.kind ≡ 14
 
-abbrev pub CallBeginsOf : World → Workspace → Frame → Kinded → ℕ → Type 0
-CallBeginsOf w m fr row sum = CallBegins w.typed.now.file.now.bytes w.typed.now.file.now.t w.places.now m.parts.cells m.parts.slots m.open fr row sum
-
 -- The context of the called function stands above the caller's, and no mark of that function is set. `own` is what the caller's records count for; they are held, with its context.
 pub record CallBegan (bytes t : List ℕ) (places : MarkPlaces) (s rs open_marks : List ℕ) (fr : Frame) (row : Kinded) (held own : ℕ) (u us open_after : List ℕ) : Type 0 where
   pub own_is : own ≡ record_pieces (records_in t exprs_slot fr.function.0 (read s rs))
@@ -78,9 +73,6 @@ pub record CallBegan (bytes t : List ℕ) (places : MarkPlaces) (s rs open_marks
   pub saved : Saved s rs (fr.at + 4) (called_context bytes t s rs fr.function.0 fr.at row) u us
   pub marks : open_after ≡ write_marks open_marks (start_in places (operand_at bytes row 0)) (replicate (size_in places (operand_at bytes row 0)) 0)
   pub roomy : Room u room
-
-abbrev pub CallBeganOf : World → Workspace → Frame → Kinded → ℕ → ℕ → Workspace → Type 0
-CallBeganOf w m fr row held own n = CallBegan w.typed.now.file.now.bytes w.typed.now.file.now.t w.places.now m.parts.cells m.parts.slots m.open fr row held own n.parts.cells n.parts.slots n.open
 
 -- What the end of the called function g asks, whose base stands above the caller's context at `at`, and its own above that. `sum` has the records of g.
 pub record LeavesCall (t s rs : List ℕ) (g : FunctionHandle) (at sum : ℕ) : Type 0 where
@@ -107,9 +99,6 @@ pub record Returns (bytes t : List ℕ) (places : MarkPlaces) (s rs open_marks :
   pub args : Variables (length (function_at (module_of bytes t) callee).arguments) (part s (get_or rs returned 0))
   pub few : record_pieces (records_in t exprs_slot fr.function.0 (read s rs)) ≤ max_pieces
 
-abbrev pub ReturnsOf : World → Workspace → Frame → Kinded → ℕ → ℕ → Type 0
-ReturnsOf w m fr row visits sum = Returns w.typed.now.file.now.bytes w.typed.now.file.now.t w.places.now m.parts.cells m.parts.slots m.open fr row visits sum
-
 -- the call has ended as the definition says, and its marks are written
 pub record Returned (bytes t : List ℕ) (places : MarkPlaces) (s rs open_marks : List ℕ) (fr : Frame) (row : Kinded) (required : Bool) (visits sum : ℕ) (r : Result Answer Halt) (u us open_after : List ℕ) : Type 0 where
   pub by : (types : List ℕ) (totals : MarkTotals) → Standing bytes t types places s rs open_marks totals fr.function.0 fr.at fr.held sum visits
@@ -118,9 +107,6 @@ pub record Returned (bytes t : List ℕ) (places : MarkPlaces) (s rs open_marks 
       (end_call (module_of bytes t) (frame_of s rs fr) (arguments_of bytes row (operand_at bytes row 1)) (result_of bytes row) (result_need bytes t s rs fr.function.0 row)
       (part s (get_or rs returned 0)) required (state_in bytes t s rs open_marks totals fr.function.0 fr.at visits)))
       (λ b. b) r u us open_after totals
-
-abbrev pub ReturnedOf : World → Workspace → Frame → Kinded → Bool → ℕ → ℕ → Result Answer Halt → Workspace → Type 0
-ReturnedOf w m fr row required visits sum r n = Returned w.typed.now.file.now.bytes w.typed.now.file.now.t w.places.now m.parts.cells m.parts.slots m.open fr row required visits sum r n.parts.cells n.parts.slots n.open
 
 -- the marks of a call that went, whose result is required or not
 abbrev pub call_marks : List ℕ → (at : ℕ) → Bool → Result Answer Halt → List ℕ

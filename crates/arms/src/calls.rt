@@ -2,15 +2,14 @@
 ghost use Rattle.std.specs.Prelude.{◌≡◌, ◌+◌, ◌<◌, length};
 ghost use Rattle.memory.specs.Layout.{result as result_slot};
 ghost use Rattle.statement.specs.Aside.{aside_slots};
-ghost use Rattle.arms.specs.Calls.{was_found, CallBeginsOf, CallBeganOf, LeavesCall, LeftCall, ReturnsOf, ReturnedOf, call_marks};
+ghost use Rattle.arms.specs.Calls.{was_found, CallBegins, CallBegan, LeavesCall, LeftCall, Returns, Returned, call_marks};
 
 use access::file::File;
 use access::kinded::Kinded;
 use block::call::enter;
-use block::workspace::Workspace;
-use block::world::World;
 use call::ends::end_call;
 use leave::leave::{leave, own_pieces};
+use marks::places::MarkPlaces;
 use marks::set::set_call;
 use memory::layout::RESULT;
 use memory::memory::{tidy, weigh};
@@ -29,30 +28,30 @@ pub struct Begun {
 }
 
 // The called function's base is put above the current context.
-pub fn begin_call(world: &World, space: &mut Workspace, fr: Frame, row: Kinded, sum: usize) -> Begun
-    requires { CallBeginsOf world.now space.old fr row sum }
-    ensures totals_same { space.new.totals ≡ space.old.totals }
-    ensures began { CallBeganOf world.now space.old fr row result.held result.own space.new }
+// Stays: file and places, since a `World` would ask for rows of the types too, which neither a call's beginning nor its end looks at.
+pub fn begin_call(
+    file: &File,
+    places: &MarkPlaces,
+    parts: &mut Parts,
+    open: &mut [u8],
+    fr: Frame,
+    row: Kinded,
+    sum: usize,
+) -> Begun
+    requires { CallBegins file.now.bytes file.now.t places.now parts.old.cells parts.old.slots «open».old fr row sum }
+    ensures { CallBegan file.now.bytes file.now.t places.now parts.old.cells parts.old.slots «open».old fr row result.held result.own parts.new.cells parts.new.slots «open».new }
 {
-    let file = world.typed.file;
     let f = fr.function;
     let at = fr.at;
     let g = file.function_operand(row, 0);
     let n = file.operand(row, 1);
     let result = file.optional_expression(row, 2 + n);
-    let own = own_pieces(file, &space.parts, f);
-    let held = fr.held + weigh(&space.parts, at, 4) + own;
-    let found = record_of(file, &space.parts, fr, result);
-    let retval = returned(&mut space.parts.cells, found);
-    enter(
-        &mut space.parts.slots,
-        &mut space.open,
-        world.places,
-        g,
-        at,
-        retval,
-    );
-    tidy(&mut space.parts);
+    let own = own_pieces(file, parts, f);
+    let held = fr.held + weigh(parts, at, 4) + own;
+    let found = record_of(file, parts, fr, result);
+    let retval = returned(&mut parts.cells, found);
+    enter(&mut parts.slots, open, places, g, at, retval);
+    tidy(parts);
     Begun { held, own }
 }
 
@@ -93,21 +92,21 @@ fn mark_call(open: &mut [u8], at: usize, res: bool, r: Answered) -> Answered
 
 // The call ends, once its function was walked: whether that is required.
 pub fn return_call(
-    world: &World,
-    space: &mut Workspace,
+    file: &File,
+    places: &MarkPlaces,
+    parts: &mut Parts,
+    open: &mut [u8],
     fr: Frame,
     row: Kinded,
     required: bool,
     tally: Tally,
 ) -> Answered
-    requires { ReturnsOf world.now space.old fr row tally.visits tally.sum }
-    ensures totals_same { space.new.totals ≡ space.old.totals }
-    ensures returned { ReturnedOf world.now space.old fr row required tally.visits tally.sum result space.new }
+    requires { Returns file.now.bytes file.now.t places.now parts.old.cells parts.old.slots «open».old fr row tally.visits tally.sum }
+    ensures { Returned file.now.bytes file.now.t places.now parts.old.cells parts.old.slots «open».old fr row required tally.visits tally.sum result parts.new.cells parts.new.slots «open».new }
 {
-    let file = world.typed.file;
-    let at = world.places.place(file, fr.function, fr.statement);
+    let at = places.place(file, fr.function, fr.statement);
     if !required {
-        set_call(&mut space.open, at, false, false);
+        set_call(open, at, false, false);
         return Ok(Answer {
             tally,
             required: false,
@@ -115,8 +114,8 @@ pub fn return_call(
     }
     let n = file.operand(row, 1);
     let result = file.optional_expression(row, 2 + n);
-    let found = record_of(file, &space.parts, fr, result);
-    let there = hold_result(&mut space.parts.slots, found);
-    let r = end_call(file, &mut space.parts, fr, row, there, tally);
-    mark_call(&mut space.open, at, there, r)
+    let found = record_of(file, parts, fr, result);
+    let there = hold_result(&mut parts.slots, found);
+    let r = end_call(file, parts, fr, row, there, tally);
+    mark_call(open, at, there, r)
 }

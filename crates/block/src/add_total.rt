@@ -30,22 +30,22 @@ pub fn add_total(
     if !space.totals.flags[f.0 as usize] {
         keep_total(file, &mut space.parts.slots, f, at);
         space.totals.keep_marks(&space.open, places, f);
-    } else {
-        if let Some(s) = first_ray(file, f) {
-            return Err(Halt {
-                refusal: Refusal::Panic,
-                place: Place::Statement(f, s),
-            });
-        }
-        join_total(file, &mut space.parts, f, at).ok_or(Halt {
-            refusal: Refusal::PartLimit,
-            place: here,
-        })?;
-        space.totals.add_marks(&space.open, places, f);
+        let kept = weigh_total(file, &space.parts, f);
+        let sum = tally.sum - less + kept;
+        return Ok(Tally { sum, ..tally });
     }
-    let more = weigh_total(file, &space.parts, f);
-    Ok(Tally {
-        sum: tally.sum - less + more,
-        ..tally
-    })
+    if let Some(s) = first_ray(file, f) {
+        return Err(Halt {
+            refusal: Refusal::Panic,
+            place: Place::Statement(f, s),
+        });
+    }
+    join_total(file, &mut space.parts, f, at).ok_or(Halt {
+        refusal: Refusal::PartLimit,
+        place: here,
+    })?;
+    space.totals.add_marks(&space.open, places, f);
+    let joined = weigh_total(file, &space.parts, f);
+    let sum = tally.sum - less + joined;
+    Ok(Tally { sum, ..tally })
 }

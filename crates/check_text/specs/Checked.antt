@@ -10,7 +10,8 @@ use Rattle.walk.specs.Proper.{FineContext}
 use Rattle.memory.specs.Memory.{read, context_at, Memory}
 use Rattle.access.specs.Laid.{WasRead}
 use Rattle.lines.specs.Reported.{report_in}
-use Rattle.checking.specs.Word.{said, Roomy}
+use Rattle.clearance.specs.Verdict.{Answer}
+use Rattle.checking.specs.Word.{said, check_word, Roomy}
 use Rattle.checking.specs.declared.words.Verdict.{Verdict}
 use Rattle.report_text.specs.Input.{check_of}
 
@@ -37,6 +38,12 @@ pub record Judging (bytes t s rs open_marks : List ℕ) (k : ℕ) (request : Lis
   pub context : FineContext (module_of bytes t) q.function (context_at (read s rs) k)
   pub few : pieces (context_at (read s rs) k) ≤ 2 * max_pieces
   pub long : min_report ≤ length open_marks
+
+-- a number of an answer for which there is room
+pub record Numbered (word : ℕ) : Type 0 where
+  pub answer : Answer
+  pub roomy : Roomy answer
+  pub is : word ≡ check_word answer
 
 -- the answer of the check of that report, required or not; there is room for it in a number
 pub record Checks (bytes t s rs open_marks : List ℕ) (k : ℕ) (request : List ℕ) (v : Verdict) : Type 0 where

@@ -9,9 +9,9 @@ use lib.Dec.{ltb, eqb}
 use lib.ListN.{length, drop, length-drop}
 use lib.Seq.{drop-nil, take-nil, take_all}
 use borrow.Author.Tests.{lt-ltb, le-ltb, eq-eqb}
-use Rattle.std.specs.Prelude.{Ok, Err}
+use Rattle.std.specs.Prelude.{Result, Ok, Err, is_ok}
 use Rattle.std.specs.List.{list_all}
-use Rattle.std.specs.Borrow.{Bor}
+use Rattle.std.specs.declared.ops.Range.{Range}
 use Rattle.module.specs.Tables.{function_of, module_of}
 use Rattle.valid.specs.There.{There}
 use Rattle.walk.specs.Marks.{stretch}
@@ -20,7 +20,7 @@ use Rattle.marks.proofs.Write.{slice-long}
 use Rattle.clearance.specs.Judged.{every}
 use Rattle.clearance.specs.Verdict.{has_shape}
 use Rattle.checking.specs.Check.{cut_short}
-use Rattle.checking.specs.Stretch.{marks_in, MarksFound}
+use Rattle.checking.specs.Stretch.{marks_in, found_at, MarksFound}
 use Rattle.checking.proofs.Counting.{stretch-is}
 
 none_left : (xs : List ℕ) (n : ℕ) → length xs ≤ n → drop n xs ≡ []
@@ -94,13 +94,25 @@ module _ {bytes t : List ℕ} {f : ℕ} (h : There bytes t f) (report : List ℕ
       let z : to - from ≡ count = omega arith in
       e ∙ sym (shape_is ∙ rw (eq-eqb (to - from) count z)) ∙ sym (ap (λ (q : Bool). not q && has_shape (function_of bytes t f) (marks_in bytes t f report)) (not_cut d))
 
-  module _ {m : Bor (List ℕ)} (w : m.now ≡ slice report from (to - from)) where
-    pub found_short : length report < start + count → MarksFound bytes t f report (Err m)
-    unfolding cut_short
-    found_short d = record { is = w ∙ own; fits = rw (← s, ← n, lt-ltb (length report) (start + count) d) }
+  abbrev place : Range ℕ
+  place = record { start = from; end = to }
 
-    pub found_whole : start + count ≤ length report → true ≡ bits (slice report from (to - from)) → MarksFound bytes t f report (Ok m)
-    found_whole d e = record { is = w ∙ own; fits = shaped true d e }
+  found : (r : Result (Range ℕ) (Range ℕ)) → found_at r ≡ place → is_ok r ≡ not (cut_short (module_of bytes t) f report) && has_shape (function_of bytes t f) (marks_in bytes t f report) → MarksFound bytes t f report r
+  found r w e = record {
+    ascends = rw w (omega arith);
+    inside = rw w (omega arith);
+    is = rw w own;
+    fits = e;
+    from_is = λ l. rw w (omega arith);
+    to_is = λ l. rw w (omega arith);
+  }
 
-    pub found_other : start + count ≤ length report → false ≡ bits (slice report from (to - from)) → MarksFound bytes t f report (Err m)
-    found_other d e = record { is = w ∙ own; fits = shaped false d e }
+  pub found_short : length report < start + count → MarksFound bytes t f report (Err place)
+  unfolding cut_short
+  found_short d = found (Err place) refl (rw (← s, ← n, lt-ltb (length report) (start + count) d))
+
+  pub found_whole : start + count ≤ length report → true ≡ bits (slice report from (to - from)) → MarksFound bytes t f report (Ok place)
+  found_whole d e = found (Ok place) refl (shaped true d e)
+
+  pub found_other : start + count ≤ length report → false ≡ bits (slice report from (to - from)) → MarksFound bytes t f report (Err place)
+  found_other d e = found (Err place) refl (shaped false d e)

@@ -10,6 +10,7 @@ ghost use Rattle.checking.specs.Stretch.{MarksFound};
 use access::file::File;
 use marks::places::mark_count;
 use module::handles::FunctionHandle;
+use std::ops::Range;
 
 // How many marks the function has.
 fn mark_total(file: &File, f: FunctionHandle) -> u32
@@ -44,12 +45,12 @@ fn are_bits(marks: &[u8]) -> bool
     marks.iter().all(|mark| *mark < 2)
 }
 
-// The function's part of the buffer, as far as it is there: well where the whole of it is and the marks have the function's shape.
-pub fn marks_shape<'a>(
+// The place of the function's part in the buffer, as far as it is there: well where the whole of it is and the marks have the function's shape.
+pub fn marks_shape(
     file: &File,
     f: FunctionHandle,
-    report: &'a [u8],
-) -> Result<&'a [u8], &'a [u8]>
+    report: &[u8],
+) -> Result<Range<usize>, Range<usize>>
     requires { There file.now.bytes file.now.t f.0 }
     ensures { MarksFound file.now.bytes file.now.t f.0 report.now result }
 {
@@ -57,13 +58,12 @@ pub fn marks_shape<'a>(
     let end = start + mark_total(file, f) as usize;
     let from = start.min(report.len());
     let to = end.min(report.len());
-    let marks = &report[from..to];
     if report.len() < end {
-        return Err(marks);
+        return Err(from..to);
     }
-    if are_bits(marks) {
-        Ok(marks)
+    if are_bits(&report[from..to]) {
+        Ok(from..to)
     } else {
-        Err(marks)
+        Err(from..to)
     }
 }

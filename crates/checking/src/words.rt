@@ -4,14 +4,14 @@ ghost use Rattle.checking.specs.Word.{word};
 
 use field::refusal::{REFUSAL_UNIT, Refusal};
 
-const START: u64 = 1;
+pub const START: u64 = 1;
 
 // From these on a statement, an expression or a statement that is not judged is named.
-const STATEMENT: u64 = 131072;
+pub const STATEMENT: u64 = 131072;
 
-const UNJUDGED_EXPRESSION: u64 = 196608;
+pub const UNJUDGED_EXPRESSION: u64 = 196608;
 
-const UNJUDGED_STATEMENT: u64 = 262144;
+pub const UNJUDGED_STATEMENT: u64 = 262144;
 
 #[derive(Clone, Copy, Debug, PartialEq, Eq)]
 pub enum Verdict {

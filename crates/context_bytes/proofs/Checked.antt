@@ -1,5 +1,5 @@
 -- Checking: one law for each way through the code. A loop's invariant says that what is left, with what is known so far, gives the whole.
-use Prim.Native.Nat.{ℕ, ◌+◌, ◌-◌, ◌≤◌}
+use Prim.Native.Nat.{ℕ, ◌+◌, ◌-◌}
 use native.Mathlib.Omega.{arith}
 use native.Mathlib.Decide.{dec_lt}
 use mathlib.Core.Path.{◌≡◌, refl, ap, sym, ◌∙◌}
@@ -7,12 +7,13 @@ use mathlib.Core.Bool.{Bool, true, false, ◌&&◌}
 use mathlib.Core.List.{List}
 use mathlib.Core.Option.{some, none as nothing}
 use lib.Dec.{ltb}
-use lib.ListN.{length}
 use borrow.Author.Tests.{lt-ltb, le-ltb}
 use Rattle.part.specs.PartReq.{PartReq, more}
 use Rattle.request.specs.Fields.{fields, Read, malformed, got, ◌>>=◌}
 use Rattle.request.specs.Part.{read_part, read_entries}
 use Rattle.request.specs.Request.{all_below}
+use Rattle.request.specs.Answers.{Tail}
+use Rattle.request.proofs.Bytes.{tail_all, tail_then}
 use Rattle.request.proofs.Entries.{Index, index_no_part, entries_none}
 use Rattle.std.specs.Prelude.{Some, None}
 use Rattle.std.specs.Borrow.{Bor}
@@ -57,11 +58,11 @@ module _ {b : List ℕ} {d : ℕ} where
   module _ {c : Bor (List ℕ)} where
     pub all_skipped : CodeWasRead b d (Some (All, c)) → Skips b (read_part d (fields b)) (Some c)
     unfolding past
-    all_skipped was = record { is = sym (ap past was.is); placed = omega (arith, was.placed) }
+    all_skipped was = record { is = sym (ap past was.is); placed = was.placed.1 }
 
     pub exist_skipped : CodeWasRead b d (Some (Exist, c)) → Skips b (read_part d (fields b)) (Some c)
     unfolding past
-    exist_skipped was = record { is = sym (ap past was.is); placed = omega (arith, was.placed) }
+    exist_skipped was = record { is = sym (ap past was.is); placed = was.placed.1 }
 
     module _ {n limit : ℕ} (was : CodeWasRead b d (Some (Entries n, c))) where
       pub entries_refused : EntriesChecked c.now (d - 1) limit n None → Skips b (read_part d (fields b)) None
@@ -73,7 +74,7 @@ module _ {b : List ℕ} {d : ℕ} where
       unfolding past
       entries_skipped entries =
           let k = entries.checks 0 in
-          record { is = ap past k.is ∙ past-checked (0 + limit) _ ∙ sym (ap past was.is); placed = omega (arith, k.placed, was.placed) }
+          record { is = ap past k.is ∙ past-checked (0 + limit) _ ∙ sym (ap past was.is); placed = tail_then was.placed.2 k.placed }
 
 -- entries: the test of those before, and that of those after
 unfoldable pub conj : Bool → Read Bool → Read Bool
@@ -112,12 +113,12 @@ checked-more base i limit p malformed = refl
 checked-more base i limit p (got q hs) = rw (ltb-shift base i limit)
 
 pub record Checking (b : List ℕ) (d limit n : ℕ) (c : List ℕ) (low left : ℕ) (known : Bool) : Type 0 where
-  pub further : length c ≤ length b
+  pub tail : Tail b c
   pub rest : (base : ℕ) → conj known (checked (base + limit) (read_entries (read_part d) base low left (fields c)))
       ≡ checked (base + limit) (read_entries (read_part d) base 0 n (fields b))
 
 pub check_first : (b : List ℕ) (d limit n : ℕ) → Checking b d limit n b 0 n true
-check_first b d limit n = record { further = omega arith; rest = λ base. conj-true _ }
+check_first b d limit n = record { tail = tail_all b; rest = λ base. conj-true _ }
 
 pub check_done : {b : List ℕ} {d limit n low left : ℕ} {known : Bool} {c : Bor (List ℕ)} → Checking b d limit n c.now low left known → left ≡ 0
     → EntriesChecked b d limit n (Some (known, c))
@@ -130,7 +131,7 @@ check_done {d = d} {limit} {low = low} {left} {known} {c} so e =
             is =
                 rw (← and-true known)
                 (sym (ap (λ x. conj known (checked (base + limit) x)) (entries_none (read_part d) base low left (fields c.now) e)) ∙ so.rest base);
-            placed = so.further;
+            placed = so.tail;
           };
     }
 
@@ -148,7 +149,7 @@ module _ {b c : List ℕ} {d limit n low left : ℕ} {known : Bool} (so : Checki
     check_again {end} {known'} was h =
         let p = skip_passed was in
         record {
-          further = omega (arith, was.placed, x.field.left, so.further);
+          tail = tail_then so.tail (tail_then x.field.tail was.placed);
           rest =
               λ base.
               let y = checked (base + limit) (read_entries (read_part d) base (i + 1) k (fields end.now)) in

@@ -3,7 +3,7 @@
 use Prim.Native.Nat.{ℕ, ◌+◌, ◌-◌, ◌≤◌, ◌<◌}
 use native.Mathlib.Omega.{arith}
 use native.Mathlib.Decide.{dec_lt}
-use mathlib.Core.Path.{◌≡◌, ap, sym, ◌∙◌}
+use mathlib.Core.Path.{◌≡◌, refl, ap, sym, ◌∙◌}
 use mathlib.Core.Bool.{cond}
 use mathlib.Core.List.{List}
 use mathlib.Core.Option.{Option, some, none as nothing}
@@ -17,8 +17,8 @@ use Rattle.part.proofs.Pieces.{part-0, part-1, part-2, part-cell, not_exist}
 use Rattle.part.proofs.Equations.{contains-exist, contains-all, contains-none, all_contains, exist-contains, none-contains}
 use Rattle.request.specs.Fields.{fields, malformed, got}
 use Rattle.request.specs.Part.{read_part, read_entries, read_variables}
-use Rattle.request.specs.Answers.{Field}
-use Rattle.request.proofs.Bytes.{no_field}
+use Rattle.request.specs.Answers.{Tail, Field}
+use Rattle.request.proofs.Bytes.{no_field, tail_all, tail_then}
 use Rattle.request.proofs.Entries.{Index, index_next, entries_none}
 use Rattle.std.specs.Prelude.{Option as Maybe, Some, None}
 use Rattle.std.specs.Borrow.{Bor}
@@ -76,9 +76,9 @@ is-exist s n =
     ]
 
 -- the same, where the bytes begin earlier
-earlier : (b c : List ℕ) (a : Maybe (Bor (List ℕ))) → length c ≤ length b → SkipPlaced c a → SkipPlaced b a
+earlier : (b c : List ℕ) (a : Maybe (Bor (List ℕ))) → Tail b c → SkipPlaced c a → SkipPlaced b a
 earlier b c None l h = tt
-earlier b c (Some p) l h = omega (arith, l, h)
+earlier b c (Some p) l h = tail_then l h
 
 -- a part, by its code
 module _ (s : List ℕ) (n : ℕ) {b : List ℕ} {d : ℕ} where
@@ -89,14 +89,14 @@ module _ (s : List ℕ) (n : ℕ) {b : List ℕ} {d : ℕ} where
   module _ {c : Bor (List ℕ)} where
     pub part_all : CodeWasRead b d (Some (All, c)) → Covers b (covers (part s n) (read_part d (fields b))) (Some c)
     unfolding covers
-    part_all was = record { is = sym (ap (covers (part s n)) was.is ∙ rw (all_contains (part s n))); placed = omega (arith, was.placed) }
+    part_all was = record { is = sym (ap (covers (part s n)) was.is ∙ rw (all_contains (part s n))); placed = was.placed.1 }
 
     exist_covers : CodeWasRead b d (Some (Exist, c)) → covers (part s n) (read_part d (fields b)) ≡ cond (eqb n 1) (some (fields c.now)) nothing
     unfolding covers
     exist_covers was = ap (covers (part s n)) was.is ∙ rw (exist-contains (part s n), is-exist s n)
 
     pub part_exist : CodeWasRead b d (Some (Exist, c)) → n ≡ 1 → Covers b (covers (part s n) (read_part d (fields b))) (Some c)
-    part_exist was e = record { is = sym (exist_covers was ∙ rw (eq-eqb n 1 e)); placed = omega (arith, was.placed) }
+    part_exist was e = record { is = sym (exist_covers was ∙ rw (eq-eqb n 1 e)); placed = was.placed.1 }
 
     pub part_more : CodeWasRead b d (Some (Exist, c)) → (n ≡ 1 → ⊥) → Covers b (covers (part s n) (read_part d (fields b))) None
     part_more was h = record { is = sym (exist_covers was ∙ rw (ne_eqb n 1 h)); placed = tt }
@@ -104,13 +104,16 @@ module _ (s : List ℕ) (n : ℕ) {b : List ℕ} {d : ℕ} where
     pub part_listed : {k : ℕ} {a : Maybe (Bor (List ℕ))} → CodeWasRead b d (Some (Entries k, c))
         → Covers c.now (covers (part s n) (read_entries (read_part (d - 1)) 0 0 k (fields c.now))) a → Covers b (covers (part s n) (read_part d (fields b))) a
     part_listed {a = a} was entries =
-        record { is = entries.is ∙ sym (ap (covers (part s n)) was.is); placed = earlier b c.now a (omega (arith, was.placed)) entries.placed }
+        record { is = entries.is ∙ sym (ap (covers (part s n)) was.is); placed = earlier b c.now a was.placed.2 entries.placed }
 
 -- entries
 pub record Covering (s b : List ℕ) (n d base k : ℕ) (c : List ℕ) (low left m : ℕ) : Type 0 where
   pub piece : m < top s
-  pub further : length c ≤ length b
+  pub tail : Tail b c
   pub rest : covers (part s m) (read_entries (read_part d) base low left (fields c)) ≡ covers (part s n) (read_entries (read_part d) base 0 k (fields b))
+
+pub cover_first : {s : List ℕ} (b : List ℕ) {n : ℕ} (d base k : ℕ) → n < top s → Covering s b n d base k b 0 k n
+cover_first b d base k h = record { piece = h; tail = tail_all b; rest = refl }
 
 module _ {s b c : List ℕ} {n d base k low left m : ℕ} (so : Covering s b n d base k c low left m) where
   abbrev total : Option (List ℕ)
@@ -142,7 +145,7 @@ module _ {s b c : List ℕ} {n d base k low left m : ℕ} (so : Covering s b n d
       cover_again part-was =
           record {
             piece = was.placed.1;
-            further = omega (arith, part-was.placed, x.field.left, so.further);
+            tail = tail_then so.tail (tail_then x.field.tail part-was.placed);
             rest =
                 sym
                 (ap (covers (part s m)) (index_next x base d)
@@ -179,7 +182,7 @@ module _ {s b c : List ℕ} {n d base k low left m : ℕ} (so : Covering s b n d
 pub cover_done : {s b : List ℕ} {n d base k low left m : ℕ} {c : Bor (List ℕ)} (so : Covering s b n d base k c.now low left m) → left ≡ 0 → Good s → (m ≡ 0 → ⊥) → m < 3
     → Covers b (covers (part s n) (read_entries (read_part d) base 0 k (fields b))) (Some c)
 unfolding covers
-cover_done {m = m} so done g z h = record { is = sym (rw (none_has so done g z, lt-ltb m 3 h)) ∙ at_end so done; placed = so.further }
+cover_done {m = m} so done g z h = record { is = sym (rw (none_has so done g z, lt-ltb m 3 h)) ∙ at_end so done; placed = so.tail }
 
 -- a list of variables
 pub list_short : (q : PartReq) (b : List ℕ) → length b < 2 → Covers b (covers q (read_variables (fields b))) None
@@ -189,4 +192,4 @@ list_short q b h = record { is = rw (no_field b h); placed = tt }
 pub list_covered : (q : PartReq) {b c : List ℕ} {n : ℕ} {a : Maybe (Bor (List ℕ))} → Field b n c
     → Covers c (covers q (read_entries (read_part max_depth) spine 0 n (fields c))) a → Covers b (covers q (read_variables (fields b))) a
 list_covered q {b} {c} {n} {a} f was =
-    record { is = was.is ∙ sym (ap (covers q) (variables_are f)); placed = earlier b c a (omega (arith, f.left)) was.placed }
+    record { is = was.is ∙ sym (ap (covers q) (variables_are f)); placed = earlier b c a f.tail was.placed }

@@ -7,13 +7,13 @@ use mathlib.Core.List.{List}
 use lib.ListN.{length, drop}
 use borrow.Author.Tests.{lt-ltb, le-ltb}
 use Rattle.field.specs.Limits.{max_depth}
-use Rattle.part.specs.PartReq.{PartReq, all, exist, none, more, is_all, is_exist, gone, there, get_subpart, spine}
+use Rattle.part.specs.PartReq.{PartReq, all, exist, none, more, is_all, is_exist, Subpart, gone, there, get_subpart, spine}
 use Rattle.context.specs.RequiredContext.{RequiredContext, variable}
 use Rattle.request.specs.Fields.{fields, Read, malformed, got}
 use Rattle.request.specs.Part.{read_part, read_entries, read_return, read_variables}
 use Rattle.request.specs.Context.{is_context}
-use Rattle.request.specs.Answers.{Field}
-use Rattle.request.proofs.Bytes.{no_field}
+use Rattle.request.specs.Answers.{Tail, Field}
+use Rattle.request.proofs.Bytes.{no_field, tail_drop, tail_all, tail_then}
 use Rattle.request.proofs.Entries.{Index, index_next, entries_none}
 use Rattle.std.specs.Prelude.{Option as Maybe, Some, None}
 use Rattle.std.specs.Option.{unwrap_or}
@@ -72,9 +72,10 @@ record Later (c : List ℕ) (d i base low left : ℕ) (p : PartReq) (fs : List �
 
 pub record Finding (b : List ℕ) (d n i : ℕ) (c : List ℕ) (low left : ℕ) : Type 0 where
   later : (base : ℕ) (p : PartReq) (fs : List ℕ) → read_entries (read_part d) base 0 n (fields b) ≡ got p fs → Later c d i base low left p fs
+  tail : Tail b c
 
 pub finding_first : (b : List ℕ) (d n i : ℕ) → Finding b d n i b 0 n
-finding_first b d n i = record { later = λ base p fs e. record { list = p; is = e; same = refl } }
+finding_first b d n i = record { later = λ base p fs e. record { list = p; is = e; same = refl }; tail = tail_all b }
 
 -- the first of what is left: its part, and those after it
 record First (e : List ℕ) (d base j k : ℕ) (list : PartReq) (fs : List ℕ) : Type 0 where
@@ -158,6 +159,7 @@ module _ {b c : List ℕ} {d n i low left : ℕ} (so : Finding b d n i c low lef
                 is = sym (ap (read_entries (read_part d) base (j + 1) k) there') ∙ f.others_are;
                 same = l.same ∙ ap (λ x. get_subpart x (base + i)) f.list_is ∙ sub_after (base + i) (base + j) f.value f.others above;
               };
+          tail = tail_then so.tail (tail_then x.field.tail was.placed);
         }
 
 pub finding_here : {b c : List ℕ} {d n i low left j k : ℕ} {e : Bor (List ℕ)} → Finding b d n i c low left → Index c low left j k e.now → i ≡ j → EntryFound b d n i (Some e)
@@ -168,8 +170,13 @@ finding_here {d = d} {i = i} {j = j} so x h =
           let l = so.later base p fs g in
           let f = first x l.is in
           let r = readable f.part_is in
-          (r.0, l.same ∙ rw (f.list_is, r.1) (sub_at (base + i) (base + j) f.value f.others (omega arith)));
+          (r.0, l.same ∙ rw (f.list_is, r.1) (sub_at (base + i) (base + j) f.value f.others (omega arith)), tail_then so.tail x.field.tail);
     }
+
+-- the same, where the bytes begin earlier
+earlier : {b c : List ℕ} (sub : Subpart) (d : ℕ) (a : Maybe (Bor (List ℕ))) → Tail b c → SubpartIn c sub d a → SubpartIn b sub d a
+earlier sub d None l h = h
+earlier sub d (Some e) l h = (h.0, h.1, tail_then l h.2)
 
 -- a part, by its code
 module _ {b : List ℕ} {d : ℕ} (R : Readable b d) where
@@ -195,10 +202,10 @@ module _ {b : List ℕ} {d : ℕ} (R : Readable b d) where
     found_exist was i = rw (← it_is_exist was)
 
     module _ {n : ℕ} (was : CodeWasRead b d (Some (Entries n, c))) where
-      pub found_entry : {i : ℕ} {a : Maybe (Bor (List ℕ))} → EntryFound c.now (d - 1) n i a → SubpartIn (get_subpart (part_in b d) i) (d - 1) a
+      pub found_entry : {i : ℕ} {a : Maybe (Bor (List ℕ))} → EntryFound c.now (d - 1) n i a → SubpartIn b (get_subpart (part_in b d) i) (d - 1) a
       found_entry {i} {a} found =
           let z : 0 + i ≡ i = omega arith in
-          rw z at (found.is 0 (part_in b d) behind.0 (coded was))
+          earlier (get_subpart (part_in b d) i) (d - 1) a was.placed.2 (rw z at (found.is 0 (part_in b d) behind.0 (coded was)))
 
       listed_not_all : is_all (part_in b d) ≡ false
       listed_not_all = (read_list (read_part (d - 1)) 0 0 n (fields c.now) (coded was)).0
@@ -237,24 +244,25 @@ variable_short b i h =
     }
 
 pub variable_found : {b c : List ℕ} {n i : ℕ} {a : Maybe (Bor (List ℕ))} → Field b n c → EntryFound c max_depth n i a → VariableFound b i a
-variable_found f was = record { is = λ p fs e. was.is spine p fs (sym (variables_are f) ∙ e) }
+variable_found {i = i} {a} f was =
+    record { is = λ p fs e. earlier (get_subpart p (variable i)) max_depth a f.tail (was.is spine p fs (sym (variables_are f) ∙ e)) }
 
-pub found_variable : {b : List ℕ} {i : ℕ} {a : Maybe (Bor (List ℕ))} → ListReadable b → VariableFound b i a → SubpartIn (get_subpart (list_in b) (variable i)) max_depth a
+pub found_variable : {b : List ℕ} {i : ℕ} {a : Maybe (Bor (List ℕ))} → ListReadable b → VariableFound b i a → SubpartIn b (get_subpart (list_in b) (variable i)) max_depth a
 found_variable {b} {i} {a} R found =
     let l = left_behind (read_variables (fields b)) R.is in
     found.is (list_in b) l.0 l.1
 
 -- where the arguments stand
 module _ {b : List ℕ} where
-  nothing_there : (a : List ℕ) → ((c : RequiredContext) → Accepted b c → ⊥) → ArgsIn b a
-  nothing_there a h = record { is = λ c k. absurd (h c (accepted k)) }
+  nothing_there : (a : List ℕ) → Tail b a → ((c : RequiredContext) → Accepted b c → ⊥) → ArgsIn b a
+  nothing_there a l h = record { is = λ c k. absurd (h c (accepted k)); tail = l }
 
-  pub args_unframed : (a : List ℕ) {r : Bool} → r ≡ is_context b → r ≡ false → ArgsIn b a
-  args_unframed a is h = nothing_there a (λ c k. let f = k.framed in let z : ◌≡◌ {A = ℕ} 0 1 = cc in omega arith)
+  pub args_unframed : (a : List ℕ) {r : Bool} → Tail b a → r ≡ is_context b → r ≡ false → ArgsIn b a
+  args_unframed a l is h = nothing_there a l (λ c k. let f = k.framed in let z : ◌≡◌ {A = ℕ} 0 1 = cc in omega arith)
 
-  pub args_unread : (a : Bor (List ℕ)) (r : Maybe (Bor (List ℕ))) → ArgsAfter b r → ArgsIn b (unwrap_or r a).now
-  args_unread a None h = record { is = λ c k. absurd (h c k) }
-  args_unread a (Some x) h = h
+  pub args_unread : (a : Bor (List ℕ)) (r : Maybe (Bor (List ℕ))) → Tail b a.now → ArgsAfter b r → ArgsIn b (unwrap_or r a).now
+  args_unread a None l h = record { is = λ c k. absurd (h c k); tail = l }
+  args_unread a (Some x) l h = h
 
 module _ (b : List ℕ) where
   pub args_no_return : Skips (drop 6 b) (read_return (fields (drop 6 b))) None → ArgsAfter b None
@@ -275,8 +283,8 @@ module _ (b : List ℕ) where
         let m = unlisted 0 (read_variables (fields x.now)) (sym list.is) in
         λ c h. let f = globals_in (accepted h) in let z : ◌≡◌ {A = ℕ} 0 1 = cc in omega arith
 
-    pub args_here : {known : Bool} {a : Bor (List ℕ)} → Checks x.now (checked (variable 0) (read_variables (fields x.now))) (Some (known, a)) → ArgsAfter b (Some a)
-    args_here {a = a} list =
+    pub args_here : {known : Bool} {a : Bor (List ℕ)} → Checks x.now (checked (variable 0) (read_variables (fields x.now))) (Some (known, a)) → 6 ≤ length b → ArgsAfter b (Some a)
+    args_here {a = a} list long =
         let g = listed 0 (read_variables (fields x.now)) (sym list.is) in
         record {
           is =
@@ -286,4 +294,5 @@ module _ (b : List ℕ) where
               let m = g.is in
               let same : so.args ≡ fields a.now = cc in
               record { rest = so.locals; is = sym (ap read_variables same) ∙ so.args_is };
+          tail = tail_then (tail_drop b 6 long) (tail_then was.placed list.placed);
         }

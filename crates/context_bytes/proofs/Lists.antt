@@ -1,5 +1,5 @@
 -- Checking the return part, the lists of variables and the whole context: a law for each way that the code can end.
-use Prim.Native.Nat.{ℕ, ◌+◌, ◌≤◌, ◌<◌}
+use Prim.Native.Nat.{ℕ, ◌≤◌, ◌<◌}
 use native.Mathlib.Omega.{arith}
 use mathlib.Core.Path.{◌≡◌, refl, ap, sym, ◌∙◌}
 use mathlib.Core.Bool.{Bool, true, false, cond, ◌&&◌}
@@ -14,8 +14,8 @@ use Rattle.request.specs.Fields.{fields, Read, malformed, got, ◌>>=◌, whole,
 use Rattle.request.specs.Part.{read_part, read_entries, read_return, read_variables}
 use Rattle.request.specs.Request.{all_below}
 use Rattle.request.specs.Context.{read_lists, is_context, context_of, known_context, judge_context, finish_context}
-use Rattle.request.specs.Answers.{Field}
-use Rattle.request.proofs.Bytes.{no_field, some_field}
+use Rattle.request.specs.Answers.{Tail, Field}
+use Rattle.request.proofs.Bytes.{no_field, some_field, tail_then}
 use Rattle.request.proofs.Variables.{return_end}
 use Rattle.request.proofs.ContextLists.{not_context, context_no_return, context_finish}
 use Rattle.std.specs.Prelude.{Option as Maybe, Some, None, Result, Ok, Err}
@@ -37,7 +37,7 @@ past-some (got p gs) = refl
 
 pub return_none : {b : List ℕ} {i : ℕ} {c : Bor (List ℕ)} → Field b i c.now → i ≡ 3 → Skips b (read_return (fields b)) (Some c)
 unfolding read_return past
-return_none {i = i} f e = record { is = rw (f.is, eq-eqb i 3 e); placed = omega (arith, f.left) }
+return_none {i = i} f e = record { is = rw (f.is, eq-eqb i 3 e); placed = f.tail }
 
 module _ {b c : List ℕ} {i : ℕ} (f : Field b i c) where
   pub return_is : (i ≡ 3 → ⊥) → read_return (fields b) ≡ (read_part max_depth (fields b) >>= λ p gs. got (some p) gs)
@@ -53,9 +53,9 @@ pub variables_short : (b : List ℕ) (limit : ℕ) → length b < 2 → Checks b
 unfolding read_variables checked
 variables_short b limit h = record { is = rw (no_field b h); placed = tt }
 
-sooner : (b c : List ℕ) (a : Maybe (Bool × Bor (List ℕ))) → 2 + length c ≡ length b → CheckPlaced c a → CheckPlaced b a
+sooner : (b c : List ℕ) (a : Maybe (Bool × Bor (List ℕ))) → Tail b c → CheckPlaced c a → CheckPlaced b a
 sooner b c None l h = tt
-sooner b c (Some p) l h = omega (arith, l, h)
+sooner b c (Some p) l h = tail_then l h
 
 pub variables_are : {b c : List ℕ} {n : ℕ} → Field b n c → read_variables (fields b) ≡ read_entries (read_part max_depth) spine 0 n (fields c)
 unfolding read_variables
@@ -65,7 +65,7 @@ pub variables_read : {b c : List ℕ} {n limit : ℕ} {a : Maybe (Bool × Bor (L
     → Checks b (checked (variable limit) (read_variables (fields b))) a
 variables_read {b} {c} {n} {limit} {a} f was =
     let k = was.checks spine in
-    record { is = k.is ∙ sym (ap (checked (variable limit)) (variables_are f)); placed = sooner b c a f.left k.placed }
+    record { is = k.is ∙ sym (ap (checked (variable limit)) (variables_are f)); placed = sooner b c a f.tail k.placed }
 
 -- of a list that was read, whether every index is below the limit
 pub record Listed (limit : ℕ) (v : Read PartReq) (known : Bool) (gs : List ℕ) : Type 0 where

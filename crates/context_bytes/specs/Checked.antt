@@ -1,5 +1,5 @@
 -- What checking a record answers: only where it ends, and whether its variables are there.
-use Rattle.std.specs.Prelude.{ℕ, ◌+◌, ◌≤◌, ◌≡◌, Bool, List, length, Option as Maybe, Some, None, Result, Ok, Err}
+use Rattle.std.specs.Prelude.{ℕ, ◌+◌, ◌≡◌, Bool, List, Option as Maybe, Some, None, Result, Ok, Err}
 use Rattle.std.specs.Borrow.{Bor}
 use Rattle.std.proofs.Math.Option.{Option, some, none as nothing}
 use Rattle.field.specs.Refusal.{number}
@@ -10,6 +10,7 @@ use Rattle.request.specs.Fields.{fields, Read, malformed, got, Answer, refused, 
 use Rattle.request.specs.Request.{all_below}
 use Rattle.request.specs.Part.{read_part, read_entries}
 use Rattle.request.specs.Context.{finish_context}
+use Rattle.request.specs.Answers.{Tail}
 
 -- 01's number of an answer, or 0 where it is accepted
 unfoldable pub status_of : {A : Type 0} → Answer A → ℕ
@@ -42,7 +43,7 @@ skip_answer (Some c) = some (fields c.now)
 
 abbrev pub SkipPlaced : List ℕ → Maybe (Bor (List ℕ)) → Type 0
 SkipPlaced b None = Unit {0}
-SkipPlaced b (Some c) = length c.now ≤ length b
+SkipPlaced b (Some c) = Tail b c.now
 
 -- what was read of the bytes b is r: the answer is the bytes that are left
 pub record Skips {A : Type 0} (b : List ℕ) (r : Read A) (a : Maybe (Bor (List ℕ))) : Type 0 where
@@ -55,7 +56,7 @@ check_answer (Some p) = got p.0 (fields p.1.now)
 
 abbrev pub CheckPlaced : List ℕ → Maybe (Bool × Bor (List ℕ)) → Type 0
 CheckPlaced b None = Unit {0}
-CheckPlaced b (Some p) = length p.1.now ≤ length b
+CheckPlaced b (Some p) = Tail b p.1.now
 
 pub record Checks (b : List ℕ) (r : Read Bool) (a : Maybe (Bool × Bor (List ℕ))) : Type 0 where
   pub is : check_answer a ≡ r

@@ -1,6 +1,7 @@
 -- A part and a list of variables where they stand in bytes, as values, and what an index of them leads to.
-use Rattle.std.specs.Prelude.{◌≡◌, Option, Some, None}
+use Rattle.std.specs.Prelude.{ℕ, ◌≡◌, List, Option, Some, None}
 use Rattle.part.specs.PartReq.{PartReq, Subpart, gone, there}
+use Rattle.request.specs.Answers.{Tail}
 use Rattle.context_bytes.specs.Found.{part_in, list_in}
 use Rattle.context_bytes.specs.declared.part_bytes.PartBytes.{PartBytes}
 use Rattle.context_bytes.specs.declared.variables_bytes.VariablesBytes.{VariablesBytes}
@@ -13,6 +14,7 @@ part_of p = part_in p.bytes.now p.depth
 abbrev pub variables_of : VariablesBytes → PartReq
 variables_of v = list_in v.bytes.now
 
-abbrev pub SubpartIs : Subpart → Option PartBytes → Type 0
-SubpartIs sub None = sub ≡ gone
-SubpartIs sub (Some p) = sub ≡ there (part_of p)
+-- a subpart stands in the bytes b
+abbrev pub SubpartIs : List ℕ → Subpart → Option PartBytes → Type 0
+SubpartIs b sub None = sub ≡ gone
+SubpartIs b sub (Some p) = (sub ≡ there (part_of p)) × Tail b p.bytes.now

@@ -19,7 +19,7 @@ impl<'a> PartBytes<'a> {
 
     // `get_subpart`
     pub fn get_subpart(&self, i: u32) -> Option<PartBytes<'a>>
-        ensures { SubpartIs (get_subpart (part_of self.now) i) result }
+        ensures { SubpartIs self.now.bytes.now (get_subpart (part_of self.now) i) result }
     {
         let (code, entries) = part_code(self.bytes, self.depth)?;
         match code {

@@ -19,7 +19,7 @@ impl<'a> VariablesBytes<'a> {
 
     // The part of the variable i.
     pub fn get(&self, i: u32) -> Option<PartBytes<'a>>
-        ensures { SubpartIs (get_subpart (variables_of self.now) (variable i)) result }
+        ensures { SubpartIs self.now.bytes.now (get_subpart (variables_of self.now) (variable i)) result }
     {
         let bytes = find_variable(self.bytes, i)?;
         let depth = MAX_DEPTH;

@@ -3,7 +3,7 @@
 use Prim.Native.Nat.{ℕ, zero, suc, ◌+◌, ◌-◌, ◌*◌, ◌/◌, ◌<◌, ◌≤◌}
 use native.Mathlib.Omega.{arith}
 use mathlib.Core.Path.{◌≡◌, refl, sym, ap, subst, ◌∙◌}
-use mathlib.Core.Bool.{Bool, true, false}
+use mathlib.Core.Bool.{true, false}
 use mathlib.Core.List.{List, ◌∷◌}
 use lib.ListN.{length, get_or, drop, length-drop}
 use lib.Seq.{drop-cons}
@@ -18,13 +18,14 @@ use Rattle.module.specs.File.{accepted, read_module}
 use Rattle.module.specs.Tables.{function_of, module_of}
 use Rattle.access.specs.Access.{global_at, local_at}
 use Rattle.access.proofs.Access.{global_is, local_is}
+use Rattle.valid.specs.There.{There}
 use Rattle.valid.proofs.Accepted.{valid}
 use Rattle.context.specs.Types.{types_of, AllSized}
 use Rattle.type_table.proofs.AllSized.{all_sized}
 use Rattle.clearance.specs.Shape.{Shape, member, extent, is_whole, some}
 use Rattle.clearance.specs.Scope.{Scope, variable, type_of, slots, kind_shape, frame, shape_of, expressions_of}
 use Rattle.clearance.specs.IsNeed.{Tidy, IsNeed}
-use Rattle.judge.specs.Given.{scope_at, Given}
+use Rattle.judge.specs.Given.{scope_at}
 use Rattle.judge.proofs.PathSteps.{function_valid}
 use Rattle.needs.specs.Lean.{change, leaves}
 use Rattle.needs.specs.Framed.{Framed}
@@ -42,13 +43,13 @@ pub record Framing (bytes t : List ℕ) (f : ℕ) (types : List ℕ) : Type 0 wh
   pub same : (module_of bytes t).types ≡ types_of types
   pub sized : AllSized (types_of types)
 
--- what a subject says
-pub framed_by : {bytes t : List ℕ} {f : ℕ} {types alike : List ℕ} {paths : List Bool} → Given bytes t f types alike paths → Framing bytes t f types
-framed_by {bytes} {t} g = record {
-  read = g.of.read;
-  there = g.of.there;
-  same = g.values.same;
-  sized = subst AllSized g.values.same (all_sized (module_of bytes t) (valid bytes (module_of bytes t) g.of.read));
+-- the sizes too: the module was read
+pub framed_by : {bytes t : List ℕ} {f : ℕ} {types : List ℕ} → There bytes t f → (module_of bytes t).types ≡ types_of types → Framing bytes t f types
+framed_by {bytes} {t} of same = record {
+  read = of.read;
+  there = of.there;
+  same = same;
+  sized = subst AllSized same (all_sized (module_of bytes t) (valid bytes (module_of bytes t) of.read));
 }
 
 -- a kind of variables: so many, each with its shape

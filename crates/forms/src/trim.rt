@@ -2,9 +2,11 @@
 ghost use Rattle.std.specs.Prelude.{◌≡◌, ◌+◌, ◌<◌, List, ℕ};
 ghost use Rattle.part.specs.PartReq.{entries};
 ghost use Rattle.part.specs.Store.{top, part, Good, Room, Made};
+ghost use Rattle.module.specs.Tables.{module_of, function_of};
+ghost use Rattle.context.specs.Types.{types_of};
 ghost use Rattle.clearance.specs.Shape.{member, trim};
 ghost use Rattle.clearance.specs.Scope.{result_shape};
-ghost use Rattle.judge.specs.Subject.{scope_of, function_in};
+ghost use Rattle.judge.specs.Given.{scope_at};
 ghost use Rattle.forms.specs.ShapeBy.{shape_by};
 ghost use Rattle.forms.specs.Frames.{globals_shape, trim_globals};
 
@@ -13,8 +15,7 @@ use crate::take::keep;
 use crate::types::Types;
 use access::file::File;
 use judge::frame::GLOBALS;
-use judge::subject::Subject;
-use module::handles::GlobalHandle;
+use module::handles::{FunctionHandle, GlobalHandle};
 use part::limits::SPINE;
 use part::store::{ALL_PIECE, EMPTY_PIECE, look};
 
@@ -84,24 +85,22 @@ pub fn trim_globals(cells: &mut [u32], file: &File, types: &Types, p: u32) -> u3
 }
 
 // The shape of a function's result.
-fn result_form(subject: &Subject) -> Form
-    ensures { shape_by subject.now.types.now result ≡ result_shape (scope_of subject.now) (function_in subject.now).result }
+fn result_form(file: &File, f: FunctionHandle) -> Form
+    ensures { (types : List ℕ) → (module_of file.now.bytes file.now.t).types ≡ types_of types → shape_by types result ≡ result_shape (scope_at file.now.bytes file.now.t f.0) (function_of file.now.bytes file.now.t f.0).result }
 {
-    match subject.file.result(subject.f) {
+    match file.result(f) {
         Some(x) => Form::Of(x.ty),
         None => Form::Void,
     }
 }
 
 // What is left of p, asked of a function's result.
-pub fn trim_value(cells: &mut [u32], subject: &Subject, p: u32) -> u32
+pub fn trim_value(cells: &mut [u32], file: &File, f: FunctionHandle, types: &Types, p: u32) -> u32
     requires good { Good cells.old }
+    requires same { (module_of file.now.bytes file.now.t).types ≡ types_of types.now.rows.now }
     requires p_bound { (p < top cells.old) × Room cells.old (entries (part cells.old p)) }
-    ensures { Made cells.old cells.new (trim (part cells.old p) (result_shape (scope_of subject.now) (function_in subject.now).result)) (entries (part cells.old p)) result }
+    ensures { Made cells.old cells.new (trim (part cells.old p) (result_shape (scope_at file.now.bytes file.now.t f.0) (function_of file.now.bytes file.now.t f.0).result)) (entries (part cells.old p)) result }
 {
-    let types = Types {
-        rows: subject.types,
-    };
-    let form = result_form(subject);
-    trim_part(cells, &types, form, p)
+    let form = result_form(file, f);
+    trim_part(cells, types, form, p)
 }

@@ -460,7 +460,15 @@ pub fn add_call(
     let f = fr.function;
     let at = fr.at;
     let g = world.typed.file.function_operand(row, 0);
-    let begun = begin_call(world, space, fr, row, tally.sum);
+    let begun = begin_call(
+        world.typed.file,
+        world.places,
+        &mut space.parts,
+        &mut space.open,
+        fr,
+        row,
+        tally.sum,
+    );
     let own = begun.own;
     let others = Tally {
         sum: tally.sum - own,
@@ -477,5 +485,14 @@ pub fn add_call(
     )?;
     let sum = leave_call(world.typed.file, &mut space.parts, g, at, a.tally.sum + own);
     let left = Tally { sum, ..a.tally };
-    return_call(world, space, fr, row, a.required, left)
+    return_call(
+        world.typed.file,
+        world.places,
+        &mut space.parts,
+        &mut space.open,
+        fr,
+        row,
+        a.required,
+        left,
+    )
 }

@@ -18,6 +18,7 @@ use Rattle.context.specs.Types.{types_of}
 use Rattle.clearance.specs.Scope.{Scope, nowhere, step_from, no_expression, typed, type_of, inner_of, is_kind, path_of, is_path}
 use Rattle.clearance.specs.Judged.{every, is_value}
 use Rattle.judge.specs.Marked.{marked}
+use Rattle.judge.specs.Paths.{PathTable}
 use Rattle.judge.specs.Given.{scope_at, Values}
 use Rattle.judge.proofs.TypeRows.{number}
 use Rattle.judge.proofs.ShapeRows.{number_is}
@@ -92,14 +93,14 @@ module _ (bytes t : List ℕ) (f : ℕ) where
   unfolding type_of typed
   type_none e h l = sym (ap (λ (x : Typed). x.type) (get_or-eq_default (function_of bytes t f).expressions no_expression {n = e} (omega arith)))
 
-  module _ {types : List ℕ} {paths : List Bool} (G : Values bytes t f types paths) (e : ℕ) where
-    pub path_is : {w : Bool} → w ≡ marked paths e → w ≡ is_path S e
-    path_is h =
-        elim (dec_lt e (length (function_of bytes t f).expressions)) [
-          | yes l ↦ rw h (G.table.is S refl e l)
-          | no l ↦ rw h (not_marked paths e (omega (arith, G.table.long)) ∙ sym (no-path S e (omega arith)))
-        ]
+  pub path_is : {paths : List Bool} → PathTable (function_of bytes t f).expressions paths → (e : ℕ) {w : Bool} → w ≡ marked paths e → w ≡ is_path S e
+  path_is {paths} table e h =
+      elim (dec_lt e (length (function_of bytes t f).expressions)) [
+        | yes l ↦ rw h (table.is S refl e l)
+        | no l ↦ rw h (not_marked paths e (omega (arith, table.long)) ∙ sym (no-path S e (omega arith)))
+      ]
 
+  module _ {types : List ℕ} {paths : List Bool} (G : Values bytes t f types paths) (e : ℕ) where
     pub value_path : {b : Bool} → b ≡ is_path S e → b ≡ true → false ≡ is_value S e
     unfolding is_value
     value_path q h = rw (← q, h)

@@ -1,4 +1,4 @@
--- What the loop over a lent part has written after k turns, for one turn more and at the end; and the marks of an emit in the same way.
+-- What the loops over a lent part have written after k turns, for one turn more and at the end; and the marks of an emit in the same way.
 use mathlib.Core.Path.{◌≡◌, refl, sym, ap, ◌∙◌}
 use mathlib.Core.Bool.{Bool, true, false, not, ◌||◌}
 use mathlib.Core.List.{List, [], ◌∷◌, ◌++◌}
@@ -27,6 +27,14 @@ turn : (xs ys part : List ℕ) (k b : ℕ) → part ≡ write_marks xs 0 ys → 
 turn xs ys part k b h l = let z : 0 + k ≡ k = omega arith in rw h (rw z at (write_more xs 0 k ys b l))
 
 module _ (xs marks part : List ℕ) (at k : ℕ) (fits : at + length xs ≤ length marks) where
+  pub copy_turn : k < length xs → part ≡ write_marks xs 0 (slice marks at k) → set part k (get_or marks (at + k) 0) ≡ write_marks xs 0 (slice marks at (k + 1))
+  copy_turn l h =
+      let i : at + k < length marks = omega arith in
+      rw (slice-more marks at k i) (turn xs (slice marks at k) part k (get_or marks (at + k) 0) h (slice-long marks at k (omega arith)))
+
+  pub copy_done : k ≡ length xs → part ≡ write_marks xs 0 (slice marks at k) → part ≡ slice marks at (length xs)
+  copy_done e h = rw (← e) (all_written xs (slice marks at k) part h (slice-long marks at k (omega arith) ∙ e))
+
   same : k ≤ length xs → length (take k xs) ≡ length (slice marks at k)
   same l = length-take-le k xs l ∙ sym (slice-long marks at k (omega arith))
 

@@ -14,7 +14,10 @@ pub fn copy(part: &mut [u8], marks: &[u8], at: usize)
     requires { at + length part.old ≤ length marks.now }
     ensures { part.new ≡ slice marks.now at (length part.old) }
 {
-    part.copy_from_slice(&marks[at..at + part.len()]);
+    // Stays: by index. `copy_from_slice` moves the bytes by `memmove`, which the archive would need from outside.
+    for (k, mark) in part.iter_mut().enumerate() {
+        *mark = marks[at + k];
+    }
 }
 
 fn add_mark(a: u8, b: u8) -> u8

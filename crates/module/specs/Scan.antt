@@ -35,6 +35,15 @@ abbrev pub split_in : List ℕ → rattle.Option (ℕ × Fields) → List ℕ
 split_in bytes (Some s) = s.0 ∷ fields_in bytes s.1
 split_in bytes None = []
 
+-- where the last of what is left ends, and of the others behind the first
+abbrev pub Ends : ℕ → rattle.Option Fields → Type 0
+Ends end (Some f) = f.end ≡ end
+Ends end None = Unit {0}
+
+abbrev pub SplitEnds : ℕ → rattle.Option (ℕ × Fields) → Type 0
+SplitEnds end (Some s) = s.1.end ≡ end
+SplitEnds end None = Unit {0}
+
 -- room for a mark at each value that a field may have
 abbrev pub values : ℕ
 values = 65536

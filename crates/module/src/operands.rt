@@ -6,7 +6,7 @@ ghost use Rattle.module.specs.Operands.{one, many, pairs, counted, cases_after, 
 ghost use Rattle.module.specs.Packed.{meant, unpack, classes};
 ghost use Rattle.module.specs.declared.shape.Class.TheVariants.{Cases};
 ghost use Rattle.module.specs.Tables.{scope_in, emitted_of};
-ghost use Rattle.module.specs.Scan.{pass_of, fields_in, left_in, Fresh, Stamped, class_taken};
+ghost use Rattle.module.specs.Scan.{pass_of, fields_in, left_in, Ends, Fresh, Stamped, class_taken};
 
 use crate::handles::FunctionHandle;
 use crate::record::{Fields, body};
@@ -78,7 +78,8 @@ pub fn passes(scope: &Scope, test: Test, x: u16) -> bool
 
 // One field.
 pub fn one(scope: &Scope, fields: Fields, test: Test) -> Option<Fields>
-    ensures { left_in scope.now.bytes.now result ≡ one (pass_of scope.now.bytes.now scope.now.t.now test) (fields_in scope.now.bytes.now fields) }
+    ensures took { left_in scope.now.bytes.now result ≡ one (pass_of scope.now.bytes.now scope.now.t.now test) (fields_in scope.now.bytes.now fields) }
+    ensures ends { Ends fields.end result }
 {
     let (x, others) = fields.split_first(scope.bytes)?;
     if passes(scope, test, x) {
@@ -89,7 +90,8 @@ pub fn one(scope: &Scope, fields: Fields, test: Test) -> Option<Fields>
 
 // `count` fields.
 pub fn many(scope: &Scope, fields: Fields, test: Test, count: u16) -> Option<Fields>
-    ensures { left_in scope.now.bytes.now result ≡ many (pass_of scope.now.bytes.now scope.now.t.now test) count (fields_in scope.now.bytes.now fields) }
+    ensures took { left_in scope.now.bytes.now result ≡ many (pass_of scope.now.bytes.now scope.now.t.now test) count (fields_in scope.now.bytes.now fields) }
+    ensures ends { Ends fields.end result }
 {
     let mut left = fields;
     for _k in 0..count {
@@ -101,7 +103,8 @@ pub fn many(scope: &Scope, fields: Fields, test: Test, count: u16) -> Option<Fie
 // `count` pairs of fields.
 // Stays: one loop over a slice of tests would serve `many` too, but it is two loops, one in the other, and no plainer.
 pub fn pairs(scope: &Scope, fields: Fields, p: Test, q: Test, count: u16) -> Option<Fields>
-    ensures { left_in scope.now.bytes.now result ≡ pairs (pass_of scope.now.bytes.now scope.now.t.now p) (pass_of scope.now.bytes.now scope.now.t.now q) count (fields_in scope.now.bytes.now fields) }
+    ensures took { left_in scope.now.bytes.now result ≡ pairs (pass_of scope.now.bytes.now scope.now.t.now p) (pass_of scope.now.bytes.now scope.now.t.now q) count (fields_in scope.now.bytes.now fields) }
+    ensures ends { Ends fields.end result }
 {
     let mut left = fields;
     for _k in 0..count {
@@ -113,7 +116,8 @@ pub fn pairs(scope: &Scope, fields: Fields, p: Test, q: Test, count: u16) -> Opt
 
 // A count, and as many expressions.
 pub fn list(scope: &Scope, fields: Fields) -> Option<Fields>
-    ensures { left_in scope.now.bytes.now result ≡ counted (many (below scope.now.counts.row.expressions)) (fields_in scope.now.bytes.now fields) }
+    ensures took { left_in scope.now.bytes.now result ≡ counted (many (below scope.now.counts.row.expressions)) (fields_in scope.now.bytes.now fields) }
+    ensures ends { Ends fields.end result }
 {
     let (count, others) = fields.split_first(scope.bytes)?;
     many(
@@ -126,7 +130,8 @@ pub fn list(scope: &Scope, fields: Fields) -> Option<Fields>
 
 // A count of 2 to 4, and as many letters.
 pub fn pattern(scope: &Scope, fields: Fields) -> Option<Fields>
-    ensures { left_in scope.now.bytes.now result ≡ counted pattern_after (fields_in scope.now.bytes.now fields) }
+    ensures took { left_in scope.now.bytes.now result ≡ counted pattern_after (fields_in scope.now.bytes.now fields) }
+    ensures ends { Ends fields.end result }
 {
     let (count, others) = fields.split_first(scope.bytes)?;
     if count < 2 {
@@ -140,7 +145,8 @@ pub fn pattern(scope: &Scope, fields: Fields) -> Option<Fields>
 
 // A code, and as many expressions as `handles` gives it.
 pub fn coded(scope: &Scope, fields: Fields, handles: &[u16]) -> Option<Fields>
-    ensures { left_in scope.now.bytes.now result ≡ counted (code_after scope.now.counts.row.expressions handles.now) (fields_in scope.now.bytes.now fields) }
+    ensures took { left_in scope.now.bytes.now result ≡ counted (code_after scope.now.counts.row.expressions handles.now) (fields_in scope.now.bytes.now fields) }
+    ensures ends { Ends fields.end result }
 {
     let (code, others) = fields.split_first(scope.bytes)?;
     let count = *handles.get(code as usize)?;
@@ -154,7 +160,8 @@ pub fn coded(scope: &Scope, fields: Fields, handles: &[u16]) -> Option<Fields>
 
 // A count, and as many types with their bindings.
 pub fn members(scope: &Scope, fields: Fields) -> Option<Fields>
-    ensures { left_in scope.now.bytes.now result ≡ counted (pairs (below scope.now.counts.types) (below_or_absent bindings)) (fields_in scope.now.bytes.now fields) }
+    ensures took { left_in scope.now.bytes.now result ≡ counted (pairs (below scope.now.counts.types) (below_or_absent bindings)) (fields_in scope.now.bytes.now fields) }
+    ensures ends { Ends fields.end result }
 {
     let (count, others) = fields.split_first(scope.bytes)?;
     let p = Test::Below(scope.counts.types);
@@ -164,7 +171,8 @@ pub fn members(scope: &Scope, fields: Fields) -> Option<Fields>
 
 // A result type and its binding, either of which may be absent, but not the type alone.
 pub fn result(scope: &Scope, fields: Fields) -> Option<Fields>
-    ensures { left_in scope.now.bytes.now result ≡ result_in scope.now.counts.types (fields_in scope.now.bytes.now fields) }
+    ensures took { left_in scope.now.bytes.now result ≡ result_in scope.now.counts.types (fields_in scope.now.bytes.now fields) }
+    ensures ends { Ends fields.end result }
 {
     let (ty, second) = fields.split_first(scope.bytes)?;
     let (binding, others) = second.split_first(scope.bytes)?;
@@ -196,7 +204,8 @@ pub fn unemitted(t: &[u32], first: u32, count: u32, expressions: u32) -> bool
 
 // The first and the last expression of an emit.
 pub fn range(scope: &Scope, fields: Fields) -> Option<Fields>
-    ensures { left_in scope.now.bytes.now result ≡ range_in scope.now.counts.row.expressions (emitted_of scope.now.t.now scope.now.counts.row.expressions) (fields_in scope.now.bytes.now fields) }
+    ensures took { left_in scope.now.bytes.now result ≡ range_in scope.now.counts.row.expressions (emitted_of scope.now.t.now scope.now.counts.row.expressions) (fields_in scope.now.bytes.now fields) }
+    ensures ends { Ends fields.end result }
 {
     let (first, second) = fields.split_first(scope.bytes)?;
     let (last, others) = second.split_first(scope.bytes)?;
@@ -220,6 +229,7 @@ pub fn range(scope: &Scope, fields: Fields) -> Option<Fields>
 pub fn cases(scope: &Scope, seen: &mut [u32], fields: Fields, stamp: u32) -> Option<Fields>
     requires fresh { Fresh seen.old stamp }
     ensures took { left_in scope.now.bytes.now result ≡ counted (cases_after []) (fields_in scope.now.bytes.now fields) }
+    ensures ends { Ends fields.end result }
     ensures stamped { Stamped seen.old seen.new stamp }
 {
     let (count, mut left) = fields.split_first(scope.bytes)?;
@@ -241,7 +251,8 @@ pub fn cases(scope: &Scope, seen: &mut [u32], fields: Fields, stamp: u32) -> Opt
 // One operand of any class but cases, which needs room of its own.
 pub fn plain(scope: &Scope, fields: Fields, class: Class) -> Option<Fields>
     requires fact { class ≡ Cases → ⊥ }
-    ensures { left_in scope.now.bytes.now result ≡ taken (meant class) (scope_in scope.now.bytes.now scope.now.t.now scope.now.counts) (fields_in scope.now.bytes.now fields) }
+    ensures took { left_in scope.now.bytes.now result ≡ taken (meant class) (scope_in scope.now.bytes.now scope.now.t.now scope.now.counts) (fields_in scope.now.bytes.now fields) }
+    ensures ends { Ends fields.end result }
 {
     let c = scope.counts;
     let row = c.row;
@@ -281,6 +292,7 @@ pub fn operand(
 ) -> Option<Fields>
     requires fresh { Fresh seen.old stamp }
     ensures took { left_in scope.now.bytes.now result ≡ class_taken class (scope_in scope.now.bytes.now scope.now.t.now scope.now.counts) (fields_in scope.now.bytes.now fields) }
+    ensures ends { Ends fields.end result }
     ensures stamped { Stamped seen.old seen.new stamp }
 {
     let Some(operand) = class else {

@@ -87,11 +87,12 @@ pub struct Fields {
 }
 
 impl Fields {
-    ghost use Rattle.module.specs.Scan.{fields_in, split_in};
+    ghost use Rattle.module.specs.Scan.{fields_in, split_in, SplitEnds};
 
     // The first of them and the others, where there is one.
     pub fn split_first(self, bytes: &[u8]) -> Option<(u16, Fields)>
-        ensures { fields_in bytes.now self ≡ split_in bytes.now result }
+        ensures split { fields_in bytes.now self ≡ split_in bytes.now result }
+        ensures ends { SplitEnds self.end result }
     {
         if self.left == 0 {
             return None;

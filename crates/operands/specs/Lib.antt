@@ -1,3 +1,4 @@
 pub mod AsksAll
 pub mod Lists
+pub mod Rows
 pub mod Arms

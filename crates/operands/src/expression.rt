@@ -7,6 +7,7 @@ use crate::indexes::ask_index;
 use crate::load::ask_load;
 use crate::made::{ask_components, ask_joined, ask_letters};
 use crate::operators::{ask_both_same, ask_both_whole, ask_math, ask_same, ask_select, ask_whole};
+use crate::row::Operands;
 use crate::tests::{by_part, is_joined};
 use judge::expression::SubjectExpression;
 use judge::subject::Subject;
@@ -21,10 +22,15 @@ fn ask_binary(expression: &SubjectExpression, parts: &mut Parts, n: usize) -> Op
     requires kind_value { expression.now.row.kind ≡ 17 }
     ensures { AsksOperands expression.now.subject.now.file.now.bytes expression.now.subject.now.file.now.t expression.now.subject.now.f.0 expression.now.e.0 parts.old.cells parts.old.slots n parts.new.cells parts.new.slots (fits result) }
 {
+    let operands = Operands {
+        file: expression.subject.file,
+        f: expression.subject.f,
+        row: expression.row,
+    };
     if by_part(expression) {
-        return ask_both_same(expression, parts, n);
+        return ask_both_same(&operands, parts, n);
     }
-    ask_both_whole(expression, parts, n)
+    ask_both_whole(&operands, parts, n)
 }
 
 // The components, by part or whole.
@@ -33,10 +39,16 @@ fn ask_compose(expression: &SubjectExpression, parts: &mut Parts, n: usize) -> O
     requires kind_value { expression.now.row.kind ≡ 8 }
     ensures { AsksOperands expression.now.subject.now.file.now.bytes expression.now.subject.now.file.now.t expression.now.subject.now.f.0 expression.now.e.0 parts.old.cells parts.old.slots n parts.new.cells parts.new.slots (fits result) }
 {
-    if is_joined(expression) {
-        return ask_joined(expression, parts, n);
+    let subject = expression.subject;
+    let operands = Operands {
+        file: subject.file,
+        f: subject.f,
+        row: expression.row,
+    };
+    if is_joined(&operands, subject.types, expression.e) {
+        return ask_joined(&operands, parts, n);
     }
-    ask_components(expression, parts, n)
+    ask_components(&operands, parts, n)
 }
 
 // What the need of the expression e asks of its operands. None where the needs pass the bound.
@@ -57,13 +69,18 @@ pub fn ask_operands(
         row,
         e,
     };
+    let operands = Operands {
+        file: subject.file,
+        f: subject.f,
+        row,
+    };
     match ExpressionKind::try_from(row.kind) {
-        Ok(ExpressionKind::AccessIndex) => ask_index(&expression, parts, n),
-        Ok(ExpressionKind::Access) => ask_both_whole(&expression, parts, n),
+        Ok(ExpressionKind::AccessIndex) => ask_index(&operands, parts, n),
+        Ok(ExpressionKind::Access) => ask_both_whole(&operands, parts, n),
         Ok(ExpressionKind::Splat | ExpressionKind::Relational) => {
-            ask_whole(&expression, parts, n, 0)
+            ask_whole(&operands, parts, n, 0)
         }
-        Ok(ExpressionKind::Swizzle) => ask_letters(&expression, parts, n),
+        Ok(ExpressionKind::Swizzle) => ask_letters(&operands, parts, n),
         Ok(ExpressionKind::Compose) => ask_compose(&expression, parts, n),
         Ok(ExpressionKind::Load) => {
             let pointer = PointerExpression {
@@ -74,9 +91,9 @@ pub fn ask_operands(
             ask_load(&pointer, parts, path, n)
         }
         Ok(ExpressionKind::Binary) => ask_binary(&expression, parts, n),
-        Ok(ExpressionKind::Select) => ask_select(&expression, parts, n),
-        Ok(ExpressionKind::Math) => ask_math(&expression, parts, n),
+        Ok(ExpressionKind::Select) => ask_select(&operands, parts, n),
+        Ok(ExpressionKind::Math) => ask_math(&operands, parts, n),
         // The two kinds that are left, Unary and As.
-        _ => ask_same(&expression, parts, n, 0),
+        _ => ask_same(&operands, parts, n, 0),
     }
 }

@@ -6,4 +6,5 @@ pub mod indexes;
 pub mod load;
 pub mod made;
 pub mod operators;
+pub mod row;
 pub mod tests;

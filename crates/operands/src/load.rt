@@ -43,7 +43,7 @@ fn loaded(a: u32, dynamic: bool) -> u32
 }
 
 // What stands where a pointer leads.
-pub(crate) fn ask_load(
+pub fn ask_load(
     pointer: &PointerExpression,
     parts: &mut Parts,
     path: &mut [u32],

@@ -1,13 +1,14 @@
 // Where an operand's value is, and whether an emit gives one, by the expression's kind.
 ghost use Rattle.std.specs.Prelude.{◌≡◌};
+ghost use Rattle.module.specs.Tables.{function_of};
 ghost use Rattle.clearance.specs.Scope.{arm, source};
 ghost use Rattle.clearance.specs.Needs.{gives};
 ghost use Rattle.judge.specs.Given.{scope_at};
+ghost use Rattle.judge.specs.Paths.{PathTable};
 ghost use Rattle.place.specs.Sources.{source_by, gives_kind};
-ghost use Rattle.judge.specs.Subject.{scope_of};
 
 use access::file::File;
-use judge::subject::Subject;
+use judge::values::is_path;
 use module::handles::{ExpressionHandle, FunctionHandle};
 use module::kinds::ExpressionKind;
 
@@ -59,15 +60,16 @@ fn gives_kind(kind: u16) -> bool
 }
 
 // Whether an emit gives the expression e its value.
-pub fn gives_value(subject: &Subject, e: ExpressionHandle) -> bool
-    ensures { result ≡ gives (arm (scope_of subject.now) e.0) }
+pub fn gives_value(file: &File, f: FunctionHandle, paths: &[bool], e: ExpressionHandle) -> bool
+    requires { PathTable (function_of file.now.bytes file.now.t f.0).expressions paths.now }
+    ensures { result ≡ gives (arm (scope_at file.now.bytes file.now.t f.0) e.0) }
 {
-    if subject.file.expressions(subject.f) <= e.0 {
+    if file.expressions(f) <= e.0 {
         return false;
     }
-    let row = subject.file.expression(subject.f, e);
+    let row = file.expression(f, e);
     match ExpressionKind::try_from(row.kind) {
-        Ok(ExpressionKind::AccessIndex | ExpressionKind::Access) => { !subject.is_path(e) }
+        Ok(ExpressionKind::AccessIndex | ExpressionKind::Access) => !is_path(file, f, paths, e),
         _ => gives_kind(row.kind),
     }
 }

@@ -13,7 +13,7 @@ use Rattle.module.specs.Module.{FunctionHandle, Module}
 use Rattle.module.specs.Tables.{row_at, module_of}
 use Rattle.request.specs.Fields.{fields, Read, malformed, got, ◌>>=◌}
 use Rattle.request.specs.Answers.{Field}
-use Rattle.request.proofs.Bytes.{no_field}
+use Rattle.request.proofs.Bytes.{no_field, tail_then}
 use Rattle.request.proofs.Entries.{kept_same}
 use Rattle.walk.specs.State.{FunctionReq, function_pieces}
 use Rattle.memory.specs.Memory.{read, Memory}
@@ -74,7 +74,7 @@ module _ (bytes t s rs : List ℕ) (totals : MarkTotals) (b : List ℕ) (f : Fun
         sums = omega (arith, missing_count m t (read s rs) totals f flag);
         few = few;
         memory = mem;
-        spent = record { further = omega (arith, x-is.left); cost = omega (arith, x-is.left) };
+        spent = record { further = omega (arith, x-is.left); cost = omega (arith, x-is.left); tail = x-is.tail };
         same = λ k no_record no_context. refl;
         unwalked = λ z. refl;
         others = λ g l ne. refl;
@@ -97,7 +97,7 @@ module _ (bytes t s rs : List ℕ) (totals : MarkTotals) (b : List ℕ) (f : Fun
       sums = omega (arith, k.sums, flagged_count m t (read u us) after f k.flagged);
       few = k.few;
       memory = k.memory;
-      spent = record { further = omega (arith, k.spent.further, x-is.left); cost = omega (arith, k.spent.cost, x-is.left) };
+      spent = record { further = omega (arith, k.spent.further, x-is.left); cost = omega (arith, k.spent.cost, x-is.left); tail = tail_then x-is.tail k.spent.tail };
       same = k.same;
       unwalked = λ z. let nope : true ≡ false = sym k.flagged ∙ z in let i : ◌≡◌ {A = ℕ} 0 1 = cc in absurd (omega arith);
       others = k.others;

@@ -14,7 +14,8 @@ use Rattle.access.proofs.Access.{expressions-are}
 use Rattle.context.specs.RequiredContext.{RequiredContext, pieces}
 use Rattle.request.specs.Fields.{fields, Read, malformed, got, ◌>>=◌}
 use Rattle.request.specs.Context.{read_context_body, known_context}
-use Rattle.request.specs.Answers.{Limits}
+use Rattle.request.specs.Answers.{Tail, Limits}
+use Rattle.request.proofs.Bytes.{tail_then}
 use Rattle.request.proofs.Entries.{kept_same, kept_on}
 use Rattle.walk.specs.State.{Records, FunctionReq, record_pieces}
 use Rattle.walk.specs.Resolve.{function_at}
@@ -121,7 +122,7 @@ module _ {bytes t : List ℕ} {places : MarkPlaces} {s rs : List ℕ} (h : HasTo
           abbrev lists : List ℕ
           lists = rest.now
 
-          are : (read_marks (length ys) (fields b) ≡ got ys (fields lists)) × (2 * length ys + length lists ≡ length b)
+          are : (read_marks (length ys) (fields b) ≡ got ys (fields lists)) × (2 * length ys + length lists ≡ length b) × Tail b lists
           are = subst (MarksAre b ys) e marks.are
 
           abbrev after_marks : Read FunctionReq
@@ -204,6 +205,7 @@ module _ {bytes t : List ℕ} {places : MarkPlaces} {s rs : List ℕ} (h : HasTo
                         spent = record {
                           further = omega (arith, are.1, C.spent.further, R.spent.further);
                           cost = omega (arith, are.1, C.spent.cost, R.spent.cost);
+                          tail = tail_then are.2 (tail_then C.spent.tail R.spent.tail);
                         };
                         same = λ k no_record no_context.
                             R.same k (λ low high. no_record (k - (totals_slot + expressions_from (row_at t f))) (omega arith) (omega arith))

@@ -10,8 +10,8 @@ use Rattle.std.specs.Prelude.{Some, None}
 use Rattle.std.specs.Borrow.{Bor}
 use Rattle.std.proofs.lemmas.List.{take_more_set}
 use Rattle.request.specs.Fields.{fields, Read, malformed, got, ◌>>=◌}
-use Rattle.request.specs.Answers.{Field}
-use Rattle.request.proofs.Bytes.{no_field}
+use Rattle.request.specs.Answers.{Tail, Field}
+use Rattle.request.proofs.Bytes.{no_field, tail_all, tail_then}
 use Rattle.pruner.specs.Form.{read_marks}
 use Rattle.pruner.specs.Reading.{MarksWereRead}
 
@@ -25,6 +25,7 @@ pub record Marking (b : List ℕ) (n : ℕ) (marks : List ℕ) (k : ℕ) (next :
   pub few : k ≤ n
   pub long : length marks ≡ n
   pub left_is : 2 * k + length next ≡ length b
+  pub tail : Tail b next
   pub rest : read_marks n (fields b) ≡ after (take k marks) (read_marks (n - k) (fields next))
 
 pub after_none : {A : Type 0} (x : Read (List A)) → x ≡ after [] x
@@ -38,7 +39,7 @@ after_more xs b (got bs gs) = rw (append_assoc xs (b ∷ []) bs) refl
 pub marking_first : (b marks : List ℕ) → Marking b (length marks) marks 0 b
 marking_first b marks =
     let same : length marks - 0 ≡ length marks = omega arith in
-    record { few = omega arith; long = refl; left_is = omega arith; rest = rw same (after_none (read_marks (length marks) (fields b))) }
+    record { few = omega arith; long = refl; left_is = omega arith; tail = tail_all b; rest = rw same (after_none (read_marks (length marks) (fields b))) }
 
 module _ {b : List ℕ} {n : ℕ} {marks : List ℕ} {k : ℕ} {next : List ℕ} (so : Marking b n marks k next) where
   module _ (l : k < n) where
@@ -66,6 +67,7 @@ module _ {b : List ℕ} {n : ℕ} {marks : List ℕ} {k : ℕ} {next : List ℕ}
             few = omega arith;
             long = length-set marks k x ∙ so.long;
             left_is = omega (arith, so.left_is, x-is.left);
+            tail = tail_then so.tail x-is.tail;
             rest = so.rest ∙ one_mark o ∙ rw (take_more_set marks k x room) (after_more (take k marks) x (read_marks (n - (k + 1)) (fields c)));
           }
 
@@ -75,4 +77,4 @@ module _ {b : List ℕ} {n : ℕ} {marks : List ℕ} {k : ℕ} {next : List ℕ}
       let same : k ≡ n = omega (arith, so.few) in
       let none_left : n - k ≡ 0 = omega arith in
       let all : take k marks ≡ marks = ap (λ (j : ℕ). take j marks) (same ∙ sym so.long) ∙ take-length marks in
-      record { are = rw (so.long, e) (so.rest ∙ rw (none_left, all, append-nil marks) refl, omega (arith, so.left_is)) }
+      record { are = rw (so.long, e) (so.rest ∙ rw (none_left, all, append-nil marks) refl, omega (arith, so.left_is), so.tail) }

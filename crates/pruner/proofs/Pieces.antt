@@ -17,6 +17,7 @@ use Rattle.request.specs.Answers.{RoomFor, Spent, part_read, optional, sorted, O
 use Rattle.std.specs.Prelude.{Option as Maybe, Some, None}
 use Rattle.std.specs.Borrow.{Bor}
 use Rattle.request.proofs.Entries.{kept_on}
+use Rattle.request.proofs.Bytes.{tail_then}
 use Rattle.request.proofs.Judged.{listed, unlisted, not_some, is_some}
 use Rattle.request.proofs.Variables.{held_piece}
 use Rattle.pruner.specs.Form.{only}
@@ -38,7 +39,7 @@ refuse_piece : {s t b : List ℕ} {n : ℕ} {r : Read PartReq} → Kept s t → 
 refuse_piece k e = record { kept = k; is = sym e; placed = tt }
 
 beside : {s t b c : List ℕ} (n : ℕ) → Spent s t b 0 c → SpentBeside s t b n c
-beside n p = record { further = omega (arith, p.further); cost = omega (arith, p.cost) }
+beside n p = record { further = omega (arith, p.further); cost = omega (arith, p.cost); tail = p.tail }
 
 -- {i: part}
 module _ (i : ℕ) (b : List ℕ) where
@@ -73,7 +74,7 @@ module _ (i : ℕ) (b : List ℕ) where
       single_made {u} {n} made = record {
         kept = kept_on was.kept made.kept;
         is = rw (made.is, part-2 t) (sym (ap (mapped (single i)) (sym was.is ∙ ap (λ (x : Maybe ℕ). got (optional t x) (fields next.now)) z)));
-        placed = (made.piece, record { further = spent.further; cost = omega (arith, was.placed.1.cost, made.cost) });
+        placed = (made.piece, record { further = spent.further; cost = omega (arith, was.placed.1.cost, made.cost); tail = spent.tail });
       }
 
 -- a list of variables
@@ -311,6 +312,7 @@ module _ (globals args locals : ℕ) {s t b : List ℕ} {a : Maybe (ℕ × Bor (
                       record {
                         further = omega (arith, one.1.further, two.1.further, three.1.further, four.1.further);
                         cost = omega (arith, one.1.cost, two.1.cost, three.1.cost, four.1.cost);
+                        tail = tail_then one.1.tail (tail_then two.1.tail (tail_then three.1.tail four.1.tail));
                       },
                     );
                   }

@@ -17,6 +17,7 @@ use Rattle.request.specs.Fields.{fields, Read, malformed, got, ◌>>=◌}
 use Rattle.request.specs.Part.{read_return}
 use Rattle.std.specs.Prelude.{Option as Maybe, Some, None}
 use Rattle.std.specs.Borrow.{Bor}
+use Rattle.request.proofs.Bytes.{tail_all, tail_then}
 use Rattle.request.proofs.Entries.{kept_same, kept_on}
 use Rattle.walk.specs.State.{Records, record_pieces}
 use Rattle.memory.specs.Layout.{exprs_slot, functions_slot}
@@ -97,7 +98,7 @@ recording_first {b = b} base n m l =
       kept = kept_same m.good;
       long = refl;
       memory = m;
-      spent = record { further = omega arith; cost = omega arith };
+      spent = record { further = omega arith; cost = omega arith; tail = tail_all b };
       same = λ j out. refl;
       sums = omega arith;
       low = l;
@@ -174,6 +175,7 @@ module _ {s rs b : List ℕ} {base n sum : ℕ} {t us : List ℕ} {k : ℕ} {nex
                   spent = record {
                     further = omega (arith, so.spent.further, placed.1.further);
                     cost = omega (arith, so.spent.cost, placed.1.cost);
+                    tail = tail_then so.spent.tail placed.1.tail;
                   };
                   same = λ j out.
                       let ne : j ≡ base + k → ⊥ = λ z. out (omega arith) (omega arith) in

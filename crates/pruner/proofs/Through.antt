@@ -18,6 +18,7 @@ use Rattle.module.proofs.Tab.{tab-same}
 use Rattle.access.proofs.Access.{functions_are}
 use Rattle.access.proofs.Laid.{number_once}
 use Rattle.request.specs.Fields.{fields, Read, malformed, got, ◌>>=◌}
+use Rattle.request.proofs.Bytes.{tail_all, tail_then}
 use Rattle.request.proofs.Entries.{kept_same, kept_on}
 use Rattle.walk.specs.State.{FunctionReq, record_pieces, function_pieces, total_pieces}
 use Rattle.walk.proofs.Counts.{record_pieces-replicate}
@@ -147,7 +148,7 @@ module _ {bytes t : List ℕ} (w : WasRead bytes t) where
         kept = kept_same mem.good;
         long = refl;
         memory = mem;
-        spent = record { further = omega arith; cost = omega arith };
+        spent = record { further = omega arith; cost = omega arith; tail = tail_all b };
         same = λ k out. refl;
         low = l;
         sums = omega arith;
@@ -267,6 +268,7 @@ module _ {bytes t : List ℕ} (w : WasRead bytes t) where
                 spent = record {
                   further = omega (arith, so.spent.further, R.spent.further);
                   cost = omega (arith, so.spent.cost, R.spent.cost);
+                  tail = tail_then so.spent.tail R.spent.tail;
                 };
                 same = λ k out. R.same k (λ i x z. out (omega arith) (omega arith)) (λ i x z. out (omega arith) (omega arith)) ∙ so.same k out;
                 low = R.few;
@@ -302,6 +304,7 @@ module _ {bytes t : List ℕ} (w : WasRead bytes t) where
             few = so.low;
             memory = so.memory;
             further = so.spent.further;
+            tail = so.spent.tail;
             same = so.same;
             totals-sum = rw (← these) so.weighed;
             unwalked = λ g x z. so.walked g (omega arith) z;

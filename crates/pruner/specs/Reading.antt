@@ -12,7 +12,7 @@ use Rattle.context.specs.Contexts.{context_of, HasContext}
 use Rattle.module.specs.Module.{FunctionHandle}
 use Rattle.module.specs.Tables.{row_at, expressions_from, max_items, module_of}
 use Rattle.request.specs.Fields.{fields, Read, malformed, got, ◌>>=◌, whole, refused, accepted}
-use Rattle.request.specs.Answers.{part_read}
+use Rattle.request.specs.Answers.{Tail, part_read}
 use Rattle.walk.specs.State.{FunctionReq, record_pieces, function_pieces, total_pieces}
 use Rattle.memory.specs.Layout.{globals_slot, totals_slot, functions_slot, stack_slot}
 use Rattle.memory.specs.Memory.{read, records_of, context_at, Memory}
@@ -44,6 +44,7 @@ RoomBeside s b n = cell_words * (top s + n) + table_words + 2 * length b ≤ len
 pub record SpentBeside (s t b : List ℕ) (n : ℕ) (c : List ℕ) : Type 0 where
   pub further : length c ≤ length b
   pub cost : 4 * top t + length c ≤ 4 * (top s + n) + length b
+  pub tail : Tail b c
 
 -- a piece, for which n cells were made beside
 abbrev pub PiecePlaced : (s t b : List ℕ) → (n : ℕ) → Maybe (ℕ × Bor (List ℕ)) → Type 0
@@ -72,7 +73,7 @@ pub record ListsWereRead (s t b : List ℕ) (r : Read RequiredContext) (a : Mayb
 -- as many marks as there are bytes for them, or none where they are no marks
 abbrev pub MarksAre : (b marks : List ℕ) → Maybe (Bor (List ℕ)) → Type 0
 MarksAre b marks None = read_marks (length marks) (fields b) ≡ malformed
-MarksAre b marks (Some c) = (read_marks (length marks) (fields b) ≡ got marks (fields c.now)) × (2 * length marks + length c.now ≡ length b)
+MarksAre b marks (Some c) = (read_marks (length marks) (fields b) ≡ got marks (fields c.now)) × (2 * length marks + length c.now ≡ length b) × Tail b c.now
 
 pub record MarksWereRead (b marks : List ℕ) (r : Maybe (Bor (List ℕ))) : Type 0 where
   pub are : MarksAre b marks r
@@ -180,6 +181,7 @@ pub record FunctionsAre (bytes t s rs b : List ℕ) (sum : ℕ) (u us : List ℕ
   pub few : m ≤ max_pieces
   pub memory : Memory u us
   pub further : length next ≤ length b
+  pub tail : Tail b next
   pub same : (k : ℕ) → (totals_slot ≤ k → k < stack_slot → ⊥) → get_or (read u us) k none ≡ get_or (read s rs) k none
   pub totals-sum : total_pieces (functions_in (module_of bytes t) t (read u us) after) ≡ totals_sum (read u us)
   pub unwalked : (g : ℕ) → g < length (module_of bytes t).functions → has_total after g ≡ false → total_count t g (read u us) ≡ 0

@@ -9,12 +9,13 @@ use lib.ListN.{length}
 use borrow.Author.Tests.{lt-ltb}
 use Rattle.std.specs.Prelude.{Option, None, Some, is_some, IfSome}
 use Rattle.std.specs.Bool.{then_some}
-use Rattle.part.specs.PartReq.{PartReq, none}
+use Rattle.part.specs.PartReq.{PartReq, all, exist, none, more}
 use Rattle.part.specs.Store.{part, means}
 use Rattle.part.specs.Subparts.{Piece}
 use Rattle.part.proofs.Pieces.{part-0}
+use Rattle.part.proofs.Equations.{never}
 use Rattle.module.specs.Tables.{function_of}
-use Rattle.clearance.specs.Shape.{some, below}
+use Rattle.clearance.specs.Shape.{Shape, some, below, is_void, member, keep, trim, hit}
 use Rattle.clearance.specs.Scope.{Scope, Place, slot, evaluated, path_of, target, is_path, frame, arm}
 use Rattle.clearance.specs.Tree.{Act, emit, store}
 use Rattle.clearance.specs.Needs.{gives, overlap, idle}
@@ -53,8 +54,38 @@ if_same : (P : ℕ → Type 0) {p : ℕ} → P p → (o : Option ℕ) → IfSome
 if_same P x None e = tt
 if_same P x (Some q) e = rw e x
 
+-- What is trimmed is never exist: where it is not something, it is none
+kept-none : (i : ℕ) (c r : PartReq) → (some r ≡ false → r ≡ none) → some (keep i c r) ≡ false → keep i c r ≡ none
+unfolding keep
+kept-none i all r h w = never (sym w)
+kept-none i exist r h w = h w
+kept-none i none r h w = h w
+kept-none i (more j p s) r h w = never (sym w)
+
+all-none : (b : Bool) → some (cond b none all) ≡ false → cond b none all ≡ none
+all-none true w = refl
+all-none false w = never (sym w)
+
+trim-none : (p : PartReq) (t : Shape) → some (trim p t) ≡ false → trim p t ≡ none
+unfolding trim
+trim-none all t w = all-none (is_void t) w
+trim-none exist t w = refl
+trim-none none t w = refl
+trim-none (more i p r) t w = kept-none i (trim p (member t i)) (trim r t) (trim-none r t) w
+
+given-none : (b : Bool) (p : PartReq) (t : Shape) → some (cond b (trim p t) none) ≡ false → cond b (trim p t) none ≡ none
+given-none true p t w = trim-none p t w
+given-none false p t w = refl
+
+overlap-none : (S : Scope) (x : Act) (n : PartReq) → some (overlap S x n) ≡ false → overlap S x n ≡ none
+unfolding overlap hit
+overlap-none S (emit e) n w = given-none (gives (arm S e)) _ _ w
+overlap-none S (store p v) n w = trim-none _ _ w
+
 overlap_by : {S : Scope} {x : Act} {s : List ℕ} {n : PartReq} {p : ℕ} → Piece s (overlap S x n) p → {o : Option ℕ} → Something p o → {before after : List ℕ} → length after ≡ length before → Overlap S x s n before after o
-overlap_by {S} {x} {s} {n} w {o} d l = record { is = d.is s ∙ ap some w.is; piece = if_same (Piece s (overlap S x n)) w o d.piece; long = l }
+overlap_by {S} {x} {s} {n} w {o} d l =
+    let e : is_some o ≡ some (overlap S x n) = d.is s ∙ ap some w.is in
+    record { is = e; piece = if_same (Piece s (overlap S x n)) w o d.piece; nothing = λ h. overlap-none S x n (sym e ∙ ap is_some h); long = l }
 
 -- A store, whatever its value
 pub store_below : {bytes t : List ℕ} {f : ℕ} {types alike : List ℕ} {paths : List Bool} → World bytes t f types alike paths → {p : ℕ} → p < length (function_of bytes t f).expressions → is_path (scope_at bytes t f) p ≡ true → (v : ℕ) (n : PartReq) →
@@ -74,7 +105,7 @@ module _ {bytes t : List ℕ} {f : ℕ} {types alike : List ℕ} {paths : List B
     pub emit_none : {before : List ℕ} → r ≡ false → Overlap S (emit e) cells (part cells m) before before None
     emit_none h =
         let z : overlap S (emit e) (part cells m) ≡ none = takes ∙ rw (sym q ∙ h) in
-        record { is = sym (ap some z); piece = tt; long = refl }
+        record { is = sym (ap some z); piece = tt; nothing = λ e. z; long = refl }
 
     pub emit-some : {before after : List ℕ} → r ≡ true → length after ≡ length before → {place : Place} → place ≡ slot (evaluated e) → {x : ℕ} → Piece cells (below (part cells m) place) x →
         {o : Option ℕ} → Something x o → Overlap S (emit e) cells (part cells m) before after o

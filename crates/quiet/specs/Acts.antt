@@ -1,6 +1,6 @@
 -- What the code of the rule of unmarked statements is given, and what an act gives that is needed.
-use Rattle.std.specs.Prelude.{ℕ, zero, suc, ◌<◌, ◌≡◌, Bool, true, ◌&&◌, List, Option, length, is_some, IfSome}
-use Rattle.part.specs.PartReq.{PartReq}
+use Rattle.std.specs.Prelude.{ℕ, zero, suc, ◌<◌, ◌≡◌, Bool, true, ◌&&◌, List, Option, None, length, is_some, IfSome}
+use Rattle.part.specs.PartReq.{PartReq, none}
 use Rattle.part.specs.Store.{top, part, Good}
 use Rattle.part.specs.Subparts.{Piece}
 use Rattle.module.specs.Module.{ExpressionHandle}
@@ -32,10 +32,11 @@ pub record Something (p : ℕ) (r : Option ℕ) : Type 0 where
   pub is : (s : List ℕ) → is_some r ≡ some (part s p)
   pub piece : IfSome r (λ q. q ≡ p)
 
--- whether what is needed of what an act gives is something, and its piece r in the store s; a lent path is as long as it was
+-- whether what is needed of what an act gives is something, and its piece r in the store s; else it is none. A lent path is as long as it was.
 pub record Overlap (S : Scope) (x : Act) (s : List ℕ) (n : PartReq) (before after : List ℕ) (r : Option ℕ) : Type 0 where
   pub is : is_some r ≡ some (overlap S x n)
   pub piece : IfSome r (λ p. Piece s (overlap S x n) p)
+  pub nothing : r ≡ None → overlap S x n ≡ none
   pub long : length after ≡ length before
 
 -- r says whether an act gives nothing that is needed

@@ -27,7 +27,8 @@ pub fn emit_overlap(need: &Need, path: &mut [u32], e: ExpressionHandle) -> Optio
     requires in_bounds { 2 ≤ length path.old }
     ensures { Overlap (scope_of need.now.subject.now) (emit e.0) need.now.cells.now (needed_by need.now) path.old path.new result }
 {
-    if !gives_value(need.subject, e) {
+    let subject = need.subject;
+    if !gives_value(subject.file, subject.f, subject.paths, e) {
         return None;
     }
     evaluated_path(path, e);

@@ -7,6 +7,7 @@ use Rattle.module.specs.Record.{length_at}
 use Rattle.module.specs.File.{Next, placed}
 use Rattle.module.specs.Reading.{rank}
 use Rattle.module.specs.Scan.{Fresh}
+use Rattle.reading.specs.declared.room.Room.{Room}
 use Rattle.reading.specs.Progress.{Progress, Ready}
 use Rattle.reading.specs.Ends.{next_of}
 
@@ -35,3 +36,10 @@ pub record Stepped (bytes t seen : List ℕ) (at : ℕ) (next : Next) (r : Resul
   pub is : next_of bytes t r ≡ next
   pub progress : (d : Counts) → r ≡ Ok d → Progress bytes t d (after bytes at)
   pub unseen : (d : Counts) → r ≡ Ok d → Unseen seen (after bytes at)
+
+-- the room lends the slices that it did, and they are as long
+pub record Kept (old new : Room) : Type 0 where
+  pub same_seen : new.seen.ghost_name ≡ old.seen.ghost_name
+  pub same_held : new.held.ghost_name ≡ old.held.ghost_name
+  pub seen_length : length new.seen.now ≡ length old.seen.now
+  pub held_length : length new.held.now ≡ length old.held.now

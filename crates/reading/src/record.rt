@@ -3,7 +3,7 @@ ghost use Rattle.std.proofs.Math.Option.{some};
 ghost use Rattle.std.specs.Prelude.{◌<◌, ◌≤◌, length};
 ghost use Rattle.module.specs.File.{body_next, mark_next, record_next};
 ghost use Rattle.module.specs.Tables.{reading_of};
-ghost use Rattle.reading.specs.Steps.{after, Between, Begun, Stepped};
+ghost use Rattle.reading.specs.Steps.{after, Between, Begun, Stepped, Kept};
 
 use crate::add::add;
 use crate::ends::ended_at;
@@ -31,7 +31,8 @@ fn body_next(rec: &Record, t: &mut [u32], seen: &mut [u32], c: Counts) -> Result
 fn mark_next(rec: &Record, t: &mut [u32], room: &mut Room, c: Counts) -> Result<Counts, Refusal>
     requires between { Between rec.now.bytes.now t.old room.old.seen.now c rec.now.at }
     requires at_in_bounds { after rec.now.bytes.now rec.now.at ≤ length rec.now.bytes.now }
-    ensures { Stepped rec.now.bytes.now t.new room.new.seen.now rec.now.at (mark_next rec.now.bytes.now rec.now.at (some rec.now.mark) (reading_of rec.now.bytes.now t.old c)) result }
+    ensures step { Stepped rec.now.bytes.now t.new room.new.seen.now rec.now.at (mark_next rec.now.bytes.now rec.now.at (some rec.now.mark) (reading_of rec.now.bytes.now t.old c)) result }
+    ensures kept { Kept room.old room.new }
 {
     if placed(rec.mark, c.stage) {
         let d = ended_at(rec, t, room.held, c)?;
@@ -50,7 +51,8 @@ pub fn record_next(
 ) -> Result<Counts, Refusal>
     requires between { Between bytes.now t.old room.old.seen.now c at }
     requires at_in_bounds { at < length bytes.now }
-    ensures { Stepped bytes.now t.new room.new.seen.now at (record_next bytes.now at (reading_of bytes.now t.old c)) result }
+    ensures step { Stepped bytes.now t.new room.new.seen.now at (record_next bytes.now at (reading_of bytes.now t.old c)) result }
+    ensures kept { Kept room.old room.new }
 {
     let left = bytes.len() - (at as usize);
     if left < 4 {

@@ -23,12 +23,13 @@ use Rattle.lines.specs.declared.text.Text.{Text}
 use Rattle.lines.specs.Wrote.{longest, Writes, Begins}
 use Rattle.lines.proofs.Writing.{writes_then, writes_first}
 use Rattle.lines.proofs.ReportText.{text_long}
-use Rattle.checking.specs.Word.{said, Roomy}
+use Rattle.checking.specs.Word.{said, word, word_answer}
+use Rattle.checking.proofs.Word.{word-answer}
 use Rattle.checking.specs.declared.words.Verdict.{Verdict}
 use Rattle.checking.specs.Line.{check_line}
 use Rattle.report_text.specs.Split.{module_bytes, module_in, request_in}
 use Rattle.report_text.specs.Input.{check_of, request_text, module_text, report_input}
-use Rattle.check_text.specs.Checked.{max_line, Checks}
+use Rattle.check_text.specs.Checked.{max_line, Numbered, Checks}
 use Rattle.check_text.proofs.Saying.{line_long}
 use Rattle.report.specs.Outcome.{Shows, TextIs}
 use Rattle.report.specs.declared.outcome.Reported.{Reported}
@@ -83,8 +84,8 @@ module _ {text bytes t asked-bytes : List ℕ} {places : MarkPlaces} {s rs open_
       short : between.at ≤ max_text
       short = omega (arith, B.front.behind, text_long S.reporting required)
 
-      pub line_asks : Roomy (said v) × (between.at + max_line < longest)
-      line_asks = (C.roomy, omega (arith, short))
+      pub line_asks : {w : ℕ} → w ≡ word v → Numbered w × (between.at + max_line < longest)
+      line_asks e = (record { answer = said v; roomy = C.roomy; is = e }, omega (arith, short))
 
-      pub begins_whole : {after : Text} → before.at ≡ 0 → max_text + max_line ≤ length before.out.now → Writes between after (check_line (said v)) → Begins before after text
-      begins_whole z room W = rw whole (begins-then z B W (omega (arith, line_long (said v) C.roomy, text_long S.reporting required)))
+      pub begins_whole : {after : Text} {w : ℕ} → w ≡ word v → before.at ≡ 0 → max_text + max_line ≤ length before.out.now → Writes between after (check_line (word_answer w)) → Begins before after text
+      begins_whole e z room W = rw whole (begins-then z B (rw (e, word-answer (said v) C.roomy) at W) (omega (arith, line_long (said v) C.roomy, text_long S.reporting required)))

@@ -17,6 +17,7 @@ use boundary_check::check::read_file;
 use check_text::line::MAX_LINE;
 use lines::report::MAX_TEXT;
 use marks::places::MarkPlaces;
+use memory::parts::Parts;
 use module::tables::WORDS;
 use report_text::split::MAX_INPUT;
 use std::io;
@@ -58,13 +59,14 @@ fn print(
     input: &[u8],
     file: &File,
     places: &MarkPlaces,
-    space: &mut Workspace,
+    parts: &mut Parts,
+    open: &[u8],
     outcome: Outcome,
 ) -> io::Result<()>
-    requires { TextIs (report_input input.now) file.now.bytes file.now.t (request_in input.now) places.now space.old.parts.cells space.old.parts.slots space.old.open outcome }
+    requires { TextIs (report_input input.now) file.now.bytes file.now.t (request_in input.now) places.now parts.old.cells parts.old.slots «open».now outcome }
 {
     let mut text: [u8; MAX_TEXT + MAX_LINE] = [0; MAX_TEXT + MAX_LINE];
-    let n = write_text(&mut text, input, file, places, space, outcome);
+    let n = write_text(&mut text, input, file, places, parts, open, outcome);
     rt.write_all(&text[0..n])
 }
 
@@ -82,7 +84,15 @@ fn answer(
         Err(refusal) => Err(refusal),
         Ok(()) => walk_read(&file, places, space, behind(input)),
     };
-    print(rt, input, &file, places, space, outcome)
+    print(
+        rt,
+        input,
+        &file,
+        places,
+        &mut space.parts,
+        &space.open,
+        outcome,
+    )
 }
 
 fn report(rt: &impl Print, input: &[u8]) -> io::Result<()> {

@@ -78,7 +78,7 @@ fn walk_request(
     };
     // a fresh pruner
     let pruner = b"\0\0";
-    let begun = begin_request(&world, space, request, pruner, MIN_REPORT)?;
+    let begun = begin_request(typed.file, world.places, space, request, pruner, MIN_REPORT)?;
     walk_function(&world, space, begun.function, begun.sum)
 }
 

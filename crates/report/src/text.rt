@@ -9,13 +9,13 @@ ghost use Rattle.report.specs.Outcome.{TextIs};
 
 use crate::outcome::{Outcome, behind};
 use access::file::File;
-use block::workspace::Workspace;
 use check_text::check::check_report;
 use check_text::line::write_check;
 use lines::report::{write_refused, write_report_text};
 use lines::text::Text;
 use marks::places::MarkPlaces;
 use memory::layout::STACK;
+use memory::parts::Parts;
 
 // The text of the outcome, from the first byte on. The check comes last: it works in the walk's memory.
 fn write_outcome(
@@ -23,10 +23,11 @@ fn write_outcome(
     input: &[u8],
     file: &File,
     places: &MarkPlaces,
-    space: &mut Workspace,
+    parts: &mut Parts,
+    open: &[u8],
     outcome: Outcome,
 )
-    requires text_is { TextIs (report_input input.now) file.now.bytes file.now.t (request_in input.now) places.now space.old.parts.cells space.old.parts.slots space.old.open outcome }
+    requires text_is { TextIs (report_input input.now) file.now.bytes file.now.t (request_in input.now) places.now parts.old.cells parts.old.slots «open».now outcome }
     requires max_line_in_bounds { (text.old.at ≡ 0) × (max_text + max_line ≤ length text.old.out.now) }
     ensures { Begins text.old text.new (report_input input.now) }
 {
@@ -38,14 +39,14 @@ fn write_outcome(
                 text,
                 file,
                 places,
-                &space.parts,
-                &space.open,
+                parts,
+                open,
                 reported.function,
                 k,
                 reported.required,
             );
-            let verdict = check_report(file, &mut space.parts, &space.open, k, behind(input));
-            write_check(text, verdict);
+            let verdict = check_report(file, parts, open, k, behind(input));
+            write_check(text, u64::from(verdict));
         }
     }
 }
@@ -56,14 +57,15 @@ pub fn write_text(
     input: &[u8],
     file: &File,
     places: &MarkPlaces,
-    space: &mut Workspace,
+    parts: &mut Parts,
+    open: &[u8],
     outcome: Outcome,
 ) -> usize
-    requires text_is { TextIs (report_input input.now) file.now.bytes file.now.t (request_in input.now) places.now space.old.parts.cells space.old.parts.slots space.old.open outcome }
+    requires text_is { TextIs (report_input input.now) file.now.bytes file.now.t (request_in input.now) places.now parts.old.cells parts.old.slots «open».now outcome }
     requires max_line_in_bounds { max_text + max_line ≤ length out.old }
     ensures { Front out.old out.new (report_input input.now) result }
 {
     let mut text = Text { out, at: 0 };
-    write_outcome(&mut text, input, file, places, space, outcome);
+    write_outcome(&mut text, input, file, places, parts, open, outcome);
     text.at
 }

@@ -16,8 +16,8 @@ use Rattle.std.specs.Prelude.{Option as Maybe, Some, None}
 use Rattle.std.specs.Borrow.{Bor}
 use Rattle.request.specs.Fields.{fields, Read, malformed, got, ◌>>=◌}
 use Rattle.request.specs.Part.{read_entries, read_level, by_code, read_part}
-use Rattle.request.specs.Answers.{Field, PartPlaced, PartWasRead}
-use Rattle.request.proofs.Bytes.{no_field}
+use Rattle.request.specs.Answers.{Tail, Field, PartPlaced, PartWasRead}
+use Rattle.request.proofs.Bytes.{no_field, tail_then}
 
 module _ (part' : List ℕ → Read PartReq) (base low n : ℕ) where
   pub entries_none : (fs : List ℕ) → n ≡ 0 → read_entries part' base low n fs ≡ got none fs
@@ -87,13 +87,13 @@ kept_on k l =
 pub refuse : {s t b : List ℕ} {k : ℕ} {r : Read PartReq} → Kept s t → r ≡ malformed → PartWasRead s t b k r None
 refuse h e = record { kept = h; is = sym e; placed = tt }
 
-pub answer : {s b : List ℕ} {k : ℕ} {r : Read PartReq} {c : Bor (List ℕ)} → Good s → (n : ℕ) → n < 3 → k + length c.now ≤ length b
+pub answer : {s b : List ℕ} {k : ℕ} {r : Read PartReq} {c : Bor (List ℕ)} → Good s → (n : ℕ) → n < 3 → Tail b c.now → k + length c.now ≤ length b
     → r ≡ got (part s n) (fields c.now) → PartWasRead s s b k r (Some (n, c))
-answer g n low inside e =
+answer g n low tail inside e =
     record {
       kept = kept_same g;
       is = sym e;
-      placed = (omega (arith, g.base), record { further = inside; cost = omega arith });
+      placed = (omega (arith, g.base), record { further = inside; cost = omega arith; tail = tail });
     }
 
 -- an entry's index i, where n entries are to be read, k after this one: the bytes b begin with it, and c are left
@@ -135,8 +135,14 @@ module _ (d : ℕ) {s t u b c : List ℕ} {low n i k : ℕ} {y z : ℕ × Bor (L
       record {
         kept = kept_on first.kept (kept_on later.kept made.kept);
         is = rw made.is (sym (index_rest x 0 d child (sym later.is) ∙ rw (zero-add i)));
-        placed =
-            (made.piece, record { further = omega (arith, x.field, held.1, also.1); cost = omega (arith, x.field, held.1, also.1, made.cost) });
+        placed = (
+          made.piece,
+          record {
+            further = omega (arith, x.field, held.1, also.1);
+            cost = omega (arith, x.field, held.1, also.1, made.cost);
+            tail = tail_then x.field.tail (tail_then held.1.tail also.1.tail);
+          },
+        );
       }
 
 -- the test whether a field is left
@@ -151,9 +157,9 @@ pub pred_of : (n : ℕ) → (n ≡ 0 → ⊥) → n ≡ suc (n - 1)
 pred_of n h = omega arith
 
 -- the same part, where it stands behind four bytes
-pub part_behind : {s t b c : List ℕ} {q r : Read PartReq} {a : Maybe (ℕ × Bor (List ℕ))} → r ≡ q → 4 + length c ≡ length b → PartWasRead s t c 0 q a → PartWasRead s t b 2 r a
-part_behind {s} {t} {b} {c} {a = a} e long was = record { kept = was.kept; is = was.is ∙ sym e; placed = behind a was.placed }
+pub part_behind : {s t b c : List ℕ} {q r : Read PartReq} {a : Maybe (ℕ × Bor (List ℕ))} → r ≡ q → 4 + length c ≡ length b → Tail b c → PartWasRead s t c 0 q a → PartWasRead s t b 2 r a
+part_behind {s} {t} {b} {c} {a = a} e long tail was = record { kept = was.kept; is = was.is ∙ sym e; placed = behind a was.placed }
   where
     behind : (x : Maybe (ℕ × Bor (List ℕ))) → PartPlaced s t c 0 x → PartPlaced s t b 2 x
     behind None h = tt
-    behind (Some y) h = (h.0, record { further = omega (arith, h.1, long); cost = omega (arith, h.1, long) })
+    behind (Some y) h = (h.0, record { further = omega (arith, h.1, long); cost = omega (arith, h.1, long); tail = tail_then tail h.1.tail })

@@ -14,7 +14,7 @@ use Rattle.part.specs.PartReq.{PartReq, more}
 use Rattle.request.specs.Fields.{fields, Read, malformed, got, ◌>>=◌}
 use Rattle.request.specs.Part.{read_part, read_level, read_entries}
 use Rattle.request.specs.Answers.{Field}
-use Rattle.request.proofs.Bytes.{no_field}
+use Rattle.request.proofs.Bytes.{no_field, tail_then}
 use Rattle.request.proofs.Entries.{Index, pred_of, part_end, part_all, part_exist, part_unknown, part_deep, part_level, level_end, level_wide, level_entries, index_next}
 use Rattle.std.specs.Borrow.{Bor}
 use Rattle.std.specs.Prelude.{Some, None}
@@ -29,10 +29,10 @@ pub code_short : {b : List ℕ} {d : ℕ} → length b < 2 → CodeWasRead b d N
 code_short {b} {d} h = malformed-code (part_end b d h)
 
 pub code_all : {b : List ℕ} {d i : ℕ} {c : Bor (List ℕ)} → Field b i c.now → i ≡ 0 → CodeWasRead b d (Some (codes.All, c))
-code_all {d = d} f e = record { is = part_all f d e; placed = f.left }
+code_all {d = d} f e = record { is = part_all f d e; placed = (f.left, f.tail) }
 
 pub code_exist : {b : List ℕ} {d i : ℕ} {c : Bor (List ℕ)} → Field b i c.now → i ≡ 1 → CodeWasRead b d (Some (codes.Exist, c))
-code_exist {d = d} f e = record { is = part_exist f d e; placed = f.left }
+code_exist {d = d} f e = record { is = part_exist f d e; placed = (f.left, f.tail) }
 
 module _ {b c : List ℕ} {d i : ℕ} (f : Field b i c) where
   pub code_unknown : (i ≡ 0 → ⊥) → (i ≡ 1 → ⊥) → (i ≡ 2 → ⊥) → CodeWasRead b d None
@@ -56,7 +56,7 @@ module _ {b c : List ℕ} {d i : ℕ} (f : Field b i c) where
       code_entries g h =
           record {
             is = level ∙ level_entries g (read_part (d - 1)) h;
-            placed = (omega (arith, f.left, g.left), omega (arith, some'));
+            placed = (omega (arith, f.left, g.left), omega (arith, some'), tail_then f.tail g.tail);
           }
 
 -- an entry's index

@@ -18,8 +18,8 @@ use Rattle.std.specs.Borrow.{Bor}
 use Rattle.request.specs.Fields.{fields, Read, malformed, got, ◌>>=◌}
 use Rattle.request.specs.Part.{read_entries, read_part, read_return, read_variables}
 use Rattle.request.specs.Request.{all_below}
-use Rattle.request.specs.Answers.{Field, RoomFor, Spent, PartWasRead, optional, Held, option_read, OptionPlaced, OptionWasRead, sorted, skimmed}
-use Rattle.request.proofs.Bytes.{no_field}
+use Rattle.request.specs.Answers.{Tail, Field, RoomFor, Spent, PartWasRead, optional, Held, option_read, OptionPlaced, OptionWasRead, sorted, skimmed}
+use Rattle.request.proofs.Bytes.{no_field, tail_all, tail_then}
 use Rattle.request.proofs.Entries.{Index, kept_same, kept_on, entries_none, index_next, index_no_part}
 
 -- what the code answers
@@ -30,8 +30,8 @@ answer_list : {s t b : List ℕ} {r : Read (Option PartReq)} {o : Maybe ℕ} {c 
     → r ≡ got (optional t o) (fields c.now) → OptionWasRead s t b r (Some (o, c))
 answer_list k h p e = record { kept = k; is = sym e; placed = (h, p) }
 
-stand : (s b c : List ℕ) → length c ≤ length b → Spent s s b 0 c
-stand s b c h = record { further = omega arith; cost = omega arith }
+stand : (s b c : List ℕ) → Tail b c → Spent s s b 0 c
+stand s b c h = record { further = omega (arith, h.inside); cost = omega (arith, h.inside); tail = h }
 
 -- the return part
 pub return_end : (b : List ℕ) → length b < 2 → read_return (fields b) ≡ malformed
@@ -40,7 +40,7 @@ return_end b h = rw (no_field b h)
 
 pub return-nothing : {s b : List ℕ} {i : ℕ} {c : Bor (List ℕ)} → Field b i c.now → Good s → i ≡ 3 → OptionWasRead s s b (read_return (fields b)) (Some (None, c))
 unfolding read_return
-return-nothing {s} {b} {i} {c} f g e = answer_list (kept_same g) tt (stand s b c.now (omega (arith, f.left))) (rw (f.is, eq-eqb i 3 e))
+return-nothing {s} {b} {i} {c} f g e = answer_list (kept_same g) tt (stand s b c.now f.tail) (rw (f.is, eq-eqb i 3 e))
 
 module _ {b c : List ℕ} {i : ℕ} (f : Field b i c) (other : i ≡ 3 → ⊥) where
   return_part : read_return (fields b) ≡ (read_part max_depth (fields b) >>= λ p gs. got (some p) gs)
@@ -53,7 +53,7 @@ module _ {b c : List ℕ} {i : ℕ} (f : Field b i c) (other : i ≡ 3 → ⊥) 
   pub return_got : {s t : List ℕ} {y : ℕ × Bor (List ℕ)} → PartWasRead s t b 2 (read_part max_depth (fields b)) (Some y) → OptionWasRead s t b (read_return (fields b)) (Some (Some y.0, y.1))
   return_got was =
       let h = was.placed in
-      answer_list was.kept h.0 (record { further = omega (arith, h.1); cost = omega (arith, h.1) }) (return_part ∙ rw (← was.is))
+      answer_list was.kept h.0 (record { further = omega (arith, h.1); cost = omega (arith, h.1); tail = h.1.tail }) (return_part ∙ rw (← was.is))
 
 -- a list of which an entry is not there: what is left gives the whole
 pub record Skimming (s t b : List ℕ) (total : Read (Option PartReq)) (c : List ℕ) (low left : ℕ) : Type 0 where
@@ -62,7 +62,7 @@ pub record Skimming (s t b : List ℕ) (total : Read (Option PartReq)) (c : List
   pub rest : skimmed (read_entries (read_part max_depth) spine low left (fields c)) ≡ total
 
 pub skim_first : {s : List ℕ} (b : List ℕ) (low n : ℕ) → Good s → Skimming s s b (skimmed (read_entries (read_part max_depth) spine low n (fields b))) b low n
-skim_first {s} b low n g = record { kept = kept_same g; spent = stand s b b (omega arith); rest = refl }
+skim_first {s} b low n g = record { kept = kept_same g; spent = stand s b b (tail_all b); rest = refl }
 
 skimmed-more : (y : Read PartReq) (j : ℕ) (p : PartReq) → skimmed (y >>= λ r hs. got (more j p r) hs) ≡ skimmed y
 unfolding skimmed
@@ -89,7 +89,12 @@ module _ {s t b c : List ℕ} {low left : ℕ} {total : Read (Option PartReq)} (
         let h = was.placed in
         record {
           kept = kept_on so.kept was.kept;
-          spent = record { further = omega (arith, so.spent, x.field, h.1); cost = omega (arith, so.spent, x.field, h.1) };
+          spent =
+              record {
+                further = omega (arith, so.spent, x.field, h.1);
+                cost = omega (arith, so.spent, x.field, h.1);
+                tail = tail_then so.spent.tail (tail_then x.field.tail h.1.tail);
+              };
           rest =
               sym (skimmed-more _ (spine + i) (part u y.0)) ∙ sym (ap skimmed (index_next x spine max_depth ∙ rw (← was.is))) ∙ so.rest;
         }
@@ -145,7 +150,7 @@ pub known_empty : {s : List ℕ} → Good s → (b : Bor (List ℕ)) (limit low 
     → OptionWasRead s s b.now (sorted limit (read_entries (read_part max_depth) spine low n (fields b.now))) (Some (Some 2, b))
 unfolding sorted all_below
 known_empty {s} g b limit low n e =
-    answer_list (kept_same g) (omega (arith, g.base)) (stand s b.now b.now (omega arith))
+    answer_list (kept_same g) (omega (arith, g.base)) (stand s b.now b.now (tail_all b.now))
     (ap (sorted limit) (entries_none (read_part max_depth) spine low n (fields b.now) e) ∙ rw (part-2 s))
 
 pub known_none : {s t b : List ℕ} (limit : ℕ) {r : Read PartReq} → Kept s t → r ≡ malformed → OptionWasRead s t b (sorted limit r) None
@@ -179,13 +184,17 @@ module _ (limit : ℕ) {b d : List ℕ} {low n i k : ℕ} (x : Index b low n i k
     known_spent =
         let h = first.placed in
         let l = later.placed in
-        record { further = omega (arith, x.field, h.1, l.1); cost = omega (arith, x.field, h.1, l.1) }
+        record {
+          further = omega (arith, x.field, h.1, l.1);
+          cost = omega (arith, x.field, h.1, l.1);
+          tail = tail_then x.field.tail (tail_then h.1.tail l.1.tail);
+        }
 
     pub known_nothing : z.0 ≡ None → OptionWasRead s u b list (Some (None, z.1))
     unfolding prepend
     known_nothing e =
         let l = known_spent in
-        answer_list (kept_on first.kept later.kept) tt (record { further = omega (arith, l); cost = omega (arith, l) }) (joined first later ∙ rw e)
+        answer_list (kept_on first.kept later.kept) tt (record { further = omega (arith, l); cost = omega (arith, l); tail = l.tail }) (joined first later ∙ rw e)
 
     pub known_made : {v : List ℕ} {r m : ℕ} → z.0 ≡ Some r → Made u v (more (spine + i) (part u y.0) (part u r)) 1 m
         → OptionWasRead s v b list (Some (Some m, z.1))
@@ -193,7 +202,7 @@ module _ (limit : ℕ) {b d : List ℕ} {low n i k : ℕ} (x : Index b low n i k
     known_made e made =
         let l = known_spent in
         let same : part u y.0 ≡ part t y.0 = later.kept.same y.0 first.placed.0 in
-        answer_list (kept_on first.kept (kept_on later.kept made.kept)) made.piece (record { further = omega (arith, l); cost = omega (arith, l, made.cost) })
+        answer_list (kept_on first.kept (kept_on later.kept made.kept)) made.piece (record { further = omega (arith, l); cost = omega (arith, l, made.cost); tail = l.tail })
         (joined first later ∙ rw (e, ← same, ← made.is))
 
 -- a count and its list
@@ -209,7 +218,7 @@ variables_read limit {s} {t} {b} {c} {i} {a} f was = record { kept = was.kept; i
   where
     behind : (x : Maybe (Maybe ℕ × Bor (List ℕ))) → OptionPlaced s t c x → OptionPlaced s t b x
     behind None h = tt
-    behind (Some z) h = (h.0, record { further = omega (arith, h.1, f.left); cost = omega (arith, h.1, f.left) })
+    behind (Some z) h = (h.0, record { further = omega (arith, h.1, f.left); cost = omega (arith, h.1, f.left); tail = tail_then f.tail h.1.tail })
 
 -- the returned value's entry
 module _ {s : List ℕ} {o : Maybe ℕ} where

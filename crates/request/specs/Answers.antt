@@ -1,5 +1,5 @@
 -- What the answers of the reading code mean: 01's number, or what was read, by what its pieces mean in the store.
-use Rattle.std.specs.Prelude.{ℕ, ◌+◌, ◌*◌, ◌≤◌, ◌<◌, ◌≡◌, cond, List, ◌∷◌, length, Option as Maybe, Some, None, Result, Ok, Err}
+use Rattle.std.specs.Prelude.{ℕ, ◌+◌, ◌-◌, ◌*◌, ◌≤◌, ◌<◌, ◌≡◌, cond, List, ◌∷◌, length, drop, Option as Maybe, Some, None, Result, Ok, Err}
 use Rattle.std.specs.Borrow.{Bor}
 use Rattle.std.proofs.Math.Option.{Option, some, none as nothing}
 use Rattle.field.specs.Limits.{absent}
@@ -13,10 +13,16 @@ use Rattle.request.specs.Fields.{fields, Read, malformed, got, Answer, refused, 
 use Rattle.request.specs.Request.{Request as Asking, asking, all_below}
 use Rattle.request.specs.declared.requests.Request.{Request as Asked}
 
+-- c are the bytes b from some place on
+pub record Tail (b c : List ℕ) : Type 0 where
+  pub inside : length c ≤ length b
+  pub is : c ≡ drop (length b - length c) b
+
 -- the bytes b begin with the field i, and c are the bytes that are left
 pub record Field (b : List ℕ) (i : ℕ) (c : List ℕ) : Type 0 where
   pub is : fields b ≡ i ∷ fields c
   pub left : 2 + length c ≡ length b
+  pub tail : Tail b c
 
 -- the answer of `field`
 abbrev pub FieldRead : (b : List ℕ) → Maybe (ℕ × Bor (List ℕ)) → Type 0
@@ -31,6 +37,7 @@ RoomFor s b = cell_words * top s + table_words + 2 * length b ≤ length s
 pub record Spent (s t b : List ℕ) (k : ℕ) (c : List ℕ) : Type 0 where
   pub further : k + length c ≤ length b
   pub cost : 4 * top t + (k + length c) ≤ 4 * top s + length b
+  pub tail : Tail b c
 
 -- the answer of `read_part`
 abbrev pub part_read : (t : List ℕ) → Maybe (ℕ × Bor (List ℕ)) → Read PartReq

@@ -6,7 +6,7 @@ use Rattle.field.specs.Limits.{absent}
 use Rattle.part.specs.PartReq.{PartReq, all, exist}
 use Rattle.request.specs.Fields.{fields, Read, malformed, got}
 use Rattle.request.specs.Part.{read_part, read_entries}
-use Rattle.request.specs.Answers.{Field}
+use Rattle.request.specs.Answers.{Tail, Field}
 use Rattle.request.specs.declared.codes.Code.{Code}
 use Rattle.request.specs.declared.codes.Code.TheVariants.{All, Exist, Entries}
 
@@ -23,9 +23,9 @@ by_answer d (Some p) = after_code d p.0 (fields p.1.now)
 
 -- Of b the bytes c are left behind this code.
 abbrev pub CodeLeaves : (b : List ℕ) (d : ℕ) → Code → (c : List ℕ) → Type 0
-CodeLeaves b d All c = 2 + length c ≡ length b
-CodeLeaves b d Exist c = 2 + length c ≡ length b
-CodeLeaves b d (Entries n) c = (4 + length c ≡ length b) × (0 < d)
+CodeLeaves b d All c = (2 + length c ≡ length b) × Tail b c
+CodeLeaves b d Exist c = (2 + length c ≡ length b) × Tail b c
+CodeLeaves b d (Entries n) c = (4 + length c ≡ length b) × (0 < d) × Tail b c
 
 abbrev pub CodePlaced : (b : List ℕ) (d : ℕ) → Maybe (Code × Bor (List ℕ)) → Type 0
 CodePlaced b d None = Unit {0}

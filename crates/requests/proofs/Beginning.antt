@@ -32,8 +32,6 @@ use Rattle.marks.proofs.Buffers.{all_inside, cleared_own}
 use Rattle.marks.proofs.Write.{write_long}
 use Rattle.access.specs.Laid.{WasRead}
 use Rattle.state.specs.State.{totals_sum}
-use Rattle.block.specs.declared.world.World.{World}
-use Rattle.block.specs.declared.workspace.Workspace.{Workspace}
 use Rattle.pruner.specs.Form.{pruner_pieces, read_pruner}
 use Rattle.pruner.specs.Stored.{pruner_in, HasTotals}
 use Rattle.pruner.specs.Reading.{Untold, PrunerIs, PrunerWasRead}
@@ -67,10 +65,9 @@ pub record Beginning (bytes t : List ℕ) (places : MarkPlaces) (open_marks : Li
   pub placed : Places bytes t places
   pub open_long : min_report ≤ length open_marks
 
--- a world and a workspace have them
-pub beginning_of : (w : World) (m : Workspace) → min_report ≤ length m.open →
-    Beginning w.typed.now.file.now.bytes w.typed.now.file.now.t w.places.now m.open
-beginning_of w m a = record { was_read = w.typed.now.was_read; placed = w.placed; open_long = a }
+-- a file that was read, its places and a workspace have them
+pub beginning_of : {bytes t : List ℕ} {places : MarkPlaces} → WasRead bytes t × Places bytes t places → (open_marks : List ℕ) → min_report ≤ length open_marks → Beginning bytes t places open_marks
+beginning_of h open_marks a = record { was_read = h.0; placed = h.1; open_long = a }
 
 module _ {bytes t : List ℕ} {places : MarkPlaces} {open_marks : List ℕ} (B : Beginning bytes t places open_marks) where
   abbrev m : Module

@@ -10,6 +10,7 @@ use Rattle.part.specs.StoreLimits.{entries_cap}
 use Rattle.module.specs.Module.{Module}
 use Rattle.module.specs.Tables.{module_of}
 use Rattle.module.specs.declared.handles.FunctionHandle.{FunctionHandle as Handle}
+use Rattle.access.specs.File.{File}
 use Rattle.context.specs.Types.{types_of}
 use Rattle.context.specs.RequiredContext.{RequiredContext, pieces, return_entry}
 use Rattle.request.specs.Fields as reading
@@ -24,7 +25,6 @@ use Rattle.marks.specs.declared.totals.MarkTotals.{MarkTotals}
 use Rattle.state.specs.State.{totals_sum}
 use Rattle.pruner.specs.Form.{pruner_pieces, read_pruner}
 use Rattle.requests.specs.Loaded.{Loaded}
-use Rattle.block.specs.declared.world.World.{World}
 use Rattle.block.specs.declared.workspace.Workspace.{Workspace}
 use Rattle.requests.specs.declared.begin.Begun.{Begun}
 
@@ -111,5 +111,5 @@ BeginsBy bytes t places report request pruner s rs open_marks totals (Ok b) = Re
 pub record Begins (bytes t : List ℕ) (places : MarkPlaces) (report : ℕ) (request pruner s rs open_marks : List ℕ) (totals : MarkTotals) (r : Result Begun Refusal) : Type 0 where
   pub by : BeginsBy bytes t places report request pruner s rs open_marks totals r
 
-abbrev pub BeginsOf : World → (report : ℕ) → (request pruner : List ℕ) → Workspace → Result Begun Refusal → Type 0
-BeginsOf w report request pruner m r = Begins w.typed.now.file.now.bytes w.typed.now.file.now.t w.places.now report request pruner m.parts.cells m.parts.slots m.open m.totals r
+abbrev pub BeginsOf : File → MarkPlaces → (report : ℕ) → (request pruner : List ℕ) → Workspace → Result Begun Refusal → Type 0
+BeginsOf file places report request pruner m r = Begins file.bytes file.t places report request pruner m.parts.cells m.parts.slots m.open m.totals r

@@ -6,6 +6,7 @@ use Rattle.field.specs.declared.refusal.Refusal.{Refusal}
 use Rattle.field.specs.declared.refusal.Refusal.TheVariants.{PiecesLimit}
 use Rattle.module.specs.Module.{FunctionHandle}
 use Rattle.module.specs.Tables.{module_of}
+use Rattle.access.specs.File.{File}
 use Rattle.request.specs.Request.{Request}
 use Rattle.walk.specs.State.{nowhere as no_place, Out}
 use Rattle.walk.specs.Function.{add_function}
@@ -17,7 +18,6 @@ use Rattle.state.specs.State.{place_of}
 use Rattle.state.specs.declared.answer.Answer.{Answer}
 use Rattle.state.specs.declared.answer.Halt.{Halt}
 use Rattle.block.specs.Functions.{FunctionEnded}
-use Rattle.block.specs.declared.world.World.{World}
 use Rattle.block.specs.declared.workspace.Workspace.{Workspace}
 use Rattle.pruner.specs.Form.{min_pruner}
 use Rattle.requests.specs.Answer.{min_answer}
@@ -46,8 +46,8 @@ pub record Finishing (bytes t : List ℕ) (places : MarkPlaces) (s rs open_marks
   pub report_long : min_report ≤ length report
   pub answer_long : min_answer ≤ length answer
 
-abbrev pub FinishingOf : World → Workspace → FunctionHandle → (base : ℕ) → Answer → (pruner report answer : List ℕ) → Type 0
-FinishingOf w m f base a pruner report answer = Finishing w.typed.now.file.now.bytes w.typed.now.file.now.t w.places.now m.parts.cells m.parts.slots m.open m.totals f base a.required a.tally.visits a.tally.sum pruner report answer
+abbrev pub FinishingOf : File → MarkPlaces → Workspace → FunctionHandle → (base : ℕ) → Answer → (pruner report answer : List ℕ) → Type 0
+FinishingOf file places m f base a pruner report answer = Finishing file.bytes file.t places m.parts.cells m.parts.slots m.open m.totals f base a.required a.tally.visits a.tally.sum pruner report answer
 
 -- Where that walk was the one of a request, the reply and the buffers are the definition's.
 pub record Finished (bytes t : List ℕ) (places : MarkPlaces) (s rs open_marks : List ℕ) (totals : MarkTotals) (f : FunctionHandle) (base : ℕ) (required : Bool) (visits sum : ℕ) (pruner report answer : List ℕ) (r : Result ℕ Halt)
@@ -56,5 +56,5 @@ pub record Finished (bytes t : List ℕ) (places : MarkPlaces) (s rs open_marks 
       → FunctionEnded bytes t types places cells_before slots_before open_before totals_before q.function base 0 (add_function (module_of bytes t) q.function no_place 0 q.globals (return_entry q.retval) (begun old)) visits sum required s rs open_marks totals
       → (reply_of r, record { pruner = pruner-after; report = report-after; answer = answer-after }) ≡ finish (record { pruner = pruner; report = report; answer = answer }) (request (module_of bytes t) old q)
 
-abbrev pub FinishedOf : World → Workspace → FunctionHandle → (base : ℕ) → Answer → (pruner report answer : List ℕ) → Result ℕ Halt → (pruner-after report-after answer-after : List ℕ) → Type 0
-FinishedOf w m f base a pruner report answer r pruner-after report-after answer-after = Finished w.typed.now.file.now.bytes w.typed.now.file.now.t w.places.now m.parts.cells m.parts.slots m.open m.totals f base a.required a.tally.visits a.tally.sum pruner report answer r pruner-after report-after answer-after
+abbrev pub FinishedOf : File → MarkPlaces → Workspace → FunctionHandle → (base : ℕ) → Answer → (pruner report answer : List ℕ) → Result ℕ Halt → (pruner-after report-after answer-after : List ℕ) → Type 0
+FinishedOf file places m f base a pruner report answer r pruner-after report-after answer-after = Finished file.bytes file.t places m.parts.cells m.parts.slots m.open m.totals f base a.required a.tally.visits a.tally.sum pruner report answer r pruner-after report-after answer-after

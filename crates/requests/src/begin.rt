@@ -4,14 +4,17 @@ ghost use Rattle.field.specs.Limits.{absent};
 ghost use Rattle.part.specs.PartReq.{none, entries};
 ghost use Rattle.memory.specs.Layout.{globals_slot};
 ghost use Rattle.memory.specs.Memory.{read};
+ghost use Rattle.marks.specs.Places.{Places};
+ghost use Rattle.access.specs.Laid.{WasRead};
 ghost use Rattle.state.specs.State.{totals_sum};
 ghost use Rattle.requests.specs.Begin.{Basing, Based, Weighing, LengthChecked, RequestLoaded, BeginsOf};
 
+use access::file::File;
 use block::workspace::Workspace;
-use block::world::World;
 use context::required_context::RequiredContext;
 use field::field::get;
 use field::refusal::Refusal;
+use marks::places::MarkPlaces;
 use marks::set::clear_marks;
 use memory::layout::{GLOBALS, STACK, TOTALS};
 use memory::memory::{init_memory, tidy, weigh};
@@ -82,18 +85,18 @@ fn weigh_totals(parts: &Parts) -> usize
     weigh(parts, GLOBALS, 1) + weigh(parts, TOTALS, STACK - TOTALS)
 }
 
-// From here `add_function` walks the asked function, its base at STACK.
+// From here `add_function` walks the asked function, its base at STACK. The rows of the types are no part of this.
 pub fn begin_request(
-    world: &World,
+    file: &File,
+    places: &MarkPlaces,
     space: &mut Workspace,
     request: &[u8],
     pruner: &[u8],
     report: usize,
 ) -> Result<Begun, Refusal>
-    ensures { BeginsOf world.now report request.now pruner.now space.new result }
+    requires { WasRead file.now.bytes file.now.t × Places file.now.bytes file.now.t places.now }
+    ensures { BeginsOf file.now places.now report request.now pruner.now space.new result }
 {
-    let file = world.typed.file;
-    let places = world.places;
     let parts = &mut space.parts;
     let open = &mut space.open;
     let totals = &mut space.totals;

@@ -8,10 +8,10 @@ ghost use Rattle.requests.specs.Finish.{TotalsChecked, FinishingOf, FinishedOf};
 use crate::answer::write_answer;
 use access::file::File;
 use block::workspace::Workspace;
-use block::world::World;
 use field::limits::MAX_PIECES;
 use field::refusal::Refusal;
 use leave::leave::own_pieces;
+use marks::places::MarkPlaces;
 use marks::report::write_report;
 use memory::parts::Parts;
 use module::handles::FunctionHandle;
@@ -41,7 +41,8 @@ pub fn check_totals(
 
 // The walk of f has ended, with its context behind the base.
 pub fn finish_request(
-    world: &World,
+    file: &File,
+    places: &MarkPlaces,
     space: &Workspace,
     f: FunctionHandle,
     base: usize,
@@ -50,13 +51,11 @@ pub fn finish_request(
     report: &mut [u8],
     answer: &mut [u8],
 ) -> Reply
-    requires { FinishingOf world.now space.now f.0 base walked pruner.old report.old answer.old }
-    ensures { FinishedOf world.now space.now f.0 base walked pruner.old report.old answer.old result pruner.new report.new answer.new }
+    requires { FinishingOf file.now places.now space.now f.0 base walked pruner.old report.old answer.old }
+    ensures { FinishedOf file.now places.now space.now f.0 base walked pruner.old report.old answer.old result pruner.new report.new answer.new }
 {
     let Answer { tally, required } = walked;
     let Tally { visits, sum } = tally;
-    let file = world.typed.file;
-    let places = world.places;
     let parts = &space.parts;
     let totals = &space.totals;
     check_totals(file, parts, f, sum)?;

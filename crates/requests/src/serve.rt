@@ -35,7 +35,17 @@ fn walk_request(
         0,
         Tally { visits: 0, sum },
     )?;
-    finish_request(world, space, f, STACK, walked, pruner, report, answer)
+    finish_request(
+        world.typed.file,
+        world.places,
+        space,
+        f,
+        STACK,
+        walked,
+        pruner,
+        report,
+        answer,
+    )
 }
 
 // The request in a walk's memory. A refusal leaves the three buffers.
@@ -49,7 +59,14 @@ fn serve_in(
 ) -> Reply
     ensures { ServedOf world.now request.now pruner.old report.old answer.old result pruner.new report.new answer.new }
 {
-    let begun = begin_request(world, space, request, pruner, report.len())?;
+    let begun = begin_request(
+        world.typed.file,
+        world.places,
+        space,
+        request,
+        pruner,
+        report.len(),
+    )?;
     if pruner.len() < MIN_PRUNER {
         return Err(Refusal::PrunerUnfit.into());
     }

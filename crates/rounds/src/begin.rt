@@ -1,16 +1,18 @@
 // What stands in memory before the first round, and before another.
-ghost use Rattle.std.specs.Prelude.{◌<◌, ◌≤◌, length};
-ghost use Rattle.judge.specs.Subject.{scope_of};
+ghost use Rattle.std.specs.Prelude.{◌≡◌, ◌<◌, ◌≤◌, length};
+ghost use Rattle.module.specs.Tables.{module_of};
+ghost use Rattle.context.specs.Types.{types_of};
+ghost use Rattle.judge.specs.Given.{scope_at};
 ghost use Rattle.standing.specs.Slots.{asked_slot, stack_slot};
 ghost use Rattle.rounds.specs.Settling.{asked_by};
 ghost use Rattle.rounds.specs.Rounds.{Cleared, Asked, Begins, Renewed};
 
 use crate::pieces::AskedPieces;
+use access::file::File;
 use forms::trim::{trim_globals, trim_value};
 use forms::types::Types;
 use hold::hold::copy;
-use judge::subject::Subject;
-use memory::parts::Parts;
+use module::handles::FunctionHandle;
 use part::store::EMPTY_PIECE;
 use standing::passing::{ASKED, END, STACK, TABLE};
 
@@ -23,19 +25,24 @@ fn clear_tables(roots: &mut [u32])
 }
 
 // What is asked, within its types: of the value, and of the globals at the function's end.
-pub fn begin(subject: &Subject, parts: &mut Parts, asked: AskedPieces)
-    requires { Asked parts.old.cells parts.old.slots asked.globals asked.value }
-    ensures { Begins (scope_of subject.now) (asked_by parts.old.cells asked.globals asked.value) parts.old.cells parts.old.slots parts.new.cells parts.new.slots }
+pub fn begin(
+    file: &File,
+    f: FunctionHandle,
+    types: &Types,
+    cells: &mut [u32],
+    slots: &mut [u32],
+    asked: AskedPieces,
+)
+    requires same { (module_of file.now.bytes file.now.t).types ≡ types_of types.now.rows.now }
+    requires pieces { Asked cells.old slots.old asked.globals asked.value }
+    ensures { Begins (scope_at file.now.bytes file.now.t f.0) (asked_by cells.old asked.globals asked.value) cells.old slots.old cells.new slots.new }
 {
-    let types = Types {
-        rows: subject.types,
-    };
-    let v = trim_value(&mut parts.cells, subject, asked.value);
-    let e = trim_globals(&mut parts.cells, subject.file, &types, asked.globals);
-    clear_tables(&mut parts.slots);
-    parts.slots[ASKED] = v;
-    parts.slots[END] = e;
-    parts.slots[STACK] = e;
+    let v = trim_value(cells, file, f, types, asked.value);
+    let e = trim_globals(cells, file, types, asked.globals);
+    clear_tables(slots);
+    slots[ASKED] = v;
+    slots[END] = e;
+    slots[STACK] = e;
 }
 
 // The new table is the old one too, and the needs at the function's end are at hand.

@@ -15,6 +15,7 @@ use backward::marked::MarkedSubject;
 use checking::words::Verdict;
 use context_bytes::starts::context_covers;
 use field::refusal::Refusal;
+use forms::types::Types;
 use memory::parts::Parts;
 use standing::passing::{END, Exits, Passing, STACK};
 
@@ -95,6 +96,17 @@ pub fn settle(
     requires { SettlingOf marked.now parts.old.cells parts.old.slots path.old asked }
     ensures { Settled (scope_of marked.now.subject.now) (asked_by parts.old.cells asked.globals asked.value) marked.now.marks.now context.now (said result) }
 {
-    begin(marked.subject, parts, asked);
+    let subject = marked.subject;
+    let types = Types {
+        rows: subject.types,
+    };
+    begin(
+        subject.file,
+        subject.f,
+        &types,
+        &mut parts.cells,
+        &mut parts.slots,
+        asked,
+    );
     settle_rounds(marked, parts, path, context)
 }

@@ -21,7 +21,7 @@ fn take(typed: &TypedFile, parts: &mut Parts, fr: Frame, target: Target, p: u32)
 {
     let f = fr.function;
     let c = load_context(&parts.slots, fr.at);
-    let Some(d) = take_out(typed, &mut parts.cells, f, c, target) else {
+    let Some(d) = take_out(typed.file, typed.types, &mut parts.cells, f, c, target) else {
         return Err(fr.halt(Refusal::Panic));
     };
     if d.over(&parts.cells) {

@@ -3,7 +3,9 @@ ghost use Rattle.std.specs.Prelude.{◌≡◌, ◌<◌, length};
 ghost use Rattle.part.specs.PartReq.{spine};
 ghost use Rattle.part.specs.Store.{top, part, Good, Room};
 ghost use Rattle.part.specs.Found.{Got};
+ghost use Rattle.module.specs.File.{read_module, accepted};
 ghost use Rattle.module.specs.Tables.{module_of};
+ghost use Rattle.context.specs.Types.{types_of};
 ghost use Rattle.context.specs.RequiredContext.{handle, variable_type, remove_var};
 ghost use Rattle.context.specs.Contexts.{context_of, HasContext, variable_of, TookContext, take_room};
 ghost use Rattle.walk.specs.Resolve.{function_at, check_part, store_required};
@@ -11,11 +13,11 @@ ghost use Rattle.target.specs.Target.{Sees, HasTarget, subpart_of, HasFound};
 
 use crate::resolve::Target;
 use access::file::File;
+use context::remove::SizedTypes;
 use context::required_context::{RequiredContext, VarRef};
 use module::handles::{FunctionHandle, TypeHandle};
 use part::req::get;
 use part::store::{ALL_PIECE, EMPTY_PIECE, EXIST_PIECE, look};
-use type_table::typed::TypedFile;
 
 // `check_part`: what is needed of the part q, where required is needed of the whole. A path has one entry on each level.
 pub fn check_part(cells: &[u32], q: u32, required: Option<u32>) -> Option<u32>
@@ -69,20 +71,25 @@ fn variable_type(file: &File, f: FunctionHandle, var: VarRef) -> TypeHandle
 }
 
 // `remove`: the context without the target; or the panic at a struct member that is not there.
+// Stays: the file and the rows of its types, since a `TypedFile` would ask how the rows of its functions lie too, which nothing here looks at.
 pub fn take_out(
-    typed: &TypedFile,
+    file: &File,
+    types: &[u32],
     cells: &mut [u32],
     f: FunctionHandle,
     c: RequiredContext,
     target: Target,
 ) -> Option<RequiredContext>
-    requires f_in_bounds { f.0 < length (module_of typed.now.file.now.bytes typed.now.file.now.t).functions }
+    requires bytes_value { read_module file.now.bytes ≡ accepted (module_of file.now.bytes file.now.t) }
+    requires f_in_bounds { f.0 < length (module_of file.now.bytes file.now.t).functions }
+    requires types_value { types_of types.now ≡ (module_of file.now.bytes file.now.t).types }
     requires good { Good cells.old }
-    requires has_context { HasContext cells.old c × HasTarget (module_of typed.now.file.now.bytes typed.now.file.now.t) f.0 cells.old target }
+    requires has_context { HasContext cells.old c × HasTarget (module_of file.now.bytes file.now.t) f.0 cells.old target }
     requires room { Room cells.old (take_room (context_of cells.old c) (part cells.old target.part)) }
-    ensures { TookContext cells.old cells.new (remove_var (module_of typed.now.file.now.bytes typed.now.file.now.t) (function_at (module_of typed.now.file.now.bytes typed.now.file.now.t) f.0) (context_of cells.old c) (variable_of target.var) (part cells.old target.part)) (take_room (context_of cells.old c) (part cells.old target.part)) result }
+    ensures { TookContext cells.old cells.new (remove_var (module_of file.now.bytes file.now.t) (function_at (module_of file.now.bytes file.now.t) f.0) (context_of cells.old c) (variable_of target.var) (part cells.old target.part)) (take_room (context_of cells.old c) (part cells.old target.part)) result }
 {
     let var = target.var;
-    let ty = variable_type(typed.file, f, var);
-    c.remove(cells, &typed.sized(), var, ty, target.part)
+    let ty = variable_type(file, f, var);
+    let sized = SizedTypes { rows: types };
+    c.remove(cells, &sized, var, ty, target.part)
 }

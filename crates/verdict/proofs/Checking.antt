@@ -1,13 +1,13 @@
 -- The answer of a check, put together: 21, what is not judged, or that of the rounds; and what the rounds are given.
-use Prim.Native.Nat.{ℕ, ◌+◌, ◌*◌, suc, ◌≤◌}
+use Prim.Native.Nat.{ℕ, ◌+◌, ◌-◌, ◌*◌, suc, ◌≤◌}
 use native.Mathlib.Omega.{arith}
-use mathlib.Core.Path.{◌≡◌, refl, sym, ap, subst, ◌∙◌}
+use mathlib.Core.Path.{◌≡◌, refl, sym, ap, ◌∙◌}
 use mathlib.Core.Bool.{Bool, true, false, not, ◌&&◌}
 use mathlib.Core.List.{List, []}
 use mathlib.Core.Option.{Option, some, none as nothing}
 use lib.ListN.{length, take}
-use Rattle.std.specs.Prelude.{Option as Maybe, Some, None, Result, Ok, Err, MatchResult, is_ok}
-use Rattle.std.specs.Borrow.{Bor}
+use Rattle.std.specs.Prelude.{Option as Maybe, Some, None, Result, Ok, Err, is_ok}
+use Rattle.std.specs.declared.ops.Range.{Range}
 use Rattle.std.proofs.lemmas.List.{length-take-le}
 use Rattle.field.specs.Limits.{max_types, max_expressions, max_statements}
 use Rattle.field.specs.Refusal.{number}
@@ -36,6 +36,7 @@ use Rattle.judge.specs.Given.{scope_at}
 use Rattle.judge.proofs.PathSteps.{function_valid, few}
 use Rattle.framed.proofs.Given.{read_function, judged_function, statements-fit}
 use Rattle.memory.specs.Layout.{store_size, slot_count}
+use Rattle.marks.specs.Places.{slice}
 use Rattle.access.specs.Laid.{WasRead}
 use Rattle.standing.specs.Slots.{stack_slot}
 use Rattle.standing.specs.World.{World}
@@ -176,7 +177,7 @@ module _ {bytes t : List ℕ} {f : ℕ} {s : List ℕ} {g v : ℕ} (A : Asked by
     stored = A.stored;
   }
 
-  module _ (report context : List ℕ) {r : Result (Bor (List ℕ)) (Bor (List ℕ))} (D : MarksFound bytes t f report r) where
+  module _ (report context : List ℕ) {r : Result (Range ℕ) (Range ℕ)} (D : MarksFound bytes t f report r) where
     abbrev marks : List ℕ
     marks = marks_in bytes t f report
 
@@ -186,7 +187,7 @@ module _ {bytes t : List ℕ} {f : ℕ} {s : List ℕ} {g v : ℕ} (A : Asked by
     unshaped false true ha hb h c = never (sym h)
     unshaped false false ha hb h c = rw ha (rw same_scope (checked-unshaped (scope_at bytes t f) (asked_by s g v) (reported marks c) hb))
 
-    pub refused_21 : {x : Bor (List ℕ)} → r ≡ Err x → ReportChecked (module_of bytes t) s f g v report context (refused 21)
+    pub refused_21 : {x : Range ℕ} → r ≡ Err x → ReportChecked (module_of bytes t) s f g v report context (refused 21)
     refused_21 h = record { is = λ c e. rw (unshaped _ _ refl refl (sym D.fits ∙ ap is_ok h) c) }
 
     shaped : (a b : Bool) → cut_short (module_of bytes t) f report ≡ a → has_shape (function_of bytes t f) marks ≡ b → not a && b ≡ true → (c : RequiredContext) →
@@ -196,9 +197,9 @@ module _ {bytes t : List ℕ} {f : ℕ} {s : List ℕ} {g v : ℕ} (A : Asked by
     shaped false false ha hb h c = never h
     shaped false true ha hb h c = rw ha (rw same_scope (checked-shaped (scope_at bytes t f) (asked_by s g v) (reported marks c) hb))
 
-    pub report-checked : {w : Answer} {x : Bor (List ℕ)} → r ≡ Ok x → MarksChecked bytes t f s g v x.now context w → ReportChecked (module_of bytes t) s f g v report context w
+    pub report-checked : {w : Answer} {x : Range ℕ} → r ≡ Ok x → MarksChecked bytes t f s g v (slice report x.start (x.end - x.start)) context w → ReportChecked (module_of bytes t) s f g v report context w
     report-checked {x = x} h C =
-        let same : x.now ≡ marks = subst (λ (o : Result (Bor (List ℕ)) (Bor (List ℕ))). MatchResult o (λ m. m.now ≡ marks) (λ m. m.now ≡ marks)) h D.is in
+        let same : slice report x.start (x.end - x.start) ≡ marks = rw h at D.is in
         record { is = λ c e. rw same at (C.is c e) ∙ sym (shaped _ _ refl refl (sym D.fits ∙ ap is_ok h) c) }
 
 -- The whole

@@ -81,10 +81,10 @@ fn check_report(
     requires { Asked file.now.bytes file.now.t heard.function.0 parts.old.cells heard.asked.globals heard.asked.value }
     ensures { ReportChecked (module_of file.now.bytes file.now.t) parts.old.cells heard.function.0 heard.asked.globals heard.asked.value report.now context.now (said result) }
 {
-    let Ok(marks) = marks_shape(file, heard.function, report) else {
+    let Ok(place) = marks_shape(file, heard.function, report) else {
         return Verdict::Refused(Refusal::MarksUnfit);
     };
-    check_marks(file, heard, parts, scratch, marks, context)
+    check_marks(file, heard, parts, scratch, &report[place], context)
 }
 
 // Nothing is written but the parts and the scratch, of whatever contents.

@@ -9,9 +9,12 @@ pub returns-in_default : goal.returns-in_default
 returns-in_default c =
     acted_none c.requires.act_given.ready c.emit_overlap.ensures c.in_default.is
 
+pub invariant_of-types : goal.invariant_of-types
+invariant_of-types c = record { lower = c.args.subject.now.given.shapes.lower }
+
 pub take_out-requires : goal.take_out-requires
 take_out-requires c =
-    emit-take c.requires.act_given c.requires.e_in_bounds (needs_some c.emit_overlap.ensures c.in-Some.is) c.emit_overlap.ensures c.in-Some.is c.evaluated_path.ensures.is
+    record { there = c.args.subject.now.given.of; same = c.args.subject.now.given.values.same; take_given = emit-take c.requires.act_given c.requires.e_in_bounds (needs_some c.emit_overlap.ensures c.in-Some.is) c.emit_overlap.ensures c.in-Some.is c.evaluated_path.ensures.is }
 
 pub returns-in_err-take_out : goal.returns-in_err-take_out
 returns-in_err-take_out c =

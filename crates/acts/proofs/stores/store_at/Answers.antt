@@ -3,6 +3,13 @@ use mathlib.Core.Path.{refl}
 use Rattle.acts.proofs.Storing.{known_full, known_given, value_full, known_left}
 use Rattle.acts.proofs.stores.store_at.Goals as goal
 
+pub invariant_of-types : goal.invariant_of-types
+invariant_of-types c = record { lower = c.args.subject.now.given.shapes.lower }
+
+pub take_out-requires : goal.take_out-requires
+take_out-requires c =
+    record { there = c.args.subject.now.given.of; same = c.args.subject.now.given.values.same; take_given = c.requires.take }
+
 pub returns-in_err-take_out : goal.returns-in_err-take_out
 returns-in_err-take_out c =
     rw c.from_residual.ensures

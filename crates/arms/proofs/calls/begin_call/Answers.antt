@@ -41,6 +41,6 @@ tidy-requires c =
     let q9 = begin_tidies c.requires c.operand-n.ensures c.optional_expression-result.ensures c.record_of-found.result c.record_of-found.ensures c.function_operand-g.ensures (asked_made _ c.returned-retval.ensures) c.enter.ensures.slots_after in
     record { memory = q9.0; slots_bound = q9.1 }
 
-pub returns-clause-began : goal.returns-clause-began
-returns-clause-began c =
+pub returns : goal.returns
+returns c =
     call_begun c.requires c.operand-n.ensures c.optional_expression-result.ensures c.record_of-found.result c.record_of-found.ensures c.function_operand-g.ensures (asked_made _ c.returned-retval.ensures) c.enter.ensures.slots_after c.own_pieces-own.ensures c.weigh.ensures c.enter.ensures.open_after c.tidy.ensures

@@ -6,8 +6,8 @@ use Rattle.arms.proofs.calls.return_call.Goals as goal
 pub set_call-requires : goal.set_call-requires
 set_call-requires c = return_marks c.requires c.place-at.ensures
 
-pub returns-then-not-required-clause-returned : goal.returns-then-not-required-clause-returned
-returns-then-not-required-clause-returned c =
+pub returns-then-not-required : goal.returns-then-not-required
+returns-then-not-required c =
     not-returned c.requires c.place-at.ensures c.args.required c.if-not-required.true-raw c.set_call.ensures
 
 pub overflow_add-n : goal.overflow_add-n
@@ -24,6 +24,6 @@ end_call-r-requires c =
 pub mark_call-requires : goal.mark_call-requires
 mark_call-requires c = return_marks c.requires c.place-at.ensures
 
-pub returns-clause-returned : goal.returns-clause-returned
-returns-clause-returned c =
+pub returns : goal.returns
+returns c =
     call_returned c.requires c.place-at.ensures c.operand-n.ensures c.optional_expression-result.ensures c.record_of-found.result c.record_of-found.ensures c.hold_result-there.ensures.1 c.args.required c.if-not-required.false-raw c.hold_result-there.ensures.0 c.end_call-r.ensures c.mark_call.ensures

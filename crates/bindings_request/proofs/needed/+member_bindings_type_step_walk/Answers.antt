@@ -9,11 +9,11 @@ member_bindings-returns-in_default t c = member_gone _ _ c.in_default.ensures
 
 pub member_bindings-returns-then-is_exist : goal.member_bindings-returns-then-is_exist
 member_bindings-returns-then-is_exist t c =
-    member_exist _ _ c.in-Some.ensures (sym c.is_exist.ensures ∙ c.if-is_exist.true)
+    member_exist _ _ c.in-Some.ensures.0 (sym c.is_exist.ensures ∙ c.if-is_exist.true)
 
 pub member_bindings-returns : goal.member_bindings-returns
 member_bindings-returns t c =
-    member_needed _ c.in-Some.ensures (sym c.is_exist.ensures ∙ c.if-is_exist.false) c.member_at-m.ensures c.own_binding-own.ensures c.walk-below.ensures
+    member_needed _ c.in-Some.ensures.0 (sym c.is_exist.ensures ∙ c.if-is_exist.false) c.member_at-m.ensures c.own_binding-own.ensures c.walk-below.ensures
 
 pub type_step-returns-in-Pointer : goal.type_step-returns-in-Pointer
 type_step-returns-in-Pointer t c =

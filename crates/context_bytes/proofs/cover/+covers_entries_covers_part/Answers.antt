@@ -1,11 +1,16 @@
 -- The proof of the cycle of calls {covers_entries, covers_part}: a part's entries have parts that go less deep. Each return is one law about what was seen.
 use Prim.Native.Nat.{◌-◌}
 use mathlib.Core.Logic.{inl, inr}
+use mathlib.Core.Path.{◌≡◌}
 use native.Mathlib.Omega.{arith}
 use Rattle.request.proofs.Entries.{pred_of}
 use Rattle.request.proofs.Steps.{index_read, index_refused}
-use Rattle.context_bytes.proofs.Covered.{cover_stop, cover_other, cover_not, cover_again, cover_all, cover_more, cover_done, part_no, part_all, part_exist, part_more, part_listed}
+use Rattle.context_bytes.proofs.Covered.{cover_first, cover_stop, cover_other, cover_not, cover_again, cover_all, cover_more, cover_done, part_no, part_all, part_exist, part_more, part_listed}
 use Rattle.context_bytes.proofs.cover.+covers_entries_covers_part.Goals as goal
+
+pub covers_entries-loop-init : goal.covers_entries-loop-init
+covers_entries-loop-init t c =
+    let e : c.args.k - 0 ≡ c.args.k = omega arith in rw e (cover_first _ _ _ _ c.requires.n_bound.0)
 
 pub covers_entries-returns-in_err-i : goal.covers_entries-returns-in_err-i
 covers_entries-returns-in_err-i t c =

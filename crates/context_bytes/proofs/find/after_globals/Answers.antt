@@ -11,4 +11,4 @@ returns-in_err-known c =
     rw c.from_residual-in_err-known.ensures (args_no_globals _ (rw (take_rest c.args.bytes.now 6) at c.in_ok-lists.ensures) c.in_err-known.ensures)
 
 pub returns : goal.returns
-returns c = args_here _ (rw (take_rest c.args.bytes.now 6) at c.in_ok-lists.ensures) c.in_ok-known.ensures
+returns c = args_here _ (rw (take_rest c.args.bytes.now 6) at c.in_ok-lists.ensures) c.in_ok-known.ensures c.requires

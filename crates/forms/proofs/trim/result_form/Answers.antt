@@ -3,7 +3,7 @@ use Rattle.forms.proofs.Trimming.{result_void, result_type}
 use Rattle.forms.proofs.trim.result_form.Goals as goal
 
 pub returns-in-None : goal.returns-in-None
-returns-in-None c = result_void _ c.result.ensures c.in-None.is
+returns-in-None c = λ types e. result_void _ c.result.ensures c.in-None.is
 
 pub returns-in-Some : goal.returns-in-Some
-returns-in-Some c = result_type _ c.result.ensures _ _ c.args.subject.now.given.values.same c.in-Some.is
+returns-in-Some c = λ types e. result_type _ c.result.ensures types _ e c.in-Some.is

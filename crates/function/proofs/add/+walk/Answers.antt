@@ -69,33 +69,32 @@ add_call-overflow_add-at t c =
 
 pub add_call-overflow_sub-others : goal.add_call-overflow_sub-others
 add_call-overflow_sub-others t c =
-    omega (arith, call_own c.requires.arms c.requires.kind_value c.function_operand-g.ensures c.begin_call-begun.ensures.began)
+    omega (arith, call_own c.requires.arms c.requires.kind_value c.function_operand-g.ensures c.begin_call-begun.ensures)
 
 pub add_call-add_function-requires : goal.add_call-add_function-requires
 add_call-add_function-requires t c =
-    (omega (arith, c.decreases, callee_below c.requires.arms c.requires.kind_value, c.function_operand-g.ensures), (rw c.begin_call-begun.ensures.totals_same (function_enters c.requires.arms c.requires.kind_value c.function_operand-g.ensures c.begin_call-begun.ensures.began), omega (arith, call_high c.requires.arms c.requires.kind_value, c.args.space.now.parts.slots_long)))
+    (omega (arith, c.decreases, callee_below c.requires.arms c.requires.kind_value, c.function_operand-g.ensures), (function_enters c.requires.arms c.requires.kind_value c.function_operand-g.ensures c.begin_call-begun.ensures, omega (arith, call_high c.requires.arms c.requires.kind_value, c.args.space.now.parts.slots_long)))
 
 pub add_call-overflow_add-a : goal.add_call-overflow_add-a
 add_call-overflow_add-a t c =
-    omega (arith, call_sum c.requires.arms c.requires.kind_value c.function_operand-g.ensures c.begin_call-begun.ensures.began (rw c.begin_call-begun.ensures.totals_same at c.add_function.ensures) c.in_ok-a.was)
+    omega (arith, call_sum c.requires.arms c.requires.kind_value c.function_operand-g.ensures c.begin_call-begun.ensures c.add_function.ensures c.in_ok-a.was)
 
 pub add_call-leave_call-sum-requires : goal.add_call-leave_call-sum-requires
 add_call-leave_call-sum-requires t c =
-    call_leaves c.requires.arms c.requires.kind_value c.function_operand-g.ensures c.begin_call-begun.ensures.began (rw c.begin_call-begun.ensures.totals_same at c.add_function.ensures) c.in_ok-a.was
+    call_leaves c.requires.arms c.requires.kind_value c.function_operand-g.ensures c.begin_call-begun.ensures c.add_function.ensures c.in_ok-a.was
 
 pub add_call-return_call-requires : goal.add_call-return_call-requires
 add_call-return_call-requires t c =
-    rw c.leave_call-sum.ensures.cells_same (call_returns c.requires.arms c.requires.kind_value c.function_operand-g.ensures c.begin_call-begun.ensures.began (rw c.begin_call-begun.ensures.totals_same at c.add_function.ensures) c.in_ok-a.was c.leave_call-sum.ensures.left)
+    rw c.leave_call-sum.ensures.cells_same (call_returns c.requires.arms c.requires.kind_value c.function_operand-g.ensures c.begin_call-begun.ensures c.add_function.ensures c.in_ok-a.was c.leave_call-sum.ensures.left)
 
 pub add_call-returns-in_err-a : goal.add_call-returns-in_err-a
 add_call-returns-in_err-a t c =
     rw (passed c.from_residual.ensures.1)
-    (call_stops c.requires.arms c.requires.kind_value c.function_operand-g.ensures c.begin_call-begun.ensures.began (rw c.begin_call-begun.ensures.totals_same at c.add_function.ensures) c.in_err-a.was)
+    (call_stops c.requires.arms c.requires.kind_value c.function_operand-g.ensures c.begin_call-begun.ensures c.add_function.ensures c.in_err-a.was)
 
 pub add_call-returns : goal.add_call-returns
 add_call-returns t c =
-    rw c.return_call.ensures.totals_same
-    (call_ended c.requires.arms c.requires.kind_value c.function_operand-g.ensures c.begin_call-begun.ensures.began (rw c.begin_call-begun.ensures.totals_same at c.add_function.ensures) c.in_ok-a.was c.leave_call-sum.ensures.left (rw c.leave_call-sum.ensures.cells_same at c.return_call.ensures.returned))
+    (call_ended c.requires.arms c.requires.kind_value c.function_operand-g.ensures c.begin_call-begun.ensures c.add_function.ensures c.in_ok-a.was c.leave_call-sum.ensures.left (rw c.leave_call-sum.ensures.cells_same at c.return_call.ensures))
 
 pub add_function-overflow_add-at : goal.add_function-overflow_add-at
 add_function-overflow_add-at t c = omega (arith, c.requires.base_bound)

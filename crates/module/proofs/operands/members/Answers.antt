@@ -4,10 +4,13 @@ use Rattle.module.specs.Scan.{pass_of}
 use Rattle.module.proofs.Counted.{counted_none, counted-by}
 use Rattle.module.proofs.operands.members.Goals as goal
 
-pub returns-in_err-count : goal.returns-in_err-count
-returns-in_err-count c = rw c.from_residual.ensures (counted_none _ c.in_err-count.ensures)
+pub returns-in_err-count-clause-took : goal.returns-in_err-count-clause-took
+returns-in_err-count-clause-took c = rw c.from_residual.ensures (counted_none _ c.in_err-count.ensures.split)
 
-pub returns : goal.returns
+pub returns-clause-took : goal.returns-clause-took
 unfolding pass_of
-returns c =
-    counted-by (pairs (below c.args.scope.now.counts.types) (below_or_absent bindings)) c.in_ok-count.ensures c.pairs.ensures
+returns-clause-took c =
+    counted-by (pairs (below c.args.scope.now.counts.types) (below_or_absent bindings)) c.in_ok-count.ensures.split c.pairs.ensures.took
+
+pub returns-clause-ends : goal.returns-clause-ends
+returns-clause-ends c = rw c.in_ok-count.ensures.ends at c.pairs.ensures.ends

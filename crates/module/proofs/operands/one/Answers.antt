@@ -3,11 +3,11 @@ use mathlib.Core.Path.{sym, ◌∙◌}
 use Rattle.module.proofs.Scanning.{one_none, one-pass, one-fail}
 use Rattle.module.proofs.operands.one.Goals as goal
 
-pub returns-in_err-x : goal.returns-in_err-x
-returns-in_err-x c = rw c.from_residual.ensures (one_none _ c.in_err-x.ensures)
+pub returns-in_err-x-clause-took : goal.returns-in_err-x-clause-took
+returns-in_err-x-clause-took c = rw c.from_residual.ensures (one_none _ c.in_err-x.ensures.split)
 
-pub returns-then-passes : goal.returns-then-passes
-returns-then-passes c = one-pass _ c.in_ok-x.ensures (sym c.passes.ensures ∙ c.if-passes.true)
+pub returns-then-passes-clause-took : goal.returns-then-passes-clause-took
+returns-then-passes-clause-took c = one-pass _ c.in_ok-x.ensures.split (sym c.passes.ensures ∙ c.if-passes.true)
 
-pub returns : goal.returns
-returns c = one-fail _ c.in_ok-x.ensures (sym c.passes.ensures ∙ c.if-passes.false)
+pub returns-clause-took : goal.returns-clause-took
+returns-clause-took c = one-fail _ c.in_ok-x.ensures.split (sym c.passes.ensures ∙ c.if-passes.false)

@@ -17,4 +17,4 @@ returns-in-Cases-clause-took c = rw (c.in-Some.is, c.in-Cases.is) c.cases.ensure
 pub returns-in_default-operand : goal.returns-in_default-operand
 unfolding class_taken
 returns-in_default-operand c =
-    record { took = rw c.in-Some.is c.plain.ensures; stamped = stamped_on c.requires.fresh (le_refl _) }
+    record { took = rw c.in-Some.is c.plain.ensures.took; ends = c.plain.ensures.ends; stamped = stamped_on c.requires.fresh (le_refl _) }

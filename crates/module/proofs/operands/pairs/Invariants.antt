@@ -1,4 +1,4 @@
--- `module::operands::pairs` meets its contract: what is left of the scan gives the whole.
+-- `module::operands::pairs` meets its contract: what is left of the scan gives the whole, and ends where it did.
 use Prim.Native.Nat.{◌-◌}
 use mathlib.Core.Path.{◌≡◌}
 use Rattle.module.specs.Operands.{pairs}
@@ -6,4 +6,4 @@ use Rattle.module.specs.Scan.{pass_of, fields_in}
 use Rattle.module.proofs.operands.pairs.Given as goal
 
 abbrev pub invariant-loop-k : goal.invariant-loop-k
-invariant-loop-k l = pairs (pass_of l.scope.bytes.now l.scope.t.now l.p) (pass_of l.scope.bytes.now l.scope.t.now l.q) (l.count - l._k) (fields_in l.scope.bytes.now l.left) ≡ pairs (pass_of l.scope.bytes.now l.scope.t.now l.p) (pass_of l.scope.bytes.now l.scope.t.now l.q) l.count (fields_in l.scope.bytes.now l.initial.left)
+invariant-loop-k l = (pairs (pass_of l.scope.bytes.now l.scope.t.now l.p) (pass_of l.scope.bytes.now l.scope.t.now l.q) (l.count - l._k) (fields_in l.scope.bytes.now l.left) ≡ pairs (pass_of l.scope.bytes.now l.scope.t.now l.p) (pass_of l.scope.bytes.now l.scope.t.now l.q) l.count (fields_in l.scope.bytes.now l.initial.left)) × (l.left.end ≡ l.initial.left.end)

@@ -6,82 +6,82 @@ use Rattle.module.specs.Tables.{scope_in}
 use Rattle.module.specs.Scan.{pass_of}
 use Rattle.module.proofs.operands.plain.Goals as goal
 
-pub returns-in-Expression : goal.returns-in-Expression
+pub returns-in-Expression-clause-took : goal.returns-in-Expression-clause-took
 unfolding meant taken scope_in pass_of
-returns-in-Expression c = rw c.in-Expression.is c.one.ensures
+returns-in-Expression-clause-took c = rw c.in-Expression.is c.one.ensures.took
 
-pub returns-in-Optional : goal.returns-in-Optional
+pub returns-in-Optional-clause-took : goal.returns-in-Optional-clause-took
 unfolding meant taken scope_in pass_of
-returns-in-Optional c = rw c.in-Optional.is c.one-in-Optional.ensures
+returns-in-Optional-clause-took c = rw c.in-Optional.is c.one-in-Optional.ensures.took
 
-pub returns-in-Index : goal.returns-in-Index
+pub returns-in-Index-clause-took : goal.returns-in-Index-clause-took
 unfolding meant taken scope_in pass_of
-returns-in-Index c = rw c.in-Index.is c.one-in-Index.ensures
+returns-in-Index-clause-took c = rw c.in-Index.is c.one-in-Index.ensures.took
 
-pub returns-in-List : goal.returns-in-List
+pub returns-in-List-clause-took : goal.returns-in-List-clause-took
 unfolding meant taken scope_in pass_of
-returns-in-List c = rw c.in-List.is c.list.ensures
+returns-in-List-clause-took c = rw c.in-List.is c.list.ensures.took
 
-pub returns-in-Pattern : goal.returns-in-Pattern
+pub returns-in-Pattern-clause-took : goal.returns-in-Pattern-clause-took
 unfolding meant taken scope_in pass_of
-returns-in-Pattern c = rw c.in-Pattern.is c.pattern.ensures
+returns-in-Pattern-clause-took c = rw c.in-Pattern.is c.pattern.ensures.took
 
-pub returns-in-Level : goal.returns-in-Level
+pub returns-in-Level-clause-took : goal.returns-in-Level-clause-took
 unfolding meant taken scope_in pass_of level_handles
-returns-in-Level c = rw c.in-Level.is c.coded.ensures
+returns-in-Level-clause-took c = rw c.in-Level.is c.coded.ensures.took
 
-pub returns-in-Mode : goal.returns-in-Mode
+pub returns-in-Mode-clause-took : goal.returns-in-Mode-clause-took
 unfolding meant taken scope_in pass_of mode_handles
-returns-in-Mode c = rw c.in-Mode.is c.coded-in-Mode.ensures
+returns-in-Mode-clause-took c = rw c.in-Mode.is c.coded-in-Mode.ensures.took
 
-pub returns-in-Argument : goal.returns-in-Argument
+pub returns-in-Argument-clause-took : goal.returns-in-Argument-clause-took
 unfolding meant taken scope_in pass_of
-returns-in-Argument c = rw c.in-Argument.is c.one-in-Argument.ensures
+returns-in-Argument-clause-took c = rw c.in-Argument.is c.one-in-Argument.ensures.took
 
-pub returns-in-Global : goal.returns-in-Global
+pub returns-in-Global-clause-took : goal.returns-in-Global-clause-took
 unfolding meant taken scope_in pass_of
-returns-in-Global c = rw c.in-Global.is c.one-in-Global.ensures
+returns-in-Global-clause-took c = rw c.in-Global.is c.one-in-Global.ensures.took
 
-pub returns-in-Local : goal.returns-in-Local
+pub returns-in-Local-clause-took : goal.returns-in-Local-clause-took
 unfolding meant taken scope_in pass_of
-returns-in-Local c = rw c.in-Local.is c.one-in-Local.ensures
+returns-in-Local-clause-took c = rw c.in-Local.is c.one-in-Local.ensures.took
 
-pub returns-in-Block : goal.returns-in-Block
+pub returns-in-Block-clause-took : goal.returns-in-Block-clause-took
 unfolding meant taken scope_in pass_of
-returns-in-Block c = rw c.in-Block.is c.one-in-Block.ensures
+returns-in-Block-clause-took c = rw c.in-Block.is c.one-in-Block.ensures.took
 
-pub returns-in-Function : goal.returns-in-Function
+pub returns-in-Function-clause-took : goal.returns-in-Function-clause-took
 unfolding meant taken scope_in pass_of
-returns-in-Function c = rw c.in-Function.is c.one-in-Function.ensures
+returns-in-Function-clause-took c = rw c.in-Function.is c.one-in-Function.ensures.took
 
-pub returns-in-Range : goal.returns-in-Range
+pub returns-in-Range-clause-took : goal.returns-in-Range-clause-took
 unfolding meant taken scope_in pass_of
-returns-in-Range c = rw c.in-Range.is c.range.ensures
+returns-in-Range-clause-took c = rw c.in-Range.is c.range.ensures.took
 
-pub returns-in-Type : goal.returns-in-Type
+pub returns-in-Type-clause-took : goal.returns-in-Type-clause-took
 unfolding meant taken scope_in pass_of
-returns-in-Type c = rw c.in-Type.is c.one-in-Type.ensures
+returns-in-Type-clause-took c = rw c.in-Type.is c.one-in-Type.ensures.took
 
-pub returns-in-Size : goal.returns-in-Size
+pub returns-in-Size-clause-took : goal.returns-in-Size-clause-took
 unfolding meant taken scope_in pass_of
-returns-in-Size c = rw c.in-Size.is c.one-in-Size.ensures
+returns-in-Size-clause-took c = rw c.in-Size.is c.one-in-Size.ensures.took
 
-pub returns-in-Members : goal.returns-in-Members
+pub returns-in-Members-clause-took : goal.returns-in-Members-clause-took
 unfolding meant taken scope_in pass_of
-returns-in-Members c = rw c.in-Members.is c.members.ensures
+returns-in-Members-clause-took c = rw c.in-Members.is c.members.ensures.took
 
-pub returns-in-Binding : goal.returns-in-Binding
+pub returns-in-Binding-clause-took : goal.returns-in-Binding-clause-took
 unfolding meant taken scope_in pass_of
-returns-in-Binding c = rw c.in-Binding.is c.one-in-Binding.ensures
+returns-in-Binding-clause-took c = rw c.in-Binding.is c.one-in-Binding.ensures.took
 
-pub returns-in-Flag : goal.returns-in-Flag
+pub returns-in-Flag-clause-took : goal.returns-in-Flag-clause-took
 unfolding meant taken scope_in pass_of
-returns-in-Flag c = rw c.in-Flag.is c.one-in-Flag.ensures
+returns-in-Flag-clause-took c = rw c.in-Flag.is c.one-in-Flag.ensures.took
 
-pub returns-in-Result : goal.returns-in-Result
+pub returns-in-Result-clause-took : goal.returns-in-Result-clause-took
 unfolding meant taken scope_in pass_of
-returns-in-Result c = rw c.in-Result.is c.result.ensures
+returns-in-Result-clause-took c = rw c.in-Result.is c.result.ensures.took
 
-pub returns-in-Never : goal.returns-in-Never
+pub returns-in-Never-clause-took : goal.returns-in-Never-clause-took
 unfolding meant taken scope_in pass_of
-returns-in-Never c = rw c.in-Never.is c.one-in-Never.ensures
+returns-in-Never-clause-took c = rw c.in-Never.is c.one-in-Never.ensures.took

@@ -1,12 +1,11 @@
 -- `operands::made::ask_components` meets its contract. The invariant: the asks from the number k on are done.
 use mathlib.Core.Bool.{true}
 use lib.ListN.{drop}
-use Rattle.operands.specs.Arms.{operands_of}
-use Rattle.judge.specs.Subject.{scope_of}
+use Rattle.operands.specs.Rows.{scope_under, operands_in}
 use Rattle.clearance.specs.Needs.{ask_components}
 use Rattle.operands.specs.Lists.{components}
 use Rattle.operands.specs.AsksAll.{wanted_in, AsksAll}
 use Rattle.operands.proofs.made.ask_components.Given as goal
 
 abbrev pub invariant-loop-k : goal.invariant-loop-k
-invariant-loop-k l = AsksAll (scope_of l.expression.subject.now) (drop l.k (ask_components (components (operands_of l.expression)) 0 (wanted_in l.initial.parts.cells l.initial.parts.slots l.n))) l.initial.parts.cells l.initial.parts.slots l.n l.parts.cells l.parts.slots true
+invariant-loop-k l = AsksAll (scope_under l.operands) (drop l.k (ask_components (components (operands_in l.operands)) 0 (wanted_in l.initial.parts.cells l.initial.parts.slots l.n))) l.initial.parts.cells l.initial.parts.slots l.n l.parts.cells l.parts.slots true

@@ -1,8 +1,7 @@
 -- `operands::made::ask_joined` meets its contract. The invariant: the asks from the number k on are done.
 use mathlib.Core.Bool.{true}
 use lib.ListN.{drop}
-use Rattle.operands.specs.Arms.{operands_of}
-use Rattle.judge.specs.Subject.{scope_of}
+use Rattle.operands.specs.Rows.{scope_under, operands_in}
 use mathlib.Core.List.{map}
 use Rattle.clearance.specs.Needs.{ask_whole}
 use Rattle.operands.specs.Lists.{components}
@@ -10,4 +9,4 @@ use Rattle.operands.specs.AsksAll.{AsksAll}
 use Rattle.operands.proofs.made.ask_joined.Given as goal
 
 abbrev pub invariant-loop-k : goal.invariant-loop-k
-invariant-loop-k l = AsksAll (scope_of l.expression.subject.now) (drop l.k (map ask_whole (components (operands_of l.expression)))) l.initial.parts.cells l.initial.parts.slots l.n l.parts.cells l.parts.slots true
+invariant-loop-k l = AsksAll (scope_under l.operands) (drop l.k (map ask_whole (components (operands_in l.operands)))) l.initial.parts.cells l.initial.parts.slots l.n l.parts.cells l.parts.slots true

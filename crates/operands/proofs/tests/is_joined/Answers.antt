@@ -6,8 +6,8 @@ use Rattle.operands.proofs.tests.is_joined.Goals as goal
 
 pub returns-then-eq : goal.returns-then-eq
 returns-then-eq c =
-    joined_by _ _ c.args.expression.now.row_of.given.values.same _ c.type_of-own.ensures c.kind_at.ensures _ (equal c.kind_at.result Vector c.eq.ensures c.if-eq.true) c.any_vector.ensures
+    joined_by _ _ c.requires _ c.type_of-own.ensures c.kind_at.ensures _ (equal c.kind_at.result Vector c.eq.ensures c.if-eq.true) c.any_vector.ensures
 
 pub returns-else-eq : goal.returns-else-eq
 returns-else-eq c =
-    rw c.if-eq.false (joined_not _ _ c.args.expression.now.row_of.given.values.same _ c.type_of-own.ensures c.kind_at.ensures _ (unequal c.kind_at.result Vector c.eq.ensures c.if-eq.false))
+    rw c.if-eq.false (joined_not _ _ c.requires _ c.type_of-own.ensures c.kind_at.ensures _ (unequal c.kind_at.result Vector c.eq.ensures c.if-eq.false))

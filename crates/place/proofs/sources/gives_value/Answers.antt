@@ -6,6 +6,9 @@ use Rattle.place.proofs.sources.gives_value.Goals as goal
 pub returns-then-expressions-e : goal.returns-then-expressions-e
 returns-then-expressions-e c = gives_none _ _ _ _ c.expressions.ensures c.if-expressions-e.true
 
+pub is_path-requires : goal.is_path-requires
+is_path-requires c = c.requires
+
 pub returns-in-Ok-AccessIndex : goal.returns-in-Ok-AccessIndex
 returns-in-Ok-AccessIndex c =
     gives-index _ _ _ _ c.expressions.ensures c.if-expressions-e.false c.expression-row.ensures c.is_path.ensures (search rules)

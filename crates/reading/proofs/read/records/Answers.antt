@@ -19,7 +19,7 @@ record_next-requires c = record { between = c.loop-at.invariant.0.between; at_in
 pub returns-in_err-c : goal.returns-in_err-c
 returns-in_err-c c =
     let p = err_from_is_err_and c.from_residual.result c.from_residual.ensures.1 in
-    rw (p.1, p.2) (left_stops c.loop-at.invariant.0 c.loop-at-test.true c.in_err-c.ensures _ refl)
+    rw (p.1, p.2) (left_stops c.loop-at.invariant.0 c.loop-at-test.true c.in_err-c.ensures.step _ refl)
 
 pub overflow_cast-at-in-loop-at : goal.overflow_cast-at-in-loop-at
 overflow_cast-at-in-loop-at c = omega (arith, c.loop-at-test.true, c.requires.bytes_len_bound)
@@ -29,18 +29,18 @@ overflow_add-at c = omega (arith, c.loop-at-test.true, c.requires.bytes_len_boun
 
 pub overflow_add-at-in-loop-at : goal.overflow_add-at-in-loop-at
 overflow_add-at-in-loop-at c =
-    omega (arith, c.get.ensures, (c.in_ok-c.ensures.progress _ refl).used.here, c.requires.bytes_len_bound)
+    omega (arith, c.get.ensures, (c.in_ok-c.ensures.step.progress _ refl).used.here, c.requires.bytes_len_bound)
 
 pub overflow_add-at-in-loop-at-2 : goal.overflow_add-at-in-loop-at-2
 overflow_add-at-in-loop-at-2 c =
-    omega (arith, c.get.ensures, (c.in_ok-c.ensures.progress _ refl).used.here, c.requires.bytes_len_bound)
+    omega (arith, c.get.ensures, (c.in_ok-c.ensures.step.progress _ refl).used.here, c.requires.bytes_len_bound)
 
 pub loop-at-smaller : goal.loop-at-smaller
 loop-at-smaller c = omega (arith, c.loop-at-test.true)
 
 pub loop-at-preserved : goal.loop-at-preserved
 loop-at-preserved c =
-    (left_again c.loop-at.invariant.0 c.loop-at-test.true c.in_ok-c.ensures _ _ refl (omega (arith, c.get.ensures)), omega (arith, c.loop-at.invariant.1, c.record_next.auto))
+    (left_again c.loop-at.invariant.0 c.loop-at-test.true c.in_ok-c.ensures.step _ _ refl (omega (arith, c.get.ensures)), omega (arith, c.loop-at.invariant.1, c.record_next.auto))
 
 pub returns : goal.returns
 returns c = left_done c.loop-at.invariant.0 c.loop-at-test.false

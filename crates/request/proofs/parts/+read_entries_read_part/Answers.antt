@@ -2,13 +2,14 @@
 use mathlib.Core.Path.{sym, ◌∙◌}
 use native.Mathlib.Omega.{arith}
 use Rattle.part.proofs.Pieces.{part-0, part-1, part-2}
+use Rattle.request.proofs.Bytes.{tail_all}
 use Rattle.request.proofs.Entries.{refuse, answer, kept_same, kept_on, pred_of, entries_none, entry_made, index_no_part, index_no_rest, part_behind}
 use Rattle.request.proofs.Steps.{index_read, index_refused}
 use Rattle.request.proofs.parts.+read_entries_read_part.Goals as goal
 
 pub read_entries-returns-then-n-eq0 : goal.read_entries-returns-then-n-eq0
 read_entries-returns-then-n-eq0 t c =
-    answer c.requires.good 2 (omega arith) (omega arith) (entries_none _ _ _ _ _ c.if-n-eq0.true ∙ rw (part-2 c.args.cells.now))
+    answer c.requires.good 2 (omega arith) (tail_all c.args.bytes.now) (omega arith) (entries_none _ _ _ _ _ c.if-n-eq0.true ∙ rw (part-2 c.args.cells.now))
 
 pub read_entries-returns-in_err-i : goal.read_entries-returns-in_err-i
 read_entries-returns-in_err-i t c =
@@ -38,14 +39,14 @@ read_entries-returns t c =
 pub read_part-returns-in-All : goal.read_part-returns-in-All
 read_part-returns-in-All t c =
     let was = rw c.in-All.is at c.in_ok-code.ensures in
-    answer c.requires.good 0 (omega arith) (omega (arith, was.placed)) (was.is ∙ rw (part-0 c.args.cells.now))
+    answer c.requires.good 0 (omega arith) was.placed.1 (omega (arith, was.placed.0)) (was.is ∙ rw (part-0 c.args.cells.now))
 
 pub read_part-returns-in-Exist : goal.read_part-returns-in-Exist
 read_part-returns-in-Exist t c =
     let was = rw c.in-Exist.is at c.in_ok-code.ensures in
-    answer c.requires.good 1 (omega arith) (omega (arith, was.placed)) (was.is ∙ rw (part-1 c.args.cells.now))
+    answer c.requires.good 1 (omega arith) was.placed.1 (omega (arith, was.placed.0)) (was.is ∙ rw (part-1 c.args.cells.now))
 
 pub read_part-returns-in-Entries : goal.read_part-returns-in-Entries
 read_part-returns-in-Entries t c =
     let was = rw c.in-Entries.is at c.in_ok-code.ensures in
-    part_behind was.is was.placed.0 c.read_entries.ensures
+    part_behind was.is was.placed.0 was.placed.2 c.read_entries.ensures

@@ -7,36 +7,36 @@ use Rattle.requests.proofs.begin.begin_request.Goals as goal
 
 pub returns-in_err-ok_or : goal.returns-in_err-ok_or
 returns-in_err-ok_or c =
-    let asks = beginning_of c.args.world.now c.args.space.now (omega arith) in
+    let asks = beginning_of c.requires c.args.space.now.open (omega arith) in
     rw (refuses _ c.from_residual-in_err-ok_or.ensures.1 c.ok_or.ensures.value c.in_err-ok_or.was)
     (begins_19 asks c.args.report c.args.request.now c.args.pruner.now c.functions.ensures c.globals.ensures c.load_request.ensures c.in_ok-function.was c.read_pruner.ensures (missing c.ok_or.ensures.ok_part c.in_err-ok_or.was))
 
 pub clear_marks-requires : goal.clear_marks-requires
 clear_marks-requires c =
-    let asks = beginning_of c.args.world.now c.args.space.now (omega arith) in
+    let asks = beginning_of c.requires c.args.space.now.open (omega arith) in
     clear_asks asks c.args.report c.args.request.now c.args.pruner.now c.functions.ensures c.globals.ensures c.load_request.ensures c.in_ok-function.was c.read_pruner.ensures (there c.ok_or.ensures.ok_part c.in_ok-ok_or.was)
 
 pub weigh_totals-sum-requires : goal.weigh_totals-sum-requires
 weigh_totals-sum-requires c =
-    let asks = beginning_of c.args.world.now c.args.space.now (omega arith) in
+    let asks = beginning_of c.requires c.args.space.now.open (omega arith) in
     weighs asks c.args.report c.args.request.now c.args.pruner.now c.functions.ensures c.globals.ensures c.load_request.ensures c.in_ok-function.was c.read_pruner.ensures (there c.ok_or.ensures.ok_part c.in_ok-ok_or.was) c.tidy.ensures
 
 pub returns-in_err-function : goal.returns-in_err-function
 returns-in_err-function c =
-    let asks = beginning_of c.args.world.now c.args.space.now (omega arith) in
+    let asks = beginning_of c.requires c.args.space.now.open (omega arith) in
     rw (passed c.from_residual.ensures.1) (begins_refused asks c.args.report c.args.request.now c.args.pruner.now c.functions.ensures c.globals.ensures c.load_request.ensures c.in_err-function.was)
 
 pub returns : goal.returns
 returns c =
-    let asks = beginning_of c.args.world.now c.args.space.now (omega arith) in
+    let asks = beginning_of c.requires c.args.space.now.open (omega arith) in
     begins asks c.args.report c.args.request.now c.args.pruner.now c.functions.ensures c.globals.ensures c.load_request.ensures c.in_ok-function.was c.read_pruner.ensures (there c.ok_or.ensures.ok_part c.in_ok-ok_or.was) c.tidy.ensures c.clear_marks.ensures c.weigh_totals-sum.ensures
 
 pub load_request-requires : goal.load_request-requires
 load_request-requires c =
-    let asks = beginning_of c.args.world.now c.args.space.now (omega arith) in
+    let asks = beginning_of c.requires c.args.space.now.open (omega arith) in
     omega (arith, few_globals asks, c.globals.ensures)
 
 pub tidy-requires-clause-slots_bound : goal.tidy-requires-clause-slots_bound
 tidy-requires-clause-slots_bound c =
-    let asks = beginning_of c.args.world.now c.args.space.now (omega arith) in
+    let asks = beginning_of c.requires c.args.space.now.open (omega arith) in
     (tidy_asks asks c.args.report c.args.request.now c.args.pruner.now c.functions.ensures c.globals.ensures c.load_request.ensures c.in_ok-function.was c.read_pruner.ensures (there c.ok_or.ensures.ok_part c.in_ok-ok_or.was)).1

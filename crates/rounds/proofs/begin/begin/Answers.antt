@@ -4,4 +4,4 @@ use Rattle.rounds.proofs.begin.begin.Goals as goal
 
 pub returns : goal.returns
 returns c =
-    begun c.args.subject.now.file.now.bytes c.args.subject.now.file.now.t c.args.subject.now.types.now c.args.subject.now.f.0 c.args.subject.now.given.values.same c.requires c.trim_value-v.ensures c.trim_globals-e.ensures c.clear_tables.ensures
+    begun c.args.file.now.bytes c.args.file.now.t c.args.types.now.rows.now c.args.f.0 c.requires.same c.requires.pieces c.trim_value-v.ensures c.trim_globals-e.ensures c.clear_tables.ensures

@@ -6,4 +6,4 @@ pub returns-in_err-bytes : goal.returns-in_err-bytes
 returns-in_err-bytes c = rw c.from_residual.ensures (found_variable c.args.self.now.readable c.in_err-bytes.ensures)
 
 pub returns : goal.returns
-returns c = (found_variable c.args.self.now.readable c.in_ok-bytes.ensures).1
+returns c = let f = found_variable c.args.self.now.readable c.in_ok-bytes.ensures in (f.1, f.2)

@@ -1,6 +1,5 @@
--- `Subject::is_path` meets its contract: by the table.
-use Rattle.judge.proofs.ValueRows.{path_is}
+-- `Subject::is_path` meets its contract: by the function.
 use Rattle.judge.proofs.subject.Subject.is_path.Goals as goal
 
-pub returns : goal.returns
-returns c = path_is _ _ _ c.args.self.now.given.values _ c.is_marked.ensures
+pub is_path-requires : goal.is_path-requires
+is_path-requires c = c.args.self.now.given.values.table

@@ -1,13 +1,5 @@
--- `Subject::maybe_value` meets its contract: by whether the operand is there.
-use borrow.Author.Rules.{rules}
-use Rattle.access.specs.Access.{handle_in}
-use Rattle.clearance.specs.Judged.{presently}
+-- `Subject::maybe_value` meets its contract: by the function.
 use Rattle.judge.proofs.subject.Subject.maybe_value.Goals as goal
 
-pub returns-in-None : goal.returns-in-None
-unfolding handle_in presently
-returns-in-None c = search rules
-
-pub returns-in-Some : goal.returns-in-Some
-unfolding handle_in presently
-returns-in-Some c = search rules
+pub maybe_value-requires : goal.maybe_value-requires
+maybe_value-requires c = c.args.self.now.given.values
