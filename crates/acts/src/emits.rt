@@ -14,7 +14,6 @@ use ends::notes::{blame, note};
 use forms::types::Types;
 use hold::hold::copy;
 use judge::subject::Subject;
-use memory::parts::Parts;
 use module::handles::ExpressionHandle;
 use operands::expression::ask_operands;
 use place::slots::evaluated_path;
@@ -25,22 +24,23 @@ use standing::passing::Passing;
 // The needs before an emit of the expression e. Its operands are lent as much of the path as the function's pointers take. None where the needs pass the bound.
 pub fn act_emit(
     subject: &Subject,
-    parts: &mut Parts,
+    cells: &mut [u32],
+    slots: &mut [u32],
     path: &mut [u32],
     n: usize,
     e: ExpressionHandle,
 ) -> Option<()>
-    requires act_given { ActGivenOf subject.now parts.old.cells parts.old.slots path.old n }
+    requires act_given { ActGivenOf subject.now cells.old slots.old path.old n }
     requires e_in_bounds { e.0 < length (function_in subject.now).expressions }
-    ensures { Acted (scope_of subject.now) (emit e.0) parts.old.cells parts.old.slots n parts.new.cells parts.new.slots path.old path.new (fits result) }
+    ensures { Acted (scope_of subject.now) (emit e.0) cells.old slots.old n cells.new slots.new path.old path.new (fits result) }
 {
     let last = n - 1;
     let left = n + 1;
     let asked = n + 2;
     let need = Need {
         subject: &*subject,
-        cells: &parts.cells,
-        piece: parts.slots[last],
+        cells,
+        piece: slots[last],
     };
     let Some(a) = emit_overlap(&need, path, e) else {
         return Some(());
@@ -49,11 +49,12 @@ pub fn act_emit(
     let types = Types {
         rows: subject.types,
     };
-    take_out(subject.file, subject.f, &types, parts, n, &path[0..2], a)?;
+    let place = &path[0..2];
+    take_out(subject.file, subject.f, &types, cells, slots, n, place, a)?;
     let size = (subject.file.expressions(subject.f) as usize) + 2;
     let part = &mut path[..size];
-    ask_operands(subject, parts, part, asked, e)?;
-    copy(&mut parts.slots, left, last);
+    ask_operands(subject, cells, slots, part, asked, e)?;
+    copy(slots, left, last);
     Some(())
 }
 
@@ -61,7 +62,8 @@ pub fn act_emit(
 // The expression e of the emit l, in a pass.
 fn pass_emit(
     subject: &Subject,
-    parts: &mut Parts,
+    cells: &mut [u32],
+    slots: &mut [u32],
     path: &mut [u32],
     n: usize,
     p: Passing,
@@ -69,27 +71,27 @@ fn pass_emit(
     marked: bool,
     e: ExpressionHandle,
 ) -> Option<Passing>
-    requires pass_given { PassGivenOf subject.now parts.old.cells parts.old.slots path.old n (going p) }
+    requires pass_given { PassGivenOf subject.now cells.old slots.old path.old n (going p) }
     requires e_in_bounds { e.0 < length (function_in subject.now).expressions }
-    ensures { ByMark (scope_of subject.now) l marked (emit e.0) parts.old.cells parts.old.slots n (going p) parts.new.cells parts.new.slots path.old path.new (outcome result) }
+    ensures { ByMark (scope_of subject.now) l marked (emit e.0) cells.old slots.old n (going p) cells.new slots.new path.old path.new (outcome result) }
 {
     let last = n - 1;
     let above = n + 1;
     if marked {
-        act_emit(subject, parts, path, n, e)?;
+        act_emit(subject, cells, slots, path, n, e)?;
         return Some(p);
     }
     let need = Need {
         subject: &*subject,
-        cells: &parts.cells,
-        piece: parts.slots[last],
+        cells,
+        piece: slots[last],
     };
     if emit_idle(&need, path, e) {
         return Some(p);
     }
-    copy(&mut parts.slots, last, n);
-    act_emit(subject, parts, path, above, e)?;
-    copy(&mut parts.slots, n, last);
+    copy(slots, last, n);
+    act_emit(subject, cells, slots, path, above, e)?;
+    copy(slots, n, last);
     Some(blame(l, p))
 }
 
@@ -98,7 +100,8 @@ fn pass_emit(
 pub fn pass_emits(
     subject: &Subject,
     marks: &[u8],
-    parts: &mut Parts,
+    cells: &mut [u32],
+    slots: &mut [u32],
     path: &mut [u32],
     n: usize,
     p: Passing,
@@ -107,18 +110,18 @@ pub fn pass_emits(
     first: ExpressionHandle,
     last: ExpressionHandle,
 ) -> Option<Passing>
-    requires pass_given { PassGivenOf subject.now parts.old.cells parts.old.slots path.old n (going p) }
+    requires pass_given { PassGivenOf subject.now cells.old slots.old path.old n (going p) }
     requires begin_value { begin ≡ marks_before (function_in subject.now).statements l }
     requires last_in_bounds { last.0 < length (function_in subject.now).expressions }
-    ensures { EmitsPassed (scope_of subject.now) marks.now l first.0 last.0 parts.old.cells parts.old.slots n (going p) parts.new.cells parts.new.slots path.old path.new (outcome result) }
+    ensures { EmitsPassed (scope_of subject.now) marks.now l first.0 last.0 cells.old slots.old n (going p) cells.new slots.new path.old path.new (outcome result) }
 {
     let mut q = p;
     let count = (last.0 + 1).saturating_sub(first.0);
     for k in (0..count).rev() {
-        let at = note(parts, n, q);
+        let at = note(cells, slots, n, q);
         let marked = mark_at(marks, (begin as usize) + (k as usize));
         let e = ExpressionHandle(first.0 + k);
-        q = pass_emit(subject, parts, path, n, at, l, marked, e)?;
+        q = pass_emit(subject, cells, slots, path, n, at, l, marked, e)?;
     }
     Some(q)
 }

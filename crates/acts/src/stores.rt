@@ -18,7 +18,6 @@ use ends::notes::blame;
 use forms::types::Types;
 use hold::hold::copy;
 use judge::subject::Subject;
-use memory::parts::Parts;
 use module::handles::ExpressionHandle;
 use operands::load::ask_indexes;
 use part::store::ALL_PIECE;
@@ -30,62 +29,65 @@ use standing::passing::Passing;
 // A store to a place of which the piece a is needed.
 fn store_at(
     subject: &Subject,
-    parts: &mut Parts,
+    cells: &mut [u32],
+    slots: &mut [u32],
     n: usize,
     place: &[u32],
     a: u32,
     v: ExpressionHandle,
 ) -> Option<()>
-    requires { PlaceGivenOf subject.now parts.old.cells parts.old.slots n place.now a v.0 }
-    ensures { Stepped (scope_of subject.now) (leaving (scope_of subject.now) (without (scope_of subject.now) place.now (in_slot parts.old.cells parts.old.slots (n - 1))) (of_value v.0 (below (in_slot parts.old.cells parts.old.slots (n - 1)) place.now) ∷ [])) parts.old.cells parts.old.slots n parts.new.cells parts.new.slots (fits result) }
+    requires { PlaceGivenOf subject.now cells.old slots.old n place.now a v.0 }
+    ensures { Stepped (scope_of subject.now) (leaving (scope_of subject.now) (without (scope_of subject.now) place.now (in_slot cells.old slots.old (n - 1))) (of_value v.0 (below (in_slot cells.old slots.old (n - 1)) place.now) ∷ [])) cells.old slots.old n cells.new slots.new (fits result) }
 {
     let last = n - 1;
     let left = n + 1;
     let types = Types {
         rows: subject.types,
     };
-    take_out(subject.file, subject.f, &types, parts, n, place, a)?;
-    let part = parts.slots[n];
-    ask_value(subject.file, subject.f, parts, n + 2, v, part)?;
-    copy(&mut parts.slots, left, last);
+    take_out(subject.file, subject.f, &types, cells, slots, n, place, a)?;
+    let part = slots[n];
+    ask_value(subject.file, subject.f, cells, slots, n + 2, v, part)?;
+    copy(slots, left, last);
     Some(())
 }
 
 // A store to a pointer which has a dynamic index.
 fn store_somewhere(
     pointer: &PointerExpression,
-    parts: &mut Parts,
+    cells: &mut [u32],
+    slots: &mut [u32],
     n: usize,
     v: ExpressionHandle,
 ) -> Option<()>
-    requires { SomewhereGiven (scope_in pointer.now) parts.old.cells parts.old.slots n v.0 }
-    ensures { Stepped (scope_in pointer.now) (leaving (scope_in pointer.now) (in_slot parts.old.cells parts.old.slots (n - 1)) (ask_whole v.0 ∷ map ask_whole (indexes_in pointer.now))) parts.old.cells parts.old.slots n parts.new.cells parts.new.slots (fits result) }
+    requires { SomewhereGiven (scope_in pointer.now) cells.old slots.old n v.0 }
+    ensures { Stepped (scope_in pointer.now) (leaving (scope_in pointer.now) (in_slot cells.old slots.old (n - 1)) (ask_whole v.0 ∷ map ask_whole (indexes_in pointer.now))) cells.old slots.old n cells.new slots.new (fits result) }
 {
     let last = n - 1;
-    copy(&mut parts.slots, last, n);
-    ask_indexes(pointer, parts, n + 1)?;
-    ask_value(pointer.file, pointer.f, parts, n + 1, v, ALL_PIECE)?;
-    copy(&mut parts.slots, n, last);
+    copy(slots, last, n);
+    ask_indexes(pointer, cells, slots, n + 1)?;
+    ask_value(pointer.file, pointer.f, cells, slots, n + 1, v, ALL_PIECE)?;
+    copy(slots, n, last);
     Some(())
 }
 
 // The needs before a store of the value v to the pointer p. None where the needs pass the bound.
 pub fn act_store(
     subject: &Subject,
-    parts: &mut Parts,
+    cells: &mut [u32],
+    slots: &mut [u32],
     path: &mut [u32],
     n: usize,
     p: ExpressionHandle,
     v: ExpressionHandle,
 ) -> Option<()>
-    requires act_given { ActGivenOf subject.now parts.old.cells parts.old.slots path.old n }
+    requires act_given { ActGivenOf subject.now cells.old slots.old path.old n }
     requires store_of { StoreOf (scope_of subject.now) p.0 v.0 }
-    ensures { Acted (scope_of subject.now) (store p.0 v.0) parts.old.cells parts.old.slots n parts.new.cells parts.new.slots path.old path.new (fits result) }
+    ensures { Acted (scope_of subject.now) (store p.0 v.0) cells.old slots.old n cells.new slots.new path.old path.new (fits result) }
 {
     let need = Need {
         subject: &*subject,
-        cells: &parts.cells,
-        piece: parts.slots[n - 1],
+        cells,
+        piece: slots[n - 1],
     };
     let pointer = PointerExpression {
         file: subject.file,
@@ -97,17 +99,18 @@ pub fn act_store(
     };
     let target = pointer.find_target(path);
     if target.dynamic {
-        return store_somewhere(&pointer, parts, n, v);
+        return store_somewhere(&pointer, cells, slots, n, v);
     }
     let place = &path[target.from..target.to];
-    store_at(subject, parts, n, place, a, v)
+    store_at(subject, cells, slots, n, place, a, v)
 }
 
 // The statement l, a store of the value v to the pointer a, in a pass.
 // Stays: l, marked, a and v side by side, for the one caller, as in `pass_emits`.
 pub fn pass_store(
     subject: &Subject,
-    parts: &mut Parts,
+    cells: &mut [u32],
+    slots: &mut [u32],
     path: &mut [u32],
     n: usize,
     p: Passing,
@@ -116,20 +119,19 @@ pub fn pass_store(
     a: ExpressionHandle,
     v: ExpressionHandle,
 ) -> Option<Passing>
-    requires pass_given { PassGivenOf subject.now parts.old.cells parts.old.slots path.old n (going p) }
+    requires pass_given { PassGivenOf subject.now cells.old slots.old path.old n (going p) }
     requires store_of { StoreOf (scope_of subject.now) a.0 v.0 }
-    ensures { ByMark (scope_of subject.now) l marked (store a.0 v.0) parts.old.cells parts.old.slots n (going p) parts.new.cells parts.new.slots path.old path.new (outcome result) }
+    ensures { ByMark (scope_of subject.now) l marked (store a.0 v.0) cells.old slots.old n (going p) cells.new slots.new path.old path.new (outcome result) }
 {
     let last = n - 1;
-    let above = n + 1;
     if marked {
-        act_store(subject, parts, path, n, a, v)?;
+        act_store(subject, cells, slots, path, n, a, v)?;
         return Some(p);
     }
     let need = Need {
         subject: &*subject,
-        cells: &parts.cells,
-        piece: parts.slots[last],
+        cells,
+        piece: slots[last],
     };
     let pointer = PointerExpression {
         file: subject.file,
@@ -139,8 +141,8 @@ pub fn pass_store(
     if store_idle(&need, path, &pointer) {
         return Some(p);
     }
-    copy(&mut parts.slots, last, n);
-    act_store(subject, parts, path, above, a, v)?;
-    copy(&mut parts.slots, n, last);
+    copy(slots, last, n);
+    act_store(subject, cells, slots, path, n + 1, a, v)?;
+    copy(slots, n, last);
     Some(blame(l, p))
 }

@@ -11,7 +11,6 @@ use access::file::File;
 use forms::place::take_place;
 use forms::types::Types;
 use hold::hold::push;
-use memory::parts::Parts;
 use module::handles::FunctionHandle;
 
 // The slot n has the piece a, and the next one the needs at hand without the place. None where the needs pass the bound.
@@ -20,18 +19,19 @@ pub fn take_out(
     file: &File,
     f: FunctionHandle,
     types: &Types,
-    parts: &mut Parts,
+    cells: &mut [u32],
+    slots: &mut [u32],
     n: usize,
     place: &[u32],
     a: u32,
 ) -> Option<()>
     requires there { There file.now.bytes file.now.t f.0 }
     requires same { (module_of file.now.bytes file.now.t).types ≡ types_of types.now.rows.now }
-    requires take_given { TakeGiven file.now.bytes file.now.t f.0 parts.old.cells parts.old.slots n place.now a }
-    ensures { TakenOut (scope_at file.now.bytes file.now.t f.0) place.now parts.old.cells parts.old.slots n parts.new.cells parts.new.slots (fits result) }
+    requires take_given { TakeGiven file.now.bytes file.now.t f.0 cells.old slots.old n place.now a }
+    ensures { TakenOut (scope_at file.now.bytes file.now.t f.0) place.now cells.old slots.old n cells.new slots.new (fits result) }
 {
-    let hand = parts.slots[n - 1];
-    parts.slots[n] = a;
-    let left = take_place(&mut parts.cells, file, f, types, hand, place);
-    push(parts, n + 1, left)
+    let hand = slots[n - 1];
+    slots[n] = a;
+    let left = take_place(cells, file, f, types, hand, place);
+    push(cells, slots, n + 1, left)
 }

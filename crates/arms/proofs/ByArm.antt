@@ -2,8 +2,10 @@
 use mathlib.Core.Path.{◌≡◌, sym, ap, subst, ◌∙◌}
 use mathlib.Core.Bool.{Bool}
 use mathlib.Core.List.{List}
-use Prim.Native.Nat.{ℕ}
+use Prim.Native.Nat.{ℕ, ◌≤◌}
+use lib.ListN.{length}
 use Rattle.std.specs.Prelude.{Result, Ok, Err}
+use Rattle.field.specs.Limits.{min_report}
 use Rattle.module.specs.Module.{Module, BlockHandle}
 use Rattle.module.specs.Decode.{tab, option_of, case_of, statement_of}
 use Rattle.module.specs.Tables.{module_of}
@@ -31,7 +33,7 @@ use Rattle.block.specs.Standing.{rest_in, state_in}
 use Rattle.block.specs.Blocks.{StatementEnded, StatementEnds}
 use Rattle.block.specs.Visiting.{block_in, marked, Arms}
 use Rattle.block.proofs.Steps.{apart_state, apart_standing, beside_apart}
-use Rattle.arms.specs.Visit.{MarkEnds}
+use Rattle.arms.specs.Visit.{MarkAsked, MarkEnds}
 
 -- the kinds of those that hold blocks
 module _ {bytes t types : List ℕ} {places : MarkPlaces} {s rs open_marks : List ℕ} {totals : MarkTotals} {fr : Frame} {b : BlockHandle} {row : Kinded} {sum visits : ℕ} (A : Arms bytes t types places s rs open_marks totals fr b row sum visits) where
@@ -88,9 +90,24 @@ module _ {bytes t types : List ℕ} {places : MarkPlaces} {s rs open_marks : Lis
       leaf_ending r (L.by (add_function m) (block_in bytes t f) (rest_in m t f (read s rs) open_marks totals) A.begins.standing.totals-sum).by
 
   -- the marks of a leaf or a holder
-  pub mark_ends : {r q : Result Answer Halt} {u us open_after open-last : List ℕ} {totals-after : MarkTotals} → MarkEnds t places open_after fr row r q open-last
+  pub mark_asks : (r : Result Answer Halt) {open_after : List ℕ} → min_report ≤ length open_after → MarkAsked t places.firsts open_after fr row r
+  mark_asks (Ok a) long = record {
+    by = record {
+      bytes = bytes;
+      starts = places.starts;
+      was_read = A.begins.standing.ready.was_read;
+      placed = A.begins.standing.placed;
+      function = A.begins.standing.ready.function;
+      statement = A.begins.begun.statement;
+      is = A.is;
+      long = long;
+    };
+  }
+  mark_asks (Err stop) long = record { by = tt }
+
+  pub mark_ends : {r q : Result Answer Halt} {u us open_after open-last : List ℕ} {totals-after : MarkTotals} → MarkEnds t places.firsts open_after fr row r q open-last
       → Ends (arm_of row.kind) (leaf_req (statement_of row.kind o)) r u us open_after totals-after → Ends (marked m (frame_of s rs fr) (arm_of row.kind)) (λ b. b) q u us open-last totals-after
-  mark_ends {u = u} {us = us} {totals-after = totals-after} M E = M.by bytes types s rs open_marks totals u us totals-after (arm_of row.kind) A.begins.begun.statement A.is E
+  mark_ends {u = u} {us = us} {totals-after = totals-after} M E = M.by bytes types places.starts s rs open_marks totals u us totals-after (arm_of row.kind) A.begins.begun.statement A.is E
 
   abbrev As : ℕ → Result Answer Halt → (u us open_after : List ℕ) (totals-after : MarkTotals) → Type 0
   As k r u us open_after totals-after = Ends (arm_of k) (leaf_req (statement_of k o)) r u us open_after totals-after

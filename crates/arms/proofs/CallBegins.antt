@@ -29,7 +29,7 @@ use Rattle.memory.proofs.Slots.{read-long, kept_read, kept_memory}
 use Rattle.memory.proofs.Records.{records_pieces}
 use Rattle.memory.proofs.Runs.{context_pieces}
 use Rattle.marks.specs.declared.places.MarkPlaces.{MarkPlaces}
-use Rattle.marks.specs.Places.{start_in, size_in, Inside}
+use Rattle.marks.specs.Places.{places_of, start_in, size_in, Inside}
 use Rattle.marks.proofs.Buffers.{inside}
 use Rattle.state.specs.State.{records_in}
 use Rattle.state.specs.Ready.{Ready}
@@ -85,12 +85,15 @@ pub called_few : (bytes t s rs : List ℕ) (f at : ℕ) (row : Kinded)
 unfolding pieces entries
 called_few bytes t s rs f at row = omega (arith, retval_few (records_in t exprs_slot f (read s rs)) (option_of (operand_at bytes row (2 + operand_at bytes row 1))))
 
-module _ {bytes t : List ℕ} {places : MarkPlaces} {s rs open_marks : List ℕ} {fr : Frame} {row : Kinded} {sum : ℕ} (q : CallBegins bytes t places s rs open_marks fr row sum) where
+module _ {bytes t starts s rs open_marks : List ℕ} {fr : Frame} {row : Kinded} {sum : ℕ} (q : CallBegins bytes t starts s rs open_marks fr row sum) where
   abbrev f : ℕ
   f = fr.function.0
 
   abbrev at : ℕ
   at = fr.at
+
+  abbrev places : MarkPlaces
+  places = places_of starts q.firsts
 
   abbrev records : Records
   records = records_in t exprs_slot f (read s rs)
@@ -153,7 +156,7 @@ module _ {bytes t : List ℕ} {places : MarkPlaces} {s rs open_marks : List ℕ}
       need-is = sym (got_part s _ found got) ∙ rw (field, count)
 
       module _ {g : ℕ} (callee : g ≡ operand_at bytes row 0) where
-        pub begin_enters : (at + 8 ≤ length rs) × Inside places g (length open_marks)
+        pub begin_enters : (at + 8 ≤ length rs) × Inside starts g (length open_marks)
         begin_enters = (
           omega (arith, high),
           inside bytes t places ready.was_read standing.placed g (length open_marks)
@@ -181,8 +184,8 @@ module _ {bytes t : List ℕ} {places : MarkPlaces} {s rs open_marks : List ℕ}
           )
 
           pub call_begun : {w own : ℕ} {v vs open_after : List ℕ} → own ≡ own_in t s rs f → w ≡ sum_from (read s rs) at 4
-              → open_after ≡ write_marks open_marks (start_in places g) (replicate (size_in places g) 0) → Tidied u us v vs
-              → CallBegan bytes t places s rs open_marks fr row (fr.held + w + own) own v vs open_after
+              → open_after ≡ write_marks open_marks (start_in starts g) (replicate (size_in starts g) 0) → Tidied u us v vs
+              → CallBegan bytes t starts s rs open_marks fr row (fr.held + w + own) own v vs open_after
           call_begun {w} {own} o c marks d = record {
             own_is = o ∙ own-pieces;
             held_is = rw (o, c, own-pieces, context_pieces (read s rs) at);

@@ -34,7 +34,7 @@ use Rattle.sound.proofs.Walks.{module_sound}
 use Rattle.memory.specs.Layout.{result, returned, exprs_slot}
 use Rattle.memory.specs.Memory.{read, context_at}
 use Rattle.marks.proofs.Buffers.{own_fits}
-use Rattle.marks.specs.declared.places.MarkPlaces.{MarkPlaces}
+use Rattle.marks.specs.Places.{places_of}
 use Rattle.marks.specs.declared.totals.MarkTotals.{MarkTotals}
 use Rattle.state.specs.State.{Rest, records_in, state_of, totals_sum}
 use Rattle.state.specs.Ready.{Ready}
@@ -106,7 +106,7 @@ held_found {rs = rs} (Some n) r h =
       requested_is = ap there (hold_part r q);
     }
 
-module _ {bytes t : List ℕ} {places : MarkPlaces} {s rs open_marks : List ℕ} {fr : Frame} {row : Kinded} {visits sum : ℕ} (q : Returns bytes t places s rs open_marks fr row visits sum) where
+module _ {bytes t firsts s rs open_marks : List ℕ} {fr : Frame} {row : Kinded} {visits sum : ℕ} (q : Returns bytes t firsts s rs open_marks fr row visits sum) where
   abbrev f : ℕ
   f = fr.function.0
 
@@ -144,24 +144,24 @@ module _ {bytes t : List ℕ} {places : MarkPlaces} {s rs open_marks : List ℕ}
   Whole r totals =
       end_call def (frame_of s rs fr) (arguments_of bytes row (operand_at bytes row 1)) (result_of bytes row) need args r (state_in bytes t s rs open_marks totals f fr.at visits)
 
-  module _ {k : ℕ} (place : k ≡ get_or places.firsts (statement_number t f fr.statement) 0) where
+  module _ {k : ℕ} (place : k ≡ get_or firsts (statement_number t f fr.statement) 0) where
     pub return_marks : k + 1 < length open_marks
     unfolding own_marks
     return_marks =
         omega (
           arith,
-          own_fits bytes t places ready.was_read q.standing.placed open_marks (own_marks (StatementReq.Call false false)) f fr.statement k ready.function
+          own_fits bytes t (places_of q.starts firsts) ready.was_read q.standing.placed open_marks (own_marks (StatementReq.Call false false)) f fr.statement k ready.function
               (in_function ready.was_read ready.function q.statement) place (marks_two false false),
           q.standing.open_long,
         )
 
     pub not-returned : {after : List ℕ} (req : Bool) → not req ≡ true → after ≡ write_marks open_marks k (mark false ∷ mark false ∷ [])
-        → Returned bytes t places s rs open_marks fr row req visits sum (Ok (record { tally = (record { visits = visits; sum = sum }); required = false })) s rs after
+        → Returned bytes t firsts s rs open_marks fr row req visits sum (Ok (record { tally = (record { visits = visits; sum = sum }); required = false })) s rs after
     unfolding end_call required own_marks
     not-returned req unneeded e =
         rw (not-true req unneeded, e)
         (record {
-          by = λ types totals S. record {
+          by = λ types starts totals S. record {
             by = record {
               is = ap (λ (st : State). went st false) (written_state S q.statement (StatementReq.Call false false) (marks_two false false) k place);
               standing = written_standing S q.statement (StatementReq.Call false false) (marks_two false false) k place;
@@ -174,12 +174,12 @@ module _ {bytes t : List ℕ} {places : MarkPlaces} {s rs open_marks : List ℕ}
       kept_apart : {u us : List ℕ} → Apart t f fr.at s vs u us → Apart t f fr.at s rs u us
       kept_apart a = record { long = a.long ∙ H.apart.long; same = λ j l e. a.same j l e ∙ H.apart.same j l e }
 
-      went_returned : {types : List ℕ} {totals : MarkTotals} (S : Standing bytes t types places s rs open_marks totals f fr.at fr.held sum visits) (tally : Tally) (b : Bool) {u us : List ℕ}
+      went_returned : {types starts : List ℕ} {totals : MarkTotals} (S : Standing bytes t types (places_of starts firsts) s rs open_marks totals f fr.at fr.held sum visits) (tally : Tally) (b : Bool) {u us : List ℕ}
           → ArmEnded bytes t s vs fr (rest_in def t f (read s rs) open_marks totals) (Whole true totals) (λ x. StatementReq.Call x (is_there need)) tally.visits tally.sum b u us
-          → StatementEnded bytes t types places s rs open_marks totals fr (marked def (frame_of s rs fr) (Whole true totals)) (λ x. x) tally.visits tally.sum b u us
+          → StatementEnded bytes t types (places_of starts firsts) s rs open_marks totals fr (marked def (frame_of s rs fr) (Whole true totals)) (λ x. x) tally.visits tally.sum b u us
           (write_marks open_marks k (mark b ∷ mark (is_there need) ∷ [])) totals
       unfolding required own_marks
-      went_returned {types} {totals} S tally b {u} {us} E =
+      went_returned {types} {starts} {totals} S tally b {u} {us} E =
           let a = kept_apart E.apart in
           let st : State = state_in bytes t u us open_marks totals f fr.at tally.visits in
           let is : went st (StatementReq.Call b (is_there need)) ≡ Whole true totals =
@@ -201,10 +201,10 @@ module _ {bytes t : List ℕ} {places : MarkPlaces} {s rs open_marks : List ℕ}
             beside = beside_then fr.at (beside_apart S a) (written_beside T q.statement (StatementReq.Call b (is_there need)) (marks_two b (is_there need)) k place) (omega arith);
           }
 
-      returned_by : {types : List ℕ} {totals : MarkTotals} (S : Standing bytes t types places s rs open_marks totals f fr.at fr.held sum visits) (r : Result Answer Halt) {u us after : List ℕ}
+      returned_by : {types starts : List ℕ} {totals : MarkTotals} (S : Standing bytes t types (places_of starts firsts) s rs open_marks totals f fr.at fr.held sum visits) (r : Result Answer Halt) {u us after : List ℕ}
           → after ≡ call_marks open_marks k (is_there need) r
           → ArmEnds bytes t s vs fr (rest_in def t f (read s rs) open_marks totals) (Whole true totals) (λ x. StatementReq.Call x (is_there need)) r u us
-          → StatementEnds bytes t types places s rs open_marks totals fr (marked def (frame_of s rs fr) (Whole true totals)) (λ x. x) r u us after totals
+          → StatementEnds bytes t types (places_of starts firsts) s rs open_marks totals fr (marked def (frame_of s rs fr) (Whole true totals)) (λ x. x) r u us after totals
       returned_by S (Ok a) e E = rw e (record { by = went_returned S a.tally a.required E.by })
       returned_by S (Err stop) e E = record {
         by = sym (then_halt (λ ended req. went (with_marks (write_marks ended.marks (marks_before (function_at def f).statements fr.statement) (own_marks req)) ended) (required req)) (sym E.by));
@@ -240,13 +240,13 @@ module _ {bytes t : List ℕ} {places : MarkPlaces} {s rs open_marks : List ℕ}
       }
 
       pub call_returned : {b : Bool} {a r : Result Answer Halt} {u us after : List ℕ} (req : Bool) → not req ≡ false → b ≡ was_found found → EndsCall bytes t s vs fr row b visits r u us
-          → (a ≡ r) × (after ≡ call_marks open_marks k b r) → Returned bytes t places s rs open_marks fr row req visits sum a u us after
+          → (a ≡ r) × (after ≡ call_marks open_marks k b r) → Returned bytes t firsts s rs open_marks fr row req visits sum a u us after
       call_returned {b} {a} {r} {u} {us} {after} req needed is E h =
           let there-need : b ≡ is_there need = is ∙ there_is s found ∙ ap is_there need-is in
           let asked : requested s vs b ≡ need = ap (requested s vs) is ∙ in_slot.requested_is ∙ need-is in
           rw (not-false req needed, h.0)
           (record {
-            by = λ types totals S.
+            by = λ types starts totals S.
                 let rest : Rest = rest_in def t f (read s rs) open_marks totals in
                 returned_by in_slot S r (rw there-need at h.1)
                 (rw (asked, in_slot.returned_same, in_slot.state_same rest visits) at

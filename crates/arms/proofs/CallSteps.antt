@@ -122,8 +122,8 @@ module _ {bytes t types : List ℕ} {places : MarkPlaces} {s rs open_marks : Lis
   pub call_high : at + 12 ≤ length rs
   call_high = omega (arith, high)
 
-  pub call_begins : CallBegins bytes t places s rs open_marks fr row sum
-  call_begins = record { types = types; totals = totals; block = b; visits = visits; arms = A; kind = kind }
+  pub call_begins : CallBegins bytes t places.starts s rs open_marks fr row sum
+  call_begins = record { types = types; firsts = places.firsts; totals = totals; block = b; visits = visits; arms = A; kind = kind }
 
   -- the measure: the function's number falls
   pub callee_below : o 0 < f
@@ -140,11 +140,11 @@ module _ {bytes t types : List ℕ} {places : MarkPlaces} {s rs open_marks : Lis
       context_fine m sound 0 g base
       (K.context_called f g (context_at (read s rs) at) need G.context (record_needs K f (records_in t exprs_slot f (read s rs)) (result_of bytes row) G.exprs))
 
-  module _ {g : ℕ} (callee : g ≡ o 0) {held own : ℕ} {u us open-1 : List ℕ} (C : CallBegan bytes t places s rs open_marks fr row held own u us open-1) where
+  module _ {g : ℕ} (callee : g ≡ o 0) {held own : ℕ} {u us open-1 : List ℕ} (C : CallBegan bytes t places.starts s rs open_marks fr row held own u us open-1) where
     lower : g < f
     lower = rw callee callee_below
 
-    cleared : open-1 ≡ write_marks open_marks (start_in places g) (replicate (size_in places g) 0)
+    cleared : open-1 ≡ write_marks open_marks (start_in places.starts g) (replicate (size_in places.starts g) 0)
     cleared = rw callee C.marks
 
     new_context : context_at (read u us) (at + 4) ≡ base
@@ -275,9 +275,10 @@ module _ {bytes t types : List ℕ} {places : MarkPlaces} {s rs open_marks : Lis
           records_back : records_in t exprs_slot f (read v ws) ≡ records_in t exprs_slot f (read s rs)
           records_back = ap (λ (x : State). x.exprs) back-state
 
-          pub call_returns : Returns bytes t places v ws open-2 fr row tally.visits n
+          pub call_returns : Returns bytes t places.firsts v ws open-2 fr row tally.visits n
           call_returns = record {
             types = types;
+            starts = places.starts;
             totals = totals-2;
             standing = back_standing;
             statement = A.begins.begun.statement;
@@ -298,7 +299,7 @@ module _ {bytes t types : List ℕ} {places : MarkPlaces} {s rs open_marks : Lis
               ∙ end_same m (arguments_of bytes row (o 1)) (result_of bytes row) req frame_back (ap (λ (es : Records). record_of es (result_of bytes row)) (sym records_back))
               (ap (λ (k : ℕ). get_or (read v vs) (k + 2) none) eight ∙ sym args_back) (sym back-state)
 
-          pub call_ended : {a : Result Answer Halt} {x xs open-3 : List ℕ} → Returned bytes t places v ws open-2 fr row req tally.visits n a x xs open-3
+          pub call_ended : {a : Result Answer Halt} {x xs open-3 : List ℕ} → Returned bytes t places.firsts v ws open-2 fr row req tally.visits n a x xs open-3
               → StatementEnds bytes t types places s rs open_marks totals fr (marked m (frame_of s rs fr) Whole) (λ x. x) a x xs open-3 totals-2
           call_ended {a} R =
-              ends_from a back_beside (sym (ap (λ (y : Out StatementReq). marked m (frame_of s rs fr) y) whole_ends)) (R.by types totals-2 back_standing)
+              ends_from a back_beside (sym (ap (λ (y : Out StatementReq). marked m (frame_of s rs fr) y) whole_ends)) (R.by types places.starts totals-2 back_standing)

@@ -18,9 +18,8 @@ use Rattle.walk.specs.StatementReq.{StatementReq, any, marks_of, own_marks, requ
 use Rattle.walk.specs.Statement.{BlockWalk, FunctionWalk, add_statement, are_recorded}
 use Rattle.memory.specs.Layout.{exprs_slot, totals_slot}
 use Rattle.memory.specs.Memory.{read}
-use Rattle.marks.specs.declared.places.MarkPlaces.{MarkPlaces}
 use Rattle.marks.specs.declared.totals.MarkTotals.{MarkTotals}
-use Rattle.marks.specs.Places.{recorded_in}
+use Rattle.marks.specs.Places.{places_of, recorded_in}
 use Rattle.marks.proofs.Placed.{at_function}
 use Rattle.marks.proofs.Turns.{emit_long}
 use Rattle.marks.proofs.Buffers.{own_fits, emit_recorded}
@@ -34,7 +33,7 @@ use Rattle.block.proofs.Steps.{beside_same, items_within}
 use Rattle.arms.specs.Emit.{EmitAsked, EmitEnds}
 use Rattle.arms.proofs.Marking.{marked_ended}
 
-module _ {bytes t : List ℕ} {places : MarkPlaces} {s rs open_marks : List ℕ} {fr : Frame} {row : Kinded} {sum : ℕ} (A : EmitAsked bytes t places s rs open_marks fr row sum) where
+module _ {bytes t firsts s rs open_marks : List ℕ} {fr : Frame} {row : Kinded} {sum : ℕ} (A : EmitAsked bytes t firsts s rs open_marks fr row sum) where
   abbrev f : ℕ
   f = fr.function.0
 
@@ -67,7 +66,7 @@ module _ {bytes t : List ℕ} {places : MarkPlaces} {s rs open_marks : List ℕ}
     pub emit_small : {from : ℕ} → from ≡ expression_number t f first → exprs_slot + from ≤ totals_slot
     emit_small number = omega (arith, emit_uses.0, emit_uses.1, items_within f A.arm.begun.ready.was_read A.arm.begun.ready.function)
 
-    module _ {from place : ℕ} (number : from ≡ expression_number t f first) (at : place ≡ get_or places.firsts (statement_number t f fr.statement) 0) where
+    module _ {from place : ℕ} (number : from ≡ expression_number t f first) (at : place ≡ get_or firsts (statement_number t f fr.statement) 0) where
       abbrev n : ℕ
       n = last + 1 - first
 
@@ -83,7 +82,7 @@ module _ {bytes t : List ℕ} {places : MarkPlaces} {s rs open_marks : List ℕ}
           arith,
           A.long,
           emit_long rs (exprs_slot + from) n,
-          own_fits bytes t places A.arm.begun.ready.was_read A.placed open_marks marks f fr.statement place A.arm.begun.ready.function
+          own_fits bytes t (places_of A.starts firsts) A.arm.begun.ready.was_read A.placed open_marks marks f fr.statement place A.arm.begun.ready.function
               (omega (arith, A.arm.begun.statement, statements-are t f (row_at t f) refl bytes)) at own,
         ),
         omega (arith, emit_uses.0, emit_uses.1, items_within f A.arm.begun.ready.was_read A.arm.begun.ready.function, A.arm.begun.ready.memory.slots),
@@ -96,13 +95,13 @@ module _ {bytes t : List ℕ} {places : MarkPlaces} {s rs open_marks : List ℕ}
           (emit_recorded bytes t s rs f (o 0) (suc (o 1) - o 0) A.arm.begun.ready.was_read A.arm.begun.ready.function A.arm.begun.ready.memory (omega (arith, emit_uses.0, emit_uses.1)))
 
       pub emit_ends : {open_after : List ℕ} {r : Bool} (visits : ℕ) → (open_after ≡ write_marks open_marks place marks) × (r ≡ any (recorded_in rs (exprs_slot + from) n))
-          → EmitEnds bytes t places s rs open_marks fr row sum visits (Ok (record { tally = (record { visits = visits; sum = sum }); required = r })) open_after
+          → EmitEnds bytes t firsts s rs open_marks fr row sum visits (Ok (record { tally = (record { visits = visits; sum = sum }); required = r })) open_after
       unfolding own_marks required add_statement
       emit_ends {open_after} {r} visits w = record {
-        by = λ types totals call block S.
+        by = λ types starts totals call block S.
             record {
               by =
-                  marked_ended (ended types totals call block S) A.arm.begun.statement
+                  marked_ended (ended types starts totals call block S) A.arm.begun.statement
                   own_is at (w.0 ∙ ap (write_marks open_marks place) marks-are) (w.1 ∙ answer_is);
             };
       }
@@ -116,8 +115,8 @@ module _ {bytes t : List ℕ} {places : MarkPlaces} {s rs open_marks : List ℕ}
           answer_is : any (recorded_in rs (exprs_slot + from) n) ≡ required req
           answer_is = ap any recorded
 
-          ended : (types : List ℕ) (totals : MarkTotals) (call : FunctionWalk) (block : BlockWalk) → Standing bytes t types places s rs open_marks totals f fr.at fr.held sum visits
-              → StatementEnded bytes t types places s rs open_marks totals fr
+          ended : (types starts : List ℕ) (totals : MarkTotals) (call : FunctionWalk) (block : BlockWalk) → Standing bytes t types (places_of starts firsts) s rs open_marks totals f fr.at fr.held sum visits
+              → StatementEnded bytes t types (places_of starts firsts) s rs open_marks totals fr
               (add_statement (module_of bytes t) call block (frame_of s rs fr) (statement_of row.kind o) (state_in bytes t s rs open_marks totals f fr.at visits))
               (λ c. req) visits sum r s rs open_marks totals
-          ended types totals call block S = record { is = rw emit_is; standing = S; beside = beside_same refl refl }
+          ended types starts totals call block S = record { is = rw emit_is; standing = S; beside = beside_same refl refl }

@@ -22,7 +22,7 @@ use Rattle.walk.proofs.Statements.{good_marked}
 use Rattle.sound.proofs.Walks.{module_sound}
 use Rattle.marks.specs.declared.places.MarkPlaces.{MarkPlaces}
 use Rattle.marks.specs.declared.totals.MarkTotals.{MarkTotals}
-use Rattle.marks.specs.Places.{start_of}
+use Rattle.marks.specs.Places.{places_of, start_of}
 use Rattle.marks.proofs.Write.{write_long, write_none, write_after}
 use Rattle.marks.proofs.Fit.{start_suc}
 use Rattle.marks.proofs.Placed.{at_function}
@@ -160,32 +160,32 @@ module _ (kind : ℕ) (b : Bool) {has : Bool} (own : (b : Bool) (o : ℕ → ℕ
   counts_one = long_one ∙ sym (own_counts (statement_of kind o) b long_one)
 
 -- `mark_statement`: what it answers
-module _ {t : List ℕ} {places : MarkPlaces} {open_marks : List ℕ} {fr : Frame} {row : Kinded} (r : Result Answer Halt) where
-  pub mark_halts : {stop : Halt} → r ≡ Err stop → MarkEnds t places open_marks fr row r (Err stop) open_marks
+module _ {t firsts open_marks : List ℕ} {fr : Frame} {row : Kinded} (r : Result Answer Halt) where
+  pub mark_halts : {stop : Halt} → r ≡ Err stop → MarkEnds t firsts open_marks fr row r (Err stop) open_marks
   mark_halts e = record {
-    by = λ bytes types s rs before totals u us totals-after total there is E.
+    by = λ bytes types starts s rs before totals u us totals-after total there is E.
         record {
           by =
               ap (marked (module_of bytes t) (frame_of s rs fr))
-              (subst (λ (x : Result Answer Halt). StatementEnding bytes t types places s rs before totals fr total (leaf_req (statement_of row.kind (operand_at bytes row))) x u us open_marks totals-after) e E.by);
+              (subst (λ (x : Result Answer Halt). StatementEnding bytes t types (places_of starts firsts) s rs before totals fr total (leaf_req (statement_of row.kind (operand_at bytes row))) x u us open_marks totals-after) e E.by);
         };
   }
 
   module _ {tally : Tally} {b : Bool} (e : r ≡ Ok (record { tally = tally; required = b })) {has : Bool} (own : (b : Bool) (o : ℕ → ℕ) → own_marks (leaf_req (statement_of row.kind o) b) ≡ mark_when has b) where
     module _ (h : has ≡ true) where
-      pub mark_fits : {place : ℕ} → MarkAsked t places open_marks fr row r → place ≡ get_or places.firsts (statement_number t fr.function.0 fr.statement) 0 → place < length open_marks
+      pub mark_fits : {place : ℕ} → MarkAsked t firsts open_marks fr row r → place ≡ get_or firsts (statement_number t fr.function.0 fr.statement) 0 → place < length open_marks
       mark_fits {place} A is =
-          let M = subst (MarkingWhen t places open_marks fr row) e A.by in
+          let M = subst (MarkingWhen t firsts open_marks fr row) e A.by in
           let fits =
-          own_fits M.bytes t places M.was_read M.placed open_marks (own_marks (leaf_req (statement_of row.kind (operand_at M.bytes row)) b)) fr.function.0 fr.statement place M.function
+          own_fits M.bytes t (places_of M.starts firsts) M.was_read M.placed open_marks (own_marks (leaf_req (statement_of row.kind (operand_at M.bytes row)) b)) fr.function.0 fr.statement place M.function
           (in_function M.was_read M.function M.statement) is (counts_one row.kind b own h (operand_at M.bytes row) ∙ ap mark_count (sym (row-statement M.was_read M.function M.statement row M.is))) in
           omega (arith, fits, long_one row.kind b own h (operand_at M.bytes row), M.long)
 
-      pub mark_one : {place : ℕ} {open_after : List ℕ} {q : Bool} → place ≡ get_or places.firsts (statement_number t fr.function.0 fr.statement) 0 → open_after ≡ write_marks open_marks place (mark b ∷ [])
-          → ((o : ℕ → ℕ) → q ≡ required (leaf_req (statement_of row.kind o) b)) → MarkEnds t places open_marks fr row r (Ok (record { tally = tally; required = q })) open_after
+      pub mark_one : {place : ℕ} {open_after : List ℕ} {q : Bool} → place ≡ get_or firsts (statement_number t fr.function.0 fr.statement) 0 → open_after ≡ write_marks open_marks place (mark b ∷ [])
+          → ((o : ℕ → ℕ) → q ≡ required (leaf_req (statement_of row.kind o) b)) → MarkEnds t firsts open_marks fr row r (Ok (record { tally = tally; required = q })) open_after
       mark_one {place} {open_after} {q} at w answer = record {
-        by = λ bytes types s rs before totals u us totals-after total there is E.
-            let W = subst (λ (x : Result Answer Halt). StatementEnding bytes t types places s rs before totals fr total (leaf_req (statement_of row.kind (operand_at bytes row))) x u us open_marks totals-after) e E.by in
+        by = λ bytes types starts s rs before totals u us totals-after total there is E.
+            let W = subst (λ (x : Result Answer Halt). StatementEnding bytes t types (places_of starts firsts) s rs before totals fr total (leaf_req (statement_of row.kind (operand_at bytes row))) x u us open_marks totals-after) e E.by in
             record {
               by =
                   marked_ended W there (counts_one row.kind b own h (operand_at bytes row) ∙ ap mark_count (sym (row-statement W.standing.ready.was_read W.standing.ready.function there row is))) at
@@ -193,9 +193,9 @@ module _ {t : List ℕ} {places : MarkPlaces} {open_marks : List ℕ} {fr : Fram
             };
       }
 
-    pub mark_none : {q : Bool} → has ≡ false → ((o : ℕ → ℕ) → q ≡ required (leaf_req (statement_of row.kind o) b)) → MarkEnds t places open_marks fr row r (Ok (record { tally = tally; required = q })) open_marks
+    pub mark_none : {q : Bool} → has ≡ false → ((o : ℕ → ℕ) → q ≡ required (leaf_req (statement_of row.kind o) b)) → MarkEnds t firsts open_marks fr row r (Ok (record { tally = tally; required = q })) open_marks
     mark_none h answer = record {
-      by = λ bytes types s rs before totals u us totals-after total there is E.
-          let W = subst (λ (x : Result Answer Halt). StatementEnding bytes t types places s rs before totals fr total (leaf_req (statement_of row.kind (operand_at bytes row))) x u us open_marks totals-after) e E.by in
+      by = λ bytes types starts s rs before totals u us totals-after total there is E.
+          let W = subst (λ (x : Result Answer Halt). StatementEnding bytes t types (places_of starts firsts) s rs before totals fr total (leaf_req (statement_of row.kind (operand_at bytes row))) x u us open_marks totals-after) e E.by in
           record { by = unmarked_ended W (rw h at (own b (operand_at bytes row))) (answer (operand_at bytes row)) };
     }

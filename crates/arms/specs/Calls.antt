@@ -19,9 +19,8 @@ use Rattle.walk.specs.Statement.{record_of, retval_of, end_call}
 use Rattle.walk.specs.Proper.{Variables}
 use Rattle.memory.specs.Layout.{exprs_slot, returned, room}
 use Rattle.memory.specs.Memory.{read, context_at, Memory}
-use Rattle.marks.specs.declared.places.MarkPlaces.{MarkPlaces}
 use Rattle.marks.specs.declared.totals.MarkTotals.{MarkTotals}
-use Rattle.marks.specs.Places.{start_in, size_in}
+use Rattle.marks.specs.Places.{places_of, start_in, size_in}
 use Rattle.state.specs.State.{records_in}
 use Rattle.state.specs.Frame.{frame_of}
 use Rattle.state.specs.declared.frame.Frame.{Frame}
@@ -58,20 +57,21 @@ called_context bytes t s rs f at row =
     record { globals = (context_at (read s rs) at).globals; locals = none; args = none; retval = retval_of (result_need bytes t s rs f row) }
 
 -- what a call asks as it begins
-pub record CallBegins (bytes t : List ℕ) (places : MarkPlaces) (s rs open_marks : List ℕ) (fr : Frame) (row : Kinded) (sum : ℕ) : Type 0 where
+pub record CallBegins (bytes t starts s rs open_marks : List ℕ) (fr : Frame) (row : Kinded) (sum : ℕ) : Type 0 where
   pub types : List ℕ
+  pub firsts : List ℕ
   pub totals : MarkTotals
   pub block : ℕ
   pub visits : ℕ
-  pub arms : Arms bytes t types places s rs open_marks totals fr block row sum visits
+  pub arms : Arms bytes t types (places_of starts firsts) s rs open_marks totals fr block row sum visits
   pub kind : row.kind ≡ 14
 
 -- The context of the called function stands above the caller's, and no mark of that function is set. `own` is what the caller's records count for; they are held, with its context.
-pub record CallBegan (bytes t : List ℕ) (places : MarkPlaces) (s rs open_marks : List ℕ) (fr : Frame) (row : Kinded) (held own : ℕ) (u us open_after : List ℕ) : Type 0 where
+pub record CallBegan (bytes t starts s rs open_marks : List ℕ) (fr : Frame) (row : Kinded) (held own : ℕ) (u us open_after : List ℕ) : Type 0 where
   pub own_is : own ≡ record_pieces (records_in t exprs_slot fr.function.0 (read s rs))
   pub held_is : held ≡ held_by t s rs fr.function.0 fr.at fr.held
   pub saved : Saved s rs (fr.at + 4) (called_context bytes t s rs fr.function.0 fr.at row) u us
-  pub marks : open_after ≡ write_marks open_marks (start_in places (operand_at bytes row 0)) (replicate (size_in places (operand_at bytes row 0)) 0)
+  pub marks : open_after ≡ write_marks open_marks (start_in starts (operand_at bytes row 0)) (replicate (size_in starts (operand_at bytes row 0)) 0)
   pub roomy : Room u room
 
 -- What the end of the called function g asks, whose base stands above the caller's context at `at`, and its own above that. `sum` has the records of g.
@@ -88,10 +88,11 @@ pub record LeftCall (t s rs : List ℕ) (g : FunctionHandle) (at sum m : ℕ) (u
   pub sums : m + own_in t s rs g ≡ sum
 
 -- What a call asks as it ends: the slot RETURNED has what the called function needs of its arguments.
-pub record Returns (bytes t : List ℕ) (places : MarkPlaces) (s rs open_marks : List ℕ) (fr : Frame) (row : Kinded) (visits sum : ℕ) : Type 0 where
+pub record Returns (bytes t firsts s rs open_marks : List ℕ) (fr : Frame) (row : Kinded) (visits sum : ℕ) : Type 0 where
   pub types : List ℕ
+  pub starts : List ℕ
   pub totals : MarkTotals
-  pub standing : Standing bytes t types places s rs open_marks totals fr.function.0 fr.at fr.held sum visits
+  pub standing : Standing bytes t types (places_of starts firsts) s rs open_marks totals fr.function.0 fr.at fr.held sum visits
   pub statement : fr.statement < (row_at t fr.function.0).statements
   pub is : row ≡ statement_row bytes t fr.function.0 fr.statement
   pub kind : row.kind ≡ 14
@@ -100,9 +101,9 @@ pub record Returns (bytes t : List ℕ) (places : MarkPlaces) (s rs open_marks :
   pub few : record_pieces (records_in t exprs_slot fr.function.0 (read s rs)) ≤ max_pieces
 
 -- the call has ended as the definition says, and its marks are written
-pub record Returned (bytes t : List ℕ) (places : MarkPlaces) (s rs open_marks : List ℕ) (fr : Frame) (row : Kinded) (required : Bool) (visits sum : ℕ) (r : Result Answer Halt) (u us open_after : List ℕ) : Type 0 where
-  pub by : (types : List ℕ) (totals : MarkTotals) → Standing bytes t types places s rs open_marks totals fr.function.0 fr.at fr.held sum visits
-      → StatementEnds bytes t types places s rs open_marks totals fr
+pub record Returned (bytes t firsts s rs open_marks : List ℕ) (fr : Frame) (row : Kinded) (required : Bool) (visits sum : ℕ) (r : Result Answer Halt) (u us open_after : List ℕ) : Type 0 where
+  pub by : (types starts : List ℕ) (totals : MarkTotals) → Standing bytes t types (places_of starts firsts) s rs open_marks totals fr.function.0 fr.at fr.held sum visits
+      → StatementEnds bytes t types (places_of starts firsts) s rs open_marks totals fr
       (marked (module_of bytes t) (frame_of s rs fr)
       (end_call (module_of bytes t) (frame_of s rs fr) (arguments_of bytes row (operand_at bytes row 1)) (result_of bytes row) (result_need bytes t s rs fr.function.0 row)
       (part s (get_or rs returned 0)) required (state_in bytes t s rs open_marks totals fr.function.0 fr.at visits)))

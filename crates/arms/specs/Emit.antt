@@ -6,9 +6,8 @@ use Rattle.module.specs.Tables.{module_of}
 use Rattle.access.specs.Access.{operand_at}
 use Rattle.access.specs.declared.kinded.Kinded.{Kinded}
 use Rattle.walk.specs.Statement.{BlockWalk, FunctionWalk, add_statement}
-use Rattle.marks.specs.declared.places.MarkPlaces.{MarkPlaces}
 use Rattle.marks.specs.declared.totals.MarkTotals.{MarkTotals}
-use Rattle.marks.specs.Places.{Places}
+use Rattle.marks.specs.Places.{places_of, Places}
 use Rattle.state.specs.Frame.{frame_of}
 use Rattle.state.specs.declared.frame.Frame.{Frame}
 use Rattle.state.specs.declared.answer.Halt.{Halt}
@@ -18,15 +17,16 @@ use Rattle.block.specs.Standing.{state_in, Standing}
 use Rattle.block.specs.Blocks.{StatementEnds}
 use Rattle.block.specs.Visiting.{marked}
 
-pub record EmitAsked (bytes t : List ℕ) (places : MarkPlaces) (s rs open_marks : List ℕ) (fr : Frame) (row : Kinded) (sum : ℕ) : Type 0 where
+pub record EmitAsked (bytes t firsts s rs open_marks : List ℕ) (fr : Frame) (row : Kinded) (sum : ℕ) : Type 0 where
   pub arm : Arm bytes t s rs fr row sum
   pub kind : row.kind ≡ 0
-  pub placed : Places bytes t places
+  pub starts : List ℕ
+  pub placed : Places bytes t (places_of starts firsts)
   pub long : min_report ≤ length open_marks
 
-pub record EmitEnds (bytes t : List ℕ) (places : MarkPlaces) (s rs open_marks : List ℕ) (fr : Frame) (row : Kinded) (sum visits : ℕ) (r : Result Answer Halt) (open_after : List ℕ) : Type 0 where
-  pub by : (types : List ℕ) (totals : MarkTotals) (call : FunctionWalk) (block : BlockWalk) → Standing bytes t types places s rs open_marks totals fr.function.0 fr.at fr.held sum visits
-      → StatementEnds bytes t types places s rs open_marks totals fr
+pub record EmitEnds (bytes t firsts s rs open_marks : List ℕ) (fr : Frame) (row : Kinded) (sum visits : ℕ) (r : Result Answer Halt) (open_after : List ℕ) : Type 0 where
+  pub by : (types starts : List ℕ) (totals : MarkTotals) (call : FunctionWalk) (block : BlockWalk) → Standing bytes t types (places_of starts firsts) s rs open_marks totals fr.function.0 fr.at fr.held sum visits
+      → StatementEnds bytes t types (places_of starts firsts) s rs open_marks totals fr
       (marked (module_of bytes t) (frame_of s rs fr)
       (add_statement (module_of bytes t) call block (frame_of s rs fr) (statement_of row.kind (operand_at bytes row)) (state_in bytes t s rs open_marks totals fr.function.0 fr.at visits)))
       (λ b. b) r s rs open_after totals

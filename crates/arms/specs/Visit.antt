@@ -9,7 +9,7 @@ use Rattle.walk.specs.State.{Out, went, at_statement, counted, ◌>>=◌, ◌>>�
 use Rattle.walk.specs.StatementReq.{StatementReq, mark}
 use Rattle.marks.specs.declared.places.MarkPlaces.{MarkPlaces}
 use Rattle.marks.specs.declared.totals.MarkTotals.{MarkTotals}
-use Rattle.marks.specs.Places.{Places}
+use Rattle.marks.specs.Places.{places_of, Places}
 use Rattle.access.specs.Laid.{WasRead}
 use Rattle.state.specs.Frame.{frame_of}
 use Rattle.state.specs.declared.frame.Frame.{Frame}
@@ -26,28 +26,29 @@ mark_when true b = mark b ∷ []
 mark_when false b = []
 
 -- the row is the statement's, and its marks have room in the buffer
-pub record Marking (t : List ℕ) (places : MarkPlaces) (open_marks : List ℕ) (fr : Frame) (row : Kinded) : Type 0 where
+pub record Marking (t firsts open_marks : List ℕ) (fr : Frame) (row : Kinded) : Type 0 where
   pub bytes : List ℕ
+  pub starts : List ℕ
   pub was_read : WasRead bytes t
-  pub placed : Places bytes t places
+  pub placed : Places bytes t (places_of starts firsts)
   pub function : fr.function.0 < length (module_of bytes t).functions
   pub statement : fr.statement < (row_at t fr.function.0).statements
   pub is : row ≡ statement_row bytes t fr.function.0 fr.statement
   pub long : min_report ≤ length open_marks
 
-abbrev pub MarkingWhen : (t : List ℕ) (places : MarkPlaces) (open_marks : List ℕ) → Frame → Kinded → Result Answer Halt → Type 0
-MarkingWhen t places open_marks fr row (Ok a) = Marking t places open_marks fr row
-MarkingWhen t places open_marks fr row (Err h) = Unit {0}
+abbrev pub MarkingWhen : (t firsts open_marks : List ℕ) → Frame → Kinded → Result Answer Halt → Type 0
+MarkingWhen t firsts open_marks fr row (Ok a) = Marking t firsts open_marks fr row
+MarkingWhen t firsts open_marks fr row (Err h) = Unit {0}
 
-pub record MarkAsked (t : List ℕ) (places : MarkPlaces) (open_marks : List ℕ) (fr : Frame) (row : Kinded) (r : Result Answer Halt) : Type 0 where
-  pub by : MarkingWhen t places open_marks fr row r
+pub record MarkAsked (t firsts open_marks : List ℕ) (fr : Frame) (row : Kinded) (r : Result Answer Halt) : Type 0 where
+  pub by : MarkingWhen t firsts open_marks fr row r
 
 -- an arm that answered r, with its marks, answers q
-pub record MarkEnds (t : List ℕ) (places : MarkPlaces) (open_marks : List ℕ) (fr : Frame) (row : Kinded) (r q : Result Answer Halt) (open_after : List ℕ) : Type 0 where
-  pub by : (bytes types s rs before : List ℕ) (totals : MarkTotals) (u us : List ℕ) (totals-after : MarkTotals) (total : Out StatementReq) → fr.statement < (row_at t fr.function.0).statements
+pub record MarkEnds (t firsts open_marks : List ℕ) (fr : Frame) (row : Kinded) (r q : Result Answer Halt) (open_after : List ℕ) : Type 0 where
+  pub by : (bytes types starts s rs before : List ℕ) (totals : MarkTotals) (u us : List ℕ) (totals-after : MarkTotals) (total : Out StatementReq) → fr.statement < (row_at t fr.function.0).statements
       → row ≡ statement_row bytes t fr.function.0 fr.statement
-      → StatementEnds bytes t types places s rs before totals fr total (leaf_req (statement_of row.kind (operand_at bytes row))) r u us open_marks totals-after
-      → StatementEnds bytes t types places s rs before totals fr (marked (module_of bytes t) (frame_of s rs fr) total) (λ b. b) q u us open_after totals-after
+      → StatementEnds bytes t types (places_of starts firsts) s rs before totals fr total (leaf_req (statement_of row.kind (operand_at bytes row))) r u us open_marks totals-after
+      → StatementEnds bytes t types (places_of starts firsts) s rs before totals fr (marked (module_of bytes t) (frame_of s rs fr) total) (λ b. b) q u us open_after totals-after
 
 -- 16 can be asked
 abbrev pub CountingWhen : (s rs : List ℕ) → Frame → Result Answer Halt → Type 0

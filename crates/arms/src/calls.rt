@@ -9,11 +9,10 @@ use access::kinded::Kinded;
 use block::call::enter;
 use call::ends::end_call;
 use leave::leave::{leave, own_pieces};
-use marks::places::MarkPlaces;
+use marks::places::place;
 use marks::set::set_call;
 use memory::layout::RESULT;
 use memory::memory::{tidy, weigh};
-use memory::parts::Parts;
 use module::handles::FunctionHandle;
 use request::lists::returned;
 use state::answer::{Answer, Answered, Tally};
@@ -28,41 +27,48 @@ pub struct Begun {
 }
 
 // The called function's base is put above the current context.
-// Stays: file and places, since a `World` would ask for rows of the types too, which neither a call's beginning nor its end looks at.
+// Stays: file and starts, since a `World` would ask for rows of the types too, which neither a call's beginning nor its end looks at.
 pub fn begin_call(
     file: &File,
-    places: &MarkPlaces,
-    parts: &mut Parts,
+    starts: &[u32],
+    cells: &mut [u32],
+    slots: &mut [u32],
     open: &mut [u8],
     fr: Frame,
     row: Kinded,
     sum: usize,
 ) -> Begun
-    requires { CallBegins file.now.bytes file.now.t places.now parts.old.cells parts.old.slots «open».old fr row sum }
-    ensures { CallBegan file.now.bytes file.now.t places.now parts.old.cells parts.old.slots «open».old fr row result.held result.own parts.new.cells parts.new.slots «open».new }
+    requires { CallBegins file.now.bytes file.now.t starts.now cells.old slots.old «open».old fr row sum }
+    ensures { CallBegan file.now.bytes file.now.t starts.now cells.old slots.old «open».old fr row result.held result.own cells.new slots.new «open».new }
 {
     let f = fr.function;
     let at = fr.at;
     let g = file.function_operand(row, 0);
     let n = file.operand(row, 1);
     let result = file.optional_expression(row, 2 + n);
-    let own = own_pieces(file, parts, f);
-    let held = fr.held + weigh(parts, at, 4) + own;
-    let found = record_of(file, parts, fr, result);
-    let retval = returned(&mut parts.cells, found);
-    enter(&mut parts.slots, open, places, g, at, retval);
-    tidy(parts);
+    let own = own_pieces(file, cells, slots, f);
+    let held = fr.held + weigh(cells, slots, at, 4) + own;
+    let found = record_of(file, cells, slots, fr, result);
+    let retval = returned(cells, found);
+    enter(slots, open, starts, g, at, retval);
+    tidy(cells, slots);
     Begun { held, own }
 }
 
 // The called function g ends. Gives what records and totals count for without its records.
-pub fn leave_call(file: &File, parts: &mut Parts, g: FunctionHandle, at: usize, sum: usize) -> usize
-    requires { LeavesCall file.now.t parts.old.cells parts.old.slots g.0 at sum }
-    ensures cells_same { parts.new.cells ≡ parts.old.cells }
-    ensures left { LeftCall file.now.t parts.old.cells parts.old.slots g.0 at sum result parts.new.slots }
+pub fn leave_call(
+    file: &File,
+    cells: &[u32],
+    slots: &mut [u32],
+    g: FunctionHandle,
+    at: usize,
+    sum: usize,
+) -> usize
+    requires { LeavesCall file.now.t cells.now slots.old g.0 at sum }
+    ensures { LeftCall file.now.t cells.now slots.old g.0 at sum result slots.new }
 {
-    let less = own_pieces(file, parts, g);
-    leave(file, &mut parts.slots, g, at + 4, at + 8);
+    let less = own_pieces(file, cells, slots, g);
+    leave(file, slots, g, at + 4, at + 8);
     sum - less
 }
 
@@ -93,18 +99,19 @@ fn mark_call(open: &mut [u8], at: usize, res: bool, r: Answered) -> Answered
 // The call ends, once its function was walked: whether that is required.
 pub fn return_call(
     file: &File,
-    places: &MarkPlaces,
-    parts: &mut Parts,
+    firsts: &[u32],
+    cells: &mut [u32],
+    slots: &mut [u32],
     open: &mut [u8],
     fr: Frame,
     row: Kinded,
     required: bool,
     tally: Tally,
 ) -> Answered
-    requires { Returns file.now.bytes file.now.t places.now parts.old.cells parts.old.slots «open».old fr row tally.visits tally.sum }
-    ensures { Returned file.now.bytes file.now.t places.now parts.old.cells parts.old.slots «open».old fr row required tally.visits tally.sum result parts.new.cells parts.new.slots «open».new }
+    requires { Returns file.now.bytes file.now.t firsts.now cells.old slots.old «open».old fr row tally.visits tally.sum }
+    ensures { Returned file.now.bytes file.now.t firsts.now cells.old slots.old «open».old fr row required tally.visits tally.sum result cells.new slots.new «open».new }
 {
-    let at = places.place(file, fr.function, fr.statement);
+    let at = place(file, firsts, fr.function, fr.statement);
     if !required {
         set_call(open, at, false, false);
         return Ok(Answer {
@@ -114,8 +121,8 @@ pub fn return_call(
     }
     let n = file.operand(row, 1);
     let result = file.optional_expression(row, 2 + n);
-    let found = record_of(file, parts, fr, result);
-    let there = hold_result(&mut parts.slots, found);
-    let r = end_call(file, parts, fr, row, there, tally);
+    let found = record_of(file, cells, slots, fr, result);
+    let there = hold_result(slots, found);
+    let r = end_call(file, cells, slots, fr, row, there, tally);
     mark_call(open, at, there, r)
 }

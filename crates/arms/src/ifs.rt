@@ -10,7 +10,6 @@ use expression::add::add_expression;
 use expression::visit::Visit;
 use field::refusal::Refusal;
 use memory::layout::ALL;
-use memory::parts::Parts;
 use memory::want::want_of;
 use module::handles::ExpressionHandle;
 use state::answer::{Answer, Answered, Tally};
@@ -20,25 +19,26 @@ use statement::ask::answer;
 // Where either block is required, their contexts are joined in the place of the current one, and the condition is asked; else they are forgotten.
 pub fn end_if(
     file: &File,
-    parts: &mut Parts,
+    cells: &mut [u32],
+    slots: &mut [u32],
     fr: Frame,
     condition: ExpressionHandle,
     required: bool,
     tally: Tally,
 ) -> Answered
-    requires if_asked { IfAsked file.now.bytes file.now.t parts.old.cells parts.old.slots fr tally.sum tally.visits }
+    requires if_asked { IfAsked file.now.bytes file.now.t cells.old slots.old fr tally.sum tally.visits }
     requires condition_in_bounds { condition.0 < length (function_at (module_of file.now.bytes file.now.t) fr.function.0).expressions }
-    ensures { IfEnds file.now.bytes file.now.t parts.old.cells parts.old.slots fr condition.0 required tally.sum tally.visits result parts.new.cells parts.new.slots }
+    ensures { IfEnds file.now.bytes file.now.t cells.old slots.old fr condition.0 required tally.sum tally.visits result cells.new slots.new }
 {
     let at = fr.at;
     if !required {
-        drop_both(&mut parts.slots, at);
+        drop_both(slots, at);
         return Ok(Answer {
             tally,
             required: false,
         });
     }
-    join_up(parts, at).ok_or(fr.halt(Refusal::PartLimit))?;
+    join_up(cells, slots, at).ok_or(fr.halt(Refusal::PartLimit))?;
     let v = Visit {
         function: fr.function,
         expression: condition,
@@ -46,6 +46,6 @@ pub fn end_if(
         held: fr.held,
     };
     let w = want_of(ALL);
-    let r = add_expression(file, parts, &v, w, tally);
+    let r = add_expression(file, cells, slots, &v, w, tally);
     answer(r, true)
 }

@@ -9,7 +9,6 @@ use expression::visit::Visit;
 use field::refusal::Refusal;
 use memory::layout::ALL;
 use memory::memory::{tidy, weigh};
-use memory::parts::Parts;
 use memory::want::want_of;
 use module::handles::ExpressionHandle;
 use state::answer::{Tally, Walked};
@@ -28,20 +27,21 @@ pub enum Turn {
 #[inline(never)]
 fn ask_break_if(
     file: &File,
-    parts: &mut Parts,
+    cells: &mut [u32],
+    slots: &mut [u32],
     fr: Frame,
     break_if: Option<ExpressionHandle>,
     tally: Tally,
 ) -> Walked
-    requires { Passing file.now.bytes file.now.t parts.old.cells parts.old.slots fr (handle_in break_if) tally.sum tally.visits }
-    ensures { BreakEnds file.now.bytes file.now.t parts.old.cells parts.old.slots fr (handle_in break_if) tally.sum tally.visits result parts.new.cells parts.new.slots }
+    requires { Passing file.now.bytes file.now.t cells.old slots.old fr (handle_in break_if) tally.sum tally.visits }
+    ensures { BreakEnds file.now.bytes file.now.t cells.old slots.old fr (handle_in break_if) tally.sum tally.visits result cells.new slots.new }
 {
     let Some(e) = break_if else {
         return Ok(tally);
     };
     let k = fr.at + 4;
-    let first = weigh(parts, k, 4);
-    let second = weigh(parts, k + 4, 4);
+    let first = weigh(cells, slots, k, 4);
+    let second = weigh(cells, slots, k + 4, 4);
     let v = Visit {
         function: fr.function,
         expression: e,
@@ -49,43 +49,44 @@ fn ask_break_if(
         held: fr.held + (first + second),
     };
     let w = want_of(ALL);
-    add_expression(file, parts, &v, w, tally)
+    add_expression(file, cells, slots, &v, w, tally)
 }
 
 // A first pass that is required ends: `break_if`, and the join of both blocks' contexts, which is the working context then.
 pub fn end_pass(
     file: &File,
-    parts: &mut Parts,
+    cells: &mut [u32],
+    slots: &mut [u32],
     fr: Frame,
     break_if: Option<ExpressionHandle>,
     tally: Tally,
 ) -> Walked
-    requires { Passing file.now.bytes file.now.t parts.old.cells parts.old.slots fr (handle_in break_if) tally.sum tally.visits }
-    ensures { PassEnds file.now.bytes file.now.t parts.old.cells parts.old.slots fr (handle_in break_if) tally.sum tally.visits result parts.new.cells parts.new.slots }
+    requires { Passing file.now.bytes file.now.t cells.old slots.old fr (handle_in break_if) tally.sum tally.visits }
+    ensures { PassEnds file.now.bytes file.now.t cells.old slots.old fr (handle_in break_if) tally.sum tally.visits result cells.new slots.new }
 {
     let at = fr.at;
-    let tally = ask_break_if(file, parts, fr, break_if, tally)?;
-    join(parts, at + 4).ok_or(fr.halt(Refusal::PartLimit))?;
-    tidy(parts);
+    let tally = ask_break_if(file, cells, slots, fr, break_if, tally)?;
+    join(cells, slots, at + 4).ok_or(fr.halt(Refusal::PartLimit))?;
+    tidy(cells, slots);
     Ok(tally)
 }
 
 // A turn ends: its two contexts, above the working one and the statement's, are joined. Where the working context contains the join, it takes the
 // place of the statement's.
-pub fn end_turn(parts: &mut Parts, at: usize) -> Turn
-    requires { TurnWalked parts.old.cells parts.old.slots at }
-    ensures { TurnEnds parts.old.cells parts.old.slots at result parts.new.cells parts.new.slots }
+pub fn end_turn(cells: &mut [u32], slots: &mut [u32], at: usize) -> Turn
+    requires { TurnWalked cells.old slots.old at }
+    ensures { TurnEnds cells.old slots.old at result cells.new slots.new }
 {
     let k = at + 4;
-    if join(parts, k + 4).is_none() {
+    if join(cells, slots, k + 4).is_none() {
         return Turn::Over;
     }
-    let done = settled(parts, k);
-    drop(&mut parts.slots, k);
+    let done = settled(cells, slots, k);
+    drop(slots, k);
     if done {
-        lower(&mut parts.slots, at);
+        lower(slots, at);
         return Turn::Settled;
     }
-    tidy(parts);
+    tidy(cells, slots);
     Turn::Again
 }

@@ -12,7 +12,6 @@ use expression::add::add_expression;
 use expression::visit::Visit;
 use memory::layout::ALL;
 use memory::memory::tidy;
-use memory::parts::Parts;
 use memory::want::want_of;
 use module::handles::{BlockHandle, ExpressionHandle};
 use state::answer::{Answer, Answered, Tally};
@@ -26,37 +25,38 @@ pub fn case_body(file: &File, row: Kinded, k: u16) -> BlockHandle
 }
 
 // A case was walked: its context, behind the one at k, is joined to that. None where that passes a limit.
-pub fn end_case(parts: &mut Parts, k: usize) -> Option<()>
-    requires { Casing parts.old.cells parts.old.slots k }
-    ensures { CaseEnds parts.old.cells parts.old.slots k (is_none result) parts.new.cells parts.new.slots }
+pub fn end_case(cells: &mut [u32], slots: &mut [u32], k: usize) -> Option<()>
+    requires { Casing cells.old slots.old k }
+    ensures { CaseEnds cells.old slots.old k (is_none result) cells.new slots.new }
 {
-    join(parts, k)?;
-    tidy(parts);
+    join(cells, slots, k)?;
+    tidy(cells, slots);
     Some(())
 }
 
 // All cases were walked, and are joined behind the statement's context. What the selector needs is not kept.
 pub fn end_switch(
     file: &File,
-    parts: &mut Parts,
+    cells: &mut [u32],
+    slots: &mut [u32],
     fr: Frame,
     selector: ExpressionHandle,
     required: bool,
     tally: Tally,
 ) -> Answered
-    requires { EndingSwitch file.now.bytes file.now.t parts.old.cells parts.old.slots fr selector.0 tally.sum tally.visits }
-    ensures { SwitchEnds file.now.bytes file.now.t parts.old.cells parts.old.slots fr selector.0 required tally.sum tally.visits result parts.new.cells parts.new.slots }
+    requires { EndingSwitch file.now.bytes file.now.t cells.old slots.old fr selector.0 tally.sum tally.visits }
+    ensures { SwitchEnds file.now.bytes file.now.t cells.old slots.old fr selector.0 required tally.sum tally.visits result cells.new slots.new }
 {
     let at = fr.at;
     if !required {
-        drop(&mut parts.slots, at);
+        drop(slots, at);
         return Ok(Answer {
             tally,
             required: false,
         });
     }
-    put_aside(parts, at + 4);
-    drop(&mut parts.slots, at);
+    put_aside(cells, slots, at + 4);
+    drop(slots, at);
     let v = Visit {
         function: fr.function,
         expression: selector,
@@ -64,8 +64,8 @@ pub fn end_switch(
         held: fr.held,
     };
     let w = want_of(ALL);
-    let tally = add_expression(file, parts, &v, w, tally)?;
-    take_back(&parts.cells, &mut parts.slots, at);
+    let tally = add_expression(file, cells, slots, &v, w, tally)?;
+    take_back(cells, slots, at);
     Ok(Answer {
         tally,
         required: true,

@@ -9,9 +9,8 @@ use access::file::File;
 use access::kinded::Kinded;
 use expression::visit::allowed;
 use field::refusal::Refusal;
-use marks::places::MarkPlaces;
+use marks::places::place;
 use marks::set::set_mark;
-use memory::parts::Parts;
 use module::kinds::StatementKind;
 use state::answer::{Answer, Answered};
 use state::frame::Frame;
@@ -57,19 +56,19 @@ fn required(kind: u16, b: bool) -> bool
 // Stays: after a refused arm it asks nothing, where a `World` would ask that the module was read and its places and types' rows filled.
 pub fn mark_statement(
     file: &File,
-    places: &MarkPlaces,
+    firsts: &[u32],
     open: &mut [u8],
     fr: Frame,
     row: Kinded,
     r: Answered,
 ) -> Answered
-    requires { MarkAsked file.now.t places.now «open».old fr row r }
-    ensures { MarkEnds file.now.t places.now «open».old fr row r result «open».new }
+    requires { MarkAsked file.now.t firsts.now «open».old fr row r }
+    ensures { MarkEnds file.now.t firsts.now «open».old fr row r result «open».new }
 {
     let a = r?;
     let kind = row.kind;
     if has_mark(kind) {
-        let at = places.place(file, fr.function, fr.statement);
+        let at = place(file, firsts, fr.function, fr.statement);
         set_mark(open, at, a.required);
     }
     Ok(Answer {
@@ -79,11 +78,11 @@ pub fn mark_statement(
 }
 
 // 16, as the visit ends, and room for the next one.
-pub fn end_statement(parts: &mut Parts, fr: Frame, r: Answered) -> Answered
-    requires { LastAsked parts.old.cells parts.old.slots fr r }
-    ensures { LastEnds parts.old.cells parts.old.slots fr r result parts.new.cells parts.new.slots }
+pub fn end_statement(cells: &mut [u32], slots: &mut [u32], fr: Frame, r: Answered) -> Answered
+    requires { LastAsked cells.old slots.old fr r }
+    ensures { LastEnds cells.old slots.old fr r result cells.new slots.new }
 {
     let a = r?;
-    allowed(parts, fr.at, fr.held, a.tally.sum).ok_or(fr.halt(Refusal::PiecesLimit))?;
+    allowed(cells, slots, fr.at, fr.held, a.tally.sum).ok_or(fr.halt(Refusal::PiecesLimit))?;
     Ok(a)
 }

@@ -14,7 +14,6 @@ ghost use Rattle.hold.specs.Fits.{fits};
 
 use access::file::File;
 use hold::hold::{copy, push, push_sum};
-use memory::parts::Parts;
 use module::handles::{ExpressionHandle, FunctionHandle};
 use needs::path::under;
 use part::store::{ALL_PIECE, EMPTY_PIECE, EXIST_PIECE, look};
@@ -36,17 +35,17 @@ fn is_wanted(cells: &[u32], a: u32) -> bool
 }
 
 // The part a is asked at the path. None where the needs pass the bound.
-pub fn ask_place(parts: &mut Parts, n: usize, path: &[u32], a: u32) -> Option<()>
-    requires { AskGiven parts.old.cells parts.old.slots n path.now a }
-    ensures { AsksAt path.now (part parts.old.cells a) parts.old.cells parts.old.slots n parts.new.cells parts.new.slots (fits result) }
+pub fn ask_place(cells: &mut [u32], slots: &mut [u32], n: usize, path: &[u32], a: u32) -> Option<()>
+    requires { AskGiven cells.old slots.old n path.now a }
+    ensures { AsksAt path.now (part cells.old a) cells.old slots.old n cells.new slots.new (fits result) }
 {
-    if !is_wanted(&parts.cells, a) {
+    if !is_wanted(cells, a) {
         return Some(());
     }
-    let u = under(&mut parts.cells, path, a);
-    push(parts, n, u)?;
-    push_sum(parts, n + 1, n, n - 1)?;
-    copy(&mut parts.slots, n + 1, n - 1);
+    let u = under(cells, path, a);
+    push(cells, slots, n, u)?;
+    push_sum(cells, slots, n + 1, n, n - 1)?;
+    copy(slots, n + 1, n - 1);
     Some(())
 }
 
@@ -56,13 +55,14 @@ pub fn ask_place(parts: &mut Parts, n: usize, path: &[u32], a: u32) -> Option<()
 pub fn ask_value(
     file: &File,
     f: FunctionHandle,
-    parts: &mut Parts,
+    cells: &mut [u32],
+    slots: &mut [u32],
     n: usize,
     v: ExpressionHandle,
     a: u32,
 ) -> Option<()>
-    requires { ValueGiven (scope_at file.now.bytes file.now.t f.0) parts.old.cells parts.old.slots n v.0 a }
-    ensures { Asks (scope_at file.now.bytes file.now.t f.0) (step_of (scope_at file.now.bytes file.now.t f.0) (of_value v.0 (part parts.old.cells a))) parts.old.cells parts.old.slots n parts.new.cells parts.new.slots (fits result) }
+    requires { ValueGiven (scope_at file.now.bytes file.now.t f.0) cells.old slots.old n v.0 a }
+    ensures { Asks (scope_at file.now.bytes file.now.t f.0) (step_of (scope_at file.now.bytes file.now.t f.0) (of_value v.0 (part cells.old a))) cells.old slots.old n cells.new slots.new (fits result) }
 {
     let source = source_of(file, f, v);
     let mut path: [u32; 2] = [0; 2];
@@ -70,11 +70,11 @@ pub fn ask_value(
         Source::Given => Some(()),
         Source::Argument(i) => {
             argument_path(&mut path, i);
-            ask_place(parts, n, &path, a)
+            ask_place(cells, slots, n, &path, a)
         }
         Source::Evaluated => {
             evaluated_path(&mut path, v);
-            ask_place(parts, n, &path, a)
+            ask_place(cells, slots, n, &path, a)
         }
     }
 }
@@ -83,28 +83,30 @@ pub fn ask_value(
 pub fn ask_whole(
     file: &File,
     f: FunctionHandle,
-    parts: &mut Parts,
+    cells: &mut [u32],
+    slots: &mut [u32],
     n: usize,
     v: ExpressionHandle,
 ) -> Option<()>
-    requires { StepGiven (scope_at file.now.bytes file.now.t f.0) parts.old.cells parts.old.slots n v.0 }
-    ensures { Stepped (scope_at file.now.bytes file.now.t f.0) (step_of (scope_at file.now.bytes file.now.t f.0) (ask_whole v.0)) parts.old.cells parts.old.slots n parts.new.cells parts.new.slots (fits result) }
+    requires { StepGiven (scope_at file.now.bytes file.now.t f.0) cells.old slots.old n v.0 }
+    ensures { Stepped (scope_at file.now.bytes file.now.t f.0) (step_of (scope_at file.now.bytes file.now.t f.0) (ask_whole v.0)) cells.old slots.old n cells.new slots.new (fits result) }
 {
-    ask_value(file, f, parts, n, v, ALL_PIECE)
+    ask_value(file, f, cells, slots, n, v, ALL_PIECE)
 }
 
 // Of the value v, which is returned, the part is asked that is asked of the function's value.
 pub fn ask_returned(
     file: &File,
     f: FunctionHandle,
-    parts: &mut Parts,
+    cells: &mut [u32],
+    slots: &mut [u32],
     n: usize,
     v: ExpressionHandle,
 ) -> Option<()>
-    requires step_given { StepGiven (scope_at file.now.bytes file.now.t f.0) parts.old.cells parts.old.slots n v.0 }
+    requires step_given { StepGiven (scope_at file.now.bytes file.now.t f.0) cells.old slots.old n v.0 }
     requires v_value { fits_statement (scope_at file.now.bytes file.now.t f.0) (Return (some v.0)) ≡ true }
-    ensures { Valued (scope_at file.now.bytes file.now.t f.0) v.0 parts.old.cells parts.old.slots n parts.new.cells parts.new.slots (fits result) }
+    ensures { Valued (scope_at file.now.bytes file.now.t f.0) v.0 cells.old slots.old n cells.new slots.new (fits result) }
 {
-    let a = parts.slots[ASKED];
-    ask_value(file, f, parts, n, v, a)
+    let a = slots[ASKED];
+    ask_value(file, f, cells, slots, n, v, a)
 }

@@ -15,19 +15,25 @@ use access::file::File;
 use access::kinded::Kinded;
 use field::refusal::Refusal;
 use memory::layout::ALL;
-use memory::parts::Parts;
 use memory::want::{Want, child, entry, is_all, is_exist, swizzle, want_of, wrap_over};
 use module::handles::ExpressionHandle;
 
-pub fn access_index(file: &File, parts: &Parts, row: Kinded, w: Want, j: u32) -> Option<Ask>
-    requires { Memory parts.now.cells parts.now.slots × Wants parts.now.cells parts.now.slots w }
-    ensures { Told parts.now.cells parts.now.slots w (formed (operand_at file.now.bytes row 0) (more (operand_at file.now.bytes row 1) (asked parts.now.cells parts.now.slots w) none)) j result }
+pub fn access_index(
+    file: &File,
+    cells: &[u32],
+    slots: &[u32],
+    row: Kinded,
+    w: Want,
+    j: u32,
+) -> Option<Ask>
+    requires { Memory cells.now slots.now × Wants cells.now slots.now w }
+    ensures { Told cells.now slots.now w (formed (operand_at file.now.bytes row 0) (more (operand_at file.now.bytes row 1) (asked cells.now slots.now w) none)) j result }
 {
     if 0 < j {
         return None;
     }
     let i = file.operand(row, 1) as u32;
-    if wrap_over(parts, w, i) {
+    if wrap_over(cells, slots, w, i) {
         return Some(Ask::Refuse(Refusal::PartLimit));
     }
     let base = file.expression_operand(row, 0);
@@ -36,17 +42,17 @@ pub fn access_index(file: &File, parts: &Parts, row: Kinded, w: Want, j: u32) ->
 }
 
 // The assertion of a constant.
-pub fn constant(parts: &Parts, w: Want, j: u32) -> Option<Ask>
-    requires { Memory parts.now.cells parts.now.slots × Wants parts.now.cells parts.now.slots w }
-    ensures { Told parts.now.cells parts.now.slots w (constant_asks (asked parts.now.cells parts.now.slots w)) j result }
+pub fn constant(cells: &[u32], slots: &[u32], w: Want, j: u32) -> Option<Ask>
+    requires { Memory cells.now slots.now × Wants cells.now slots.now w }
+    ensures { Told cells.now slots.now w (constant_asks (asked cells.now slots.now w)) j result }
 {
     if 0 < j {
         return None;
     }
-    if is_all(parts, w) {
+    if is_all(cells, slots, w) {
         return None;
     }
-    if is_exist(parts, w) {
+    if is_exist(cells, slots, w) {
         return None;
     }
     Some(Ask::Refuse(Refusal::Panic))
@@ -74,16 +80,23 @@ fn letters(file: &File, row: Kinded) -> [u32; 4]
     [a, b, c, d]
 }
 
-pub fn swizzle_ask(file: &File, parts: &Parts, row: Kinded, w: Want, j: u32) -> Option<Ask>
-    requires memory { Memory parts.now.cells parts.now.slots × Wants parts.now.cells parts.now.slots w }
+pub fn swizzle_ask(
+    file: &File,
+    cells: &[u32],
+    slots: &[u32],
+    row: Kinded,
+    w: Want,
+    j: u32,
+) -> Option<Ask>
+    requires memory { Memory cells.now slots.now × Wants cells.now slots.now w }
     requires each_below { EachBelow 4 (tab (operand_at file.now.bytes row 1) (λ k. operand_at file.now.bytes row (2 + k))) }
-    ensures { Told parts.now.cells parts.now.slots w (swizzle_asks (operand_at file.now.bytes row 0) (swizzled (tab (operand_at file.now.bytes row 1) (λ k. operand_at file.now.bytes row (2 + k))) (asked parts.now.cells parts.now.slots w))) j result }
+    ensures { Told cells.now slots.now w (swizzle_asks (operand_at file.now.bytes row 0) (swizzled (tab (operand_at file.now.bytes row 1) (λ k. operand_at file.now.bytes row (2 + k))) (asked cells.now slots.now w))) j result }
 {
     if 0 < j {
         return None;
     }
     let pattern = letters(file, row);
-    let Some(slot) = swizzle(parts, w, pattern) else {
+    let Some(slot) = swizzle(cells, slots, w, pattern) else {
         return Some(Ask::Refuse(Refusal::Panic));
     };
     let vector = file.expression_operand(row, 0);
@@ -102,12 +115,19 @@ fn component(file: &File, row: Kinded, i: u32) -> ExpressionHandle
 }
 
 // All of each component; or what each entry has, of the component with its index.
-pub fn compose(file: &File, parts: &Parts, row: Kinded, w: Want, j: u32) -> Option<Ask>
-    requires { Memory parts.now.cells parts.now.slots × Wants parts.now.cells parts.now.slots w }
-    ensures { Told parts.now.cells parts.now.slots w (compose_asks (tab (operand_at file.now.bytes row 0) (λ k. operand_at file.now.bytes row (1 + k))) (asked parts.now.cells parts.now.slots w)) j result }
+pub fn compose(
+    file: &File,
+    cells: &[u32],
+    slots: &[u32],
+    row: Kinded,
+    w: Want,
+    j: u32,
+) -> Option<Ask>
+    requires { Memory cells.now slots.now × Wants cells.now slots.now w }
+    ensures { Told cells.now slots.now w (compose_asks (tab (operand_at file.now.bytes row 0) (λ k. operand_at file.now.bytes row (1 + k))) (asked cells.now slots.now w)) j result }
 {
     let n = file.operand(row, 0) as u32;
-    if is_all(parts, w) {
+    if is_all(cells, slots, w) {
         if n <= j {
             return None;
         }
@@ -115,11 +135,11 @@ pub fn compose(file: &File, parts: &Parts, row: Kinded, w: Want, j: u32) -> Opti
         let all = want_of(ALL);
         return Some(Ask::Operand(x, all));
     }
-    let i = entry(parts, w, j)?;
+    let i = entry(cells, slots, w, j)?;
     if n <= i {
         return Some(Ask::Refuse(Refusal::Panic));
     }
     let x = component(file, row, i);
-    let u = child(parts, w, j);
+    let u = child(cells, slots, w, j);
     Some(Ask::Operand(x, u))
 }

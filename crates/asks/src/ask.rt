@@ -9,7 +9,6 @@ use crate::fields::field_ask;
 use crate::what::Ask;
 use access::file::File;
 use field::refusal::Refusal;
-use memory::parts::Parts;
 use memory::want::Want;
 use module::handles::{ExpressionHandle, FunctionHandle};
 use module::kinds::ExpressionKind;
@@ -29,28 +28,29 @@ fn only(what: Ask, j: u32) -> Option<Ask>
 #[inline(never)]
 pub fn ask(
     file: &File,
-    parts: &Parts,
+    cells: &[u32],
+    slots: &[u32],
     f: FunctionHandle,
     e: ExpressionHandle,
     w: Want,
     j: u32,
 ) -> Option<Ask>
     requires there { There file.now.bytes file.now.t f.0 e.0 }
-    requires memory { Memory parts.now.cells parts.now.slots × Wants parts.now.cells parts.now.slots w }
-    ensures { Asks (module_of file.now.bytes file.now.t) f.0 e.0 parts.now.cells parts.now.slots w j result }
+    requires memory { Memory cells.now slots.now × Wants cells.now slots.now w }
+    ensures { Asks (module_of file.now.bytes file.now.t) f.0 e.0 cells.now slots.now w j result }
 {
     let row = file.expression(f, e);
     match ExpressionKind::try_from(row.kind) {
-        Ok(ExpressionKind::AccessIndex) => access_index(file, parts, row, w, j),
-        Ok(ExpressionKind::Constant) => constant(parts, w, j),
-        Ok(ExpressionKind::Swizzle) => swizzle_ask(file, parts, row, w, j),
-        Ok(ExpressionKind::Compose) => compose(file, parts, row, w, j),
+        Ok(ExpressionKind::AccessIndex) => access_index(file, cells, slots, row, w, j),
+        Ok(ExpressionKind::Constant) => constant(cells, slots, w, j),
+        Ok(ExpressionKind::Swizzle) => swizzle_ask(file, cells, slots, row, w, j),
+        Ok(ExpressionKind::Compose) => compose(file, cells, slots, row, w, j),
         Ok(ExpressionKind::FunctionArgument) => {
             only(Ask::Argument(file.operand(row, 0) as u32), j)
         }
         Ok(ExpressionKind::GlobalVariable) => only(Ask::Global(file.global_operand(row, 0)), j),
         Ok(ExpressionKind::LocalVariable) => only(Ask::Local(file.local_operand(row, 0)), j),
         Ok(ExpressionKind::RayQueryVertexPositions) => only(Ask::Refuse(Refusal::Panic), j),
-        _ => field_ask(file, parts, row, w, j),
+        _ => field_ask(file, cells, slots, row, w, j),
     }
 }

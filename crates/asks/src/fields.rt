@@ -10,7 +10,6 @@ use crate::what::Ask;
 use access::file::File;
 use access::kinded::Kinded;
 use memory::layout::{ALL, EXIST};
-use memory::parts::Parts;
 use memory::want::{Want, want_of};
 use module::handles::ExpressionHandle;
 use module::kinds::ExpressionKind;
@@ -105,9 +104,9 @@ fn chosen(file: &File, row: Kinded, k: u16, way: Way) -> Option<ExpressionHandle
 }
 
 // What is asked of it.
-fn want_by(parts: &Parts, w: Want, way: Way) -> Want
-    requires { Memory parts.now.cells parts.now.slots × Wants parts.now.cells parts.now.slots w }
-    ensures { By parts.now.cells parts.now.slots (part_by (way_number way) (asked parts.now.cells parts.now.slots w)) result }
+fn want_by(cells: &[u32], slots: &[u32], w: Want, way: Way) -> Want
+    requires { Memory cells.now slots.now × Wants cells.now slots.now w }
+    ensures { By cells.now slots.now (part_by (way_number way) (asked cells.now slots.now w)) result }
 {
     match way {
         Way::Part => w,
@@ -117,16 +116,23 @@ fn want_by(parts: &Parts, w: Want, way: Way) -> Want
 }
 
 // The j-th of the operands that are asked.
-pub fn field_ask(file: &File, parts: &Parts, row: Kinded, w: Want, j: u32) -> Option<Ask>
-    requires { Memory parts.now.cells parts.now.slots × Wants parts.now.cells parts.now.slots w }
-    ensures { Told parts.now.cells parts.now.slots w (field_asks fields (ways_of row.kind (operand_at file.now.bytes row 4)) (operand_at file.now.bytes row) 0 (asked parts.now.cells parts.now.slots w)) j result }
+pub fn field_ask(
+    file: &File,
+    cells: &[u32],
+    slots: &[u32],
+    row: Kinded,
+    w: Want,
+    j: u32,
+) -> Option<Ask>
+    requires { Memory cells.now slots.now × Wants cells.now slots.now w }
+    ensures { Told cells.now slots.now w (field_asks fields (ways_of row.kind (operand_at file.now.bytes row 4)) (operand_at file.now.bytes row) 0 (asked cells.now slots.now w)) j result }
 {
     let mut skip = j;
     let ways = ways(file, row);
     for (k, &way) in ways.iter().enumerate() {
         if let Some(x) = chosen(file, row, k as u16, way) {
             if skip == 0 {
-                return Some(Ask::Operand(x, want_by(parts, w, way)));
+                return Some(Ask::Operand(x, want_by(cells, slots, w, way)));
             }
             skip -= 1;
         }

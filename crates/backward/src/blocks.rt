@@ -21,7 +21,6 @@ use ends::held::{begin_loop, end_if, end_switch};
 use ends::merge::{end_loop, merge};
 use ends::notes::{blame, note};
 use hold::hold::copy;
-use memory::parts::Parts;
 use module::handles::BlockHandle;
 use module::kinds::StatementKind;
 use part::store::EMPTY_PIECE;
@@ -33,26 +32,27 @@ use standing::passing::{Exits, Passing};
 #[cycle(blocks)]
 fn pass_cases(
     statement: &MarkedStatement,
-    parts: &mut Parts,
+    cells: &mut [u32],
+    slots: &mut [u32],
     path: &mut [u32],
     n: usize,
     x: Exits,
     p: Passing,
 ) -> Option<Passing>
-    requires course { CourseOf statement.now.marked.now parts.old.cells parts.old.slots path.old n x (going p) }
-    requires b_in_bounds { n + (3 * statement.now.b.0 + 10) ≤ length parts.old.slots }
+    requires course { CourseOf statement.now.marked.now cells.old slots.old path.old n x (going p) }
+    requires b_in_bounds { n + (3 * statement.now.b.0 + 10) ≤ length slots.old }
     requires kind_value { statement.now.row.kind ≡ 3 }
-    requires n_value { in_slot parts.old.cells parts.old.slots (n - 1) ≡ none }
-    ensures { Passes (scope_of statement.now.marked.now.subject.now) (cases (operand_at statement.now.marked.now.subject.now.file.now.bytes statement.now.row 1) (case_block (function_in statement.now.marked.now.subject.now) statement.now.marked.now.marks.now (operand_at statement.now.marked.now.subject.now.file.now.bytes statement.now.row))) parts.old.cells parts.old.slots n x (going p) parts.new.cells parts.new.slots path.old path.new (outcome result) }
+    requires n_value { in_slot cells.old slots.old (n - 1) ≡ none }
+    ensures { Passes (scope_of statement.now.marked.now.subject.now) (cases (operand_at statement.now.marked.now.subject.now.file.now.bytes statement.now.row 1) (case_block (function_in statement.now.marked.now.subject.now) statement.now.marked.now.marks.now (operand_at statement.now.marked.now.subject.now.file.now.bytes statement.now.row))) cells.old slots.old n x (going p) cells.new slots.new path.old path.new (outcome result) }
 {
     let marked = statement.marked;
     let count = marked.subject.file.operand(statement.row, 1) as u32;
     let mut q = p;
     for i in 0..count {
-        copy(&mut parts.slots, x.broke, n);
+        copy(slots, x.broke, n);
         let case = marked.subject.file.block_operand(statement.row, 3 + 2 * i);
-        q = pass_around(marked, parts, path, n + 1, x, q, case)?;
-        merge(parts, n, n, n - 1)?;
+        q = pass_around(marked, cells, slots, path, n + 1, x, q, case)?;
+        merge(cells, slots, n, n, n - 1)?;
     }
     Some(q)
 }
@@ -60,101 +60,127 @@ fn pass_cases(
 #[cycle(blocks)]
 fn pass_switch(
     statement: &MarkedStatement,
-    parts: &mut Parts,
+    cells: &mut [u32],
+    slots: &mut [u32],
     path: &mut [u32],
     n: usize,
     x: Exits,
     p: Passing,
 ) -> Option<Passing>
-    requires course { CourseOf statement.now.marked.now parts.old.cells parts.old.slots path.old n x (going p) }
-    requires b_in_bounds { n + (3 * statement.now.b.0 + 11) ≤ length parts.old.slots }
+    requires course { CourseOf statement.now.marked.now cells.old slots.old path.old n x (going p) }
+    requires b_in_bounds { n + (3 * statement.now.b.0 + 11) ≤ length slots.old }
     requires kind_value { statement.now.row.kind ≡ 3 }
-    ensures { Passes (scope_of statement.now.marked.now.subject.now) (inside (switch_tree (blocks_under (function_in statement.now.marked.now.subject.now) statement.now.marked.now.marks.now statement.now.b.0) (operand_at statement.now.marked.now.subject.now.file.now.bytes statement.now.row))) parts.old.cells parts.old.slots n x (going p) parts.new.cells parts.new.slots path.old path.new (outcome result) }
+    ensures { Passes (scope_of statement.now.marked.now.subject.now) (inside (switch_tree (blocks_under (function_in statement.now.marked.now.subject.now) statement.now.marked.now.marks.now statement.now.b.0) (operand_at statement.now.marked.now.subject.now.file.now.bytes statement.now.row))) cells.old slots.old n x (going p) cells.new slots.new path.old path.new (outcome result) }
 {
     let marked = statement.marked;
-    parts.slots[n] = EMPTY_PIECE;
+    slots[n] = EMPTY_PIECE;
     let y = x.in_case(n - 1);
-    let q = pass_cases(statement, parts, path, n + 1, y, p)?;
+    let q = pass_cases(statement, cells, slots, path, n + 1, y, p)?;
     let selector = marked.subject.file.expression_operand(statement.row, 0);
-    end_switch(marked.subject.file, marked.subject.f, parts, n, selector)?;
+    end_switch(
+        marked.subject.file,
+        marked.subject.f,
+        cells,
+        slots,
+        n,
+        selector,
+    )?;
     Some(q)
 }
 
 #[cycle(blocks)]
 fn pass_if(
     statement: &MarkedStatement,
-    parts: &mut Parts,
+    cells: &mut [u32],
+    slots: &mut [u32],
     path: &mut [u32],
     n: usize,
     x: Exits,
     p: Passing,
 ) -> Option<Passing>
-    requires course { CourseOf statement.now.marked.now parts.old.cells parts.old.slots path.old n x (going p) }
-    requires b_in_bounds { n + (3 * statement.now.b.0 + 11) ≤ length parts.old.slots }
+    requires course { CourseOf statement.now.marked.now cells.old slots.old path.old n x (going p) }
+    requires b_in_bounds { n + (3 * statement.now.b.0 + 11) ≤ length slots.old }
     requires kind_value { statement.now.row.kind ≡ 2 }
-    ensures { Passes (scope_of statement.now.marked.now.subject.now) (inside (if_tree (blocks_under (function_in statement.now.marked.now.subject.now) statement.now.marked.now.marks.now statement.now.b.0) (operand_at statement.now.marked.now.subject.now.file.now.bytes statement.now.row))) parts.old.cells parts.old.slots n x (going p) parts.new.cells parts.new.slots path.old path.new (outcome result) }
+    ensures { Passes (scope_of statement.now.marked.now.subject.now) (inside (if_tree (blocks_under (function_in statement.now.marked.now.subject.now) statement.now.marked.now.marks.now statement.now.b.0) (operand_at statement.now.marked.now.subject.now.file.now.bytes statement.now.row))) cells.old slots.old n x (going p) cells.new slots.new path.old path.new (outcome result) }
 {
     let marked = statement.marked;
     let last = n - 1;
-    copy(&mut parts.slots, last, n);
+    copy(slots, last, n);
     let reject = marked.subject.file.block_operand(statement.row, 2);
-    let q = pass_around(marked, parts, path, n + 1, x, p, reject)?;
-    exchange(&mut parts.slots, n);
+    let q = pass_around(marked, cells, slots, path, n + 1, x, p, reject)?;
+    exchange(slots, n);
     let accept = marked.subject.file.block_operand(statement.row, 1);
-    let o = pass_around(marked, parts, path, n + 1, x, q, accept)?;
+    let o = pass_around(marked, cells, slots, path, n + 1, x, q, accept)?;
     let condition = marked.subject.file.expression_operand(statement.row, 0);
-    end_if(marked.subject.file, marked.subject.f, parts, n, condition)?;
+    end_if(
+        marked.subject.file,
+        marked.subject.f,
+        cells,
+        slots,
+        n,
+        condition,
+    )?;
     Some(o)
 }
 
 #[cycle(blocks)]
 fn pass_loop(
     statement: &MarkedStatement,
-    parts: &mut Parts,
+    cells: &mut [u32],
+    slots: &mut [u32],
     path: &mut [u32],
     n: usize,
     x: Exits,
     p: Passing,
 ) -> Option<Passing>
-    requires course { CourseOf statement.now.marked.now parts.old.cells parts.old.slots path.old n x (going p) }
-    requires b_in_bounds { n + (3 * statement.now.b.0 + 11) ≤ length parts.old.slots }
+    requires course { CourseOf statement.now.marked.now cells.old slots.old path.old n x (going p) }
+    requires b_in_bounds { n + (3 * statement.now.b.0 + 11) ≤ length slots.old }
     requires kind_value { statement.now.row.kind ≡ 4 }
-    ensures { Passes (scope_of statement.now.marked.now.subject.now) (inside (loop_tree (blocks_under (function_in statement.now.marked.now.subject.now) statement.now.marked.now.marks.now statement.now.b.0) statement.now.s (operand_at statement.now.marked.now.subject.now.file.now.bytes statement.now.row))) parts.old.cells parts.old.slots n x (going p) parts.new.cells parts.new.slots path.old path.new (outcome result) }
+    ensures { Passes (scope_of statement.now.marked.now.subject.now) (inside (loop_tree (blocks_under (function_in statement.now.marked.now.subject.now) statement.now.marked.now.marks.now statement.now.b.0) statement.now.s (operand_at statement.now.marked.now.subject.now.file.now.bytes statement.now.row))) cells.old slots.old n x (going p) cells.new slots.new path.old path.new (outcome result) }
 {
     let marked = statement.marked;
     let l = statement.s as usize;
     let break_if = marked.subject.file.optional_expression(statement.row, 2);
-    begin_loop(marked.subject.file, marked.subject.f, parts, n, l, break_if)?;
+    begin_loop(
+        marked.subject.file,
+        marked.subject.f,
+        cells,
+        slots,
+        n,
+        l,
+        break_if,
+    )?;
     let y = x.in_case(n - 1);
     let continuing = marked.subject.file.block_operand(statement.row, 1);
-    let q = pass_around(marked, parts, path, n + 1, y, p, continuing)?;
+    let q = pass_around(marked, cells, slots, path, n + 1, y, p, continuing)?;
     let above = n + 1;
-    copy(&mut parts.slots, n, above);
+    copy(slots, n, above);
     let z = x.in_body(n - 1, n);
     let body = marked.subject.file.block_operand(statement.row, 0);
-    let o = pass_around(marked, parts, path, above + 1, z, q, body)?;
-    end_loop(parts, n, l, o)
+    let o = pass_around(marked, cells, slots, path, above + 1, z, q, body)?;
+    end_loop(cells, slots, n, l, o)
 }
 
 // What has the mark of the statement s of the block b: an if, a switch or a loop.
 #[cycle(blocks)]
 fn pass_bare(
     statement: &MarkedStatement,
-    parts: &mut Parts,
+    cells: &mut [u32],
+    slots: &mut [u32],
     path: &mut [u32],
     n: usize,
     x: Exits,
     p: Passing,
 ) -> Option<Passing>
-    requires course { CourseOf statement.now.marked.now parts.old.cells parts.old.slots path.old n x (going p) }
-    requires b_in_bounds { n + (3 * statement.now.b.0 + 11) ≤ length parts.old.slots }
+    requires course { CourseOf statement.now.marked.now cells.old slots.old path.old n x (going p) }
+    requires b_in_bounds { n + (3 * statement.now.b.0 + 11) ≤ length slots.old }
     requires lt_kind { (1 < statement.now.row.kind) × (statement.now.row.kind < 5) }
-    ensures { Passes (scope_of statement.now.marked.now.subject.now) (inside (bare_tree (blocks_under (function_in statement.now.marked.now.subject.now) statement.now.marked.now.marks.now statement.now.b.0) statement.now.s statement.now.row.kind (operand_at statement.now.marked.now.subject.now.file.now.bytes statement.now.row))) parts.old.cells parts.old.slots n x (going p) parts.new.cells parts.new.slots path.old path.new (outcome result) }
+    ensures { Passes (scope_of statement.now.marked.now.subject.now) (inside (bare_tree (blocks_under (function_in statement.now.marked.now.subject.now) statement.now.marked.now.marks.now statement.now.b.0) statement.now.s statement.now.row.kind (operand_at statement.now.marked.now.subject.now.file.now.bytes statement.now.row))) cells.old slots.old n x (going p) cells.new slots.new path.old path.new (outcome result) }
 {
     match StatementKind::try_from(statement.row.kind) {
-        Ok(StatementKind::If) => pass_if(statement, parts, path, n, x, p),
-        Ok(StatementKind::Switch) => pass_switch(statement, parts, path, n, x, p),
-        _ => pass_loop(statement, parts, path, n, x, p),
+        Ok(StatementKind::If) => pass_if(statement, cells, slots, path, n, x, p),
+        Ok(StatementKind::Switch) => pass_switch(statement, cells, slots, path, n, x, p),
+        _ => pass_loop(statement, cells, slots, path, n, x, p),
     }
 }
 
@@ -162,36 +188,37 @@ fn pass_bare(
 #[cycle(blocks)]
 fn pass_holder(
     statement: &MarkedStatement,
-    parts: &mut Parts,
+    cells: &mut [u32],
+    slots: &mut [u32],
     path: &mut [u32],
     n: usize,
     x: Exits,
     p: Passing,
 ) -> Option<Passing>
-    requires course { CourseOf statement.now.marked.now parts.old.cells parts.old.slots path.old n x (going p) }
-    requires b_in_bounds { n + (3 * statement.now.b.0 + 12) ≤ length parts.old.slots }
+    requires course { CourseOf statement.now.marked.now cells.old slots.old path.old n x (going p) }
+    requires b_in_bounds { n + (3 * statement.now.b.0 + 12) ≤ length slots.old }
     requires lt_kind { (1 < statement.now.row.kind) × (statement.now.row.kind < 5) }
-    ensures { Passes (scope_of statement.now.marked.now.subject.now) (inside (statement_tree (function_in statement.now.marked.now.subject.now) statement.now.marked.now.marks.now statement.now.b.0 statement.now.s)) parts.old.cells parts.old.slots n x (going p) parts.new.cells parts.new.slots path.old path.new (outcome result) }
+    ensures { Passes (scope_of statement.now.marked.now.subject.now) (inside (statement_tree (function_in statement.now.marked.now.subject.now) statement.now.marked.now.marks.now statement.now.b.0 statement.now.s)) cells.old slots.old n x (going p) cells.new slots.new path.old path.new (outcome result) }
 {
     let marked = statement.marked;
     let s = statement.s;
     let last = n - 1;
     let begin = marked.firsts[s as usize] as usize;
     if mark_at(marked.marks, begin) {
-        return pass_bare(statement, parts, path, n, x, p);
+        return pass_bare(statement, cells, slots, path, n, x, p);
     }
     let need = Need {
         subject: marked.subject,
-        cells: &parts.cells,
-        piece: parts.slots[last],
+        cells,
+        piece: slots[last],
     };
     if obeys(&need, path, statement.b, s) {
         return Some(p);
     }
-    copy(&mut parts.slots, last, n);
-    let q = pass_bare(statement, parts, path, n + 1, x, p)?;
+    copy(slots, last, n);
+    let q = pass_bare(statement, cells, slots, path, n + 1, x, p)?;
     let blamed = blame(s, q);
-    merge(parts, n, last, n)?;
+    merge(cells, slots, n, last, n)?;
     Some(blamed)
 }
 
@@ -199,7 +226,8 @@ fn pass_holder(
 #[cycle(blocks)]
 fn pass_statement(
     marked: &MarkedSubject,
-    parts: &mut Parts,
+    cells: &mut [u32],
+    slots: &mut [u32],
     path: &mut [u32],
     n: usize,
     x: Exits,
@@ -207,10 +235,10 @@ fn pass_statement(
     b: BlockHandle,
     s: u32,
 ) -> Option<Passing>
-    requires course { CourseOf marked.now parts.old.cells parts.old.slots path.old n x (going p) }
-    requires b_in_bounds { n + (3 * b.0 + 12) ≤ length parts.old.slots }
+    requires course { CourseOf marked.now cells.old slots.old path.old n x (going p) }
+    requires b_in_bounds { n + (3 * b.0 + 12) ≤ length slots.old }
     requires statement_in { StatementIn marked.now.subject.now.file.now.bytes marked.now.subject.now.file.now.t marked.now.subject.now.f.0 b.0 s }
-    ensures { Passes (scope_of marked.now.subject.now) (inside (statement_tree (function_in marked.now.subject.now) marked.now.marks.now b.0 s)) parts.old.cells parts.old.slots n x (going p) parts.new.cells parts.new.slots path.old path.new (outcome result) }
+    ensures { Passes (scope_of marked.now.subject.now) (inside (statement_tree (function_in marked.now.subject.now) marked.now.marks.now b.0 s)) cells.old slots.old n x (going p) cells.new slots.new path.old path.new (outcome result) }
 {
     let row = marked.subject.file.statement(marked.subject.f, s);
     let statement = MarkedStatement {
@@ -222,36 +250,37 @@ fn pass_statement(
     match StatementKind::try_from(row.kind) {
         Ok(StatementKind::Block) => {
             let inner = marked.subject.file.block_operand(row, 0);
-            pass_block(marked, parts, path, n, x, p, inner)
+            pass_block(marked, cells, slots, path, n, x, p, inner)
         }
         Ok(StatementKind::If | StatementKind::Switch | StatementKind::Loop) => pass_holder(
-            &statement, parts, path, n, x, p,
+            &statement, cells, slots, path, n, x, p,
         ),
-        _ => pass_plain(&statement, parts, path, n, x, p),
+        _ => pass_plain(&statement, cells, slots, path, n, x, p),
     }
 }
 
 #[cycle(blocks)]
 fn pass_block(
     marked: &MarkedSubject,
-    parts: &mut Parts,
+    cells: &mut [u32],
+    slots: &mut [u32],
     path: &mut [u32],
     n: usize,
     x: Exits,
     p: Passing,
     b: BlockHandle,
 ) -> Option<Passing>
-    requires course { CourseOf marked.now parts.old.cells parts.old.slots path.old n x (going p) }
-    requires b_in_bounds { n + (3 * b.0 + 12) ≤ length parts.old.slots }
+    requires course { CourseOf marked.now cells.old slots.old path.old n x (going p) }
+    requires b_in_bounds { n + (3 * b.0 + 12) ≤ length slots.old }
     requires block_of { BlockOf marked.now.subject.now.file.now.bytes marked.now.subject.now.file.now.t marked.now.subject.now.f.0 b.0 }
-    ensures { Passes (scope_of marked.now.subject.now) (inside (tree_of (function_in marked.now.subject.now) marked.now.marks.now b.0)) parts.old.cells parts.old.slots n x (going p) parts.new.cells parts.new.slots path.old path.new (outcome result) }
+    ensures { Passes (scope_of marked.now.subject.now) (inside (tree_of (function_in marked.now.subject.now) marked.now.marks.now b.0)) cells.old slots.old n x (going p) cells.new slots.new path.old path.new (outcome result) }
 {
     let range = marked.subject.file.block(marked.subject.f, b);
     let first = range.first;
     let mut q = p;
     for k in (0..range.count).rev() {
-        let at = note(parts, n, q);
-        q = pass_statement(marked, parts, path, n, x, at, b, first + k)?;
+        let at = note(cells, slots, n, q);
+        q = pass_statement(marked, cells, slots, path, n, x, at, b, first + k)?;
     }
     Some(q)
 }
@@ -260,19 +289,20 @@ fn pass_block(
 #[cycle(blocks)]
 pub fn pass_around(
     marked: &MarkedSubject,
-    parts: &mut Parts,
+    cells: &mut [u32],
+    slots: &mut [u32],
     path: &mut [u32],
     n: usize,
     x: Exits,
     p: Passing,
     b: BlockHandle,
 ) -> Option<Passing>
-    requires course { CourseOf marked.now parts.old.cells parts.old.slots path.old n x (going p) }
-    requires b_in_bounds { n + (3 * b.0 + 12) ≤ length parts.old.slots }
+    requires course { CourseOf marked.now cells.old slots.old path.old n x (going p) }
+    requires b_in_bounds { n + (3 * b.0 + 12) ≤ length slots.old }
     requires block_of { BlockOf marked.now.subject.now.file.now.bytes marked.now.subject.now.file.now.t marked.now.subject.now.f.0 b.0 }
-    ensures { Passes (scope_of marked.now.subject.now) (around (tree_of (function_in marked.now.subject.now) marked.now.marks.now b.0)) parts.old.cells parts.old.slots n x (going p) parts.new.cells parts.new.slots path.old path.new (outcome result) }
+    ensures { Passes (scope_of marked.now.subject.now) (around (tree_of (function_in marked.now.subject.now) marked.now.marks.now b.0)) cells.old slots.old n x (going p) cells.new slots.new path.old path.new (outcome result) }
 {
-    let at = note(parts, n, p);
-    let q = pass_block(marked, parts, path, n, x, at, b)?;
-    Some(note(parts, n, q))
+    let at = note(cells, slots, n, p);
+    let q = pass_block(marked, cells, slots, path, n, x, at, b)?;
+    Some(note(cells, slots, n, q))
 }

@@ -11,23 +11,23 @@ use acts::emits::pass_emits;
 use acts::marks::mark_at;
 use acts::stores::pass_store;
 use leaving::leave::pass_leaving;
-use memory::parts::Parts;
 use module::kinds::StatementKind;
 use standing::passing::{Exits, Passing};
 
 // The statement s of the block b, whose row is given.
 pub fn pass_plain(
     statement: &MarkedStatement,
-    parts: &mut Parts,
+    cells: &mut [u32],
+    slots: &mut [u32],
     path: &mut [u32],
     n: usize,
     x: Exits,
     p: Passing,
 ) -> Option<Passing>
-    requires course { CourseOf statement.now.marked.now parts.old.cells parts.old.slots path.old n x (going p) }
-    requires n_in_bounds { n + 12 ≤ length parts.old.slots }
+    requires course { CourseOf statement.now.marked.now cells.old slots.old path.old n x (going p) }
+    requires n_in_bounds { n + 12 ≤ length slots.old }
     requires lt_kind { (statement.now.row.kind ≡ 0 → ⊥) → 4 < statement.now.row.kind }
-    ensures { Passes (scope_of statement.now.marked.now.subject.now) (inside (statement_tree (function_in statement.now.marked.now.subject.now) statement.now.marked.now.marks.now statement.now.b.0 statement.now.s)) parts.old.cells parts.old.slots n x (going p) parts.new.cells parts.new.slots path.old path.new (outcome result) }
+    ensures { Passes (scope_of statement.now.marked.now.subject.now) (inside (statement_tree (function_in statement.now.marked.now.subject.now) statement.now.marked.now.marks.now statement.now.b.0 statement.now.s)) cells.old slots.old n x (going p) cells.new slots.new path.old path.new (outcome result) }
 {
     let marked = statement.marked;
     let s = statement.s;
@@ -39,7 +39,8 @@ pub fn pass_plain(
             pass_emits(
                 marked.subject,
                 marked.marks,
-                parts,
+                cells,
+                slots,
                 path,
                 n,
                 p,
@@ -55,7 +56,8 @@ pub fn pass_plain(
             let value = marked.subject.file.expression_operand(statement.row, 1);
             pass_store(
                 marked.subject,
-                parts,
+                cells,
+                slots,
                 path,
                 n,
                 p,
@@ -65,6 +67,6 @@ pub fn pass_plain(
                 value,
             )
         }
-        _ => pass_leaving(marked.subject, parts, n, x, p, s, statement.row),
+        _ => pass_leaving(marked.subject, cells, slots, n, x, p, s, statement.row),
     }
 }

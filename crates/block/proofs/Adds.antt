@@ -1,9 +1,11 @@
 -- The walk just done put into the totals: what each step asks, and what is left. The sum changes by what the slots of the total count for before and after.
-use Prim.Native.Nat.{ℕ, ◌+◌, ◌-◌, ◌*◌, ◌≤◌}
+use Prim.Native.Nat.{ℕ, ◌+◌, ◌-◌, ◌*◌, ◌<◌, ◌≤◌}
 use native.Mathlib.Omega.{arith}
 use mathlib.Core.Path.{◌≡◌, sym, ap, ◌∙◌}
 use mathlib.Core.Bool.{Bool, true, false}
 use mathlib.Core.List.{List}
+use lib.ListN.{length}
+use Rattle.field.specs.Limits.{max_functions, min_report}
 use Rattle.part.specs.StoreLimits.{entries_cap}
 use Rattle.module.specs.Module.{FunctionHandle}
 use Rattle.context.specs.RequiredContext.{RequiredContext, merge_context, over_context, pieces}
@@ -12,7 +14,6 @@ use Rattle.walk.proofs.Counts.{record_pieces-extend}
 use Rattle.walk.proofs.Room.{pieces-merge}
 use Rattle.memory.specs.Layout.{exprs_slot, totals_slot, functions_slot}
 use Rattle.memory.specs.Memory.{read, context_at}
-use Rattle.marks.specs.declared.places.MarkPlaces.{MarkPlaces}
 use Rattle.marks.specs.declared.totals.MarkTotals.{MarkTotals}
 use Rattle.marks.specs.Report.{MarksKept, MarksJoined}
 use Rattle.state.specs.State.{records_in}
@@ -26,22 +27,25 @@ pub record Added (t s rs : List ℕ) (f : FunctionHandle) (c : RequiredContext) 
   pub sums : m + total_count t f (read s rs) ≡ sum + total_count t f (read u us)
 
 -- the first total of f
-pub record FirstTotal (t : List ℕ) (places : MarkPlaces) (s rs open_marks : List ℕ) (totals : MarkTotals) (f : FunctionHandle) (at sum m : ℕ) (us : List ℕ) (after : MarkTotals) : Type 0 where
+pub record FirstTotal (t starts s rs open_marks : List ℕ) (totals : MarkTotals) (f : FunctionHandle) (at sum m : ℕ) (us : List ℕ) (after : MarkTotals) : Type 0 where
   pub added : Added t s rs f (context_at (read s rs) at) sum m s us
-  pub marks : MarksKept places open_marks totals f after
+  pub marks : MarksKept starts open_marks totals f after
+  pub flag : f < length totals.flags
+  pub long : min_report ≤ length totals.marks
   pub few : m ≤ sum + (record_pieces (records_in t exprs_slot f (read s rs)) + pieces (context_at (read s rs) at))
 
 -- a later one
 abbrev pub joint : (s rs : List ℕ) → FunctionHandle → (at : ℕ) → RequiredContext
 joint s rs f at = merge_context (context_at (read s rs) (functions_slot + 4 * f)) (context_at (read s rs) at)
 
-pub record LaterTotal (t : List ℕ) (places : MarkPlaces) (s rs open_marks : List ℕ) (totals : MarkTotals) (f : FunctionHandle) (at sum m : ℕ) (u us : List ℕ) (after : MarkTotals) : Type 0 where
+pub record LaterTotal (t starts s rs open_marks : List ℕ) (totals : MarkTotals) (f : FunctionHandle) (at sum m : ℕ) (u us : List ℕ) (after : MarkTotals) : Type 0 where
   pub within : over_context (joint s rs f at) ≡ false
   pub added : Added t s rs f (joint s rs f at) sum m u us
-  pub marks : MarksJoined places open_marks totals f after
+  pub marks : MarksJoined starts open_marks totals f after
+  pub long : min_report ≤ length totals.marks
   pub few : m ≤ sum + (record_pieces (records_in t exprs_slot f (read s rs)) + pieces (context_at (read s rs) at))
 
-module _ {t : List ℕ} {places : MarkPlaces} {s rs open_marks : List ℕ} {f : FunctionHandle} {at sum : ℕ} (A : Adding t places s rs open_marks f at sum) where
+module _ {t starts s rs open_marks : List ℕ} {f : FunctionHandle} {at sum : ℕ} (A : Adding t starts s rs open_marks f at sum) where
   -- what the total counts for afterwards
   module _ {c : RequiredContext} {u us : List ℕ} (M : TotalMade t f s rs c u us) (small : pieces c ≤ pieces (context_at (read s rs) (functions_slot + 4 * f)) + pieces (context_at (read s rs) at)) where
     grown : total_count t f (read u us) ≤ total_count t f (read s rs) + (record_pieces (records_in t exprs_slot f (read s rs)) + pieces (context_at (read s rs) at))
@@ -79,8 +83,15 @@ module _ {t : List ℕ} {places : MarkPlaces} {s rs open_marks : List ℕ} {f : 
   kept_small = omega arith
 
   pub first_is : {us : List ℕ} {totals after : MarkTotals} {less more : ℕ} → TotalKept t f at rs us → less ≡ total_count t f (read s rs) → more ≡ total_count t f (read s us)
-      → MarksKept places open_marks totals f after → FirstTotal t places s rs open_marks totals f at sum (sum - less + more) us after
-  first_is k e g h = record { added = added_is (kept_made k) kept_small e g; marks = h; few = sum_few (kept_made k) kept_small e g }
+      → MarksKept starts open_marks totals f after → max_functions ≤ length totals.flags → min_report ≤ length totals.marks
+      → FirstTotal t starts s rs open_marks totals f at sum (sum - less + more) us after
+  first_is k e g h flags long = record {
+    added = added_is (kept_made k) kept_small e g;
+    marks = h;
+    flag = omega (arith, flags, A.totalling.function);
+    long = long;
+    few = sum_few (kept_made k) kept_small e g;
+  }
 
   -- a later one
   pub later_small : pieces (joint s rs f at) ≤ pieces (context_at (read s rs) (functions_slot + 4 * f)) + pieces (context_at (read s rs) at)
@@ -91,5 +102,11 @@ module _ {t : List ℕ} {places : MarkPlaces} {s rs open_marks : List ℕ} {f : 
     later_over e here st = limited_over here (joint s rs f at) st (sym e ∙ J.over)
 
     pub later_is : {totals after : MarkTotals} {less more : ℕ} → b ≡ false → less ≡ total_count t f (read s rs) → more ≡ total_count t f (read u us)
-        → MarksJoined places open_marks totals f after → LaterTotal t places s rs open_marks totals f at sum (sum - less + more) u us after
-    later_is z e g h = record { within = sym J.over ∙ z; added = added_is J.made later_small e g; marks = h; few = sum_few J.made later_small e g }
+        → MarksJoined starts open_marks totals f after → min_report ≤ length totals.marks → LaterTotal t starts s rs open_marks totals f at sum (sum - less + more) u us after
+    later_is z e g h long = record {
+      within = sym J.over ∙ z;
+      added = added_is J.made later_small e g;
+      marks = h;
+      long = long;
+      few = sum_few J.made later_small e g;
+    }

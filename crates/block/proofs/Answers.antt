@@ -28,7 +28,7 @@ no-ray : (bytes t : List ℕ) (f : FunctionHandle) (r : Option ℕ) → ray_in r
 no-ray bytes t f r ray e = subst (λ (x : Option ℕ). ray_in x ≡ first_ray (module_of bytes t) f (body_of (module_of bytes t) f)) e ray
 
 module _ {bytes t : List ℕ} {places : MarkPlaces} {s rs open_marks : List ℕ} {totals : MarkTotals} {f : FunctionHandle} {at sum : ℕ} (visits : ℕ) (here : Place) where
-  pub total_first : {us : List ℕ} {after : MarkTotals} {k : ℕ} → has_total totals f ≡ false → FirstTotal t places s rs open_marks totals f at sum k us after
+  pub total_first : {us : List ℕ} {after : MarkTotals} {k : ℕ} → has_total totals f ≡ false → FirstTotal t places.starts s rs open_marks totals f at sum k us after
       → TotalEnds bytes t places s rs open_marks totals f at sum visits here (Ok (record { visits = visits; sum = k })) s us after
   total_first e T = record {
     by = λ types held S.
@@ -53,7 +53,7 @@ module _ {bytes t : List ℕ} {places : MarkPlaces} {s rs open_marks : List ℕ}
           → TotalEnds bytes t places s rs open_marks totals f at sum visits here (Err (record { refusal = PartLimit; place = here })) u us after
       total_over o = record { by = λ types held S. over_meets S there visits (place_of here) (no-ray bytes t f r ray e) o }
 
-      pub total_later : {u us : List ℕ} {after : MarkTotals} {k : ℕ} → LaterTotal t places s rs open_marks totals f at sum k u us after
+      pub total_later : {u us : List ℕ} {after : MarkTotals} {k : ℕ} → LaterTotal t places.starts s rs open_marks totals f at sum k u us after
           → TotalEnds bytes t places s rs open_marks totals f at sum visits here (Ok (record { visits = visits; sum = k })) u us after
       total_later T = record {
         by = λ types held S.

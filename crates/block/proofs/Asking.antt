@@ -59,7 +59,7 @@ module _ {bytes t types : List ℕ} {places : MarkPlaces} {s rs open_marks : Lis
         stretch_within (read s rs) functions_slot (4 * max_functions) (functions_slot + 4 * f) 4 (omega arith) (omega arith),
       )
 
-  pub total_asked : context_in s rs at ≤ 2 * max_pieces → sum ≤ 2 * max_pieces → Room s room → TotalAsked bytes t places s rs open_marks f at sum
+  pub total_asked : context_in s rs at ≤ 2 * max_pieces → sum ≤ 2 * max_pieces → Room s room → TotalAsked bytes t places.starts s rs open_marks f at sum
   total_asked small less roomy =
       let c = total_counted in
       let w = S.ready.was_read in

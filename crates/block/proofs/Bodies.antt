@@ -194,7 +194,7 @@ module _ {bytes t types : List ℕ} {places : MarkPlaces} {s rs open_marks : Lis
           left_sum : tally.sum ≤ max_pieces
           left_sum = omega (arith, settled_sum 0 max_pieces ended.settled (omega arith) (omega (arith, F.sum_few)) (le_refl max_pieces))
 
-          pub body_asked : TotalAsked bytes t places u us open-1 f (base + 4) tally.sum
+          pub body_asked : TotalAsked bytes t places.starts u us open-1 f (base + 4) tally.sum
           body_asked = total_asked ended.standing left_few (omega (arith, left_sum)) ended.roomy
 
           module _ {q : Result Tally Halt} {v vs : List ℕ} {after : MarkTotals} (T : TotalEnds bytes t places u us open-1 totals-1 f (base + 4) tally.sum tally.visits here q v vs after) where

@@ -39,7 +39,7 @@ use Rattle.block.proofs.Steps.{items_within}
 
 module _ {bytes t types : List ℕ} {places : MarkPlaces} {s rs open_marks : List ℕ} {totals : MarkTotals} {f at held sum visits : ℕ} (S : Standing bytes t types places s rs open_marks totals f at held sum visits)
     {g : FunctionHandle} (lower : g < f) {base : RequiredContext} {u us : List ℕ} (d : Saved s rs (at + 4) base u us) (high : at + 8 ≤ length rs)
-    {cleared : List ℕ} (marks : cleared ≡ write_marks open_marks (start_in places g) (replicate (size_in places g) 0)) where
+    {cleared : List ℕ} (marks : cleared ≡ write_marks open_marks (start_in places.starts g) (replicate (size_in places.starts g) 0)) where
   abbrev m : Module
   m = module_of bytes t
 
@@ -119,7 +119,7 @@ module _ {bytes t types : List ℕ} {places : MarkPlaces} {s rs open_marks : Lis
         };
         typed = S.typed;
         placed = S.placed;
-        open_long = omega (arith, S.open_long, ap length marks, write_long open_marks (start_in places g) (replicate (size_in places g) 0));
+        open_long = omega (arith, S.open_long, ap length marks, write_long open_marks (start_in places.starts g) (replicate (size_in places.starts g) 0));
         totals-sum = sum_kept (read s rs) (read u us) w totals_kept totals S.totals-sum;
         unwalked = unwalked_kept (read s rs) (read u us) w totals_kept totals S.unwalked;
         proper = rw entered-state

@@ -62,12 +62,12 @@ module _ {bytes t types : List ℕ} {places : MarkPlaces} {s rs open_marks : Lis
         (records_long (read s rs) (totals_slot + expressions_from (row_at t f)) n ∙ sym (records_long (read s rs) (exprs_slot + expressions_from (row_at t f)) n))
         (omega (arith, S.unwalked f S.ready.function none_yet))
 
-    module _ {us : List ℕ} {after : MarkTotals} {k : ℕ} (T : FirstTotal t places s rs open_marks totals f at sum k us after) where
+    module _ {us : List ℕ} {after : MarkTotals} {k : ℕ} (T : FirstTotal t places.starts s rs open_marks totals f at sum k us after) where
       first_own : report.total_in m after f ≡ some (slice open_marks (start_of m f) (stretch m f))
-      first_own = kept-own bytes t places S.ready.was_read S.placed totals after open_marks f S.ready.function S.open_long T.marks
+      first_own = kept-own bytes t places S.ready.was_read S.placed totals after open_marks f S.ready.function S.open_long T.long T.marks T.flag
 
       first_others : (g : ℕ) → g < length m.functions → (g ≡ f → ⊥) → report.total_in m after g ≡ report.total_in m totals g
-      first_others g l ne = kept-other bytes t places S.ready.was_read S.placed totals after open_marks f S.ready.function S.open_long T.marks g ne
+      first_others g l ne = kept-other bytes t places S.ready.was_read S.placed totals after open_marks f S.ready.function S.open_long T.long T.marks g ne
 
       first_state : (v : ℕ) → state_in bytes t s us open_marks after f at v ≡ keep f (walked (state_in bytes t s rs open_marks totals f at v)) (state_in bytes t s rs open_marks totals f at v)
       first_state v =
@@ -121,12 +121,12 @@ module _ {bytes t types : List ℕ} {places : MarkPlaces} {s rs open_marks : Lis
       exprs = extend (records_in t totals_slot f (read s rs)) (records_in t exprs_slot f (read s rs));
     }
 
-    module _ {u us : List ℕ} {after : MarkTotals} {k : ℕ} (T : LaterTotal t places s rs open_marks totals f at sum k u us after) where
+    module _ {u us : List ℕ} {after : MarkTotals} {k : ℕ} (T : LaterTotal t places.starts s rs open_marks totals f at sum k u us after) where
       later_own : report.total_in m after f ≡ some joined-marks
-      later_own = added-own bytes t places S.ready.was_read S.placed totals after open_marks f S.ready.function S.open_long T.marks there
+      later_own = added-own bytes t places S.ready.was_read S.placed totals after open_marks f S.ready.function S.open_long T.long T.marks there
 
       later_others : (g : ℕ) → g < length m.functions → (g ≡ f → ⊥) → report.total_in m after g ≡ report.total_in m totals g
-      later_others g l ne = added-other bytes t places S.ready.was_read S.placed totals after open_marks f S.ready.function S.open_long T.marks g ne
+      later_others g l ne = added-other bytes t places S.ready.was_read S.placed totals after open_marks f S.ready.function S.open_long T.long T.marks g ne
 
       later_state : (v : ℕ) → state_in bytes t u us open_marks after f at v ≡ keep f later_total (state_in bytes t s rs open_marks totals f at v)
       later_state v = total_state S T.added.made.memory T.added.made.total after joined-marks later_own later_others v
@@ -142,12 +142,12 @@ module _ {bytes t types : List ℕ} {places : MarkPlaces} {s rs open_marks : Lis
       unfolding add_total join_total
       over_meets e = rw (old_is, ← no-ray, ← e (state_in bytes t s rs open_marks totals f at v))
 
-      pub later_added : {u us : List ℕ} {after : MarkTotals} {k : ℕ} → LaterTotal t places s rs open_marks totals f at sum k u us after
+      pub later_added : {u us : List ℕ} {after : MarkTotals} {k : ℕ} → LaterTotal t places.starts s rs open_marks totals f at sum k u us after
           → went (state_in bytes t u us open_marks after f at v) tt ≡ add_total m f here (get_or (functions_in m t (read s rs) totals) f nothing) (state_in bytes t s rs open_marks totals f at v)
       unfolding add_total join_total limited_context
       later_added T = rw (old_is, ← no-ray, T.within) (ap (λ (st : State). went st tt) (later_state T v))
 
-    module _ {u us : List ℕ} {after : MarkTotals} {k : ℕ} (T : LaterTotal t places s rs open_marks totals f at sum k u us after) where
+    module _ {u us : List ℕ} {after : MarkTotals} {k : ℕ} (T : LaterTotal t places.starts s rs open_marks totals f at sum k u us after) where
       pub later_standing : Sound m → held + (pieces (context_at (read s rs) at) + k) ≤ entries_cap → Standing bytes t types places u us open_marks after f at held k visits
       later_standing sound small =
           let N = T.added.made.total in

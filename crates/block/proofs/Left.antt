@@ -250,24 +250,24 @@ module _ {bytes t types : List ℕ} {places : MarkPlaces} {s rs open_marks : Lis
 -- What a call leaves of the caller as g begins.
 module _ {bytes t types : List ℕ} {places : MarkPlaces} {s rs open_marks : List ℕ} {totals : MarkTotals} {f at held sum visits : ℕ} (S : Standing bytes t types places s rs open_marks totals f at held sum visits) where
   pub beside_entered : {g : FunctionHandle} {base : RequiredContext} {u us cleared : List ℕ} → g < f → Saved s rs (at + 4) base u us
-      → cleared ≡ write_marks open_marks (start_in places g) (replicate (size_in places g) 0) → Beside bytes t g (at + 4) s rs open_marks u us cleared
+      → cleared ≡ write_marks open_marks (start_in places.starts g) (replicate (size_in places.starts g) 0) → Beside bytes t g (at + 4) s rs open_marks u us cleared
   beside_entered {g} {base} {u} {us} lower d marks =
       let l = S.ready.low in
       let there = S.ready.function in
       let one : g + 1 ≡ suc g = omega arith in
-      let zeros : List ℕ = replicate (size_in places g) 0 in
+      let zeros : List ℕ = replicate (size_in places.starts g) 0 in
       let under : (k : ℕ) → k < at + 4 → get_or (read u us) k none ≡ get_or (read s rs) k none = λ k x. rw d.reads (put_below (read s rs) (at + 4) base k x) in
       record {
         long = d.long;
         stack = λ k x y. under k y;
         records = λ k x y n. under k (omega arith);
-        marks_long = ap length marks ∙ write_long open_marks (start_in places g) zeros;
+        marks_long = ap length marks ∙ write_long open_marks (start_in places.starts g) zeros;
         marks = λ k x.
             rw marks
-            (write_after open_marks (start_in places g) zeros k
+            (write_after open_marks (start_in places.starts g) zeros k
             (omega (
               arith,
-              length-replicate {A = ℕ} (size_in places g) 0,
+              length-replicate {A = ℕ} (size_in places.starts g) 0,
               S.placed.starts g (omega arith),
               S.placed.starts (g + 1) (omega arith),
               start_within (module_of bytes t) g (g + 1) (omega arith),

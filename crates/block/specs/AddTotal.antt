@@ -23,8 +23,8 @@ use Rattle.block.specs.Standing.{functions_in, state_in, Standing}
 use Rattle.block.specs.Blocks.{Beside}
 use Rattle.block.specs.Adding.{Adding}
 
-pub record TotalAsked (bytes t : List ℕ) (places : MarkPlaces) (s rs open_marks : List ℕ) (f : FunctionHandle) (at sum : ℕ) : Type 0 where
-  pub adding : Adding t places s rs open_marks f at sum
+pub record TotalAsked (bytes t starts s rs open_marks : List ℕ) (f : FunctionHandle) (at sum : ℕ) : Type 0 where
+  pub adding : Adding t starts s rs open_marks f at sum
   pub was_read : WasRead bytes t
   pub function : f < length (module_of bytes t).functions
   pub roomy : Room s (pieces (context_at (read s rs) (functions_slot + 4 * f)) + pieces (context_at (read s rs) at))

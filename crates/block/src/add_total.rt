@@ -1,37 +1,43 @@
 // The walk just done put into the totals, as `add_function_ref` ends: the slots, the marks, and what records and totals count for.
-ghost use Rattle.std.specs.Prelude.{◌≡◌};
+ghost use Rattle.std.specs.Prelude.{List, ℕ, ◌≤◌, length};
+ghost use Rattle.field.specs.Limits.{max_functions, min_report};
+ghost use Rattle.marks.specs.Report.{totals_of};
 ghost use Rattle.block.specs.AddTotal.{TotalAsked, TotalEnds};
+ghost use Rattle.marks.specs.Places.{places_of};
 
 use crate::total::{join_total, keep_total, weigh_total};
-use crate::workspace::Workspace;
 use access::file::File;
 use field::refusal::Refusal;
-use marks::places::MarkPlaces;
+use marks::joined::{add_marks, keep_marks};
 use marks::ray::first_ray;
 use module::handles::FunctionHandle;
 use state::answer::{Halt, Place, Tally, Walked};
 
 // A first total is kept, a later one joined to that of f. `here` is where f was called.
-// Stays: file and places, since a `World` would ask for rows of the types too, and that the places of all statements are filled.
+// Stays: file and starts, since a `World` would ask for rows of the types too, and that the places of all statements are filled.
 pub fn add_total(
     file: &File,
-    places: &MarkPlaces,
-    space: &mut Workspace,
+    starts: &[u32],
+    cells: &mut [u32],
+    slots: &mut [u32],
+    open: &[u8],
+    flags: &mut [bool],
+    kept: &mut [u8],
     f: FunctionHandle,
     at: usize,
     here: Place,
     tally: Tally,
 ) -> Walked
-    requires { TotalAsked file.now.bytes file.now.t places.now space.old.parts.cells space.old.parts.slots space.old.open f.0 at tally.sum }
-    ensures open_same { space.new.open ≡ space.old.open }
-    ensures ends { TotalEnds file.now.bytes file.now.t places.now space.old.parts.cells space.old.parts.slots space.old.open space.old.totals f.0 at tally.sum tally.visits here result space.new.parts.cells space.new.parts.slots space.new.totals }
+    requires asked { TotalAsked file.now.bytes file.now.t starts.now cells.old slots.old «open».now f.0 at tally.sum }
+    requires totals_long { (max_functions ≤ length flags.old) × (min_report ≤ length kept.old) }
+    ensures { (firsts : List ℕ) → TotalEnds file.now.bytes file.now.t (places_of starts.now firsts) cells.old slots.old «open».now (totals_of flags.old kept.old) f.0 at tally.sum tally.visits here result cells.new slots.new (totals_of flags.new kept.new) }
 {
-    let less = weigh_total(file, &space.parts, f);
-    if !space.totals.flags[f.0 as usize] {
-        keep_total(file, &mut space.parts.slots, f, at);
-        space.totals.keep_marks(&space.open, places, f);
-        let kept = weigh_total(file, &space.parts, f);
-        let sum = tally.sum - less + kept;
+    let less = weigh_total(file, cells, slots, f);
+    if !flags[f.0 as usize] {
+        keep_total(file, slots, f, at);
+        keep_marks(flags, kept, open, starts, f);
+        let now = weigh_total(file, cells, slots, f);
+        let sum = tally.sum - less + now;
         return Ok(Tally { sum, ..tally });
     }
     if let Some(s) = first_ray(file, f) {
@@ -40,12 +46,12 @@ pub fn add_total(
             place: Place::Statement(f, s),
         });
     }
-    join_total(file, &mut space.parts, f, at).ok_or(Halt {
+    join_total(file, cells, slots, f, at).ok_or(Halt {
         refusal: Refusal::PartLimit,
         place: here,
     })?;
-    space.totals.add_marks(&space.open, places, f);
-    let joined = weigh_total(file, &space.parts, f);
+    add_marks(kept, open, starts, f);
+    let joined = weigh_total(file, cells, slots, f);
     let sum = tally.sum - less + joined;
     Ok(Tally { sum, ..tally })
 }

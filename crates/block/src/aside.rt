@@ -8,27 +8,25 @@ ghost use Rattle.block.specs.Aside.{from_aside, Asiding, Aside};
 
 use context::required_context::RequiredContext;
 use memory::layout::RESULT;
-use memory::parts::Parts;
 use memory::stretches::{load_context, save_context};
 use part::limits::SPINE;
 use part::store::{EMPTY_PIECE, make};
 use part::subpart::subpart;
 
 // The context at k.
-pub fn put_aside(parts: &mut Parts, k: usize)
-    requires { Asiding parts.old.cells parts.old.slots k }
-    ensures { Aside parts.old.cells parts.old.slots k parts.new.cells parts.new.slots }
+pub fn put_aside(cells: &mut [u32], slots: &mut [u32], k: usize)
+    requires { Asiding cells.old slots.old k }
+    ensures { Aside cells.old slots.old k cells.new slots.new }
 {
-    let c = load_context(&parts.slots, k);
-    let retval = make(&mut parts.cells, SPINE + 3, c.retval, EMPTY_PIECE);
-    let args = make(&mut parts.cells, SPINE + 2, c.args, retval);
-    let locals = make(&mut parts.cells, SPINE + 1, c.locals, args);
-    let globals = make(&mut parts.cells, SPINE, c.globals, locals);
-    parts.slots[RESULT] = globals;
+    let c = load_context(slots, k);
+    let retval = make(cells, SPINE + 3, c.retval, EMPTY_PIECE);
+    let args = make(cells, SPINE + 2, c.args, retval);
+    let locals = make(cells, SPINE + 1, c.locals, args);
+    let globals = make(cells, SPINE, c.globals, locals);
+    slots[RESULT] = globals;
 }
 
 // Back to k.
-// Stays: the cells are only read, which a `&mut` of both would not say.
 pub fn take_back(cells: &[u32], slots: &mut [u32], k: usize)
     requires memory { Memory cells.now slots.old }
     requires stack_slot_le_k { (stack_slot ≤ k) × (k + 4 ≤ length slots.old) }

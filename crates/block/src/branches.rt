@@ -8,17 +8,16 @@ ghost use Rattle.memory.specs.Memory.{read, context_at, Memory};
 ghost use Rattle.block.specs.Branches.{JoinedUp, BothDropped};
 
 use crate::stack::{drop, join, lower};
-use memory::parts::Parts;
 
 // The two contexts behind the one at k are joined in its place. None where that passes a limit.
-pub fn join_up(parts: &mut Parts, k: usize) -> Option<()>
-    requires memory { Memory parts.old.cells parts.old.slots }
-    requires stack_slot_le_k { (stack_slot ≤ k) × (k + 12 ≤ length parts.old.slots) }
-    requires room { Room parts.old.cells (pieces (context_at (read parts.old.cells parts.old.slots) (k + 4)) + pieces (context_at (read parts.old.cells parts.old.slots) (k + 4 + 4))) }
-    ensures { JoinedUp parts.old.cells parts.old.slots k (is_none result) parts.new.cells parts.new.slots }
+pub fn join_up(cells: &mut [u32], slots: &mut [u32], k: usize) -> Option<()>
+    requires memory { Memory cells.old slots.old }
+    requires stack_slot_le_k { (stack_slot ≤ k) × (k + 12 ≤ length slots.old) }
+    requires room { Room cells.old (pieces (context_at (read cells.old slots.old) (k + 4)) + pieces (context_at (read cells.old slots.old) (k + 4 + 4))) }
+    ensures { JoinedUp cells.old slots.old k (is_none result) cells.new slots.new }
 {
-    let fits = join(parts, k + 4);
-    lower(&mut parts.slots, k);
+    let fits = join(cells, slots, k + 4);
+    lower(slots, k);
     fits
 }
 

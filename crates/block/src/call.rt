@@ -5,7 +5,6 @@ ghost use Rattle.memory.specs.Stretches.{four_set};
 ghost use Rattle.marks.specs.Places.{start_in, size_in, Inside};
 
 use context::required_context::RequiredContext;
-use marks::places::MarkPlaces;
 use marks::set::clear_marks;
 use memory::stretches::save_context;
 use module::handles::FunctionHandle;
@@ -15,15 +14,15 @@ use part::store::EMPTY_PIECE;
 pub fn enter(
     slots: &mut [u32],
     open: &mut [u8],
-    places: &MarkPlaces,
+    starts: &[u32],
     g: FunctionHandle,
     at: usize,
     retval: u32,
 )
     requires at_in_bounds { at + 8 ≤ length slots.old }
-    requires inside { Inside places.now g.0 (length «open».old) }
+    requires inside { Inside starts.now g.0 (length «open».old) }
     ensures slots_after { slots.new ≡ four_set slots.old (at + 4) (get_or slots.old at 0) 2 2 retval }
-    ensures open_after { «open».new ≡ write_marks «open».old (start_in places.now g.0) (replicate (size_in places.now g.0) 0) }
+    ensures open_after { «open».new ≡ write_marks «open».old (start_in starts.now g.0) (replicate (size_in starts.now g.0) 0) }
 {
     let c = RequiredContext {
         globals: slots[at],
@@ -32,5 +31,5 @@ pub fn enter(
         retval,
     };
     save_context(slots, at + 4, c);
-    clear_marks(open, places, g);
+    clear_marks(open, starts, g);
 }

@@ -7,7 +7,6 @@ ghost use Rattle.memory.specs.Layout.{stack_slot};
 ghost use Rattle.memory.specs.Memory.{read, context_at, Memory};
 ghost use Rattle.block.specs.Saved.{Lowered, Dropped, Joined};
 
-use memory::parts::Parts;
 use memory::stretches::{clear_context, copy_context, load_context, save_context};
 
 // The context behind the one at k takes its place.
@@ -28,27 +27,27 @@ pub fn drop(slots: &mut [u32], k: usize)
 }
 
 // The contexts at k and behind it are joined, at k. None where that passes a limit.
-pub fn join(parts: &mut Parts, k: usize) -> Option<()>
-    requires memory { Memory parts.old.cells parts.old.slots }
-    requires stack_slot_le_k { (stack_slot ≤ k) × (k + 8 ≤ length parts.old.slots) }
-    requires room { Room parts.old.cells (pieces (context_at (read parts.old.cells parts.old.slots) k) + pieces (context_at (read parts.old.cells parts.old.slots) (k + 4))) }
-    ensures { Joined parts.old.cells parts.old.slots k (is_none result) parts.new.cells parts.new.slots }
+pub fn join(cells: &mut [u32], slots: &mut [u32], k: usize) -> Option<()>
+    requires memory { Memory cells.old slots.old }
+    requires stack_slot_le_k { (stack_slot ≤ k) × (k + 8 ≤ length slots.old) }
+    requires room { Room cells.old (pieces (context_at (read cells.old slots.old) k) + pieces (context_at (read cells.old slots.old) (k + 4))) }
+    ensures { Joined cells.old slots.old k (is_none result) cells.new slots.new }
 {
-    let lower = load_context(&parts.slots, k);
-    let upper = load_context(&parts.slots, k + 4);
-    let joined = lower.merge(&mut parts.cells, upper);
-    save_context(&mut parts.slots, k, joined);
-    clear_context(&mut parts.slots, k + 4);
-    (!joined.over(&parts.cells)).then_some(())
+    let lower = load_context(slots, k);
+    let upper = load_context(slots, k + 4);
+    let joined = lower.merge(cells, upper);
+    save_context(slots, k, joined);
+    clear_context(slots, k + 4);
+    (!joined.over(cells)).then_some(())
 }
 
 // Whether the context at k contains the one behind it.
-pub fn settled(parts: &Parts, k: usize) -> bool
-    requires memory { Memory parts.now.cells parts.now.slots }
-    requires k_in_bounds { k + 8 ≤ length parts.now.slots }
-    ensures { result ≡ contains_context (context_at (read parts.now.cells parts.now.slots) k) (context_at (read parts.now.cells parts.now.slots) (k + 4)) }
+pub fn settled(cells: &[u32], slots: &[u32], k: usize) -> bool
+    requires memory { Memory cells.now slots.now }
+    requires k_in_bounds { k + 8 ≤ length slots.now }
+    ensures { result ≡ contains_context (context_at (read cells.now slots.now) k) (context_at (read cells.now slots.now) (k + 4)) }
 {
-    let working = load_context(&parts.slots, k);
-    let turn = load_context(&parts.slots, k + 4);
-    working.contains(&parts.cells, turn)
+    let working = load_context(slots, k);
+    let turn = load_context(slots, k + 4);
+    working.contains(cells, turn)
 }

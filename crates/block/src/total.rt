@@ -11,7 +11,6 @@ use access::file::File;
 use leave::leave::records_of;
 use memory::layout::{EXPRS, FUNCTIONS, TOTALS};
 use memory::memory::weigh;
-use memory::parts::Parts;
 use memory::stretches::{copy_context, extend, load_context, save_context};
 use module::handles::FunctionHandle;
 
@@ -27,31 +26,37 @@ pub fn keep_total(file: &File, slots: &mut [u32], f: FunctionHandle, at: usize)
 }
 
 // A later one: the contexts are joined. None where that passes a limit.
-pub fn join_total(file: &File, parts: &mut Parts, f: FunctionHandle, at: usize) -> Option<()>
-    requires totalling { Totalling file.now.t parts.old.slots f.0 at }
-    requires memory { Memory parts.old.cells parts.old.slots }
-    requires room { Room parts.old.cells (pieces (context_at (read parts.old.cells parts.old.slots) (functions_slot + 4 * f.0)) + pieces (context_at (read parts.old.cells parts.old.slots) at)) }
-    ensures { TotalJoined file.now.t f.0 at parts.old.cells parts.old.slots (is_none result) parts.new.cells parts.new.slots }
+pub fn join_total(
+    file: &File,
+    cells: &mut [u32],
+    slots: &mut [u32],
+    f: FunctionHandle,
+    at: usize,
+) -> Option<()>
+    requires totalling { Totalling file.now.t slots.old f.0 at }
+    requires memory { Memory cells.old slots.old }
+    requires room { Room cells.old (pieces (context_at (read cells.old slots.old) (functions_slot + 4 * f.0)) + pieces (context_at (read cells.old slots.old) at)) }
+    ensures { TotalJoined file.now.t f.0 at cells.old slots.old (is_none result) cells.new slots.new }
 {
     let to = FUNCTIONS + 4 * (f.0 as usize);
-    let total = load_context(&parts.slots, to);
-    let walked = load_context(&parts.slots, at);
-    let joined = total.merge(&mut parts.cells, walked);
-    save_context(&mut parts.slots, to, joined);
+    let total = load_context(slots, to);
+    let walked = load_context(slots, at);
+    let joined = total.merge(cells, walked);
+    save_context(slots, to, joined);
     let r = records_of(file, f);
     let from = r.from;
-    extend(&mut parts.slots, EXPRS + from, TOTALS + from, r.n);
-    (!joined.over(&parts.cells)).then_some(())
+    extend(slots, EXPRS + from, TOTALS + from, r.n);
+    (!joined.over(cells)).then_some(())
 }
 
 // What the slots of the total of f count for.
-pub fn weigh_total(file: &File, parts: &Parts, f: FunctionHandle) -> usize
-    requires { Weighing file.now.t parts.now.cells parts.now.slots f.0 }
-    ensures { result ≡ total_count file.now.t f.0 (read parts.now.cells parts.now.slots) }
+pub fn weigh_total(file: &File, cells: &[u32], slots: &[u32], f: FunctionHandle) -> usize
+    requires { Weighing file.now.t cells.now slots.now f.0 }
+    ensures { result ≡ total_count file.now.t f.0 (read cells.now slots.now) }
 {
     let r = records_of(file, f);
     let from = r.from;
-    let records = weigh(parts, TOTALS + from, r.n);
-    let context = weigh(parts, FUNCTIONS + 4 * (f.0 as usize), 4);
+    let records = weigh(cells, slots, TOTALS + from, r.n);
+    let context = weigh(cells, slots, FUNCTIONS + 4 * (f.0 as usize), 4);
     records + context
 }

@@ -3,7 +3,8 @@ use mathlib.Core.Path.{◌≡◌, refl, ◌∙◌}
 use mathlib.Core.List.{List}
 use Prim.Native.Nat.{ℕ, zero, suc, ◌+◌, ◌*◌}
 use native.Mathlib.Omega.{arith}
-use Rattle.std.specs.Prelude.{Option, Some, None, Result, Ok, Err}
+use Rattle.std.specs.Prelude.{Option, Some, None, Result, Ok, Err, IsErrAnd}
+use Rattle.std.specs.Result.{MatchResult}
 use Rattle.std.specs.Option.{unwrap_or}
 use Rattle.field.specs.Refusal.{number}
 use Rattle.module.specs.Module.{Module}
@@ -15,7 +16,8 @@ use Rattle.bindings_request.specs.Boundary.{Tables, refused_by, refusal_said, sa
 use Rattle.bindings_request.specs.declared.answer.Refused.{Refused}
 use Rattle.field.specs.declared.refusal.Refusal.{Refusal}
 use Rattle.bindings_request.proofs.Answers.{gave_refused}
-use Rattle.boundary.specs.Answers.{answer_number, read_number, answer_word, word_of, Answers, of_module}
+use Rattle.boundary.specs.declared.answer.Numbered.{Numbered}
+use Rattle.boundary.specs.Answers.{answer_number, read_number, answer_word, numbered, word_of, Answers, of_module}
 
 pub read_is : (bytes t : List ℕ) (n : ℕ) → Reads bytes t n → n ≡ read_number bytes
 unfolding answer_number
@@ -33,10 +35,15 @@ unfolding said_word
 error_said n None = omega arith
 error_said n (Some i) = refl
 
-word_said : (r : Result ℕ Refused) → word_of r ≡ said_word (said r)
+-- what an operation told, with its refusal by number
+abbrev pub NumberedAs : Result ℕ Refused → Result ℕ Numbered → Type 0
+NumberedAs r m = MatchResult r (λ n. m ≡ Ok n) (λ e. IsErrAnd m (λ k. k ≡ numbered e))
+
+word_said : (r : Result ℕ Refused) (m : Result ℕ Numbered) → NumberedAs r m → word_of m ≡ said_word (said r)
 unfolding word_of said_word
-word_said (Err e) = error_said (number e.by) e.argument
-word_said (Ok n) = refl
+word_said (Err e) (Err k) h = rw h (error_said (number e.by) e.argument)
+word_said (Err e) (Ok n) h = absurd h
+word_said (Ok n) m h = rw h
 
 word_told : (a : bindings.Answer (List ℕ)) → said_word (told a) ≡ answer_word a
 unfolding told answer_word said_word
@@ -44,8 +51,8 @@ word_told (bindings.refused n) = refl
 word_told (bindings.refused_at n i) = refl
 word_told (bindings.accepted s) = refl
 
-pub answers : {o p : List ℕ} {a : bindings.Answer (List ℕ)} {r : Result ℕ Refused} {w : ℕ} → Gave o p a r → w ≡ word_of r → Answers o p a w
-answers {a = a} {r} G e = record { is = e ∙ word_said r ∙ (rw G.is (word_told a)); out = G.out }
+pub answers : {o p : List ℕ} {a : bindings.Answer (List ℕ)} {r : Result ℕ Refused} {w : ℕ} → Gave o p a r → (m : Result ℕ Numbered) → NumberedAs r m → w ≡ word_of m → Answers o p a w
+answers {a = a} {r} G m h e = record { is = e ∙ word_said r m h ∙ (rw G.is (word_told a)); out = G.out }
 
 -- the file was read where its number is 0
 pub was_read : (bytes t : List ℕ) {n : ℕ} → Reads bytes t n → n ≡ 0 → read_module bytes ≡ accepted (module_of bytes t)

@@ -8,6 +8,7 @@ use Rattle.bindings.specs.ContextBindings as bindings
 use Rattle.bindings_request.specs.Boundary.{output_bytes, add_bytes, left}
 use Rattle.bindings_request.specs.Inputs.{input_bytes}
 use Rattle.bindings_request.specs.declared.answer.Refused.{Refused}
+use Rattle.boundary.specs.declared.answer.Numbered.{Numbered}
 
 -- reading's answer: 0, or the refusal's number
 unfoldable pub answer_number : Answer → ℕ
@@ -24,9 +25,13 @@ answer_word (bindings.refused n) = 4294967296 * n
 answer_word (bindings.refused_at n i) = 4294967296 * n + i
 answer_word (bindings.accepted s) = length s
 
--- the same of what the code tells
-unfoldable pub word_of : Result ℕ Refused → ℕ
-word_of (Err e) = 4294967296 * number e.by + unwrap_or e.argument 0
+-- what an operation of the code tells, with its refusal by number
+abbrev pub numbered : Refused → Numbered
+numbered e = record { number = number e.by; argument = e.argument }
+
+-- the same of that
+unfoldable pub word_of : Result ℕ Numbered → ℕ
+word_of (Err e) = 4294967296 * e.number + unwrap_or e.argument 0
 word_of (Ok n) = n
 
 -- from the slice o, p was left, and the number r says the answer

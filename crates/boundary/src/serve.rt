@@ -11,7 +11,7 @@ use access::file::File;
 use block::world::World;
 use context::remove::TYPE_WORDS;
 use field::limits::MAX_TYPES;
-use marks::places::MarkPlaces;
+use marks::places::{MarkPlaces, place_marks};
 use module::tables::WORDS;
 use reading::read::read_module;
 use requests::finish::Reply;
@@ -63,7 +63,7 @@ fn request_of(
 ) -> u64
     ensures { RequestsRead typed.now.file.now.bytes typed.now.file.now.t request.now pruner.old report.old answer.old result pruner.new report.new answer.new }
 {
-    places.place_marks(typed.file);
+    place_marks(typed.file, &mut places.starts, &mut places.firsts);
     let world = World {
         typed: &*typed,
         places,

@@ -8,7 +8,6 @@ ghost use Rattle.call.specs.Calls.{Calling, Passable, Argued, AskedArguments};
 use access::file::File;
 use access::kinded::Kinded;
 use memory::layout::{ASK, RETURNED};
-use memory::parts::Parts;
 use module::handles::ExpressionHandle;
 use part::limits::SPINE;
 use part::req::get;
@@ -19,36 +18,44 @@ use statement::ask::then_ask;
 // What is needed of the argument i, if anything is, is asked of the expression e, after a walk that went.
 fn then_argument(
     file: &File,
-    parts: &mut Parts,
+    cells: &mut [u32],
+    slots: &mut [u32],
     fr: Frame,
     tally: Tally,
     e: ExpressionHandle,
     i: u16,
 ) -> Walked
-    requires passable { Passable file.now.bytes file.now.t parts.old.cells parts.old.slots fr (Ok tally) }
+    requires passable { Passable file.now.bytes file.now.t cells.old slots.old fr (Ok tally) }
     requires e_in_bounds { e.0 < length (function_at (module_of file.now.bytes file.now.t) fr.function.0).expressions }
-    ensures { Argued file.now.bytes file.now.t parts.old.cells parts.old.slots fr (Ok tally) e.0 i result parts.new.cells parts.new.slots }
+    ensures { Argued file.now.bytes file.now.t cells.old slots.old fr (Ok tally) e.0 i result cells.new slots.new }
 {
-    let needed = get(&parts.cells, parts.slots[RETURNED], SPINE + (i as u32));
+    let needed = get(cells, slots[RETURNED], SPINE + (i as u32));
     match needed {
         None => Ok(tally),
         Some(p) => {
-            parts.slots[ASK] = p;
-            then_ask(file, parts, fr, Ok(tally), e, ASK)
+            slots[ASK] = p;
+            then_ask(file, cells, slots, fr, Ok(tally), e, ASK)
         }
     }
 }
 
 // Each argument in turn. The slot ASK has what is asked of it.
-pub fn ask_arguments(file: &File, parts: &mut Parts, fr: Frame, row: Kinded, began: Tally) -> Walked
-    requires { Calling file.now.bytes file.now.t parts.old.cells parts.old.slots fr row began.sum }
-    ensures { AskedArguments file.now.bytes file.now.t parts.old.cells parts.old.slots fr row began.visits (operand_at file.now.bytes row 1) result parts.new.cells parts.new.slots }
+pub fn ask_arguments(
+    file: &File,
+    cells: &mut [u32],
+    slots: &mut [u32],
+    fr: Frame,
+    row: Kinded,
+    began: Tally,
+) -> Walked
+    requires { Calling file.now.bytes file.now.t cells.old slots.old fr row began.sum }
+    ensures { AskedArguments file.now.bytes file.now.t cells.old slots.old fr row began.visits (operand_at file.now.bytes row 1) result cells.new slots.new }
 {
     let n = file.operand(row, 1);
     let mut tally = began;
     for i in 0..n {
         let e = file.expression_operand(row, 2 + i);
-        tally = then_argument(file, parts, fr, tally, e, i)?;
+        tally = then_argument(file, cells, slots, fr, tally, e, i)?;
     }
     Ok(tally)
 }

@@ -19,6 +19,6 @@ pub fn check_report(
     ensures { Checks file.now.bytes file.now.t parts.old.cells parts.old.slots «open».now k request.now result }
 {
     let mut context: [u8; MAX_RECORD] = [0; MAX_RECORD];
-    let n = write_record(parts, k, &mut context);
+    let n = write_record(&parts.cells, &parts.slots, k, &mut context);
     check_in(file, parts, request, open, &context[0..n])
 }

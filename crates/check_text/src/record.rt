@@ -6,7 +6,6 @@ ghost use Rattle.memory.specs.Memory.{read, context_at, Memory};
 ghost use Rattle.check_text.specs.Checked.{max_record, Recorded};
 
 use field::limits::MAX_PIECES;
-use memory::parts::Parts;
 use memory::stretches::load_context;
 use request::write::write_context;
 
@@ -14,11 +13,11 @@ use request::write::write_context;
 pub const MAX_RECORD: usize = 14 + 12 * MAX_PIECES;
 
 // The record of the context in the four slots from k on; the answer is its length.
-pub fn write_record(parts: &Parts, k: usize, out: &mut [u8]) -> usize
-    requires memory { Memory parts.now.cells parts.now.slots × (k + 4 ≤ length parts.now.slots) }
-    requires k_bound { (pieces (context_at (read parts.now.cells parts.now.slots) k) ≤ 2 * max_pieces) × (max_record ≤ length out.old) }
-    ensures { Recorded out.new result (context_at (read parts.now.cells parts.now.slots) k) }
+pub fn write_record(cells: &[u32], slots: &[u32], k: usize, out: &mut [u8]) -> usize
+    requires memory { Memory cells.now slots.now × (k + 4 ≤ length slots.now) }
+    requires k_bound { (pieces (context_at (read cells.now slots.now) k) ≤ 2 * max_pieces) × (max_record ≤ length out.old) }
+    ensures { Recorded out.new result (context_at (read cells.now slots.now) k) }
 {
-    let c = load_context(&parts.slots, k);
-    write_context(&parts.cells, c, out)
+    let c = load_context(slots, k);
+    write_context(cells, c, out)
 }

@@ -11,7 +11,6 @@ use crate::merge::merge;
 use access::file::File;
 use asking::ask::ask_whole;
 use hold::hold::{copy, push_sum};
-use memory::parts::Parts;
 use module::handles::{ExpressionHandle, FunctionHandle};
 
 // The needs of both blocks are joined, and the condition is needed.
@@ -19,48 +18,51 @@ use module::handles::{ExpressionHandle, FunctionHandle};
 pub fn end_if(
     file: &File,
     f: FunctionHandle,
-    parts: &mut Parts,
+    cells: &mut [u32],
+    slots: &mut [u32],
     n: usize,
     e: ExpressionHandle,
 ) -> Option<()>
-    requires { EndGiven (scope_at file.now.bytes file.now.t f.0) parts.old.cells parts.old.slots n e.0 }
-    ensures { Closed (scope_at file.now.bytes file.now.t f.0) (ending (scope_at file.now.bytes file.now.t f.0) e.0) parts.old.cells parts.old.slots n parts.new.cells parts.new.slots (fits result) }
+    requires { EndGiven (scope_at file.now.bytes file.now.t f.0) cells.old slots.old n e.0 }
+    ensures { Closed (scope_at file.now.bytes file.now.t f.0) (ending (scope_at file.now.bytes file.now.t f.0) e.0) cells.old slots.old n cells.new slots.new (fits result) }
 {
-    merge(parts, n, n, n - 1)?;
-    ask_whole(file, f, parts, n, e)
+    merge(cells, slots, n, n, n - 1)?;
+    ask_whole(file, f, cells, slots, n, e)
 }
 
 // The cases' union takes the place of the needs after the switch, and the selector is needed.
 pub fn end_switch(
     file: &File,
     f: FunctionHandle,
-    parts: &mut Parts,
+    cells: &mut [u32],
+    slots: &mut [u32],
     n: usize,
     e: ExpressionHandle,
 ) -> Option<()>
-    requires { EndGiven (scope_at file.now.bytes file.now.t f.0) parts.old.cells parts.old.slots n e.0 }
-    ensures { Closed (scope_at file.now.bytes file.now.t f.0) (switch_ends (scope_at file.now.bytes file.now.t f.0) e.0) parts.old.cells parts.old.slots n parts.new.cells parts.new.slots (fits result) }
+    requires { EndGiven (scope_at file.now.bytes file.now.t f.0) cells.old slots.old n e.0 }
+    ensures { Closed (scope_at file.now.bytes file.now.t f.0) (switch_ends (scope_at file.now.bytes file.now.t f.0) e.0) cells.old slots.old n cells.new slots.new (fits result) }
 {
-    copy(&mut parts.slots, n, n - 1);
-    ask_whole(file, f, parts, n, e)
+    copy(slots, n, n - 1);
+    ask_whole(file, f, cells, slots, n, e)
 }
 
 // After the continuing block of the loop l stand its re-entry needs, and with `break_if` also the needs after the loop and the condition.
 pub fn begin_loop(
     file: &File,
     f: FunctionHandle,
-    parts: &mut Parts,
+    cells: &mut [u32],
+    slots: &mut [u32],
     n: usize,
     l: usize,
     break_if: Option<ExpressionHandle>,
 ) -> Option<()>
-    requires { BeginGiven (scope_at file.now.bytes file.now.t f.0) l parts.old.cells parts.old.slots n (handle_in break_if) }
-    ensures { Begun (scope_at file.now.bytes file.now.t f.0) l (handle_in break_if) parts.old.cells parts.old.slots n parts.new.cells parts.new.slots (fits result) }
+    requires { BeginGiven (scope_at file.now.bytes file.now.t f.0) l cells.old slots.old n (handle_in break_if) }
+    ensures { Begun (scope_at file.now.bytes file.now.t f.0) l (handle_in break_if) cells.old slots.old n cells.new slots.new (fits result) }
 {
     let Some(condition) = break_if else {
-        copy(&mut parts.slots, l, n);
+        copy(slots, l, n);
         return Some(());
     };
-    push_sum(parts, n, n - 1, l)?;
-    ask_whole(file, f, parts, n + 1, condition)
+    push_sum(cells, slots, n, n - 1, l)?;
+    ask_whole(file, f, cells, slots, n + 1, condition)
 }

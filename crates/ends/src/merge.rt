@@ -7,37 +7,42 @@ ghost use Rattle.standing.specs.Passing.{going, outcome};
 ghost use Rattle.hold.specs.Fits.{fits};
 
 use hold::hold::{copy, push_sum};
-use memory::parts::Parts;
 use part::sums::covers;
 use standing::passing::{Passing, TABLE};
 
 // Of n + 1 slots the last two become one, which has the sum of the slots i and j. None where the needs pass the bound.
-pub fn merge(parts: &mut Parts, n: usize, i: usize, j: usize) -> Option<()>
-    requires live { Live parts.old.cells parts.old.slots (n + 1) }
-    requires n_nonzero { (0 < n) × (n + 1 < length parts.old.slots) }
+pub fn merge(cells: &mut [u32], slots: &mut [u32], n: usize, i: usize, j: usize) -> Option<()>
+    requires live { Live cells.old slots.old (n + 1) }
+    requires n_nonzero { (0 < n) × (n + 1 < length slots.old) }
     requires i_bound { (i < n + 1) × (j < n + 1) }
-    ensures { Merged parts.old.cells parts.old.slots n i j parts.new.cells parts.new.slots (fits result) }
+    ensures { Merged cells.old slots.old n i j cells.new slots.new (fits result) }
 {
     let above = n + 1;
-    push_sum(parts, above, i, j)?;
+    push_sum(cells, slots, above, i, j)?;
     let last = n - 1;
-    copy(&mut parts.slots, above, last);
+    copy(slots, above, last);
     Some(())
 }
 
 // The loop l ends: what stands before its body, in the slot n + 1, is joined to the new table and is at hand. Its re-entry needs held if they have it.
-pub fn end_loop(parts: &mut Parts, n: usize, l: usize, p: Passing) -> Option<Passing>
-    requires live { Live parts.old.cells parts.old.slots (n + 1 + 1) }
+pub fn end_loop(
+    cells: &mut [u32],
+    slots: &mut [u32],
+    n: usize,
+    l: usize,
+    p: Passing,
+) -> Option<Passing>
+    requires live { Live cells.old slots.old (n + 1 + 1) }
     requires stack_slot_lt_n { (stack_slot < n) × (l < table_size) }
-    ensures { LoopEnds l parts.old.cells parts.old.slots n (going p) parts.new.cells parts.new.slots (outcome result) }
+    ensures { LoopEnds l cells.old slots.old n (going p) cells.new slots.new (outcome result) }
 {
     let last = n - 1;
     let body = n + 1;
-    copy(&mut parts.slots, body, last);
+    copy(slots, body, last);
     let new = TABLE + l;
-    push_sum(parts, n, last, new)?;
-    copy(&mut parts.slots, n, new);
-    let holds = covers(&mut parts.cells, parts.slots[l], parts.slots[last]);
+    push_sum(cells, slots, n, last, new)?;
+    copy(slots, n, new);
+    let holds = covers(cells, slots[l], slots[last]);
     Some(Passing {
         held: holds && p.held,
         ..p

@@ -5,18 +5,17 @@ ghost use Rattle.standing.specs.Standing.{Noted, Blames};
 ghost use Rattle.standing.specs.Passing.{going};
 
 use field::limits::MAX_PIECES;
-use memory::parts::Parts;
 use part::store::measure;
 use standing::passing::Passing;
 use strays::lower::lower_at;
 
 // At a point, with the needs at hand: whether they pass 15, and 16.
-pub fn note(parts: &Parts, n: usize, p: Passing) -> Passing
-    requires live { Live parts.now.cells parts.now.slots n }
+pub fn note(cells: &[u32], slots: &[u32], n: usize, p: Passing) -> Passing
+    requires live { Live cells.now slots.now n }
     requires n_nonzero { 0 < n }
-    ensures { Noted (in_slot parts.now.cells parts.now.slots (n - 1)) (going p) (going result) }
+    ensures { Noted (in_slot cells.now slots.now (n - 1)) (going p) (going result) }
 {
-    let sizes = measure(&parts.cells, parts.slots[n - 1]);
+    let sizes = measure(cells, slots[n - 1]);
     let many = (MAX_PIECES as u32) < sizes.entries - sizes.width;
     Passing {
         deep: sizes.over || p.deep,

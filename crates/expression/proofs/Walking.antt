@@ -134,6 +134,8 @@ module _ {bytes t : List ℕ} {f e at held : ℕ} {s rs : List ℕ} {w : Want} {
     few = rw b.tidied.same b.few;
     roomy = b.tidied.roomy;
     still = record { slot = λ k l. refl };
+    cells = refl;
+    slots = refl;
     inside = omega arith;
     rest = λ r y ys x. x;
   }
@@ -270,12 +272,14 @@ module _ {bytes t : List ℕ} {f e at held : ℕ} {s rs : List ℕ} {w : Want} {
             some_end : Ended bytes t f at held z zs (some_rest (totals_sum (read z zs))) (add_expression (module_of bytes t) f held h.0 (asked z zs want) (state_of t f at (read z zs) (some_rest (totals_sum (read z zs))) v)) tally.visits tally.sum y ys
             some_end = ends_went (c.by (some_rest (totals_sum (read z zs))) (rest_counts (totals_sum (read z zs)))) is
 
-            pub left_next : Left bytes t f e at held u us w (visits + 1) (j + 1) tally.visits tally.sum y ys
-            left_next = record {
+            pub left_next : length y ≡ length z → Left bytes t f e at held u us w (visits + 1) (j + 1) tally.visits tally.sum y ys
+            left_next long = record {
               ready = some_end.ready;
               few = some_end.few;
               roomy = some_end.roomy;
               still = still_trans l.still (others_still l.ready.low l.ready.memory some_end.others);
+              cells = long ∙ l.cells;
+              slots = some_end.others.long ∙ l.slots;
               inside = omega (arith, operand_inside);
               rest = λ r' y' ys' k.
                   l.rest r' y' ys'

@@ -53,6 +53,8 @@ pub record Left (bytes t : List ℕ) (f e : ℕ) (at held : ℕ) (s rs : List �
   pub few : held + (pieces (context_at (read u us) at) + sum) ≤ max_pieces
   pub roomy : Room u room
   pub still : Still s rs u us
+  pub cells : length u ≡ length s
+  pub slots : length us ≡ length rs
   pub inside : j ≤ length (arm_asks (expression_at (module_of bytes t) f e) (asked s rs w))
   pub rest : (r : Result Tally Halt) (z zs : List ℕ) → Walks bytes t f at held u us (asks_from (module_of bytes t) f held e (asked s rs w) j) visits r z zs
       → Walks bytes t f at held s rs (asks_from (module_of bytes t) f held e (asked s rs w) 0) begun r z zs

@@ -14,7 +14,6 @@ use asks::ask::ask;
 use asks::what::Ask;
 use field::limits::MAX_VISITS;
 use field::refusal::Refusal;
-use memory::parts::Parts;
 use memory::want::Want;
 use state::answer::{Tally, Walked};
 
@@ -26,37 +25,44 @@ const LOCALS: usize = 1;
 const ARGUMENTS: usize = 2;
 
 // `add_expression`: the visit v, of which w is asked, and before it ends those of the operands.
-pub fn add_expression(file: &File, parts: &mut Parts, v: &Visit, w: Want, began: Tally) -> Walked
-    requires ready { Ready file.now.bytes file.now.t parts.old.cells parts.old.slots v.now.function.0 v.now.at v.now.held began.sum }
+pub fn add_expression(
+    file: &File,
+    cells: &mut [u32],
+    slots: &mut [u32],
+    v: &Visit,
+    w: Want,
+    began: Tally,
+) -> Walked
+    requires ready { Ready file.now.bytes file.now.t cells.old slots.old v.now.function.0 v.now.at v.now.held began.sum }
     requires e_in_bounds { v.now.expression.0 < length (function_at (module_of file.now.bytes file.now.t) v.now.function.0).expressions }
-    requires wants { Wants parts.old.cells parts.old.slots w }
-    ensures { Walks file.now.bytes file.now.t v.now.function.0 v.now.at v.now.held parts.old.cells parts.old.slots (add_expression (module_of file.now.bytes file.now.t) v.now.function.0 v.now.held v.now.expression.0 (asked parts.old.cells parts.old.slots w)) began.visits result parts.new.cells parts.new.slots }
+    requires wants { Wants cells.old slots.old w }
+    ensures { Walks file.now.bytes file.now.t v.now.function.0 v.now.at v.now.held cells.old slots.old (add_expression (module_of file.now.bytes file.now.t) v.now.function.0 v.now.held v.now.expression.0 (asked cells.old slots.old w)) began.visits result cells.new slots.new }
 {
     if MAX_VISITS <= began.visits {
         return Err(v.halt(Refusal::VisitsLimit));
     }
-    allowed(parts, v.at, v.held, began.sum).ok_or(v.halt(Refusal::PiecesLimit))?;
+    allowed(cells, slots, v.at, v.held, began.sum).ok_or(v.halt(Refusal::PiecesLimit))?;
     let mut tally = Tally {
         visits: began.visits + 1,
         ..began
     };
     let mut j = 0;
     // Stays: `ask` ends it, and no count. `for j in 0..` saves the two lines that count, and takes a `let Some(a) = .. else { break; };` of three.
-    while let Some(a) = ask(file, parts, v.function, v.expression, w, j) {
+    while let Some(a) = ask(file, cells, slots, v.function, v.expression, w, j) {
         match a {
             Ask::Operand(h, want) => {
                 let operand = Visit {
                     expression: h,
                     ..*v
                 };
-                tally = add_expression(file, parts, &operand, want, tally)?;
+                tally = add_expression(file, cells, slots, &operand, want, tally)?;
             }
-            Ask::Argument(i) => return entry(file, parts, v, ARGUMENTS, i, w, tally),
-            Ask::Global(g) => return global(file, parts, v, g, w, tally),
-            Ask::Local(l) => return entry(file, parts, v, LOCALS, l.0, w, tally),
+            Ask::Argument(i) => return entry(file, cells, slots, v, ARGUMENTS, i, w, tally),
+            Ask::Global(g) => return global(file, cells, slots, v, g, w, tally),
+            Ask::Local(l) => return entry(file, cells, slots, v, LOCALS, l.0, w, tally),
             Ask::Refuse(refusal) => return Err(v.halt(refusal)),
         }
         j += 1;
     }
-    close(file, parts, v, w, tally)
+    close(file, cells, slots, v, w, tally)
 }

@@ -12,7 +12,6 @@ use field::limits::MAX_PIECES;
 use field::refusal::Refusal;
 use memory::layout::EXPRS;
 use memory::memory::{note, tidy, weigh};
-use memory::parts::Parts;
 use memory::want::Want;
 use module::handles::{ExpressionHandle, FunctionHandle};
 use state::answer::{Halt, Place, Tally, Walked};
@@ -40,25 +39,38 @@ impl Visit {
 }
 
 // None where 16 does not allow what is held, with the context in the slots from `at` on. Where it does, there is room for a visit then.
-pub fn allowed(parts: &mut Parts, at: usize, held: usize, sum: usize) -> Option<()>
-    requires { Counting parts.old.cells parts.old.slots at held sum }
-    ensures { Allowed parts.old.cells parts.old.slots at held sum (is_some result) parts.new.cells parts.new.slots }
+pub fn allowed(
+    cells: &mut [u32],
+    slots: &mut [u32],
+    at: usize,
+    held: usize,
+    sum: usize,
+) -> Option<()>
+    requires { Counting cells.old slots.old at held sum }
+    ensures { Allowed cells.old slots.old at held sum (is_some result) cells.new slots.new }
 {
-    let pieces = weigh(parts, at, 4);
+    let pieces = weigh(cells, slots, at, 4);
     if MAX_PIECES < held + (pieces + sum) {
         return None;
     }
-    tidy(parts);
+    tidy(cells, slots);
     Some(())
 }
 
 // The visit ends: the record, 16, and room for the next visit.
-pub fn close(file: &File, parts: &mut Parts, v: &Visit, w: Want, tally: Tally) -> Walked
-    requires { Closing file.now.t v.now.function.0 v.now.expression.0 v.now.at v.now.held parts.old.cells parts.old.slots w tally.sum }
-    ensures { (bytes : List ℕ) → Ready bytes file.now.t parts.old.cells parts.old.slots v.now.function.0 v.now.at v.now.held tally.sum → Walks bytes file.now.t v.now.function.0 v.now.at v.now.held parts.old.cells parts.old.slots (closing v.now.function.0 v.now.held v.now.expression.0 (asked parts.old.cells parts.old.slots w)) tally.visits result parts.new.cells parts.new.slots }
+pub fn close(
+    file: &File,
+    cells: &mut [u32],
+    slots: &mut [u32],
+    v: &Visit,
+    w: Want,
+    tally: Tally,
+) -> Walked
+    requires { Closing file.now.t v.now.function.0 v.now.expression.0 v.now.at v.now.held cells.old slots.old w tally.sum }
+    ensures { (bytes : List ℕ) → Ready bytes file.now.t cells.old slots.old v.now.function.0 v.now.at v.now.held tally.sum → Walks bytes file.now.t v.now.function.0 v.now.at v.now.held cells.old slots.old (closing v.now.function.0 v.now.held v.now.expression.0 (asked cells.old slots.old w)) tally.visits result cells.new slots.new }
 {
     let number = file.expression_number(v.function, v.expression);
-    let sum = note(parts, EXPRS + number, w, tally.sum);
-    allowed(parts, v.at, v.held, sum).ok_or(v.halt(Refusal::PiecesLimit))?;
+    let sum = note(cells, slots, EXPRS + number, w, tally.sum);
+    allowed(cells, slots, v.at, v.held, sum).ok_or(v.halt(Refusal::PiecesLimit))?;
     Ok(Tally { sum, ..tally })
 }

@@ -59,7 +59,19 @@ pub fn add_function(
     let b = world.typed.file.body_block(f);
     let at = base + 4;
     let a = add_block(world, space, f, b, base, at, held, false, tally)?;
-    let tally = add_total(world.typed.file, world.places, space, f, at, here, a.tally)?;
+    let tally = add_total(
+        world.typed.file,
+        &world.places.starts,
+        &mut space.parts.cells,
+        &mut space.parts.slots,
+        &space.open,
+        &mut space.totals.flags,
+        &mut space.totals.marks,
+        f,
+        at,
+        here,
+        a.tally,
+    )?;
     Ok(Answer {
         tally,
         required: a.required,
@@ -85,7 +97,8 @@ pub fn add_block(
 {
     let range = world.typed.file.block(f, b);
     let first = range.first;
-    let inner = held + weigh(&space.parts, base, 4);
+    let parts = &space.parts;
+    let inner = held + weigh(&parts.cells, &parts.slots, base, 4);
     copy_context(&mut space.parts.slots, base, at);
     let mut tally = began;
     let mut behind = break_required;
@@ -123,14 +136,16 @@ pub fn add_statement(
     if MAX_VISITS <= tally.visits {
         return Err(fr.halt(Refusal::VisitsLimit));
     }
-    allowed(&mut space.parts, fr.at, fr.held, tally.sum).ok_or(fr.halt(Refusal::PiecesLimit))?;
+    let cells = &mut space.parts.cells;
+    let slots = &mut space.parts.slots;
+    allowed(cells, slots, fr.at, fr.held, tally.sum).ok_or(fr.halt(Refusal::PiecesLimit))?;
     let row = world.typed.file.statement(f, fr.statement);
     let counted = Tally {
         visits: tally.visits + 1,
         ..tally
     };
     let r = add_arm(world, space, fr, b, row, counted);
-    end_statement(&mut space.parts, fr, r)
+    end_statement(&mut space.parts.cells, &mut space.parts.slots, fr, r)
 }
 
 // The arm with its marks.
@@ -148,17 +163,14 @@ fn add_arm(
     requires { ArmsOf world.now space.old fr b.0 row tally.sum tally.visits }
     ensures { StatementEndsOf world.now space.old fr (marked (module_by world.now) (frame_of space.old.parts.cells space.old.parts.slots fr) (add_statement (module_by world.now) (add_function (module_by world.now)) (blocks_by world.now fr.function.0) (frame_of space.old.parts.cells space.old.parts.slots fr) (statement_of row.kind (operand_at world.now.typed.now.file.now.bytes row)) (state_by world.now space.old fr.function.0 fr.at tally.visits))) (λ b. b) result space.new }
 {
+    let file = world.typed.file;
+    let firsts = &world.places.firsts;
     match StatementKind::try_from(row.kind) {
         Ok(StatementKind::Emit) => {
-            return add_emit(
-                world.typed.file,
-                world.places,
-                &space.parts,
-                &mut space.open,
-                fr,
-                row,
-                tally,
-            );
+            let parts = &space.parts;
+            let cells = &parts.cells;
+            let slots = &parts.slots;
+            return add_emit(file, firsts, cells, slots, &mut space.open, fr, row, tally);
         }
         Ok(StatementKind::Call) => {
             return add_call(world, space, fr, b, row, tally);
@@ -170,8 +182,10 @@ fn add_arm(
         }
         _ => {}
     }
-    let r = add_leaf(world.typed, &mut space.parts, fr, row, tally);
-    mark_statement(world.typed.file, world.places, &mut space.open, fr, row, r)
+    let cells = &mut space.parts.cells;
+    let slots = &mut space.parts.slots;
+    let r = add_leaf(world.typed, cells, slots, fr, row, tally);
+    mark_statement(file, firsts, &mut space.open, fr, row, r)
 }
 
 // The arm of a statement that holds blocks, with its marks. What was walked is one variable, so that the answers of the four do not lie beside each other.
@@ -194,7 +208,8 @@ fn add_holder(
         Ok(StatementKind::Switch) => add_switch(world, space, fr, b, row, tally),
         _ => add_loop(world, space, fr, b, row, tally),
     };
-    mark_statement(world.typed.file, world.places, &mut space.open, fr, row, r)
+    let firsts = &world.places.firsts;
+    mark_statement(world.typed.file, firsts, &mut space.open, fr, row, r)
 }
 
 // Two blocks one after the other, both from the base in the slots from `base` on. Their contexts are left in the slots from `at` on, and behind them.
@@ -227,7 +242,8 @@ pub fn add_pair(
         break_required,
         tally,
     )?;
-    let more = held + weigh(&space.parts, at, 4);
+    let parts = &space.parts;
+    let more = held + weigh(&parts.cells, &parts.slots, at, 4);
     let c = add_block(
         world,
         space,
@@ -262,7 +278,8 @@ pub fn add_nested(
     let f = fr.function;
     let at = fr.at;
     let inner = world.typed.file.block_operand(row, 0);
-    let held = fr.held + weigh(&space.parts, at, 4);
+    let parts = &space.parts;
+    let held = fr.held + weigh(&parts.cells, &parts.slots, at, 4);
     let a = add_block(
         world,
         space,
@@ -294,9 +311,11 @@ pub fn add_if(
 {
     let f = fr.function;
     let at = fr.at;
-    let accept = world.typed.file.block_operand(row, 1);
-    let reject = world.typed.file.block_operand(row, 2);
-    let held = fr.held + weigh(&space.parts, at, 4);
+    let file = world.typed.file;
+    let accept = file.block_operand(row, 1);
+    let reject = file.block_operand(row, 2);
+    let parts = &space.parts;
+    let held = fr.held + weigh(&parts.cells, &parts.slots, at, 4);
     let a = add_pair(
         world,
         space,
@@ -310,15 +329,10 @@ pub fn add_if(
         fr.break_required,
         tally,
     )?;
-    let condition = world.typed.file.expression_operand(row, 0);
-    end_if(
-        world.typed.file,
-        &mut space.parts,
-        fr,
-        condition,
-        a.required,
-        a.tally,
-    )
+    let condition = file.expression_operand(row, 0);
+    let cells = &mut space.parts.cells;
+    let slots = &mut space.parts.slots;
+    end_if(file, cells, slots, fr, condition, a.required, a.tally)
 }
 
 // `Switch`: the cases, the last first, joined behind the current context.
@@ -337,20 +351,26 @@ pub fn add_switch(
 {
     let f = fr.function;
     let at = fr.at;
-    let outside = fr.held + weigh(&space.parts, at, 4);
+    let parts = &space.parts;
+    let outside = fr.held + weigh(&parts.cells, &parts.slots, at, 4);
     copy_context(&mut space.parts.slots, at, at + 4);
     let mut tally = began;
     let mut any = false;
     for k in (0..world.typed.file.operand(row, 1)).rev() {
         let body = case_body(world.typed.file, row, k);
-        let held = outside + weigh(&space.parts, at + 4, 4);
+        let parts = &space.parts;
+        let held = outside + weigh(&parts.cells, &parts.slots, at + 4, 4);
         let a = add_block(world, space, f, body, at, at + 8, held, false, tally)?;
-        end_case(&mut space.parts, at + 4).ok_or(fr.halt(Refusal::PartLimit))?;
+        let cells = &mut space.parts.cells;
+        let slots = &mut space.parts.slots;
+        end_case(cells, slots, at + 4).ok_or(fr.halt(Refusal::PartLimit))?;
         tally = a.tally;
         any |= a.required;
     }
     let selector = world.typed.file.expression_operand(row, 0);
-    end_switch(world.typed.file, &mut space.parts, fr, selector, any, tally)
+    let cells = &mut space.parts.cells;
+    let slots = &mut space.parts.slots;
+    end_switch(world.typed.file, cells, slots, fr, selector, any, tally)
 }
 
 // `Loop`: the first pass, and the turns where it is required. It is not inlined: the walk calls itself, and would hold its frame on every level of blocks.
@@ -372,7 +392,8 @@ pub fn add_loop(
     let at = fr.at;
     let body = world.typed.file.block_operand(row, 0);
     let continuing = world.typed.file.block_operand(row, 1);
-    let held = fr.held + weigh(&space.parts, at, 4);
+    let parts = &space.parts;
+    let held = fr.held + weigh(&parts.cells, &parts.slots, at, 4);
     let a = add_pair(
         world,
         space,
@@ -391,7 +412,9 @@ pub fn add_loop(
         return Ok(a);
     }
     let break_if = world.typed.file.optional_expression(row, 2);
-    let left = end_pass(world.typed.file, &mut space.parts, fr, break_if, a.tally)?;
+    let cells = &mut space.parts.cells;
+    let slots = &mut space.parts.slots;
+    let left = end_pass(world.typed.file, cells, slots, fr, break_if, a.tally)?;
     add_turns(world, space, fr, b, body, continuing, left)
 }
 
@@ -411,7 +434,10 @@ fn add_turns(
 {
     let f = fr.function;
     let at = fr.at;
-    let held = fr.held + weigh(&space.parts, at, 4) + weigh(&space.parts, at + 4, 4);
+    let parts = &space.parts;
+    let held = fr.held
+        + weigh(&parts.cells, &parts.slots, at, 4)
+        + weigh(&parts.cells, &parts.slots, at + 4, 4);
     let mut tally = began;
     for left in (0..MAX_TURNS).rev() {
         let a = add_pair(
@@ -428,7 +454,7 @@ fn add_turns(
             tally,
         )?;
         tally = a.tally;
-        match end_turn(&mut space.parts, at) {
+        match end_turn(&mut space.parts.cells, &mut space.parts.slots, at) {
             Turn::Over => return Err(fr.halt(Refusal::PartLimit)),
             Turn::Settled => {
                 return Ok(Answer {
@@ -459,40 +485,25 @@ pub fn add_call(
 {
     let f = fr.function;
     let at = fr.at;
-    let g = world.typed.file.function_operand(row, 0);
-    let begun = begin_call(
-        world.typed.file,
-        world.places,
-        &mut space.parts,
-        &mut space.open,
-        fr,
-        row,
-        tally.sum,
-    );
+    let file = world.typed.file;
+    let g = file.function_operand(row, 0);
+    let starts = &world.places.starts;
+    let cells = &mut space.parts.cells;
+    let slots = &mut space.parts.slots;
+    let open = &mut space.open;
+    let begun = begin_call(file, starts, cells, slots, open, fr, row, tally.sum);
     let own = begun.own;
     let others = Tally {
         sum: tally.sum - own,
         ..tally
     };
-    let a = add_function(
-        world,
-        space,
-        g,
-        at + 4,
-        Place::Statement(f, fr.statement),
-        begun.held,
-        others,
-    )?;
-    let sum = leave_call(world.typed.file, &mut space.parts, g, at, a.tally.sum + own);
+    let here = Place::Statement(f, fr.statement);
+    let a = add_function(world, space, g, at + 4, here, begun.held, others)?;
+    let cells = &mut space.parts.cells;
+    let slots = &mut space.parts.slots;
+    let sum = leave_call(file, cells, slots, g, at, a.tally.sum + own);
     let left = Tally { sum, ..a.tally };
-    return_call(
-        world.typed.file,
-        world.places,
-        &mut space.parts,
-        &mut space.open,
-        fr,
-        row,
-        a.required,
-        left,
-    )
+    let firsts = &world.places.firsts;
+    let open = &mut space.open;
+    return_call(file, firsts, cells, slots, open, fr, row, a.required, left)
 }

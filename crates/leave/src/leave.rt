@@ -7,7 +7,6 @@ ghost use Rattle.leave.specs.Leave.{RecordsAt, Placed, own_in, left_slots};
 use access::file::File;
 use memory::layout::{EXPRS, RETURNED};
 use memory::memory::weigh;
-use memory::parts::Parts;
 use memory::stretches::{clear_context, forget};
 use module::handles::FunctionHandle;
 
@@ -31,13 +30,13 @@ pub fn records_of(file: &File, f: FunctionHandle) -> Stretch
 }
 
 // What the records of the open function f count for.
-pub fn own_pieces(file: &File, parts: &Parts, f: FunctionHandle) -> usize
-    requires memory { Memory parts.now.cells parts.now.slots × Placed file.now.t parts.now.slots f.0 }
-    requires f_bound { own_in file.now.t parts.now.cells parts.now.slots f.0 ≤ entries_cap }
-    ensures { result ≡ own_in file.now.t parts.now.cells parts.now.slots f.0 }
+pub fn own_pieces(file: &File, cells: &[u32], slots: &[u32], f: FunctionHandle) -> usize
+    requires memory { Memory cells.now slots.now × Placed file.now.t slots.now f.0 }
+    requires f_bound { own_in file.now.t cells.now slots.now f.0 ≤ entries_cap }
+    ensures { result ≡ own_in file.now.t cells.now slots.now f.0 }
 {
     let own = records_of(file, f);
-    weigh(parts, EXPRS + own.from, own.n)
+    weigh(cells, slots, EXPRS + own.from, own.n)
 }
 
 // f ends, with its context in the slots from `at` on: what it needs of its arguments is returned, and its records and contexts are forgotten.

@@ -25,7 +25,6 @@ use Rattle.memory.specs.Layout.{exprs_slot}
 use Rattle.memory.specs.Memory.{read, records_of, context_at, Memory}
 use Rattle.memory.proofs.Slots.{read_at}
 use Rattle.state.specs.State.{records_in, state_of}
-use Rattle.marks.specs.declared.places.MarkPlaces.{MarkPlaces}
 use Rattle.marks.specs.Places.{slice, start_of}
 use Rattle.marks.proofs.Placed.{within}
 use Rattle.lines.specs.Text.{number, required_text, context_text, records_text, report_text, refused_word, refused_text}
@@ -73,7 +72,7 @@ module _ (bytes : List ℕ) (m : Module) (was : read_module bytes ≡ accepted m
       omega (arith, report_long m f report few_own context exprs, stretch-few bytes m was f h, parts.few_expressions, parts.few_statements)
 
 -- as memory has it
-module _ {bytes t : List ℕ} {places : MarkPlaces} {s rs marks : List ℕ} {f at : ℕ} (h : Reporting bytes t places s rs marks f at) (required : Bool) where
+module _ {bytes t firsts s rs marks : List ℕ} {f at : ℕ} (h : Reporting bytes t firsts s rs marks f at) (required : Bool) where
   pub text_long : length (text_in bytes t s rs marks f at required) ≤ max_text
   unfolding text_in
   text_long =

@@ -14,7 +14,6 @@ use Rattle.access.specs.Access.{statement_number, statement_at, statement_row, o
 use Rattle.access.proofs.Access.{statement_is, statement-of}
 use Rattle.walk.specs.Resolve.{function_at}
 use Rattle.walk.specs.Marks.{stretch}
-use Rattle.marks.specs.declared.places.MarkPlaces.{MarkPlaces}
 use Rattle.marks.specs.Places.{slice, start_of}
 use Rattle.marks.proofs.Placed.{marks_suc, marks_within, at_function, statement_count, at_more}
 use Rattle.lines.specs.Text.{number, stmt_word, name_of, kind_name, marks_text, statement_text, statements_text}
@@ -94,7 +93,7 @@ pub lines_all : (bytes t ms : List ℕ) (f : ℕ) → statements_in bytes t ms f
 unfolding statements_in stretch
 lines_all bytes t ms f = left_all (function_at (module_of bytes t) f).statements ms (start_of (module_of bytes t) f)
 
-module _ {bytes t : List ℕ} {places : MarkPlaces} {ms : List ℕ} {f : ℕ} (marked : Marked bytes t places ms f) where
+module _ {bytes t firsts ms : List ℕ} {f : ℕ} (marked : Marked bytes t firsts ms f) where
   abbrev ss : List Statement
   ss = (function_at (module_of bytes t) f).statements
 
@@ -104,9 +103,9 @@ module _ {bytes t : List ℕ} {places : MarkPlaces} {ms : List ℕ} {f : ℕ} (m
   pub lines_none : (s : ℕ) → length (function_of bytes t f).statements ≤ s → lines_left bytes t ms f s ≡ []
   lines_none s h = left_none ss ms (start_of (module_of bytes t) f) s (omega (arith, long))
 
-  module _ {from : ℕ} (s : ℕ) (h : s < length (function_of bytes t f).statements) (p : from ≡ get_or places.firsts (statement_number t f s) 0) where
+  module _ {from : ℕ} (s : ℕ) (h : s < length (function_of bytes t f).statements) (p : from ≡ get_or firsts (statement_number t f s) 0) where
     at : from ≡ start_of (module_of bytes t) f + marks_before ss s
-    at = p ∙ marked.placed.statements f s marked.function h
+    at = p ∙ marked.placed s h
 
     pub marks_there : from + mark_count (statement_at bytes t f s) ≤ length ms
     marks_there =

@@ -1,8 +1,9 @@
 -- The report's lines as the walk's memory has them, and what they are written from.
-use Rattle.std.specs.Prelude.{Bool, List, [], ℕ, ◌+◌, ◌*◌, ◌<◌, ◌≤◌, length}
+use Rattle.std.specs.Prelude.{◌≡◌, Bool, List, [], ℕ, ◌+◌, ◌*◌, ◌<◌, ◌≤◌, length, get_or}
 use Rattle.field.specs.Limits.{max_expressions, max_statements, max_pieces, min_report}
 use Rattle.module.specs.Module.{FunctionHandle}
-use Rattle.module.specs.Tables.{module_of}
+use Rattle.module.specs.Tables.{function_of, module_of}
+use Rattle.access.specs.Access.{statement_number}
 use Rattle.context.specs.RequiredContext.{pieces}
 use Rattle.walk.specs.State.{record_pieces}
 use Rattle.walk.specs.Resolve.{function_at}
@@ -13,15 +14,14 @@ use Rattle.memory.specs.Layout.{exprs_slot}
 use Rattle.memory.specs.Memory.{read, context_at, Memory}
 use Rattle.state.specs.State.{records_in}
 use Rattle.access.specs.Laid.{WasRead}
-use Rattle.marks.specs.declared.places.MarkPlaces.{MarkPlaces}
-use Rattle.marks.specs.Places.{slice, start_of, Places}
+use Rattle.marks.specs.Places.{slice, start_of, mark_place}
 use Rattle.lines.specs.Text.{statements_text, report_text}
 
--- the statements of f, and their marks in the buffer of the open functions
-pub record Marked (bytes t : List ℕ) (places : MarkPlaces) (open_marks : List ℕ) (f : FunctionHandle) : Type 0 where
+-- the statements of f, where the marks of each begin, and the marks in the buffer of the open functions
+pub record Marked (bytes t firsts open_marks : List ℕ) (f : FunctionHandle) : Type 0 where
   pub was_read : WasRead bytes t
   pub function : f < length (module_of bytes t).functions
-  pub placed : Places bytes t places
+  pub placed : (s : ℕ) → s < length (function_of bytes t f).statements → get_or firsts (statement_number t f s) 0 ≡ mark_place (module_of bytes t) f s
   pub long : min_report ≤ length open_marks
 
 unfoldable pub statements_in : (bytes t open_marks : List ℕ) → FunctionHandle → List ℕ
@@ -48,8 +48,8 @@ abbrev pub max_text : ℕ
 max_text = 13 + 38 * max_pieces + 22 * max_statements + 4 * (2 * max_statements + max_expressions)
 
 -- memory has a report on f
-pub record Reporting (bytes t : List ℕ) (places : MarkPlaces) (s rs open_marks : List ℕ) (f : FunctionHandle) (at : ℕ) : Type 0 where
-  pub marked : Marked bytes t places open_marks f
+pub record Reporting (bytes t firsts s rs open_marks : List ℕ) (f : FunctionHandle) (at : ℕ) : Type 0 where
+  pub marked : Marked bytes t firsts open_marks f
   pub memory : Memory s rs
   pub high : at + 4 ≤ length rs
   pub context : FineContext (module_of bytes t) f (context_at (read s rs) at)

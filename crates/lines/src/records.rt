@@ -7,7 +7,6 @@ ghost use Rattle.lines.specs.Wrote.{longest, Fits, Writes};
 
 use crate::contexts::write_line;
 use crate::text::Text;
-use memory::parts::Parts;
 use module::handles::ExpressionHandle;
 use part::store::{EMPTY_PIECE, look};
 
@@ -25,12 +24,12 @@ fn write_record(text: &mut Text, cells: &[u32], e: ExpressionHandle, p: u32)
 }
 
 // A line for each record of n expressions, whose slots begin at `base`.
-pub fn write_records(text: &mut Text, parts: &Parts, base: usize, n: usize)
-    requires good { Good parts.now.cells × Below parts.now.slots (top parts.now.cells) }
-    requires n_in_bounds { (base + n ≤ length parts.now.slots) × (n < longest) × Fits text.old.at (records_text 0 (records_of (read parts.now.cells parts.now.slots) base n)) }
-    ensures { Writes text.old text.new (records_text 0 (records_of (read parts.now.cells parts.now.slots) base n)) }
+pub fn write_records(text: &mut Text, cells: &[u32], slots: &[u32], base: usize, n: usize)
+    requires good { Good cells.now × Below slots.now (top cells.now) }
+    requires n_in_bounds { (base + n ≤ length slots.now) × (n < longest) × Fits text.old.at (records_text 0 (records_of (read cells.now slots.now) base n)) }
+    ensures { Writes text.old text.new (records_text 0 (records_of (read cells.now slots.now) base n)) }
 {
-    for (k, &p) in parts.slots[base..base + n].iter().enumerate() {
-        write_record(text, &parts.cells, ExpressionHandle(k as u32), p);
+    for (k, &p) in slots[base..base + n].iter().enumerate() {
+        write_record(text, cells, ExpressionHandle(k as u32), p);
     }
 }

@@ -10,7 +10,7 @@ use crate::names::write_name;
 use crate::own_marks::write_own_marks;
 use crate::text::Text;
 use access::file::File;
-use marks::places::{MarkPlaces, mark_count};
+use marks::places::{mark_count, place};
 use module::handles::FunctionHandle;
 
 // The line of the statement s of f, whose marks are the first of `marks`.
@@ -32,16 +32,16 @@ fn write_statement(text: &mut Text, file: &File, marks: &[u8], f: FunctionHandle
 pub fn write_statements(
     text: &mut Text,
     file: &File,
-    places: &MarkPlaces,
+    firsts: &[u32],
     marks: &[u8],
     f: FunctionHandle,
 )
-    requires { Marked file.now.bytes file.now.t places.now marks.now f.0 × Fits text.old.at (statements_in file.now.bytes file.now.t marks.now f.0) }
+    requires { Marked file.now.bytes file.now.t firsts.now marks.now f.0 × Fits text.old.at (statements_in file.now.bytes file.now.t marks.now f.0) }
     ensures { Writes text.old text.new (statements_in file.now.bytes file.now.t marks.now f.0) }
 {
     let n = file.statements(f);
     for s in 0..n {
-        let from = places.place(file, f, s);
+        let from = place(file, firsts, f, s);
         write_statement(text, file, &marks[from..], f, s);
     }
 }

@@ -71,7 +71,7 @@ module _ (bytes t : List ℕ) (places : MarkPlaces) (was : WasRead bytes t) (p :
   abbrev count : ℕ
   count = length (module_of bytes t).functions
 
-  pub size_is : (f : ℕ) → f < count → size_in places f ≡ stretch m f
+  pub size_is : (f : ℕ) → f < count → size_in places.starts f ≡ stretch m f
   size_is f h =
       let a = p.starts f (omega arith) in
       let b = p.starts (f + 1) (omega arith) in
@@ -85,18 +85,18 @@ module _ (bytes t : List ℕ) (places : MarkPlaces) (was : WasRead bytes t) (p :
       let c = fit bytes t was in
       omega arith
 
-  pub inside : (f top : ℕ) → f < count → min_report ≤ top → Inside places f top
+  pub inside : (f top : ℕ) → f < count → min_report ≤ top → Inside places.starts f top
   inside f top h l =
       let a = p.starts f (omega arith) in
       let b = p.starts (f + 1) (omega arith) in
       let c = start_suc m f in
       let d = ends f h in
-      record { entry = omega (arith, few bytes t was); ascends = omega arith; within = omega arith }
+      record { entry = omega (arith, few bytes t was, p.long); ascends = omega arith; within = omega arith }
 
-  pub all_inside : (top : ℕ) → min_report ≤ top → AllInside places count top
+  pub all_inside : (top : ℕ) → min_report ≤ top → AllInside places.starts count top
   all_inside top l = record { first = first; each = λ f h. inside f top h l }
     where
-      first : start_in places 0 ≡ 0
+      first : start_in places.starts 0 ≡ 0
       first = p.starts 0 (omega arith) ∙ unfold start_of in refl
 
   -- The statement's own marks, written where the table says.
@@ -121,7 +121,7 @@ module _ (bytes t : List ℕ) (places : MarkPlaces) (was : WasRead bytes t) (p :
 
   -- all marks of f cleared
   module _ (xs : List ℕ) (f : ℕ) (hf : f < count) where
-    pub cleared_own : min_report ≤ length xs → slice (write_marks xs (start_in places f) (replicate (size_in places f) 0)) (start_of m f) (stretch m f) ≡ replicate (stretch m f) 0
+    pub cleared_own : min_report ≤ length xs → slice (write_marks xs (start_in places.starts f) (replicate (size_in places.starts f) 0)) (start_of m f) (stretch m f) ≡ replicate (stretch m f) 0
     cleared_own l =
         let a = length-replicate {A = ℕ} (stretch m f) 0 in
         let b = ends f hf in

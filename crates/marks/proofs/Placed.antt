@@ -19,8 +19,7 @@ use Rattle.valid.proofs.Accepted.{valid}
 use Rattle.walk.specs.Resolve.{function_at}
 use Rattle.walk.specs.Marks.{stretch}
 use Rattle.access.specs.Laid.{WasRead}
-use Rattle.marks.specs.declared.places.MarkPlaces.{MarkPlaces}
-use Rattle.marks.specs.Places.{start_of, mark_place, Places, placed_in}
+use Rattle.marks.specs.Places.{start_of, mark_place, places_of, Places, placed_in}
 use Rattle.marks.proofs.Fit.{marks_fit, start_suc}
 
 -- the marks before a statement, with its own, and up to the last
@@ -175,7 +174,7 @@ module _ (bytes t : List ℕ) (was : WasRead bytes t) where
   pub within : (f : ℕ) → f < count → items_to (row_at t f) ≤ max_items
   within f h = was.laid.within f (rw (functions_are t bytes) h)
 
-  at_start : (starts : List ℕ) (n f : ℕ) → length starts ≡ max_functions + 1 → f < n → n ≤ count → get_or (starts_to bytes t starts n) f 0 ≡ start_of m f
+  at_start : (starts : List ℕ) (n f : ℕ) → max_functions < length starts → f < n → n ≤ count → get_or (starts_to bytes t starts n) f 0 ≡ start_of m f
   unfolding starts_to
   at_start starts zero f long h l = absurd (omega arith)
   at_start starts (suc n) f long h l =
@@ -188,7 +187,7 @@ module _ (bytes t : List ℕ) (was : WasRead bytes t) where
       get_or-set_other (starts_to bytes t starts n) n f (start_of m n) 0 ne ∙ at_start starts n f long k (omega arith))
       (eq-or-lt_of_le (le_of_suc-le-suc h))
 
-  at_statement : (firsts : List ℕ) (n f s : ℕ) → length firsts ≡ max_items → f < n → n ≤ count → s < (row_at t f).statements → get_or (firsts_to bytes t firsts n) (statement_number t f s) 0 ≡ mark_place m f s
+  at_statement : (firsts : List ℕ) (n f s : ℕ) → max_items ≤ length firsts → f < n → n ≤ count → s < (row_at t f).statements → get_or (firsts_to bytes t firsts n) (statement_number t f s) 0 ≡ mark_place m f s
   unfolding firsts_to
   at_statement firsts zero f s long h l hs = absurd (omega arith)
   at_statement firsts (suc n) f s long h l hs =
@@ -204,7 +203,7 @@ module _ (bytes t : List ℕ) (was : WasRead bytes t) where
       (eq-or-lt_of_le (le_of_suc-le-suc h))
 
   -- when all is placed
-  at_end : (starts : List ℕ) (f : ℕ) → length starts ≡ max_functions + 1 → f ≤ count → get_or (set (starts_to bytes t starts count) count (start_of m count)) f 0 ≡ start_of m f
+  at_end : (starts : List ℕ) (f : ℕ) → max_functions < length starts → f ≤ count → get_or (set (starts_to bytes t starts count) count (start_of m count)) f 0 ≡ start_of m f
   at_end starts f long h =
       ⊎_elim
       (λ e.
@@ -215,8 +214,9 @@ module _ (bytes t : List ℕ) (was : WasRead bytes t) where
       get_or-set_other (starts_to bytes t starts count) count f (start_of m count) 0 ne ∙ at_start starts count f long i (omega arith))
       (eq-or-lt_of_le h)
 
-  pub places-made : (places : MarkPlaces) (starts firsts left : List ℕ) (n at : ℕ) → n ≡ count → length starts ≡ max_functions + 1 → length firsts ≡ max_items → left ≡ starts_to bytes t starts n → at ≡ start_of m n → places.starts ≡ set left n at → places.firsts ≡ firsts_to bytes t firsts n → Places bytes t places
-  places-made places starts firsts left n at c k l p q r e = record {
+  pub places-made : (starts firsts left us vs : List ℕ) (n at : ℕ) → n ≡ count → max_functions < length starts → max_items ≤ length firsts → left ≡ starts_to bytes t starts n → at ≡ start_of m n → us ≡ set left n at → vs ≡ firsts_to bytes t firsts n → Places bytes t (places_of us vs)
+  places-made starts firsts left us vs n at c k l p q r e = record {
+    long = rw (r, p) (omega (arith, length-set (starts_to bytes t starts n) n at, starts_long starts n));
     starts = λ f h. rw (r, p, q, c) (at_end starts f k h);
     statements = λ f s hf hs.
         let i : s < (row_at t f).statements = omega (arith, statement_count f) in

@@ -4,9 +4,12 @@ use Rattle.std.proofs.Math.Option.{Option, some, none as nothing}
 use Rattle.module.specs.Module.{FunctionHandle, Module}
 use Rattle.walk.specs.State.{FunctionReq}
 use Rattle.walk.specs.Marks.{stretch, write_marks, add_marks}
-use Rattle.marks.specs.declared.places.MarkPlaces.{MarkPlaces}
 use Rattle.marks.specs.declared.totals.MarkTotals.{MarkTotals}
 use Rattle.marks.specs.Places.{slice, start_of, start_in, size_in}
+
+-- the flags and the marks in two slices
+abbrev pub totals_of : (flags : List Bool) (marks : List ℕ) → MarkTotals
+totals_of flags marks = record { flags = flags; marks = marks }
 
 -- whether f has a total, and the total's marks
 abbrev pub has_total : (totals : MarkTotals) → FunctionHandle → Bool
@@ -24,21 +27,21 @@ abbrev pub Totals : Module → (totals : MarkTotals) → List (Option FunctionRe
 Totals m totals fs = (f : ℕ) → f < length m.functions → total_in m totals f ≡ marks_kept (get_or fs f nothing)
 
 -- the first total of f has its marks in `marks`, and a later one is joined to them
-pub record MarksKept (places : MarkPlaces) (marks : List ℕ) (totals : MarkTotals) (f : FunctionHandle) (after : MarkTotals) : Type 0 where
+pub record MarksKept (starts : List ℕ) (marks : List ℕ) (totals : MarkTotals) (f : FunctionHandle) (after : MarkTotals) : Type 0 where
   pub flags_are : after.flags ≡ set totals.flags f true
-  pub marks_are : after.marks ≡ write_marks totals.marks (start_in places f) (slice marks (start_in places f) (size_in places f))
+  pub marks_are : after.marks ≡ write_marks totals.marks (start_in starts f) (slice marks (start_in starts f) (size_in starts f))
 
-pub record MarksJoined (places : MarkPlaces) (marks : List ℕ) (totals : MarkTotals) (f : FunctionHandle) (after : MarkTotals) : Type 0 where
+pub record MarksJoined (starts : List ℕ) (marks : List ℕ) (totals : MarkTotals) (f : FunctionHandle) (after : MarkTotals) : Type 0 where
   pub flags_are : after.flags ≡ totals.flags
-  pub marks_are : after.marks ≡ write_marks totals.marks (start_in places f) (add_marks (slice totals.marks (start_in places f) (size_in places f)) (slice marks (start_in places f) (size_in places f)))
+  pub marks_are : after.marks ≡ write_marks totals.marks (start_in starts f) (add_marks (slice totals.marks (start_in starts f) (size_in starts f)) (slice marks (start_in starts f) (size_in starts f)))
 
 -- A function's part of the report: the asked function's marks are those of its walk, another's those of its total, else 0.
-unfoldable pub part_in : MarkPlaces → (marks : List ℕ) → (totals : MarkTotals) → (asked f : FunctionHandle) → List ℕ
-part_in places marks totals asked f =
-    cond (eqb f asked) (slice marks (start_in places f) (size_in places f))
-    (cond (has_total totals f) (slice totals.marks (start_in places f) (size_in places f)) (replicate (size_in places f) 0))
+unfoldable pub part_in : (starts : List ℕ) → (marks : List ℕ) → (totals : MarkTotals) → (asked f : FunctionHandle) → List ℕ
+part_in starts marks totals asked f =
+    cond (eqb f asked) (slice marks (start_in starts f) (size_in starts f))
+    (cond (has_total totals f) (slice totals.marks (start_in starts f) (size_in starts f)) (replicate (size_in starts f) 0))
 
 -- the parts of the first n functions
-unfoldable pub report_in : MarkPlaces → (marks : List ℕ) → (totals : MarkTotals) → (asked n : FunctionHandle) → List ℕ
-report_in places marks totals asked zero = []
-report_in places marks totals asked (suc f) = report_in places marks totals asked f ++ part_in places marks totals asked f
+unfoldable pub report_in : (starts : List ℕ) → (marks : List ℕ) → (totals : MarkTotals) → (asked n : FunctionHandle) → List ℕ
+report_in starts marks totals asked zero = []
+report_in starts marks totals asked (suc f) = report_in starts marks totals asked f ++ part_in starts marks totals asked f

@@ -5,7 +5,7 @@ ghost use Rattle.module.specs.Tables.{row_at, module_of, max_items};
 ghost use Rattle.access.specs.Access.{statement_number, statement_at};
 ghost use Rattle.access.specs.Laid.{WasRead};
 ghost use Rattle.field.specs.Limits.{max_functions};
-ghost use Rattle.marks.specs.Places.{start_of, start_in, placed_in, Places};
+ghost use Rattle.marks.specs.Places.{places_of, start_of, placed_in, Places};
 
 use access::file::File;
 use field::limits::MAX_FUNCTIONS;
@@ -29,6 +29,31 @@ fn statement_number(file: &File, f: FunctionHandle, s: u32) -> usize
     ensures { result ≡ statement_number file.now.t f.0 s }
 {
     file.row(f).statements_from() + (s as usize)
+}
+
+// Where the marks of the first f functions end: those of the function f, if there is one, begin there.
+pub fn start(starts: &[u32], f: usize) -> usize
+    requires { f < length starts.now }
+    ensures { result ≡ get_or starts.now f 0 }
+{
+    starts[f] as usize
+}
+
+// The marks of f, by their places.
+pub fn range(starts: &[u32], f: FunctionHandle) -> Range<usize>
+    requires { f.0 + 1 < length starts.now }
+    ensures start { result.start ≡ get_or starts.now f.0 0 }
+    ensures end { result.end ≡ get_or starts.now (f.0 + 1) 0 }
+{
+    let i = f.0 as usize;
+    start(starts, i)..start(starts, i + 1)
+}
+
+// Where the marks of the statement s of f begin.
+pub fn place(file: &File, firsts: &[u32], f: FunctionHandle, s: u32) -> usize
+    ensures { result ≡ get_or firsts.now (statement_number file.now.t f.0 s) 0 }
+{
+    word(firsts, statement_number(file, f, s)) as usize
 }
 
 // How many numbers there are from first to last.
@@ -82,45 +107,21 @@ impl MarkPlaces {
             firsts: [0; MAX_ITEMS],
         }
     }
+}
 
-    // Where the marks of the first f functions end: those of the function f, if there is one, begin there.
-    pub fn start(&self, f: usize) -> usize
-        requires { f ≤ max_functions }
-        ensures { result ≡ start_in self.now f }
-    {
-        self.starts[f] as usize
+// Each function's marks behind those before it, and each statement's among them.
+// Stays: `WasRead` in `requires`, here, in place_statements and first_ray, and in the three functions that begin a check (crate verdict). A struct of a
+// file with that fact would be held by `TypedFile`, and each of some 100 places in clauses that say `typed.now.file.now` would say one `.now` more.
+pub fn place_marks(file: &File, starts: &mut [u32], firsts: &mut [u32])
+    requires was_read { WasRead file.now.bytes file.now.t }
+    requires long { (max_functions < length starts.old) × (max_items ≤ length firsts.old) }
+    ensures { Places file.now.bytes file.now.t (places_of starts.new firsts.new) }
+{
+    let n = file.functions();
+    let mut at: u32 = 0;
+    for f in 0..n {
+        put(starts, f as usize, at);
+        at = place_statements(file, firsts, FunctionHandle(f), at);
     }
-
-    // The marks of f, by their places.
-    pub fn range(&self, f: FunctionHandle) -> Range<usize>
-        requires { f.0 < max_functions }
-        ensures start { result.start ≡ start_in self.now f.0 }
-        ensures end { result.end ≡ start_in self.now (f.0 + 1) }
-    {
-        let i = f.0 as usize;
-        self.start(i)..self.start(i + 1)
-    }
-
-    // Where the marks of the statement s of f begin.
-    pub fn place(&self, file: &File, f: FunctionHandle, s: u32) -> usize
-        ensures { result ≡ get_or self.now.firsts (statement_number file.now.t f.0 s) 0 }
-    {
-        word(&self.firsts, statement_number(file, f, s)) as usize
-    }
-
-    // Each function's marks behind those before it, and each statement's among them.
-    // Stays: `WasRead` in `requires`, here, in place_statements and first_ray, and in the three functions that begin a check (crate verdict). A struct of a
-    // file with that fact would be held by `TypedFile`, and each of some 100 places in clauses that say `typed.now.file.now` would say one `.now` more.
-    pub fn place_marks(&mut self, file: &File)
-        requires { WasRead file.now.bytes file.now.t }
-        ensures { Places file.now.bytes file.now.t self.new }
-    {
-        let n = file.functions();
-        let mut at: u32 = 0;
-        for f in 0..n {
-            put(&mut self.starts, f as usize, at);
-            at = place_statements(file, &mut self.firsts, FunctionHandle(f), at);
-        }
-        put(&mut self.starts, n as usize, at);
-    }
+    put(starts, n as usize, at);
 }

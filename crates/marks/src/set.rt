@@ -5,7 +5,7 @@ ghost use Rattle.walk.specs.Marks.{write_marks};
 ghost use Rattle.marks.specs.Places.{start_in, size_in, Inside, recorded_in};
 
 use crate::lent::clear;
-use crate::places::MarkPlaces;
+use crate::places::range;
 use module::handles::FunctionHandle;
 use part::store::EMPTY_PIECE;
 
@@ -40,9 +40,9 @@ pub fn set_emit(marks: &mut [u8], at: usize, slots: &[u32], from: usize, n: usiz
 }
 
 // No mark of f is set.
-pub fn clear_marks(marks: &mut [u8], places: &MarkPlaces, f: FunctionHandle)
-    requires { Inside places.now f.0 (length marks.old) }
-    ensures { marks.new ≡ write_marks marks.old (start_in places.now f.0) (replicate (size_in places.now f.0) 0) }
+pub fn clear_marks(marks: &mut [u8], starts: &[u32], f: FunctionHandle)
+    requires { Inside starts.now f.0 (length marks.old) }
+    ensures { marks.new ≡ write_marks marks.old (start_in starts.now f.0) (replicate (size_in starts.now f.0) 0) }
 {
-    clear(&mut marks[places.range(f)]);
+    clear(&mut marks[range(starts, f)]);
 }

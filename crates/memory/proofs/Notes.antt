@@ -18,7 +18,7 @@ use Rattle.part.proofs.Pieces.{part-0, part-1, part-2}
 use Rattle.part.proofs.Making.{kept_trans}
 use Rattle.part.proofs.Write.{kept_self}
 use Rattle.part.proofs.Counting.{same_is, same-pieces}
-use Rattle.memory.specs.Layout.{flat_slot, flat_count, globals_slot, slot_count, store_size}
+use Rattle.memory.specs.Layout.{flat_slot, flat_count, globals_slot, stack_slot, store_size}
 use Rattle.memory.specs.Want.{asked}
 use Rattle.memory.specs.Memory.{read, sum_from, Recorded, missing, present, Memory, Filled, Flats, Empty, Putting, Noting, Noted}
 use Rattle.memory.specs.declared.want.Want.{Want}
@@ -29,7 +29,7 @@ pub all_filled : {us : List ℕ} {n : ℕ} → us ≡ replicate n 2 → Filled u
 all_filled {us} {n} e = record { with_none = λ k h. rw e (get_or-replicate {A = ℕ} n k 2 0 h) }
 
 -- `init_memory`
-module _ {s rs t us : List ℕ} {n : ℕ} (g : Good s) (none-used : top s ≡ 3) (big : store_size ≤ length s) (f : Filled rs n) (all-filled : length rs ≡ n) (long : slot_count ≤ n)
+module _ {s rs t us : List ℕ} {n : ℕ} (g : Good s) (none-used : top s ≡ 3) (big : store_size ≤ length s) (f : Filled rs n) (all-filled : length rs ≡ n) (long : stack_slot ≤ n)
     (x : Flats s (set (set rs 0 0) 1 1) t us flat_count) where
   lengths : length us ≡ length rs
   lengths = x.long ∙ length-set (set rs 0 0) 1 1 ∙ length-set rs 0 0
@@ -73,7 +73,6 @@ module _ {s rs t us : List ℕ} {n : ℕ} (g : Good s) (none-used : top s ≡ 3)
       records = λ k a b. rw (at_high k (omega arith) (omega arith), part-2) missing;
       fits = omega (arith, x.kept.long);
     };
-    long = omega (arith, lengths);
     none_asked = λ k a b. rw (at_low k (omega arith) (omega arith)) (part-2 t);
     none_counted = λ k a b. rw (at_high k a (omega (arith, lengths))) (part-2 t);
     few = omega (arith, x.cost);

@@ -10,7 +10,7 @@ use Rattle.part.specs.StoreLimits.{entries_cap}
 use Rattle.context.specs.RequiredContext.{RequiredContext, variable}
 use Rattle.walk.specs.State.{Records}
 use Rattle.walk.specs.Expression.{joined}
-use Rattle.memory.specs.Layout.{all_slot, exist_slot, ask, returned, flat_slot, flat_count, globals_slot, exprs_slot, functions_slot, stack_slot, slot_count, room, store_size}
+use Rattle.memory.specs.Layout.{all_slot, exist_slot, ask, returned, flat_slot, flat_count, globals_slot, exprs_slot, functions_slot, stack_slot, room, store_size}
 use Rattle.memory.specs.Flat.{flat_of}
 use Rattle.memory.specs.Want.{Wants}
 use Rattle.memory.specs.declared.want.Want.{Want}
@@ -94,7 +94,6 @@ pub record Flats (s rs t us : List ℕ) (n : ℕ) : Type 0 where
 -- nothing is asked, recorded or held yet
 pub record Empty (s rs : List ℕ) : Type 0 where
   pub memory : Memory s rs
-  pub long : slot_count ≤ length rs
   pub none_asked : (k : ℕ) → ask ≤ k → k ≤ returned → part s (get_or rs k 0) ≡ none
   pub none_counted : (k : ℕ) → globals_slot ≤ k → k < length rs → part s (get_or rs k 0) ≡ none
   pub few : top s ≤ 3 + 4 * flat_count

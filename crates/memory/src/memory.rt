@@ -5,8 +5,8 @@ ghost use Rattle.part.specs.PartReq.{none, more, entries, spine};
 ghost use Rattle.part.specs.Count.{same};
 ghost use Rattle.walk.specs.Expression.{joined};
 ghost use Rattle.part.specs.Store.{top, part, Good, Room, Made};
-ghost use Rattle.part.specs.StoreLimits.{entries_cap};
-ghost use Rattle.memory.specs.Layout.{flat_count, most};
+ghost use Rattle.part.specs.StoreLimits.{store_words, entries_cap};
+ghost use Rattle.memory.specs.Layout.{flat_count, stack_slot, store_size, most};
 ghost use Rattle.memory.specs.Flat.{flat_from};
 ghost use Rattle.memory.specs.Want.{asked};
 ghost use Rattle.memory.specs.Memory.{read, sum_from, counted, Recorded, Memory, Tidied, Flats, Empty, Putting, Noting, Noted, join_room, Joining, Totalling, Totalled};
@@ -39,56 +39,58 @@ fn flat(cells: &mut [u32], k: u32, n: u32, c: usize) -> u32
 }
 
 // All flat parts, in their slots.
-fn flats(parts: &mut Parts)
-    requires { Good parts.old.cells × Room parts.old.cells (4 * flat_count) }
-    ensures { Flats parts.old.cells parts.old.slots parts.new.cells parts.new.slots flat_count }
+fn flats(cells: &mut [u32], slots: &mut [u32])
+    requires good { Good cells.old × Room cells.old (4 * flat_count) }
+    requires stack_slot_in_bounds { stack_slot ≤ length slots.old }
+    ensures { Flats cells.old slots.old cells.new slots.new flat_count }
 {
     // Stays: by number. Over the slots themselves it takes two `let`s, of all slots and of these, and `iter_mut().enumerate()` for the code that c is.
     for c in 0..FLATS {
-        let r = flat(&mut parts.cells, 0, 4, c);
-        parts.slots[FLAT + c] = r;
+        let r = flat(cells, 0, 4, c);
+        slots[FLAT + c] = r;
     }
 }
 
 // A memory in which nothing is asked, recorded or held.
-pub fn init_memory(parts: &mut Parts)
-    ensures { Empty parts.new.cells parts.new.slots }
+pub fn init_memory(cells: &mut [u32], slots: &mut [u32])
+    requires store_size_in_bounds { (store_size ≤ length cells.old) × (length cells.old ≤ store_words) }
+    requires stack_slot_in_bounds { stack_slot ≤ length slots.old }
+    ensures { Empty cells.new slots.new }
 {
-    init(&mut parts.cells);
-    parts.slots.fill(EMPTY_PIECE);
-    parts.slots[ALL] = ALL_PIECE;
-    parts.slots[EXIST] = EXIST_PIECE;
-    flats(parts);
+    init(cells);
+    slots.fill(EMPTY_PIECE);
+    slots[ALL] = ALL_PIECE;
+    slots[EXIST] = EXIST_PIECE;
+    flats(cells, slots);
 }
 
 // Room for one visit: where there is too little, what no slot needs is freed.
-pub fn tidy(parts: &mut Parts)
-    requires memory { Memory parts.old.cells parts.old.slots }
-    requires slots_bound { counted (read parts.old.cells parts.old.slots) ≤ most }
-    ensures { Tidied parts.old.cells parts.old.slots parts.new.cells parts.new.slots }
+pub fn tidy(cells: &mut [u32], slots: &mut [u32])
+    requires memory { Memory cells.old slots.old }
+    requires slots_bound { counted (read cells.old slots.old) ≤ most }
+    ensures { Tidied cells.old slots.old cells.new slots.new }
 {
-    let used = parts.cells[0] as usize;
+    let used = cells[0] as usize;
     if used <= 3 + LIVE {
         return;
     }
-    collect(&mut parts.cells, &mut parts.slots);
+    collect(cells, slots);
 }
 
 // The entries of n slots from the slot a on, in sum.
-pub fn weigh(parts: &Parts, a: usize, n: usize) -> usize
-    requires memory { Memory parts.now.cells parts.now.slots }
-    requires n_in_bounds { (a + n ≤ length parts.now.slots) × (sum_from (read parts.now.cells parts.now.slots) a n ≤ entries_cap) }
-    ensures { result ≡ sum_from (read parts.now.cells parts.now.slots) a n }
+pub fn weigh(cells: &[u32], slots: &[u32], a: usize, n: usize) -> usize
+    requires memory { Memory cells.now slots.now }
+    requires n_in_bounds { (a + n ≤ length slots.now) × (sum_from (read cells.now slots.now) a n ≤ entries_cap) }
+    ensures { result ≡ sum_from (read cells.now slots.now) a n }
 {
     let mut sum = 0;
-    for r in &parts.slots[a..a + n] {
-        sum += entries(&parts.cells, *r) as usize;
+    for r in &slots[a..a + n] {
+        sum += entries(cells, *r) as usize;
     }
     sum
 }
 
 // The slot `at` has the piece r then. Gives what records and totals count for.
-// Stays: cells and slots apart: the cells are only read, and with a `&mut Parts` the contract and each caller's proof would carry that they stay.
 pub fn put(cells: &[u32], slots: &mut [u32], at: usize, r: u32, sum: usize) -> usize
     requires { Putting cells.now slots.old at r sum }
     ensures { Noted cells.now slots.old at (part cells.now r) sum 0 cells.now slots.new result }
@@ -113,17 +115,17 @@ fn is_record(cells: &[u32], n: u32, p: u32) -> bool
 }
 
 // The record in the slot `at` is what w asks. Gives what records and totals count for.
-pub fn note(parts: &mut Parts, at: usize, w: Want, sum: usize) -> usize
-    requires { Noting parts.old.cells parts.old.slots at w sum }
-    ensures { Noted parts.old.cells parts.old.slots at (more 0 (asked parts.old.cells parts.old.slots w) none) sum (max_depth + 1) parts.new.cells parts.new.slots result }
+pub fn note(cells: &mut [u32], slots: &mut [u32], at: usize, w: Want, sum: usize) -> usize
+    requires { Noting cells.old slots.old at w sum }
+    ensures { Noted cells.old slots.old at (more 0 (asked cells.old slots.old w) none) sum (max_depth + 1) cells.new slots.new result }
 {
     let slot = w.slot;
-    let p = piece(&mut parts.cells, w, parts.slots[slot]);
-    if is_record(&parts.cells, parts.slots[at], p) {
+    let p = piece(cells, w, slots[slot]);
+    if is_record(cells, slots[at], p) {
         return sum;
     }
-    let r = make(&mut parts.cells, 0, p, EMPTY_PIECE);
-    put(&parts.cells, &mut parts.slots, at, r, sum)
+    let r = make(cells, 0, p, EMPTY_PIECE);
+    put(cells, slots, at, r, sum)
 }
 
 // {variable i: p} joined to the map n.
@@ -137,7 +139,6 @@ fn join_entry(cells: &mut [u32], n: u32, i: u32, p: u32) -> u32
 }
 
 // What w asks, joined to the entry of the variable i in the map n: of arguments, or of locals.
-// Stays: cells and slots apart: the slots are only read, and with a `&mut Parts` the contract and each caller's proof would carry that they stay.
 pub fn join_asked(cells: &mut [u32], slots: &[u32], n: u32, i: u32, w: Want) -> u32
     requires { Joining cells.old slots.now n i w }
     ensures { Made cells.old cells.new (joined (part cells.old n) i (asked cells.old slots.now w)) join_room result }
@@ -156,24 +157,31 @@ pub struct Totals {
 
 // What w asks is asked of the global g. The first time, of all that the pruner has seen, the entry of the context's map n is replaced; later only the
 // total is joined.
-pub fn ask_global(parts: &mut Parts, n: u32, g: GlobalHandle, w: Want, sum: usize) -> Totals
-    requires { Totalling parts.old.cells parts.old.slots n g.0 w sum }
-    ensures { Totalled parts.old.cells parts.old.slots n g.0 (asked parts.old.cells parts.old.slots w) sum parts.new.cells parts.new.slots result.globals result.sum }
+pub fn ask_global(
+    cells: &mut [u32],
+    slots: &mut [u32],
+    n: u32,
+    g: GlobalHandle,
+    w: Want,
+    sum: usize,
+) -> Totals
+    requires { Totalling cells.old slots.old n g.0 w sum }
+    ensures { Totalled cells.old slots.old n g.0 (asked cells.old slots.old w) sum cells.new slots.new result.globals result.sum }
 {
     let slot = w.slot;
-    let p = piece(&mut parts.cells, w, parts.slots[slot]);
-    let old = parts.slots[GLOBALS];
-    let f = get(&parts.cells, old, SPINE + g.0);
+    let p = piece(cells, w, slots[slot]);
+    let old = slots[GLOBALS];
+    let f = get(cells, old, SPINE + g.0);
     match f {
         None => {
-            let d = insert(&mut parts.cells, n, SPINE + g.0, p);
-            let t = insert(&mut parts.cells, old, SPINE + g.0, p);
-            let m = put(&parts.cells, &mut parts.slots, GLOBALS, t, sum);
+            let d = insert(cells, n, SPINE + g.0, p);
+            let t = insert(cells, old, SPINE + g.0, p);
+            let m = put(cells, slots, GLOBALS, t, sum);
             Totals { globals: d, sum: m }
         }
         Some(_) => {
-            let t = join_entry(&mut parts.cells, old, g.0, p);
-            let m = put(&parts.cells, &mut parts.slots, GLOBALS, t, sum);
+            let t = join_entry(cells, old, g.0, p);
+            let m = put(cells, slots, GLOBALS, t, sum);
             Totals { globals: n, sum: m }
         }
     }

@@ -1,10 +1,10 @@
-// The parts that a walk, or a check, holds.
+// The parts that a walk, or a check, holds, as their owner has them: what works in them takes the two arrays as slices.
 ghost use Rattle.std.specs.Prelude.{◌≡◌, length, replicate};
 ghost use Rattle.memory.specs.Layout.{slot_count, store_size};
 
 use crate::layout::{CELLS, SLOTS};
 
-// The cells of their pieces, and the slots that name them. How many there are is a fact of the value, so that sums of slot numbers are known to fit.
+// The cells of their pieces, and the slots that name them. How many there are is a fact of the value, for those who lend them.
 // Stays: arrays, made by one memset: a `Vec` allocates, and there is no heap here. Slots hold `u32`, as cells' words do, since `collect` renumbers words.
 #[derive(Drop)]
 pub struct Parts {

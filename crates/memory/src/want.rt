@@ -137,55 +137,55 @@ pub fn piece(cells: &mut [u32], w: Want, n: u32) -> u32
     m
 }
 
-// Stays: parts and w side by side, here and in crate asks. `Memory` says what each cell means, which is data: no ghost field holds it, so a value of the two
-// would leave the clause at each function, and the walk writes parts between two of them.
+// Stays: cells, slots and w side by side, here and in crate asks. `Memory` says what each cell means, which is data: no ghost field holds it, so a value of
+// them would leave the clause at each function, and the walk writes the cells between two of them.
 // Whether {i: what w asks} passes a limit.
-pub fn wrap_over(parts: &Parts, w: Want, i: u32) -> bool
-    requires memory { Memory parts.now.cells parts.now.slots × Wants parts.now.cells parts.now.slots w }
+pub fn wrap_over(cells: &[u32], slots: &[u32], w: Want, i: u32) -> bool
+    requires memory { Memory cells.now slots.now × Wants cells.now slots.now w }
     requires i_lt_spine { i < spine }
-    ensures { result ≡ over (more i (asked parts.now.cells parts.now.slots w) none) }
+    ensures { result ≡ over (more i (asked cells.now slots.now w) none) }
 {
     let slot = w.slot;
-    let n = reach(&parts.cells, w, parts.slots[slot]);
-    let d = depth(&parts.cells, n) as usize;
+    let n = reach(cells, w, slots[slot]);
+    let d = depth(cells, n) as usize;
     MAX_DEPTH <= d + w.up || MAX_ENTRIES < 1
 }
 
 // Whether w asks the piece p alone, which is no cell: all, or exist.
 #[inline]
-fn is_plain(parts: &Parts, w: Want, p: u32) -> bool
-    requires memory { Memory parts.now.cells parts.now.slots × Wants parts.now.cells parts.now.slots w }
+fn is_plain(cells: &[u32], slots: &[u32], w: Want, p: u32) -> bool
+    requires memory { Memory cells.now slots.now × Wants cells.now slots.now w }
     requires p_lt2 { p < 2 }
-    ensures { result ≡ is_plain p (asked parts.now.cells parts.now.slots w) }
+    ensures { result ≡ is_plain p (asked cells.now slots.now w) }
 {
     if 0 < w.up {
         return false;
     }
     let slot = w.slot;
-    let n = reach(&parts.cells, w, parts.slots[slot]);
+    let n = reach(cells, w, slots[slot]);
     n == p
 }
 
 // Whether w asks all.
-pub fn is_all(parts: &Parts, w: Want) -> bool
-    requires { Memory parts.now.cells parts.now.slots × Wants parts.now.cells parts.now.slots w }
-    ensures { result ≡ is_all (asked parts.now.cells parts.now.slots w) }
+pub fn is_all(cells: &[u32], slots: &[u32], w: Want) -> bool
+    requires { Memory cells.now slots.now × Wants cells.now slots.now w }
+    ensures { result ≡ is_all (asked cells.now slots.now w) }
 {
-    is_plain(parts, w, ALL_PIECE)
+    is_plain(cells, slots, w, ALL_PIECE)
 }
 
 // Whether w asks only that it is there.
-pub fn is_exist(parts: &Parts, w: Want) -> bool
-    requires { Memory parts.now.cells parts.now.slots × Wants parts.now.cells parts.now.slots w }
-    ensures { result ≡ is_exist (asked parts.now.cells parts.now.slots w) }
+pub fn is_exist(cells: &[u32], slots: &[u32], w: Want) -> bool
+    requires { Memory cells.now slots.now × Wants cells.now slots.now w }
+    ensures { result ≡ is_exist (asked cells.now slots.now w) }
 {
-    is_plain(parts, w, EXIST_PIECE)
+    is_plain(cells, slots, w, EXIST_PIECE)
 }
 
 // The index of the entry k of what w asks, if there is one.
-pub fn entry(parts: &Parts, w: Want, k: u32) -> Option<u32>
-    requires { Memory parts.now.cells parts.now.slots × Wants parts.now.cells parts.now.slots w }
-    ensures { result ≡ first (tail (asked parts.now.cells parts.now.slots w) k) }
+pub fn entry(cells: &[u32], slots: &[u32], w: Want, k: u32) -> Option<u32>
+    requires { Memory cells.now slots.now × Wants cells.now slots.now w }
+    ensures { result ≡ first (tail (asked cells.now slots.now w) k) }
 {
     let up = w.up;
     if 0 < up {
@@ -196,20 +196,20 @@ pub fn entry(parts: &Parts, w: Want, k: u32) -> Option<u32>
         return None;
     }
     let slot = w.slot;
-    let m = reach(&parts.cells, w, parts.slots[slot]);
-    let t = tail(&parts.cells, m, k);
+    let m = reach(cells, w, slots[slot]);
+    let t = tail(cells, m, k);
     if t <= EMPTY_PIECE {
         return None;
     }
-    let x = look(&parts.cells, t);
+    let x = look(cells, t);
     Some(x.index)
 }
 
 // What that entry has, where there is one with a file's index.
-pub fn child(parts: &Parts, w: Want, k: u32) -> Want
-    requires memory { Memory parts.now.cells parts.now.slots × Wants parts.now.cells parts.now.slots w }
-    requires k_value { IsSomeAnd (first (tail (asked parts.now.cells parts.now.slots w) k)) (λ i. i < spine) }
-    ensures { Child parts.now.cells parts.now.slots w k result }
+pub fn child(cells: &[u32], slots: &[u32], w: Want, k: u32) -> Want
+    requires memory { Memory cells.now slots.now × Wants cells.now slots.now w }
+    requires k_value { IsSomeAnd (first (tail (asked cells.now slots.now w) k)) (λ i. i < spine) }
+    ensures { Child cells.now slots.now w k result }
 {
     if 0 < w.up {
         return w.pop();
@@ -218,14 +218,14 @@ pub fn child(parts: &Parts, w: Want, k: u32) -> Want
 }
 
 // How a component is asked, as a digit of a flat part's code: whole, or to be there. None where it is neither.
-fn digit(parts: &Parts, w: Want) -> Option<usize>
-    requires { Memory parts.now.cells parts.now.slots × Wants parts.now.cells parts.now.slots w }
-    ensures { result ≡ some_digit (digit_of (asked parts.now.cells parts.now.slots w)) }
+fn digit(cells: &[u32], slots: &[u32], w: Want) -> Option<usize>
+    requires { Memory cells.now slots.now × Wants cells.now slots.now w }
+    ensures { result ≡ some_digit (digit_of (asked cells.now slots.now w)) }
 {
-    if is_all(parts, w) {
+    if is_all(cells, slots, w) {
         return Some(WHOLE);
     }
-    if is_exist(parts, w) {
+    if is_exist(cells, slots, w) {
         return Some(THERE);
     }
     None
@@ -252,26 +252,26 @@ fn flat_slot(digits: [usize; 4]) -> usize
 }
 
 // The slot of what a swizzle with these letters asks of its vector, where w is asked of it; none where that panics.
-pub fn swizzle(parts: &Parts, w: Want, pattern: [u32; 4]) -> Option<usize>
-    requires memory { Memory parts.now.cells parts.now.slots × Wants parts.now.cells parts.now.slots w }
+pub fn swizzle(cells: &[u32], slots: &[u32], w: Want, pattern: [u32; 4]) -> Option<usize>
+    requires memory { Memory cells.now slots.now × Wants cells.now slots.now w }
     requires letters { Letters pattern }
-    ensures { Picks parts.now.cells parts.now.slots (swizzled pattern (asked parts.now.cells parts.now.slots w)) result }
+    ensures { Picks cells.now slots.now (swizzled pattern (asked cells.now slots.now w)) result }
 {
-    if is_all(parts, w) {
+    if is_all(cells, slots, w) {
         return Some(ALL);
     }
-    if is_exist(parts, w) {
+    if is_exist(cells, slots, w) {
         return Some(EXIST);
     }
     let mut digits: [usize; 4] = [UNASKED; 4];
     let mut k = 0;
     // Stays: `entry` ends it, and no count. `for k in 0..` saves the two lines that count, and takes a `let Some(i) = .. else { break; };` of three.
-    while let Some(i) = entry(parts, w, k) {
+    while let Some(i) = entry(cells, slots, w, k) {
         if 4 <= i {
             return None;
         }
-        let u = child(parts, w, k);
-        let d = digit(parts, u)?;
+        let u = child(cells, slots, w, k);
+        let d = digit(cells, slots, u)?;
         let letter = letter_at(pattern, i);
         digits[letter] = d;
         k += 1;

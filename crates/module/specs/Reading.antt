@@ -3,8 +3,6 @@ use Rattle.std.specs.Prelude.{ℕ, zero, suc, ◌-◌, Bool, true, false, cond, 
 use Rattle.std.proofs.Math.Option.{Option}
 use Rattle.module.specs.Module.{TypeHandle, TypeInner, Statement, Typed, BlockRange, FunctionArg, FunctionResult, Function}
 use Rattle.module.specs.declared.record.Mark.{Mark}
-use Rattle.module.specs.declared.tables.Stage.{Stage}
-use Rattle.module.specs.declared.tables.Stage.TheVariants.{Types, Globals, Arguments, Locals, Expressions, Blocks}
 use Rattle.module.specs.declared.record.Mark.TheVariants.{TY, GV, FN, AR, LV, EX, BK, ST}
 use Rattle.module.specs.Decode.{tab, type_of, result_of, arg_of, typed_of, st_of}
 use Rattle.module.specs.Operands.{Scope}
@@ -28,15 +26,6 @@ in_expressions = 4
 
 abbrev pub in_blocks : ℕ
 in_blocks = 5
-
--- the same of what the code has
-abbrev pub rank : Stage → ℕ
-rank Types = in_types
-rank Globals = in_globals
-rank Arguments = in_arguments
-rank Locals = in_locals
-rank Expressions = in_expressions
-rank Blocks = in_blocks
 
 -- A function while it is read. Of each block it has the number of its first statement.
 pub record Open : Type 0 where

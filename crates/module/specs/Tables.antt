@@ -7,7 +7,7 @@ use Rattle.module.specs.Module.{Function, Module}
 use Rattle.module.specs.Record.{body_at}
 use Rattle.module.specs.Decode.{tab, type_of, result_of, arg_of, typed_of, st_of}
 use Rattle.module.specs.Operands.{Scope}
-use Rattle.module.specs.Reading.{rank, Open, Reading, closed}
+use Rattle.module.specs.Reading.{Open, Reading, closed}
 
 -- A record has at least its header.
 abbrev pub max_items : ℕ
@@ -124,7 +124,7 @@ function_of bytes t f = closed (open_of bytes t (row_at t f))
 unfoldable pub reading_of : List ℕ → List ℕ → Counts → Reading
 reading_of bytes t c =
     record {
-      stage = rank c.stage;
+      stage = c.stage;
       types = tab c.types (λ i. type_of (type_body bytes t i));
       globals = tab c.globals (λ i. get_or (global_body bytes t i) 0 0);
       functions = tab c.functions (function_of bytes t);

@@ -5,7 +5,6 @@ ghost use Rattle.module.specs.Record.{body_at, even};
 ghost use Rattle.module.specs.Packed.{unpack, classes};
 ghost use Rattle.module.specs.File.{placed, count_over, over, fine};
 ghost use Rattle.module.specs.Scan.{Fresh, Stamped};
-ghost use Rattle.module.specs.Reading.{rank};
 ghost use Rattle.module.specs.Tables.{scope_in};
 ghost use Rattle.module.specs.Checks.{before_of, shape_in, typed_in};
 
@@ -13,7 +12,9 @@ use crate::kinds::{ExpressionKind, StatementKind, TypeKind};
 use crate::operands::{Scope, operands};
 use crate::record::{Fields, Mark, Record};
 use crate::shape::{T, TD, WY, expression_shape, statement_shape, type_shape};
-use crate::tables::{Counts, Stage};
+use crate::tables::{
+    Counts, IN_ARGUMENTS, IN_BLOCKS, IN_EXPRESSIONS, IN_GLOBALS, IN_LOCALS, IN_TYPES,
+};
 use field::limits::{
     MAX_ARGUMENTS, MAX_COMPONENTS, MAX_EXPRESSIONS, MAX_FUNCTIONS, MAX_GLOBALS, MAX_LOCALS,
     MAX_MEMBERS, MAX_STATEMENTS, MAX_TYPES,
@@ -21,18 +22,18 @@ use field::limits::{
 
 // 3: whether a mark may stand here.
 #[tactic(auto, unfolding(crate::specs::File::placed))]
-pub fn placed(mark: Mark, stage: Stage) -> bool
-    ensures { result ≡ placed mark (rank stage) }
+pub fn placed(mark: Mark, stage: u32) -> bool
+    ensures { result ≡ placed mark stage }
 {
     match mark {
-        Mark::TY => stage == Stage::Types,
-        Mark::GV => stage <= Stage::Globals,
+        Mark::TY => stage == IN_TYPES,
+        Mark::GV => stage <= IN_GLOBALS,
         Mark::FN => true,
-        Mark::AR => stage == Stage::Arguments,
-        Mark::LV => Stage::Arguments <= stage && stage <= Stage::Locals,
-        Mark::EX => Stage::Arguments <= stage && stage <= Stage::Expressions,
-        Mark::BK => Stage::Arguments <= stage,
-        Mark::ST => stage == Stage::Blocks,
+        Mark::AR => stage == IN_ARGUMENTS,
+        Mark::LV => IN_ARGUMENTS <= stage && stage <= IN_LOCALS,
+        Mark::EX => IN_ARGUMENTS <= stage && stage <= IN_EXPRESSIONS,
+        Mark::BK => IN_ARGUMENTS <= stage,
+        Mark::ST => stage == IN_BLOCKS,
     }
 }
 

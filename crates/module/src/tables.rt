@@ -65,23 +65,24 @@ impl Row {
     }
 }
 
-// How far a file has come: what the last record was of, and types before the first.
-#[derive(Clone, Copy, Debug, PartialEq, Eq, PartialOrd, Ord)]
-pub enum Stage {
-    Types,
-    Globals,
-    // a function's head or arguments
-    Arguments,
-    Locals,
-    Expressions,
-    // blocks and statements
-    Blocks,
-}
+// How far a file has come: what the last record was of, and types before the first. A function's head counts with its arguments,
+// statements with blocks.
+pub const IN_TYPES: u32 = 0;
+
+pub const IN_GLOBALS: u32 = 1;
+
+pub const IN_ARGUMENTS: u32 = 2;
+
+pub const IN_LOCALS: u32 = 3;
+
+pub const IN_EXPRESSIONS: u32 = 4;
+
+pub const IN_BLOCKS: u32 = 5;
 
 // How far a file has come, how many of each there are, and the row of the open function.
 #[derive(Clone, Copy, Debug, PartialEq, Eq)]
 pub struct Counts {
-    pub stage: Stage,
+    pub stage: u32,
     pub types: u32,
     pub globals: u32,
     pub functions: u32,

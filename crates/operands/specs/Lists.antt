@@ -2,7 +2,6 @@
 use Rattle.std.specs.Prelude.{ℕ, ◌+◌, cond, List, [], ◌∷◌, ◌++◌, eqb}
 use Rattle.field.specs.Limits.{absent}
 use Rattle.part.specs.PartReq.{PartReq, none, more, get_subpart}
-use Rattle.part.specs.Store.{part}
 use Rattle.module.specs.Decode.{tab}
 use Rattle.clearance.specs.Shape.{or_none}
 use Rattle.clearance.specs.Scope.{Scope, path_of, indexes}

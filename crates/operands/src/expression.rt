@@ -11,16 +11,20 @@ use crate::row::Operands;
 use crate::tests::{by_part, is_joined};
 use judge::expression::SubjectExpression;
 use judge::subject::Subject;
-use memory::parts::Parts;
 use module::handles::ExpressionHandle;
 use module::kinds::ExpressionKind;
 use place::pointer::PointerExpression;
 
 // Both operands, by part or whole.
-fn ask_binary(expression: &SubjectExpression, parts: &mut Parts, n: usize) -> Option<()>
-    requires arm_given { ArmGivenOf expression.now parts.old.cells parts.old.slots n }
+fn ask_binary(
+    expression: &SubjectExpression,
+    cells: &mut [u32],
+    slots: &mut [u32],
+    n: usize,
+) -> Option<()>
+    requires arm_given { ArmGivenOf expression.now cells.old slots.old n }
     requires kind_value { expression.now.row.kind ≡ 17 }
-    ensures { AsksOperands expression.now.subject.now.file.now.bytes expression.now.subject.now.file.now.t expression.now.subject.now.f.0 expression.now.e.0 parts.old.cells parts.old.slots n parts.new.cells parts.new.slots (fits result) }
+    ensures { AsksOperands expression.now.subject.now.file.now.bytes expression.now.subject.now.file.now.t expression.now.subject.now.f.0 expression.now.e.0 cells.old slots.old n cells.new slots.new (fits result) }
 {
     let operands = Operands {
         file: expression.subject.file,
@@ -28,16 +32,21 @@ fn ask_binary(expression: &SubjectExpression, parts: &mut Parts, n: usize) -> Op
         row: expression.row,
     };
     if by_part(expression) {
-        return ask_both_same(&operands, parts, n);
+        return ask_both_same(&operands, cells, slots, n);
     }
-    ask_both_whole(&operands, parts, n)
+    ask_both_whole(&operands, cells, slots, n)
 }
 
 // The components, by part or whole.
-fn ask_compose(expression: &SubjectExpression, parts: &mut Parts, n: usize) -> Option<()>
-    requires arm_given { ArmGivenOf expression.now parts.old.cells parts.old.slots n }
+fn ask_compose(
+    expression: &SubjectExpression,
+    cells: &mut [u32],
+    slots: &mut [u32],
+    n: usize,
+) -> Option<()>
+    requires arm_given { ArmGivenOf expression.now cells.old slots.old n }
     requires kind_value { expression.now.row.kind ≡ 8 }
-    ensures { AsksOperands expression.now.subject.now.file.now.bytes expression.now.subject.now.file.now.t expression.now.subject.now.f.0 expression.now.e.0 parts.old.cells parts.old.slots n parts.new.cells parts.new.slots (fits result) }
+    ensures { AsksOperands expression.now.subject.now.file.now.bytes expression.now.subject.now.file.now.t expression.now.subject.now.f.0 expression.now.e.0 cells.old slots.old n cells.new slots.new (fits result) }
 {
     let subject = expression.subject;
     let operands = Operands {
@@ -46,22 +55,23 @@ fn ask_compose(expression: &SubjectExpression, parts: &mut Parts, n: usize) -> O
         row: expression.row,
     };
     if is_joined(&operands, subject.types, expression.e) {
-        return ask_joined(&operands, parts, n);
+        return ask_joined(&operands, cells, slots, n);
     }
-    ask_components(&operands, parts, n)
+    ask_components(&operands, cells, slots, n)
 }
 
 // What the need of the expression e asks of its operands. None where the needs pass the bound.
 pub fn ask_operands(
     subject: &Subject,
-    parts: &mut Parts,
+    cells: &mut [u32],
+    slots: &mut [u32],
     path: &mut [u32],
     n: usize,
     e: ExpressionHandle,
 ) -> Option<()>
-    requires operands_given { OperandsGivenOf subject.now parts.old.cells parts.old.slots n e.0 }
+    requires operands_given { OperandsGivenOf subject.now cells.old slots.old n e.0 }
     requires path_room { PathRoom subject.now.file.now.bytes subject.now.file.now.t subject.now.f.0 path.old }
-    ensures { AsksOperands subject.now.file.now.bytes subject.now.file.now.t subject.now.f.0 e.0 parts.old.cells parts.old.slots n parts.new.cells parts.new.slots (fits result) }
+    ensures { AsksOperands subject.now.file.now.bytes subject.now.file.now.t subject.now.f.0 e.0 cells.old slots.old n cells.new slots.new (fits result) }
 {
     let row = subject.file.expression(subject.f, e);
     let expression = SubjectExpression {
@@ -75,25 +85,25 @@ pub fn ask_operands(
         row,
     };
     match ExpressionKind::try_from(row.kind) {
-        Ok(ExpressionKind::AccessIndex) => ask_index(&operands, parts, n),
-        Ok(ExpressionKind::Access) => ask_both_whole(&operands, parts, n),
+        Ok(ExpressionKind::AccessIndex) => ask_index(&operands, cells, slots, n),
+        Ok(ExpressionKind::Access) => ask_both_whole(&operands, cells, slots, n),
         Ok(ExpressionKind::Splat | ExpressionKind::Relational) => {
-            ask_whole(&operands, parts, n, 0)
+            ask_whole(&operands, cells, slots, n, 0)
         }
-        Ok(ExpressionKind::Swizzle) => ask_letters(&operands, parts, n),
-        Ok(ExpressionKind::Compose) => ask_compose(&expression, parts, n),
+        Ok(ExpressionKind::Swizzle) => ask_letters(&operands, cells, slots, n),
+        Ok(ExpressionKind::Compose) => ask_compose(&expression, cells, slots, n),
         Ok(ExpressionKind::Load) => {
             let pointer = PointerExpression {
                 file: subject.file,
                 f: subject.f,
                 e: subject.file.expression_operand(row, 0),
             };
-            ask_load(&pointer, parts, path, n)
+            ask_load(&pointer, cells, slots, path, n)
         }
-        Ok(ExpressionKind::Binary) => ask_binary(&expression, parts, n),
-        Ok(ExpressionKind::Select) => ask_select(&operands, parts, n),
-        Ok(ExpressionKind::Math) => ask_math(&operands, parts, n),
+        Ok(ExpressionKind::Binary) => ask_binary(&expression, cells, slots, n),
+        Ok(ExpressionKind::Select) => ask_select(&operands, cells, slots, n),
+        Ok(ExpressionKind::Math) => ask_math(&operands, cells, slots, n),
         // The two kinds that are left, Unary and As.
-        _ => ask_same(&operands, parts, n, 0),
+        _ => ask_same(&operands, cells, slots, n, 0),
     }
 }

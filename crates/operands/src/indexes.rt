@@ -12,7 +12,6 @@ ghost use Rattle.hold.specs.Fits.{fits};
 use crate::row::Operands;
 use access::file::File;
 use asking::ask::ask_place;
-use memory::parts::Parts;
 use module::handles::{ExpressionHandle, FunctionHandle};
 use place::slots::{argument_path, evaluated_path};
 use place::sources::{Source, source_of};
@@ -21,15 +20,16 @@ use place::sources::{Source, source_of};
 pub fn ask_member(
     file: &File,
     f: FunctionHandle,
-    parts: &mut Parts,
+    cells: &mut [u32],
+    slots: &mut [u32],
     n: usize,
     v: ExpressionHandle,
     i: u32,
     a: u32,
 ) -> Option<()>
-    requires list_given { ListGiven (scope_at file.now.bytes file.now.t f.0) (of_value v.0 (more i (part parts.old.cells a) none) ∷ []) parts.old.cells parts.old.slots n }
-    requires a_bound { a < top parts.old.cells }
-    ensures { AsksAll (scope_at file.now.bytes file.now.t f.0) (of_value v.0 (more i (part parts.old.cells a) none) ∷ []) parts.old.cells parts.old.slots n parts.new.cells parts.new.slots (fits result) }
+    requires list_given { ListGiven (scope_at file.now.bytes file.now.t f.0) (of_value v.0 (more i (part cells.old a) none) ∷ []) cells.old slots.old n }
+    requires a_bound { a < top cells.old }
+    ensures { AsksAll (scope_at file.now.bytes file.now.t f.0) (of_value v.0 (more i (part cells.old a) none) ∷ []) cells.old slots.old n cells.new slots.new (fits result) }
 {
     let mut path = [0, 0, i];
     match source_of(file, f, v) {
@@ -37,16 +37,16 @@ pub fn ask_member(
         Source::Argument(k) => argument_path(&mut path, k),
         Source::Evaluated => evaluated_path(&mut path, v),
     }
-    ask_place(parts, n, &path, a)
+    ask_place(cells, slots, n, &path, a)
 }
 
 // Of what a constant index names, the part that is needed.
-pub fn ask_index(operands: &Operands, parts: &mut Parts, n: usize) -> Option<()>
-    requires { ListGiven (scope_under operands.now) (member_of (operands_in operands.now) (wanted_in parts.old.cells parts.old.slots n)) parts.old.cells parts.old.slots n }
-    ensures { AsksAll (scope_under operands.now) (member_of (operands_in operands.now) (wanted_in parts.old.cells parts.old.slots n)) parts.old.cells parts.old.slots n parts.new.cells parts.new.slots (fits result) }
+pub fn ask_index(operands: &Operands, cells: &mut [u32], slots: &mut [u32], n: usize) -> Option<()>
+    requires { ListGiven (scope_under operands.now) (member_of (operands_in operands.now) (wanted_in cells.old slots.old n)) cells.old slots.old n }
+    ensures { AsksAll (scope_under operands.now) (member_of (operands_in operands.now) (wanted_in cells.old slots.old n)) cells.old slots.old n cells.new slots.new (fits result) }
 {
     let base = operands.file.expression_operand(operands.row, 0);
     let index = operands.file.operand(operands.row, 1) as u32;
-    let a = parts.slots[n - 2];
-    ask_member(operands.file, operands.f, parts, n, base, index, a)
+    let a = slots[n - 2];
+    ask_member(operands.file, operands.f, cells, slots, n, base, index, a)
 }

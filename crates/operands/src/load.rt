@@ -8,7 +8,6 @@ ghost use Rattle.operands.specs.Lists.{load_of};
 ghost use Rattle.hold.specs.Fits.{fits};
 
 use asking::ask::{ask_place, ask_value};
-use memory::parts::Parts;
 use part::store::ALL_PIECE;
 use place::pointer::PointerExpression;
 use place::steps::Step;
@@ -16,9 +15,14 @@ use place::steps::Step;
 // The dynamic indexes of a pointer, each whole.
 // Stays: a loop by hand. An iterator over these indexes would be this same loop down to the next one as its `next`, a definition of what is left and three
 // laws (a step, the end, the length), for this one use.
-pub fn ask_indexes(pointer: &PointerExpression, parts: &mut Parts, n: usize) -> Option<()>
-    requires { ListGiven (scope_in pointer.now) (map ask_whole (indexes_in pointer.now)) parts.old.cells parts.old.slots n }
-    ensures { AsksAll (scope_in pointer.now) (map ask_whole (indexes_in pointer.now)) parts.old.cells parts.old.slots n parts.new.cells parts.new.slots (fits result) }
+pub fn ask_indexes(
+    pointer: &PointerExpression,
+    cells: &mut [u32],
+    slots: &mut [u32],
+    n: usize,
+) -> Option<()>
+    requires { ListGiven (scope_in pointer.now) (map ask_whole (indexes_in pointer.now)) cells.old slots.old n }
+    ensures { AsksAll (scope_in pointer.now) (map ask_whole (indexes_in pointer.now)) cells.old slots.old n cells.new slots.new (fits result) }
 {
     let file = pointer.file;
     let f = pointer.f;
@@ -28,7 +32,7 @@ pub fn ask_indexes(pointer: &PointerExpression, parts: &mut Parts, n: usize) -> 
             Step::Global(_) | Step::Local(_) => return Some(()),
             Step::Constant(base, _) => h = base,
             Step::Dynamic(base, index) => {
-                ask_value(file, f, parts, n, index, ALL_PIECE)?;
+                ask_value(file, f, cells, slots, n, index, ALL_PIECE)?;
                 h = base;
             }
         }
@@ -45,16 +49,17 @@ fn loaded(a: u32, dynamic: bool) -> u32
 // What stands where a pointer leads.
 pub fn ask_load(
     pointer: &PointerExpression,
-    parts: &mut Parts,
+    cells: &mut [u32],
+    slots: &mut [u32],
     path: &mut [u32],
     n: usize,
 ) -> Option<()>
-    requires list_given { ListGiven (scope_in pointer.now) (load_of (scope_in pointer.now) pointer.now.e.0 (wanted_in parts.old.cells parts.old.slots n)) parts.old.cells parts.old.slots n }
+    requires list_given { ListGiven (scope_in pointer.now) (load_of (scope_in pointer.now) pointer.now.e.0 (wanted_in cells.old slots.old n)) cells.old slots.old n }
     requires path_room { PathRoom pointer.now.file.now.bytes pointer.now.file.now.t pointer.now.f.0 path.old }
-    ensures { AsksAll (scope_in pointer.now) (load_of (scope_in pointer.now) pointer.now.e.0 (wanted_in parts.old.cells parts.old.slots n)) parts.old.cells parts.old.slots n parts.new.cells parts.new.slots (fits result) }
+    ensures { AsksAll (scope_in pointer.now) (load_of (scope_in pointer.now) pointer.now.e.0 (wanted_in cells.old slots.old n)) cells.old slots.old n cells.new slots.new (fits result) }
 {
-    ask_indexes(pointer, parts, n)?;
+    ask_indexes(pointer, cells, slots, n)?;
     let target = pointer.find_target(path);
-    let a = loaded(parts.slots[n - 2], target.dynamic);
-    ask_place(parts, n, &path[target.from..target.to], a)
+    let a = loaded(slots[n - 2], target.dynamic);
+    ask_place(cells, slots, n, &path[target.from..target.to], a)
 }

@@ -7,76 +7,103 @@ ghost use Rattle.hold.specs.Fits.{fits};
 
 use crate::row::Operands;
 use asking::ask::ask_value;
-use memory::parts::Parts;
 use part::store::ALL_PIECE;
 
 // Of the operand j the same part.
 // Stays: apart from `ask_whole`. One function for both would take the part, whose number is read anew before each ask, or a flag in place of two names.
-pub fn ask_same(operands: &Operands, parts: &mut Parts, n: usize, j: u16) -> Option<()>
-    requires { ListGiven (scope_under operands.now) (same_of (operands_in operands.now) j (wanted_in parts.old.cells parts.old.slots n)) parts.old.cells parts.old.slots n }
-    ensures { AsksAll (scope_under operands.now) (same_of (operands_in operands.now) j (wanted_in parts.old.cells parts.old.slots n)) parts.old.cells parts.old.slots n parts.new.cells parts.new.slots (fits result) }
+pub fn ask_same(
+    operands: &Operands,
+    cells: &mut [u32],
+    slots: &mut [u32],
+    n: usize,
+    j: u16,
+) -> Option<()>
+    requires { ListGiven (scope_under operands.now) (same_of (operands_in operands.now) j (wanted_in cells.old slots.old n)) cells.old slots.old n }
+    ensures { AsksAll (scope_under operands.now) (same_of (operands_in operands.now) j (wanted_in cells.old slots.old n)) cells.old slots.old n cells.new slots.new (fits result) }
 {
     let v = operands.file.expression_operand(operands.row, j);
-    let a = parts.slots[n - 2];
-    ask_value(operands.file, operands.f, parts, n, v, a)
+    let a = slots[n - 2];
+    ask_value(operands.file, operands.f, cells, slots, n, v, a)
 }
 
 // All of the operand j.
-pub fn ask_whole(operands: &Operands, parts: &mut Parts, n: usize, j: u16) -> Option<()>
-    requires { ListGiven (scope_under operands.now) (whole_of (operands_in operands.now) j) parts.old.cells parts.old.slots n }
-    ensures { AsksAll (scope_under operands.now) (whole_of (operands_in operands.now) j) parts.old.cells parts.old.slots n parts.new.cells parts.new.slots (fits result) }
+pub fn ask_whole(
+    operands: &Operands,
+    cells: &mut [u32],
+    slots: &mut [u32],
+    n: usize,
+    j: u16,
+) -> Option<()>
+    requires { ListGiven (scope_under operands.now) (whole_of (operands_in operands.now) j) cells.old slots.old n }
+    ensures { AsksAll (scope_under operands.now) (whole_of (operands_in operands.now) j) cells.old slots.old n cells.new slots.new (fits result) }
 {
     let v = operands.file.expression_operand(operands.row, j);
-    ask_value(operands.file, operands.f, parts, n, v, ALL_PIECE)
+    ask_value(operands.file, operands.f, cells, slots, n, v, ALL_PIECE)
 }
 
 // All of the operand j, if it is there.
-fn ask_present(operands: &Operands, parts: &mut Parts, n: usize, j: u16) -> Option<()>
-    requires { ListGiven (scope_under operands.now) (present_of (operands_in operands.now) j) parts.old.cells parts.old.slots n }
-    ensures { AsksAll (scope_under operands.now) (present_of (operands_in operands.now) j) parts.old.cells parts.old.slots n parts.new.cells parts.new.slots (fits result) }
+fn ask_present(
+    operands: &Operands,
+    cells: &mut [u32],
+    slots: &mut [u32],
+    n: usize,
+    j: u16,
+) -> Option<()>
+    requires { ListGiven (scope_under operands.now) (present_of (operands_in operands.now) j) cells.old slots.old n }
+    ensures { AsksAll (scope_under operands.now) (present_of (operands_in operands.now) j) cells.old slots.old n cells.new slots.new (fits result) }
 {
     match operands.file.optional_expression(operands.row, j) {
         None => Some(()),
-        Some(v) => ask_value(operands.file, operands.f, parts, n, v, ALL_PIECE),
+        Some(v) => ask_value(operands.file, operands.f, cells, slots, n, v, ALL_PIECE),
     }
 }
 
 // Of both operands the same part.
 // Stays: apart from `ask_both_whole`, as `ask_same` is from `ask_whole`.
-pub fn ask_both_same(operands: &Operands, parts: &mut Parts, n: usize) -> Option<()>
-    requires { ListGiven (scope_under operands.now) (both_same (operands_in operands.now) (wanted_in parts.old.cells parts.old.slots n)) parts.old.cells parts.old.slots n }
-    ensures { AsksAll (scope_under operands.now) (both_same (operands_in operands.now) (wanted_in parts.old.cells parts.old.slots n)) parts.old.cells parts.old.slots n parts.new.cells parts.new.slots (fits result) }
+pub fn ask_both_same(
+    operands: &Operands,
+    cells: &mut [u32],
+    slots: &mut [u32],
+    n: usize,
+) -> Option<()>
+    requires { ListGiven (scope_under operands.now) (both_same (operands_in operands.now) (wanted_in cells.old slots.old n)) cells.old slots.old n }
+    ensures { AsksAll (scope_under operands.now) (both_same (operands_in operands.now) (wanted_in cells.old slots.old n)) cells.old slots.old n cells.new slots.new (fits result) }
 {
-    ask_same(operands, parts, n, 1)?;
-    ask_same(operands, parts, n, 0)
+    ask_same(operands, cells, slots, n, 1)?;
+    ask_same(operands, cells, slots, n, 0)
 }
 
 // Both operands whole.
-pub fn ask_both_whole(operands: &Operands, parts: &mut Parts, n: usize) -> Option<()>
-    requires { ListGiven (scope_under operands.now) (both_whole (operands_in operands.now)) parts.old.cells parts.old.slots n }
-    ensures { AsksAll (scope_under operands.now) (both_whole (operands_in operands.now)) parts.old.cells parts.old.slots n parts.new.cells parts.new.slots (fits result) }
+pub fn ask_both_whole(
+    operands: &Operands,
+    cells: &mut [u32],
+    slots: &mut [u32],
+    n: usize,
+) -> Option<()>
+    requires { ListGiven (scope_under operands.now) (both_whole (operands_in operands.now)) cells.old slots.old n }
+    ensures { AsksAll (scope_under operands.now) (both_whole (operands_in operands.now)) cells.old slots.old n cells.new slots.new (fits result) }
 {
-    ask_whole(operands, parts, n, 1)?;
-    ask_whole(operands, parts, n, 0)
+    ask_whole(operands, cells, slots, n, 1)?;
+    ask_whole(operands, cells, slots, n, 0)
 }
 
 // Of a value of two the same part of both, and the condition whole.
-pub fn ask_select(operands: &Operands, parts: &mut Parts, n: usize) -> Option<()>
-    requires { ListGiven (scope_under operands.now) (select_of (operands_in operands.now) (wanted_in parts.old.cells parts.old.slots n)) parts.old.cells parts.old.slots n }
-    ensures { AsksAll (scope_under operands.now) (select_of (operands_in operands.now) (wanted_in parts.old.cells parts.old.slots n)) parts.old.cells parts.old.slots n parts.new.cells parts.new.slots (fits result) }
+pub fn ask_select(operands: &Operands, cells: &mut [u32], slots: &mut [u32], n: usize) -> Option<()>
+    requires { ListGiven (scope_under operands.now) (select_of (operands_in operands.now) (wanted_in cells.old slots.old n)) cells.old slots.old n }
+    ensures { AsksAll (scope_under operands.now) (select_of (operands_in operands.now) (wanted_in cells.old slots.old n)) cells.old slots.old n cells.new slots.new (fits result) }
 {
-    ask_same(operands, parts, n, 2)?;
-    ask_same(operands, parts, n, 1)?;
-    ask_whole(operands, parts, n, 0)
+    ask_same(operands, cells, slots, n, 2)?;
+    ask_same(operands, cells, slots, n, 1)?;
+    ask_whole(operands, cells, slots, n, 0)
 }
 
 // One operand to four, whole.
-pub fn ask_math(operands: &Operands, parts: &mut Parts, n: usize) -> Option<()>
-    requires { ListGiven (scope_under operands.now) (math_of (operands_in operands.now)) parts.old.cells parts.old.slots n }
-    ensures { AsksAll (scope_under operands.now) (math_of (operands_in operands.now)) parts.old.cells parts.old.slots n parts.new.cells parts.new.slots (fits result) }
+pub fn ask_math(operands: &Operands, cells: &mut [u32], slots: &mut [u32], n: usize) -> Option<()>
+    requires { ListGiven (scope_under operands.now) (math_of (operands_in operands.now)) cells.old slots.old n }
+    ensures { AsksAll (scope_under operands.now) (math_of (operands_in operands.now)) cells.old slots.old n cells.new slots.new (fits result) }
 {
-    ask_present(operands, parts, n, 3)?;
-    ask_present(operands, parts, n, 2)?;
-    ask_present(operands, parts, n, 1)?;
-    ask_whole(operands, parts, n, 0)
+    ask_present(operands, cells, slots, n, 3)?;
+    ask_present(operands, cells, slots, n, 2)?;
+    ask_present(operands, cells, slots, n, 1)?;
+    ask_whole(operands, cells, slots, n, 0)
 }

@@ -30,7 +30,6 @@ use Rattle.sound.proofs.Walks.{module_valid}
 use Rattle.memory.specs.Layout.{globals_slot}
 use Rattle.memory.specs.Memory.{read, Memory}
 use Rattle.memory.proofs.Slots.{read-long, slot_low, set-memory, set-read}
-use Rattle.marks.specs.declared.places.MarkPlaces.{MarkPlaces}
 use Rattle.marks.specs.declared.totals.MarkTotals.{MarkTotals}
 use Rattle.access.specs.Laid.{WasRead}
 use Rattle.pruner.specs.Form.{pruner_pieces, only, read_totals, read_body, answered}
@@ -120,10 +119,13 @@ module _ (bytes t : List ℕ) (w : WasRead bytes t) {n : ℕ} (is-n : n ≡ leng
               let inside : globals_slot < length (read s rs) = omega (arith, read-long s rs, there) in
               ap (λ (ps : List PartReq). get_or ps globals_slot none) reads ∙ get_or-set_same (read s rs) globals_slot g none inside
 
-          pub body_has : {places : MarkPlaces} → HasTotals bytes t places s rs → HasTotals bytes t places v (set rs globals_slot p)
+          pub body_has : {starts : List ℕ} {totals : MarkTotals} → HasTotals bytes t starts s rs totals → HasTotals bytes t starts v (set rs globals_slot p) totals
           body_has h = record {
             was_read = w;
+            firsts = h.firsts;
             placed = h.placed;
+            flags_long = h.flags_long;
+            marks_long = h.marks_long;
             memory = set-memory mem first.kept (piece_placed first e).0 (omega arith) there (λ x y. absurd (omega arith));
           }
 

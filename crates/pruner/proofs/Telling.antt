@@ -20,8 +20,8 @@ use Rattle.walk.specs.State.{FunctionReq, total_pieces}
 use Rattle.walk.specs.Requests.{fresh}
 use Rattle.memory.specs.Memory.{read}
 use Rattle.marks.proofs.Placed.{few}
-use Rattle.marks.specs.declared.places.MarkPlaces.{MarkPlaces}
 use Rattle.marks.specs.declared.totals.MarkTotals.{MarkTotals}
+use Rattle.marks.specs.Report.{totals_of}
 use Rattle.state.specs.State.{totals_sum}
 use Rattle.block.specs.Standing.{total_in, functions_in}
 use Rattle.pruner.specs.Form.{is_pruner, is_fresh, stated, answered, read_body, read_pruner}
@@ -51,12 +51,23 @@ module _ (m : Module) (b : List ℕ) where
     unfolding read_pruner
     means_body e = rw (asked, e) refl
 
-module _ {bytes t : List ℕ} {places : MarkPlaces} {s rs : List ℕ} (h : HasTotals bytes t places s rs) (untold : Untold s rs) {n : ℕ} (is-n : n ≡ length (module_of bytes t).functions) where
+module _ {bytes t starts s rs : List ℕ} {totals : MarkTotals} (h : HasTotals bytes t starts s rs totals) (untold : Untold s rs) {n : ℕ} (is-n : n ≡ length (module_of bytes t).functions) where
   abbrev m : Module
   m = module_of bytes t
 
-  pub flags_there : n ≤ max_functions
-  flags_there = omega (arith, few bytes t h.was_read)
+  pub flags_there : n ≤ length totals.flags
+  flags_there = omega (arith, few bytes t h.was_read, h.flags_long)
+
+  -- the flags are cleared, and the marks stay
+  pub has_yet : {flags : List Bool} → FlagsCleared totals.flags n flags → HasTotals bytes t starts s rs (totals_of flags totals.marks)
+  has_yet c = record {
+    was_read = h.was_read;
+    firsts = h.firsts;
+    placed = h.placed;
+    memory = h.memory;
+    flags_long = omega (arith, c.long, h.flags_long);
+    marks_long = h.marks_long;
+  }
 
   -- the body of the record that stands there
   module _ (b : List ℕ) {asked : Bool} (is_asked : asked ≡ is_fresh b) (e : asked ≡ false) {found : Maybe ℕ} (there : RecordLength b found) where

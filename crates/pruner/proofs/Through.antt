@@ -27,7 +27,6 @@ use Rattle.memory.specs.Memory.{read, sum_from, context_at, Memory}
 use Rattle.memory.proofs.Slots.{read-long}
 use Rattle.memory.proofs.Records.{records_none}
 use Rattle.memory.proofs.Runs.{context_pieces, records_same, context_same}
-use Rattle.marks.specs.declared.places.MarkPlaces.{MarkPlaces}
 use Rattle.marks.specs.declared.totals.MarkTotals.{MarkTotals}
 use Rattle.marks.specs.Report.{has_total}
 use Rattle.marks.specs.Report as report
@@ -168,8 +167,8 @@ module _ {bytes t : List ℕ} (w : WasRead bytes t) where
       left : n - f ≡ suc (n - (f + 1))
       left = omega arith
 
-      pub through_has : {places : MarkPlaces} → HasTotals bytes t places s rs → HasTotals bytes t places u us
-      through_has h = record { was_read = w; placed = h.placed; memory = so.memory }
+      pub through_has : {starts : List ℕ} {totals : MarkTotals} → HasTotals bytes t starts s rs totals → length now.flags ≡ length totals.flags → length now.marks ≡ length totals.marks → HasTotals bytes t starts u us now
+      through_has h same_flags same_marks = record { was_read = w; firsts = h.firsts; placed = h.placed; memory = so.memory; flags_long = rw same_flags h.flags_long; marks_long = rw same_marks h.marks_long }
 
       pub through_flag : has_total now f ≡ false
       through_flag = (so.later f (omega arith) l).0

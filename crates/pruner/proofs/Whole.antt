@@ -10,7 +10,7 @@ use mathlib.Core.List.{List, [], ◌∷◌, ◌++◌, append_assoc, append-nil}
 use mathlib.Core.Option.{Option, some, none as nothing}
 use lib.ListN.{length, get_or, set, take, drop, length-append}
 use lib.Seq.{sets, sets-eq}
-use Rattle.field.specs.Limits.{max_functions, min_report}
+use Rattle.field.specs.Limits.{min_report}
 use Rattle.field.specs.Field.{set_field, set_word}
 use Rattle.part.specs.Store.{part}
 use Rattle.module.specs.Module.{FunctionHandle}
@@ -29,7 +29,7 @@ use Rattle.memory.specs.Memory.{read}
 use Rattle.memory.proofs.Slots.{read_at, slot_low}
 use Rattle.marks.specs.declared.places.MarkPlaces.{MarkPlaces}
 use Rattle.marks.specs.declared.totals.MarkTotals.{MarkTotals}
-use Rattle.marks.specs.Places.{start_in, Inside}
+use Rattle.marks.specs.Places.{places_of, start_in, Inside}
 use Rattle.marks.specs.Report.{has_total}
 use Rattle.marks.proofs.Placed.{few}
 use Rattle.marks.proofs.Buffers.{inside, size_is}
@@ -45,32 +45,34 @@ use Rattle.pruner.proofs.Back as back
 use Rattle.pruner.proofs.Writing.{Going, none_written, one_more, next-room}
 
 -- one function
-module _ {bytes t : List ℕ} {places : MarkPlaces} {s rs : List ℕ} (h : HasTotals bytes t places s rs) (f : FunctionHandle) (there : f < length (module_of bytes t).functions) where
-  pub flag_there : f < max_functions
-  flag_there = omega (arith, few bytes t h.was_read)
+module _ {bytes t starts s rs : List ℕ} {totals : MarkTotals} (h : HasTotals bytes t starts s rs totals) (f : FunctionHandle) (there : f < length (module_of bytes t).functions) where
+  abbrev places : MarkPlaces
+  places = places_of starts h.firsts
 
-  lies : Inside places f min_report
+  pub flag_there : f < length totals.flags
+  flag_there = omega (arith, few bytes t h.was_read, h.flags_long)
+
+  lies : Inside starts f min_report
   lies = inside bytes t places h.was_read h.placed f min_report there (omega arith)
 
-  pub starts_there : f < max_functions
+  pub starts_there : f + 1 < length starts
   starts_there = lies.entry
 
-  module _ (totals : MarkTotals) where
-    abbrev total : Option FunctionReq
-    total = total_in (module_of bytes t) t (read s rs) totals f
+  abbrev total : Option FunctionReq
+  total = total_in (module_of bytes t) t (read s rs) totals f
 
-    module _ (a : Writer) (e : has_total totals f ≡ false) where
-      none_there : total ≡ nothing
-      unfolding total_in total_of
-      none_there = rw (total_missing (module_of bytes t) totals f e)
+  module _ (a : Writer) (e : has_total totals f ≡ false) where
+    none_there : total ≡ nothing
+    unfolding total_in total_of
+    none_there = rw (total_missing (module_of bytes t) totals f e)
 
-      pub none_room : HasRoom a (write_total total) → HasRoom a (0 ∷ [])
-      unfolding write_total
-      none_room room = rw none_there at room
+    pub none_room : HasRoom a (write_total total) → HasRoom a (0 ∷ [])
+    unfolding write_total
+    none_room room = rw none_there at room
 
-      pub none_done : {b : Writer} → Writes a b (0 ∷ []) → Writes a b (write_total total)
-      unfolding write_total
-      none_done w = rw none_there w
+    pub none_done : {b : Writer} → Writes a b (0 ∷ []) → Writes a b (write_total total)
+    unfolding write_total
+    none_done w = rw none_there w
 
   module _ {r : Stretch} (own : RecordsAt t f r) where
     pub records_small : totals_slot + r.from ≤ functions_slot
@@ -84,15 +86,15 @@ module _ {bytes t : List ℕ} {places : MarkPlaces} {s rs : List ℕ} (h : HasTo
       records_there = omega (arith, fits f h.was_read there, own.from, own.n, h.memory.slots);
     }
 
-    module _ {from to : ℕ} (a : from ≡ start_in places f) (b : to ≡ start_in places (f + 1)) where
-      pub own_inside : (from ≤ to) × (to ≤ min_report)
-      own_inside = (omega (arith, lies.ascends), omega (arith, lies.within))
+    module _ {from to : ℕ} (a : from ≡ start_in starts f) (b : to ≡ start_in starts (f + 1)) where
+      pub own_inside : (from ≤ to) × (to ≤ length totals.marks)
+      own_inside = (omega (arith, lies.ascends), omega (arith, lies.within, h.marks_long))
 
-      module _ (totals : MarkTotals) (u : Writer) (there-is : has_total totals f ≡ true) where
+      module _ (u : Writer) (there-is : has_total totals f ≡ true) where
         abbrev in_memory : FunctionReq
         in_memory = stored.total_in s rs (take (to - from) (drop from totals.marks)) (functions_slot + 4 * f) (totals_slot + r.from) r.n
 
-        total_is : total totals ≡ some in_memory
+        total_is : total ≡ some in_memory
         unfolding total_in total_of
         total_is =
             let m = module_of bytes t in
@@ -100,10 +102,10 @@ module _ {bytes t : List ℕ} {places : MarkPlaces} {s rs : List ℕ} (h : HasTo
             let size = size_is bytes t places h.was_read h.placed f there in
             rw (total_there m totals f there-is, ← start, ← size, a, b, own.from, own.n)
 
-        pub total-room : HasRoom u (write_total (total totals)) → HasRoom u (write_total (some in_memory))
+        pub total-room : HasRoom u (write_total total) → HasRoom u (write_total (some in_memory))
         total-room room = rw total_is at room
 
-        pub total-done : {v : Writer} → Writes u v (write_total (some in_memory)) → Writes u v (write_total (total totals))
+        pub total-done : {v : Writer} → Writes u v (write_total (some in_memory)) → Writes u v (write_total total)
         total-done w = rw total_is w
 
 -- one function after the other
@@ -161,7 +163,7 @@ module _ (bytes t s rs : List ℕ) (totals : MarkTotals) {n : ℕ} (count : n �
       rw all_fields (rw same at g.writes)
 
 -- the whole
-module _ {bytes t : List ℕ} {places : MarkPlaces} {s rs : List ℕ} (h : HasTotals bytes t places s rs) (totals : MarkTotals) where
+module _ {bytes t starts s rs : List ℕ} {totals : MarkTotals} (h : HasTotals bytes t starts s rs totals) where
   abbrev pruner : Pruner
   pruner = pruner_in bytes t s rs totals
 

@@ -1,6 +1,7 @@
 -- A function's total as memory has it: marks in a buffer of bytes, the context in four slots, and the records in one slot for each expression; and the pruner
 -- of all totals.
 use Rattle.std.specs.Prelude.{ℕ, ◌+◌, ◌≤◌, List, length, get_or}
+use Rattle.field.specs.Limits.{max_functions, min_report}
 use Rattle.part.specs.PartReq.{none}
 use Rattle.part.specs.Store.{top, Good, Below}
 use Rattle.module.specs.Tables.{module_of}
@@ -8,9 +9,8 @@ use Rattle.walk.specs.State.{FunctionReq}
 use Rattle.walk.specs.Requests.{Pruner}
 use Rattle.memory.specs.Layout.{globals_slot}
 use Rattle.memory.specs.Memory.{read, records_of, context_at, Memory}
-use Rattle.marks.specs.declared.places.MarkPlaces.{MarkPlaces}
 use Rattle.marks.specs.declared.totals.MarkTotals.{MarkTotals}
-use Rattle.marks.specs.Places.{Places}
+use Rattle.marks.specs.Places.{places_of, Places}
 use Rattle.access.specs.Laid.{WasRead}
 use Rattle.block.specs.Standing.{functions_in}
 
@@ -30,8 +30,11 @@ pub record Stored (s rs : List ℕ) (context base count : ℕ) : Type 0 where
 abbrev pub pruner_in : (bytes t s rs : List ℕ) (totals : MarkTotals) → Pruner
 pruner_in bytes t s rs totals = record { globals = get_or (read s rs) globals_slot none; functions = functions_in (module_of bytes t) t (read s rs) totals }
 
--- a memory of totals, with the tables of a module that was read
-pub record HasTotals (bytes t : List ℕ) (places : MarkPlaces) (s rs : List ℕ) : Type 0 where
+-- a memory and marks of totals, with the table of where each function's marks begin, in a module that was read
+pub record HasTotals (bytes t starts s rs : List ℕ) (totals : MarkTotals) : Type 0 where
   pub was_read : WasRead bytes t
-  pub placed : Places bytes t places
+  pub firsts : List ℕ
+  pub placed : Places bytes t (places_of starts firsts)
   pub memory : Memory s rs
+  pub flags_long : max_functions ≤ length totals.flags
+  pub marks_long : min_report ≤ length totals.marks

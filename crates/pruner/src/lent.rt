@@ -1,32 +1,30 @@
 // A lent buffer of totals, read into a walk's memory.
 ghost use Rattle.pruner.specs.Stored.{HasTotals};
 ghost use Rattle.pruner.specs.Reading.{Untold, PrunerWasRead};
+ghost use Rattle.marks.specs.Report.{totals_of};
 
 use crate::buffer::{clear_flags, read_body};
 use crate::frame::{is_fresh, record_length};
 use access::file::File;
-use marks::places::MarkPlaces;
-use marks::totals::MarkTotals;
-use memory::parts::Parts;
 
-// Stays: file, places, parts and totals go one by one, here, in buffer, total and totals: a `World` says of the types' rows too, and a `Workspace` has the
-// open marks beside, and no caller of these functions owes either.
 // None where the buffer means no totals.
 pub fn read_pruner(
     file: &File,
-    places: &MarkPlaces,
-    parts: &mut Parts,
-    totals: &mut MarkTotals,
+    starts: &[u32],
+    cells: &mut [u32],
+    slots: &mut [u32],
+    flags: &mut [bool],
+    kept: &mut [u8],
     pruner: &[u8],
 ) -> Option<()>
-    requires { HasTotals file.now.bytes file.now.t places.now parts.old.cells parts.old.slots × Untold parts.old.cells parts.old.slots }
-    ensures { PrunerWasRead file.now.bytes file.now.t parts.old.cells parts.old.slots pruner.now parts.new.cells parts.new.slots totals.new result }
+    requires { HasTotals file.now.bytes file.now.t starts.now cells.old slots.old (totals_of flags.old kept.old) × Untold cells.old slots.old }
+    ensures { PrunerWasRead file.now.bytes file.now.t cells.old slots.old pruner.now cells.new slots.new (totals_of flags.new kept.new) result }
 {
     let n = file.functions() as usize;
-    clear_flags(&mut totals.flags, n);
+    clear_flags(flags, n);
     if is_fresh(pruner) {
         return Some(());
     }
     let end = record_length(pruner)?;
-    read_body(file, places, parts, totals, &pruner[..end])
+    read_body(file, starts, cells, slots, flags, kept, &pruner[..end])
 }

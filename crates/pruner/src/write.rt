@@ -8,7 +8,6 @@ ghost use Rattle.memory.specs.Memory.{read, records_of, context_at};
 ghost use Rattle.pruner.specs.Form.{write_records, write_total};
 ghost use Rattle.pruner.specs.Stored.{total_in, Stored};
 
-use memory::parts::Parts;
 use memory::stretches::load_context;
 use request::write::{write_context_body, write_return};
 use request::writer::Writer;
@@ -26,45 +25,46 @@ pub fn write_marks(marks: &[u8], writer: &mut Writer)
 }
 
 // The records of n expressions, whose slots begin at `base`.
-pub fn write_records(parts: &Parts, base: usize, n: usize, writer: &mut Writer)
-    requires good { Good parts.now.cells }
-    requires below { Below parts.now.slots (top parts.now.cells) }
-    requires n_in_bounds { base + n ≤ length parts.now.slots }
-    requires fits { HasRoom writer.old (write_records (records_of (read parts.now.cells parts.now.slots) base n)) }
-    ensures { Writes writer.old writer.new (write_records (records_of (read parts.now.cells parts.now.slots) base n)) }
+pub fn write_records(cells: &[u32], slots: &[u32], base: usize, n: usize, writer: &mut Writer)
+    requires good { Good cells.now }
+    requires below { Below slots.now (top cells.now) }
+    requires n_in_bounds { base + n ≤ length slots.now }
+    requires fits { HasRoom writer.old (write_records (records_of (read cells.now slots.now) base n)) }
+    ensures { Writes writer.old writer.new (write_records (records_of (read cells.now slots.now) base n)) }
 {
-    for p in &parts.slots[base..base + n] {
-        write_return(&parts.cells, *p, writer);
+    for p in &slots[base..base + n] {
+        write_return(cells, *p, writer);
     }
 }
 
 // The lists of the context in the four slots from `context` on, in the order of its record.
-pub fn write_lists(parts: &Parts, context: usize, writer: &mut Writer)
-    requires good { Good parts.now.cells }
-    requires below { Below parts.now.slots (top parts.now.cells) }
-    requires context_in_bounds { context + 4 ≤ length parts.now.slots }
-    requires fits { HasRoom writer.old (write_context_body (context_at (read parts.now.cells parts.now.slots) context)) }
-    ensures { Writes writer.old writer.new (write_context_body (context_at (read parts.now.cells parts.now.slots) context)) }
+pub fn write_lists(cells: &[u32], slots: &[u32], context: usize, writer: &mut Writer)
+    requires good { Good cells.now }
+    requires below { Below slots.now (top cells.now) }
+    requires context_in_bounds { context + 4 ≤ length slots.now }
+    requires fits { HasRoom writer.old (write_context_body (context_at (read cells.now slots.now) context)) }
+    ensures { Writes writer.old writer.new (write_context_body (context_at (read cells.now slots.now) context)) }
 {
-    let c = load_context(&parts.slots, context);
-    write_context_body(&parts.cells, c, writer);
+    let c = load_context(slots, context);
+    write_context_body(cells, c, writer);
 }
 
 // A function's total, after 1: its marks, the context in the slots from `context` on, and `count` records in those from `base` on.
 pub fn write_total(
-    parts: &Parts,
+    cells: &[u32],
+    slots: &[u32],
     marks: &[u8],
     context: usize,
     base: usize,
     count: usize,
     writer: &mut Writer,
 )
-    requires stored { Stored parts.now.cells parts.now.slots context base count }
-    requires fits { HasRoom writer.old (write_total (some (total_in parts.now.cells parts.now.slots marks.now context base count))) }
-    ensures { Writes writer.old writer.new (write_total (some (total_in parts.now.cells parts.now.slots marks.now context base count))) }
+    requires stored { Stored cells.now slots.now context base count }
+    requires fits { HasRoom writer.old (write_total (some (total_in cells.now slots.now marks.now context base count))) }
+    ensures { Writes writer.old writer.new (write_total (some (total_in cells.now slots.now marks.now context base count))) }
 {
     writer.field(1);
     write_marks(marks, writer);
-    write_lists(parts, context, writer);
-    write_records(parts, base, count, writer);
+    write_lists(cells, slots, context, writer);
+    write_records(cells, slots, base, count, writer);
 }

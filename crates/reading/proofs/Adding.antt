@@ -12,10 +12,10 @@ use Rattle.module.specs.declared.tables.Row.{Row}
 use Rattle.module.specs.declared.tables.Counts.{Counts}
 use Rattle.module.specs.Record.{length_at, body_at}
 use Rattle.module.specs.Decode.{tab, type_of}
-use Rattle.module.specs.Reading.{rank, stage_of, emit_by, types_with, globals_with, grown, added}
+use Rattle.module.specs.Reading.{stage_of, emit_by, types_with, globals_with, grown, added}
 use Rattle.module.specs.File.{fine}
 use Rattle.module.specs.Tables.{word, types_at, globals_at, items_at, blocks_at, marks_at, words, max_items, row_at, items_to, type_body, global_body, open_of, scope_in, reading_of}
-use Rattle.reading.specs.Progress.{mark_by, with_item, table_with, stage_by, row_with, types_by, globals_by, counts_with, Fits, Used, Progress, Ready, Admitted, Adds}
+use Rattle.reading.specs.Progress.{mark_by, with_item, table_with, row_with, types_by, globals_by, counts_with, Fits, Used, Progress, Ready, Admitted, Adds}
 use Rattle.reading.proofs.Marking.{length-mark_by, below_mark_by, flags_are, emit_within}
 use Rattle.reading.proofs.Kept.{Kept, Regions, used_regions, free_type, free_global, free_item, free_above, kept_put, kept_twice, kept_below, listed, listed_more, row_kept, functions-kept}
 use Rattle.reading.proofs.Growing.{Marked, emitted_same, open_new, open_kept, open_argument, open_local, open_expression, open_statement, open_block}
@@ -119,7 +119,7 @@ module _ (bytes t : List ℕ) (c : Counts) (at : ℕ) (used : Used bytes t c at)
         marked_put t (items_at + items_to c.row) at c.row (omega arith)
 
     open_with : (mark : Mark) → Fits (counts_with at mark c) n → Staged (counts_with at mark c) → Kept t (table_with bytes t at mark c) c → fine mark (scope_in bytes t c) (body_at bytes at) ≡ true → open_of bytes (table_with bytes t at mark c) (row_with at mark c.row) ≡ grown mark (body_at bytes at) (open_of bytes t c.row)
-    unfolding table_with row_with grown counts_with stage_by types_by globals_by scope_in
+    unfolding table_with row_with grown counts_with stage_of types_by globals_by scope_in
     open_with TY f s k a = open_kept bytes t (table_with bytes t at TY c) c k at (marked_put t (types_at + c.types) at c.row (omega (arith, f.types)))
     open_with GV f s k a = open_kept bytes t (table_with bytes t at GV c) c k at (marked_put t (globals_at + c.globals) at c.row (omega (arith, f.globals)))
     open_with FN f s k a = open_new bytes t at c.row
@@ -146,17 +146,6 @@ module _ (bytes t : List ℕ) (c : Counts) (at : ℕ) (used : Used bytes t c at)
         let e = flags_are (body_at bytes at) v c.row.expressions (λ q. ((w q).0, omega (arith, (w q).1, used.fits.expressions))) l in
         open_statement bytes t (table_with bytes t at ST c) c k at (below_mark_by (body_at bytes at) v (items_at + items_to c.row) (omega arith) ∙ item_new) (e ∙ ap (emit_by (body_at bytes at)) (emitted_same t v c.row marked_item))
 
-ranked : (mark : Mark) → rank (stage_by mark) ≡ stage_of mark
-unfolding stage_by stage_of
-ranked TY = refl
-ranked GV = refl
-ranked FN = refl
-ranked AR = refl
-ranked LV = refl
-ranked EX = refl
-ranked BK = refl
-ranked ST = refl
-
 module _ (bytes t : List ℕ) (c : Counts) (at : ℕ) (mark : Mark) (ready : Ready mark bytes t c at) (a : Admitted bytes t c at mark) where
   used : Used bytes t c at
   used = ready_used bytes t c at mark ready
@@ -174,7 +163,7 @@ module _ (bytes t : List ℕ) (c : Counts) (at : ℕ) (mark : Mark) (ready : Rea
   unfolding reading_of counts_with added
   added_is =
       rw
-      (ranked mark, types-with bytes t c at used a.whole (at + 4 + length_at bytes at) mark fits kept, globals-with bytes t c at used a.whole (at + 4 + length_at bytes at) mark fits kept, functions-kept bytes t (table_with bytes t at mark c) c at used kept, open_with bytes t c at used a.whole (at + 4 + length_at bytes at) mark fits staged kept a.allowed)
+      (types-with bytes t c at used a.whole (at + 4 + length_at bytes at) mark fits kept, globals-with bytes t c at used a.whole (at + 4 + length_at bytes at) mark fits kept, functions-kept bytes t (table_with bytes t at mark c) c at used kept, open_with bytes t c at used a.whole (at + 4 + length_at bytes at) mark fits staged kept a.allowed)
 
   -- the row of an ended function is as it was
   same : (f : ℕ) → f < c.functions → row_at (table_with bytes t at mark c) f ≡ row_at t f

@@ -12,7 +12,7 @@ use Rattle.module.specs.declared.tables.Row.{Row}
 use Rattle.module.specs.declared.tables.Counts.{Counts}
 use Rattle.module.specs.Record.{body_at}
 use Rattle.module.specs.Decode.{tab, type_of}
-use Rattle.module.specs.Reading.{Reading, in_arguments, rank, closed}
+use Rattle.module.specs.Reading.{Reading, in_arguments, closed}
 use Rattle.module.specs.declared.record.Mark.{Mark}
 use Rattle.module.specs.declared.record.Mark.TheVariants.{TY, GV, FN, AR, LV, EX, BK, ST}
 use Rattle.module.specs.File.{go, ended, ended_at}
@@ -59,7 +59,7 @@ module _ (bytes t : List ℕ) (c : Counts) (number : c.functions < max_functions
 
 module _ (bytes t : List ℕ) (c : Counts) (at : ℕ) (p : Progress bytes t c at) where
   number : is_open c ≡ true → c.functions < max_functions
-  number o = p.number (leb-true in_arguments (rank c.stage) o)
+  number o = p.number (leb-true in_arguments c.stage o)
 
   room : is_open c ≡ true → 8 * c.functions + 8 ≤ length t
   room o = omega (arith, number o, p.used.table)

@@ -14,7 +14,7 @@ use Rattle.module.specs.declared.tables.Counts.{Counts}
 use Rattle.std.specs.Prelude as rattle
 use Rattle.std.specs.Prelude.{Some, None}
 use Rattle.module.specs.Record.{mark_of, known, body_at, even}
-use Rattle.module.specs.Reading.{rank, scope_of, added}
+use Rattle.module.specs.Reading.{scope_of, added}
 use Rattle.module.specs.File.{Next, go, stop, ◌>>=◌, placed, over, fine, ended_at, body_next, mark_next, record_next}
 use Rattle.module.specs.Scan.{Stamped}
 use Rattle.module.specs.Tables.{reading_of, scope_in}
@@ -117,7 +117,7 @@ module _ (bytes t : List ℕ) (c : Counts) (at : ℕ) (mark : Mark) (o : Bool) (
           })
 
 -- the mark of a record, and the function that ends there
-module _ (bytes t : List ℕ) (c : Counts) (at : ℕ) (mark : Mark) (p : Bool) (is-placed : p ≡ placed mark (rank c.stage)) where
+module _ (bytes t : List ℕ) (c : Counts) (at : ℕ) (mark : Mark) (p : Bool) (is-placed : p ≡ placed mark c.stage) where
   stage_is : placed mark (reading_of bytes t c).stage ≡ p
   unfolding reading_of
   stage_is = sym is-placed

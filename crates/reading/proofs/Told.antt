@@ -12,10 +12,10 @@ use Rattle.module.specs.declared.record.Mark.{Mark}
 use Rattle.module.specs.declared.record.Mark.TheVariants.{TY, GV, FN, AR, LV, EX, BK, ST}
 use Rattle.module.specs.declared.tables.Row.{Row}
 use Rattle.module.specs.declared.tables.Counts.{Counts}
-use Rattle.module.specs.Reading.{in_types, in_globals, in_arguments, in_locals, in_expressions, in_blocks, rank}
+use Rattle.module.specs.Reading.{in_types, in_globals, in_arguments, in_locals, in_expressions, in_blocks, stage_of}
 use Rattle.module.specs.File.{placed, count_over, over}
 use Rattle.module.specs.Tables.{row_at, items_to, scope_in}
-use Rattle.reading.specs.Progress.{stage_by, row_with, types_by, globals_by, counts_with, Fits, Used, Ready}
+use Rattle.reading.specs.Progress.{row_with, types_by, globals_by, counts_with, Fits, Used, Ready}
 
 first_true : (p q : Bool) → (p && q) ≡ true → p ≡ true
 first_true true q e = refl
@@ -72,30 +72,30 @@ module _ (c : Counts) (at : ℕ) where
 
 -- the later sorts of items have not begun
 pub record Staged (c : Counts) : Type 0 where
-  pub locals : (rank c.stage) ≤ in_arguments → c.row.locals ≡ 0
-  pub expressions : (rank c.stage) ≤ in_locals → c.row.expressions ≡ 0
-  pub statements : (rank c.stage) ≤ in_expressions → c.row.statements ≡ 0
+  pub locals : c.stage ≤ in_arguments → c.row.locals ≡ 0
+  pub expressions : c.stage ≤ in_locals → c.row.expressions ≡ 0
+  pub statements : c.stage ≤ in_expressions → c.row.statements ≡ 0
 
 pub staged_of : {bytes t : List ℕ} {c : Counts} {at : ℕ} → Used bytes t c at → Staged c
 staged_of u = record { locals = u.no_locals; expressions = u.no_expressions; statements = u.no_statements }
 
-pub staged_with : (c : Counts) (at : ℕ) (mark : Mark) → Staged c → placed mark (rank c.stage) ≡ true → Staged (counts_with at mark c)
-unfolding placed counts_with stage_by row_with
+pub staged_with : (c : Counts) (at : ℕ) (mark : Mark) → Staged c → placed mark c.stage ≡ true → Staged (counts_with at mark c)
+unfolding placed counts_with stage_of row_with
 staged_with c at TY s p =
-    let q = eqb-true (rank c.stage) in_types p in
+    let q = eqb-true c.stage in_types p in
     record { locals = λ h. s.locals (omega arith); expressions = λ h. s.expressions (omega arith); statements = λ h. s.statements (omega arith) }
 staged_with c at GV s p =
-    let q = leb-true (rank c.stage) in_globals p in
+    let q = leb-true c.stage in_globals p in
     record { locals = λ h. s.locals (omega arith); expressions = λ h. s.expressions (omega arith); statements = λ h. s.statements (omega arith) }
 staged_with c at FN s p = record { locals = λ h. refl; expressions = λ h. refl; statements = λ h. refl }
 staged_with c at AR s p =
-    let q = eqb-true (rank c.stage) in_arguments p in
+    let q = eqb-true c.stage in_arguments p in
     record { locals = λ h. s.locals (omega arith); expressions = λ h. s.expressions (omega arith); statements = λ h. s.statements (omega arith) }
 staged_with c at LV s p =
-    let q = leb-true (rank c.stage) in_locals (second_true (leb in_arguments (rank c.stage)) (leb (rank c.stage) in_locals) p) in
+    let q = leb-true c.stage in_locals (second_true (leb in_arguments c.stage) (leb c.stage in_locals) p) in
     record { locals = λ h. absurd (omega arith); expressions = λ h. s.expressions (omega arith); statements = λ h. s.statements (omega arith) }
 staged_with c at EX s p =
-    let q = leb-true (rank c.stage) in_expressions (second_true (leb in_arguments (rank c.stage)) (leb (rank c.stage) in_expressions) p) in
+    let q = leb-true c.stage in_expressions (second_true (leb in_arguments c.stage) (leb c.stage in_expressions) p) in
     record { locals = λ h. absurd (omega arith); expressions = λ h. absurd (omega arith); statements = λ h. s.statements (omega arith) }
 staged_with c at BK s p = record { locals = λ h. absurd (omega arith); expressions = λ h. absurd (omega arith); statements = λ h. absurd (omega arith) }
 staged_with c at ST s p = record { locals = λ h. absurd (omega arith); expressions = λ h. absurd (omega arith); statements = λ h. absurd (omega arith) }
@@ -125,17 +125,17 @@ module _ (bytes t : List ℕ) (c : Counts) (at : ℕ) where
   before_with ST p = p.before
 
   -- and that one has a number
-  pub number_with : (mark : Mark) (fs : List ℕ) → Ready mark bytes t c at → placed mark (rank c.stage) ≡ true → over mark (scope_in bytes [] c) fs ≡ false → in_arguments ≤ rank (stage_by mark) → c.functions < max_functions
-  unfolding placed over scope_in stage_by
+  pub number_with : (mark : Mark) (fs : List ℕ) → Ready mark bytes t c at → placed mark c.stage ≡ true → over mark (scope_in bytes [] c) fs ≡ false → in_arguments ≤ stage_of mark → c.functions < max_functions
+  unfolding placed over scope_in stage_of
   number_with TY fs p q o h = absurd (omega arith)
   number_with GV fs p q o h = absurd (omega arith)
   number_with FN fs p q o h = leb-false max_functions c.functions o
   number_with AR fs p q o h =
-      let s = eqb-true (rank c.stage) in_arguments q in
+      let s = eqb-true c.stage in_arguments q in
       p.number (omega arith)
-  number_with LV fs p q o h = p.number (leb-true in_arguments (rank c.stage) (first_true (leb in_arguments (rank c.stage)) (leb (rank c.stage) in_locals) q))
-  number_with EX fs p q o h = p.number (leb-true in_arguments (rank c.stage) (first_true (leb in_arguments (rank c.stage)) (leb (rank c.stage) in_expressions) q))
-  number_with BK fs p q o h = p.number (leb-true in_arguments (rank c.stage) q)
+  number_with LV fs p q o h = p.number (leb-true in_arguments c.stage (first_true (leb in_arguments c.stage) (leb c.stage in_locals) q))
+  number_with EX fs p q o h = p.number (leb-true in_arguments c.stage (first_true (leb in_arguments c.stage) (leb c.stage in_expressions) q))
+  number_with BK fs p q o h = p.number (leb-true in_arguments c.stage q)
   number_with ST fs p q o h =
-      let s = eqb-true (rank c.stage) in_blocks q in
+      let s = eqb-true c.stage in_blocks q in
       p.number (omega arith)

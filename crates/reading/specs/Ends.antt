@@ -7,7 +7,7 @@ use Rattle.module.specs.declared.record.Mark.{Mark}
 use Rattle.module.specs.declared.record.Mark.TheVariants.{TY, GV, FN, AR, LV, EX, BK, ST}
 use Rattle.module.specs.declared.tables.Counts.{Counts}
 use Rattle.module.specs.Blocks.{block_rule}
-use Rattle.module.specs.Reading.{in_arguments, rank, closed}
+use Rattle.module.specs.Reading.{in_arguments, closed}
 use Rattle.module.specs.File.{Next, go, stop}
 use Rattle.module.specs.Tables.{set_row, open_of, reading_of}
 
@@ -32,7 +32,7 @@ table_by true false t c = t
 table_by true true t c = set_row t c.functions c.row
 
 abbrev pub is_open : Counts → Bool
-is_open c = leb in_arguments (rank c.stage)
+is_open c = leb in_arguments c.stage
 
 abbrev pub rule_of : List ℕ → List ℕ → Counts → Bool
 rule_of bytes t c = block_rule (closed (open_of bytes t c.row))

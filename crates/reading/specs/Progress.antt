@@ -3,13 +3,11 @@ use Rattle.std.specs.Prelude.{ℕ, zero, suc, ◌+◌, ◌*◌, ◌-◌, ◌<◌
 use Rattle.field.specs.Limits.{max_bytes, max_types, max_globals, max_functions, max_expressions}
 use Rattle.module.specs.declared.record.Mark.{Mark}
 use Rattle.module.specs.declared.record.Mark.TheVariants.{TY, GV, FN, AR, LV, EX, BK, ST}
-use Rattle.module.specs.declared.tables.Stage.{Stage}
-use Rattle.module.specs.declared.tables.Stage.TheVariants.{Types, Globals, Arguments, Locals, Expressions, Blocks}
 use Rattle.module.specs.declared.tables.Row.{Row}
 use Rattle.module.specs.declared.tables.Counts.{Counts}
 use Rattle.module.specs.Record.{length_at, body_at}
 use Rattle.module.specs.File.{placed, over, fine}
-use Rattle.module.specs.Reading.{in_arguments, in_locals, in_expressions, rank, added}
+use Rattle.module.specs.Reading.{in_arguments, in_locals, in_expressions, stage_of, added}
 use Rattle.module.specs.Tables.{types_at, globals_at, items_at, blocks_at, marks_at, words, row_at, items_to, reading_of, scope_in}
 
 -- the marks of n expressions set, from e on
@@ -74,17 +72,6 @@ row_with at EX r = row_of r r.arguments r.locals (r.expressions + 1) r.statement
 row_with at BK r = row_of r r.arguments r.locals r.expressions r.statements (r.blocks + 1)
 row_with at ST r = row_of r r.arguments r.locals r.expressions (r.statements + 1) r.blocks
 
--- the stage that is then
-unfoldable pub stage_by : Mark → Stage
-stage_by TY = Types
-stage_by GV = Globals
-stage_by FN = Arguments
-stage_by AR = Arguments
-stage_by LV = Locals
-stage_by EX = Expressions
-stage_by BK = Blocks
-stage_by ST = Blocks
-
 unfoldable pub types_by : Mark → ℕ → ℕ
 types_by TY n = n + 1
 types_by GV n = n
@@ -109,7 +96,7 @@ globals_by ST n = n
 unfoldable pub counts_with : ℕ → Mark → Counts → Counts
 counts_with at mark c =
     record {
-      stage = stage_by mark;
+      stage = stage_of mark;
       types = types_by mark c.types;
       globals = globals_by mark c.globals;
       functions = c.functions;
@@ -131,9 +118,9 @@ pub record Used (bytes t : List ℕ) (c : Counts) (at : ℕ) : Type 0 where
   pub table : words ≤ length t
   pub size : length bytes ≤ max_bytes
   pub here : at ≤ length bytes
-  pub no_locals : rank c.stage ≤ in_arguments → c.row.locals ≡ 0
-  pub no_expressions : rank c.stage ≤ in_locals → c.row.expressions ≡ 0
-  pub no_statements : rank c.stage ≤ in_expressions → c.row.statements ≡ 0
+  pub no_locals : c.stage ≤ in_arguments → c.row.locals ≡ 0
+  pub no_expressions : c.stage ≤ in_locals → c.row.expressions ≡ 0
+  pub no_statements : c.stage ≤ in_expressions → c.row.statements ≡ 0
   pub items : (f : ℕ) → f < c.functions → items_to (row_at t f) ≤ items_to c.row
   pub blocks : (f : ℕ) → f < c.functions → (row_at t f).earlier + (row_at t f).blocks ≤ c.row.earlier + c.row.blocks
   pub next : (f : ℕ) → suc f < c.functions → items_to (row_at t f) ≤ (row_at t (suc f)).items
@@ -142,7 +129,7 @@ pub record Used (bytes t : List ℕ) (c : Counts) (at : ℕ) : Type 0 where
 pub record Progress (bytes t : List ℕ) (c : Counts) (at : ℕ) : Type 0 where
   pub used : Used bytes t c at
   pub before : (f : ℕ) → f < c.functions → items_to (row_at t f) ≤ c.row.items
-  pub number : in_arguments ≤ rank c.stage → c.functions < max_functions
+  pub number : in_arguments ≤ c.stage → c.functions < max_functions
 
 -- before a record is added: where a function begins the one before it has ended
 abbrev pub Ready : Mark → List ℕ → List ℕ → Counts → ℕ → Type 0
@@ -158,7 +145,7 @@ Ready ST = Progress
 -- the record at `at` is whole, and is not refused
 pub record Admitted (bytes t : List ℕ) (c : Counts) (at : ℕ) (mark : Mark) : Type 0 where
   pub whole : at + 4 + length_at bytes at ≤ length bytes
-  pub in_place : placed mark (rank c.stage) ≡ true
+  pub in_place : placed mark c.stage ≡ true
   pub not_over : over mark (scope_in bytes [] c) (body_at bytes at) ≡ false
   pub allowed : fine mark (scope_in bytes t c) (body_at bytes at) ≡ true
 

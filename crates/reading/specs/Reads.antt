@@ -4,7 +4,6 @@
 use Rattle.std.specs.Prelude.{ℕ, ◌+◌, ◌≤◌, ◌≡◌, List, length, set, replicate, Result, Ok, Err}
 use Rattle.field.specs.declared.refusal.Refusal.{Refusal}
 use Rattle.field.specs.Refusal.{number}
-use Rattle.module.specs.declared.tables.Stage.TheVariants.{Types}
 use Rattle.module.specs.declared.tables.Counts.{Counts}
 use Rattle.module.specs.File.{Answer, accepted, refused, answer_of, ended, read_module}
 use Rattle.module.specs.Tables.{head_at, module_of, reading_of}
@@ -26,7 +25,7 @@ zeros n = replicate n 0
 abbrev pub no_counts : ℕ → Counts
 no_counts size =
     record {
-      stage = Types;
+      stage = 0;
       types = 0;
       globals = 0;
       functions = 0;

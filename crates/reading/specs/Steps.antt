@@ -5,7 +5,6 @@ use Rattle.module.specs.declared.record.Mark.{Mark}
 use Rattle.module.specs.declared.tables.Counts.{Counts}
 use Rattle.module.specs.Record.{length_at}
 use Rattle.module.specs.File.{Next, placed}
-use Rattle.module.specs.Reading.{rank}
 use Rattle.module.specs.Scan.{Fresh}
 use Rattle.reading.specs.declared.room.Room.{Room}
 use Rattle.reading.specs.Progress.{Progress, Ready}
@@ -29,7 +28,7 @@ pub record Begun (bytes t seen : List ℕ) (c : Counts) (at : ℕ) (mark : Mark)
   pub ready : Ready mark bytes t c at
   pub unseen : Unseen seen at
   pub whole : after bytes at ≤ length bytes
-  pub in_place : placed mark (rank c.stage) ≡ true
+  pub in_place : placed mark c.stage ≡ true
 
 -- the step r is `next` of the definition; where the file goes on, it does so at the next record
 pub record Stepped (bytes t seen : List ℕ) (at : ℕ) (next : Next) (r : Result Counts Refusal) : Type 0 where

@@ -1,12 +1,16 @@
 // One record more: where it stands goes into the tables, and the counts grow.
 ghost use Rattle.std.specs.Prelude.{◌≡◌, ◌+◌, ◌*◌, ◌≤◌};
 ghost use Rattle.module.specs.Record.{body_at};
+ghost use Rattle.module.specs.Reading.{stage_of};
 ghost use Rattle.module.specs.Tables.{items_to};
-ghost use Rattle.reading.specs.Progress.{Fits, mark_by, with_item, stage_by, row_with, counts_with, table_with};
+ghost use Rattle.reading.specs.Progress.{Fits, mark_by, with_item, row_with, counts_with, table_with};
 
 use module::kinds::StatementKind;
 use module::record::{Mark, Record};
-use module::tables::{BLOCKS, Counts, GLOBALS, ITEMS, MARKS, Row, Stage, TYPES, put};
+use module::tables::{
+    BLOCKS, Counts, GLOBALS, IN_ARGUMENTS, IN_BLOCKS, IN_EXPRESSIONS, IN_GLOBALS, IN_LOCALS,
+    IN_TYPES, ITEMS, MARKS, Row, TYPES, put,
+};
 
 // Marks the expressions of an emit.
 fn emit(rec: &Record, t: &mut [u32])
@@ -56,19 +60,19 @@ fn write(rec: &Record, t: &mut [u32], c: Counts)
     }
 }
 
-#[tactic(auto, unfolding(crate::specs::Progress::stage_by))]
-fn stage_of(mark: Mark) -> Stage
-    ensures { result ≡ stage_by mark }
+#[tactic(auto, unfolding(module::specs::Reading::stage_of))]
+fn stage_of(mark: Mark) -> u32
+    ensures { result ≡ stage_of mark }
 {
     match mark {
-        Mark::TY => Stage::Types,
-        Mark::GV => Stage::Globals,
-        Mark::FN => Stage::Arguments,
-        Mark::AR => Stage::Arguments,
-        Mark::LV => Stage::Locals,
-        Mark::EX => Stage::Expressions,
-        Mark::BK => Stage::Blocks,
-        Mark::ST => Stage::Blocks,
+        Mark::TY => IN_TYPES,
+        Mark::GV => IN_GLOBALS,
+        Mark::FN => IN_ARGUMENTS,
+        Mark::AR => IN_ARGUMENTS,
+        Mark::LV => IN_LOCALS,
+        Mark::EX => IN_EXPRESSIONS,
+        Mark::BK => IN_BLOCKS,
+        Mark::ST => IN_BLOCKS,
     }
 }
 

@@ -6,7 +6,7 @@ use crate::blocks::block_rule;
 use field::refusal::Refusal;
 use module::handles::FunctionHandle;
 use module::record::{Mark, Record};
-use module::tables::{Counts, Stage, set_row};
+use module::tables::{Counts, IN_ARGUMENTS, set_row};
 
 // The one place for what is checked there.
 pub fn ended(bytes: &[u8], t: &mut [u32], held: &mut [u32], c: Counts) -> Result<Counts, Refusal>
@@ -15,7 +15,7 @@ pub fn ended(bytes: &[u8], t: &mut [u32], held: &mut [u32], c: Counts) -> Result
     ensures value { result ≡ step_ended bytes.now t.old c }
     ensures t_after { t.new ≡ table_ended bytes.now t.old c }
 {
-    if c.stage < Stage::Arguments {
+    if c.stage < IN_ARGUMENTS {
         return Ok(c);
     }
     if block_rule(bytes, t, c.row, held) {

@@ -13,7 +13,7 @@ use crate::record::record_next;
 use crate::room::Room;
 use field::limits::MAX_BYTES;
 use field::refusal::Refusal;
-use module::tables::{Counts, HEAD, MAX_ITEMS, Row, Stage, put};
+use module::tables::{Counts, HEAD, IN_TYPES, MAX_ITEMS, Row, put};
 
 // The room that the caller lends: a mark for each value that a field may have, and a count for each block.
 pub const SEEN: usize = 65536;
@@ -25,7 +25,7 @@ fn no_counts(size: u32) -> Counts
     ensures { result ≡ no_counts size }
 {
     Counts {
-        stage: Stage::Types,
+        stage: IN_TYPES,
         types: 0,
         globals: 0,
         functions: 0,

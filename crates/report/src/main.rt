@@ -58,15 +58,15 @@ fn print(
     rt: &impl Print,
     input: &[u8],
     file: &File,
-    places: &MarkPlaces,
+    firsts: &[u32],
     parts: &mut Parts,
     open: &[u8],
     outcome: Outcome,
 ) -> io::Result<()>
-    requires { TextIs (report_input input.now) file.now.bytes file.now.t (request_in input.now) places.now parts.old.cells parts.old.slots «open».now outcome }
+    requires { TextIs (report_input input.now) file.now.bytes file.now.t (request_in input.now) firsts.now parts.old.cells parts.old.slots «open».now outcome }
 {
     let mut text: [u8; MAX_TEXT + MAX_LINE] = [0; MAX_TEXT + MAX_LINE];
-    let n = write_text(&mut text, input, file, places, parts, open, outcome);
+    let n = write_text(&mut text, input, file, firsts, parts, open, outcome);
     rt.write_all(&text[0..n])
 }
 
@@ -88,7 +88,7 @@ fn answer(
         rt,
         input,
         &file,
-        places,
+        &places.firsts,
         &mut space.parts,
         &space.open,
         outcome,

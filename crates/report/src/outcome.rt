@@ -6,6 +6,7 @@ ghost use Rattle.request.specs.Request.{read_request};
 ghost use Rattle.access.specs.Laid.{WasRead};
 ghost use Rattle.report_text.specs.Split.{module_in, request_in};
 ghost use Rattle.report_text.specs.Input.{request_text};
+ghost use Rattle.marks.specs.Places.{Places};
 ghost use Rattle.report.specs.Outcome.{TextIs, AskedOf, WalkedOf};
 
 use access::file::File;
@@ -15,7 +16,7 @@ use context::remove::TYPE_WORDS;
 use field::limits::{MAX_TYPES, MIN_REPORT};
 use field::refusal::Refusal;
 use function::add::add_function;
-use marks::places::MarkPlaces;
+use marks::places::{MarkPlaces, place_marks};
 use memory::layout::STACK;
 use module::handles::FunctionHandle;
 use report_text::split::split;
@@ -52,7 +53,8 @@ fn walk_function(world: &World, space: &mut Workspace, f: FunctionHandle, sum: u
     ) {
         Err(h) => Err(h.refusal),
         Ok(a) => {
-            check_totals(world.typed.file, &space.parts, f, a.tally.sum)?;
+            let parts = &space.parts;
+            check_totals(world.typed.file, &parts.cells, &parts.slots, f, a.tally.sum)?;
             Ok(Reported {
                 function: f,
                 required: a.required,
@@ -69,16 +71,28 @@ fn walk_request(
     space: &mut Workspace,
     request: &[u8],
 ) -> Outcome
-    ensures { TextIs (request_text (module_of typed.now.file.now.bytes typed.now.file.now.t) (read_request (module_of typed.now.file.now.bytes typed.now.file.now.t) min_report request.now)) typed.now.file.now.bytes typed.now.file.now.t request.now places.new space.new.parts.cells space.new.parts.slots space.new.open result }
+    ensures placed { Places typed.now.file.now.bytes typed.now.file.now.t places.new }
+    ensures text { TextIs (request_text (module_of typed.now.file.now.bytes typed.now.file.now.t) (read_request (module_of typed.now.file.now.bytes typed.now.file.now.t) min_report request.now)) typed.now.file.now.bytes typed.now.file.now.t request.now places.new.firsts space.new.parts.cells space.new.parts.slots space.new.open result }
 {
-    places.place_marks(typed.file);
+    place_marks(typed.file, &mut places.starts, &mut places.firsts);
     let world = World {
         typed: &*typed,
         places,
     };
     // a fresh pruner
     let pruner = b"\0\0";
-    let begun = begin_request(typed.file, world.places, space, request, pruner, MIN_REPORT)?;
+    let begun = begin_request(
+        typed.file,
+        &world.places.starts,
+        &mut space.parts.cells,
+        &mut space.parts.slots,
+        &mut space.open,
+        &mut space.totals.flags,
+        &mut space.totals.marks,
+        request,
+        pruner,
+        MIN_REPORT,
+    )?;
     walk_function(&world, space, begun.function, begun.sum)
 }
 
@@ -90,7 +104,8 @@ pub fn walk_read(
     request: &[u8],
 ) -> Outcome
     requires { WasRead file.now.bytes file.now.t }
-    ensures { TextIs (request_text (module_of file.now.bytes file.now.t) (read_request (module_of file.now.bytes file.now.t) min_report request.now)) file.now.bytes file.now.t request.now places.new space.new.parts.cells space.new.parts.slots space.new.open result }
+    ensures placed { Places file.now.bytes file.now.t places.new }
+    ensures text { TextIs (request_text (module_of file.now.bytes file.now.t) (read_request (module_of file.now.bytes file.now.t) min_report request.now)) file.now.bytes file.now.t request.now places.new.firsts space.new.parts.cells space.new.parts.slots space.new.open result }
 {
     let mut table: [u32; TYPE_WORDS * MAX_TYPES] = [0; TYPE_WORDS * MAX_TYPES];
     let e = TYPE_WORDS * (file.types() as usize);

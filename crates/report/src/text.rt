@@ -13,7 +13,6 @@ use check_text::check::check_report;
 use check_text::line::write_check;
 use lines::report::{write_refused, write_report_text};
 use lines::text::Text;
-use marks::places::MarkPlaces;
 use memory::layout::STACK;
 use memory::parts::Parts;
 
@@ -22,12 +21,12 @@ fn write_outcome(
     text: &mut Text,
     input: &[u8],
     file: &File,
-    places: &MarkPlaces,
+    firsts: &[u32],
     parts: &mut Parts,
     open: &[u8],
     outcome: Outcome,
 )
-    requires text_is { TextIs (report_input input.now) file.now.bytes file.now.t (request_in input.now) places.now parts.old.cells parts.old.slots «open».now outcome }
+    requires text_is { TextIs (report_input input.now) file.now.bytes file.now.t (request_in input.now) firsts.now parts.old.cells parts.old.slots «open».now outcome }
     requires max_line_in_bounds { (text.old.at ≡ 0) × (max_text + max_line ≤ length text.old.out.now) }
     ensures { Begins text.old text.new (report_input input.now) }
 {
@@ -38,8 +37,9 @@ fn write_outcome(
             write_report_text(
                 text,
                 file,
-                places,
-                parts,
+                firsts,
+                &parts.cells,
+                &parts.slots,
                 open,
                 reported.function,
                 k,
@@ -56,16 +56,16 @@ pub fn write_text(
     out: &mut [u8],
     input: &[u8],
     file: &File,
-    places: &MarkPlaces,
+    firsts: &[u32],
     parts: &mut Parts,
     open: &[u8],
     outcome: Outcome,
 ) -> usize
-    requires text_is { TextIs (report_input input.now) file.now.bytes file.now.t (request_in input.now) places.now parts.old.cells parts.old.slots «open».now outcome }
+    requires text_is { TextIs (report_input input.now) file.now.bytes file.now.t (request_in input.now) firsts.now parts.old.cells parts.old.slots «open».now outcome }
     requires max_line_in_bounds { max_text + max_line ≤ length out.old }
     ensures { Front out.old out.new (report_input input.now) result }
 {
     let mut text = Text { out, at: 0 };
-    write_outcome(&mut text, input, file, places, parts, open, outcome);
+    write_outcome(&mut text, input, file, firsts, parts, open, outcome);
     text.at
 }

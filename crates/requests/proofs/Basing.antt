@@ -94,8 +94,8 @@ module _ {s rs : List ℕ} (E : Empty s rs) (request : List ℕ) (functions glob
       is_asked : judge functions globals report (request_of request) ≡ accepted asked_for
       is_asked = sym W.is ∙ rw e
 
-      pub loaded_request : {u us : List ℕ} {f : Handle} → Based t rs q u us → q.function.0 ≡ f.0 → RequestLoaded functions globals report request u us (Ok f)
-      loaded_request {u} {us} B named =
+      pub loaded_request : {u us : List ℕ} {f : Handle} → stack_slot + 4 ≤ length rs → Based t rs q u us → q.function.0 ≡ f.0 → RequestLoaded functions globals report request u us (Ok f)
+      loaded_request {u} {us} l B named =
           let same = kept_read rs W.kept E.memory.below in
           let outside : (k : ℕ) → ((j : ℕ) → j < 4 → stack_slot + j ≡ k → ⊥) → globals_slot ≤ k → get_or (read u us) k none ≡ none
           = λ k h g. rw B.reads (four_outside (read t rs) stack_slot _ _ _ _ none k h ∙ rw same (fresh_slot E k g)) in
@@ -106,7 +106,6 @@ module _ {s rs : List ℕ} (E : Empty s rs) (request : List ℕ) (functions glob
               is = is_asked;
               standing = record {
                 memory = B.memory;
-                long = omega (arith, B.long, E.long);
                 base_is = rw B.reads (context_put (read t rs) stack_slot (base_in t q) (omega (arith, read-long t rs)));
                 base_few = base_few functions globals report request asked_for is_asked short;
                 below = λ k g h. outside k (λ j a b. absurd (omega arith)) g;

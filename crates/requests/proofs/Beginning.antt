@@ -9,7 +9,7 @@ use Rattle.std.specs.Prelude.{⊤, Option as Maybe, Some, None, Result, Ok, Err}
 use Rattle.field.specs.Refusal.{number}
 use Rattle.field.specs.declared.refusal.Refusal.{Refusal}
 use Rattle.field.specs.declared.refusal.Refusal.TheVariants.{PrunerUnfit}
-use Rattle.field.specs.Limits.{absent, max_pieces, min_report, max_functions}
+use Rattle.field.specs.Limits.{absent, max_pieces, max_functions}
 use Rattle.part.specs.PartReq.{none, entries}
 use Rattle.part.specs.StoreLimits.{entries_cap}
 use Rattle.module.specs.Module.{Module}
@@ -25,18 +25,16 @@ use Rattle.sound.proofs.Asked as sound
 use Rattle.memory.specs.Layout.{globals_slot, exprs_slot, totals_slot, stack_slot, most}
 use Rattle.memory.specs.Memory.{read, sum_from, counted, context_at, Memory, Tidied}
 use Rattle.memory.proofs.Slots.{read-long, sum_none, sum_suc, sum_split}
-use Rattle.marks.specs.declared.places.MarkPlaces.{MarkPlaces}
 use Rattle.marks.specs.declared.totals.MarkTotals.{MarkTotals}
-use Rattle.marks.specs.Places.{Places, Inside, start_in, size_in}
+use Rattle.marks.specs.Places.{places_of, Inside, start_in, size_in}
 use Rattle.marks.proofs.Buffers.{all_inside, cleared_own}
 use Rattle.marks.proofs.Write.{write_long}
-use Rattle.access.specs.Laid.{WasRead}
 use Rattle.state.specs.State.{totals_sum}
 use Rattle.pruner.specs.Form.{pruner_pieces, read_pruner}
 use Rattle.pruner.specs.Stored.{pruner_in, HasTotals}
 use Rattle.pruner.specs.Reading.{Untold, PrunerIs, PrunerWasRead}
 use Rattle.pruner.proofs.Read.{read_fine, read_few}
-use Rattle.requests.specs.Begin.{base_of, with_totals, after_request, Standing, RequestStands, RequestLoaded, Weighing, Begins}
+use Rattle.requests.specs.Begin.{base_of, with_totals, after_request, Standing, RequestStands, RequestLoaded, Weighing, Beginning, Begins}
 use Rattle.requests.proofs.Begins.{base_counts}
 
 -- what the totals count for
@@ -59,17 +57,7 @@ module _ {s rs : List ℕ} (W : Weighing s rs) where
 same_judge : {n g functions globals : ℕ} → n ≡ functions → g ≡ globals → (report : ℕ) (o : Option Request) {x : reading.Answer Request} → judge n g report o ≡ x → judge functions globals report o ≡ x
 same_judge a b report o e = rw (← a, ← b) e
 
--- tables of a module that was read, and buffers that are long enough
-pub record Beginning (bytes t : List ℕ) (places : MarkPlaces) (open_marks : List ℕ) : Type 0 where
-  pub was_read : WasRead bytes t
-  pub placed : Places bytes t places
-  pub open_long : min_report ≤ length open_marks
-
--- a file that was read, its places and a workspace have them
-pub beginning_of : {bytes t : List ℕ} {places : MarkPlaces} → WasRead bytes t × Places bytes t places → (open_marks : List ℕ) → min_report ≤ length open_marks → Beginning bytes t places open_marks
-beginning_of h open_marks a = record { was_read = h.0; placed = h.1; open_long = a }
-
-module _ {bytes t : List ℕ} {places : MarkPlaces} {open_marks : List ℕ} (B : Beginning bytes t places open_marks) where
+module _ {bytes t starts s rs open_marks : List ℕ} {totals : MarkTotals} (B : Beginning bytes t starts s rs open_marks totals) where
   abbrev m : Module
   m = module_of bytes t
 
@@ -79,9 +67,9 @@ module _ {bytes t : List ℕ} {places : MarkPlaces} {open_marks : List ℕ} (B :
   module _ (report : ℕ) (request pruner : List ℕ) {n g : ℕ} (functions : n ≡ length (module_of bytes t).functions) (globals : g ≡ length (module_of bytes t).globals) {u us : List ℕ} {a : Result Handle Refusal}
       (L : RequestLoaded n g report request u us a) where
     -- the request is refused
-    pub begins_refused : {totals : MarkTotals} {e : Refusal} → a ≡ Err e → Begins bytes t places report request pruner u us open_marks totals (Err e)
+    pub begins_refused : {e : Refusal} → a ≡ Err e → Begins bytes t starts report request pruner u us open_marks totals (Err e)
     unfolding after_request
-    begins_refused {e = e} z =
+    begins_refused {e} z =
         let there : read_request m report request ≡ reading.refused (number e) = same_judge functions globals report (request_of request) (rw z at L.by) in
         record { by = rw there }
 
@@ -98,8 +86,15 @@ module _ {bytes t : List ℕ} {places : MarkPlaces} {open_marks : List ℕ} (B :
       is_read : read_request m report request ≡ reading.accepted q
       is_read = same_judge functions globals report (request_of request) stands.is
 
-      pub has_totals : HasTotals bytes t places u us
-      has_totals = record { was_read = B.was_read; placed = B.placed; memory = S.memory }
+      pub has_totals : HasTotals bytes t starts u us totals
+      has_totals = record {
+        was_read = B.was_read;
+        firsts = B.firsts;
+        placed = B.placed;
+        memory = S.memory;
+        flags_long = B.flags_long;
+        marks_long = B.totals_long;
+      }
 
       pub untold : Untold u us
       untold = record {
@@ -110,7 +105,7 @@ module _ {bytes t : List ℕ} {places : MarkPlaces} {open_marks : List ℕ} (B :
 
       module _ {v vs : List ℕ} {after : MarkTotals} {r : Maybe ⊤} (P : PrunerWasRead bytes t u us pruner v vs after r) where
         -- the totals are refused
-        pub begins_19 : r ≡ None → Begins bytes t places report request pruner v vs open_marks after (Err PrunerUnfit)
+        pub begins_19 : r ≡ None → Begins bytes t starts report request pruner v vs open_marks after (Err PrunerUnfit)
         unfolding after_request with_totals
         begins_19 z =
             let is : read_pruner m pruner ≡ reading.refused 19 = rw z at P.by in
@@ -126,8 +121,8 @@ module _ {bytes t : List ℕ} {places : MarkPlaces} {open_marks : List ℕ} (B :
           named : q.function < length (module_of bytes t).functions
           named = (sound.asked m report request q is_read).function
 
-          pub clear_asks : Inside places f.0 (length open_marks)
-          clear_asks = rw (← stands.function_is) ((all_inside bytes t places B.was_read B.placed (length open_marks) B.open_long).each q.function named)
+          pub clear_asks : Inside starts f.0 (length open_marks)
+          clear_asks = rw (← stands.function_is) ((all_inside bytes t (places_of starts B.firsts) B.was_read B.placed (length open_marks) B.open_long).each q.function named)
 
           -- outside the totals memory has what it had
           base_is : context_at (read v vs) stack_slot ≡ base_of q
@@ -146,12 +141,12 @@ module _ {bytes t : List ℕ} {places : MarkPlaces} {open_marks : List ℕ} (B :
           few : pruner_pieces old ≤ max_pieces
           few = read_few m pruner old told.is
 
-          pub tidy_asks : Memory v vs × (counted (read v vs) ≤ most)
-          tidy_asks = (
+          pub tidy_asks : length us ≡ length rs → Memory v vs × (counted (read v vs) ≤ most)
+          tidy_asks l = (
             told.memory,
             omega (
               arith,
-              base_counts (read v vs) (omega (arith, read-long v vs, P.long, S.long)) no_records above,
+              base_counts (read v vs) (omega (arith, read-long v vs, P.long, B.slots_long)) no_records above,
               ap pieces base_is,
               S.base_few,
               few,
@@ -159,12 +154,12 @@ module _ {bytes t : List ℕ} {places : MarkPlaces} {open_marks : List ℕ} (B :
             ),
           )
 
-          module _ {w ws : List ℕ} (T : Tidied v vs w ws) where
+          module _ {w ws : List ℕ} (T : Tidied v vs w ws) (l : length us ≡ length rs) where
             pub weighs : Weighing w ws
             weighs = record { memory = T.memory; few = rw T.same (omega (arith, few, told.totals-sum)) }
 
-            pub begins : {cleared : List ℕ} {sum : ℕ} → cleared ≡ write_marks open_marks (start_in places f.0) (replicate (size_in places f.0) 0)
-                → sum ≡ entries (get_or (read w ws) globals_slot none) + totals_sum (read w ws) → Begins bytes t places report request pruner w ws cleared after (Ok (record { function = f; sum = sum }))
+            pub begins : {cleared : List ℕ} {sum : ℕ} → cleared ≡ write_marks open_marks (start_in starts f.0) (replicate (size_in starts f.0) 0)
+                → sum ≡ entries (get_or (read w ws) globals_slot none) + totals_sum (read w ws) → Begins bytes t starts report request pruner w ws cleared after (Ok (record { function = f; sum = sum }))
             unfolding after_request with_totals
             begins {cleared} {sum} marks count = record {
               by = record {
@@ -173,13 +168,13 @@ module _ {bytes t : List ℕ} {places : MarkPlaces} {open_marks : List ℕ} (B :
                 is = rw (is_read, told.is);
                 function_is = stands.function_is;
                 sum_is = count ∙ rw T.same (omega (arith, told.totals-sum));
-                loaded = λ types typed. record {
+                loaded = λ types firsts typed placed. record {
                   was_read = B.was_read;
                   typed = typed;
-                  placed = B.placed;
-                  open_long = rw marks (omega (arith, write_long open_marks (start_in places f.0) (replicate (size_in places f.0) 0), B.open_long));
+                  placed = placed;
+                  open_long = rw marks (omega (arith, write_long open_marks (start_in starts f.0) (replicate (size_in starts f.0) 0), B.open_long));
                   memory = T.memory;
-                  slots_long = omega (arith, T.long, P.long, S.long);
+                  slots_long = omega (arith, T.long, P.long, B.slots_long);
                   globals_are = rw T.same;
                   functions_are = rw T.same;
                   totals-sum = rw T.same told.totals-sum;
@@ -187,7 +182,7 @@ module _ {bytes t : List ℕ} {places : MarkPlaces} {open_marks : List ℕ} (B :
                   base_is = rw T.same base_is;
                   no_records = λ k x y. rw T.same (no_records k x y);
                   above = λ k x. rw T.same (above k x);
-                  no_marks = rw (marks, stands.function_is) (cleared_own bytes t places B.was_read B.placed open_marks f.0 (rw stands.function_is at named) B.open_long);
+                  no_marks = rw (marks, stands.function_is) (cleared_own bytes t (places_of starts B.firsts) B.was_read B.placed open_marks f.0 (rw stands.function_is at named) B.open_long);
                   function = named;
                   fine = (sound.asked m report request q is_read).fine;
                   fine_pruner = read_fine m pruner old told.is;

@@ -27,7 +27,7 @@ use Rattle.memory.specs.Memory.{read, context_at, Memory}
 use Rattle.memory.proofs.Records.{records_pieces}
 use Rattle.marks.specs.declared.places.MarkPlaces.{MarkPlaces}
 use Rattle.marks.specs.declared.totals.MarkTotals.{MarkTotals}
-use Rattle.marks.specs.Places.{AllInside}
+use Rattle.marks.specs.Places.{places_of, AllInside}
 use Rattle.marks.specs.Report.{marks_kept, Totals, report_in}
 use Rattle.marks.specs.Report as report
 use Rattle.marks.proofs.Buffers.{all_inside}
@@ -98,8 +98,15 @@ module _ {bytes t types : List ℕ} {places : MarkPlaces} {s rs open_marks : Lis
   fine_pruner : FinePruner m (pruner_in bytes t s rs totals)
   fine_pruner = record { globals = S.proper.globals; functions = S.proper.functions }
 
-  has_totals : HasTotals bytes t places s rs
-  has_totals = record { was_read = S.ready.was_read; placed = S.placed; memory = S.ready.memory }
+  has_totals : max_functions ≤ length totals.flags → min_report ≤ length totals.marks → HasTotals bytes t places.starts s rs totals
+  has_totals flags marks = record {
+    was_read = S.ready.was_read;
+    firsts = places.firsts;
+    placed = S.placed;
+    memory = S.ready.memory;
+    flags_long = flags;
+    marks_long = marks;
+  }
 
   answering : Answering t s rs f at
   answering =
@@ -117,31 +124,31 @@ module _ {bytes t types : List ℕ} {places : MarkPlaces} {s rs open_marks : Lis
 
   -- the report that is written is the definition's
   report_set : (buffer : List ℕ) (n : ℕ) → n ≡ length (module_of bytes t).functions
-      → write_marks buffer 0 (report_in places open_marks totals f n) ≡ sets buffer 0 (bytes_from m f (state_in bytes t s rs open_marks totals f at visits) 0 m.functions)
+      → write_marks buffer 0 (report_in places.starts open_marks totals f n) ≡ sets buffer 0 (bytes_from m f (state_in bytes t s rs open_marks totals f at visits) 0 m.functions)
   report_set buffer n e =
       rw e
       (marks_set buffer 0 _
       ∙ ap (sets buffer 0) (report_is bytes t places S.ready.was_read S.placed totals open_marks f (state_in bytes t s rs open_marks totals f at visits) totals_are refl))
 
-module _ {bytes t : List ℕ} {places : MarkPlaces} {s rs open_marks : List ℕ} {totals : MarkTotals} {f : FunctionHandle} {base : ℕ} {required : Bool} {visits sum : ℕ} {pruner report answer : List ℕ}
-    (F : Finishing bytes t places s rs open_marks totals f base required visits sum pruner report answer) where
+module _ {bytes t starts s rs open_marks : List ℕ} {totals : MarkTotals} {f : FunctionHandle} {base : ℕ} {required : Bool} {visits sum : ℕ} {pruner report answer : List ℕ}
+    (F : Finishing bytes t starts s rs open_marks totals f base required visits sum pruner report answer) where
   pub finish_own : (Memory s rs × Placed t rs f) × (own_in t s rs f ≤ entries_cap)
   finish_own = own_asks F.ended.standing (omega (arith, F.ended.sum_few))
 
   pub finish_sub : own_in t s rs f ≤ sum
   finish_sub = own_few F.ended.standing
 
-  pub finish_report : {n : ℕ} → n ≡ length (module_of bytes t).functions → AllInside places n min_report × (min_report ≤ length open_marks) × (n ≤ max_functions) × (min_report ≤ length report)
+  pub finish_report : {n : ℕ} → n ≡ length (module_of bytes t).functions → AllInside starts n min_report × (min_report ≤ length open_marks) × (n ≤ max_functions) × (n ≤ length totals.flags) × (min_report ≤ length report) × (min_report ≤ length totals.marks)
   finish_report e =
       let S = F.ended.standing in
-      rw e (all_inside bytes t places S.ready.was_read S.placed min_report (le_refl min_report), S.open_long, few_functions S, F.report_long)
+      rw e (all_inside bytes t (places_of starts F.firsts) S.ready.was_read S.placed min_report (le_refl min_report), S.open_long, few_functions S, omega (arith, few_functions S, F.flags_long), F.report_long, F.totals_long)
 
   pub finish_pruner : {own : ℕ} → own ≡ own_in t s rs f → sum - own ≤ max_pieces
-      → HasTotals bytes t places s rs × ((min_pruner ≤ length pruner) × (length (write_pruner (pruner_in bytes t s rs totals)) ≤ min_pruner))
+      → HasTotals bytes t starts s rs totals × ((min_pruner ≤ length pruner) × (length (write_pruner (pruner_in bytes t s rs totals)) ≤ min_pruner))
   finish_pruner e l =
       let S = F.ended.standing in
       let few : pruner_pieces (pruner_in bytes t s rs totals) ≤ max_pieces = omega (arith, own-pieces S, S.ready.sums, S.totals-sum) in
-      (has_totals S, (F.pruner_long, pruner_long (module_of bytes t) bytes S.ready.was_read.module_is (pruner_in bytes t s rs totals) (fine_pruner S) few))
+      (has_totals S F.flags_long F.totals_long, (F.pruner_long, pruner_long (module_of bytes t) bytes S.ready.was_read.module_is (pruner_in bytes t s rs totals) (fine_pruner S) few))
 
   answer_few : length (answer_in t s rs f (base + 4) required visits) ≤ min_answer
   answer_few =
@@ -155,10 +162,10 @@ module _ {bytes t : List ℕ} {places : MarkPlaces} {s rs open_marks : List ℕ}
       (answering F.ended.standing, ((omega (arith, F.ended.standing.proper.visits.few), omega (arith, F.answer_long)), l))
 
   -- 16 refuses
-  pub finish_over : {own : ℕ} → own ≡ own_in t s rs f → max_pieces < sum - own → Finished bytes t places s rs open_marks totals f base required visits sum pruner report answer (Err (unplaced PiecesLimit)) pruner report answer
+  pub finish_over : {own : ℕ} → own ≡ own_in t s rs f → max_pieces < sum - own → Finished bytes t starts s rs open_marks totals f base required visits sum pruner report answer (Err (unplaced PiecesLimit)) pruner report answer
   unfolding finish
   finish_over e l = record {
-    by = λ types u us o b p q same E.
+    by = λ types firsts u us o b p q same E.
         let count = end-count bytes t p q E in
         let own = own-pieces E.standing in
         let equal = ap (own_in t s rs) same in
@@ -167,19 +174,19 @@ module _ {bytes t : List ℕ} {places : MarkPlaces} {s rs open_marks : List ℕ}
 
   -- all is written
   pub finish_went : {own n : ℕ} {pruner-after report-after answer-after : List ℕ} → own ≡ own_in t s rs f → sum - own ≤ max_pieces → n ≡ length (module_of bytes t).functions
-      → report-after ≡ write_marks report 0 (report_in places open_marks totals f n)
+      → report-after ≡ write_marks report 0 (report_in starts open_marks totals f n)
       → pruner-after ≡ write_pruner (pruner_in bytes t s rs totals) ++ drop (length (write_pruner (pruner_in bytes t s rs totals))) pruner
       → answer-after ≡ sets answer 0 (answer_in t s rs f (base + 4) required visits)
-      → Finished bytes t places s rs open_marks totals f base required visits sum pruner report answer (Ok visits) pruner-after report-after answer-after
+      → Finished bytes t starts s rs open_marks totals f base required visits sum pruner report answer (Ok visits) pruner-after report-after answer-after
   unfolding finish report_of
   finish_went {own} {n} {pruner-after} {report-after} {answer-after} e l count reported totalled answered = record {
-    by = λ types u us o b p q same E.
+    by = λ types firsts u us o b p q same E.
         let long = (finish_pruner e l).1.1 in
         let own-there = own-pieces E.standing in
         let equal = ap (own_in t s rs) same in
         let ends = end-count bytes t p q E in
         let to-report : report-after ≡ sets report 0 (bytes_from (module_of bytes t) q.function (state_in bytes t s rs open_marks totals q.function (base + 4) visits) 0 (module_of bytes t).functions) =
-        reported ∙ ap (λ (g : ℕ). write_marks report 0 (report_in places open_marks totals g n)) (sym same) ∙ report_set E.standing report n count in
+        reported ∙ ap (λ (g : ℕ). write_marks report 0 (report_in starts open_marks totals g n)) (sym same) ∙ report_set E.standing report n count in
         let to-pruner : pruner-after ≡ sets pruner 0 (write_pruner (pruner_in bytes t s rs totals)) =
         totalled
         ∙ ap (λ (k : ℕ). write_pruner (pruner_in bytes t s rs totals) ++ drop k pruner) (sym (zero-add (length (write_pruner (pruner_in bytes t s rs totals)))))

@@ -26,6 +26,7 @@ use Rattle.sound.proofs.Asked as sound
 use Rattle.memory.specs.Layout.{stack_slot}
 use Rattle.memory.specs.Memory.{read}
 use Rattle.marks.specs.declared.places.MarkPlaces.{MarkPlaces}
+use Rattle.marks.specs.Places.{places_of, Places}
 use Rattle.marks.specs.declared.totals.MarkTotals.{MarkTotals}
 use Rattle.state.specs.declared.answer.Tally.{Tally}
 use Rattle.state.specs.declared.answer.Halt.{Halt}
@@ -70,10 +71,10 @@ module _ {bytes t types : List ℕ} {places : MarkPlaces} {s rs open_marks : Lis
         ended = rw e at E.by
 
         pub walk_finished : {r : Result ℕ Halt} {pruner-after report-after answer-after : List ℕ}
-            → Finished bytes t places u us open_after totals-after f stack_slot required tally.visits tally.sum pruner report answer r pruner-after report-after answer-after
+            → Finished bytes t places.starts u us open_after totals-after f stack_slot required tally.visits tally.sum pruner report answer r pruner-after report-after answer-after
             → Walked bytes t types places s rs open_marks totals f sum pruner report answer r pruner-after report-after answer-after
         walk_finished F = record {
-          by = λ q old named count L. F.by types s rs open_marks totals old q named (rw (← walk_is L named, named) ended);
+          by = λ q old named count L. F.by types places.firsts s rs open_marks totals old q named (rw (← walk_is L named, named) ended);
         }
 
 -- totals are refused by 19 alone
@@ -144,7 +145,7 @@ module _ (m : Module) (lent : Lent) where
     unfolding serve_read on_request lent_pruner on_pruner
     serve_walks h l = rw (asked_read, le-ltb (length lent.pruner) min_pruner h, old-read, le-ltb (length lent.answer) min_answer l)
 
-module _ {bytes t : List ℕ} {places : MarkPlaces} {s rs open_marks : List ℕ} {totals : MarkTotals} {asked-bytes pruner : List ℕ} (report answer : List ℕ) {b : Result Begun Refusal} (B : Begins bytes t places (length report) asked-bytes pruner s rs open_marks totals b) where
+module _ {bytes t starts s rs open_marks : List ℕ} {totals : MarkTotals} {asked-bytes pruner : List ℕ} (report answer : List ℕ) {b : Result Begun Refusal} (B : Begins bytes t starts (length report) asked-bytes pruner s rs open_marks totals b) where
   abbrev lent : Lent
   lent = record { pruner = pruner; report = report; answer = answer }
 
@@ -152,7 +153,7 @@ module _ {bytes t : List ℕ} {places : MarkPlaces} {s rs open_marks : List ℕ}
   served_refused z = record { is = sym (serve_refused (module_of bytes t) lent asked-bytes (rw z at B.by)) }
 
   module _ {f : Handle} {sum : ℕ} (e : b ≡ Ok (record { function = f; sum = sum })) where
-    ready : Ready bytes t places (length report) asked-bytes pruner s rs open_marks totals f.0 sum
+    ready : Ready bytes t starts (length report) asked-bytes pruner s rs open_marks totals f.0 sum
     ready = rw e at B.by
 
     pub served_19 : length pruner < min_pruner → Served bytes t asked-bytes pruner report answer (Err (unplaced PrunerUnfit)) pruner report answer
@@ -161,22 +162,22 @@ module _ {bytes t : List ℕ} {places : MarkPlaces} {s rs open_marks : List ℕ}
     pub served_20 : min_pruner ≤ length pruner → length answer < min_answer → Served bytes t asked-bytes pruner report answer (Err (unplaced AnswerTooShort)) pruner report answer
     served_20 h l = record { is = sym (serve_20 (module_of bytes t) lent asked-bytes ready.is h l) }
 
-    pub serve_walking : {types : List ℕ} → types_of types ≡ (module_of bytes t).types → min_pruner ≤ length pruner → min_answer ≤ length answer
-        → Walking bytes t types places s rs open_marks totals f.0 sum pruner report answer
-    serve_walking {types} typed h l = record {
+    pub serve_walking : {types firsts : List ℕ} → types_of types ≡ (module_of bytes t).types → Places bytes t (places_of starts firsts) → min_pruner ≤ length pruner → min_answer ≤ length answer
+        → Walking bytes t types (places_of starts firsts) s rs open_marks totals f.0 sum pruner report answer
+    serve_walking {types} {firsts} typed placed h l = record {
       q = ready.q;
       old = ready.old;
       function_is = ready.function_is;
       sum_is = ready.sum_is;
-      loaded = ready.loaded types typed;
+      loaded = ready.loaded types firsts typed placed;
       pruner_long = h;
       report_long = (sound.asked (module_of bytes t) (length report) asked-bytes ready.q (asked_read (module_of bytes t) lent asked-bytes ready.is)).room;
       answer_long = l;
     }
 
-    pub served : {types : List ℕ} {r : Result ℕ Halt} {pruner-after report-after answer-after : List ℕ} → types_of types ≡ (module_of bytes t).types → min_pruner ≤ length pruner → min_answer ≤ length answer
-        → Walked bytes t types places s rs open_marks totals f.0 sum pruner report answer r pruner-after report-after answer-after
+    pub served : {types firsts : List ℕ} {r : Result ℕ Halt} {pruner-after report-after answer-after : List ℕ} → types_of types ≡ (module_of bytes t).types → Places bytes t (places_of starts firsts) → min_pruner ≤ length pruner → min_answer ≤ length answer
+        → Walked bytes t types (places_of starts firsts) s rs open_marks totals f.0 sum pruner report answer r pruner-after report-after answer-after
         → Served bytes t asked-bytes pruner report answer r pruner-after report-after answer-after
-    served {types} typed h l W = record {
-      is = W.by ready.q ready.old ready.function_is ready.sum_is (ready.loaded types typed) ∙ sym (serve_walks (module_of bytes t) lent asked-bytes ready.is h l);
+    served {types} {firsts} typed placed h l W = record {
+      is = W.by ready.q ready.old ready.function_is ready.sum_is (ready.loaded types firsts typed placed) ∙ sym (serve_walks (module_of bytes t) lent asked-bytes ready.is h l);
     }

@@ -1,16 +1,16 @@
 -- How a request begins: the request and the totals that bytes mean, and what memory has of them.
 use Rattle.std.specs.Prelude.{◌≡◌, ⊤, List, ℕ, ◌+◌, ◌*◌, ◌<◌, ◌≤◌, length, get_or, Result, Ok, Err}
 use Rattle.field.specs.Field.{field_at}
-use Rattle.field.specs.Limits.{absent, max_pieces}
+use Rattle.field.specs.Limits.{absent, max_functions, max_pieces, min_report}
 use Rattle.field.specs.Refusal.{number}
 use Rattle.field.specs.declared.refusal.Refusal.{Refusal}
 use Rattle.part.specs.PartReq.{none, entries}
 use Rattle.part.specs.Store.{top, part, Room}
-use Rattle.part.specs.StoreLimits.{entries_cap}
+use Rattle.part.specs.StoreLimits.{store_words, entries_cap}
 use Rattle.module.specs.Module.{Module}
 use Rattle.module.specs.Tables.{module_of}
 use Rattle.module.specs.declared.handles.FunctionHandle.{FunctionHandle as Handle}
-use Rattle.access.specs.File.{File}
+use Rattle.access.specs.Laid.{WasRead}
 use Rattle.context.specs.Types.{types_of}
 use Rattle.context.specs.RequiredContext.{RequiredContext, pieces, return_entry}
 use Rattle.request.specs.Fields as reading
@@ -18,14 +18,13 @@ use Rattle.request.specs.Request.{Request, read_request, judge, request_of}
 use Rattle.request.specs.Answers.{optional, Held}
 use Rattle.request.specs.declared.requests.Request as declared
 use Rattle.walk.specs.Requests.{Pruner}
-use Rattle.memory.specs.Layout.{globals_slot, stack_slot, slot_count, flat_count}
+use Rattle.memory.specs.Layout.{globals_slot, stack_slot, slot_count, store_size, flat_count}
 use Rattle.memory.specs.Memory.{read, context_at, with_context, Memory}
-use Rattle.marks.specs.declared.places.MarkPlaces.{MarkPlaces}
+use Rattle.marks.specs.Places.{places_of, Places}
 use Rattle.marks.specs.declared.totals.MarkTotals.{MarkTotals}
 use Rattle.state.specs.State.{totals_sum}
 use Rattle.pruner.specs.Form.{pruner_pieces, read_pruner}
 use Rattle.requests.specs.Loaded.{Loaded}
-use Rattle.block.specs.declared.workspace.Workspace.{Workspace}
 use Rattle.requests.specs.declared.begin.Begun.{Begun}
 
 -- 12, 11 and 18 of the request, then 19 of the totals
@@ -65,7 +64,6 @@ pub record Based (s rs : List ℕ) (q : declared.Request) (t us : List ℕ) : Ty
 -- The request q stands in a memory that has nothing else.
 pub record Standing (s rs : List ℕ) (q : Request) : Type 0 where
   pub memory : Memory s rs
-  pub long : slot_count ≤ length rs
   pub base_is : context_at (read s rs) stack_slot ≡ base_of q
   pub base_few : pieces (base_of q) ≤ 2 * max_pieces
   pub below : (k : ℕ) → globals_slot ≤ k → k < stack_slot → get_or (read s rs) k none ≡ none
@@ -95,21 +93,30 @@ pub record Weighing (s rs : List ℕ) : Type 0 where
   pub memory : Memory s rs
   pub few : entries (get_or (read s rs) globals_slot none) + totals_sum (read s rs) ≤ entries_cap
 
--- Memory has the request and the totals: with the types' table the walk can begin.
-pub record Ready (bytes t : List ℕ) (places : MarkPlaces) (report : ℕ) (request pruner s rs open_marks : List ℕ) (totals : MarkTotals) (f sum : ℕ) : Type 0 where
+-- tables of a module that was read, and arrays that are long enough
+pub record Beginning (bytes t starts s rs open_marks : List ℕ) (totals : MarkTotals) : Type 0 where
+  pub was_read : WasRead bytes t
+  pub firsts : List ℕ
+  pub placed : Places bytes t (places_of starts firsts)
+  pub cells_long : store_size ≤ length s
+  pub cells_fit : length s ≤ store_words
+  pub slots_long : slot_count ≤ length rs
+  pub open_long : min_report ≤ length open_marks
+  pub flags_long : max_functions ≤ length totals.flags
+  pub totals_long : min_report ≤ length totals.marks
+
+-- Memory has the request and the totals: with the types' table, and that of statements, the walk can begin.
+pub record Ready (bytes t starts : List ℕ) (report : ℕ) (request pruner s rs open_marks : List ℕ) (totals : MarkTotals) (f sum : ℕ) : Type 0 where
   pub q : Request
   pub old : Pruner
   pub is : beginning (module_of bytes t) report request pruner ≡ reading.accepted (q, old)
   pub function_is : q.function ≡ f
   pub sum_is : sum ≡ pruner_pieces old
-  pub loaded : (types : List ℕ) → types_of types ≡ (module_of bytes t).types → Loaded bytes t types places s rs open_marks totals q old
+  pub loaded : (types firsts : List ℕ) → types_of types ≡ (module_of bytes t).types → Places bytes t (places_of starts firsts) → Loaded bytes t types (places_of starts firsts) s rs open_marks totals q old
 
-abbrev pub BeginsBy : (bytes t : List ℕ) (places : MarkPlaces) → (report : ℕ) → (request pruner s rs open_marks : List ℕ) (totals : MarkTotals) → Result Begun Refusal → Type 0
-BeginsBy bytes t places report request pruner s rs open_marks totals (Err e) = beginning (module_of bytes t) report request pruner ≡ reading.refused (number e)
-BeginsBy bytes t places report request pruner s rs open_marks totals (Ok b) = Ready bytes t places report request pruner s rs open_marks totals b.function.0 b.sum
+abbrev pub BeginsBy : (bytes t starts : List ℕ) → (report : ℕ) → (request pruner s rs open_marks : List ℕ) (totals : MarkTotals) → Result Begun Refusal → Type 0
+BeginsBy bytes t starts report request pruner s rs open_marks totals (Err e) = beginning (module_of bytes t) report request pruner ≡ reading.refused (number e)
+BeginsBy bytes t starts report request pruner s rs open_marks totals (Ok b) = Ready bytes t starts report request pruner s rs open_marks totals b.function.0 b.sum
 
-pub record Begins (bytes t : List ℕ) (places : MarkPlaces) (report : ℕ) (request pruner s rs open_marks : List ℕ) (totals : MarkTotals) (r : Result Begun Refusal) : Type 0 where
-  pub by : BeginsBy bytes t places report request pruner s rs open_marks totals r
-
-abbrev pub BeginsOf : File → MarkPlaces → (report : ℕ) → (request pruner : List ℕ) → Workspace → Result Begun Refusal → Type 0
-BeginsOf file places report request pruner m r = Begins file.bytes file.t places report request pruner m.parts.cells m.parts.slots m.open m.totals r
+pub record Begins (bytes t starts : List ℕ) (report : ℕ) (request pruner s rs open_marks : List ℕ) (totals : MarkTotals) (r : Result Begun Refusal) : Type 0 where
+  pub by : BeginsBy bytes t starts report request pruner s rs open_marks totals r

@@ -8,7 +8,6 @@ ghost use Rattle.requests.specs.Answer.{min_answer, Answering, answer_in};
 use access::file::File;
 use leave::leave::records_of;
 use memory::layout::EXPRS;
-use memory::parts::Parts;
 use module::handles::FunctionHandle;
 use pruner::write::{write_lists, write_records};
 use request::writer::Writer;
@@ -28,22 +27,23 @@ fn write_verdict(writer: &mut Writer, required: bool, visits: usize)
 // From the first byte on; what lies past it stays.
 pub fn write_answer(
     file: &File,
-    parts: &Parts,
+    cells: &[u32],
+    slots: &[u32],
     f: FunctionHandle,
     at: usize,
     required: bool,
     visits: usize,
     out: &mut [u8],
 )
-    requires answering { Answering file.now.t parts.now.cells parts.now.slots f.0 at }
-    requires visits_bound { (visits < 4294967296) × (length (answer_in file.now.t parts.now.cells parts.now.slots f.0 at required visits) ≤ length out.old) }
-    requires visits_len_bound { length (answer_in file.now.t parts.now.cells parts.now.slots f.0 at required visits) ≤ min_answer }
-    ensures { out.new ≡ sets out.old 0 (answer_in file.now.t parts.now.cells parts.now.slots f.0 at required visits) }
+    requires answering { Answering file.now.t cells.now slots.now f.0 at }
+    requires visits_bound { (visits < 4294967296) × (length (answer_in file.now.t cells.now slots.now f.0 at required visits) ≤ length out.old) }
+    requires visits_len_bound { length (answer_in file.now.t cells.now slots.now f.0 at required visits) ≤ min_answer }
+    ensures { out.new ≡ sets out.old 0 (answer_in file.now.t cells.now slots.now f.0 at required visits) }
 {
     let own = records_of(file, f);
     let mut writer = Writer { out, at: 6 };
     write_verdict(&mut writer, required, visits);
-    write_lists(parts, at, &mut writer);
-    write_records(parts, EXPRS + own.from, own.n, &mut writer);
+    write_lists(cells, slots, at, &mut writer);
+    write_records(cells, slots, EXPRS + own.from, own.n, &mut writer);
     writer.head(b'A', b'N');
 }

@@ -1,24 +1,21 @@
 // How a request begins: what it asks, and the totals that are lent, go into a walk's memory.
-ghost use Rattle.std.specs.Prelude.{◌≡◌, ◌+◌, ◌≤◌, get_or};
+ghost use Rattle.std.specs.Prelude.{◌≡◌, ◌+◌, ◌≤◌, length, get_or};
 ghost use Rattle.field.specs.Limits.{absent};
 ghost use Rattle.part.specs.PartReq.{none, entries};
-ghost use Rattle.memory.specs.Layout.{globals_slot};
+ghost use Rattle.part.specs.StoreLimits.{store_words};
+ghost use Rattle.memory.specs.Layout.{globals_slot, slot_count, store_size};
 ghost use Rattle.memory.specs.Memory.{read};
-ghost use Rattle.marks.specs.Places.{Places};
-ghost use Rattle.access.specs.Laid.{WasRead};
+ghost use Rattle.marks.specs.Report.{totals_of};
 ghost use Rattle.state.specs.State.{totals_sum};
-ghost use Rattle.requests.specs.Begin.{Basing, Based, Weighing, LengthChecked, RequestLoaded, BeginsOf};
+ghost use Rattle.requests.specs.Begin.{Basing, Based, Weighing, LengthChecked, RequestLoaded, Beginning, Begins};
 
 use access::file::File;
-use block::workspace::Workspace;
 use context::required_context::RequiredContext;
 use field::field::get;
 use field::refusal::Refusal;
-use marks::places::MarkPlaces;
 use marks::set::clear_marks;
 use memory::layout::{GLOBALS, STACK, TOTALS};
 use memory::memory::{init_memory, tidy, weigh};
-use memory::parts::Parts;
 use memory::stretches::save_context;
 use module::handles::FunctionHandle;
 use part::store::EMPTY_PIECE;
@@ -34,19 +31,19 @@ pub struct Begun {
 }
 
 // The base context of the asked function, at the bottom of the stack.
-fn load_base(parts: &mut Parts, q: Request)
-    requires { Basing parts.old.cells parts.old.slots q }
-    ensures { Based parts.old.cells parts.old.slots q parts.new.cells parts.new.slots }
+fn load_base(cells: &mut [u32], slots: &mut [u32], q: Request)
+    requires { Basing cells.old slots.old q }
+    ensures { Based cells.old slots.old q cells.new slots.new }
 {
     let retval = q.retval;
-    let entry = returned(&mut parts.cells, retval);
+    let entry = returned(cells, retval);
     let base = RequiredContext {
         globals: q.globals,
         locals: EMPTY_PIECE,
         args: EMPTY_PIECE,
         retval: entry,
     };
-    save_context(&mut parts.slots, STACK, base);
+    save_context(slots, STACK, base);
 }
 
 // A request that is longer than it says is none.
@@ -61,49 +58,59 @@ pub fn check_length(request: &[u8]) -> Result<(), Refusal>
 
 // What the bytes of a request ask of a module with so many functions and globals, in a memory that has nothing else.
 fn load_request(
-    parts: &mut Parts,
+    cells: &mut [u32],
+    slots: &mut [u32],
     request: &[u8],
     functions: u32,
     globals: u32,
     report: usize,
 ) -> Result<FunctionHandle, Refusal>
-    requires { globals ≤ absent }
-    ensures { RequestLoaded functions globals report request.now parts.new.cells parts.new.slots result }
+    requires store_size_in_bounds { (store_size ≤ length cells.old) × (length cells.old ≤ store_words) }
+    requires slot_count_in_bounds { (slot_count ≤ length slots.old) × (globals ≤ absent) }
+    ensures { RequestLoaded functions globals report request.now cells.new slots.new result }
 {
-    init_memory(parts);
+    init_memory(cells, slots);
     check_length(request)?;
-    let q = read_request(&mut parts.cells, request, functions, globals, report)?;
-    load_base(parts, q);
+    let q = read_request(cells, request, functions, globals, report)?;
+    load_base(cells, slots, q);
     Ok(q.function)
 }
 
 // What the totals count for.
-fn weigh_totals(parts: &Parts) -> usize
-    requires { Weighing parts.now.cells parts.now.slots }
-    ensures { result ≡ entries (get_or (read parts.now.cells parts.now.slots) globals_slot none) + totals_sum (read parts.now.cells parts.now.slots) }
+fn weigh_totals(cells: &[u32], slots: &[u32]) -> usize
+    requires { Weighing cells.now slots.now }
+    ensures { result ≡ entries (get_or (read cells.now slots.now) globals_slot none) + totals_sum (read cells.now slots.now) }
 {
-    weigh(parts, GLOBALS, 1) + weigh(parts, TOTALS, STACK - TOTALS)
+    weigh(cells, slots, GLOBALS, 1) + weigh(cells, slots, TOTALS, STACK - TOTALS)
 }
 
 // From here `add_function` walks the asked function, its base at STACK. The rows of the types are no part of this.
 pub fn begin_request(
     file: &File,
-    places: &MarkPlaces,
-    space: &mut Workspace,
+    starts: &[u32],
+    cells: &mut [u32],
+    slots: &mut [u32],
+    open: &mut [u8],
+    flags: &mut [bool],
+    kept: &mut [u8],
     request: &[u8],
     pruner: &[u8],
     report: usize,
 ) -> Result<Begun, Refusal>
-    requires { WasRead file.now.bytes file.now.t × Places file.now.bytes file.now.t places.now }
-    ensures { BeginsOf file.now places.now report request.now pruner.now space.new result }
+    requires { Beginning file.now.bytes file.now.t starts.now cells.old slots.old «open».old (totals_of flags.old kept.old) }
+    ensures { Begins file.now.bytes file.now.t starts.now report request.now pruner.now cells.new slots.new «open».new (totals_of flags.new kept.new) result }
 {
-    let parts = &mut space.parts;
-    let open = &mut space.open;
-    let totals = &mut space.totals;
-    let function = load_request(parts, request, file.functions(), file.globals(), report)?;
-    read_pruner(file, places, parts, totals, pruner).ok_or(Refusal::PrunerUnfit)?;
-    clear_marks(open, places, function);
-    tidy(parts);
-    let sum = weigh_totals(parts);
+    let function = load_request(
+        cells,
+        slots,
+        request,
+        file.functions(),
+        file.globals(),
+        report,
+    )?;
+    read_pruner(file, starts, cells, slots, flags, kept, pruner).ok_or(Refusal::PrunerUnfit)?;
+    clear_marks(open, starts, function);
+    tidy(cells, slots);
+    let sum = weigh_totals(cells, slots);
     Ok(Begun { function, sum })
 }

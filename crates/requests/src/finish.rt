@@ -4,16 +4,14 @@ ghost use Rattle.part.specs.StoreLimits.{entries_cap};
 ghost use Rattle.memory.specs.Memory.{Memory};
 ghost use Rattle.leave.specs.Leave.{Placed, own_in};
 ghost use Rattle.requests.specs.Finish.{TotalsChecked, FinishingOf, FinishedOf};
+ghost use Rattle.marks.specs.Report.{totals_of};
 
 use crate::answer::write_answer;
 use access::file::File;
-use block::workspace::Workspace;
 use field::limits::MAX_PIECES;
 use field::refusal::Refusal;
 use leave::leave::own_pieces;
-use marks::places::MarkPlaces;
 use marks::report::write_report;
-use memory::parts::Parts;
 use module::handles::FunctionHandle;
 use pruner::totals::write_pruner;
 use state::answer::{Answer, Halt, Tally};
@@ -24,15 +22,16 @@ pub type Reply = Result<usize, Halt>;
 // 16, where a walk of f that has ended passes it by its totals alone: the records of f are not counted.
 pub fn check_totals(
     file: &File,
-    parts: &Parts,
+    cells: &[u32],
+    slots: &[u32],
     f: FunctionHandle,
     sum: usize,
 ) -> Result<(), Refusal>
-    requires memory { Memory parts.now.cells parts.now.slots × Placed file.now.t parts.now.slots f.0 }
-    requires own_bound { (own_in file.now.t parts.now.cells parts.now.slots f.0 ≤ entries_cap) × (own_in file.now.t parts.now.cells parts.now.slots f.0 ≤ sum) }
-    ensures { TotalsChecked (sum - own_in file.now.t parts.now.cells parts.now.slots f.0) result }
+    requires memory { Memory cells.now slots.now × Placed file.now.t slots.now f.0 }
+    requires own_bound { (own_in file.now.t cells.now slots.now f.0 ≤ entries_cap) × (own_in file.now.t cells.now slots.now f.0 ≤ sum) }
+    ensures { TotalsChecked (sum - own_in file.now.t cells.now slots.now f.0) result }
 {
-    let own = own_pieces(file, parts, f);
+    let own = own_pieces(file, cells, slots, f);
     if MAX_PIECES < sum - own {
         return Err(Refusal::PiecesLimit);
     }
@@ -42,8 +41,12 @@ pub fn check_totals(
 // The walk of f has ended, with its context behind the base.
 pub fn finish_request(
     file: &File,
-    places: &MarkPlaces,
-    space: &Workspace,
+    starts: &[u32],
+    cells: &[u32],
+    slots: &[u32],
+    open: &[u8],
+    flags: &[bool],
+    kept: &[u8],
     f: FunctionHandle,
     base: usize,
     walked: Answer,
@@ -51,17 +54,15 @@ pub fn finish_request(
     report: &mut [u8],
     answer: &mut [u8],
 ) -> Reply
-    requires { FinishingOf file.now places.now space.now f.0 base walked pruner.old report.old answer.old }
-    ensures { FinishedOf file.now places.now space.now f.0 base walked pruner.old report.old answer.old result pruner.new report.new answer.new }
+    requires { FinishingOf file.now starts.now cells.now slots.now «open».now (totals_of flags.now kept.now) f.0 base walked pruner.old report.old answer.old }
+    ensures { FinishedOf file.now starts.now cells.now slots.now «open».now (totals_of flags.now kept.now) f.0 base walked pruner.old report.old answer.old result pruner.new report.new answer.new }
 {
     let Answer { tally, required } = walked;
     let Tally { visits, sum } = tally;
-    let parts = &space.parts;
-    let totals = &space.totals;
-    check_totals(file, parts, f, sum)?;
+    check_totals(file, cells, slots, f, sum)?;
     let n = file.functions() as usize;
-    write_report(report, places, &space.open, totals, f, n);
-    write_pruner(file, places, parts, totals, pruner);
-    write_answer(file, parts, f, base + 4, required, visits, answer);
+    write_report(report, starts, open, flags, kept, f, n);
+    write_pruner(file, starts, cells, slots, flags, kept, pruner);
+    write_answer(file, cells, slots, f, base + 4, required, visits, answer);
     Ok(visits)
 }

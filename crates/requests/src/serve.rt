@@ -35,10 +35,15 @@ fn walk_request(
         0,
         Tally { visits: 0, sum },
     )?;
+    let parts = &space.parts;
     finish_request(
         world.typed.file,
-        world.places,
-        space,
+        &world.places.starts,
+        &parts.cells,
+        &parts.slots,
+        &space.open,
+        &space.totals.flags,
+        &space.totals.marks,
         f,
         STACK,
         walked,
@@ -61,8 +66,12 @@ fn serve_in(
 {
     let begun = begin_request(
         world.typed.file,
-        world.places,
-        space,
+        &world.places.starts,
+        &mut space.parts.cells,
+        &mut space.parts.slots,
+        &mut space.open,
+        &mut space.totals.flags,
+        &mut space.totals.marks,
         request,
         pruner,
         report.len(),

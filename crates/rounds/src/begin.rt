@@ -17,11 +17,11 @@ use part::store::EMPTY_PIECE;
 use standing::passing::{ASKED, END, STACK, TABLE};
 
 // Neither table has needs.
-fn clear_tables(roots: &mut [u32])
-    requires { asked_slot ≤ length roots.old }
-    ensures { Cleared roots.old roots.new }
+fn clear_tables(slots: &mut [u32])
+    requires { asked_slot ≤ length slots.old }
+    ensures { Cleared slots.old slots.new }
 {
-    roots[..ASKED].fill(EMPTY_PIECE);
+    slots[..ASKED].fill(EMPTY_PIECE);
 }
 
 // What is asked, within its types: of the value, and of the globals at the function's end.
@@ -46,10 +46,10 @@ pub fn begin(
 }
 
 // The new table is the old one too, and the needs at the function's end are at hand.
-pub fn renew(roots: &mut [u32])
-    requires { stack_slot < length roots.old }
-    ensures { Renewed roots.old roots.new }
+pub fn renew(slots: &mut [u32])
+    requires { stack_slot < length slots.old }
+    ensures { Renewed slots.old slots.new }
 {
-    roots.copy_within(TABLE..ASKED, 0);
-    copy(roots, END, STACK);
+    slots.copy_within(TABLE..ASKED, 0);
+    copy(slots, END, STACK);
 }

@@ -16,16 +16,20 @@ use checking::words::Verdict;
 use context_bytes::starts::context_covers;
 use field::refusal::Refusal;
 use forms::types::Types;
-use memory::parts::Parts;
 use standing::passing::{END, Exits, Passing, STACK};
 
 // The most rounds.
 const ROUNDS: u32 = 65536;
 
 // One pass over the body, with the needs at the function's end where each exit leads.
-fn round(marked: &MarkedSubject, parts: &mut Parts, path: &mut [u32]) -> Option<Passing>
-    requires { RoundingOf marked.now parts.old.cells parts.old.slots path.old }
-    ensures { Rounded (scope_of marked.now.subject.now) (body_tree (function_in marked.now.subject.now) marked.now.marks.now) parts.old.cells parts.old.slots parts.new.cells parts.new.slots path.old path.new (outcome result) }
+fn round(
+    marked: &MarkedSubject,
+    cells: &mut [u32],
+    slots: &mut [u32],
+    path: &mut [u32],
+) -> Option<Passing>
+    requires { RoundingOf marked.now cells.old slots.old path.old }
+    ensures { Rounded (scope_of marked.now.subject.now) (body_tree (function_in marked.now.subject.now) marked.now.marks.now) cells.old slots.old cells.new slots.new path.old path.new (outcome result) }
 {
     let x = Exits {
         broke: END,
@@ -39,7 +43,7 @@ fn round(marked: &MarkedSubject, parts: &mut Parts, path: &mut [u32]) -> Option<
         wide: false,
     };
     let b = marked.subject.file.body_block(marked.subject.f);
-    pass_around(marked, parts, path, STACK + 1, x, p, b)
+    pass_around(marked, cells, slots, path, STACK + 1, x, p, b)
 }
 
 // The answer, by what the last pass carried and the need n before it.
@@ -66,21 +70,22 @@ fn answer(cells: &[u32], n: u32, q: Passing, context: &[u8]) -> Verdict
 // Rounds until each loop's needs hold; past the most of them the answer is 26.
 fn settle_rounds(
     marked: &MarkedSubject,
-    parts: &mut Parts,
+    cells: &mut [u32],
+    slots: &mut [u32],
     path: &mut [u32],
     context: &[u8],
 ) -> Verdict
-    requires { RoundingOf marked.now parts.old.cells parts.old.slots path.old }
-    ensures { Settles (scope_of marked.now.subject.now) marked.now.marks.now context.now parts.old.cells parts.old.slots (said result) }
+    requires { RoundingOf marked.now cells.old slots.old path.old }
+    ensures { Settles (scope_of marked.now.subject.now) marked.now.marks.now context.now cells.old slots.old (said result) }
 {
     for _ in 0..ROUNDS {
-        let Some(q) = round(marked, parts, path) else {
+        let Some(q) = round(marked, cells, slots, path) else {
             return Verdict::Refused(Refusal::CheckBound);
         };
         if q.held {
-            return answer(&parts.cells, parts.slots[STACK], q, context);
+            return answer(cells, slots[STACK], q, context);
         }
-        renew(&mut parts.slots);
+        renew(slots);
     }
     Verdict::Refused(Refusal::CheckBound)
 }
@@ -88,25 +93,19 @@ fn settle_rounds(
 // The answer, of a judged function and what is asked of it.
 pub fn settle(
     marked: &MarkedSubject,
-    parts: &mut Parts,
+    cells: &mut [u32],
+    slots: &mut [u32],
     path: &mut [u32],
     asked: AskedPieces,
     context: &[u8],
 ) -> Verdict
-    requires { SettlingOf marked.now parts.old.cells parts.old.slots path.old asked }
-    ensures { Settled (scope_of marked.now.subject.now) (asked_by parts.old.cells asked.globals asked.value) marked.now.marks.now context.now (said result) }
+    requires { SettlingOf marked.now cells.old slots.old path.old asked }
+    ensures { Settled (scope_of marked.now.subject.now) (asked_by cells.old asked.globals asked.value) marked.now.marks.now context.now (said result) }
 {
     let subject = marked.subject;
     let types = Types {
         rows: subject.types,
     };
-    begin(
-        subject.file,
-        subject.f,
-        &types,
-        &mut parts.cells,
-        &mut parts.slots,
-        asked,
-    );
-    settle_rounds(marked, parts, path, context)
+    begin(subject.file, subject.f, &types, cells, slots, asked);
+    settle_rounds(marked, cells, slots, path, context)
 }

@@ -11,7 +11,6 @@ ghost use Rattle.statement.specs.Asks.{Open, Asked, maybe_ask, answer_of};
 use access::file::File;
 use expression::add::add_expression;
 use expression::visit::Visit;
-use memory::parts::Parts;
 use memory::want::want_of;
 use module::handles::ExpressionHandle;
 use state::answer::{Answer, Answered, Walked};
@@ -20,15 +19,16 @@ use state::frame::Frame;
 // The part of the slot k is asked of the expression e, where the walk so far went.
 pub fn then_ask(
     file: &File,
-    parts: &mut Parts,
+    cells: &mut [u32],
+    slots: &mut [u32],
     fr: Frame,
     before: Walked,
     e: ExpressionHandle,
     k: usize,
 ) -> Walked
-    requires fact { Open file.now.bytes file.now.t parts.old.cells parts.old.slots fr before }
+    requires fact { Open file.now.bytes file.now.t cells.old slots.old fr before }
     requires e_in_bounds { (e.0 < length (function_at (module_of file.now.bytes file.now.t) fr.function.0).expressions) × (k ≤ returned) }
-    ensures { Asked file.now.bytes file.now.t parts.old.cells parts.old.slots fr before (add_expression (module_of file.now.bytes file.now.t) fr.function.0 fr.held e.0) k result parts.new.cells parts.new.slots }
+    ensures { Asked file.now.bytes file.now.t cells.old slots.old fr before (add_expression (module_of file.now.bytes file.now.t) fr.function.0 fr.held e.0) k result cells.new slots.new }
 {
     let tally = before?;
     let v = Visit {
@@ -38,25 +38,26 @@ pub fn then_ask(
         held: fr.held,
     };
     let w = want_of(k);
-    add_expression(file, parts, &v, w, tally)
+    add_expression(file, cells, slots, &v, w, tally)
 }
 
 // The same of an expression that may be absent.
 pub fn then_maybe(
     file: &File,
-    parts: &mut Parts,
+    cells: &mut [u32],
+    slots: &mut [u32],
     fr: Frame,
     before: Walked,
     e: Option<ExpressionHandle>,
     k: usize,
 ) -> Walked
-    requires fact { Open file.now.bytes file.now.t parts.old.cells parts.old.slots fr before }
+    requires fact { Open file.now.bytes file.now.t cells.old slots.old fr before }
     requires maybe_below { MaybeBelow (length (function_at (module_of file.now.bytes file.now.t) fr.function.0).expressions) (handle_in e) × (k ≤ returned) }
-    ensures { Asked file.now.bytes file.now.t parts.old.cells parts.old.slots fr before (maybe_ask (module_of file.now.bytes file.now.t) fr.function.0 fr.held (handle_in e)) k result parts.new.cells parts.new.slots }
+    ensures { Asked file.now.bytes file.now.t cells.old slots.old fr before (maybe_ask (module_of file.now.bytes file.now.t) fr.function.0 fr.held (handle_in e)) k result cells.new slots.new }
 {
     match e {
         None => before,
-        Some(there) => then_ask(file, parts, fr, before, there, k),
+        Some(there) => then_ask(file, cells, slots, fr, before, there, k),
     }
 }
 

@@ -15,7 +15,6 @@ use crate::ask::{answer, then_maybe};
 use access::file::File;
 use access::kinded::Kinded;
 use memory::layout::{ASK, EXPRS, RESULT};
-use memory::parts::Parts;
 use memory::want::kid;
 use module::handles::ExpressionHandle;
 use part::store::EMPTY_PIECE;
@@ -25,21 +24,22 @@ use state::frame::Frame;
 // The record of a result, which may be absent.
 pub fn record_of(
     file: &File,
-    parts: &Parts,
+    cells: &[u32],
+    slots: &[u32],
     fr: Frame,
     res: Option<ExpressionHandle>,
 ) -> Option<u32>
-    requires { Loading file.now.bytes file.now.t parts.now.cells parts.now.slots fr (handle_in res) }
-    ensures { Got parts.now.cells (record_of (records_in file.now.t exprs_slot fr.function.0 (read parts.now.cells parts.now.slots)) (handle_in res)) result }
+    requires { Loading file.now.bytes file.now.t cells.now slots.now fr (handle_in res) }
+    ensures { Got cells.now (record_of (records_in file.now.t exprs_slot fr.function.0 (read cells.now slots.now)) (handle_in res)) result }
 {
     let e = res?;
     let f = fr.function;
     let number = file.expression_number(f, e);
-    let n = parts.slots[EXPRS + number];
+    let n = slots[EXPRS + number];
     if n <= EMPTY_PIECE {
         return None;
     }
-    Some(kid(&parts.cells, n))
+    Some(kid(cells, n))
 }
 
 // What was found is put into the slot k. The expression e, where it is to be asked.
@@ -56,20 +56,27 @@ fn put_aside(
     e
 }
 
-pub fn add_atomic(file: &File, parts: &mut Parts, fr: Frame, row: Kinded, tally: Tally) -> Answered
-    requires arm { Arm file.now.bytes file.now.t parts.old.cells parts.old.slots fr row tally.sum }
+pub fn add_atomic(
+    file: &File,
+    cells: &mut [u32],
+    slots: &mut [u32],
+    fr: Frame,
+    row: Kinded,
+    tally: Tally,
+) -> Answered
+    requires arm { Arm file.now.bytes file.now.t cells.old slots.old fr row tally.sum }
     requires kind_value { row.kind ≡ 13 }
-    ensures { Leaves file.now.bytes file.now.t parts.old.cells parts.old.slots fr (statement_of row.kind (operand_at file.now.bytes row)) tally.visits result parts.new.cells parts.new.slots }
+    ensures { Leaves file.now.bytes file.now.t cells.old slots.old fr (statement_of row.kind (operand_at file.now.bytes row)) tally.visits result cells.new slots.new }
 {
     let pointer = file.expression_operand(row, 0);
     let value = file.expression_operand(row, 1);
     let result = file.optional_expression(row, 2);
-    let aim = target_of(file, &mut parts.cells, &parts.slots, fr, pointer)?;
-    let load = record_of(file, parts, fr, result);
-    let first = put_aside(&mut parts.slots, RESULT, load, result);
-    let second = put_aside(&mut parts.slots, ASK, aim.needed, Some(value));
+    let aim = target_of(file, cells, slots, fr, pointer)?;
+    let load = record_of(file, cells, slots, fr, result);
+    let first = put_aside(slots, RESULT, load, result);
+    let second = put_aside(slots, ASK, aim.needed, Some(value));
     let required = load.is_some() || aim.needed.is_some();
-    let a = then_maybe(file, parts, fr, Ok(tally), first, RESULT);
-    let b = then_maybe(file, parts, fr, a, second, ASK);
+    let a = then_maybe(file, cells, slots, fr, Ok(tally), first, RESULT);
+    let b = then_maybe(file, cells, slots, fr, a, second, ASK);
     answer(b, required)
 }

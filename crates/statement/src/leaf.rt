@@ -20,38 +20,39 @@ use type_table::typed::TypedFile;
 
 // `add_statement`, of a leaf. A break and a continue leave the block, as does a kind past the last: it is a break's.
 // It is not inlined: the walk calls itself, and would hold its frame on every level of blocks.
-// Stays: (fr, row) with `Arm`, here and in the four arms below. `Arm` says what the parts hold, which an arm writes: a struct with that fact would hold the
-// `&mut Parts`, and its fact would be gone at the first write. What (fr, row) have alone is one of its two fields, `is`.
+// Stays: (fr, row) with `Arm`, here and in the four arms below. `Arm` says what the slots hold, which an arm writes: a struct with that fact would hold the
+// cells and slots, and its fact would be gone at the first write. What (fr, row) have alone is one of its two fields, `is`.
 #[inline(never)]
 pub fn add_leaf(
     typed: &TypedFile,
-    parts: &mut Parts,
+    cells: &mut [u32],
+    slots: &mut [u32],
     fr: Frame,
     row: Kinded,
     tally: Tally,
 ) -> Answered
-    requires arm { Arm typed.now.file.now.bytes typed.now.file.now.t parts.old.cells parts.old.slots fr row tally.sum }
+    requires arm { Arm typed.now.file.now.bytes typed.now.file.now.t cells.old slots.old fr row tally.sum }
     requires leaf_kind { LeafKind row.kind }
-    ensures { Leaves typed.now.file.now.bytes typed.now.file.now.t parts.old.cells parts.old.slots fr (statement_of row.kind (operand_at typed.now.file.now.bytes row)) tally.visits result parts.new.cells parts.new.slots }
+    ensures { Leaves typed.now.file.now.bytes typed.now.file.now.t cells.old slots.old fr (statement_of row.kind (operand_at typed.now.file.now.bytes row)) tally.visits result cells.new slots.new }
 {
     match StatementKind::try_from(row.kind) {
-        Ok(StatementKind::Return) => add_return(typed.file, parts, fr, row, tally),
+        Ok(StatementKind::Return) => add_return(typed.file, cells, slots, fr, row, tally),
         Ok(StatementKind::Kill) => answer(Ok(tally), true),
         Ok(StatementKind::ControlBarrier | StatementKind::MemoryBarrier) => {
             answer(Ok(tally), false)
         }
         Ok(StatementKind::ImageAtomic) => Err(fr.halt(Refusal::Panic)),
         Ok(StatementKind::Store | StatementKind::ImageStore) => {
-            add_store(typed, parts, fr, row, tally)
+            add_store(typed, cells, slots, fr, row, tally)
         }
-        Ok(StatementKind::Atomic) => add_atomic(typed.file, parts, fr, row, tally),
+        Ok(StatementKind::Atomic) => add_atomic(typed.file, cells, slots, fr, row, tally),
         Ok(
             StatementKind::RayQuery
             | StatementKind::WorkGroupUniformLoad
             | StatementKind::SubgroupBallot
             | StatementKind::SubgroupGather
             | StatementKind::SubgroupCollectiveOperation,
-        ) => add_ray(typed.file, parts, fr, row, tally),
-        _ => leave(&mut parts.slots, fr, tally),
+        ) => add_ray(typed.file, cells, slots, fr, row, tally),
+        _ => leave(slots, fr, tally),
     }
 }

@@ -11,7 +11,6 @@ use crate::ask::{answer, then_maybe};
 use access::file::File;
 use access::kinded::Kinded;
 use memory::layout::ALL;
-use memory::parts::Parts;
 use module::handles::ExpressionHandle;
 use module::kinds::StatementKind;
 use state::answer::{Answered, Tally};
@@ -73,18 +72,25 @@ fn ray_fields(file: &File, row: Kinded) -> Ray
     }
 }
 
-pub fn add_ray(file: &File, parts: &mut Parts, fr: Frame, row: Kinded, tally: Tally) -> Answered
-    requires arm { Arm file.now.bytes file.now.t parts.old.cells parts.old.slots fr row tally.sum }
+pub fn add_ray(
+    file: &File,
+    cells: &mut [u32],
+    slots: &mut [u32],
+    fr: Frame,
+    row: Kinded,
+    tally: Tally,
+) -> Answered
+    requires arm { Arm file.now.bytes file.now.t cells.old slots.old fr row tally.sum }
     requires ray_kind { RayKind row.kind }
-    ensures { Leaves file.now.bytes file.now.t parts.old.cells parts.old.slots fr (statement_of row.kind (operand_at file.now.bytes row)) tally.visits result parts.new.cells parts.new.slots }
+    ensures { Leaves file.now.bytes file.now.t cells.old slots.old fr (statement_of row.kind (operand_at file.now.bytes row)) tally.visits result cells.new slots.new }
 {
     let x = ray_fields(file, row);
-    let aim = target_of(file, &mut parts.cells, &parts.slots, fr, x.target)?;
+    let aim = target_of(file, cells, slots, fr, x.target)?;
     match aim.needed {
         None => answer(Ok(tally), false),
         Some(p) => {
-            let a = then_maybe(file, parts, fr, Ok(tally), x.first, ALL);
-            let b = then_maybe(file, parts, fr, a, x.second, ALL);
+            let a = then_maybe(file, cells, slots, fr, Ok(tally), x.first, ALL);
+            let b = then_maybe(file, cells, slots, fr, a, x.second, ALL);
             answer(b, true)
         }
     }

@@ -9,23 +9,29 @@ use crate::leave::leave;
 use access::file::File;
 use access::kinded::Kinded;
 use memory::layout::ASK;
-use memory::parts::Parts;
 use part::limits::SPINE;
 use part::req::get;
 use state::answer::{Answered, Tally};
 use state::frame::Frame;
 
 // A return leaves the block; where its value is asked for, that is asked in its turn.
-pub fn add_return(file: &File, parts: &mut Parts, fr: Frame, row: Kinded, tally: Tally) -> Answered
-    requires arm { Arm file.now.bytes file.now.t parts.old.cells parts.old.slots fr row tally.sum }
+pub fn add_return(
+    file: &File,
+    cells: &mut [u32],
+    slots: &mut [u32],
+    fr: Frame,
+    row: Kinded,
+    tally: Tally,
+) -> Answered
+    requires arm { Arm file.now.bytes file.now.t cells.old slots.old fr row tally.sum }
     requires kind_value { row.kind ≡ 7 }
-    ensures { Leaves file.now.bytes file.now.t parts.old.cells parts.old.slots fr (statement_of row.kind (operand_at file.now.bytes row)) tally.visits result parts.new.cells parts.new.slots }
+    ensures { Leaves file.now.bytes file.now.t cells.old slots.old fr (statement_of row.kind (operand_at file.now.bytes row)) tally.visits result cells.new slots.new }
 {
-    let needed = get(&parts.cells, parts.slots[fr.at + 3], SPINE);
+    let needed = get(cells, slots[fr.at + 3], SPINE);
     let (Some(value), Some(p)) = (file.optional_expression(row, 0), needed) else {
-        return leave(&mut parts.slots, fr, tally);
+        return leave(slots, fr, tally);
     };
-    parts.slots[ASK] = p;
-    let r = then_ask(file, parts, fr, Ok(tally), value, ASK);
+    slots[ASK] = p;
+    let r = then_ask(file, cells, slots, fr, Ok(tally), value, ASK);
     answer(r, true)
 }

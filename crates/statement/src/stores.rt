@@ -10,7 +10,6 @@ use crate::store::store;
 use access::file::File;
 use access::kinded::Kinded;
 use memory::layout::{ALL, ASK, EXIST};
-use memory::parts::Parts;
 use module::handles::ExpressionHandle;
 use module::kinds::StatementKind;
 use state::answer::{Answer, Answered, Tally, Walked};
@@ -48,37 +47,45 @@ fn store_fields(file: &File, row: Kinded) -> Fields
 }
 
 // What a store asks once its target is taken out.
-fn ask_fields(file: &File, parts: &mut Parts, fr: Frame, x: Fields, tally: Tally) -> Walked
-    requires { Fielding file.now.bytes file.now.t parts.old.cells parts.old.slots fr (fields_of x) tally.sum }
-    ensures { Fielded file.now.bytes file.now.t parts.old.cells parts.old.slots fr (fields_of x) tally.visits result parts.new.cells parts.new.slots }
+fn ask_fields(
+    file: &File,
+    cells: &mut [u32],
+    slots: &mut [u32],
+    fr: Frame,
+    x: Fields,
+    tally: Tally,
+) -> Walked
+    requires { Fielding file.now.bytes file.now.t cells.old slots.old fr (fields_of x) tally.sum }
+    ensures { Fielded file.now.bytes file.now.t cells.old slots.old fr (fields_of x) tally.visits result cells.new slots.new }
 {
-    let a = then_ask(file, parts, fr, Ok(tally), x.pointer, EXIST);
-    let b = then_maybe(file, parts, fr, a, x.coordinate, ALL);
-    let c = then_maybe(file, parts, fr, b, x.index, EXIST);
-    then_ask(file, parts, fr, c, x.value, ASK)
+    let a = then_ask(file, cells, slots, fr, Ok(tally), x.pointer, EXIST);
+    let b = then_maybe(file, cells, slots, fr, a, x.coordinate, ALL);
+    let c = then_maybe(file, cells, slots, fr, b, x.index, EXIST);
+    then_ask(file, cells, slots, fr, c, x.value, ASK)
 }
 
 // A store of which nothing is needed is not required.
 pub fn add_store(
     typed: &TypedFile,
-    parts: &mut Parts,
+    cells: &mut [u32],
+    slots: &mut [u32],
     fr: Frame,
     row: Kinded,
     tally: Tally,
 ) -> Answered
-    requires arm { Arm typed.now.file.now.bytes typed.now.file.now.t parts.old.cells parts.old.slots fr row tally.sum }
+    requires arm { Arm typed.now.file.now.bytes typed.now.file.now.t cells.old slots.old fr row tally.sum }
     requires store_kind { StoreKind row.kind }
-    ensures { Leaves typed.now.file.now.bytes typed.now.file.now.t parts.old.cells parts.old.slots fr (statement_of row.kind (operand_at typed.now.file.now.bytes row)) tally.visits result parts.new.cells parts.new.slots }
+    ensures { Leaves typed.now.file.now.bytes typed.now.file.now.t cells.old slots.old fr (statement_of row.kind (operand_at typed.now.file.now.bytes row)) tally.visits result cells.new slots.new }
 {
     let file = typed.file;
     let x = store_fields(file, row);
-    let needed = store(typed, parts, fr, x.pointer)?;
+    let needed = store(typed, cells, slots, fr, x.pointer)?;
     if !needed {
         return Ok(Answer {
             tally,
             required: false,
         });
     }
-    let r = ask_fields(file, parts, fr, x, tally);
+    let r = ask_fields(file, cells, slots, fr, x, tally);
     answer(r, true)
 }

@@ -3,7 +3,7 @@ ghost use Rattle.std.specs.Prelude.{length};
 ghost use Rattle.boundary.specs.Answers.{Answers, add_answer};
 
 use boundary::add::{ADD_WORDS, add_in};
-use boundary::answer::word_of;
+use boundary::answer::{Numbered, word_of};
 use boundary::room::FileRoom;
 use context::remove::TYPE_WORDS;
 use field::limits::MAX_TYPES;
@@ -32,5 +32,6 @@ pub extern "C" fn tickingtor_add_binding(
         seen: &mut seen,
         held: &mut held,
     };
-    word_of(add_in(bytes, room, &mut cells, &mut parts, request, b, out))
+    let told = add_in(bytes, room, &mut cells, &mut parts, request, b, out);
+    word_of(told.map_err(Numbered::from))
 }

@@ -3,7 +3,7 @@ ghost use Rattle.std.specs.Prelude.{length};
 ghost use Rattle.boundary.specs.Answers.{Answers, input_answer};
 
 use access::whole::Bound;
-use boundary::answer::word_of;
+use boundary::answer::{Numbered, word_of};
 use boundary::input::input_in;
 use boundary::room::FileRoom;
 use context::remove::TYPE_WORDS;
@@ -40,5 +40,6 @@ pub extern "C" fn tickingtor_input_to_bindings(
         seen: &mut seen,
         held: &mut held,
     };
-    word_of(input_in(bytes, room, &mut sets, &mut args, function, context, out))
+    let told = input_in(bytes, room, &mut sets, &mut args, function, context, out);
+    word_of(told.map_err(Numbered::from))
 }

@@ -2,7 +2,7 @@
 ghost use Rattle.std.specs.Prelude.{length};
 ghost use Rattle.boundary.specs.Answers.{Answers, output_answer};
 
-use boundary::answer::word_of;
+use boundary::answer::{Numbered, word_of};
 use boundary::output::{OUTPUT_WORDS, output_in};
 use boundary::room::FileRoom;
 use context::remove::TYPE_WORDS;
@@ -35,5 +35,6 @@ pub extern "C" fn tickingtor_output_from_bindings(
         seen: &mut seen,
         held: &mut held,
     };
-    word_of(output_in(bytes, room, &mut cells, &mut parts, function, list, out))
+    let told = output_in(bytes, room, &mut cells, &mut parts, function, list, out);
+    word_of(told.map_err(Numbered::from))
 }

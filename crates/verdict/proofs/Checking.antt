@@ -1,5 +1,5 @@
 -- The answer of a check, put together: 21, what is not judged, or that of the rounds; and what the rounds are given.
-use Prim.Native.Nat.{ℕ, ◌+◌, ◌-◌, ◌*◌, suc, ◌≤◌}
+use Prim.Native.Nat.{ℕ, ◌-◌, ◌*◌, suc, ◌≤◌}
 use native.Mathlib.Omega.{arith}
 use mathlib.Core.Path.{◌≡◌, refl, sym, ap, ◌∙◌}
 use mathlib.Core.Bool.{Bool, true, false, not, ◌&&◌}
@@ -9,7 +9,7 @@ use lib.ListN.{length, take}
 use Rattle.std.specs.Prelude.{Option as Maybe, Some, None, Result, Ok, Err, is_ok}
 use Rattle.std.specs.declared.ops.Range.{Range}
 use Rattle.std.proofs.lemmas.List.{length-take-le}
-use Rattle.field.specs.Limits.{max_types, max_expressions, max_statements}
+use Rattle.field.specs.Limits.{max_types, max_expressions}
 use Rattle.field.specs.Refusal.{number}
 use Rattle.field.specs.declared.refusal.Refusal.{Refusal}
 use Rattle.part.proofs.Equations.{never}
@@ -35,21 +35,18 @@ use Rattle.pass.specs.Checked.{judge_by, checked}
 use Rattle.judge.specs.Given.{scope_at}
 use Rattle.judge.proofs.PathSteps.{function_valid, few}
 use Rattle.framed.proofs.Given.{read_function, judged_function, statements-fit}
-use Rattle.memory.specs.Layout.{store_size, slot_count}
 use Rattle.marks.specs.Places.{slice}
 use Rattle.access.specs.Laid.{WasRead}
-use Rattle.standing.specs.Slots.{stack_slot}
 use Rattle.standing.specs.World.{World}
 use Rattle.checking.specs.Check.{scope_of, value_of, cut_short, on_buffer, meaning_by, answer_to}
 use Rattle.checking.specs.Word.{said}
 use Rattle.checking.specs.declared.words.Verdict.{Verdict}
 use Rattle.checking.specs.Stretch.{Firsts, marks_in, MarksFound}
 use Rattle.rounds.specs.Settling.{asked_by, reported, Settling, Settled}
-use Rattle.verdict.specs.Heard.{Store, asks_by, Stored, Hears}
+use Rattle.verdict.specs.Heard.{asks_by, Accepted, Hears}
 use Rattle.verdict.specs.declared.heard.Heard.{Heard}
-use Rattle.verdict.specs.declared.scratch.Scratch.{Scratch}
-use Rattle.verdict.specs.Tables.{Sized, Tables, unjudged, Judges}
-use Rattle.verdict.specs.Checks.{Asked, MarksChecked, ReportChecked}
+use Rattle.verdict.specs.Tables.{Tables, unjudged, Judges}
+use Rattle.verdict.specs.Checks.{Working, Asked, Marked, MarksChecked, ReportChecked}
 
 -- What is not judged, and what is
 
@@ -64,16 +61,6 @@ unfolding unjudged
 none_left (some e) p h = never cc
 none_left nothing (some n) h = never cc
 none_left nothing nothing h = (refl, refl)
-
--- the tables have as many words as are filled
-pub record Marked (bytes t : List ℕ) (f : ℕ) (types alike : List ℕ) (held paths : List Bool) (firsts s rs path : List ℕ) (g v : ℕ) : Type 0 where
-  pub was_read : WasRead bytes t
-  pub sized : Sized bytes t f types alike held paths
-  pub firsts_long : max_statements ≤ length firsts
-  pub store : Store s
-  pub slots_long : stack_slot + 1 + (3 * max_items + 12) ≤ length rs
-  pub path_long : max_expressions + 2 ≤ length path
-  pub stored : Stored (module_of bytes t) s f g v
 
 module _ {bytes t : List ℕ} {f : ℕ} {types alike : List ℕ} {held paths : List Bool} {firsts s rs path : List ℕ} {g v : ℕ} (M : Marked bytes t f types alike held paths firsts s rs path g v) where
   abbrev m : Module
@@ -147,7 +134,7 @@ module _ (S : Scope) (R : Request) (P : Report) where
   unfolding checked
   checked-shaped h = rw (h, checked)
 
-module _ {bytes t : List ℕ} {f : ℕ} {s : List ℕ} {g v : ℕ} (A : Asked bytes t f s g v) where
+module _ {bytes t : List ℕ} {f : ℕ} {rows alike : List ℕ} {held paths : List Bool} {firsts s rs path : List ℕ} {g v : ℕ} (A : Asked bytes t f rows alike held paths firsts s rs path g v) where
   same_scope : scope_of (module_of bytes t) f ≡ scope_at bytes t f
   unfolding function_at
   same_scope = rw (function_is bytes t f _ A.stored.there)
@@ -159,21 +146,20 @@ module _ {bytes t : List ℕ} {f : ℕ} {s : List ℕ} {g v : ℕ} (A : Asked by
   few_expressions h = omega (arith, few bytes t f A.was_read.module_is A.stored.there)
 
   -- the tables are cut to what is filled
-  pub cut : {n e : ℕ} → n ≡ length (module_of bytes t).types → e ≡ length (function_of bytes t f).expressions → (m : Scratch) {rs : List ℕ} → length s ≡ store_size → length rs ≡ slot_count →
-      type_words * max_types ≤ length m.rows → max_types ≤ length m.alike → max_types ≤ length m.held → max_expressions ≤ length m.paths → max_statements ≤ length m.firsts → max_expressions + 2 ≤ length m.path →
-      Marked bytes t f (take (type_words * n) m.rows) (take n m.alike) (take n m.held) (take e m.paths) m.firsts s rs m.path g v
-  cut {n} {e} p q m l k a b c d x y = record {
+  pub cut : {n e : ℕ} → n ≡ length (module_of bytes t).types → e ≡ length (function_of bytes t f).expressions →
+      Marked bytes t f (take (type_words * n) rows) (take n alike) (take n held) (take e paths) firsts s rs path g v
+  cut {n} {e} p q = record {
     was_read = A.was_read;
     sized = record {
-      types_long = omega (arith, length-take-le (type_words * n) m.rows (omega (arith, few_types p, a)), p);
-      alike_long = omega (arith, length-take-le n m.alike (omega (arith, few_types p, b)), p);
-      held_long = omega (arith, length-take-le n m.held (omega (arith, few_types p, c)), p);
-      paths_long = omega (arith, length-take-le e m.paths (omega (arith, few_expressions q, d)), q);
+      types_long = omega (arith, length-take-le (type_words * n) rows (omega (arith, few_types p, A.working.rows_long)), p);
+      alike_long = omega (arith, length-take-le n alike (omega (arith, few_types p, A.working.alike_long)), p);
+      held_long = omega (arith, length-take-le n held (omega (arith, few_types p, A.working.held_long)), p);
+      paths_long = omega (arith, length-take-le e paths (omega (arith, few_expressions q, A.working.paths_long)), q);
     };
-    firsts_long = x;
-    store = record { long = omega (arith, l); fits = omega (arith, l) };
-    slots_long = omega (arith, k);
-    path_long = y;
+    firsts_long = A.working.firsts_long;
+    store = A.working.store;
+    slots_long = A.working.slots_long;
+    path_long = A.working.path_long;
     stored = A.stored;
   }
 
@@ -208,3 +194,23 @@ module _ {m : Module} {request context u : List ℕ} {a : Result Heard Refusal} 
   pub read_refused : {e : Refusal} → a ≡ Err e → refused (number e) ≡ answer_to (meaning_by m report (request_of request) (context_of context))
   unfolding answer_to
   read_refused e = rw ((rw e at H.by) report)
+
+  heard_is : {h : Heard} → a ≡ Ok h → Accepted m request context u h.function.0 h.asked.globals h.asked.value
+  heard_is e = rw e at H.by
+
+  pub read_asks : {bytes t : List ℕ} {h : Heard} {rows alike : List ℕ} {held paths : List Bool} {firsts s rs path : List ℕ} → WasRead bytes t → Working rows alike held paths firsts s rs path → module_of bytes t ≡ m → length u ≡ length s →
+      a ≡ Ok h → Asked bytes t h.function.0 rows alike held paths firsts u rs path h.asked.globals h.asked.value
+  read_asks W K same e o = record {
+    was_read = W;
+    working = record {
+      rows_long = K.rows_long;
+      alike_long = K.alike_long;
+      held_long = K.held_long;
+      paths_long = K.paths_long;
+      firsts_long = K.firsts_long;
+      store = record { long = rw e K.store.long; fits = rw e K.store.fits };
+      slots_long = K.slots_long;
+      path_long = K.path_long;
+    };
+    stored = rw same (heard_is o).stored;
+  }

@@ -37,5 +37,18 @@ pub fn check_in(
         firsts: [0; MAX_STATEMENTS],
         path: [0; PATH],
     };
-    check_read(file, parts, &mut scratch, request, report, context)
+    check_read(
+        file,
+        &mut scratch.rows,
+        &mut scratch.alike,
+        &mut scratch.held,
+        &mut scratch.paths,
+        &mut scratch.firsts,
+        &mut parts.cells,
+        &mut parts.slots,
+        &mut scratch.path,
+        request,
+        report,
+        context,
+    )
 }

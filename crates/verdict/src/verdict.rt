@@ -6,11 +6,10 @@ ghost use Rattle.request.specs.Context.{context_of};
 ghost use Rattle.checking.specs.Check.{meaning_by, answer_to};
 ghost use Rattle.checking.specs.Word.{said};
 ghost use Rattle.access.specs.Laid.{WasRead};
-ghost use Rattle.verdict.specs.Checks.{Asked, MarksChecked, ReportChecked};
+ghost use Rattle.verdict.specs.Checks.{Working, Asked, Marked, MarksChecked, ReportChecked};
 
 use crate::heard::{Heard, hear};
 use crate::judged::unjudged;
-use crate::scratch::Scratch;
 use crate::tables::fill_tables;
 use access::file::File;
 use backward::marked::MarkedSubject;
@@ -20,35 +19,27 @@ use checking::words::Verdict;
 use context::remove::TYPE_WORDS;
 use field::refusal::Refusal;
 use judge::subject::Subject;
-use memory::parts::Parts;
 use rounds::settle::settle;
 
 // Marks that have the function's shape: whether it is judged, and then the rounds.
 fn check_marks(
     file: &File,
     heard: Heard,
-    parts: &mut Parts,
-    scratch: &mut Scratch,
+    types: &mut [u32],
+    alike: &mut [u32],
+    held: &mut [bool],
+    paths: &mut [bool],
+    firsts: &mut [u32],
+    cells: &mut [u32],
+    slots: &mut [u32],
+    path: &mut [u32],
     marks: &[u8],
     context: &[u8],
 ) -> Verdict
-    requires { Asked file.now.bytes file.now.t heard.function.0 parts.old.cells heard.asked.globals heard.asked.value }
-    ensures { MarksChecked file.now.bytes file.now.t heard.function.0 parts.old.cells heard.asked.globals heard.asked.value marks.now context.now (said result) }
+    requires { Marked file.now.bytes file.now.t heard.function.0 types.old alike.old held.old paths.old firsts.old cells.old slots.old path.old heard.asked.globals heard.asked.value }
+    ensures { MarksChecked file.now.bytes file.now.t heard.function.0 cells.old heard.asked.globals heard.asked.value marks.now context.now (said result) }
 {
     let f = heard.function;
-    let n = file.types() as usize;
-    let e = file.expressions(f) as usize;
-    // each table as long as what it is filled for
-    let rows = &mut scratch.rows[..];
-    let types = &mut rows[..TYPE_WORDS * n];
-    let alike = &mut scratch.alike[..];
-    let alike = &mut alike[..n];
-    let held = &mut scratch.held[..];
-    let held = &mut held[..n];
-    let paths = &mut scratch.paths[..];
-    let paths = &mut paths[..e];
-    let firsts = &mut scratch.firsts;
-    let path = &mut scratch.path;
     fill_tables(file, f, types, alike, held, paths);
     let subject = Subject {
         file,
@@ -66,41 +57,71 @@ fn check_marks(
         marks,
         firsts,
     };
-    settle(&marked, parts, path, heard.asked, context)
+    settle(&marked, cells, slots, path, heard.asked, context)
 }
 
 // The marks of f in the report buffer.
 fn check_report(
     file: &File,
     heard: Heard,
-    parts: &mut Parts,
-    scratch: &mut Scratch,
+    rows: &mut [u32],
+    alike: &mut [u32],
+    held: &mut [bool],
+    paths: &mut [bool],
+    firsts: &mut [u32],
+    cells: &mut [u32],
+    slots: &mut [u32],
+    path: &mut [u32],
     report: &[u8],
     context: &[u8],
 ) -> Verdict
-    requires { Asked file.now.bytes file.now.t heard.function.0 parts.old.cells heard.asked.globals heard.asked.value }
-    ensures { ReportChecked (module_of file.now.bytes file.now.t) parts.old.cells heard.function.0 heard.asked.globals heard.asked.value report.now context.now (said result) }
+    requires { Asked file.now.bytes file.now.t heard.function.0 rows.old alike.old held.old paths.old firsts.old cells.old slots.old path.old heard.asked.globals heard.asked.value }
+    ensures { ReportChecked (module_of file.now.bytes file.now.t) cells.old heard.function.0 heard.asked.globals heard.asked.value report.now context.now (said result) }
 {
     let Ok(place) = marks_shape(file, heard.function, report) else {
         return Verdict::Refused(Refusal::MarksUnfit);
     };
-    check_marks(file, heard, parts, scratch, &report[place], context)
+    let n = file.types() as usize;
+    let e = file.expressions(heard.function) as usize;
+    // each table as long as what it is filled for
+    check_marks(
+        file,
+        heard,
+        &mut rows[..TYPE_WORDS * n],
+        &mut alike[..n],
+        &mut held[..n],
+        &mut paths[..e],
+        firsts,
+        cells,
+        slots,
+        path,
+        &report[place],
+        context,
+    )
 }
 
-// Nothing is written but the parts and the scratch, of whatever contents.
+// Nothing is written but the working arrays, of whatever contents.
 pub fn check_read(
     file: &File,
-    parts: &mut Parts,
-    scratch: &mut Scratch,
+    rows: &mut [u32],
+    alike: &mut [u32],
+    held: &mut [bool],
+    paths: &mut [bool],
+    firsts: &mut [u32],
+    cells: &mut [u32],
+    slots: &mut [u32],
+    path: &mut [u32],
     request: &[u8],
     report: &[u8],
     context: &[u8],
 ) -> Verdict
-    requires { WasRead file.now.bytes file.now.t }
+    requires { WasRead file.now.bytes file.now.t × Working rows.old alike.old held.old paths.old firsts.old cells.old slots.old path.old }
     ensures { said result ≡ answer_to (meaning_by (module_of file.now.bytes file.now.t) report.now (request_of request.now) (context_of context.now)) }
 {
-    match hear(file, &mut parts.cells, request, context) {
+    match hear(file, cells, request, context) {
         Err(refusal) => Verdict::Refused(refusal),
-        Ok(heard) => check_report(file, heard, parts, scratch, report, context),
+        Ok(heard) => check_report(
+            file, heard, rows, alike, held, paths, firsts, cells, slots, path, report, context,
+        ),
     }
 }

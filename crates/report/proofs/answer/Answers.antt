@@ -9,5 +9,5 @@ print-requires g c =
     elim c.match-read.branch [
       | in-Err w ↦ rw w.outcome-is (input-refused c.args.input.now (rw (c.front-bytes.ensures, w.in-Err.is) at c.read_file-read.ensures))
       | in-Ok w ↦
-          rw (w.outcome-is, w.places-is, w.space-is) (input-walked c.args.input.now (c.new-file.ensures.bytes ∙ c.front-bytes.ensures) w.behind.ensures (rw (c.new-file.ensures.bytes, c.new-file.ensures.tables) (was_read (rw w.in-Ok.is at c.read_file-read.ensures) refl)) w.walk_read-outcome.ensures)
+          rw (w.outcome-is, w.places-is, w.space-is) (input-walked c.args.input.now (c.new-file.ensures.bytes ∙ c.front-bytes.ensures) w.behind.ensures (rw (c.new-file.ensures.bytes, c.new-file.ensures.tables) (was_read (rw w.in-Ok.is at c.read_file-read.ensures) refl)) w.walk_read-outcome.ensures.text)
     ]

@@ -7,4 +7,4 @@ use Rattle.acts.proofs.Emitting.{Emitted}
 use Rattle.acts.proofs.emits.pass_emits.Given as goal
 
 abbrev pub invariant-loop-k : goal.invariant-loop-k
-invariant-loop-k l = Emitted (scope_at l.subject.file.now.bytes l.subject.file.now.t l.subject.f.0) l.marks l.l l.first.0 l.count l.k l.initial.parts.cells l.initial.parts.slots l.n (going l.initial.q) l.parts.cells l.parts.slots (going l.q) × (length l.path ≡ length l.initial.path)
+invariant-loop-k l = Emitted (scope_at l.subject.file.now.bytes l.subject.file.now.t l.subject.f.0) l.marks l.l l.first.0 l.count l.k l.initial.cells l.initial.slots l.n (going l.initial.q) l.cells l.slots (going l.q) × (length l.path ≡ length l.initial.path)

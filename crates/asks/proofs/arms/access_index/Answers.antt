@@ -12,7 +12,7 @@ returns-then-wrap_over c =
 
 pub wrap-want-requires : goal.wrap-want-requires
 wrap-want-requires c =
-    index_room c.args.parts.now.cells c.args.parts.now.slots c.requires.1 c.wrap_over.ensures (omega arith) c.if-wrap_over.false
+    index_room c.args.cells.now c.args.slots.now c.requires.1 c.wrap_over.ensures (omega arith) c.if-wrap_over.false
 
 pub returns : goal.returns
 returns c =

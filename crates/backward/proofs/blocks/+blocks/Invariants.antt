@@ -10,10 +10,10 @@ use Rattle.backward.proofs.Switches.{Union}
 use Rattle.backward.proofs.blocks.+blocks.Given as goal
 
 abbrev pub invariant-pass_block-loop-k : goal.invariant-pass_block-loop-k
-invariant-pass_block-loop-k l = Later l.marked.subject.now.file.now.bytes l.marked.subject.now.file.now.t l.marked.subject.now.f.0 l.b.0 l.marked.marks.now l.initial.parts.cells l.initial.parts.slots l.initial.path l.n l.x (going l.initial.q) l.first l.initial.k l.k l.parts.cells l.parts.slots l.path (going l.q)
+invariant-pass_block-loop-k l = Later l.marked.subject.now.file.now.bytes l.marked.subject.now.file.now.t l.marked.subject.now.f.0 l.b.0 l.marked.marks.now l.initial.cells l.initial.slots l.initial.path l.n l.x (going l.initial.q) l.first l.initial.k l.k l.cells l.slots l.path (going l.q)
 
 abbrev pub invariant-pass_cases-loop-i : goal.invariant-pass_cases-loop-i
-invariant-pass_cases-loop-i l = Union (scope_at l.statement.marked.now.subject.now.file.now.bytes l.statement.marked.now.subject.now.file.now.t l.statement.marked.now.subject.now.f.0) l.i (case_block (function_of l.statement.marked.now.subject.now.file.now.bytes l.statement.marked.now.subject.now.file.now.t l.statement.marked.now.subject.now.f.0) l.statement.marked.now.marks.now (operand_at l.statement.marked.now.subject.now.file.now.bytes l.statement.row)) l.initial.parts.cells l.initial.parts.slots l.n l.x (going l.initial.q) l.parts.cells l.parts.slots l.initial.path l.path (going l.q)
+invariant-pass_cases-loop-i l = Union (scope_at l.statement.marked.now.subject.now.file.now.bytes l.statement.marked.now.subject.now.file.now.t l.statement.marked.now.subject.now.f.0) l.i (case_block (function_of l.statement.marked.now.subject.now.file.now.bytes l.statement.marked.now.subject.now.file.now.t l.statement.marked.now.subject.now.f.0) l.statement.marked.now.marks.now (operand_at l.statement.marked.now.subject.now.file.now.bytes l.statement.row)) l.initial.cells l.initial.slots l.n l.x (going l.initial.q) l.cells l.slots l.initial.path l.path (going l.q)
 
 abbrev pub decreases-pass_around : goal.decreases-pass_around
 decreases-pass_around l = 8 * l.b.0 + 8

@@ -8,4 +8,4 @@ use Rattle.backward.proofs.slots.exchange.Goals as goal
 pub returns : goal.returns
 returns c =
     c.swap.ensures.after
-    ∙ sym (swap_is c.args.roots.now c.args.n (c.args.n - 1) 0 c.requires.1 (omega (arith, c.requires.0, c.requires.1)))
+    ∙ sym (swap_is c.args.slots.now c.args.n (c.args.n - 1) 0 c.requires.1 (omega (arith, c.requires.0, c.requires.1)))

@@ -72,4 +72,4 @@ loop-a-smaller t c =
 
 pub loop-a-preserved : goal.loop-a-preserved
 loop-a-preserved t c =
-    record { began = c.loop-a.invariant.began; left = left_next c.loop-a.invariant.began c.loop-a.invariant.left c.ask.ensures (rw c.in-Operand.is at c.in-Some.is) c.add_expression.ensures c.in_ok-tally-in-Operand.was }
+    record { began = c.loop-a.invariant.began; left = left_next c.loop-a.invariant.began c.loop-a.invariant.left c.ask.ensures (rw c.in-Operand.is at c.in-Some.is) c.add_expression.ensures c.in_ok-tally-in-Operand.was c.add_expression.auto.cells }

@@ -12,12 +12,12 @@ use Rattle.expression.proofs.add.+add_expression.Given as goal
 
 abbrev pub invariant-loop-a : goal.invariant-loop-a
 invariant-loop-a l = record {
-  began : Began l.file.bytes l.file.t l.v.function.0 l.v.expression.0 l.v.at l.v.held l.fn.parts.cells l.fn.parts.slots l.w l.fn.began.visits l.fn.began.sum l.initial.parts.cells l.initial.parts.slots;
-  left : Left l.file.bytes l.file.t l.v.function.0 l.v.expression.0 l.v.at l.v.held l.initial.parts.cells l.initial.parts.slots l.w l.initial.tally.visits l.j l.tally.visits l.tally.sum l.parts.cells l.parts.slots;
+  began : Began l.file.bytes l.file.t l.v.function.0 l.v.expression.0 l.v.at l.v.held l.fn.cells l.fn.slots l.w l.fn.began.visits l.fn.began.sum l.initial.cells l.initial.slots;
+  left : Left l.file.bytes l.file.t l.v.function.0 l.v.expression.0 l.v.at l.v.held l.initial.cells l.initial.slots l.w l.initial.tally.visits l.j l.tally.visits l.tally.sum l.cells l.slots;
 }
 
 abbrev pub decreases-loop-a : goal.decreases-loop-a
-decreases-loop-a l = length (arm_asks (expression_at (module_of l.file.bytes l.file.t) l.v.function.0 l.v.expression.0) (asked l.initial.parts.cells l.initial.parts.slots l.w)) - l.j
+decreases-loop-a l = length (arm_asks (expression_at (module_of l.file.bytes l.file.t) l.v.function.0 l.v.expression.0) (asked l.initial.cells l.initial.slots l.w)) - l.j
 
 abbrev pub decreases-add_expression : goal.decreases-add_expression
 decreases-add_expression l = l.v.now.expression.0

@@ -1,7 +1,7 @@
 -- The one proof of the walks of blocks, statements and functions: each need is answered by a law of crates block and arms. A number falls: that of the block among the blocks of its
 -- function, below the numbers of all higher functions.
 use Rattle.arms.proofs.AddIf.{if_asked, if_ends, if_few, if_halts, if_paired}
-use Rattle.arms.proofs.ByArm.{if_arm, leaf_ends, loop_arm, mark_ends, nested_arm, switch_arm}
+use Rattle.arms.proofs.ByArm.{if_arm, leaf_ends, loop_arm, mark_asks, mark_ends, nested_arm, switch_arm}
 use Rattle.arms.proofs.CallSteps.{call_begins, call_ended, call_high, call_leaves, call_own, call_returns, call_stops, call_sum, callee_below, function_enters}
 use Rattle.arms.proofs.Looping.{loop_dropped, loop_drops, loop_ends, loop_fits, loop_halts, loop_paired, loop_pass_halts, loop_passing, loop_turning}
 use Rattle.arms.proofs.SwitchCases.{began, body_lower, case-ends, case_enters, case_halts, case_limit, cases_begin, cases_next, copy_asks, held_fits, outside_few, switch_asks, switch_whole}
@@ -20,6 +20,12 @@ use native.Mathlib.Omega.{arith}
 use borrow.Author.Tests.{not-true, not-false}
 use Rattle.function.proofs.add.+walk.Goals as goal
 use Rattle.function.proofs.add.+walk.Goals.{add_holder-in-Ok-Block, add_holder-in-Ok-If, add_holder-in-Ok-Switch, add_holder-in_default}
+
+pub add_arm-returns-in-Ok-Emit : goal.add_arm-returns-in-Ok-Emit
+add_arm-returns-in-Ok-Emit t c = c.add_emit.ensures.by _ c.args.world.now.places.now.starts _ _ _ c.requires.begins.standing
+
+pub add_arm-mark_statement-requires : goal.add_arm-mark_statement-requires
+add_arm-mark_statement-requires t c = mark_asks c.requires _ (omega arith)
 
 pub add_arm-returns : goal.add_arm-returns
 add_arm-returns t c = mark_ends c.requires c.mark_statement.ensures (leaf_ends c.requires _ c.add_leaf-r.ensures)
@@ -85,7 +91,7 @@ add_call-leave_call-sum-requires t c =
 
 pub add_call-return_call-requires : goal.add_call-return_call-requires
 add_call-return_call-requires t c =
-    rw c.leave_call-sum.ensures.cells_same (call_returns c.requires.arms c.requires.kind_value c.function_operand-g.ensures c.begin_call-begun.ensures c.add_function.ensures c.in_ok-a.was c.leave_call-sum.ensures.left)
+    call_returns c.requires.arms c.requires.kind_value c.function_operand-g.ensures c.begin_call-begun.ensures c.add_function.ensures c.in_ok-a.was c.leave_call-sum.ensures
 
 pub add_call-returns-in_err-a : goal.add_call-returns-in_err-a
 add_call-returns-in_err-a t c =
@@ -94,7 +100,7 @@ add_call-returns-in_err-a t c =
 
 pub add_call-returns : goal.add_call-returns
 add_call-returns t c =
-    (call_ended c.requires.arms c.requires.kind_value c.function_operand-g.ensures c.begin_call-begun.ensures c.add_function.ensures c.in_ok-a.was c.leave_call-sum.ensures.left (rw c.leave_call-sum.ensures.cells_same at c.return_call.ensures))
+    call_ended c.requires.arms c.requires.kind_value c.function_operand-g.ensures c.begin_call-begun.ensures c.add_function.ensures c.in_ok-a.was c.leave_call-sum.ensures c.return_call.ensures
 
 pub add_function-overflow_add-at : goal.add_function-overflow_add-at
 add_function-overflow_add-at t c = omega (arith, c.requires.base_bound)
@@ -103,8 +109,8 @@ pub add_function-add_block-requires : goal.add_function-add_block-requires
 add_function-add_block-requires t c =
     (omega (arith, c.decreases, body_below c.requires.function_entered c.body_block-b.ensures), body_enters c.requires.function_entered c.body_block-b.ensures)
 
-pub add_function-add_total-requires : goal.add_function-add_total-requires
-add_function-add_total-requires t c =
+pub add_function-add_total-requires-clause-asked : goal.add_function-add_total-requires-clause-asked
+add_function-add_total-requires-clause-asked t c =
     body_asked c.requires.function_entered c.body_block-b.ensures c.args.here c.add_block.ensures c.in_ok-a.was
 
 pub add_function-returns-in_err-a : goal.add_function-returns-in_err-a
@@ -114,13 +120,15 @@ add_function-returns-in_err-a t c =
 
 pub add_function-returns-in_err-tally : goal.add_function-returns-in_err-tally
 add_function-returns-in_err-tally t c =
-    rw (passed c.from_residual-in_err-tally.ensures.1, c.add_total.ensures.open_same)
-    (function_halt_2 c.requires.function_entered c.body_block-b.ensures c.args.here c.add_block.ensures c.in_ok-a.was c.add_total.ensures.ends c.in_err-tally.was)
+    rw (passed c.from_residual-in_err-tally.ensures.1)
+    (function_halt_2 c.requires.function_entered c.body_block-b.ensures c.args.here c.add_block.ensures c.in_ok-a.was (c.add_total.ensures _) c.in_err-tally.was)
 
 pub add_function-returns : goal.add_function-returns
 add_function-returns t c =
-    rw c.add_total.ensures.open_same
-    (function_ends c.requires.function_entered c.body_block-b.ensures c.args.here c.add_block.ensures c.in_ok-a.was c.add_total.ensures.ends c.in_ok-tally.was)
+    function_ends c.requires.function_entered c.body_block-b.ensures c.args.here c.add_block.ensures c.in_ok-a.was (c.add_total.ensures _) c.in_ok-tally.was
+
+pub add_holder-mark_statement-requires : goal.add_holder-mark_statement-requires
+add_holder-mark_statement-requires t c = mark_asks c.requires.arms _ (omega arith)
 
 pub add_holder-returns : goal.add_holder-returns
 add_holder-returns t c =

@@ -2,8 +2,8 @@
 use Rattle.hold.proofs.Pushes.{fits_some, pushed_once, pushed_cleaned}
 use Rattle.hold.proofs.hold.push.Goals as goal
 
-pub returns-then-parts : goal.returns-then-parts
-returns-then-parts c = pushed_once c.requires.loose c.requires.n_in_bounds c.requires.p_bound c.if-parts.true
+pub returns-then-cells : goal.returns-then-cells
+returns-then-cells c = pushed_once c.requires.loose c.requires.n_in_bounds c.requires.p_bound c.if-cells.true
 
 pub returns : goal.returns
 returns c =

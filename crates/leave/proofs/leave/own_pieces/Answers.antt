@@ -8,4 +8,4 @@ weigh-requires c =
     record { memory = q9.0; n_in_bounds = q9.1 }
 
 pub returns : goal.returns
-returns c = own_is c.records_of-own.ensures c.args.parts.now.cells c.args.parts.now.slots _ c.weigh.ensures
+returns c = own_is c.records_of-own.ensures c.args.cells.now c.args.slots.now _ c.weigh.ensures

@@ -6,4 +6,4 @@ use Rattle.lines.proofs.Rows.{records_left}
 use Rattle.lines.proofs.records.write_records.Given as goal
 
 abbrev pub invariant-loop-k : goal.invariant-loop-k
-invariant-loop-k l = Along l.initial.text l.text (records_text 0 (records_of (read l.parts.cells l.parts.slots) l.base l.n)) (records_left l.parts.cells l.parts.slots l.base l.n l.k)
+invariant-loop-k l = Along l.initial.text l.text (records_text 0 (records_of (read l.cells l.slots) l.base l.n)) (records_left l.cells l.slots l.base l.n l.k)

@@ -7,10 +7,10 @@ pub returns-then-eq : goal.returns-then-eq
 returns-then-eq c =
     part_asked _ _ _ _ _ _ c.args.part.now _ c.requires.2 c.start-from.ensures (search rules) c.copy.ensures
 
-pub returns-then-not-totals-i : goal.returns-then-not-totals-i
-returns-then-not-totals-i c =
-    part_none _ _ _ _ _ _ c.args.part.now _ c.requires.2 c.start-from.ensures (search rules) c.if-not-totals-i.true c.clear.ensures
+pub returns-then-not-flags-i : goal.returns-then-not-flags-i
+returns-then-not-flags-i c =
+    part_none _ _ _ _ _ _ c.args.part.now _ c.requires.2 c.start-from.ensures (search rules) c.if-not-flags-i.true c.clear.ensures
 
 pub returns : goal.returns
 returns c =
-    part-total _ _ _ _ _ _ c.args.part.now _ c.requires.2 c.start-from.ensures (search rules) c.if-not-totals-i.false c.copy-2.ensures
+    part-total _ _ _ _ _ _ c.args.part.now _ c.requires.2 c.start-from.ensures (search rules) c.if-not-flags-i.false c.copy-2.ensures

@@ -8,7 +8,7 @@ returns-then-w-gt0 c =
 
 pub into-requires : goal.into-requires
 into-requires c =
-    child_low c.args.parts.now.cells c.args.parts.now.slots c.args.w c.requires.memory.1 c.args.k c.requires.k_value c.if-w-gt0.false
+    child_low c.args.cells.now c.args.slots.now c.args.w c.requires.memory.1 c.args.k c.requires.k_value c.if-w-gt0.false
 
 pub returns : goal.returns
 returns c =

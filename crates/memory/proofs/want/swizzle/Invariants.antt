@@ -6,7 +6,7 @@ use Rattle.memory.specs.Picks.{Picking-on}
 use Rattle.memory.proofs.want.swizzle.Given as goal
 
 abbrev pub invariant-loop-i : goal.invariant-loop-i
-invariant-loop-i l = Picking-on l.pattern (asked l.parts.cells l.parts.slots l.w) (swizzled l.pattern (asked l.parts.cells l.parts.slots l.w)) l.k l.digits
+invariant-loop-i l = Picking-on l.pattern (asked l.cells l.slots l.w) (swizzled l.pattern (asked l.cells l.slots l.w)) l.k l.digits
 
 abbrev pub decreases-loop-i : goal.decreases-loop-i
-decreases-loop-i l = entries (tail (asked l.parts.cells l.parts.slots l.w) l.k)
+decreases-loop-i l = entries (tail (asked l.cells l.slots l.w) l.k)

@@ -3,7 +3,7 @@ use Rattle.operands.proofs.Loads.{Left}
 use Rattle.operands.proofs.load.ask_indexes.Given as goal
 
 abbrev pub invariant-loop-base : goal.invariant-loop-base
-invariant-loop-base l = Left l.pointer l.h l.initial.parts.cells l.initial.parts.slots l.n l.parts.cells l.parts.slots
+invariant-loop-base l = Left l.pointer l.h l.initial.cells l.initial.slots l.n l.cells l.slots
 
 abbrev pub decreases-loop-base : goal.decreases-loop-base
 decreases-loop-base l = l.h.e.0

@@ -8,4 +8,4 @@ use Rattle.operands.specs.AsksAll.{wanted_in, AsksAll}
 use Rattle.operands.proofs.made.ask_components.Given as goal
 
 abbrev pub invariant-loop-k : goal.invariant-loop-k
-invariant-loop-k l = AsksAll (scope_under l.operands) (drop l.k (ask_components (components (operands_in l.operands)) 0 (wanted_in l.initial.parts.cells l.initial.parts.slots l.n))) l.initial.parts.cells l.initial.parts.slots l.n l.parts.cells l.parts.slots true
+invariant-loop-k l = AsksAll (scope_under l.operands) (drop l.k (ask_components (components (operands_in l.operands)) 0 (wanted_in l.initial.cells l.initial.slots l.n))) l.initial.cells l.initial.slots l.n l.cells l.slots true

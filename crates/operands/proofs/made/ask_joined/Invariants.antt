@@ -9,4 +9,4 @@ use Rattle.operands.specs.AsksAll.{AsksAll}
 use Rattle.operands.proofs.made.ask_joined.Given as goal
 
 abbrev pub invariant-loop-k : goal.invariant-loop-k
-invariant-loop-k l = AsksAll (scope_under l.operands) (drop l.k (map ask_whole (components (operands_in l.operands)))) l.initial.parts.cells l.initial.parts.slots l.n l.parts.cells l.parts.slots true
+invariant-loop-k l = AsksAll (scope_under l.operands) (drop l.k (map ask_whole (components (operands_in l.operands)))) l.initial.cells l.initial.slots l.n l.cells l.slots true

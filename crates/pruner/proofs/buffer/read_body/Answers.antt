@@ -11,7 +11,7 @@ read_map-requires c =
 
 pub returns-in_err-g : goal.returns-in_err-g
 returns-in_err-g c =
-    rw c.from_residual.ensures (body_no_globals c.args.file.now.bytes c.args.file.now.t c.requires.has_totals.0.was_read c.globals-n.ensures c.args.parts.now.slots c.args.pruner.now (rw (take_rest c.args.pruner.now 6) at c.read_map.ensures) c.in_err-g.was)
+    rw c.from_residual.ensures (body_no_globals c.args.file.now.bytes c.args.file.now.t c.requires.has_totals.0.was_read c.globals-n.ensures c.args.slots.now c.args.pruner.now (rw (take_rest c.args.pruner.now 6) at c.read_map.ensures) c.in_err-g.was)
 
 pub entries-count-requires : goal.entries-count-requires
 entries-count-requires c =
@@ -19,17 +19,17 @@ entries-count-requires c =
 
 pub returns-then-count-gt-MAX_PIECES : goal.returns-then-count-gt-MAX_PIECES
 returns-then-count-gt-MAX_PIECES c =
-    body_many_globals c.args.file.now.bytes c.args.file.now.t c.requires.has_totals.0.was_read c.globals-n.ensures c.args.parts.now.slots c.args.pruner.now (rw (take_rest c.args.pruner.now 6) at c.read_map.ensures) c.in_ok-g.was c.entries-count.ensures c.if-count-gt-MAX_PIECES.true
+    body_many_globals c.args.file.now.bytes c.args.file.now.t c.requires.has_totals.0.was_read c.globals-n.ensures c.args.slots.now c.args.pruner.now (rw (take_rest c.args.pruner.now 6) at c.read_map.ensures) c.in_ok-g.was c.entries-count.ensures c.if-count-gt-MAX_PIECES.true
 
 pub read_functions-requires : goal.read_functions-requires
 read_functions-requires c =
-    let r = body_room c.args.file.now.bytes c.args.file.now.t c.requires.has_totals.0.was_read c.globals-n.ensures c.args.parts.now.slots c.args.pruner.now (rw (take_rest c.args.pruner.now 6) at c.read_map.ensures) c.in_ok-g.was c.entries-count.ensures (omega (arith, c.if-count-gt-MAX_PIECES.false)) c.requires.has_totals.0.memory c.requires.in_bounds.1 in
-    record { has_totals = (body_has c.args.file.now.bytes c.args.file.now.t c.requires.has_totals.0.was_read c.globals-n.ensures c.args.parts.now.slots c.args.pruner.now (rw (take_rest c.args.pruner.now 6) at c.read_map.ensures) c.in_ok-g.was c.entries-count.ensures (omega (arith, c.if-count-gt-MAX_PIECES.false)) c.requires.has_totals.0.memory c.requires.has_totals.0, body_none c.args.file.now.bytes c.args.file.now.t c.requires.has_totals.0.was_read c.globals-n.ensures c.args.parts.now.slots c.args.pruner.now (rw (take_rest c.args.pruner.now 6) at c.read_map.ensures) c.in_ok-g.was c.entries-count.ensures (omega (arith, c.if-count-gt-MAX_PIECES.false)) c.requires.has_totals.0.memory c.requires.has_totals.1); room = (r, omega (arith, c.if-count-gt-MAX_PIECES.false)) }
+    let r = body_room c.args.file.now.bytes c.args.file.now.t c.requires.has_totals.0.was_read c.globals-n.ensures c.args.slots.now c.args.pruner.now (rw (take_rest c.args.pruner.now 6) at c.read_map.ensures) c.in_ok-g.was c.entries-count.ensures (omega (arith, c.if-count-gt-MAX_PIECES.false)) c.requires.has_totals.0.memory c.requires.in_bounds.1 in
+    record { has_totals = (body_has c.args.file.now.bytes c.args.file.now.t c.requires.has_totals.0.was_read c.globals-n.ensures c.args.slots.now c.args.pruner.now (rw (take_rest c.args.pruner.now 6) at c.read_map.ensures) c.in_ok-g.was c.entries-count.ensures (omega (arith, c.if-count-gt-MAX_PIECES.false)) c.requires.has_totals.0.memory c.requires.has_totals.0, body_none c.args.file.now.bytes c.args.file.now.t c.requires.has_totals.0.was_read c.globals-n.ensures c.args.slots.now c.args.pruner.now (rw (take_rest c.args.pruner.now 6) at c.read_map.ensures) c.in_ok-g.was c.entries-count.ensures (omega (arith, c.if-count-gt-MAX_PIECES.false)) c.requires.has_totals.0.memory c.requires.has_totals.1); room = (r, omega (arith, c.if-count-gt-MAX_PIECES.false)) }
 
 pub returns-in_err-left : goal.returns-in_err-left
 returns-in_err-left c =
-    rw c.from_residual-in_err-left.ensures (body_no_functions c.args.file.now.bytes c.args.file.now.t c.requires.has_totals.0.was_read c.globals-n.ensures c.args.parts.now.slots c.args.pruner.now (rw (take_rest c.args.pruner.now 6) at c.read_map.ensures) c.in_ok-g.was c.entries-count.ensures (omega (arith, c.if-count-gt-MAX_PIECES.false)) c.requires.has_totals.0.memory c.read_functions.ensures c.in_err-left.was)
+    rw c.from_residual-in_err-left.ensures (body_no_functions c.args.file.now.bytes c.args.file.now.t c.requires.has_totals.0.was_read c.globals-n.ensures c.args.slots.now c.args.pruner.now (rw (take_rest c.args.pruner.now 6) at c.read_map.ensures) c.in_ok-g.was c.entries-count.ensures (omega (arith, c.if-count-gt-MAX_PIECES.false)) c.requires.has_totals.0.memory c.read_functions.ensures c.in_err-left.was)
 
 pub returns : goal.returns
 returns c =
-    rw c.then_some.ensures (body_ends c.args.file.now.bytes c.args.file.now.t c.requires.has_totals.0.was_read c.globals-n.ensures c.args.parts.now.slots c.args.pruner.now (rw (take_rest c.args.pruner.now 6) at c.read_map.ensures) c.in_ok-g.was c.entries-count.ensures (omega (arith, c.if-count-gt-MAX_PIECES.false)) c.requires.has_totals.0.memory c.read_functions.ensures c.in_ok-left.was c.ends.ensures)
+    rw c.then_some.ensures (body_ends c.args.file.now.bytes c.args.file.now.t c.requires.has_totals.0.was_read c.globals-n.ensures c.args.slots.now c.args.pruner.now (rw (take_rest c.args.pruner.now 6) at c.read_map.ensures) c.in_ok-g.was c.entries-count.ensures (omega (arith, c.if-count-gt-MAX_PIECES.false)) c.requires.has_totals.0.memory c.read_functions.ensures c.in_ok-left.was c.ends.ensures)

@@ -10,7 +10,7 @@ loop-f-init c =
 
 pub read_total-requires : goal.read_total-requires
 read_total-requires c =
-    record { has_totals = (through_has c.requires.has_totals.0.was_read c.loop-f.invariant (omega (arith, c.functions-f-end.ensures, c.loop-f-test.true)) c.requires.has_totals.0, (omega (arith, c.functions-f-end.ensures, c.loop-f-test.true)), through_flag c.requires.has_totals.0.was_read c.loop-f.invariant (omega (arith, c.functions-f-end.ensures, c.loop-f-test.true))); room = (through_room c.requires.has_totals.0.was_read c.loop-f.invariant (omega (arith, c.functions-f-end.ensures, c.loop-f-test.true)) c.requires.room.0, c.loop-f.invariant.low) }
+    record { has_totals = (through_has c.requires.has_totals.0.was_read c.loop-f.invariant (omega (arith, c.functions-f-end.ensures, c.loop-f-test.true)) c.requires.has_totals.0 (omega arith) (omega arith), (omega (arith, c.functions-f-end.ensures, c.loop-f-test.true)), through_flag c.requires.has_totals.0.was_read c.loop-f.invariant (omega (arith, c.functions-f-end.ensures, c.loop-f-test.true))); room = (through_room c.requires.has_totals.0.was_read c.loop-f.invariant (omega (arith, c.functions-f-end.ensures, c.loop-f-test.true)) c.requires.room.0, c.loop-f.invariant.low) }
 
 pub returns-in_err-rest : goal.returns-in_err-rest
 returns-in_err-rest c =

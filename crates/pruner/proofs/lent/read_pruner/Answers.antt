@@ -1,11 +1,9 @@
 -- `pruner::lent::read_pruner` meets its contract: nothing was asked yet, no record of totals stands there, or its body tells them.
-use Rattle.pruner.proofs.Telling.{flags_there, none_yet, tells_fresh, tells_none, body_there, body_fits, tells_body}
-use native.Mathlib.Omega.{arith}
+use Rattle.pruner.proofs.Telling.{flags_there, none_yet, has_yet, tells_fresh, tells_none, body_there, body_fits, tells_body}
 use Rattle.pruner.proofs.lent.read_pruner.Goals as goal
 
 pub clear_flags-requires : goal.clear_flags-requires
-clear_flags-requires c =
-    let l = c.args.totals.now.flags_long in omega (arith, flags_there c.requires.0 c.requires.1 c.functions-n.ensures)
+clear_flags-requires c = flags_there c.requires.0 c.requires.1 c.functions-n.ensures
 
 pub returns-then-is_fresh : goal.returns-then-is_fresh
 returns-then-is_fresh c =
@@ -17,7 +15,7 @@ returns-in_err-end c =
 
 pub read_body-requires : goal.read_body-requires
 read_body-requires c =
-    record { has_totals = (c.requires.0, none_yet c.requires.0 c.requires.1 c.functions-n.ensures _ c.clear_flags.ensures); in_bounds = (body_there c.requires.0 c.requires.1 c.functions-n.ensures c.args.pruner.now c.is_fresh.ensures c.if-is_fresh.false c.record_length.ensures c.in_ok-end.was, body_fits c.requires.0 c.requires.1 c.functions-n.ensures c.args.pruner.now c.is_fresh.ensures c.if-is_fresh.false c.record_length.ensures c.in_ok-end.was) }
+    record { has_totals = (has_yet c.requires.0 c.requires.1 c.functions-n.ensures c.clear_flags.ensures, none_yet c.requires.0 c.requires.1 c.functions-n.ensures _ c.clear_flags.ensures); in_bounds = (body_there c.requires.0 c.requires.1 c.functions-n.ensures c.args.pruner.now c.is_fresh.ensures c.if-is_fresh.false c.record_length.ensures c.in_ok-end.was, body_fits c.requires.0 c.requires.1 c.functions-n.ensures c.args.pruner.now c.is_fresh.ensures c.if-is_fresh.false c.record_length.ensures c.in_ok-end.was) }
 
 pub returns : goal.returns
 returns c =

@@ -5,4 +5,4 @@ use Rattle.pruner.proofs.Writing.{Going}
 use Rattle.pruner.proofs.write.write_records.Given as goal
 
 abbrev pub invariant-loop-p : goal.invariant-loop-p
-invariant-loop-p l = Going l.n l.p-index l.initial.writer l.writer (write_records (records_of (read l.parts.cells l.parts.slots) l.base l.p-index))
+invariant-loop-p l = Going l.n l.p-index l.initial.writer l.writer (write_records (records_of (read l.cells l.slots) l.base l.p-index))

@@ -2,41 +2,33 @@
 use native.Mathlib.Omega.{arith}
 use Rattle.request.proofs.Ways.{there, missing, refuses}
 use Rattle.requests.proofs.Basing.{passed}
-use Rattle.requests.proofs.Beginning.{beginning_of, few_globals, begins_refused, begins_19, clear_asks, tidy_asks, weighs, begins}
+use Rattle.requests.proofs.Beginning.{few_globals, begins_refused, begins_19, clear_asks, tidy_asks, weighs, begins}
 use Rattle.requests.proofs.begin.begin_request.Goals as goal
 
 pub returns-in_err-ok_or : goal.returns-in_err-ok_or
 returns-in_err-ok_or c =
-    let asks = beginning_of c.requires c.args.space.now.open (omega arith) in
     rw (refuses _ c.from_residual-in_err-ok_or.ensures.1 c.ok_or.ensures.value c.in_err-ok_or.was)
-    (begins_19 asks c.args.report c.args.request.now c.args.pruner.now c.functions.ensures c.globals.ensures c.load_request.ensures c.in_ok-function.was c.read_pruner.ensures (missing c.ok_or.ensures.ok_part c.in_err-ok_or.was))
+    (begins_19 c.requires c.args.report c.args.request.now c.args.pruner.now c.functions.ensures c.globals.ensures c.load_request.ensures c.in_ok-function.was c.read_pruner.ensures (missing c.ok_or.ensures.ok_part c.in_err-ok_or.was))
 
 pub clear_marks-requires : goal.clear_marks-requires
 clear_marks-requires c =
-    let asks = beginning_of c.requires c.args.space.now.open (omega arith) in
-    clear_asks asks c.args.report c.args.request.now c.args.pruner.now c.functions.ensures c.globals.ensures c.load_request.ensures c.in_ok-function.was c.read_pruner.ensures (there c.ok_or.ensures.ok_part c.in_ok-ok_or.was)
+    clear_asks c.requires c.args.report c.args.request.now c.args.pruner.now c.functions.ensures c.globals.ensures c.load_request.ensures c.in_ok-function.was c.read_pruner.ensures (there c.ok_or.ensures.ok_part c.in_ok-ok_or.was)
 
 pub weigh_totals-sum-requires : goal.weigh_totals-sum-requires
 weigh_totals-sum-requires c =
-    let asks = beginning_of c.requires c.args.space.now.open (omega arith) in
-    weighs asks c.args.report c.args.request.now c.args.pruner.now c.functions.ensures c.globals.ensures c.load_request.ensures c.in_ok-function.was c.read_pruner.ensures (there c.ok_or.ensures.ok_part c.in_ok-ok_or.was) c.tidy.ensures
+    weighs c.requires c.args.report c.args.request.now c.args.pruner.now c.functions.ensures c.globals.ensures c.load_request.ensures c.in_ok-function.was c.read_pruner.ensures (there c.ok_or.ensures.ok_part c.in_ok-ok_or.was) c.tidy.ensures c.load_request.auto.slots
 
 pub returns-in_err-function : goal.returns-in_err-function
 returns-in_err-function c =
-    let asks = beginning_of c.requires c.args.space.now.open (omega arith) in
-    rw (passed c.from_residual.ensures.1) (begins_refused asks c.args.report c.args.request.now c.args.pruner.now c.functions.ensures c.globals.ensures c.load_request.ensures c.in_err-function.was)
+    rw (passed c.from_residual.ensures.1) (begins_refused c.requires c.args.report c.args.request.now c.args.pruner.now c.functions.ensures c.globals.ensures c.load_request.ensures c.in_err-function.was)
 
 pub returns : goal.returns
 returns c =
-    let asks = beginning_of c.requires c.args.space.now.open (omega arith) in
-    begins asks c.args.report c.args.request.now c.args.pruner.now c.functions.ensures c.globals.ensures c.load_request.ensures c.in_ok-function.was c.read_pruner.ensures (there c.ok_or.ensures.ok_part c.in_ok-ok_or.was) c.tidy.ensures c.clear_marks.ensures c.weigh_totals-sum.ensures
+    begins c.requires c.args.report c.args.request.now c.args.pruner.now c.functions.ensures c.globals.ensures c.load_request.ensures c.in_ok-function.was c.read_pruner.ensures (there c.ok_or.ensures.ok_part c.in_ok-ok_or.was) c.tidy.ensures c.load_request.auto.slots c.clear_marks.ensures c.weigh_totals-sum.ensures
 
-pub load_request-requires : goal.load_request-requires
-load_request-requires c =
-    let asks = beginning_of c.requires c.args.space.now.open (omega arith) in
-    omega (arith, few_globals asks, c.globals.ensures)
+pub load_request-requires-clause-slot_count_in_bounds : goal.load_request-requires-clause-slot_count_in_bounds
+load_request-requires-clause-slot_count_in_bounds c = (c.requires.slots_long, omega (arith, few_globals c.requires, c.globals.ensures))
 
 pub tidy-requires-clause-slots_bound : goal.tidy-requires-clause-slots_bound
 tidy-requires-clause-slots_bound c =
-    let asks = beginning_of c.requires c.args.space.now.open (omega arith) in
-    (tidy_asks asks c.args.report c.args.request.now c.args.pruner.now c.functions.ensures c.globals.ensures c.load_request.ensures c.in_ok-function.was c.read_pruner.ensures (there c.ok_or.ensures.ok_part c.in_ok-ok_or.was)).1
+    (tidy_asks c.requires c.args.report c.args.request.now c.args.pruner.now c.functions.ensures c.globals.ensures c.load_request.ensures c.in_ok-function.was c.read_pruner.ensures (there c.ok_or.ensures.ok_part c.in_ok-ok_or.was) c.load_request.auto.slots).1

@@ -8,4 +8,4 @@ use Rattle.rounds.proofs.Turns.{Turning}
 use Rattle.rounds.proofs.settle.settle_rounds.Given as goal
 
 abbrev pub invariant-loop : goal.invariant-loop
-invariant-loop l = Turning (scope_at l.marked.subject.now.file.now.bytes l.marked.subject.now.file.now.t l.marked.subject.now.f.0) (body_tree (function_of l.marked.subject.now.file.now.bytes l.marked.subject.now.file.now.t l.marked.subject.now.f.0) l.marked.marks.now) l.initial.parts.cells l.initial.parts.slots (max_rounds - l.counter) l.parts.cells l.parts.slots
+invariant-loop l = Turning (scope_at l.marked.subject.now.file.now.bytes l.marked.subject.now.file.now.t l.marked.subject.now.f.0) (body_tree (function_of l.marked.subject.now.file.now.bytes l.marked.subject.now.file.now.t l.marked.subject.now.f.0) l.marked.marks.now) l.initial.cells l.initial.slots (max_rounds - l.counter) l.cells l.slots

@@ -12,13 +12,12 @@ pub overflow_add-n : goal.overflow_add-n
 overflow_add-n c =
     let h = load_slot c.requires (handle_there c.in_ok-e.was refl) c.expression_number-number.ensures in omega (arith, h)
 
-pub offset_bounds-parts-number : goal.offset_bounds-parts-number
-offset_bounds-parts-number c =
+pub offset_bounds-slots-number : goal.offset_bounds-slots-number
+offset_bounds-slots-number c =
     let h = load_slot c.requires (handle_there c.in_ok-e.was refl) c.expression_number-number.ensures in omega (arith, h)
 
-pub bounds-parts-number : goal.bounds-parts-number
-bounds-parts-number c =
-    let h = load_slot c.requires (handle_there c.in_ok-e.was refl) c.expression_number-number.ensures in omega (arith, h)
+pub bounds-slots-number : goal.bounds-slots-number
+bounds-slots-number c = load_slot c.requires (handle_there c.in_ok-e.was refl) c.expression_number-number.ensures
 
 pub returns-then-n-le-EMPTY_PIECE : goal.returns-then-n-le-EMPTY_PIECE
 returns-then-n-le-EMPTY_PIECE c =

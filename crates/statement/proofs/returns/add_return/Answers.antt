@@ -10,7 +10,7 @@ pub returns-in_default : goal.returns-in_default
 returns-in_default c =
     rw c.leave.ensures.0
     (elim c.in_default.branch [
-      | in_default-via-in-Some+in_default w ↦ return_none_leaves c.requires.arm c.requires.kind_value _ c.leave.ensures.1 (got_gone c.args.parts.now.cells _ w.in_default.is-1 c.get-needed.ensures)
+      | in_default-via-in-Some+in_default w ↦ return_none_leaves c.requires.arm c.requires.kind_value _ c.leave.ensures.1 (got_gone c.args.cells.now _ w.in_default.is-1 c.get-needed.ensures)
       | in_default-via-in_default w ↦ return_absent_leaves c.requires.arm c.requires.kind_value _ c.leave.ensures.1 (handle_absent w.in_default.is-0 c.optional_expression.ensures)
     ])
 
