@@ -12,7 +12,6 @@ ghost use Rattle.memory.specs.Want.{asked};
 ghost use Rattle.memory.specs.Memory.{read, sum_from, counted, Recorded, Memory, Tidied, Flats, Empty, Putting, Noting, Noted, join_room, Joining, Totalling, Totalled};
 
 use crate::layout::{ALL, EXIST, FLAT, FLATS, GLOBALS, LIVE, UNASKED, WHOLE};
-use crate::parts::Parts;
 use crate::want::{Want, piece};
 use module::handles::GlobalHandle;
 use part::collect::collect;

@@ -10,7 +10,6 @@ ghost use Rattle.memory.specs.Picks.{digit_of, some_digit, Letters, FourDigits, 
 ghost use Rattle.context.specs.Swizzle.{swizzled};
 
 use crate::layout::{ALL, EXIST, FLAT, PATH, THERE, UNASKED, WHOLE};
-use crate::parts::Parts;
 use field::limits::{MAX_DEPTH, MAX_ENTRIES};
 use part::store::{ALL_PIECE, EMPTY_PIECE, EXIST_PIECE, depth, look, make};
 

@@ -12,7 +12,6 @@ use crate::returns::add_return;
 use crate::stores::add_store;
 use access::kinded::Kinded;
 use field::refusal::Refusal;
-use memory::parts::Parts;
 use module::kinds::StatementKind;
 use state::answer::{Answered, Tally};
 use state::frame::Frame;
