@@ -25,14 +25,16 @@ use Rattle.memory.specs.Layout.{exprs_slot}
 use Rattle.memory.specs.Memory.{read, records_of, context_at, Memory}
 use Rattle.memory.proofs.Slots.{read_at}
 use Rattle.state.specs.State.{records_in, state_of}
+use Rattle.marks.specs.declared.places.MarkPlaces.{MarkPlaces}
 use Rattle.marks.specs.Places.{slice, start_of}
 use Rattle.marks.proofs.Placed.{within}
 use Rattle.lines.specs.Text.{number, required_text, context_text, records_text, report_text, refused_word, refused_text}
-use Rattle.lines.specs.Reported.{statements_in, report_in, text_in, max_text, Reporting}
+use Rattle.lines.specs.Reported.{statements_in, report_in, text_in, max_text, Reporting, ReportingIn}
 use Rattle.lines.specs.declared.text.Text.{Text}
 use Rattle.lines.specs.Wrote.{longest, Writes, Begins}
 use Rattle.lines.proofs.Writing.{texts, Rooms, rooms, writes_then, writes_as, writes_first}
 use Rattle.lines.proofs.Long.{ten_long, FewOwn, report_long}
+use Rattle.lines.proofs.StatementLines.{marked_in}
 
 -- of the context in four slots
 module _ (s rs : List ℕ) (k : ℕ) (high : k + 4 ≤ length rs) where
@@ -71,8 +73,12 @@ module _ (bytes : List ℕ) (m : Module) (was : read_module bytes ≡ accepted m
   text_few report context exprs marks few =
       omega (arith, report_long m f report few_own context exprs, stretch-few bytes m was f h, parts.few_expressions, parts.few_statements)
 
+-- memory with a report has what its lines are written from
+pub reporting_in : {bytes t : List ℕ} {places : MarkPlaces} {s rs marks : List ℕ} {f at : ℕ} → Reporting bytes t places s rs marks f at → ReportingIn bytes t places.firsts s rs marks f at
+reporting_in R = record { marked = marked_in R.marked; memory = R.memory; high = R.high; context = R.context; exprs = R.exprs; few = R.few }
+
 -- as memory has it
-module _ {bytes t firsts s rs marks : List ℕ} {f at : ℕ} (h : Reporting bytes t firsts s rs marks f at) (required : Bool) where
+module _ {bytes t firsts s rs marks : List ℕ} {f at : ℕ} (h : ReportingIn bytes t firsts s rs marks f at) (required : Bool) where
   pub text_long : length (text_in bytes t s rs marks f at required) ≤ max_text
   unfolding text_in
   text_long =

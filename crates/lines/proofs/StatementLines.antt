@@ -14,10 +14,11 @@ use Rattle.access.specs.Access.{statement_number, statement_at, statement_row, o
 use Rattle.access.proofs.Access.{statement_is, statement-of}
 use Rattle.walk.specs.Resolve.{function_at}
 use Rattle.walk.specs.Marks.{stretch}
+use Rattle.marks.specs.declared.places.MarkPlaces.{MarkPlaces}
 use Rattle.marks.specs.Places.{slice, start_of}
 use Rattle.marks.proofs.Placed.{marks_suc, marks_within, at_function, statement_count, at_more}
 use Rattle.lines.specs.Text.{number, stmt_word, name_of, kind_name, marks_text, statement_text, statements_text}
-use Rattle.lines.specs.Reported.{Marked, statements_in}
+use Rattle.lines.specs.Reported.{Marked, MarkedIn, statements_in}
 use Rattle.lines.specs.declared.text.Text.{Text}
 use Rattle.lines.specs.Wrote.{Fits, Writes}
 use Rattle.lines.proofs.Writing.{texts, Rooms, rooms, writes_then, writes_as}
@@ -93,7 +94,11 @@ pub lines_all : (bytes t ms : List ℕ) (f : ℕ) → statements_in bytes t ms f
 unfolding statements_in stretch
 lines_all bytes t ms f = left_all (function_at (module_of bytes t) f).statements ms (start_of (module_of bytes t) f)
 
-module _ {bytes t firsts ms : List ℕ} {f : ℕ} (marked : Marked bytes t firsts ms f) where
+-- where all marks are placed, those of the function are
+pub marked_in : {bytes t : List ℕ} {places : MarkPlaces} {ms : List ℕ} {f : ℕ} → Marked bytes t places ms f → MarkedIn bytes t places.firsts ms f
+marked_in {f = f} M = record { was_read = M.was_read; function = M.function; placed = λ s h. M.placed.statements f s M.function h; long = M.long }
+
+module _ {bytes t firsts ms : List ℕ} {f : ℕ} (marked : MarkedIn bytes t firsts ms f) where
   abbrev ss : List Statement
   ss = (function_at (module_of bytes t) f).statements
 

@@ -14,11 +14,19 @@ use Rattle.memory.specs.Layout.{exprs_slot}
 use Rattle.memory.specs.Memory.{read, context_at, Memory}
 use Rattle.state.specs.State.{records_in}
 use Rattle.access.specs.Laid.{WasRead}
-use Rattle.marks.specs.Places.{slice, start_of, mark_place}
+use Rattle.marks.specs.declared.places.MarkPlaces.{MarkPlaces}
+use Rattle.marks.specs.Places.{slice, start_of, mark_place, Places}
 use Rattle.lines.specs.Text.{statements_text, report_text}
 
--- the statements of f, where the marks of each begin, and the marks in the buffer of the open functions
-pub record Marked (bytes t firsts open_marks : List ℕ) (f : FunctionHandle) : Type 0 where
+-- the statements of f, and their marks in the buffer of the open functions
+pub record Marked (bytes t : List ℕ) (places : MarkPlaces) (open_marks : List ℕ) (f : FunctionHandle) : Type 0 where
+  pub was_read : WasRead bytes t
+  pub function : f < length (module_of bytes t).functions
+  pub placed : Places bytes t places
+  pub long : min_report ≤ length open_marks
+
+-- what the lines of the statements of f are written from: of where marks stand, the places of these statements
+pub record MarkedIn (bytes t firsts open_marks : List ℕ) (f : FunctionHandle) : Type 0 where
   pub was_read : WasRead bytes t
   pub function : f < length (module_of bytes t).functions
   pub placed : (s : ℕ) → s < length (function_of bytes t f).statements → get_or firsts (statement_number t f s) 0 ≡ mark_place (module_of bytes t) f s
@@ -48,8 +56,17 @@ abbrev pub max_text : ℕ
 max_text = 13 + 38 * max_pieces + 22 * max_statements + 4 * (2 * max_statements + max_expressions)
 
 -- memory has a report on f
-pub record Reporting (bytes t firsts s rs open_marks : List ℕ) (f : FunctionHandle) (at : ℕ) : Type 0 where
-  pub marked : Marked bytes t firsts open_marks f
+pub record Reporting (bytes t : List ℕ) (places : MarkPlaces) (s rs open_marks : List ℕ) (f : FunctionHandle) (at : ℕ) : Type 0 where
+  pub marked : Marked bytes t places open_marks f
+  pub memory : Memory s rs
+  pub high : at + 4 ≤ length rs
+  pub context : FineContext (module_of bytes t) f (context_at (read s rs) at)
+  pub exprs : FineRecords (module_of bytes t) f (records_in t exprs_slot f (read s rs))
+  pub few : pieces (context_at (read s rs) at) + record_pieces (records_in t exprs_slot f (read s rs)) ≤ 2 * max_pieces
+
+-- what the lines of that report are written from
+pub record ReportingIn (bytes t firsts s rs open_marks : List ℕ) (f : FunctionHandle) (at : ℕ) : Type 0 where
+  pub marked : MarkedIn bytes t firsts open_marks f
   pub memory : Memory s rs
   pub high : at + 4 ≤ length rs
   pub context : FineContext (module_of bytes t) f (context_at (read s rs) at)

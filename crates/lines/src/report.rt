@@ -5,7 +5,7 @@ ghost use Rattle.memory.specs.Layout.{exprs_slot};
 ghost use Rattle.memory.specs.Memory.{read, context_at, Memory};
 ghost use Rattle.state.specs.State.{records_in};
 ghost use Rattle.lines.specs.Text.{context_text, records_text, refused_text};
-ghost use Rattle.lines.specs.Reported.{max_text, Reporting, text_in};
+ghost use Rattle.lines.specs.Reported.{max_text, ReportingIn, text_in};
 ghost use Rattle.lines.specs.Wrote.{Fits, Writes, Begins};
 
 use crate::contexts::write_context;
@@ -57,7 +57,7 @@ pub fn write_report_text(
     at: usize,
     required: bool,
 )
-    requires { Reporting file.now.bytes file.now.t firsts.now cells.now slots.now marks.now f.0 at × (text.old.at ≡ 0) × (max_text ≤ length text.old.out.now) }
+    requires { ReportingIn file.now.bytes file.now.t firsts.now cells.now slots.now marks.now f.0 at × (text.old.at ≡ 0) × (max_text ≤ length text.old.out.now) }
     ensures { Begins text.old text.new (text_in file.now.bytes file.now.t cells.now slots.now marks.now f.0 at required) }
 {
     write_required(text, required);

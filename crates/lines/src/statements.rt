@@ -3,7 +3,7 @@ ghost use Rattle.std.specs.Prelude.{◌≤◌, length};
 ghost use Rattle.module.specs.Marks.{mark_count};
 ghost use Rattle.access.specs.Access.{statement_at};
 ghost use Rattle.lines.specs.Text.{statement_text};
-ghost use Rattle.lines.specs.Reported.{Marked, statements_in};
+ghost use Rattle.lines.specs.Reported.{MarkedIn, statements_in};
 ghost use Rattle.lines.specs.Wrote.{Fits, Writes};
 
 use crate::names::write_name;
@@ -36,7 +36,7 @@ pub fn write_statements(
     marks: &[u8],
     f: FunctionHandle,
 )
-    requires { Marked file.now.bytes file.now.t firsts.now marks.now f.0 × Fits text.old.at (statements_in file.now.bytes file.now.t marks.now f.0) }
+    requires { MarkedIn file.now.bytes file.now.t firsts.now marks.now f.0 × Fits text.old.at (statements_in file.now.bytes file.now.t marks.now f.0) }
     ensures { Writes text.old text.new (statements_in file.now.bytes file.now.t marks.now f.0) }
 {
     let n = file.statements(f);

@@ -13,6 +13,7 @@ use Rattle.context.specs.Types.{types_of}
 use Rattle.request.specs.Fields as reading
 use Rattle.request.specs.Request.{Request, read_request}
 use Rattle.walk.specs.Requests.{Pruner, fresh}
+use Rattle.marks.specs.declared.places.MarkPlaces.{MarkPlaces}
 use Rattle.marks.specs.Places.{places_of, Places}
 use Rattle.marks.specs.declared.totals.MarkTotals.{MarkTotals}
 use Rattle.pruner.specs.Form.{read_pruner}
@@ -42,7 +43,7 @@ asked_refused m (reading.refused k) e = ap refused_text (cc)
 asked_refused m (reading.accepted q) e = absurd (with_refused q (read_pruner m none_yet) (fresh m) (read_pruner-zero m []) e)
 
 module _ {bytes t starts s rs open_marks : List ℕ} {totals : MarkTotals} {asked-bytes : List ℕ} {b : Result Begun Refusal} (B : Begins bytes t starts min_report asked-bytes none_yet s rs open_marks totals b) where
-  pub request_refused : {firsts : List ℕ} {e : Refusal} → b ≡ Err e → TextIs (request_text (module_of bytes t) (read_request (module_of bytes t) min_report asked-bytes)) bytes t asked-bytes firsts s rs open_marks (Err e)
+  pub request_refused : {places : MarkPlaces} {e : Refusal} → b ≡ Err e → TextIs (request_text (module_of bytes t) (read_request (module_of bytes t) min_report asked-bytes)) bytes t asked-bytes places s rs open_marks (Err e)
   request_refused z = record { by = asked_refused (module_of bytes t) (read_request (module_of bytes t) min_report asked-bytes) (rw z at B.by) }
 
   module _ {f : Handle} {sum : ℕ} (e : b ≡ Ok (record { function = f; sum = sum })) where
@@ -63,6 +64,6 @@ module _ {bytes t starts s rs open_marks : List ℕ} {totals : MarkTotals} {aske
       request_asked = record { q = ready.q; function_is = ready.function_is; sum_is = rw (← old-fresh) ready.sum_is; loaded = loaded }
 
       pub request_walked : {u us open_after : List ℕ} {r : Result Reported Refusal} → Walked bytes t types (places_of starts firsts) s rs open_marks totals f.0 u us open_after r
-          → TextIs (request_text (module_of bytes t) (read_request (module_of bytes t) min_report asked-bytes)) bytes t asked-bytes firsts u us open_after r
+          → TextIs (request_text (module_of bytes t) (read_request (module_of bytes t) min_report asked-bytes)) bytes t asked-bytes (places_of starts firsts) u us open_after r
       unfolding request_text
       request_walked W = rw read_both.0 (W.by asked-bytes ready.q read_both.0 ready.function_is loaded)

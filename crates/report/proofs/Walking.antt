@@ -49,11 +49,11 @@ module _ {bytes t types : List ℕ} {places : MarkPlaces} {s rs open_marks : Lis
   few : shown (state_in bytes t u us open_after totals-after q.function (stack_slot + 4) visits) ≤ 2 * max_pieces
   few = ended (fresh-shows bytes (module_of bytes t) L.was_read.module_is q.function nowhere (2 * max_pieces) 0 q.globals (return_entry q.retval) (omega arith) base_few) (sym E.is)
 
-  reporting : Reporting bytes t places.firsts u us open_after q.function (stack_slot + 4)
+  reporting : Reporting bytes t places u us open_after q.function (stack_slot + 4)
   reporting =
       let S = E.standing in
       record {
-        marked = record { was_read = S.ready.was_read; function = S.ready.function; placed = λ s h. S.placed.statements q.function s S.ready.function h; long = S.open_long };
+        marked = record { was_read = S.ready.was_read; function = S.ready.function; placed = S.placed; long = S.open_long };
         memory = S.ready.memory;
         high = S.ready.high;
         context = S.proper.context;
@@ -75,7 +75,7 @@ module _ {bytes t types : List ℕ} {places : MarkPlaces} {s rs open_marks : Lis
 
   module _ (asked-bytes : List ℕ) (asks : read_request (module_of bytes t) min_report asked-bytes ≡ accepted q) where
     shows : end_count (state_in bytes t u us open_after totals-after q.function (stack_slot + 4) visits) ≤ max_pieces
-        → Shows (answer_text (module_of bytes t) q (request (module_of bytes t) (fresh (module_of bytes t)) q).0) bytes t asked-bytes places.firsts u us open_after q.function b
+        → Shows (answer_text (module_of bytes t) q (request (module_of bytes t) (fresh (module_of bytes t)) q).0) bytes t asked-bytes places u us open_after q.function b
     shows l = record { reporting = reporting; q = q; asks = asks; function_is = refl; is = text l }
 
 module _ {bytes t types : List ℕ} {places : MarkPlaces} {s rs open_marks : List ℕ} {totals : MarkTotals} {h : Handle} {sum : ℕ} (A : Asked bytes t types places s rs open_marks totals h.0 sum) where

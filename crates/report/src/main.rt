@@ -7,7 +7,7 @@ mod text;
 ghost use Rattle.std.specs.Prelude.{◌≡◌, ◌≤◌, ◌<◌, length, take, IfSome};
 ghost use Rattle.report_text.specs.Split.{request_in};
 ghost use Rattle.report_text.specs.Input.{max_input, report_input};
-ghost use Rattle.report.specs.Outcome.{TextIs};
+ghost use Rattle.report.specs.Outcome.{TextIn};
 
 use crate::outcome::{Outcome, behind, front, walk_read};
 use crate::text::write_text;
@@ -63,7 +63,7 @@ fn print(
     open: &[u8],
     outcome: Outcome,
 ) -> io::Result<()>
-    requires { TextIs (report_input input.now) file.now.bytes file.now.t (request_in input.now) firsts.now parts.old.cells parts.old.slots «open».now outcome }
+    requires { TextIn (report_input input.now) file.now.bytes file.now.t (request_in input.now) firsts.now parts.old.cells parts.old.slots «open».now outcome }
 {
     let mut text: [u8; MAX_TEXT + MAX_LINE] = [0; MAX_TEXT + MAX_LINE];
     let n = write_text(&mut text, input, file, firsts, parts, open, outcome);

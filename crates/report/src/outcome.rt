@@ -72,7 +72,7 @@ fn walk_request(
     request: &[u8],
 ) -> Outcome
     ensures placed { Places typed.now.file.now.bytes typed.now.file.now.t places.new }
-    ensures text { TextIs (request_text (module_of typed.now.file.now.bytes typed.now.file.now.t) (read_request (module_of typed.now.file.now.bytes typed.now.file.now.t) min_report request.now)) typed.now.file.now.bytes typed.now.file.now.t request.now places.new.firsts space.new.parts.cells space.new.parts.slots space.new.open result }
+    ensures text { TextIs (request_text (module_of typed.now.file.now.bytes typed.now.file.now.t) (read_request (module_of typed.now.file.now.bytes typed.now.file.now.t) min_report request.now)) typed.now.file.now.bytes typed.now.file.now.t request.now places.new space.new.parts.cells space.new.parts.slots space.new.open result }
 {
     place_marks(typed.file, &mut places.starts, &mut places.firsts);
     let world = World {
@@ -105,7 +105,7 @@ pub fn walk_read(
 ) -> Outcome
     requires { WasRead file.now.bytes file.now.t }
     ensures placed { Places file.now.bytes file.now.t places.new }
-    ensures text { TextIs (request_text (module_of file.now.bytes file.now.t) (read_request (module_of file.now.bytes file.now.t) min_report request.now)) file.now.bytes file.now.t request.now places.new.firsts space.new.parts.cells space.new.parts.slots space.new.open result }
+    ensures text { TextIs (request_text (module_of file.now.bytes file.now.t) (read_request (module_of file.now.bytes file.now.t) min_report request.now)) file.now.bytes file.now.t request.now places.new space.new.parts.cells space.new.parts.slots space.new.open result }
 {
     let mut table: [u32; TYPE_WORDS * MAX_TYPES] = [0; TYPE_WORDS * MAX_TYPES];
     let e = TYPE_WORDS * (file.types() as usize);

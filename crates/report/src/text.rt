@@ -5,7 +5,7 @@ ghost use Rattle.lines.specs.Wrote.{Front, Begins};
 ghost use Rattle.report_text.specs.Split.{request_in};
 ghost use Rattle.report_text.specs.Input.{report_input};
 ghost use Rattle.check_text.specs.Checked.{max_line};
-ghost use Rattle.report.specs.Outcome.{TextIs};
+ghost use Rattle.report.specs.Outcome.{TextIn};
 
 use crate::outcome::{Outcome, behind};
 use access::file::File;
@@ -26,7 +26,7 @@ fn write_outcome(
     open: &[u8],
     outcome: Outcome,
 )
-    requires text_is { TextIs (report_input input.now) file.now.bytes file.now.t (request_in input.now) firsts.now parts.old.cells parts.old.slots «open».now outcome }
+    requires text_is { TextIn (report_input input.now) file.now.bytes file.now.t (request_in input.now) firsts.now parts.old.cells parts.old.slots «open».now outcome }
     requires max_line_in_bounds { (text.old.at ≡ 0) × (max_text + max_line ≤ length text.old.out.now) }
     ensures { Begins text.old text.new (report_input input.now) }
 {
@@ -61,7 +61,7 @@ pub fn write_text(
     open: &[u8],
     outcome: Outcome,
 ) -> usize
-    requires text_is { TextIs (report_input input.now) file.now.bytes file.now.t (request_in input.now) firsts.now parts.old.cells parts.old.slots «open».now outcome }
+    requires text_is { TextIn (report_input input.now) file.now.bytes file.now.t (request_in input.now) firsts.now parts.old.cells parts.old.slots «open».now outcome }
     requires max_line_in_bounds { max_text + max_line ≤ length out.old }
     ensures { Front out.old out.new (report_input input.now) result }
 {

@@ -168,6 +168,8 @@ module _ {bytes t starts s rs open_marks : List ℕ} {totals : MarkTotals} (B : 
                 is = rw (is_read, told.is);
                 function_is = stands.function_is;
                 sum_is = count ∙ rw T.same (omega (arith, told.totals-sum));
+                firsts = B.firsts;
+                placed = B.placed;
                 loaded = λ types firsts typed placed. record {
                   was_read = B.was_read;
                   typed = typed;

@@ -112,6 +112,8 @@ pub record Ready (bytes t starts : List ℕ) (report : ℕ) (request pruner s rs
   pub is : beginning (module_of bytes t) report request pruner ≡ reading.accepted (q, old)
   pub function_is : q.function ≡ f
   pub sum_is : sum ≡ pruner_pieces old
+  pub firsts : List ℕ
+  pub placed : Places bytes t (places_of starts firsts)
   pub loaded : (types firsts : List ℕ) → types_of types ≡ (module_of bytes t).types → Places bytes t (places_of starts firsts) → Loaded bytes t types (places_of starts firsts) s rs open_marks totals q old
 
 abbrev pub BeginsBy : (bytes t starts : List ℕ) → (report : ℕ) → (request pruner s rs open_marks : List ℕ) (totals : MarkTotals) → Result Begun Refusal → Type 0
