@@ -44,6 +44,7 @@ pub record ShowsIn (text bytes t asked-bytes firsts s rs open_marks : List ℕ) 
   pub function_is : q.function ≡ f
   pub is : text ≡ text_in bytes t s rs open_marks f (stack_slot + 4) required ++ check_line (check_of (module_of bytes t) q (report_in bytes t s rs open_marks f (stack_slot + 4) required))
 
+-- the text is that, or the line of the refusal
 abbrev pub TextByIn : (text bytes t asked-bytes firsts s rs open_marks : List ℕ) → Result Reported Refusal → Type 0
 TextByIn text bytes t asked-bytes firsts s rs open_marks (Err e) = text ≡ refused_text (number e)
 TextByIn text bytes t asked-bytes firsts s rs open_marks (Ok a) = ShowsIn text bytes t asked-bytes firsts s rs open_marks a.function.0 a.required

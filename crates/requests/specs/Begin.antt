@@ -105,7 +105,7 @@ pub record Beginning (bytes t starts s rs open_marks : List ℕ) (totals : MarkT
   pub flags_long : max_functions ≤ length totals.flags
   pub totals_long : min_report ≤ length totals.marks
 
--- Memory has the request and the totals: with the types' table, and that of statements, the walk can begin.
+-- Memory has the request and the totals, and marks are placed: with the types' table, and any of statements that is placed, the walk can begin.
 pub record Ready (bytes t starts : List ℕ) (report : ℕ) (request pruner s rs open_marks : List ℕ) (totals : MarkTotals) (f sum : ℕ) : Type 0 where
   pub q : Request
   pub old : Pruner
